@@ -1,0 +1,3 @@
+pub mod Values
+pub mod Work
+pub use Rattle.items.specs.Items

@@ -1,0 +1,12 @@
+-- Values of settings as the model has them.
+use Rattle.stream_model.specs.Settings as model
+use Rattle.block_kinds.specs.declared.value.Value.{Value}
+use Rattle.block_kinds.specs.declared.value.Value.TheVariants.{Number, Taps}
+use Rattle.block_kinds.specs.declared.value.Held.{Held}
+
+abbrev pub value_of : Value → model.Value
+value_of (Number z) = model.Number z
+value_of (Taps h) = model.Taps h
+
+abbrev pub held_of : Held → model.Held
+held_of h = record { at = h.at; value = value_of h.value }

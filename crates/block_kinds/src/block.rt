@@ -1,0 +1,101 @@
+//! The trait of all blocks.
+
+ghost use Rattle.std.specs.Prelude.{◌≡◌, ◌<◌, ◌^◌, ◌+◌, IfOk, Option, List, ℤ, true};
+ghost use Rattle.std.specs.Option.{option_map};
+ghost use Rattle.stream_model.specs.Meaning.{Meaning, IsLawful};
+ghost use Rattle.stream_model.specs.Settings as model;
+ghost use Rattle.block_kinds.specs.Values.{value_of};
+ghost use Rattle.block_kinds.specs.Work.{CanWork, HasWorked, IsWorkOf};
+
+use crate::value::{Held, Value};
+use items::Items;
+use std::alloc::{AllocError, Global};
+use stream_model::{Role, Shift, Signature, Wanted};
+
+/// A block of a flowgraph.
+///
+/// What it means is its ghost member `meaning`: its ports, counts and equation over whole streams. The methods answer
+/// the parts of the meaning, and `work` does some firings of it over windows of the streams. Counts are base firings:
+/// one firing is one use of the equation. Inputs are numbered from 0; of a source, input 0 is its tape.
+pub trait Block: Eq + Drop {
+    /// What the block means.
+    ghost meaning: { Self → Meaning };
+
+    /// What the block does with streams.
+    fn role(&self) -> Role
+        ensures { result ≡ (meaning self.now).role };
+
+    /// How many inputs may be used, and the type of their items.
+    fn inputs(&self) -> Signature
+        ensures { result ≡ (meaning self.now).inputs };
+
+    /// How many outputs may be used, and the type of their items.
+    fn outputs(&self) -> Signature
+        ensures { result ≡ (meaning self.now).outputs };
+
+    /// How many items of an input a firing takes, and how many it gives on each output. A block that shifts its stream has no rate.
+    fn rate(&self, input: usize) -> Option<(u64, u64)>
+        ensures { result ≡ (meaning self.now).rate input };
+
+    /// How a block without a rate moves its stream.
+    fn shift(&self) -> Shift
+        ensures { result ≡ (meaning self.now).shift };
+
+    /// How many items of an input the first `firings` firings take.
+    fn taken(&self, input: usize, firings: u64) -> u64
+        requires { (meaning self.now).taken input firings < 2 ^ 63 }
+        ensures { result ≡ (meaning self.now).taken input firings };
+
+    /// How many items the first `firings` firings give on each output.
+    fn given(&self, firings: u64) -> u64
+        requires { (meaning self.now).given firings < 2 ^ 63 }
+        ensures { result ≡ (meaning self.now).given firings };
+
+    /// Where a tag on an item of an input goes.
+    fn place(&self, input: usize, offset: u64) -> u64
+        requires { (meaning self.now).place input offset < 2 ^ 63 }
+        ensures { result ≡ (meaning self.now).place input offset };
+
+    /// After how many firings the block ends by itself.
+    fn limit(&self) -> Option<u64>
+        ensures { result ≡ (meaning self.now).limit };
+
+    /// How many items of the past a firing reads, the current one included.
+    fn history(&self) -> u32
+        ensures { result ≡ (meaning self.now).history };
+
+    /// What the block's setting may be, where it has one.
+    fn setting(&self) -> Option<Wanted>
+        ensures { result ≡ (meaning self.now).setting };
+
+    /// The value of the block's own parameter, in memory of its own. It fails only where the allocator refuses.
+    fn own(&self, alloc: Global) -> Result<Option<Value>, AllocError>
+        ensures { IfOk result (λ own. option_map value_of own ≡ (meaning self.now).own) };
+
+    /// The state word before the first firing.
+    fn start(&self) -> u64
+        ensures { result ≡ (meaning self.now).start };
+
+    /// Does firings `first` to below `first + count`: writes what they give behind each output's place, and answers the
+    /// state word after them. `state` is the word before them, `windows` has for each used input the items that they
+    /// take behind the past that they read, and `held` the settings in force over these items. It takes no memory.
+    fn work(
+        &self,
+        state: u64,
+        first: u64,
+        count: u64,
+        windows: &[Items],
+        held: &[Held],
+        out: &mut [Items],
+    ) -> u64
+        requires { CanWork (meaning self.now) first count state windows.now held.now out.old }
+        ensures items { HasWorked (meaning self.now) first count state windows.now held.now out.old out.new }
+        ensures word { (ts : List model.Held) (xs : List (List ℤ)) → IsWorkOf (meaning self.now) ts xs first count state windows.now held.now
+            → result ≡ (meaning self.now).word ts xs (first + count) };
+
+    /// The laws that the runtime rests on.
+    ghost lawful: { (b : Self) → IsLawful (meaning b) };
+
+    /// Blocks that are equal mean the same.
+    ghost same: { (a b : Self) → Self.Eq.eq a b ≡ true → meaning a ≡ meaning b };
+}

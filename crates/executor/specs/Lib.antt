@@ -1,0 +1,11 @@
+pub mod Chain
+pub mod Decision
+pub use Rattle.items.specs.Items
+pub mod Shown
+pub mod Fault
+pub mod Answers
+pub use Rattle.items.specs.Name
+pub mod Plant
+pub mod Firing
+pub mod Looks
+pub mod Begins

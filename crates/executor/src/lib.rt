@@ -1,0 +1,18 @@
+//! The plant: a flowgraph with what it was fed and how far it is, and the calls that move it.
+#![tactic(auto)]
+
+pub mod answers;
+mod buffers;
+pub mod chain;
+pub mod decision;
+pub mod fault;
+mod firing;
+pub mod name;
+pub mod plant;
+pub mod progress;
+
+pub use answers::{BlockId, Closed, Fed, Need, Piece, Step};
+pub use chain::{Entry, Valid};
+pub use fault::PlantFault;
+pub use name::BlockName;
+pub use plant::Plant;

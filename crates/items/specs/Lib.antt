@@ -1,0 +1,5 @@
+pub mod Equality
+pub mod Fault
+pub mod Items
+pub mod Name
+pub mod Padded

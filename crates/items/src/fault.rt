@@ -1,0 +1,71 @@
+//! Why items could not be made.
+ghost use Rattle.std.specs.Prelude.{◌≡◌, Some};
+ghost use Rattle.items.specs.Fault.{number_of, text_of};
+ghost use Rattle.items.specs.declared.fault.ItemFault.TheVariants.{Memory};
+
+use std::alloc::AllocError;
+use std::error::Error;
+use std::fmt;
+
+/// Why items could not be made.
+#[derive(Clone, Copy, Debug, PartialEq, Eq)]
+pub enum ItemFault {
+    /// A number is outside its type's range, or a place is outside the items.
+    ItemRange,
+    /// Memory ran out.
+    Memory,
+}
+
+impl ItemFault {
+    /// The number by which the refusal is reported: 24 or 32.
+    pub fn number(&self) -> u32
+        ensures { result ≡ number_of self.now }
+    {
+        match self {
+            ItemFault::ItemRange => 24,
+            ItemFault::Memory => 32,
+        }
+    }
+}
+
+impl fmt::Display for ItemFault {
+    ghost output = { λ fault. Some (text_of fault) };
+
+    fn fmt<W: fmt::Write>(&self, f: &mut fmt::Formatter<W>) -> fmt::Result {
+        match self {
+            ItemFault::ItemRange => write!(f, "out of range"),
+            ItemFault::Memory => write!(f, "out of memory"),
+        }
+    }
+}
+
+impl Error for ItemFault {}
+
+impl From<AllocError> for ItemFault {
+    ghost from_gives = { λ _ e. e ≡ Memory };
+
+    fn from(_refusal: AllocError) -> ItemFault {
+        ItemFault::Memory
+    }
+}
+
+#[cfg(test)]
+mod tests {
+    use super::*;
+    use std::test::Fail;
+
+    #[test]
+    fn faults_have_numbers_and_texts(rt: HostRuntime) -> Result<(), Fail> {
+        assert_eq!(rt; ItemFault::ItemRange.number(), 24);
+        assert_eq!(rt; ItemFault::from(AllocError).number(), 32);
+        assert_eq!(rt;
+            ItemFault::ItemRange.to_string(rt.alloc())?.as_str(),
+            "out of range"
+        );
+        assert_eq!(rt;
+            ItemFault::Memory.to_string(rt.alloc())?.as_str(),
+            "out of memory"
+        );
+        Ok(())
+    }
+}

@@ -1,0 +1,343 @@
+//! Items of one type, in order.
+ghost use Rattle.std.specs.Prelude.{◌≡◌, ◌+◌, ◌^◌, ◌<◌, ◌≤◌, ◌↔◌, ◌⊎◌, pos, [], ◌++◌, length, replicate, slice_range, slice_index_or, IsTrue, IsOk, IsErrOf, IfOk, OnOk, OnErr};
+ghost use Rattle.stream_model.specs.Numbers.{IsItem, AreItems, least_of, greatest_of};
+ghost use Rattle.items.specs.Items.{type_of, numbers_of, spare_of};
+
+use crate::ItemFault;
+use crate::lane::{Lane, append, append_copies, are_in_range, narrowed};
+use std::alloc::{AllocError, Global};
+use stream_model::ItemType;
+
+/// Items of one type, in order. A contract sees the type, the numbers, and how many more fit.
+#[derive(Debug, Drop)]
+pub enum Items {
+    /// Items of the type `Byte`.
+    Byte(Vec<u8>),
+    /// Items of the type `Short`.
+    Short(Vec<i16>),
+    /// Items of the type `Int`.
+    Int(Vec<i32>),
+}
+
+// A match on items, where each arm does the same with its own vector.
+macro_rules! on_lanes {
+    ($items:expr, $lanes:ident => $body:expr) => {
+        match $items {
+            Items::Byte($lanes) => $body,
+            Items::Short($lanes) => $body,
+            Items::Int($lanes) => $body,
+        }
+    };
+}
+
+// A match on two values of one type, and what stands for it where the types differ.
+macro_rules! on_same_lanes {
+    ($items:expr, $other:expr, ($lanes:ident, $more:ident) => $body:expr, $differ:expr) => {
+        match ($items, $other) {
+            (Items::Byte($lanes), Items::Byte($more)) => $body,
+            (Items::Short($lanes), Items::Short($more)) => $body,
+            (Items::Int($lanes), Items::Int($more)) => $body,
+            _ => $differ,
+        }
+    };
+}
+
+// The same, where each arm makes items of the same type.
+macro_rules! like_lanes {
+    ($items:expr, $lanes:ident => $body:expr) => {
+        match $items {
+            Items::Byte($lanes) => Items::Byte($body),
+            Items::Short($lanes) => Items::Short($body),
+            Items::Int($lanes) => Items::Int($body),
+        }
+    };
+}
+
+// Items of the type `$t`, over the vector that `$body` makes at its number type.
+macro_rules! of_type {
+    ($t:expr, $body:expr) => {
+        match $t {
+            ItemType::Byte => Items::Byte($body),
+            ItemType::Short => Items::Short($body),
+            ItemType::Int => Items::Int($body),
+        }
+    };
+}
+
+impl Items {
+    /// No items of the type. It takes no memory.
+    pub fn empty(alloc: Global, t: ItemType) -> Items
+        ensures item_type { type_of result ≡ t }
+        ensures numbers { numbers_of result ≡ [] }
+        ensures spare { spare_of result ≡ 0 }
+    {
+        of_type!(t, Vec::new(alloc))
+    }
+
+    /// The items of these numbers. `ItemRange` comes before any memory is asked for, and `Memory`
+    /// only where the allocator refuses.
+    #[tactic(auto, using(crate::proofs::Lanes::map_same))]
+    pub fn from_numbers(alloc: Global, t: ItemType, numbers: &[i64]) -> Result<Items, ItemFault>
+        ensures item_type { IfOk result (λ items. type_of items ≡ t) }
+        ensures numbers { IfOk result (λ items. numbers_of items ≡ numbers.now) }
+        ensures range { IsErrOf result ItemFault.ItemRange ↔ (¬ AreItems t numbers.now) }
+        ensures in_range { OnOk result (AreItems t numbers.now) }
+        ensures memory { IsErrOf result ItemFault.Memory → AreItems t numbers.now }
+    {
+        if !fit(t, numbers) {
+            return Err(ItemFault::ItemRange);
+        }
+        Ok(of_type!(t, narrowed(alloc, numbers)?))
+    }
+
+    /// The type of the items.
+    pub fn item_type(&self) -> ItemType
+        ensures { result ≡ type_of self.now }
+    {
+        match self {
+            Items::Byte(_) => ItemType::Byte,
+            Items::Short(_) => ItemType::Short,
+            Items::Int(_) => ItemType::Int,
+        }
+    }
+
+    /// How many items there are.
+    pub fn len(&self) -> usize
+        ensures value { result ≡ length (numbers_of self.now) }
+        ensures small { result < 2 ^ 63 }
+    {
+        on_lanes!(self, lanes => lanes.len())
+    }
+
+    /// Whether there is no item.
+    pub fn is_empty(&self) -> bool
+        ensures { IsTrue result ↔ (numbers_of self.now ≡ []) }
+    {
+        self.len() == 0
+    }
+
+    /// How many more items fit before memory is needed.
+    pub fn spare(&self) -> usize
+        ensures value { result ≡ spare_of self.now }
+        ensures small { length (numbers_of self.now) + result < 2 ^ 63 }
+    {
+        on_lanes!(self, lanes => lanes.capacity() - lanes.len())
+    }
+
+    /// The number at place `n`, where the first is 0.
+    pub fn number(&self, n: usize) -> i64
+        requires { n < length (numbers_of self.now) }
+        ensures value { result ≡ slice_index_or (numbers_of self.now) n (pos 0) }
+        ensures in_range { IsItem (type_of self.now) result }
+    {
+        on_lanes!(self, lanes => lanes[n].widen())
+    }
+
+    /// Each number is in the range of the items' type. The call is there for what its contract says.
+    pub fn in_range(&self)
+        ensures { AreItems (type_of self.now) (numbers_of self.now) }
+    {
+        on_lanes!(self, lanes => are_in_range(lanes))
+    }
+
+    /// Makes room for `n` more items. It fails only where the allocator refuses.
+    pub fn reserve(&mut self, n: usize) -> Result<(), AllocError>
+        ensures item_type { type_of self.new ≡ type_of self.old }
+        ensures numbers { numbers_of self.new ≡ numbers_of self.old }
+
+        ensures ok { OnOk result (n ≤ spare_of self.new) }
+        ensures spare { spare_of self.old ≤ spare_of self.new }
+        ensures succeeds { n ≤ spare_of self.old → IsOk result }
+        ensures err { OnErr result (spare_of self.new ≡ spare_of self.old) }
+    {
+        on_lanes!(self, lanes => lanes.reserve(n))
+    }
+
+    /// Appends the items of `other`. It takes no memory.
+    pub fn push_slice(&mut self, other: &Items)
+        requires same_type { type_of self.old ≡ type_of other.now }
+        requires room { length (numbers_of other.now) ≤ spare_of self.old }
+        ensures item_type { type_of self.new ≡ type_of self.old }
+        ensures numbers { numbers_of self.new ≡ numbers_of self.old ++ numbers_of other.now }
+        ensures spare { spare_of self.new + length (numbers_of other.now) ≡ spare_of self.old }
+    {
+        on_same_lanes!(self, other, (lanes, more) => append(lanes, more), unreachable!())
+    }
+
+    /// Appends the items of `other` from place `from` to below place `to`. It takes no memory.
+    #[tactic(auto, using(crate::proofs::Lanes::map_push_range))]
+    pub fn push_range(&mut self, other: &Items, from: usize, to: usize)
+        requires same_type { type_of self.old ≡ type_of other.now }
+        requires ordered { from ≤ to }
+        requires within { to ≤ length (numbers_of other.now) }
+        requires room { to ≤ spare_of self.old + from }
+        ensures item_type { type_of self.new ≡ type_of self.old }
+        ensures numbers { numbers_of self.new ≡ numbers_of self.old ++ slice_range (numbers_of other.now) from to }
+        ensures spare { spare_of self.new + to ≡ spare_of self.old + from }
+    {
+        on_same_lanes!(self, other, (lanes, more) => append(lanes, &more[from..to]), unreachable!())
+    }
+
+    /// Appends `n` zeros. It takes no memory.
+    #[tactic(auto, using(crate::proofs::Lanes::map_push_copies))]
+    pub fn push_zeros(&mut self, n: usize)
+        requires { n ≤ spare_of self.old }
+        ensures item_type { type_of self.new ≡ type_of self.old }
+        ensures numbers { numbers_of self.new ≡ numbers_of self.old ++ replicate n (pos 0) }
+        ensures spare { spare_of self.new + n ≡ spare_of self.old }
+    {
+        on_lanes!(self, lanes => append_copies(lanes, n, 0))
+    }
+
+    /// A copy of the items from place `from` to below place `to`. `ItemRange` comes before any memory
+    /// is asked for, and `Memory` only where the allocator refuses.
+    #[tactic(auto, using(crate::proofs::Lanes::map_slice_range))]
+    pub fn slice(&self, alloc: Global, from: usize, to: usize) -> Result<Items, ItemFault>
+        ensures item_type { IfOk result (λ items. type_of items ≡ type_of self.now) }
+        ensures numbers { IfOk result (λ items. numbers_of items ≡ slice_range (numbers_of self.now) from to) }
+        ensures range { IsErrOf result ItemFault.ItemRange ↔ ((to < from) ⊎ (length (numbers_of self.now) < to)) }
+        ensures within { OnOk result ((from ≤ to) × (to ≤ length (numbers_of self.now))) }
+    {
+        if to < from || self.len() < to {
+            return Err(ItemFault::ItemRange);
+        }
+        Ok(like_lanes!(self, lanes => Vec::from_slice(alloc, &lanes[from..to])?))
+    }
+
+    /// Drops each item and keeps the memory.
+    pub fn clear(&mut self)
+        ensures item_type { type_of self.new ≡ type_of self.old }
+        ensures numbers { numbers_of self.new ≡ [] }
+        ensures spare { spare_of self.new ≡ spare_of self.old + length (numbers_of self.old) }
+    {
+        on_lanes!(self, lanes => lanes.clear())
+    }
+}
+
+// The ends of the type's range.
+fn ends(t: ItemType) -> (i64, i64)
+    ensures least { result.0 ≡ least_of t }
+    ensures greatest { result.1 ≡ greatest_of t }
+{
+    match t {
+        ItemType::Byte => (0, 255),
+        ItemType::Short => (-32_768, 32_767),
+        ItemType::Int => (-2_147_483_648, 2_147_483_647),
+    }
+}
+
+// Whether each number is in the type's range.
+fn fit(t: ItemType, numbers: &[i64]) -> bool
+    ensures { IsTrue result ↔ AreItems t numbers.now }
+{
+    let (least, greatest) = ends(t);
+    numbers.iter().all(|n| least <= *n && *n <= greatest)
+}
+
+impl PartialEq for Items {
+    ghost use Rattle.std.specs.Prelude.{◌≡◌, ◌↔◌, IsTrue};
+    ghost use Rattle.std.specs.Cmp.{partial_equiv_from_equiv};
+    ghost use Rattle.items.specs.Items.{type_of, numbers_of};
+    ghost use Rattle.items.specs.Equality.{items_eq, items_eq_equiv};
+
+    ghost eq = { items_eq };
+
+    ghost laws = { partial_equiv_from_equiv items_eq_equiv };
+
+    fn eq(&self, other: &Items) -> bool
+        ensures value { result ≡ items_eq self.now other.now }
+        ensures exact { IsTrue result ↔ ((type_of self.now ≡ type_of other.now) × (numbers_of self.now ≡ numbers_of other.now)) }
+    {
+        on_same_lanes!(self, other, (lanes, more) => lanes == more, false)
+    }
+}
+
+impl Eq for Items {
+    ghost use Rattle.items.specs.Equality.{items_eq_equiv};
+
+    ghost laws = { items_eq_equiv };
+}
+
+#[cfg(test)]
+mod tests {
+    use super::*;
+    use std::process::Abort;
+    use std::test::Fail;
+
+    fn assert_numbers(rt: &impl Abort, items: &Items, t: ItemType, numbers: &[i64]) {
+        assert_eq!(rt; items.item_type(), t);
+        assert_eq!(rt; items.len(), numbers.len());
+        assert_eq!(rt; items.is_empty(), numbers.is_empty());
+        for (n, number) in numbers.iter().enumerate() {
+            assert!(rt; n < items.len());
+            assert_eq!(rt; items.number(n), *number);
+        }
+        items.in_range();
+    }
+
+    #[test]
+    fn numbers_in_and_out_of_range(rt: HostRuntime) -> Result<(), Fail> {
+        let alloc = rt.alloc();
+        let bytes = Items::from_numbers(alloc, ItemType::Byte, &[250, 1])?;
+        assert_numbers(&rt, &bytes, ItemType::Byte, &[250, 1]);
+        let shorts = Items::from_numbers(alloc, ItemType::Short, &[-32_768, 32_767])?;
+        assert_numbers(&rt, &shorts, ItemType::Short, &[-32_768, 32_767]);
+        let ints = Items::from_numbers(alloc, ItemType::Int, &[-2_147_483_648, 2_147_483_647])?;
+        assert_numbers(&rt, &ints, ItemType::Int, &[-2_147_483_648, 2_147_483_647]);
+        for (t, number) in [
+            (ItemType::Byte, 256),
+            (ItemType::Byte, -1),
+            (ItemType::Short, 32_768),
+            (ItemType::Short, -32_769),
+            (ItemType::Int, 2_147_483_648),
+            (ItemType::Int, -2_147_483_649),
+        ] {
+            let refused = Items::from_numbers(alloc, t, &[0, number]);
+            assert_eq!(rt; refused, Err(ItemFault::ItemRange));
+        }
+        Ok(())
+    }
+
+    #[test]
+    fn items_are_appended_within_spare(rt: HostRuntime) -> Result<(), Fail> {
+        let alloc = rt.alloc();
+        let more = Items::from_numbers(alloc, ItemType::Short, &[4, -5, 6])?;
+        let mut items = Items::empty(alloc, ItemType::Short);
+        assert_eq!(rt; items.spare(), 0);
+        items.reserve(8)?;
+        assert!(rt; items.spare() >= 8);
+        items.push_slice(&more);
+        items.push_zeros(2);
+        items.push_range(&more, 1, 3);
+        assert_numbers(&rt, &items, ItemType::Short, &[4, -5, 6, 0, 0, -5, 6]);
+        items.clear();
+        assert_numbers(&rt, &items, ItemType::Short, &[]);
+        assert!(rt; items.spare() >= 8);
+        Ok(())
+    }
+
+    #[test]
+    fn a_slice_is_a_part(rt: HostRuntime) -> Result<(), Fail> {
+        let alloc = rt.alloc();
+        let items = Items::from_numbers(alloc, ItemType::Int, &[10, 20, 30, 40])?;
+        let part = items.slice(alloc, 1, 3)?;
+        assert_numbers(&rt, &part, ItemType::Int, &[20, 30]);
+        assert_eq!(rt; items.slice(alloc, 4, 4)?.len(), 0);
+        assert_eq!(rt; items.slice(alloc, 3, 1), Err(ItemFault::ItemRange));
+        assert_eq!(rt; items.slice(alloc, 0, 5), Err(ItemFault::ItemRange));
+        Ok(())
+    }
+
+    #[test]
+    fn equal_in_type_and_numbers(rt: HostRuntime) -> Result<(), Fail> {
+        let alloc = rt.alloc();
+        let bytes = Items::from_numbers(alloc, ItemType::Byte, &[1, 2])?;
+        let mut same = Items::empty(alloc, ItemType::Byte);
+        same.reserve(9)?;
+        same.push_slice(&bytes);
+        assert!(rt; bytes == same);
+        assert!(rt; bytes != Items::from_numbers(alloc, ItemType::Byte, &[1, 3])?);
+        assert!(rt; bytes != Items::from_numbers(alloc, ItemType::Short, &[1, 2])?);
+        Ok(())
+    }
+}

@@ -1,0 +1,2 @@
+pub mod SourceWork
+pub mod TestWork

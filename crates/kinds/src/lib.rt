@@ -1,0 +1,10 @@
+//! The blocks of flowgraphs, and one type over all of them.
+#![tactic(auto)]
+
+pub mod kind;
+pub mod sink;
+pub mod source;
+
+pub use kind::Kind;
+pub use sink::VectorSink;
+pub use source::VectorSource;

@@ -1,0 +1,9 @@
+use Rattle.std.proofs.Common.{◌∙◌, sym}
+use Rattle.std.proofs.lemmas.Bool.{ltb-true}
+use Rattle.block_kinds.specs.Values.{held_of}
+use Rattle.math_blocks.proofs.StretchLemmas.{end_before-next}
+use Rattle.math_blocks.proofs.stretch.end_of.Goals as goal
+
+pub returns-in-Some : goal.returns-in-Some
+returns-in-Some c =
+    sym (end_before-next held_of c.args.held.now _ c.in-Some.next.now c.args.to (ltb-true _ _ (sym c.in-Some.ensures.lookup.0)) c.in-Some.ensures.lookup.1)

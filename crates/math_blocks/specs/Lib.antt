@@ -1,0 +1,4 @@
+pub mod AddConst
+pub mod Fault
+pub mod SameItem
+pub mod Stretch

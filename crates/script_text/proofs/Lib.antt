@@ -1,0 +1,6 @@
+pub mod LineLemmas
+pub mod EndLemmas
+pub mod FieldLemmas
+pub mod NumberLemmas
+pub mod NameLemmas
+pub mod ScriptLemmas

@@ -1,0 +1,53 @@
+-- Lines that are taken, as what they say.
+use Rattle.std.proofs.Common.{◌≡◌, ℕ, suc, ◌<◌, ◌≤◌, List, ◌∷◌, ◌++◌, length, refl, ap, sym, ◌∙◌, cond, Bool, true, false}
+use Rattle.std.specs.Prelude.{nat_lt}
+use Rattle.std.proofs.lemmas.Bool.{lt-ltb, le-ltb}
+use Rattle.script_text.specs.Lines.{lines_of, most_lines, longest_line}
+use Rattle.script_text.specs.Splits.{Split, TakesLine, StartsTooLong}
+use Rattle.script_text.specs.Grammar.{Parsed, Nothing, Bad, Says, parsed_line, parsed_at, parsed_from}
+use Rattle.script_text.specs.Scripts.{said_of, GoesOn, SaysNext}
+
+pub says_next : (said : Parsed) (old new : Split) → GoesOn said old new → SaysNext said old new
+says_next Nothing old new h = h
+says_next Bad old new h = λ more. (said_of new more, h.says more)
+says_next (Says c) old new h = h
+
+-- the line that was taken says what a line of its number and bytes says
+pub taken_says : (old new : Split) → TakesLine old new → (more : List ℕ) → said_of old more ≡ parsed_at (suc old.taken) new.line ∷ said_of new more
+taken_says old new h more =
+    ap (parsed_from (suc old.taken)) (h.first more)
+    ∙ ap (λ (n : ℕ). parsed_at (suc old.taken) new.line ∷ parsed_from (suc n) (lines_of (new.rest ++ more))) (sym h.counted)
+
+pub taken_bad : (old new : Split) → TakesLine old new → parsed_at (suc old.taken) new.line ≡ Bad → SaysNext Bad old new
+taken_bad old new h bad more = (said_of new more, taken_says old new h more ∙ ap (λ (said : Parsed). said ∷ said_of new more) bad)
+
+pub taken_next : (old new : Split) (said : Parsed) → TakesLine old new → new.taken ≤ most_lines → parsed_at (suc old.taken) new.line ≡ said → SaysNext said old new
+taken_next old new said h low is = says_next said old new (record {
+  says = λ more. taken_says old new h more ∙ ap (λ (p : Parsed). p ∷ said_of new more) is;
+  counted = low;
+})
+
+pub within_lines : (n : ℕ) (line : List ℕ) → n ≤ most_lines → parsed_at n line ≡ parsed_line line
+within_lines n line low = let within = le-ltb most_lines n low in rw within refl
+
+pub beyond_lines : (n : ℕ) (line : List ℕ) → most_lines < n → parsed_at n line ≡ Bad
+beyond_lines n line high = let beyond = lt-ltb most_lines n high in rw beyond refl
+
+-- a line that is too long is bad
+pub too_long_bad : (line : List ℕ) → longest_line < length line → parsed_line line ≡ Bad
+unfolding parsed_line
+too_long_bad line long = let is = lt-ltb longest_line (length line) long in rw is refl
+
+bad_at : (n : ℕ) (line : List ℕ) → parsed_line line ≡ Bad → parsed_at n line ≡ Bad
+bad_at n line bad = by_number (nat_lt most_lines n)
+  where
+    by_number : (t : Bool) → cond t Bad (parsed_line line) ≡ Bad
+    by_number true = refl
+    by_number false = bad
+
+pub too_long_next : (old new : Split) → ((more : List ℕ) → StartsTooLong (old.rest ++ more)) → SaysNext Bad old new
+too_long_next old new h more =
+    let long = h more in (
+      parsed_from (suc (suc old.taken)) long.1,
+      ap (parsed_from (suc old.taken)) long.2 ∙ ap (λ (p : Parsed). p ∷ parsed_from (suc (suc old.taken)) long.1) (bad_at (suc old.taken) long.0 (too_long_bad long.0 long.3)),
+    )

@@ -1,0 +1,25 @@
+use Rattle.std.proofs.Common.{suc, sym, ap, ◌∙◌, arith}
+use Rattle.script_text.specs.Grammar.{parsed_line}
+use Rattle.script_text.specs.Splits.{TakesLine}
+use Rattle.script_text.proofs.ScriptLemmas.{taken_bad, taken_next, within_lines, beyond_lines, too_long_next}
+use Rattle.script_text.proofs.script.next_line.Goals as goal
+
+pub returns-then-taken-gt-MOST_LINES-clause-ok : goal.returns-then-taken-gt-MOST_LINES-clause-ok
+returns-then-taken-gt-MOST_LINES-clause-ok c =
+    let old = c.args.lines.now in
+    let new = c.take_line.new.self in
+    let took : TakesLine old new = c.in-Whole.ensures in
+    let beyond = beyond_lines (suc old.taken) new.line (omega (arith, took.counted, c.taken.ensures, c.if-taken-gt-MOST_LINES.true)) in
+    taken_bad old new took beyond
+
+pub returns-in_ok-parse_line-in-Whole-clause-ok : goal.returns-in_ok-parse_line-in-Whole-clause-ok
+returns-in_ok-parse_line-in-Whole-clause-ok c =
+    let old = c.args.lines.now in
+    let new = c.take_line.new.self in
+    let took : TakesLine old new = c.in-Whole.ensures in
+    let within = within_lines (suc old.taken) new.line (omega (arith, took.counted, c.taken.ensures, c.if-taken-gt-MOST_LINES.false)) in
+    let says = c.in_ok-parse_line-in-Whole.ensures ∙ ap parsed_line c.line.ensures in
+    taken_next old new _ took (omega (arith, c.taken.ensures, c.if-taken-gt-MOST_LINES.false)) (within ∙ sym says)
+
+pub returns-in-TooLong-clause-ok : goal.returns-in-TooLong-clause-ok
+returns-in-TooLong-clause-ok c = too_long_next c.args.lines.now c.take_line.new.self c.in-TooLong.ensures.0

@@ -1,0 +1,163 @@
+-- What a line of a script says.
+use Rattle.std.specs.Prelude.{ℕ, suc, ℤ, List, [], ◌∷◌, Bool, ◌&&◌, ◌==◌, nat_lt, nat_le, length, if◌then◌else◌, codes, Option, Some, None}
+use Rattle.std.specs.List.{list_all}
+use Rattle.std.specs.Str.{bytes_eq}
+use Rattle.stream_model.specs.Tags.{Mark}
+use Rattle.items.specs.Name.{is_name_byte}
+use Rattle.script_text.specs.Lines.{begins_with, longest_line, most_lines}
+use Rattle.script_text.specs.Numbers.{offset_of, max_of, integer_of}
+use Rattle.script_text.specs.Fields.{fields_of, cut_at}
+
+-- a command, with the name of the block that it is for
+pub data Command : Type 0 where
+  Feed : (name : List ℕ) → (items : List ℤ) → (marks : List Mark) → Command
+  Close : (name : List ℕ) → Command
+  Step : (name : List ℕ) → (max : ℕ) → Command
+  Read : (name : List ℕ) → (from max : ℕ) → Command
+  Quiet : Command
+
+-- what a line says: nothing, nothing that a line may say, or a command
+pub data Parsed : Type 0 where
+  Nothing : Parsed
+  Bad : Parsed
+  Says : Command → Parsed
+
+infixl 10 ◌>>=◌
+abbrev pub ◌>>=◌ : {A B : Type 0} → Option A → (A → Option B) → Option B
+None >>= f = None
+(Some x) >>= f = f x
+
+abbrev pub number_sign : ℕ
+number_sign = 35
+
+abbrev pub colon : ℕ
+colon = 58
+
+abbrev pub equals_sign : ℕ
+equals_sign = 61
+
+abbrev pub at_sign : ℕ
+at_sign = 64
+
+-- a name of 1 to most bytes, each an ASCII letter, a digit, `_`, `.` or `-`
+abbrev pub is_name : ℕ → List ℕ → Bool
+is_name most bytes = nat_lt 0 (length bytes) && nat_le (length bytes) most && list_all is_name_byte bytes
+
+abbrev pub name_of : ℕ → List ℕ → Option (List ℕ)
+name_of most bytes = if is_name most bytes then Some bytes else None
+
+-- the name of a block
+abbrev pub block_of : List ℕ → Option (List ℕ)
+block_of bytes = name_of 32 bytes
+
+abbrev pub mark_at : ℕ → List ℕ → Option ℤ → Option Mark
+mark_at offset key None = None
+mark_at offset key (Some value) = Some (record { offset = offset; key = key; value = value })
+
+-- a mark, spelled @OFFSET:KEY=VALUE; here without the sign in front
+abbrev pub mark_parts : List ℕ → List ℕ → List ℕ → Option Mark
+mark_parts offset key value = do
+  n ← offset_of offset
+  k ← name_of 16 key
+  mark_at n k (integer_of value)
+
+abbrev pub mark_behind_sign : List ℕ → Option Mark
+mark_behind_sign bytes = do
+  placed ← cut_at colon bytes
+  named ← cut_at equals_sign placed.1
+  mark_parts placed.0 named.0 named.1
+
+abbrev pub mark_of : List ℕ → Option Mark
+mark_of [] = None
+mark_of (b ∷ bs) = if b == at_sign then mark_behind_sign bs else None
+
+-- fields that are marks, all of them
+abbrev pub marks_of : List (List ℕ) → Option (List Mark)
+marks_of [] = Some []
+marks_of (field ∷ fields) = do
+  m ← mark_of field
+  ms ← marks_of fields
+  Some (m ∷ ms)
+
+abbrev pub with_items : List ℤ → Option (List Mark) → Option (List ℤ × List Mark)
+with_items xs None = None
+with_items xs (Some ms) = Some (xs, ms)
+
+-- items, none or more, and then marks, none or more: the marks begin at the first field with their sign
+abbrev pub given_of : List (List ℕ) → Option (List ℤ × List Mark)
+given_of [] = Some ([], [])
+given_of (field ∷ fields) =
+    if begins_with at_sign field then with_items [] (marks_of (field ∷ fields))
+    else integer_of field >>= (λ x. given_of fields >>= (λ rest. Some (x ∷ rest.0, rest.1)))
+
+-- what the fields behind the first say
+abbrev pub feed_of : List (List ℕ) → Option Command
+feed_of [] = None
+feed_of (name ∷ fields) = do
+  b ← block_of name
+  given ← given_of fields
+  Some (Feed b given.0 given.1)
+
+abbrev pub close_of : List (List ℕ) → Option Command
+close_of [] = None
+close_of (name ∷ []) = do
+  b ← block_of name
+  Some (Close b)
+close_of (name ∷ other ∷ fields) = None
+
+abbrev pub step_of : List (List ℕ) → Option Command
+step_of [] = None
+step_of (name ∷ []) = None
+step_of (name ∷ max ∷ []) = do
+  b ← block_of name
+  n ← max_of max
+  Some (Step b n)
+step_of (name ∷ max ∷ other ∷ fields) = None
+
+abbrev pub read_of : List (List ℕ) → Option Command
+read_of [] = None
+read_of (name ∷ []) = None
+read_of (name ∷ from ∷ []) = None
+read_of (name ∷ from ∷ max ∷ []) = do
+  b ← block_of name
+  first ← offset_of from
+  n ← max_of max
+  Some (Read b first n)
+read_of (name ∷ from ∷ max ∷ other ∷ fields) = None
+
+abbrev pub quiet_of : List (List ℕ) → Option Command
+quiet_of [] = Some Quiet
+quiet_of (other ∷ fields) = None
+
+-- the command that a first field and those behind it are
+abbrev pub command_of : List ℕ → List (List ℕ) → Option Command
+command_of word fields =
+    if bytes_eq word (codes "feed") then feed_of fields
+    else (if bytes_eq word (codes "close") then close_of fields
+    else (if bytes_eq word (codes "step") then step_of fields
+    else (if bytes_eq word (codes "read") then read_of fields
+    else (if bytes_eq word (codes "quiet") then quiet_of fields
+    else None))))
+
+abbrev pub says : Option Command → Parsed
+says None = Bad
+says (Some c) = Says c
+
+abbrev pub parsed_fields : List (List ℕ) → Parsed
+parsed_fields [] = Nothing
+parsed_fields (word ∷ fields) = says (command_of word fields)
+
+-- what a line says. A line that begins with # says nothing, and one of spaces only neither; but none may be too long
+unfoldable pub parsed_line : List ℕ → Parsed
+parsed_line line =
+    if nat_lt longest_line (length line) then Bad
+    else (if begins_with number_sign line then Nothing
+    else parsed_fields (fields_of line))
+
+-- what lines say that are numbered from n on: a line behind the last that there may be is none that a line may say
+abbrev pub parsed_at : ℕ → List ℕ → Parsed
+parsed_at n line = if nat_lt most_lines n then Bad else parsed_line line
+
+abbrev pub parsed_from : ℕ → List (List ℕ) → List Parsed
+parsed_from n [] = []
+parsed_from n (line ∷ lines) = parsed_at n line ∷ parsed_from (suc n) lines

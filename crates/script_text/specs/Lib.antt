@@ -1,0 +1,10 @@
+pub mod Lines
+pub mod Splits
+pub mod Ends
+pub mod Numbers
+pub mod Fields
+pub mod Grammar
+pub mod Commands
+pub mod Replies
+pub mod Printed
+pub mod Scripts

@@ -1,0 +1,24 @@
+//! The text of scripts: lines, the commands that they spell, and the replies that are printed.
+#![tactic(auto)]
+
+mod bytes;
+pub mod command;
+pub mod ends;
+pub mod name;
+mod numbers;
+pub mod parse;
+mod print;
+pub mod reply;
+pub mod script;
+pub mod splitter;
+
+pub use command::{Command, Line};
+pub use ends::{Broken, ByteIn, ByteOut, ReadEnd, WriteEnd};
+pub use name::Name;
+pub use parse::parse_line;
+pub use reply::Reply;
+pub use script::{last_line, next_line};
+pub use splitter::{LineSplitter, Taken};
+
+#[cfg(test)]
+mod tests;

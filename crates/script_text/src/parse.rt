@@ -1,0 +1,196 @@
+//! Lines as commands.
+ghost use Rattle.std.specs.Prelude.{◌≡◌, IfOk, IfSome, IfNone, None};
+ghost use Rattle.std.specs.Option.{option_map};
+ghost use Rattle.script_text.specs.Fields.{fields_of};
+ghost use Rattle.script_text.specs.Grammar.{parsed_line, command_of, feed_of, close_of, step_of, read_of, quiet_of, given_of, marks_of, mark_of, mark_at, name_of, with_items};
+ghost use Rattle.script_text.specs.Numbers.{max_of, integer_of};
+ghost use Rattle.script_text.specs.Commands.{line_seen, command_seen, marks_seen, mark_seen};
+
+use crate::bytes::{begins_with, cut_at, next_field};
+use crate::numbers::{parse_integer, parse_natural};
+use crate::{Command, Line, Name};
+use items::{Mark, TagKey};
+use std::alloc::{AllocError, Global};
+
+const LONGEST_LINE: usize = 65536;
+
+const GREATEST_MAX: u64 = 4294967295;
+
+/// What a line says, without what ends it.
+#[tactic(auto, unfolding(crate::specs::Grammar::parsed_line))]
+pub fn parse_line(alloc: Global, line: &[u8]) -> Result<Line, AllocError>
+    ensures { IfOk result (λ l. line_seen l ≡ parsed_line line.now) }
+{
+    if line.len() > LONGEST_LINE {
+        return Ok(Line::Bad);
+    }
+    if begins_with(line, b'#') {
+        return Ok(Line::Nothing);
+    }
+    let Some((word, fields)) = next_field(line) else {
+        return Ok(Line::Nothing);
+    };
+    match parse_command(alloc, word, fields)? {
+        Some(command) => Ok(Line::Command(command)),
+        None => Ok(Line::Bad),
+    }
+}
+
+// The command that the first field and those behind it are.
+fn parse_command(alloc: Global, word: &[u8], fields: &[u8]) -> Result<Option<Command>, AllocError>
+    ensures { IfOk result (λ command. option_map command_seen command ≡ command_of word.now (fields_of fields.now)) }
+{
+    if word == b"feed".as_slice() {
+        parse_feed(alloc, fields)
+    } else if word == b"close".as_slice() {
+        Ok(parse_close(fields))
+    } else if word == b"step".as_slice() {
+        Ok(parse_step(fields))
+    } else if word == b"read".as_slice() {
+        Ok(parse_read(fields))
+    } else if word == b"quiet".as_slice() {
+        Ok(parse_quiet(fields))
+    } else {
+        Ok(None)
+    }
+}
+
+fn parse_feed(alloc: Global, fields: &[u8]) -> Result<Option<Command>, AllocError>
+    ensures { IfOk result (λ command. option_map command_seen command ≡ feed_of (fields_of fields.now)) }
+{
+    let Some((name, given)) = next_field(fields) else {
+        return Ok(None);
+    };
+    let Some(name) = Name::new(name) else {
+        return Ok(None);
+    };
+    let Some((items, marks)) = parse_items(alloc, given)? else {
+        return Ok(None);
+    };
+    let Some(marks) = parse_marks(alloc, marks)? else {
+        return Ok(None);
+    };
+    Ok(Some(Command::Feed { name, items, marks }))
+}
+
+fn parse_close(fields: &[u8]) -> Option<Command>
+    ensures { option_map command_seen result ≡ close_of (fields_of fields.now) }
+{
+    let (name, rest) = next_field(fields)?;
+    if next_field(rest).is_some() {
+        return None;
+    }
+    let name = Name::new(name)?;
+    Some(Command::Close { name })
+}
+
+fn parse_step(fields: &[u8]) -> Option<Command>
+    ensures { option_map command_seen result ≡ step_of (fields_of fields.now) }
+{
+    let (name, rest) = next_field(fields)?;
+    let (max, rest) = next_field(rest)?;
+    if next_field(rest).is_some() {
+        return None;
+    }
+    let name = Name::new(name)?;
+    let max = parse_max(max)?;
+    Some(Command::Step { name, max })
+}
+
+fn parse_read(fields: &[u8]) -> Option<Command>
+    ensures { option_map command_seen result ≡ read_of (fields_of fields.now) }
+{
+    let (name, rest) = next_field(fields)?;
+    let (from, rest) = next_field(rest)?;
+    let (max, rest) = next_field(rest)?;
+    if next_field(rest).is_some() {
+        return None;
+    }
+    let name = Name::new(name)?;
+    let from = parse_natural(from, u64::MAX)?;
+    let max = parse_max(max)?;
+    Some(Command::Read { name, from, max })
+}
+
+fn parse_quiet(fields: &[u8]) -> Option<Command>
+    ensures { option_map command_seen result ≡ quiet_of (fields_of fields.now) }
+{
+    if next_field(fields).is_some() {
+        return None;
+    }
+    Some(Command::Quiet)
+}
+
+// How many at most: at least one.
+fn parse_max(field: &[u8]) -> Option<u64>
+    ensures { result ≡ max_of field.now }
+{
+    let max = parse_natural(field, GREATEST_MAX)?;
+    if max == 0 {
+        return None;
+    }
+    Some(max)
+}
+
+// The items at the front, and the fields behind them, which begin with a mark if there are any.
+fn parse_items(alloc: Global, fields: &[u8]) -> Result<Option<(Vec<i64>, &[u8])>, AllocError>
+    ensures none { IfOk result (λ found. IfNone found (given_of (fields_of fields.now) ≡ None)) }
+    ensures items { IfOk result (λ found. IfSome found (λ given.
+        given_of (fields_of fields.now) ≡ with_items given.0.items (marks_of (fields_of given.1.now)))) }
+{
+    let mut items = Vec::new(alloc);
+    let mut rest = fields;
+    while let Some((field, after)) = next_field(rest) {
+        if begins_with(field, b'@') {
+            break;
+        }
+        let Some(item) = parse_integer(field) else {
+            return Ok(None);
+        };
+        items.push(item)?;
+        rest = after;
+    }
+    Ok(Some((items, rest)))
+}
+
+// The marks that the fields are.
+fn parse_marks(alloc: Global, fields: &[u8]) -> Result<Option<Vec<Mark>>, AllocError>
+    ensures { IfOk result (λ marks. option_map (λ v. marks_seen v.items) marks ≡ marks_of (fields_of fields.now)) }
+{
+    let mut marks = Vec::new(alloc);
+    let mut rest = fields;
+    while let Some((field, after)) = next_field(rest) {
+        let Some(mark) = parse_mark(field) else {
+            return Ok(None);
+        };
+        marks.push(mark)?;
+        rest = after;
+    }
+    Ok(Some(marks))
+}
+
+fn parse_mark(field: &[u8]) -> Option<Mark>
+    ensures { option_map mark_seen result ≡ mark_of field.now }
+{
+    if !begins_with(field, b'@') {
+        return None;
+    }
+    let (offset, rest) = cut_at(&field[1..], b':')?;
+    let (key, value) = cut_at(rest, b'=')?;
+    let offset = parse_natural(offset, u64::MAX)?;
+    let key = parse_key(key)?;
+    mark_with(offset, key, value)
+}
+
+fn mark_with(offset: u64, key: TagKey, value: &[u8]) -> Option<Mark>
+    ensures { option_map mark_seen result ≡ mark_at offset key (integer_of value.now) }
+{
+    let value = parse_integer(value)?;
+    Some(Mark { offset, key, value })
+}
+
+fn parse_key(bytes: &[u8]) -> Option<TagKey>
+    ensures { result ≡ name_of 16 bytes.now }
+{
+    TagKey::new(bytes)
+}

@@ -1,0 +1,77 @@
+//! Numbers, items and tags as text.
+ghost use Rattle.std.specs.Prelude.{◌≡◌, ◌++◌, OnOk};
+ghost use Rattle.std.specs.List.{flat_map};
+ghost use Rattle.std.specs.Fmt.{decimal, signed_decimal};
+ghost use Rattle.items.specs.Items.{numbers_of};
+ghost use Rattle.script_text.specs.Replies.{item_text, tag_text, tag_value_text};
+ghost use Rattle.script_text.specs.Printed.{tag_seen, tags_seen};
+
+use items::{Items, Tag};
+use std::alloc::AllocError;
+
+/// Writes the number's digits at the end.
+#[tactic(auto, using(std::proofs::lemmas::Fmt::decimal_digit))]
+pub fn push_natural(out: &mut Vec<u8>, number: u64) -> Result<(), AllocError>
+    ensures { OnOk result (out.new.items ≡ out.old.items ++ decimal number) }
+{
+    if number < 10 {
+        out.push(b'0' + number as u8)?;
+        return Ok(());
+    }
+    push_natural(out, number / 10)?;
+    out.push(b'0' + (number % 10) as u8)?;
+    Ok(())
+}
+
+/// Writes the number at the end, behind a minus sign if it is negative.
+pub fn push_integer(out: &mut Vec<u8>, number: i64) -> Result<(), AllocError>
+    ensures { OnOk result (out.new.items ≡ out.old.items ++ signed_decimal number) }
+{
+    if number < 0 {
+        out.push(b'-')?;
+        push_natural(out, number.unsigned_abs())
+    } else {
+        push_natural(out, number as u64)
+    }
+}
+
+/// Writes the items at the end, each behind a space.
+pub fn push_items(out: &mut Vec<u8>, items: &Items) -> Result<(), AllocError>
+    ensures { OnOk result (out.new.items ≡ out.old.items ++ flat_map item_text (numbers_of items.now)) }
+{
+    for place in 0..items.len() {
+        out.push(b' ')?;
+        push_integer(out, items.number(place))?;
+    }
+    Ok(())
+}
+
+/// Writes the tags at the end, each behind a space.
+pub fn push_tags(out: &mut Vec<u8>, tags: &[Tag]) -> Result<(), AllocError>
+    ensures { OnOk result (out.new.items ≡ out.old.items ++ flat_map tag_text (tags_seen tags.now)) }
+{
+    for tag in tags {
+        push_tag(out, tag)?;
+    }
+    Ok(())
+}
+
+fn push_tag(out: &mut Vec<u8>, tag: &Tag) -> Result<(), AllocError>
+    ensures { OnOk result (out.new.items ≡ out.old.items ++ tag_text (tag_seen tag.now)) }
+{
+    out.extend_from_slice(b" @")?;
+    push_natural(out, tag.offset)?;
+    out.push(b':')?;
+    push_tag_value(out, tag)
+}
+
+// What stands behind the colon.
+fn push_tag_value(out: &mut Vec<u8>, tag: &Tag) -> Result<(), AllocError>
+    ensures { OnOk result (out.new.items ≡ out.old.items ++ tag_value_text (tag_seen tag.now)) }
+{
+    out.extend_from_slice(tag.key.bytes())?;
+    out.push(b'=')?;
+    push_integer(out, tag.value)?;
+    out.push(b'/')?;
+    push_natural(out, u64::from(tag.source))
+}

@@ -1,0 +1,47 @@
+//! Scripts, line by line, as what the lines say.
+ghost use Rattle.std.specs.Prelude.{◌≡◌, ◌-◌, ◌^◌, ◌<◌, suc, IfOk, OnErr};
+ghost use Rattle.std.specs.Option.{option_map, option_to_list};
+ghost use Rattle.script_text.specs.Lines.{lines_of};
+ghost use Rattle.script_text.specs.Splits.{IsUnfinished, TakesLine};
+ghost use Rattle.script_text.specs.Grammar.{parsed_from};
+ghost use Rattle.script_text.specs.Commands.{line_seen};
+ghost use Rattle.script_text.specs.Scripts.{Continues};
+
+use crate::{Line, LineSplitter, Taken, parse_line};
+use std::alloc::{AllocError, Global};
+
+const MOST_LINES: u64 = 4294967295;
+
+/// Takes the next line, where its end has come or it is too long, and tells what it says. An `Err` has taken it too.
+pub fn next_line(alloc: Global, lines: &mut LineSplitter) -> Result<Option<Line>, AllocError>
+    requires { lines.old.taken < 2 ^ 64 - 1 }
+    ensures ok { IfOk result (λ line. Continues (option_map line_seen line) lines.old lines.new) }
+    ensures err { OnErr result (TakesLine lines.old lines.new) }
+{
+    match lines.take_line() {
+        Taken::Whole => {
+            if lines.taken() > MOST_LINES {
+                Ok(Some(Line::Bad))
+            } else {
+                Ok(Some(parse_line(alloc, lines.line())?))
+            }
+        }
+        Taken::TooLong => Ok(Some(Line::Bad)),
+        Taken::Unfinished => Ok(None),
+    }
+}
+
+/// What the last line says, at the end of the bytes, if there is one.
+pub fn last_line(alloc: Global, lines: &LineSplitter) -> Result<Option<Line>, AllocError>
+    requires { IsUnfinished lines.now.rest }
+    ensures { IfOk result (λ line.
+        option_to_list (option_map line_seen line) ≡ parsed_from (suc lines.now.taken) (lines_of lines.now.rest)) }
+{
+    let Some(line) = lines.last_line() else {
+        return Ok(None);
+    };
+    if lines.taken() >= MOST_LINES {
+        return Ok(Some(Line::Bad));
+    }
+    Ok(Some(parse_line(alloc, line)?))
+}

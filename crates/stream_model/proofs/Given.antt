@@ -1,0 +1,48 @@
+-- What firings give: cut anywhere, and as the inputs grow.
+use Rattle.std.proofs.Common.{◌≡◌, ℕ, zero, suc, ◌+◌, ◌-◌, ◌*◌, ◌<◌, ◌≤◌, Bool, true, false, ◌&&◌, List, [], ◌∷◌, ◌++◌, map, length, take, drop, get_or, refl, arith, ap, sym, ◌∙◌, subst, inl, inr, ℤ, add-suc, suc-add, mul-zero, MatchOption, Option, Some, None, append-nil}
+use Rattle.std.proofs.Math.Nat.{zero-add, add-zero, mul-le-mul_left}
+use Rattle.std.proofs.lemmas.Bool.{leb-true, le-leb, and_parts, and_from, cases_lt}
+use Rattle.std.proofs.lemmas.List.{map-append, take-append-le}
+use Rattle.std.proofs.lemmas.List.FromFn.{length-map-range_with_len}
+use Rattle.stream_model.specs.Lists.{numbers_from, IsBeginning, greatest}
+use Rattle.stream_model.specs.Settings.{Held, in_force}
+use Rattle.stream_model.specs.Meaning.{Meaning, IsLawful, input, given_items, SameSettings, SameInputs}
+use Rattle.stream_model.proofs.Counts.{given-rises, given-zero}
+
+pub numbers_from-append : (n a b : ℕ) → numbers_from n (a + b) ≡ numbers_from n a ++ numbers_from (n + a) b
+numbers_from-append n zero b = rw (zero-add b, add-zero n) refl
+numbers_from-append n (suc a) b =
+    rw (suc-add a b) (ap (λ l. n ∷ l) (numbers_from-append (n + 1) a b ∙ (let e : n + 1 + a ≡ n + suc a = omega arith in ap (λ k. numbers_from (n + 1) a ++ numbers_from k b) e)))
+
+-- two functions that agree on these numbers give one list
+pub map-numbers_from : {A : Type 0} (f g : ℕ → A) (n count : ℕ) → ((j : ℕ) → n ≤ j → j < n + count → f j ≡ g j) → map f (numbers_from n count) ≡ map g (numbers_from n count)
+map-numbers_from f g n zero same = refl
+map-numbers_from f g n (suc count) same =
+    let head : f n ≡ g n = same n (omega arith) (omega arith) in
+    let tail = map-numbers_from f g (n + 1) count (λ j low high. let l : n ≤ j = omega arith in let h : j < n + suc count = omega arith in same j l h) in
+    cc
+
+module _ (m : Meaning) (lawful : IsLawful m) where
+  -- what a + b firings give is what a give, and then what the next b give
+  pub given_items-more : (ts : List Held) (xs : List (List ℤ)) (p a b : ℕ) → given_items m ts xs 0 (a + b) p ≡ given_items m ts xs 0 a p ++ given_items m ts xs a b p
+  given_items-more ts xs p a b =
+      let g0 = given-zero m lawful in
+      let rise : m.given a ≤ m.given (a + b) = given-rises m lawful a (a + b) (omega arith) in
+      let whole : m.given (a + b) - 0 ≡ m.given a - 0 + (m.given (a + b) - m.given a) = omega arith in
+      let start : 0 + (m.given a - 0) ≡ m.given a = omega arith in
+      rw (zero-add (a + b), zero-add a, g0, whole, numbers_from-append 0 (m.given a - 0) (m.given (a + b) - m.given a), map-append, start) refl
+
+  pub length-given_items : (ts : List Held) (xs : List (List ℤ)) (p k : ℕ) → length (given_items m ts xs 0 k p) ≡ m.given k
+  length-given_items ts xs p k =
+      let g0 = given-zero m lawful in
+      rw (length-map-range_with_len, zero-add k, g0) (omega arith)
+
+  -- the first k firings give the same on inputs that agree in the items that they take
+  pub given_items-same : (ts us : List Held) (xs ys : List (List ℤ)) (p k : ℕ) → SameSettings m k ts us → SameInputs m k xs ys → given_items m ts xs 0 k p ≡ given_items m us ys 0 k p
+  given_items-same ts us xs ys p k settings inputs =
+      map-numbers_from (m.out ts xs p) (m.out us ys p) (m.given 0) (m.given (0 + k) - m.given 0)
+      (λ j low high.
+      let g0 = given-zero m lawful in
+      let e : 0 + k ≡ k = zero-add k in
+      let whole : m.given (0 + k) ≡ m.given k = ap m.given e in let below : j < m.given k = omega arith in
+      lawful.local ts us xs ys k p j settings inputs below)

@@ -1,0 +1,15 @@
+pub mod Shapes
+pub mod Ends
+pub mod Math
+pub mod Filters
+pub mod Bits
+pub mod Rates
+pub mod Worked
+pub mod Laws
+pub mod WindowLaws
+pub mod EndsLaws
+pub mod MathLaws
+pub mod FilterLaws
+pub mod RateLaws
+pub mod BitLaws
+pub mod RegisterLaws

@@ -1,0 +1,87 @@
+-- The kinds of arithmetic, logic, tables and conversion: an item for an item.
+use Rattle.std.specs.Prelude.{ℕ, ◌-◌, ℤ, pos, negsuc, ◌+ℤ◌, ◌*ℤ◌, List, [], ◌∷◌, map, Some, slice_index_or, bit_and, bit_or, bit_xor}
+use Rattle.stream_model.specs.declared.vocabulary.ItemType.{ItemType}
+use Rattle.stream_model.specs.declared.vocabulary.ItemType.TheVariants.{Byte, Short}
+use Rattle.stream_model.specs.Numbers.{numbers_in, wrap, total}
+use Rattle.stream_model.specs.Settings.{Number}
+use Rattle.stream_model.specs.Lists.{item, item_before}
+use Rattle.stream_model.specs.Kernels.{sum_below, scaled, bits_in, turned}
+use Rattle.stream_model.specs.Meaning.{Meaning, input}
+use Rattle.stream_model.specs.Kinds.Shapes.{ports, any_ports, at_rate, sync, any_number, number_at}
+
+-- each item plus the number in force, wrapped (GNU Radio manual)
+abbrev pub add_const : ItemType → ℤ → Meaning
+add_const t v =
+    record (sync t t) {
+      setting = Some (any_number t);
+      own = Some (Number v);
+      out = λ ts xs p n. wrap t (item (input xs 0) n +ℤ number_at v ts n);
+    }
+
+-- each item times the number in force, wrapped (GNU Radio manual)
+abbrev pub multiply_const : ItemType → ℤ → Meaning
+multiply_const t v =
+    record (sync t t) {
+      setting = Some (any_number t);
+      own = Some (Number v);
+      out = λ ts xs p n. wrap t (item (input xs 0) n *ℤ number_at v ts n);
+    }
+
+-- each item times the factor in force, over 2 ^ shift, rounded and saturated (own)
+abbrev pub scale : ItemType → ℤ → ℕ → Meaning
+scale t factor shift =
+    record (sync t t) {
+      setting = Some (any_number Short);
+      own = Some (Number factor);
+      out = λ ts xs p n. scaled t (number_at factor ts n) shift (item (input xs 0) n);
+    }
+
+-- items n of all inputs
+abbrev pub items_at : List (List ℤ) → ℕ → List ℤ
+items_at xs n = map (λ (x : List ℤ). item x n) xs
+
+-- the sum of the inputs' items, wrapped (GNU Radio manual)
+abbrev pub add : ItemType → Meaning
+add t = record (at_rate (any_ports t) (ports 1 t) 1 1) { out = λ ts xs p n. wrap t (total (items_at xs n)) }
+
+-- the bits of all numbers of a list, joined bit for bit by op, where `none` joins to nothing new
+abbrev pub all_bits : (ℕ → ℕ → ℕ) → ℕ → ItemType → List ℤ → ℕ
+all_bits op none t [] = none
+all_bits op none t (z ∷ zs) = op (bits_in t z) (all_bits op none t zs)
+
+-- the inputs' items, joined bit for bit (two's complement)
+abbrev pub bitwise : (ℕ → ℕ → ℕ) → ℕ → ItemType → Meaning
+bitwise op none t = record (at_rate (any_ports t) (ports 1 t) 1 1) { out = λ ts xs p n. wrap t (pos (all_bits op none t (items_at xs n))) }
+
+-- bitwise and of the inputs' items (GNU Radio manual)
+abbrev pub and_of : ItemType → Meaning
+and_of t = bitwise bit_and (numbers_in t - 1) t
+
+-- bitwise or of the inputs' items (GNU Radio manual)
+abbrev pub or_of : ItemType → Meaning
+or_of t = bitwise bit_or 0 t
+
+-- bitwise exclusive or of the inputs' items (GNU Radio manual)
+abbrev pub xor_of : ItemType → Meaning
+xor_of t = bitwise bit_xor 0 t
+
+-- each item with all bits turned (GNU Radio manual)
+abbrev pub not_of : ItemType → Meaning
+not_of t = record (sync t t) { out = λ ts xs p n. turned t (item (input xs 0) n) }
+
+-- the entry of a table at z, or z itself past the table's end
+abbrev pub looked_up : List ℤ → ℤ → ℤ
+looked_up table (pos n) = slice_index_or table n (pos n)
+looked_up table (negsuc n) = negsuc n
+
+-- each byte through a table, unchanged where the table is shorter (GNU Radio manual; short tables are own)
+abbrev pub map_bb : List ℤ → Meaning
+map_bb table = record (sync Byte Byte) { out = λ ts xs p n. looked_up table (item (input xs 0) n) }
+
+-- each item as the number of the other type that equals it modulo 2 to that type's bits (own)
+abbrev pub convert : ItemType → ItemType → Meaning
+convert from to = record (sync from to) { out = λ ts xs p n. wrap to (item (input xs 0) n) }
+
+-- the sum of the last `length` items, wrapped (GNU Radio manual)
+abbrev pub moving_sum : ItemType → ℕ → Meaning
+moving_sum t length = record (sync t t) { history = length; out = λ ts xs p n. wrap t (sum_below length (item_before (input xs 0) n)) }

@@ -1,0 +1,83 @@
+-- The kinds that change a rate, take turns between streams, or move a stream.
+use Rattle.std.specs.Prelude.{◌≤◌, All, ℕ, suc, ◌+◌, ◌-◌, ◌*◌, ◌/◌, ◌%◌, ℤ, pos, List, [], ◌∷◌, length, take, sum, Some, None, slice_index_or, nat_lt, if◌then◌else◌}
+use Rattle.stream_model.specs.declared.vocabulary.ItemType.{ItemType}
+use Rattle.stream_model.specs.declared.vocabulary.Shift.TheVariants as shifts
+use Rattle.stream_model.specs.Numbers.{wrap}
+use Rattle.stream_model.specs.Lists.{item, item_before}
+use Rattle.stream_model.specs.Kernels.{sum_below}
+use Rattle.stream_model.specs.Meaning.{Meaning, input}
+use Rattle.stream_model.specs.Kinds.Shapes.{ports, at_rate, sync}
+
+-- the last of each n items (GNU Radio manual)
+abbrev pub keep_one_in_n : ItemType → ℕ → Meaning
+keep_one_in_n t n = record (at_rate (ports 1 t) (ports 1 t) n 1) { out = λ ts xs p k. item (input xs 0) (k * n + n - 1) }
+
+-- the sum of each n items, wrapped (GNU Radio manual)
+abbrev pub integrate : ItemType → ℕ → Meaning
+integrate t n = record (at_rate (ports 1 t) (ports 1 t) n 1) { out = λ ts xs p k. wrap t (sum_below n (λ j. item (input xs 0) (k * n + j))) }
+
+-- each item n times (GNU Radio manual)
+abbrev pub repeat : ItemType → ℕ → Meaning
+repeat t n = record (at_rate (ports 1 t) (ports 1 t) 1 n) { out = λ ts xs p k. item (input xs 0) (k / n) }
+
+-- an item of each input in turn: output m * n + p is item m of input p (GNU Radio manual)
+abbrev pub interleave : ItemType → ℕ → Meaning
+interleave t n = record (at_rate (ports n t) (ports 1 t) 1 n) { out = λ ts xs p k. item (input xs (k % n)) (k / n) }
+
+-- an item for each output in turn: item m of output p is item m * n + p (GNU Radio manual); there is no output n
+abbrev pub deinterleave : ItemType → ℕ → Meaning
+deinterleave t n = record (at_rate (ports 1 t) (ports n t) n 1) { out = λ ts xs p m. if nat_lt p n then item (input xs 0) (m * n + p) else pos 0 }
+
+-- the first n items (GNU Radio manual)
+abbrev pub head : ItemType → ℕ → Meaning
+head t n = record (sync t t) { place = λ p s. s; limit = Some n; out = λ ts xs p k. item (input xs 0) k }
+
+-- all but the first n items (GNU Radio manual; the counts and the place of tags are own)
+abbrev pub skiphead : ItemType → ℕ → Meaning
+skiphead t n =
+    record (sync t t) {
+      rate = λ p. None;
+      shift = shifts.Skip n;
+      taken = λ p k. k;
+      given = λ k. k - n;
+      place = λ p s. s - n;
+      out = λ ts xs p k. item (input xs 0) (k + n);
+    }
+
+-- n zeros, then the input (GNU Radio manual; the counts are own)
+abbrev pub delay : ItemType → ℕ → Meaning
+delay t n =
+    record (sync t t) {
+      rate = λ p. None;
+      shift = shifts.Delay n;
+      taken = λ p k. k - n;
+      given = λ k. k;
+      place = λ p s. s + n;
+      out = λ ts xs p k. item_before (input xs 0) k n;
+    }
+
+-- the lengths that a mux may have: some items of each input, and not too many in a round (own)
+pub record IsMux (lengths : List ℕ) : Type 0 where
+  pub some : 1 ≤ length lengths
+  pub each : All (λ l. (1 ≤ l) × (l ≤ 1024)) lengths
+  pub all : sum lengths ≤ 1024
+
+-- how many items a mux takes of input p in a round; 1 where there is no such input
+abbrev pub turn_of : List ℕ → ℕ → ℕ
+turn_of lengths p = slice_index_or lengths p 1
+
+-- item r of round g: the first of lengths[p] of input p, the next of input p + 1, and so on
+abbrev pub round_item : List ℕ → ℕ → List (List ℤ) → ℕ → ℕ → ℤ
+round_item [] p xs g r = pos 0
+round_item (l ∷ ls) p xs g r = if nat_lt r l then item (input xs p) (g * l + r) else round_item ls (suc p) xs g (r - l)
+
+-- rounds of lengths[p] items of each input p in turn (GNU Radio manual; whole rounds only and the place of tags are own)
+abbrev pub stream_mux : ItemType → List ℕ → Meaning
+stream_mux t lengths =
+    let all = sum lengths in
+    record (at_rate (ports (length lengths) t) (ports 1 t) 1 all) {
+      rate = λ p. Some (turn_of lengths p, all);
+      taken = λ p k. turn_of lengths p * k;
+      place = λ p s. s / turn_of lengths p * all + sum (take p lengths) + s % turn_of lengths p;
+      out = λ ts xs p n. round_item lengths 0 xs (n / all) (n % all);
+    }

@@ -1,0 +1,12 @@
+pub mod Lists
+pub mod Numbers
+pub mod Settings
+pub mod Tags
+pub mod Meaning
+pub mod Network
+pub mod Machine
+pub mod Kernels
+pub mod Kinds
+pub mod Worked
+pub mod Rates
+pub mod Graphs

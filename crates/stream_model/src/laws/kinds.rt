@@ -1,0 +1,7 @@
+//! Worked rows of the kinds: what a block by itself gives on whole inputs, at once
+//! and cut into single firings.
+
+pub mod bits;
+pub mod filters;
+pub mod math;
+pub mod rates;
