@@ -132,7 +132,8 @@ impl<B: Block> Valid<B> {
 
     /// The number of the block of this name, the first where there are several.
     pub fn find(&self, name: &[u8]) -> Option<usize>
-        ensures { result ≡ position (bytes_eq name.now) self.now.0 }
+        ensures value { result ≡ position (bytes_eq name.now) self.now.0 }
+        ensures small { IfSome result (λ block. block < 2 ^ 32) }
     {
         self.names.iter().position(|other| name == other.bytes())
     }

@@ -25,6 +25,7 @@ pub taken_next : (old new : Split) (said : Parsed) → TakesLine old new → new
 taken_next old new said h low is = says_next said old new (record {
   says = λ more. taken_says old new h more ∙ ap (λ (p : Parsed). p ∷ said_of new more) is;
   counted = low;
+  following = h.counted;
 })
 
 pub within_lines : (n : ℕ) (line : List ℕ) → n ≤ most_lines → parsed_at n line ≡ parsed_line line

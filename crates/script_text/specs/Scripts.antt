@@ -8,10 +8,11 @@ use Rattle.script_text.specs.Grammar.{Parsed, Nothing, Bad, Says, parsed_from}
 abbrev pub said_of : Split → List ℕ → List Parsed
 said_of s more = parsed_from (suc s.taken) (lines_of (s.rest ++ more))
 
--- the next line says this, and the lines behind it are those that are left; there are not too many yet
+-- the next line says this, and the lines behind it are those that are left; it was counted, and there are not too many yet
 pub record GoesOn (said : Parsed) (old new : Split) : Type 0 where
   pub says : (more : List ℕ) → said_of old more ≡ said ∷ said_of new more
   pub counted : new.taken ≤ most_lines
+  pub following : new.taken ≡ suc old.taken
 
 -- the same, but nothing is known of the lines behind a bad one
 abbrev pub SaysNext : Parsed → Split → Split → Type 0
