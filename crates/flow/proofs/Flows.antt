@@ -1,0 +1,238 @@
+-- Lines that are answered, one after another.
+use Rattle.std.proofs.Common.{inl, inr, ◌≡◌, ℕ, zero, suc, ◌+◌, ◌<◌, ◌≤◌, List, [], ◌∷◌, ◌++◌, length, refl, arith, ap, sym, ◌∙◌, append_assoc, append-nil, length-append, None, Some, subst}
+use Rattle.std.specs.Prelude.{Option, Result, Ok, Err, IfErr}
+use Rattle.std.specs.Io.KnownBytes.{Appends, Consumes, Keeps, IsAtEnd}
+use Rattle.std.proofs.KnownBytes.{Consumes-nil, Consumes-trans, Consumes-kept}
+use Rattle.stream_model.specs.Network.{State}
+use Rattle.script_text.specs.Lines.{lines_of}
+use Rattle.script_text.specs.Splits.{Split, IsUnfinished}
+use Rattle.script_text.specs.Scripts.{said_of, GoesOn}
+use Rattle.script_text.specs.Grammar.{Command, Parsed, Nothing, Bad, Says, parsed_from}
+use Rattle.script_text.specs.Ends.{AppendsBeginning}
+use Rattle.flow.specs.Session.{Graph, Answers}
+use Rattle.flow.specs.Script.{Replies, Answered, Begins, Stops, StopsAtBad, StopsBefore, StopsWriting, Went, Unwritten, Flows, Ends, Breaks, script_after, script_of}
+use Rattle.flow.specs.declared.script.ScriptFault.{ScriptFault}
+use Rattle.flow.specs.declared.script.ScriptFault.TheVariants.{BadLine, Read, Write, Memory}
+
+pub appends_nothing : (a : Option (List ℕ)) → Appends a a []
+appends_nothing None = tt
+appends_nothing (Some xs) = sym (append-nil xs)
+
+pub appends_both : (a b c : Option (List ℕ)) (xs ys : List ℕ) → Appends a b xs → Appends b c ys → Appends a c (xs ++ ys)
+appends_both None b c xs ys p q = tt
+appends_both (Some x) None c xs ys p q = absurd p
+appends_both (Some x) (Some y) None xs ys p q = absurd q
+appends_both (Some x) (Some y) (Some z) xs ys p q = q ∙ ap (λ (l : List ℕ). l ++ ys) p ∙ append_assoc x xs ys
+
+replies_both : (g : Graph) (xs ys : List Parsed) (a b c : State) (s t : List ℕ) → Replies g xs a b s → Replies g ys b c t → Replies g (xs ++ ys) a c (s ++ t)
+replies_both g [] ys a b c s t p q = let is : s ++ t ≡ t = ap (λ (l : List ℕ). l ++ t) p.0 in subst (λ (l : List ℕ). Replies g ys a c l) (sym is) (subst (λ (x : State). Replies g ys x c t) p.1 q)
+replies_both g (Nothing ∷ xs) ys a b c s t p q = replies_both g xs ys a b c s t p q
+replies_both g (Bad ∷ xs) ys a b c s t p q = absurd p
+replies_both g (Says c' ∷ xs) ys a b c s t p q =
+    (p.0, p.1, p.2 ++ t, ap (λ (l : List ℕ). l ++ t) p.3 ∙ append_assoc p.1 p.2 t, p.4, replies_both g xs ys p.0 b c p.2 t p.5 q)
+
+said_last : (s : Split) (lines : List Parsed) → lines ≡ parsed_from (suc s.taken) (lines_of s.rest) → said_of s [] ≡ lines ++ []
+said_last s lines e = ap (λ (bytes : List ℕ). parsed_from (suc s.taken) (lines_of bytes)) (append-nil s.rest) ∙ sym e ∙ sym (append-nil lines)
+
+-- a count that grew by nothing
+pub kept_count : (a b c : ℕ) → a ≡ b + 0 → b ≡ c → a ≡ c
+kept_count a b c p q = omega (arith, p, q)
+
+module _ (g : Graph) where
+  -- no line was answered
+  pub none_answered : (st : State) (out : Option (List ℕ)) → Answered g st st out out []
+  none_answered st out = record { text = []; replies = (refl, refl); written = appends_nothing out }
+
+  pub nothing_answered : (st : State) (out : Option (List ℕ)) → Answered g st st out out (Nothing ∷ [])
+  nothing_answered st out = record { text = []; replies = (refl, refl); written = appends_nothing out }
+
+  pub one_answered : (c : Command) (old new : State) (out out' : Option (List ℕ)) (line : List ℕ) → Answers g c old new line → Appends out out' line → Answered g old new out out' (Says c ∷ [])
+  one_answered c old new out out' line a w =
+      record { text = line; replies = (new, line, [], sym (append-nil line), a, (refl, refl)); written = w }
+
+  pub both_answered : (a b c : State) (o p q : Option (List ℕ)) (xs ys : List Parsed) → Answered g a b o p xs → Answered g b c p q ys → Answered g a c o q (xs ++ ys)
+  both_answered a b c o p q xs ys h k =
+      record {
+        text = h.text ++ k.text;
+        replies = replies_both g xs ys a b c h.text k.text h.replies k.replies;
+        written = appends_both o p q h.text k.text h.written k.written;
+      }
+
+  -- what is said behind some lines begins with others
+  pub begins_behind : (all rest : List ℕ → List Parsed) (xs ys : List Parsed) → ((more : List ℕ) → all more ≡ xs ++ rest more) → Begins rest ys → Begins all (xs ++ ys)
+  begins_behind all rest xs ys e h more = let k = h more in (k.0, e more ∙ ap (λ (l : List Parsed). xs ++ l) k.1 ∙ sym (append_assoc xs ys k.0))
+
+  begins_more : (all rest : List ℕ → List Parsed) (xs ys zs : List Parsed) → ((more : List ℕ) → all more ≡ xs ++ rest more) → Begins rest (ys ++ zs) → Begins all ((xs ++ ys) ++ zs)
+  begins_more all rest xs ys zs e h = subst (Begins all) (sym (append_assoc xs ys zs)) (begins_behind all rest xs (ys ++ zs) e h)
+
+  -- a stop behind lines that were answered
+  pub stops_behind : (all rest : List ℕ → List Parsed) (xs : List Parsed) (st mid : State) (o p q : Option (List ℕ)) (count later : ℕ) (fault : ScriptFault) →
+      ((more : List ℕ) → all more ≡ xs ++ rest more) → Answered g st mid o p xs → later ≡ count + length xs → Stops g mid p q rest later fault → Stops g st o q all count fault
+  stops_behind all rest xs st mid o p q count later (BadLine n) e h l s =
+      record {
+        before = xs ++ s.before;
+        last = s.last;
+        answered = both_answered st mid s.last o p q xs s.before h s.answered;
+        next = begins_more all rest xs s.before (Bad ∷ []) e s.next;
+        number = let sum = length-append xs s.before in s.number ∙ (omega arith);
+      }
+  stops_behind all rest xs st mid o p q count later Read e h l s =
+      record { before = xs ++ s.before; last = s.last; answered = both_answered st mid s.last o p q xs s.before h s.answered; next = begins_behind all rest xs s.before e s.next }
+  stops_behind all rest xs st mid o p q count later Memory e h l s =
+      record { before = xs ++ s.before; last = s.last; answered = both_answered st mid s.last o p q xs s.before h s.answered; next = begins_behind all rest xs s.before e s.next }
+  stops_behind all rest xs st mid o p q count later Write e h l s =
+      record {
+        before = xs ++ s.before;
+        last = s.last;
+        between = s.between;
+        answered = both_answered st mid s.last o p s.between xs s.before h s.answered;
+        command = s.command;
+        after = s.after;
+        text = s.text;
+        reply = s.reply;
+        cut = s.cut;
+        next = begins_more all rest xs s.before (Says s.command ∷ []) e s.next;
+      }
+
+  -- no line was taken yet
+  pub went_nowhere : (st : State) (out : Option (List ℕ)) (s : Split) → s.taken ≤ 4294967295 → Went g st st out out s s
+  went_nowhere st out s low = record { before = []; answered = none_answered st out; says = λ more. refl; counted = omega arith; low = low }
+
+  -- one line more
+  pub went_on : (a b c : State) (o p q : Option (List ℕ)) (r s t : Split) (line : Parsed) → Went g a b o p r s → GoesOn line s t → Answered g b c p q (line ∷ []) → Went g a c o q r t
+  went_on a b c o p q r s t line h k w =
+      record {
+        before = h.before ++ line ∷ [];
+        answered = both_answered a b c o p q h.before (line ∷ []) h.answered w;
+        says = λ more. h.says more ∙ ap (λ (l : List Parsed). h.before ++ l) (k.says more) ∙ sym (append_assoc h.before (line ∷ []) (said_of t more));
+        counted = let sum = length-append h.before (line ∷ []) in omega (arith, h.counted, k.following);
+        low = k.counted;
+      }
+
+  -- no reply to the first line was written, or only a beginning of it
+  pub stops_at : (said : List ℕ → List Parsed) (c : Command) (old new : State) (out out' : Option (List ℕ)) (count : ℕ) (fault : ScriptFault) →
+      Begins said (Says c ∷ []) → Unwritten g c old new out out' fault → Stops g old out out' said count fault
+  stops_at said c old new out out' count (BadLine n) b u = absurd u
+  stops_at said c old new out out' count Read b u = absurd u
+  stops_at said c old new out out' count Write b u =
+      record { before = []; last = old; between = out; answered = none_answered old out; command = c; after = new; text = u.0; reply = u.1; cut = u.2; next = b }
+  stops_at said c old new out out' count Memory b u =
+      record { before = []; last = old; answered = record { text = []; replies = (refl, refl); written = subst (λ (o : Option (List ℕ)). Appends out o []) (sym u) (appends_nothing out) }; next = λ more. (said more, refl) }
+
+  -- the same of a result, which may be no fault
+  pub stops_if : (said : List ℕ → List Parsed) (c : Command) (old new : State) (out out' : Option (List ℕ)) (count : ℕ) (result : Result (Unit {0}) ScriptFault) →
+      Begins said (Says c ∷ []) → IfErr result (λ fault. Unwritten g c old new out out' fault) → IfErr result (λ fault. Stops g old out out' said count fault)
+  stops_if said c old new out out' count (Ok x) b u = tt
+  stops_if said c old new out out' count (Err fault) b u = stops_at said c old new out out' count fault b u
+
+  -- the last line, where only a bad one is left
+  pub stops_bad_last : (st : State) (out : Option (List ℕ)) (s : Split) (n : ℕ) → Bad ∷ [] ≡ parsed_from (suc s.taken) (lines_of s.rest) → n ≡ suc s.taken → Stops g st out out (λ more. said_of s []) s.taken (BadLine n)
+  stops_bad_last st out s n e i =
+      record { before = []; last = st; answered = none_answered st out; next = λ more. ([], said_last s (Bad ∷ []) e); number = omega arith }
+
+  -- the line after the last end says what the last one does
+  pub begins_last : (s : Split) (c : Command) → Says c ∷ [] ≡ parsed_from (suc s.taken) (lines_of s.rest) → Begins (λ more. said_of s []) (Says c ∷ [])
+  begins_last s c e = λ more. ([], said_last s (Says c ∷ []) e)
+
+  -- bytes that were pushed are said behind those that were left
+  said_pushed : (s t : Split) (piece more : List ℕ) → t.rest ≡ s.rest ++ piece → t.taken ≡ s.taken → said_of s (piece ++ more) ≡ said_of t more
+  said_pushed s t piece more r n =
+      ap (λ (bytes : List ℕ). parsed_from (suc s.taken) (lines_of bytes)) (sym (append_assoc s.rest piece more) ∙ sym (ap (λ (l : List ℕ). l ++ more) r))
+      ∙ ap (λ (k : ℕ). parsed_from (suc k) (lines_of (t.rest ++ more))) (sym n)
+
+  after_both : (given piece more : List ℕ) → script_after (given ++ piece) more ≡ script_after given (piece ++ more)
+  after_both given piece more = ap (λ (bytes : List ℕ). parsed_from 1 (lines_of bytes)) (append_assoc given piece more)
+
+  consumes_none : (a b c : Option (List ℕ)) (xs : List ℕ) → Consumes a b xs → Consumes b c [] → Consumes a c xs
+  consumes_none a b c xs p q = subst (Consumes a c) (append-nil xs) (Consumes-trans a b c xs [] p q)
+
+  -- a script begins
+  pub flows_start : (st : State) (input out : Option (List ℕ)) (s : Split) → s ≡ record { rest = []; line = []; taken = 0 } → Flows g st st input input out out s
+  flows_start st input out s e = subst (λ (t : Split). Flows g st st input input out out t) (sym e) start
+    where
+      start : Flows g st st input input out out (record { rest = []; line = []; taken = 0 })
+      start = record {
+        given = [];
+        before = [];
+        read = Consumes-nil input;
+        answered = none_answered st out;
+        says = λ more. refl;
+        counted = refl;
+        low = omega arith;
+        unfinished = record { no_end = λ i h. absurd (omega (arith, h)); short = omega arith };
+      }
+
+  -- a piece was read and pushed, and its lines were answered
+  pub flows_on : (st mid last : State) (i j k o p q : Option (List ℕ)) (s t u : Split) (piece : List ℕ) → Flows g st mid i j o p s → Consumes j k piece →
+      t.rest ≡ s.rest ++ piece → t.taken ≡ s.taken → Went g mid last p q t u → IsUnfinished u.rest → Flows g st last i k o q u
+  flows_on st mid last i j k o p q s t u piece f c r n w h =
+      record {
+        given = f.given ++ piece;
+        before = f.before ++ w.before;
+        read = Consumes-trans i j k f.given piece f.read c;
+        answered = both_answered st mid last o p q f.before w.before f.answered w.answered;
+        says = λ more. after_both f.given piece more ∙ f.says (piece ++ more) ∙ ap (λ (l : List Parsed). f.before ++ l) (said_pushed s t piece more r n ∙ w.says more) ∙ sym (append_assoc f.before w.before (said_of u more));
+        counted = let sum = length-append f.before w.before in omega (arith, f.counted, w.counted, n);
+        low = w.low;
+        unfinished = h;
+      }
+
+  -- a piece was read and pushed, and the script stops in its lines
+  pub breaks_in : (st mid : State) (i j k o p q : Option (List ℕ)) (s t : Split) (piece : List ℕ) (fault : ScriptFault) → Flows g st mid i j o p s → Consumes j k piece →
+      t.rest ≡ s.rest ++ piece → t.taken ≡ s.taken → Stops g mid p q (said_of t) t.taken fault → Breaks g st i k o q fault
+  breaks_in st mid i j k o p q s t piece fault f c r n h =
+      record {
+        given = f.given ++ piece;
+        read = Consumes-trans i j k f.given piece f.read c;
+        stops = inl (stops_behind (script_after (f.given ++ piece)) (said_of t) f.before st mid o p q 0 t.taken fault
+            (λ more. after_both f.given piece more ∙ f.says (piece ++ more) ∙ ap (λ (l : List Parsed). f.before ++ l) (said_pushed s t piece more r n))
+            f.answered (let taken = f.counted in omega (arith, n, taken)) h);
+      }
+
+  -- the reader is at its end, and the script stops in the last line
+  pub breaks_last : (st mid : State) (i j k o p q : Option (List ℕ)) (s : Split) (fault : ScriptFault) → Flows g st mid i j o p s → Consumes j k [] → IsAtEnd k →
+      Stops g mid p q (λ more. said_of s []) s.taken fault → Breaks g st i k o q fault
+  breaks_last st mid i j k o p q s fault f c e h =
+      record {
+        given = f.given;
+        read = consumes_none i j k f.given f.read c;
+        stops = inr (e, stops_behind (script_of f.given) (λ more. said_of s []) f.before st mid o p q 0 s.taken fault (λ more. f.says []) f.answered (let taken = f.counted in omega (arith, taken)) h);
+      }
+
+  -- the reader is at its end, and the last line was answered
+  pub ends_last : (st mid last : State) (i j k o p q : Option (List ℕ)) (s : Split) → Flows g st mid i j o p s → Consumes j k [] → IsAtEnd k →
+      Answered g mid last p q (said_of s []) → Ends g st last i k o q
+  ends_last st mid last i j k o p q s f c e h =
+      record {
+        given = f.given;
+        read = consumes_none i j k f.given f.read c;
+        at_end = e;
+        answered = subst (Answered g st last o q) (sym (f.says [])) (both_answered st mid last o p q f.before (said_of s []) f.answered h);
+      }
+
+  -- nothing of a piece was answered, since memory ran out
+  pub breaks_memory : (st mid : State) (i j k o p : Option (List ℕ)) (s : Split) (piece : List ℕ) → Flows g st mid i j o p s → Consumes j k piece → Breaks g st i k o p Memory
+  breaks_memory st mid i j k o p s piece f c =
+      record {
+        given = f.given ++ piece;
+        read = Consumes-trans i j k f.given piece f.read c;
+        stops = inl (record { before = f.before; last = mid; answered = f.answered; next = λ more. (said_of s (piece ++ more), after_both f.given piece more ∙ f.says (piece ++ more)) });
+      }
+
+  -- the script stops between pieces
+  pub breaks_between : (st mid : State) (i j o p : Option (List ℕ)) (s : Split) → Flows g st mid i j o p s → Breaks g st i j o p Memory
+  breaks_between st mid i j o p s f =
+      record {
+        given = f.given;
+        read = f.read;
+        stops = inl (record { before = f.before; last = mid; answered = f.answered; next = λ more. (said_of s more, f.says more) });
+      }
+
+  -- a read failed
+  pub breaks_read : (st mid : State) (i j k o p : Option (List ℕ)) (s : Split) → Flows g st mid i j o p s → Keeps j k → Breaks g st i k o p Read
+  breaks_read st mid i j k o p s f c =
+      record {
+        given = f.given;
+        read = Consumes-kept i j k f.given f.read c;
+        stops = inl (record { before = f.before; last = mid; answered = f.answered; next = λ more. (said_of s more, f.says more) });
+      }

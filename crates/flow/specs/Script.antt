@@ -1,0 +1,139 @@
+-- What a script writes.
+use Rattle.std.specs.Prelude.{◌≡◌, ℕ, suc, ◌+◌, ◌≤◌, ◌⊎◌, List, [], ◌∷◌, ◌++◌, length, Option, Bool, true, false, Result, Ok, Err}
+use Rattle.std.specs.Io.KnownBytes.{Appends, Consumes, IsAtEnd}
+use Rattle.stream_model.specs.Network.{State}
+use Rattle.script_text.specs.Lines.{lines_of, most_lines}
+use Rattle.script_text.specs.Splits.{Split, IsUnfinished, KeepsBytes}
+use Rattle.script_text.specs.Scripts.{said_of, GoesOn}
+use Rattle.script_text.specs.Grammar.{Command, Parsed, Nothing, Bad, Says, parsed_from}
+use Rattle.script_text.specs.Ends.{AppendsBeginning}
+use Rattle.flow.specs.Session.{Graph, Answers}
+use Rattle.flow.specs.declared.script.ScriptFault.{ScriptFault}
+use Rattle.flow.specs.declared.script.ScriptFault.TheVariants.{BadLine, Read, Write, Memory}
+
+-- the replies to lines of which none is bad, one after another, and the state that they leave
+abbrev pub Replies : Graph → List Parsed → State → State → List ℕ → Type 0
+Replies g [] old new text = (text ≡ []) × (new ≡ old)
+Replies g (Nothing ∷ lines) old new text = Replies g lines old new text
+Replies g (Bad ∷ lines) old new text = ⊥
+Replies g (Says c ∷ lines) old new text =
+    (mid : State) × (first : List ℕ) × (later : List ℕ) × (text ≡ first ++ later) × Answers g c old mid first × Replies g lines mid new later
+
+-- the lines were answered, in this order: their replies were written, and nothing else
+pub record Answered (g : Graph) (old new : State) (out out' : Option (List ℕ)) (lines : List Parsed) : Type 0 where
+  pub text : List ℕ
+  pub replies : Replies g lines old new text
+  pub written : Appends out out' text
+
+-- what is said begins with these lines, whatever bytes come behind those that were read
+abbrev pub Begins : (List ℕ → List Parsed) → List Parsed → Type 0
+Begins said lines = (more : List ℕ) → (later : List Parsed) × (said more ≡ lines ++ later)
+
+-- the first bad line, where so many lines came before what is said; the lines before it were answered
+pub record StopsAtBad (g : Graph) (st : State) (out out' : Option (List ℕ)) (said : List ℕ → List Parsed) (count n : ℕ) : Type 0 where
+  pub before : List Parsed
+  pub last : State
+  pub answered : Answered g st last out out' before
+  pub next : Begins said (before ++ Bad ∷ [])
+  pub number : n ≡ suc (count + length before)
+
+-- some of the lines were answered, and nothing of those behind them was written
+pub record StopsBefore (g : Graph) (st : State) (out out' : Option (List ℕ)) (said : List ℕ → List Parsed) : Type 0 where
+  pub before : List Parsed
+  pub last : State
+  pub answered : Answered g st last out out' before
+  pub next : Begins said before
+
+-- a line was answered, and only a beginning of its reply was written
+pub record StopsWriting (g : Graph) (st : State) (out out' : Option (List ℕ)) (said : List ℕ → List Parsed) : Type 0 where
+  pub before : List Parsed
+  pub last : State
+  pub between : Option (List ℕ)
+  pub answered : Answered g st last out between before
+  pub command : Command
+  pub after : State
+  pub text : List ℕ
+  pub reply : Answers g command last after text
+  pub cut : AppendsBeginning between out' text
+  pub next : Begins said (before ++ Says command ∷ [])
+
+-- where a script stops by a fault
+abbrev pub Stops : Graph → State → Option (List ℕ) → Option (List ℕ) → (List ℕ → List Parsed) → ℕ → ScriptFault → Type 0
+Stops g st out out' said count (BadLine n) = StopsAtBad g st out out' said count n
+Stops g st out out' said count Read = StopsBefore g st out out' said
+Stops g st out out' said count Write = StopsWriting g st out out' said
+Stops g st out out' said count Memory = StopsBefore g st out out' said
+
+-- the lines of a script that begins with these bytes
+abbrev pub script_after : List ℕ → List ℕ → List Parsed
+script_after given more = parsed_from 1 (lines_of (given ++ more))
+
+-- the lines of a script that has no more bytes than these
+abbrev pub script_of : List ℕ → List ℕ → List Parsed
+script_of given more = script_after given []
+
+-- a script ends: its reader is at its end, and all lines of what it gave were answered
+pub record Ends (g : Graph) (st last : State) (input input' out out' : Option (List ℕ)) : Type 0 where
+  pub given : List ℕ
+  pub read : Consumes input input' given
+  pub at_end : IsAtEnd input'
+  pub answered : Answered g st last out out' (script_after given [])
+
+-- a script stops by a fault, after the reader gave some bytes: whatever comes behind them, or since it is at its end
+pub record Breaks (g : Graph) (st : State) (input input' out out' : Option (List ℕ)) (fault : ScriptFault) : Type 0 where
+  pub given : List ℕ
+  pub read : Consumes input input' given
+  pub stops : Stops g st out out' (script_after given) 0 fault ⊎ (IsAtEnd input' × Stops g st out out' (script_of given) 0 fault)
+
+-- the number by which a fault is reported
+abbrev pub number_of : ScriptFault → ℕ
+number_of (BadLine n) = 50
+number_of Read = 51
+number_of Write = 52
+number_of Memory = 32
+
+-- how many reads failed, and how many writes
+abbrev pub failed_reads : {X : Type 0} → Result X ScriptFault → ℕ
+failed_reads (Ok x) = 0
+failed_reads (Err (BadLine n)) = 0
+failed_reads (Err Read) = 1
+failed_reads (Err Write) = 0
+failed_reads (Err Memory) = 0
+
+abbrev pub failed_writes : {X : Type 0} → Result X ScriptFault → ℕ
+failed_writes (Ok x) = 0
+failed_writes (Err (BadLine n)) = 0
+failed_writes (Err Read) = 0
+failed_writes (Err Write) = 1
+failed_writes (Err Memory) = 0
+
+-- why no reply was written: memory ran out, or the write stopped in it
+abbrev pub Unwritten : Graph → Command → State → State → Option (List ℕ) → Option (List ℕ) → ScriptFault → Type 0
+Unwritten g c old new out out' (BadLine n) = ⊥
+Unwritten g c old new out out' Read = ⊥
+Unwritten g c old new out out' Write = (line : List ℕ) × Answers g c old new line × AppendsBeginning out out' line
+Unwritten g c old new out out' Memory = out' ≡ out
+
+-- a line was taken and answered, or none was, since its end has not come
+abbrev pub Proceeds : Graph → State → State → Option (List ℕ) → Option (List ℕ) → Split → Split → Bool → Type 0
+Proceeds g st last out out' old new true = (line : Parsed) × GoesOn line old new × Answered g st last out out' (line ∷ [])
+Proceeds g st last out out' old new false = IsUnfinished new.rest × KeepsBytes old new × (last ≡ st) × (out' ≡ out)
+
+-- lines were taken and answered
+pub record Went (g : Graph) (st last : State) (out out' : Option (List ℕ)) (old new : Split) : Type 0 where
+  pub before : List Parsed
+  pub answered : Answered g st last out out' before
+  pub says : (more : List ℕ) → said_of old more ≡ before ++ said_of new more
+  pub counted : new.taken ≡ old.taken + length before
+  pub low : new.taken ≤ most_lines
+
+-- what a script did so far, between its pieces
+pub record Flows (g : Graph) (st last : State) (input input' out out' : Option (List ℕ)) (lines : Split) : Type 0 where
+  pub given : List ℕ
+  pub before : List Parsed
+  pub read : Consumes input input' given
+  pub answered : Answered g st last out out' before
+  pub says : (more : List ℕ) → script_after given more ≡ before ++ said_of lines more
+  pub counted : lines.taken ≡ length before
+  pub low : lines.taken ≤ most_lines
+  pub unfinished : IsUnfinished lines.rest

@@ -1,0 +1,198 @@
+//! A script: commands line by line, and their replies.
+
+ghost use Rattle.std.specs.Prelude.{◌≡◌, ◌+◌, ◌-◌, ◌^◌, ◌<◌, ◌≤◌, [], ◌∷◌, IfOk, IfErr, OnOk};
+ghost use Rattle.script_text.specs.Lines.{most_lines};
+ghost use Rattle.script_text.specs.Splits.{IsUnfinished};
+ghost use Rattle.script_text.specs.Scripts.{said_of};
+ghost use Rattle.script_text.specs.Grammar.{Says};
+ghost use Rattle.script_text.specs.Commands.{command_seen};
+ghost use Rattle.flow.specs.Session.{graph_of, in_state, IsAskable};
+ghost use Rattle.flow.specs.Script.{Answered, Stops, Unwritten, Proceeds, Went, Ends, Breaks, failed_reads, failed_writes};
+ghost use Rattle.flow.specs.declared.script.ScriptFault.TheVariants.{Memory};
+
+use crate::session::answer;
+use block_kinds::Block;
+use executor::Plant;
+use script_text::{ByteIn, ByteOut, Command, Line, LineSplitter, last_line, next_line};
+use std::alloc::{AllocError, Global};
+use std::fmt;
+
+const PIECE: usize = 4096;
+
+/// Why a script stopped.
+#[derive(Clone, Copy, Debug, PartialEq, Eq)]
+pub enum ScriptFault {
+    /// The line of this number, where the first is 1, says nothing that a line may say.
+    BadLine(u64),
+    /// A read failed.
+    Read,
+    /// A write failed.
+    Write,
+    /// Memory ran out.
+    Memory,
+}
+
+impl ScriptFault {
+    ghost use Rattle.flow.specs.Script.{number_of};
+
+    /// The number by which the fault is reported.
+    pub fn number(&self) -> u32
+        ensures { result ≡ number_of self.now }
+    {
+        match self {
+            ScriptFault::BadLine(_) => 50,
+            ScriptFault::Read => 51,
+            ScriptFault::Write => 52,
+            ScriptFault::Memory => 32,
+        }
+    }
+}
+
+impl fmt::Display for ScriptFault {
+    fn fmt<W: fmt::Write>(&self, f: &mut fmt::Formatter<W>) -> fmt::Result {
+        match self {
+            ScriptFault::BadLine(number) => write!(f, "50 BadLine {number}"),
+            ScriptFault::Read => write!(f, "51 Read"),
+            ScriptFault::Write => write!(f, "52 Write"),
+            ScriptFault::Memory => write!(f, "32 Memory"),
+        }
+    }
+}
+
+impl From<AllocError> for ScriptFault {
+    ghost from_gives = { λ _ e. e ≡ Memory };
+
+    fn from(_refusal: AllocError) -> ScriptFault {
+        ScriptFault::Memory
+    }
+}
+
+/// Reads a script to its end, does what its lines say, and writes a reply to each line that asks something.
+pub fn script<B: Block, I: ByteIn, O: ByteOut>(
+    alloc: Global,
+    plant: Plant<B>,
+    input: &mut I,
+    output: &mut O,
+) -> Result<Plant<B>, ScriptFault>
+    requires reads { I.failed input.old < 2 ^ 64 - 1 }
+    requires writes { O.failed output.old < 2 ^ 64 - 1 }
+    ensures ends { IfOk result (λ p. Ends (graph_of B.meaning plant) plant.2 p.2 (I.remaining input.old) (I.remaining input.new) (O.contents output.old) (O.contents output.new)) }
+    ensures kept { IfOk result (λ p. p ≡ in_state plant p.2) }
+    ensures breaks { IfErr result (λ fault. Breaks (graph_of B.meaning plant) plant.2 (I.remaining input.old) (I.remaining input.new) (O.contents output.old) (O.contents output.new) fault) }
+    ensures failed_reads { I.failed input.new ≡ I.failed input.old + failed_reads result }
+    ensures failed_writes { O.failed output.new ≡ O.failed output.old + failed_writes result }
+{
+    let mut plant = plant;
+    let mut lines = LineSplitter::new(alloc);
+    let mut buffer = [0; PIECE];
+    for _ in 0..u64::MAX {
+        let Ok(read) = input.read(&mut buffer) else {
+            return Err(ScriptFault::Read);
+        };
+        if read == 0 {
+            answer_last(alloc, &mut plant, &lines, output)?;
+            return Ok(plant);
+        }
+        lines.push(&buffer[..read])?;
+        answer_lines(alloc, &mut plant, &mut lines, output)?;
+    }
+    // So many pieces have a bad line among them, since there may be only so many lines and none may be long.
+    Err(ScriptFault::Memory)
+}
+
+// Answers each line whose end has come.
+fn answer_lines<B: Block, O: ByteOut>(
+    alloc: Global,
+    plant: &mut Plant<B>,
+    lines: &mut LineSplitter,
+    output: &mut O,
+) -> Result<(), ScriptFault>
+    requires low { lines.old.taken ≤ most_lines }
+    requires writes { O.failed output.old < 2 ^ 64 - 1 }
+    ensures kept { plant.new ≡ in_state plant.old plant.new.2 }
+    ensures went { OnOk result (Went (graph_of B.meaning plant.old) plant.old.2 plant.new.2 (O.contents output.old) (O.contents output.new) lines.old lines.new) }
+    ensures unfinished { OnOk result (IsUnfinished lines.new.rest) }
+    ensures stops { IfErr result (λ fault. Stops (graph_of B.meaning plant.old) plant.old.2 (O.contents output.old) (O.contents output.new) (said_of lines.old) lines.old.taken fault) }
+    ensures failed_reads { failed_reads result ≡ 0 }
+    ensures failed_writes { O.failed output.new ≡ O.failed output.old + failed_writes result }
+{
+    loop {
+        match answer_next(alloc, plant, lines, output) {
+            Ok(true) => {}
+            Ok(false) => return Ok(()),
+            Err(fault) => return Err(fault),
+        }
+    }
+}
+
+// Answers the next line, if its end has come, and tells whether it has.
+fn answer_next<B: Block, O: ByteOut>(
+    alloc: Global,
+    plant: &mut Plant<B>,
+    lines: &mut LineSplitter,
+    output: &mut O,
+) -> Result<bool, ScriptFault>
+    requires low { lines.old.taken ≤ most_lines }
+    requires writes { O.failed output.old < 2 ^ 64 - 1 }
+    ensures kept { plant.new ≡ in_state plant.old plant.new.2 }
+    ensures proceeds { IfOk result (λ came. Proceeds (graph_of B.meaning plant.old) plant.old.2 plant.new.2 (O.contents output.old) (O.contents output.new) lines.old lines.new came) }
+    ensures stops { IfErr result (λ fault. Stops (graph_of B.meaning plant.old) plant.old.2 (O.contents output.old) (O.contents output.new) (said_of lines.old) lines.old.taken fault) }
+    ensures failed_reads { failed_reads result ≡ 0 }
+    ensures failed_writes { O.failed output.new ≡ O.failed output.old + failed_writes result }
+{
+    let number = lines.taken() + 1;
+    match next_line(alloc, lines)? {
+        None => Ok(false),
+        Some(Line::Nothing) => Ok(true),
+        Some(Line::Bad) => Err(ScriptFault::BadLine(number)),
+        Some(Line::Command(command)) => match answer_command(alloc, plant, &command, output) {
+            Ok(()) => Ok(true),
+            Err(fault) => Err(fault),
+        },
+    }
+}
+
+// Answers the line that the end of the bytes ends, if there is one.
+fn answer_last<B: Block, O: ByteOut>(
+    alloc: Global,
+    plant: &mut Plant<B>,
+    lines: &LineSplitter,
+    output: &mut O,
+) -> Result<(), ScriptFault>
+    requires low { lines.now.taken ≤ most_lines }
+    requires unfinished { IsUnfinished lines.now.rest }
+    requires writes { O.failed output.old < 2 ^ 64 - 1 }
+    ensures kept { plant.new ≡ in_state plant.old plant.new.2 }
+    ensures answered { OnOk result (Answered (graph_of B.meaning plant.old) plant.old.2 plant.new.2 (O.contents output.old) (O.contents output.new) (said_of lines.now [])) }
+    ensures stops { IfErr result (λ fault. Stops (graph_of B.meaning plant.old) plant.old.2 (O.contents output.old) (O.contents output.new) (λ more. said_of lines.now []) lines.now.taken fault) }
+    ensures failed_reads { failed_reads result ≡ 0 }
+    ensures failed_writes { O.failed output.new ≡ O.failed output.old + failed_writes result }
+{
+    match last_line(alloc, lines)? {
+        None | Some(Line::Nothing) => Ok(()),
+        Some(Line::Bad) => Err(ScriptFault::BadLine(lines.taken() + 1)),
+        Some(Line::Command(command)) => answer_command(alloc, plant, &command, output),
+    }
+}
+
+// Does what a command asks, and writes its reply.
+fn answer_command<B: Block, O: ByteOut>(
+    alloc: Global,
+    plant: &mut Plant<B>,
+    command: &Command,
+    output: &mut O,
+) -> Result<(), ScriptFault>
+    requires askable { IsAskable (command_seen command.now) }
+    requires writes { O.failed output.old < 2 ^ 64 - 1 }
+    ensures kept { plant.new ≡ in_state plant.old plant.new.2 }
+    ensures answered { OnOk result (Answered (graph_of B.meaning plant.old) plant.old.2 plant.new.2 (O.contents output.old) (O.contents output.new) (Says (command_seen command.now) ∷ [])) }
+    ensures unwritten { IfErr result (λ fault. Unwritten (graph_of B.meaning plant.old) (command_seen command.now) plant.old.2 plant.new.2 (O.contents output.old) (O.contents output.new) fault) }
+    ensures failed_reads { failed_reads result ≡ 0 }
+    ensures failed_writes { O.failed output.new ≡ O.failed output.old + failed_writes result }
+{
+    let line = answer(alloc, plant, command)?;
+    match output.write(&line) {
+        Ok(()) => Ok(()),
+        Err(_) => Err(ScriptFault::Write),
+    }
+}

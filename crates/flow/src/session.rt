@@ -1,0 +1,150 @@
+//! One command of a script, as a call of a plant.
+
+ghost use Rattle.std.specs.Prelude.{◌≡◌, ◌<◌, ◌≤◌, IfOk, IfSome};
+ghost use Rattle.std.specs.Option.{option_map};
+ghost use Rattle.stream_model.specs.Machine as machine;
+ghost use Rattle.executor.specs.Chain.{network_of};
+ghost use Rattle.script_text.specs.Commands.{command_seen, marks_seen};
+ghost use Rattle.script_text.specs.Printed.{printed};
+ghost use Rattle.script_text.specs.Replies.{line_text};
+ghost use Rattle.flow.specs.Session.{graph_of, in_state, block_of, feed_numbers, Tells, Answers, IsAskable, refusal_line};
+
+use block_kinds::Block;
+use executor::{BlockId, Closed, Fed, Need, Plant, PlantFault, Step};
+use items::{Items, Mark};
+use script_text::{Command, Name, Reply};
+use std::alloc::{AllocError, Global};
+
+/// Makes the call that a command asks for, and gives its reply as a line.
+pub fn answer<B: Block>(
+    alloc: Global,
+    plant: &mut Plant<B>,
+    command: &Command,
+) -> Result<Vec<u8>, AllocError>
+    requires { IsAskable (command_seen command.now) }
+    ensures kept { plant.new ≡ in_state plant.old plant.new.2 }
+    ensures answers { IfOk result (λ line. Answers (graph_of B.meaning plant.old) (command_seen command.now) plant.old.2 plant.new.2 line.items) }
+{
+    match command {
+        Command::Feed { name, items, marks } => match find(plant, name) {
+            Some(block) => feed(alloc, plant, block, items, marks),
+            None => refused(alloc, PlantFault::NoSuchBlock),
+        },
+        Command::Close { name } => match find(plant, name) {
+            Some(block) => close(alloc, plant, block),
+            None => refused(alloc, PlantFault::NoSuchBlock),
+        },
+        Command::Step { name, max } => match find(plant, name) {
+            Some(block) => step(alloc, plant, block, *max as u32),
+            None => refused(alloc, PlantFault::NoSuchBlock),
+        },
+        Command::Read { name, from, max } => match find(plant, name) {
+            Some(block) => read(alloc, plant, block, *from, *max),
+            None => refused(alloc, PlantFault::NoSuchBlock),
+        },
+        Command::Quiet => line_of(alloc, &Reply::Quiet(plant.quiet())),
+    }
+}
+
+// The number of the block of this name.
+fn find<B: Block>(plant: &Plant<B>, name: &Name) -> Option<BlockId>
+    ensures { option_map (λ block. block.0) result ≡ block_of (graph_of B.meaning plant.now) name.now }
+{
+    let block = plant.graph().find(name.bytes())?;
+    Some(BlockId(block as u32))
+}
+
+fn feed<B: Block>(
+    alloc: Global,
+    plant: &mut Plant<B>,
+    source: BlockId,
+    numbers: &[i64],
+    marks: &[Mark],
+) -> Result<Vec<u8>, AllocError>
+    ensures kept { plant.new ≡ in_state plant.old plant.new.2 }
+    ensures tells { IfOk result (λ line. Tells (feed_numbers (network_of B.meaning plant.old.0.1) plant.old.2 source.0 numbers.now (marks_seen marks.now)) plant.old.2 plant.new.2 line.items) }
+{
+    let item = match plant.source_type(source) {
+        Ok(item) => item,
+        Err(fault) => return refused(alloc, fault),
+    };
+    let items = match Items::from_numbers(alloc, item, numbers) {
+        Ok(items) => items,
+        Err(fault) => return line_of(alloc, &Reply::Refused(fault.number())),
+    };
+    match plant.feed(source, items, marks) {
+        Ok(Fed(total)) => line_of(alloc, &Reply::Fed(total)),
+        Err(fault) => refused(alloc, fault),
+    }
+}
+
+fn close<B: Block>(
+    alloc: Global,
+    plant: &mut Plant<B>,
+    source: BlockId,
+) -> Result<Vec<u8>, AllocError>
+    ensures kept { plant.new ≡ in_state plant.old plant.new.2 }
+    ensures tells { IfOk result (λ line. Tells (machine.close_of (network_of B.meaning plant.old.0.1) plant.old.2 source.0) plant.old.2 plant.new.2 line.items) }
+{
+    match plant.close(source) {
+        Ok(Closed(total)) => line_of(alloc, &Reply::Closed(total)),
+        Err(fault) => refused(alloc, fault),
+    }
+}
+
+fn step<B: Block>(
+    alloc: Global,
+    plant: &mut Plant<B>,
+    block: BlockId,
+    max: u32,
+) -> Result<Vec<u8>, AllocError>
+    requires { 1 ≤ max }
+    ensures kept { plant.new ≡ in_state plant.old plant.new.2 }
+    ensures tells { IfOk result (λ line. Tells (machine.step_of (network_of B.meaning plant.old.0.1) plant.old.1 plant.old.2 block.0 max) plant.old.2 plant.new.2 line.items) }
+{
+    let reply = match plant.step(alloc, block, max) {
+        Ok(Step::Did(count)) => Reply::Did(count),
+        Ok(Step::Done) => Reply::Done,
+        Ok(Step::Waiting(Need::Items(port))) => Reply::WaitingItems(port),
+        Ok(Step::Waiting(Need::Room(port))) => Reply::WaitingRoom(port),
+        Err(fault) => return refused(alloc, fault),
+    };
+    line_of(alloc, &reply)
+}
+
+fn read<B: Block>(
+    alloc: Global,
+    plant: &Plant<B>,
+    sink: BlockId,
+    from: u64,
+    max: u64,
+) -> Result<Vec<u8>, AllocError>
+    ensures { IfOk result (λ line. Tells (machine.read_of (network_of B.meaning plant.now.0.1) plant.now.2 sink.0 from max) plant.now.2 plant.now.2 line.items) }
+{
+    match plant.read(alloc, sink, from, max) {
+        Ok(piece) => {
+            let reply = Reply::Piece {
+                held: piece.held,
+                items: &piece.items,
+                tags: &[],
+            };
+            line_of(alloc, &reply)
+        }
+        Err(fault) => refused(alloc, fault),
+    }
+}
+
+// A refusal as a line.
+fn refused(alloc: Global, fault: PlantFault) -> Result<Vec<u8>, AllocError>
+    ensures { IfOk result (λ line. line.items ≡ refusal_line fault) }
+{
+    line_of(alloc, &Reply::Refused(fault.number()))
+}
+
+fn line_of(alloc: Global, reply: &Reply) -> Result<Vec<u8>, AllocError>
+    ensures { IfOk result (λ line. line.items ≡ line_text (printed reply.now)) }
+{
+    let mut line = Vec::new(alloc);
+    reply.push_reply(&mut line)?;
+    Ok(line)
+}
