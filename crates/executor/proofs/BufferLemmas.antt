@@ -1,8 +1,6 @@
 -- Writes to one buffer of several, seen through the lists of their numbers and types.
-use Rattle.std.proofs.Common.{◌≡◌, ℕ, suc, ◌+◌, ◌<◌, ◌≤◌, List, [], ◌∷◌, ◌++◌, ℤ, length, map, get_or, set, refl, arith, ap, sym, ◌∙◌, OnOk, OnErr, IfOk, Result, Ok, Err}
-use Rattle.std.specs.List.{slice_range}
+use Rattle.std.proofs.Common.{◌≡◌, ℕ, ◌+◌, ◌<◌, List, [], ◌++◌, ℤ, length, map, get_or, set, arith, ap, sym, ◌∙◌, OnOk, OnErr, IfOk, Result, Ok, Err}
 use Rattle.std.proofs.lemmas.List.{map-set, get_or-map, set-get_or, get_or-set_other}
-use Rattle.stream_model.specs.declared.vocabulary.ItemType.{ItemType}
 use Rattle.stream_model.specs.declared.vocabulary.ItemType.TheVariants.{Byte}
 use Rattle.stream_model.specs.Meaning.{input}
 use Rattle.items.specs.declared.stream_items.Items.{Items}

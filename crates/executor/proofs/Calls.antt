@@ -1,10 +1,9 @@
 -- The machine's answers, case by case, as the calls of a plant need them.
-use Rattle.std.proofs.Common.{◌≡◌, ℕ, zero, suc, ◌+◌, ◌-◌, ◌<◌, ◌≤◌, Bool, true, false, not, List, [], ◌∷◌, ◌++◌, ℤ, length, map, replicate, get_or, refl, arith, ap, sym, ◌∙◌, lt-ltb, le-ltb, eqb-true, append-nil}
-use Rattle.std.specs.Prelude.{nat_lt, nat_le, slice_set, ◌&&◌, ◌==◌}
-use Rattle.stream_model.specs.Network.{Network, Handed, State, node_at, role_at, handed_at, is_source, nothing_handed}
+use Rattle.std.proofs.Common.{◌≡◌, ℕ, zero, suc, ◌+◌, ◌-◌, ◌<◌, ◌≤◌, Bool, true, false, List, [], ◌∷◌, ◌++◌, ℤ, length, map, replicate, get_or, Option, Some, refl, arith, ap, sym, ◌∙◌, lt-ltb, le-ltb, eqb-true}
+use Rattle.std.specs.Prelude.{nat_le, ◌&&◌, ◌==◌}
+use Rattle.stream_model.specs.Network.{Network, State, node_at, role_at, handed_at, is_source, nothing_handed}
 use Rattle.stream_model.specs.Machine as machine
 use Rattle.stream_model.specs.Machine.{Reply, Capacities, longest_tape}
-use Rattle.stream_model.specs.Lists.{IsBeginning}
 use Rattle.stream_model.proofs.Streams.{HandedMore, beginning_refl}
 use Rattle.items.specs.declared.stream_items.Items.{Items}
 use Rattle.items.specs.Items.{numbers_of, type_of}
@@ -14,10 +13,12 @@ use Rattle.items.specs.declared.marks.Mark.{Mark}
 use Rattle.std.specs.List.{list_all}
 use Rattle.std.proofs.lemmas.Bool.{and_left, and_right}
 use Rattle.executor.specs.declared.progress.Progress.{Progress}
-use Rattle.executor.specs.Plant.{Keeps, handed_of, displaced, fed_by}
+use Rattle.executor.specs.Plant.{Keeps, handed_of, progress_of, displaced, fed_by}
+use Rattle.executor.specs.Settled.{MayBecome}
 use Rattle.executor.specs.Chain.{IsPlainChain}
 use Rattle.executor.proofs.Plain.{source-next}
 use Rattle.executor.proofs.Feeds.{shown-fed}
+use Rattle.executor.proofs.Settles.{settled-fed}
 
 -- an answer that leaves the state
 pub stays : {G : Type 0} (now : Reply × State) (x : G × Capacities × State) (r : Reply) → now ≡ (r, x.2) → (r ≡ now.0) × (x ≡ (x.0, x.1, now.1))
@@ -26,6 +27,10 @@ stays now x r e = rw e (refl, refl)
 -- an answer that moves it
 pub moves : {G : Type 0} (now : Reply × State) (g : G) (caps : Capacities) (new : State) (r : Reply) → now ≡ (r, new) → (r ≡ now.0) × (◌≡◌ {A = G × Capacities × State} (g, caps, new) (g, caps, now.1))
 moves now g caps new r e = rw e (refl, refl)
+
+-- the same of a call that memory cannot fail
+pub always : {X : Type 0} (r r' : Reply) → (r ≡ r') × X → (◌≡◌ {A = Option Reply} (Some r) (Some r')) × X
+always r r' h = (ap Some h.0, h.1)
 
 module _ (net : Network) (st : State) (b : ℕ) where
   pub close-missing : length net.nodes ≤ b → machine.close_of net st b ≡ (machine.Refused machine.no_such_block, st)
@@ -101,13 +106,26 @@ more-handed tape tape' closed closed' blocks xs e =
       settings = elim [ zero ↦ refl | suc b ↦ refl ];
     }
 
+pub may-become : (tape tape' : Items) (closed closed' : Bool) (blocks : ℕ) (xs : List ℤ) → numbers_of tape' ≡ numbers_of tape ++ xs → (closed ≡ true → closed' ≡ true) → (closed ≡ true → numbers_of tape' ≡ numbers_of tape) →
+    MayBecome (handed_of tape closed blocks) (handed_of tape' closed' blocks)
+may-become tape tape' closed closed' blocks xs e stays' ended' =
+    let more = more-handed tape tape' closed closed' blocks xs e in
+    record {
+      tapes = more.tapes;
+      settings = more.settings;
+      stay_closed = elim [ zero ↦ stays' | suc b ↦ (λ c. c) ];
+      ended = elim [ zero ↦ ended' | suc b ↦ (λ c. refl) ];
+    }
+
 -- what a plant keeps stays true as its tape grows, or is closed
-pub keeps-fed : (net : Network) (blocks : ℕ) (tape tape' : Items) (closed closed' : Bool) (progress : List Progress) (buffers : List Items) (words : List ℕ) (xs : List ℤ) →
-    Keeps net blocks tape closed progress buffers words → numbers_of tape' ≡ numbers_of tape ++ xs → type_of tape' ≡ type_of tape → length (numbers_of tape') ≤ longest_tape → Keeps net blocks tape' closed' progress buffers words
-keeps-fed net blocks tape tape' closed closed' progress buffers words xs keeps grown typed short =
+pub keeps-fed : (net : Network) (caps : Capacities) (blocks : ℕ) (tape tape' : Items) (closed closed' : Bool) (progress : List Progress) (buffers : List Items) (words : List ℕ) (xs : List ℤ) →
+    Keeps net caps blocks tape closed progress buffers words → numbers_of tape' ≡ numbers_of tape ++ xs → type_of tape' ≡ type_of tape → length (numbers_of tape') ≤ longest_tape →
+    (closed ≡ true → closed' ≡ true) → (closed ≡ true → numbers_of tape' ≡ numbers_of tape) → Keeps net caps blocks tape' closed' progress buffers words
+keeps-fed net caps blocks tape tape' closed closed' progress buffers words xs keeps grown typed short stays' ended =
     record {
       shown = shown-fed net _ _ _ _ _ keeps.shown (handed_of tape' closed' blocks) (more-handed tape tape' closed closed' blocks xs grown) short;
       tape_type = typed ∙ keeps.tape_type;
+      settled = settled-fed net caps (handed_of tape closed blocks) (handed_of tape' closed' blocks) (map progress_of progress) (may-become tape tape' closed closed' blocks xs grown stays' ended) keeps.settled;
     }
 
 -- the only source of a chain is its first block

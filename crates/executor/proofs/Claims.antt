@@ -1,17 +1,12 @@
 -- In a chain, a claim is what the counts of the block and its neighbours decide.
-use Rattle.std.proofs.Common.{◌≡◌, ℕ, zero, suc, ◌+◌, ◌-◌, ◌<◌, ◌≤◌, Bool, true, false, not, ◌&&◌, ◌||◌, List, [], ◌∷◌, length, Option, Some, None, refl, arith, ap, sym, ◌∙◌, subst, inl, inr, cond}
-use Rattle.std.specs.Prelude.{nat_le, nat_lt, find, ◌==◌}
-use Rattle.std.specs.List.{list_all, list_any}
-use Rattle.std.proofs.lemmas.Bool.{cases_lt, cases_Bool, leb-true, le-leb, lt-leb, leb-false, lt-ltb, le-ltb, cond-true, cond-false}
+use Rattle.std.proofs.Common.{◌≡◌, ℕ, zero, suc, ◌+◌, ◌<◌, Bool, true, false, not, ◌&&◌, ◌||◌, length, Option, Some, None, refl, arith, ap, sym, ◌∙◌, inl, inr}
+use Rattle.std.specs.Prelude.{nat_le, nat_lt}
+use Rattle.std.proofs.lemmas.Bool.{cases_lt, le-leb, lt-leb, lt-ltb, le-ltb}
 use Rattle.stream_model.specs.Lists.{greatest}
 use Rattle.stream_model.proofs.Greatest.{greatest-stops}
-use Rattle.stream_model.specs.Network.{Network, State, Progress, node_at, progress_at, taken_by, given_by, within_limit, readers_of, used_outputs}
-use Rattle.stream_model.specs.Machine.{Capacities, Reply, Done, Busy, WaitingItems, WaitingRoom, Claimed, Did, claim_of, claim_firings, most, may_fire, has_items, has_items_on, has_room, has_room_on, has_room_for, is_live, is_unread, is_ended, is_finished, written, taken_after, waiting_of, ended, job_of, with_progress, inputs_of, capacity_at}
-use Rattle.executor.specs.declared.decision.Counts.{Counts}
-use Rattle.executor.specs.declared.decision.Reader.{Reader}
-use Rattle.executor.specs.declared.decision.Decision.{Decision}
-use Rattle.executor.specs.declared.decision.Decision.TheVariants as decision
-use Rattle.executor.specs.Chain.{link, IsPlainChain}
+use Rattle.stream_model.specs.Network.{Network, State, node_at, progress_at, within_limit}
+use Rattle.stream_model.specs.Machine.{Capacities, WaitingItems, WaitingRoom, claim_of, claim_firings, most, may_fire, has_items, has_items_on, has_room, has_room_on, is_unread, is_ended, is_finished, written, waiting_of, capacity_at}
+use Rattle.executor.specs.Chain.{IsPlainChain}
 use Rattle.executor.specs.Decision as decides
 use Rattle.executor.specs.Decision.{counts_of, reader_of, decision_of, claimed_by, fitting, unless_it_fires, is_at_limit}
 use Rattle.executor.proofs.Links.{readers-next, outputs-next, outputs-last}
@@ -84,10 +79,14 @@ module _ (net : Network) (chain : IsPlainChain net) (caps : Capacities) (st : St
   unfolding next-done
   unread-next next = rw (outputs-next net chain b next, readers-next net chain b next, and-true, and-true, not-not) refl
 
-  unread-last : suc b ≡ length net.nodes → is_unread net st b ≡ false
+  pub unread-is : suc b < length net.nodes → is_unread net st b ≡ (progress_at st.progress (suc b)).done
+  unfolding next-done
+  unread-is next = unread-next next
+
+  pub unread-last : suc b ≡ length net.nodes → is_unread net st b ≡ false
   unread-last last = rw (outputs-last net chain b last) refl
 
-  unread-plain : is_unread net st b ≡ decides.is_unread (reader_of net caps st b)
+  pub unread-plain : is_unread net st b ≡ decides.is_unread (reader_of net caps st b)
   unfolding next-done
   unread-plain =
       elim (cases_lt (suc b) (length net.nodes)) [
@@ -119,6 +118,10 @@ module _ (net : Network) (chain : IsPlainChain net) (caps : Capacities) (st : St
 
   finished-plain : is_finished net st b ≡ (is_at_limit (progress_at st.progress b).firings (node_at net b).meaning.limit || (is_ended net st b 0 && lacks))
   finished-plain = rw (inputs-one net chain b in', or-false, at_limit (progress_at st.progress b).firings (node_at net b).meaning.limit, lacks-plain) refl
+
+  pub finished-is : is_finished net st b ≡ (is_at_limit (progress_at st.progress b).firings (node_at net b).meaning.limit || (is_ended net st b 0 && nat_le (written net st b 0) (progress_at st.progress b).firings))
+  unfolding lacks
+  finished-is = finished-plain
 
   waits-items : lacks ≡ true → waiting_of net caps st b ≡ WaitingItems 0
   waits-items h = rw (inputs-one net chain b in', lacks-plain, h) refl

@@ -1,15 +1,12 @@
 -- Streams of a chain: what enters a block is what the block before it gives.
-use Rattle.std.proofs.Common.{◌≡◌, ℕ, zero, suc, ◌+◌, ◌-◌, ◌*◌, ◌/◌, ◌<◌, ◌≤◌, Bool, true, false, List, [], ◌∷◌, ◌++◌, ℤ, length, get_or, take, Some, refl, arith, ap, sym, ◌∙◌, subst, inl, inr, one-mul}
+use Rattle.std.proofs.Common.{◌≡◌, ℕ, zero, suc, ◌+◌, ◌-◌, ◌<◌, true, false, List, [], ◌∷◌, length, refl, arith, sym, ◌∙◌, subst, inl, inr, one-mul}
 use Rattle.std.proofs.lemmas.Int.{ints}
-use Rattle.std.proofs.lemmas.Bool.{cases_lt, leb-true}
+use Rattle.std.proofs.lemmas.Bool.{cases_lt}
 use Rattle.std.proofs.lemmas.List.{get_or_past}
 use Rattle.std.specs.List.{All}
 use Rattle.std.proofs.lemmas.List.Elements.{All-nil, All-cons}
-use Rattle.stream_model.specs.declared.vocabulary.ItemType.TheVariants.{Byte}
-use Rattle.stream_model.specs.Numbers.{IsItem}
-use Rattle.stream_model.specs.Meaning.{Meaning, IsLawful, TakesAStream, IsAtRate}
-use Rattle.stream_model.specs.Network.{Network, Node, Connection, Handed, IsSound, HasLevels, node_at, role_at, handed_at, is_source, items_of, entering, stream_from, no_node, no_meaning, writers_of, fires, within_limit, taken_by}
-use Rattle.stream_model.specs.Lists.{IsBeginning}
+use Rattle.stream_model.specs.Meaning.{IsLawful, IsAtRate}
+use Rattle.stream_model.specs.Network.{Network, Connection, Handed, IsSound, HasLevels, node_at, role_at, handed_at, is_source, items_of, entering, stream_from, no_node, no_meaning, writers_of}
 use Rattle.stream_model.proofs.Streams.{IsSoundNetwork, elim-true, elim-false, streams_unfold, entering_by}
 use Rattle.executor.specs.Chain.{link, links, IsPlainChain}
 use Rattle.executor.proofs.Links.{writers-first, writers-next}

@@ -1,16 +1,16 @@
 -- What a plant keeps stays true as it is fed, and as a block is marked done.
-use Rattle.std.proofs.Common.{◌≡◌, ◌≢◌, ℕ, zero, suc, ◌+◌, ◌-◌, ◌<◌, ◌≤◌, Bool, true, false, List, [], ◌∷◌, ◌++◌, ℤ, length, get_or, set, take, refl, arith, ap, sym, ◌∙◌, subst, inl, inr, get_or-set_same, get_or-set_other, length-set, eq-or-lt_of_le}
-use Rattle.std.proofs.lemmas.Bool.{cases_lt, cases_eq}
+use Rattle.std.proofs.Common.{◌≡◌, ℕ, zero, suc, ◌<◌, ◌≤◌, List, [], ◌∷◌, ℤ, length, get_or, set, take, refl, arith, ap, sym, ◌∙◌, inl, inr, length-set}
+use Rattle.std.proofs.lemmas.Bool.{cases_eq}
 use Rattle.stream_model.specs.declared.vocabulary.ItemType.{ItemType}
 use Rattle.stream_model.specs.Lists.{IsBeginning}
 use Rattle.stream_model.specs.Meaning.{input, SameInputs}
-use Rattle.stream_model.specs.Network.{Network, Handed, Progress, no_progress, node_at, role_at, handed_at, progress_at, within_limit, items_of, entering}
+use Rattle.stream_model.specs.Network.{Network, Handed, Progress, node_at, role_at, handed_at, items_of, entering}
 use Rattle.stream_model.specs.Machine.{longest_tape}
-use Rattle.stream_model.proofs.Streams.{HandedMore, HaveGrown, items_by-grows, take-beginning, length-beginning, same_settings}
-use Rattle.executor.specs.Shown.{IsShown, fired, kept_by, type_at}
+use Rattle.stream_model.proofs.Streams.{HandedMore, items_by-grows, take-beginning, length-beginning, same_settings}
+use Rattle.executor.specs.Shown.{IsShown, fired, kept_by}
 use Rattle.executor.proofs.Fires.{fired-same, fired-other}
 use Rattle.executor.proofs.Plain.{meaning_taken-plain}
-use Rattle.executor.proofs.Entering.{entering-first, entering-next, chain-sound_network}
+use Rattle.executor.proofs.Entering.{entering-next, chain-sound_network}
 
 module _ (net : Network) (hs : List Handed) (ps : List Progress) (kept : List (List ℤ)) (types : List ItemType) (words : List ℕ) (s : IsShown net hs ps kept types words) where
   module _ (b : ℕ) (p : Progress) (member : b < length net.nodes) (same : p.firings ≡ fired ps b) where

@@ -1,13 +1,11 @@
 -- What a plant's fields say of the state that it shows.
-use Rattle.std.proofs.Common.{◌≡◌, ℕ, zero, suc, ◌+◌, ◌-◌, ◌^◌, ◌<◌, ◌≤◌, Bool, true, false, List, [], ◌∷◌, ℤ, length, map, get_or, Option, Some, None, refl, arith, ap, sym, ◌∙◌, subst, inl, inr, le_trans, lt-ltb, le-ltb}
-use Rattle.std.proofs.lemmas.List.{get_or-map, length-map, get_or_past}
-use Rattle.std.proofs.lemmas.Bool.{cases_lt}
+use Rattle.std.proofs.Common.{◌≡◌, ℕ, zero, suc, ◌<◌, ◌≤◌, Bool, List, [], ◌∷◌, ℤ, length, map, get_or, Some, None, refl, arith, ap, sym, ◌∙◌, lt-ltb, le-ltb}
+use Rattle.std.proofs.lemmas.List.{get_or-map}
 use Rattle.stream_model.specs.declared.vocabulary.ItemType.{ItemType}
 use Rattle.stream_model.specs.Network as model
 use Rattle.stream_model.specs.Network.{Network, Handed, State, progress_at, handed_at, no_progress}
 use Rattle.stream_model.specs.Machine.{Capacities, longest_tape, capacity_at}
 use Rattle.executor.specs.declared.progress.Progress.{Progress}
-use Rattle.executor.specs.declared.decision.Reader.{Reader}
 use Rattle.executor.specs.Plant.{progress_of, capacities_of}
 use Rattle.executor.specs.Shown.{IsShown, fired}
 use Rattle.executor.specs.Decision.{reader_of}

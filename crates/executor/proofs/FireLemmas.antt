@@ -1,19 +1,19 @@
 -- What a plant keeps after firings, block by block of a chain.
-use Rattle.std.proofs.Common.{◌≡◌, ◌≢◌, ℕ, zero, suc, ◌+◌, ◌-◌, ◌*◌, ◌<◌, ◌≤◌, Bool, true, false, List, [], ◌∷◌, ◌++◌, ℤ, length, map, get_or, set, take, replicate, refl, arith, ap, sym, ◌∙◌, subst, inl, inr, one-mul}
+use Rattle.std.proofs.Common.{◌≡◌, ◌≢◌, ℕ, zero, suc, ◌+◌, ◌-◌, ◌<◌, ◌≤◌, true, false, List, [], ◌∷◌, ◌++◌, ℤ, length, get_or, take, refl, arith, ap, sym, ◌∙◌, inl, inr}
 use Rattle.std.specs.List.{slice_range}
 use Rattle.std.proofs.lemmas.Bool.{cases_lt}
-use Rattle.std.proofs.lemmas.List.{length-take-le, take-take, length-map}
+use Rattle.std.proofs.lemmas.List.{length-take-le}
 use Rattle.stream_model.specs.declared.vocabulary.ItemType.{ItemType}
 use Rattle.stream_model.specs.declared.vocabulary.Role.TheVariants.{Source, Work, Keep, Discard}
-use Rattle.stream_model.specs.Meaning.{Meaning, input, given_items}
+use Rattle.stream_model.specs.Meaning.{input, given_items}
 use Rattle.stream_model.specs.Network as model
 use Rattle.stream_model.specs.Network.{Network, Handed, node_at, role_at, handed_at, progress_at, within_limit, items_of, entering, is_source}
 use Rattle.stream_model.proofs.Counts.{counted_taken-few}
 use Rattle.executor.specs.Chain.{IsPlainChain, is_sink}
-use Rattle.executor.specs.Shown.{IsShown, fired, kept_by, type_at}
+use Rattle.executor.specs.Shown.{IsShown, fired, type_at}
 use Rattle.executor.specs.Firing.{IsPlainBlock, IsStartOf, IsStated}
-use Rattle.executor.proofs.Plain.{meaning_taken-plain, meaning_given-plain, source-next}
-use Rattle.executor.proofs.Entering.{entering-first, entering-next, items-first}
+use Rattle.executor.proofs.Plain.{meaning_taken-plain, meaning_given-plain}
+use Rattle.executor.proofs.Entering.{entering-next, items-first}
 use Rattle.executor.proofs.Windows.{take-slice_range, slice_range-take}
 use Rattle.executor.proofs.Keeps.{reaches, goes_on}
 use Rattle.executor.proofs.Fires.{Fires}

@@ -1,10 +1,10 @@
 -- What a plant keeps stays true as a block fires, or is done.
-use Rattle.std.proofs.Common.{◌≡◌, ◌≢◌, ℕ, zero, suc, ◌+◌, ◌-◌, ◌<◌, ◌≤◌, Bool, true, false, List, [], ◌∷◌, ℤ, length, get_or, set, take, refl, arith, ap, sym, ◌∙◌, subst, inl, inr, get_or-set_same, get_or-set_other, length-set}
-use Rattle.std.proofs.lemmas.Bool.{cases_lt, cases_eq}
+use Rattle.std.proofs.Common.{◌≡◌, ◌≢◌, ℕ, suc, ◌+◌, ◌<◌, ◌≤◌, true, List, [], ℤ, length, get_or, set, take, arith, ap, sym, ◌∙◌, inl, inr, get_or-set_same, get_or-set_other, length-set}
+use Rattle.std.proofs.lemmas.Bool.{cases_eq}
 use Rattle.stream_model.specs.declared.vocabulary.ItemType.{ItemType}
 use Rattle.stream_model.specs.Meaning.{input}
-use Rattle.stream_model.specs.Network.{Network, Handed, Progress, no_progress, node_at, role_at, handed_at, progress_at, within_limit, items_of, entering}
-use Rattle.executor.specs.Shown.{IsShown, fired, kept_by, type_at}
+use Rattle.stream_model.specs.Network.{Network, Handed, Progress, no_progress, node_at, role_at, handed_at, within_limit, items_of, entering}
+use Rattle.executor.specs.Shown.{IsShown, fired, kept_by}
 
 pub fired-same : (ps : List Progress) (b : ℕ) (p : Progress) → b < length ps → fired (set ps b p) b ≡ p.firings
 fired-same ps b p h = ap (λ (q : Progress). q.firings) (get_or-set_same ps b p no_progress h)

@@ -1,22 +1,16 @@
 -- What a plant keeps stays true: as it is fed, and as a block fires.
-use Rattle.std.proofs.Common.{◌≡◌, ◌≢◌, ℕ, zero, suc, ◌+◌, ◌-◌, ◌*◌, ◌<◌, ◌≤◌, Bool, true, false, List, [], ◌∷◌, ◌++◌, ℤ, length, map, get_or, set, take, drop, refl, arith, ap, sym, ◌∙◌, subst, inl, inr, one-mul, get_or-set_same, get_or-set_other, length-set}
-use Rattle.std.specs.List.{slice_range, slice_set, slice_index}
-use Rattle.std.proofs.lemmas.Bool.{cases_lt, cases_eq}
-use Rattle.std.proofs.lemmas.List.{take-take}
+use Rattle.std.proofs.Common.{◌≡◌, ℕ, suc, ◌+◌, ◌-◌, ◌<◌, ◌≤◌, true, List, [], ◌∷◌, ◌++◌, ℤ, length, map, take, refl, arith, sym, ◌∙◌, one-mul}
 use Rattle.std.proofs.lemmas.List.FromFn.{take-map-range_with_len}
 use Rattle.std.proofs.Math.Nat.{zero-add}
 use Rattle.stream_model.specs.declared.vocabulary.ItemType.{ItemType}
-use Rattle.stream_model.specs.Lists.{IsBeginning, numbers_from}
-use Rattle.stream_model.specs.Meaning.{Meaning, input, given_items, SameInputs}
-use Rattle.stream_model.specs.Network.{Network, Handed, Progress, node_at, role_at, handed_at, progress_at, within_limit, items_of, items_by, entering, stream_from, fires, taken_by}
-use Rattle.stream_model.proofs.Counts.{given-zero}
+use Rattle.stream_model.specs.Lists.{numbers_from}
+use Rattle.stream_model.specs.Meaning.{given_items}
+use Rattle.stream_model.specs.Network.{Network, Handed, Progress, node_at, within_limit, items_of, fires}
 use Rattle.stream_model.proofs.Given.{given_items-more, length-given_items}
-use Rattle.stream_model.proofs.Streams.{HandedMore, HaveGrown, items_by-grows, take-beginning, length-beginning, fires-reaches, same_settings, grown-same}
-use Rattle.executor.specs.Chain.{IsPlainChain}
-use Rattle.executor.specs.Shown.{IsShown, fired, kept_by, type_at}
-use Rattle.executor.proofs.Plain.{taken-plain, given-plain, meaning_taken-plain, meaning_given-plain}
-use Rattle.executor.proofs.Entering.{entering-first, entering-next, items-first, items-next, chain-sound, chain-sound_network}
-use Rattle.executor.proofs.Windows.{take-slice_range}
+use Rattle.stream_model.proofs.Streams.{fires-reaches}
+use Rattle.executor.specs.Shown.{IsShown, fired}
+use Rattle.executor.proofs.Plain.{taken-plain, meaning_given-plain}
+use Rattle.executor.proofs.Entering.{entering-next, items-next, chain-sound}
 
 module _ (net : Network) (hs : List Handed) (ps : List Progress) (kept : List (List ℤ)) (types : List ItemType) (words : List ℕ) (s : IsShown net hs ps kept types words) where
   -- with room for n more items on its input and in its limit, a block in the middle goes on with its equation

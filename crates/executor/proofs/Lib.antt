@@ -20,3 +20,7 @@ pub mod Opens
 pub mod Closes
 pub mod Decides
 pub mod ChainTests
+pub mod Allowed
+pub mod Bounded
+pub mod Settles
+pub mod Wholes

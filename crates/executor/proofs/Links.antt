@@ -1,10 +1,9 @@
 -- The connections of a chain: each block has one writer, the block before it, and one reader, the block behind it.
-use Rattle.std.proofs.Common.{◌≡◌, ℕ, zero, suc, ◌+◌, ◌-◌, ◌<◌, ◌≤◌, max, Bool, true, false, cond, ◌&&◌, List, [], ◌∷◌, ◌++◌, length, refl, arith, ap, sym, ◌∙◌, inl, inr, eq-eqb, ne_eqb, append-nil}
+use Rattle.std.proofs.Common.{◌≡◌, ℕ, zero, suc, ◌+◌, ◌-◌, ◌<◌, ◌≤◌, Bool, true, false, ◌&&◌, [], ◌∷◌, length, refl, arith, ap, inl, inr, eq-eqb, ne_eqb}
 use Rattle.std.specs.Prelude.{◌==◌}
-use Rattle.std.specs.List.{filter, flat_map}
+use Rattle.std.specs.List.{filter}
 use Rattle.std.proofs.lemmas.Bool.{cases_eq, and_from, and_left}
-use Rattle.stream_model.specs.Network.{Network, Connection, writers_of, writer_of, readers_of, enters, used_outputs, greatest_port}
-use Rattle.stream_model.specs.Lists.{below}
+use Rattle.stream_model.specs.Network.{Network, Connection, writers_of, readers_of, enters, used_outputs, greatest_port}
 use Rattle.executor.specs.Chain.{link, links, IsPlainChain}
 
 filter-none : (p : Connection → Bool) (a more : ℕ) → ((j : ℕ) → a ≤ j → j < a + more → p (link j) ≡ false) → filter p (links a more) ≡ []

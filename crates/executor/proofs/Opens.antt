@@ -14,6 +14,7 @@ use Rattle.stream_model.specs.Network.{Network, Handed, State, nothing_handed, n
 use Rattle.stream_model.specs.Machine.{Capacities}
 use Rattle.items.specs.declared.stream_items.Items.{Items}
 use Rattle.items.specs.Items.{numbers_of, type_of}
+use Rattle.executor.specs.Settled.{IsSettled}
 use Rattle.executor.specs.declared.chain.Entry.{Entry}
 use Rattle.executor.specs.declared.progress.Progress.{Progress}
 use Rattle.executor.specs.Plant.{Keeps, progress_of, handed_of, state_of}
@@ -82,12 +83,25 @@ module _ (net : Network) (chain : IsPlainChain net) (n : ℕ) (count : n ≡ len
           sunk_types = λ b last. type-is b (omega arith) ∙ (let no = le-ltb (suc b) (length net.nodes) (omega arith) in rw no refl);
         }
 
-  pub keeps-open : (tape : Items) (progress : List Progress) (buffers : List Items) (words : List ℕ) → numbers_of tape ≡ [] → type_of tape ≡ (node_at net 0).meaning.outputs.item →
-      AreUnfired n progress → AreEmpty net n buffers → words ≡ words_to net n → Keeps net n tape false progress buffers words
-  keeps-open tape progress buffers words none typed unfired empty begun =
+    none-done : (b : ℕ) → (progress_at ps b).done ≡ true → ⊥
+    none-done b e =
+        let open' : (progress_at ps b).done ≡ false = ap (λ l. (progress_at l b).done) progress ∙ ap (λ (p : model.Progress). p.done) (same-at no_progress (below n) b) in
+        let bad : true ≡ false = sym e ∙ open' in cc
+
+    pub settled-open : (caps : Capacities) → IsSettled net caps (record { handed = hs; progress = ps })
+    settled-open caps =
+        record {
+          bounded = λ b in' live. rw (unfired b, unfired (suc b)) (omega arith);
+          complete = λ b in' done read. absurd (none-done b done);
+        }
+
+  pub keeps-open : (caps : Capacities) (tape : Items) (progress : List Progress) (buffers : List Items) (words : List ℕ) → numbers_of tape ≡ [] → type_of tape ≡ (node_at net 0).meaning.outputs.item →
+      AreUnfired n progress → AreEmpty net n buffers → words ≡ words_to net n → Keeps net caps n tape false progress buffers words
+  keeps-open caps tape progress buffers words none typed unfired empty begun =
       record {
         shown = shown-open (handed_of tape false n) (map progress_of progress) (map numbers_of buffers) (map type_of buffers) words (λ b. nothing-handed tape n b none) unfired empty.numbers empty.types begun;
         tape_type = typed;
+        settled = settled-open (handed_of tape false n) (map progress_of progress) (map numbers_of buffers) (map type_of buffers) words (λ b. nothing-handed tape n b none) unfired empty.numbers empty.types begun caps;
       }
 
 -- the capacities, as the entries of the graph have them

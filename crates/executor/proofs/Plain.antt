@@ -1,12 +1,12 @@
 -- A chain at a rate of one for one: a block has taken and given as many items as it fired, and it has one input.
-use Rattle.std.proofs.Common.{◌≡◌, ℕ, zero, suc, ◌+◌, ◌-◌, ◌*◌, ◌<◌, ◌≤◌, Bool, true, false, List, [], ◌∷◌, length, Some, refl, arith, ap, sym, ◌∙◌, subst, inl, inr, one-mul}
+use Rattle.std.proofs.Common.{◌≡◌, ℕ, zero, suc, ◌-◌, ◌<◌, true, false, [], ◌∷◌, length, refl, arith, ap, ◌∙◌, subst, inl, inr, one-mul}
 use Rattle.std.proofs.lemmas.Bool.{cases_lt}
 use Rattle.stream_model.specs.declared.vocabulary.Role.{Role}
 use Rattle.stream_model.specs.declared.vocabulary.Role.TheVariants.{Source, Work, Keep, Discard}
-use Rattle.stream_model.specs.Meaning.{Meaning, IsAtRate, HasCounts}
-use Rattle.stream_model.specs.Network.{Network, State, handed_at, progress_at, node_at, role_at, is_source, taken_by, given_by, writers_of}
+use Rattle.stream_model.specs.Meaning.{IsAtRate, HasCounts}
+use Rattle.stream_model.specs.Network.{Network, State, handed_at, progress_at, node_at, role_at, is_source, taken_by, given_by}
 use Rattle.stream_model.specs.Machine.{inputs_of, written, is_ended}
-use Rattle.executor.specs.Chain.{link, links, IsPlainChain, is_sink}
+use Rattle.executor.specs.Chain.{IsPlainChain, is_sink}
 use Rattle.executor.proofs.Links.{writers-next}
 
 sink_not_source : (r : Role) → is_sink r ≡ true → is_source r ≡ false

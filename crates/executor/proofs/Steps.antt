@@ -1,12 +1,11 @@
 -- A step commits what it claims: the claim in flight agrees with itself.
-use Rattle.std.proofs.Common.{◌≡◌, ℕ, zero, suc, ◌+◌, ◌<◌, ◌≤◌, Bool, true, false, cond, ◌&&◌, ◌||◌, List, [], ◌∷◌, ℤ, length, refl, arith, ap, sym, ◌∙◌, eq-eqb, lt-ltb, get_or-set_same, get_or, set, set-set}
-use Rattle.std.specs.Prelude.{nat_le, nat_lt, ◌==◌}
-use Rattle.std.proofs.lemmas.Bool.{and_from, cond-true, cond-false, le-ltb}
-use Rattle.std.specs.Ordering.{int_eq}
+use Rattle.std.proofs.Common.{◌≡◌, ℕ, zero, suc, ◌<◌, Bool, true, false, cond, ◌&&◌, ◌||◌, List, [], ◌∷◌, ℤ, length, refl, arith, ap, ◌∙◌, eq-eqb, lt-ltb, get_or-set_same, set-set}
+use Rattle.std.specs.Prelude.{nat_le, nat_lt}
+use Rattle.std.proofs.lemmas.Bool.{and_from, cond-true}
 use Rattle.std.proofs.lemmas.Cmp.{int_eq_equiv}
 use Rattle.stream_model.specs.Settings.{Value, Number, Taps, Held}
-use Rattle.stream_model.specs.Network.{Network, State, Progress, node_at, progress_at, no_progress}
-use Rattle.stream_model.specs.Machine.{Capacities, Reply, Did, Claimed, Done, Job, job_of, jobs_agree, lists_agree, windows_agree, values_agree, settings_agree, is_in_flight, commit_of, commit_claimed, step_of, claim_of, with_progress}
+use Rattle.stream_model.specs.Network.{Network, State, Progress, progress_at, no_progress}
+use Rattle.stream_model.specs.Machine.{Capacities, Job, job_of, jobs_agree, lists_agree, windows_agree, values_agree, settings_agree, is_in_flight, commit_of, commit_claimed, step_of, with_progress}
 use Rattle.executor.specs.declared.decision.Decision.{Decision}
 use Rattle.executor.specs.declared.decision.Decision.TheVariants as decision
 use Rattle.executor.specs.Chain.{IsPlainChain}

@@ -1,6 +1,6 @@
 -- A call of `work` on a block in the middle of a chain.
-use Rattle.std.proofs.Common.{◌≡◌, ℕ, zero, suc, ◌+◌, ◌-◌, ◌*◌, ◌^◌, ◌<◌, ◌≤◌, List, [], ◌∷◌, ◌++◌, ℤ, length, map, take, get_or, Option, Some, None, MatchOption, Bool, true, false, refl, arith, ap, sym, ◌∙◌, inl, inr, ne_eqb}
-use Rattle.std.specs.List.{filter_map, slice_range, All}
+use Rattle.std.proofs.Common.{◌≡◌, ℕ, zero, suc, ◌+◌, ◌-◌, ◌^◌, ◌<◌, ◌≤◌, List, [], ◌∷◌, ℤ, length, map, get_or, Some, None, refl, arith, ap, sym, ◌∙◌, ne_eqb}
+use Rattle.std.specs.List.{filter_map, slice_range}
 use Rattle.std.proofs.lemmas.List.Elements.{All-nil, All-cons}
 use Rattle.std.proofs.lemmas.List.{length-take}
 use Rattle.std.proofs.lemmas.List.FromFn.{length-map-range_with_len}

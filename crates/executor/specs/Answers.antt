@@ -1,5 +1,5 @@
 -- What a call of a plant answers, beside the machine: its reply and its next state, or no memory and nothing changed.
-use Rattle.std.specs.Prelude.{ℕ, ◌≡◌, [], Option, Some, None, Result, Ok, Err}
+use Rattle.std.specs.Prelude.{◌≡◌, [], Option, Some, None, Result, Ok, Err}
 use Rattle.stream_model.specs.Network.{State}
 use Rattle.stream_model.specs.Machine as machine
 use Rattle.stream_model.specs.Machine.{Capacities, Reply, Refused, Did, Done, WaitingItems, WaitingRoom}
@@ -35,6 +35,10 @@ reply_of ok (Err e) = refusal_of e
 abbrev pub Answered : {G : Type 0} → Reply × State → G × Capacities × State → G × Capacities × State → Option Reply → Type 0
 Answered now old new None = new ≡ old
 Answered now old new (Some reply) = (reply ≡ now.0) × (new ≡ (old.0, old.1, now.1))
+
+-- the same of a call that memory cannot fail
+abbrev pub AnsweredAlways : {G : Type 0} → Reply × State → G × Capacities × State → G × Capacities × State → Option Reply → Type 0
+AnsweredAlways now old new reply = (reply ≡ Some now.0) × (new ≡ (old.0, old.1, now.1))
 
 -- a call that only looks answered as the machine does, or memory ran out
 abbrev pub AnsweredBy : Reply × State → Option Reply → Type 0

@@ -1,5 +1,5 @@
 -- What a claim decides, from the counts of a block and its neighbours alone.
-use Rattle.std.specs.Prelude.{ℕ, zero, suc, ◌+◌, ◌-◌, ◌<◌, ◌≤◌, ◌≡◌, ◌^◌, min, Option, Some, None, Bool, true, false, ◌&&◌, ◌||◌, not, nat_le, nat_lt, if◌then◌else◌, length}
+use Rattle.std.specs.Prelude.{ℕ, zero, suc, ◌+◌, ◌-◌, ◌<◌, ◌^◌, min, Option, Some, None, Bool, false, ◌&&◌, ◌||◌, nat_le, nat_lt, if◌then◌else◌, length}
 use Rattle.executor.specs.declared.decision.Counts.{Counts}
 use Rattle.executor.specs.declared.decision.Reader.{Reader}
 use Rattle.executor.specs.declared.decision.Decision.{Decision}

@@ -2,6 +2,7 @@ pub mod Chain
 pub mod Decision
 pub use Rattle.items.specs.Items
 pub mod Shown
+pub mod Settled
 pub mod Fault
 pub mod Answers
 pub use Rattle.items.specs.Name

@@ -1,10 +1,8 @@
 -- What a plant shows of its blocks.
-use Rattle.std.specs.Prelude.{ℕ, [], Bool, true, false, ◌||◌, nat_lt, if◌then◌else◌, length, Result, Ok, Err}
+use Rattle.std.specs.Prelude.{ℕ, Bool, true, false, ◌||◌, nat_lt, if◌then◌else◌, length, Result, Ok, Err}
 use Rattle.stream_model.specs.declared.vocabulary.ItemType.{ItemType}
 use Rattle.stream_model.specs.Network.{Network, State, node_at, role_at, progress_at, is_source}
 use Rattle.stream_model.specs.Machine as machine
-use Rattle.items.specs.Items.{numbers_of}
-use Rattle.executor.specs.declared.answers.Piece.{Piece}
 use Rattle.executor.specs.declared.decision.Decision.{Decision}
 use Rattle.executor.specs.declared.decision.Decision.TheVariants as decision
 use Rattle.executor.specs.declared.fault.PlantFault.{PlantFault}

@@ -1,5 +1,5 @@
 -- What a plant keeps: its counts are those of the state that it shows, and what it stores are beginnings of the streams.
-use Rattle.std.specs.Prelude.{ℕ, suc, ◌+◌, ◌^◌, ◌<◌, ◌≤◌, ◌≡◌, ℤ, List, [], length, take, true, slice_index, slice_index_or}
+use Rattle.std.specs.Prelude.{ℕ, suc, ◌<◌, ◌≤◌, ◌≡◌, ℤ, List, [], length, take, true, slice_index, slice_index_or}
 use Rattle.stream_model.specs.declared.vocabulary.ItemType.{ItemType}
 use Rattle.stream_model.specs.declared.vocabulary.ItemType.TheVariants.{Byte}
 use Rattle.stream_model.specs.declared.vocabulary.Role.{Role}

@@ -10,8 +10,9 @@ ghost use Rattle.stream_model.specs.Machine as machine;
 ghost use Rattle.stream_model.specs.Network.{node_at, role_at, progress_at};
 ghost use Rattle.executor.specs.Plant.{progress_of, fed_by};
 ghost use Rattle.executor.specs.Chain.{network_of};
-ghost use Rattle.executor.specs.Answers.{Answered, reply_of, step_reply};
+ghost use Rattle.executor.specs.Answers.{Answered, AnsweredAlways, reply_of, step_reply};
 ghost use Rattle.executor.specs.Decision.{counts_of, reader_of, reader_is_small};
+ghost use Rattle.executor.specs.Settled.{IsSettled, CanEnd};
 
 use crate::answers::{BlockId, Closed, Fed, Need, Piece, Step};
 use crate::chain::Valid;
@@ -65,7 +66,7 @@ impl<B: Block> Model for Plant<B> {
 
     ghost view = { λ p. (p.graph, capacities_of p.capacities.items, state_of p.tape p.closed (length p.graph.1) p.progress.items) };
 
-    ghost invariant = { λ p. (length p.capacities.items ≡ length p.graph.1) × Keeps (network_of B.meaning p.graph.1) (length p.graph.1) p.tape p.closed p.progress.items p.buffers.items p.words.items };
+    ghost invariant = { λ p. (length p.capacities.items ≡ length p.graph.1) × Keeps (network_of B.meaning p.graph.1) (capacities_of p.capacities.items) (length p.graph.1) p.tape p.closed p.progress.items p.buffers.items p.words.items };
 }
 
 impl<B: Block> Plant<B> {
@@ -78,7 +79,8 @@ impl<B: Block> Plant<B> {
 
     /// Closes a source's tape: nothing more comes.
     pub fn close(&mut self, source: BlockId) -> Result<Closed, PlantFault>
-        ensures { Answered (machine.close_of (network_of B.meaning self.old.0.1) self.old.2 source.0) self.old self.new (reply_of (λ c. machine.Closed c.0) result) }
+        ensures value { AnsweredAlways (machine.close_of (network_of B.meaning self.old.0.1) self.old.2 source.0) self.old self.new (reply_of (λ c. machine.Closed c.0) result) }
+        ensures settled { IsSettled (network_of B.meaning self.new.0.1) self.new.1 self.new.2 }
     {
         let block = source.0 as usize;
         if self.graph.len() <= block {
@@ -96,7 +98,8 @@ impl<B: Block> Plant<B> {
 
     /// Appends items to a source's tape. Until tags come, any mark is refused.
     pub fn feed(&mut self, source: BlockId, items: Items, marks: &[Mark]) -> Result<Fed, PlantFault>
-        ensures { Answered (fed_by (network_of B.meaning self.old.0.1) self.old.2 source.0 items marks.now) self.old self.new (reply_of (λ f. machine.Fed f.0) result) }
+        ensures value { Answered (fed_by (network_of B.meaning self.old.0.1) self.old.2 source.0 items marks.now) self.old self.new (reply_of (λ f. machine.Fed f.0) result) }
+        ensures settled { IsSettled (network_of B.meaning self.new.0.1) self.new.1 self.new.2 }
     {
         let block = source.0 as usize;
         if self.graph.len() <= block {
@@ -125,7 +128,8 @@ impl<B: Block> Plant<B> {
     /// Claims at most `max` firings of a block, does their work and commits them.
     pub fn step(&mut self, alloc: Global, block: BlockId, max: u32) -> Result<Step, PlantFault>
         requires { 1 ≤ max }
-        ensures { Answered (machine.step_of (network_of B.meaning self.old.0.1) self.old.1 self.old.2 block.0 max) self.old self.new (reply_of step_reply result) }
+        ensures value { Answered (machine.step_of (network_of B.meaning self.old.0.1) self.old.1 self.old.2 block.0 max) self.old self.new (reply_of step_reply result) }
+        ensures settled { IsSettled (network_of B.meaning self.new.0.1) self.new.1 self.new.2 }
     {
         let at = block.0 as usize;
         if self.graph.len() <= at {
@@ -149,7 +153,7 @@ impl<B: Block> Plant<B> {
 
     // Marks a block as done.
     fn end(&mut self, block: usize)
-        requires { block < length self.old.0.1 }
+        requires { CanEnd (network_of B.meaning self.old.0.1) self.old.2 block }
         ensures { self.new ≡ (self.old.0, self.old.1, machine.ended self.old.2 block) }
     {
         let own = self.progress(block);

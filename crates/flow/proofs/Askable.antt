@@ -1,5 +1,5 @@
 -- What a line says can be asked.
-use Rattle.std.proofs.Common.{◌≡◌, ℕ, suc, ◌≤◌, Bool, true, false, List, [], ◌∷◌, ◌++◌, refl, ap, sym, ◌∙◌, cond, subst, arith, append-nil, None, Some, codes, length}
+use Rattle.std.proofs.Common.{◌≡◌, ℕ, suc, ◌≤◌, Bool, true, false, List, [], ◌∷◌, ◌++◌, refl, sym, cond, subst, arith, None, Some, codes, length}
 use Rattle.std.proofs.lemmas.Bool.Decides.{nat_tests}
 use Rattle.std.specs.Prelude.{Option, nat_lt, nat_le, ◌&&◌}
 use Rattle.std.specs.Str.{bytes_eq}
@@ -9,7 +9,7 @@ use Rattle.script_text.specs.Splits.{Split}
 use Rattle.script_text.specs.Scripts.{said_of, GoesOn, SaysNext, Continues}
 use Rattle.script_text.specs.Fields.{fields_of}
 use Rattle.script_text.specs.Numbers.{max_of, offset_of, within, natural_of}
-use Rattle.script_text.specs.Grammar.{Command, Feed, Close, Step, Read, Quiet, Parsed, Nothing, Bad, Says, ◌>>=◌, parsed_from, parsed_at, parsed_line, parsed_fields, says, command_of, feed_of, close_of, step_of, read_of, quiet_of, block_of, given_of, number_sign}
+use Rattle.script_text.specs.Grammar.{Command, Parsed, Nothing, Bad, Says, ◌>>=◌, parsed_from, parsed_at, parsed_line, parsed_fields, says, command_of, feed_of, close_of, step_of, read_of, quiet_of, block_of, given_of, number_sign}
 use Rattle.script_text.specs.Commands.{line_seen, command_seen}
 use Rattle.script_text.specs.declared.command.Command.{Command as Asked}
 use Rattle.script_text.specs.declared.command.Line.{Line}

@@ -1,5 +1,5 @@
 -- Lines that are answered, one after another.
-use Rattle.std.proofs.Common.{inl, inr, ◌≡◌, ℕ, zero, suc, ◌+◌, ◌<◌, ◌≤◌, List, [], ◌∷◌, ◌++◌, length, refl, arith, ap, sym, ◌∙◌, append_assoc, append-nil, length-append, None, Some, subst}
+use Rattle.std.proofs.Common.{inl, inr, ◌≡◌, ℕ, suc, ◌+◌, List, [], ◌∷◌, ◌++◌, length, refl, arith, ap, sym, ◌∙◌, append_assoc, append-nil, length-append, None, Some, subst}
 use Rattle.std.specs.Prelude.{Option, Result, Ok, Err, IfErr}
 use Rattle.std.specs.Io.KnownBytes.{Appends, Consumes, Keeps, IsAtEnd}
 use Rattle.std.proofs.KnownBytes.{Consumes-nil, Consumes-trans, Consumes-kept}
@@ -8,9 +8,8 @@ use Rattle.script_text.specs.Lines.{lines_of}
 use Rattle.script_text.specs.Splits.{Split, IsUnfinished}
 use Rattle.script_text.specs.Scripts.{said_of, GoesOn}
 use Rattle.script_text.specs.Grammar.{Command, Parsed, Nothing, Bad, Says, parsed_from}
-use Rattle.script_text.specs.Ends.{AppendsBeginning}
-use Rattle.flow.specs.Session.{Graph, Answers}
-use Rattle.flow.specs.Script.{Replies, Answered, Begins, Stops, StopsAtBad, StopsBefore, StopsWriting, Went, Unwritten, Flows, Ends, Breaks, script_after, script_of}
+use Rattle.flow.specs.Session.{Graph}
+use Rattle.flow.specs.Script.{Replies, Answered, Begins, Stops, Went, Unwritten, Flows, Ends, Breaks, script_after, script_of}
 use Rattle.flow.specs.declared.script.ScriptFault.{ScriptFault}
 use Rattle.flow.specs.declared.script.ScriptFault.TheVariants.{BadLine, Read, Write, Memory}
 
@@ -42,13 +41,6 @@ module _ (g : Graph) where
   -- no line was answered
   pub none_answered : (st : State) (out : Option (List ℕ)) → Answered g st st out out []
   none_answered st out = record { text = []; replies = (refl, refl); written = appends_nothing out }
-
-  pub nothing_answered : (st : State) (out : Option (List ℕ)) → Answered g st st out out (Nothing ∷ [])
-  nothing_answered st out = record { text = []; replies = (refl, refl); written = appends_nothing out }
-
-  pub one_answered : (c : Command) (old new : State) (out out' : Option (List ℕ)) (line : List ℕ) → Answers g c old new line → Appends out out' line → Answered g old new out out' (Says c ∷ [])
-  one_answered c old new out out' line a w =
-      record { text = line; replies = (new, line, [], sym (append-nil line), a, (refl, refl)); written = w }
 
   pub both_answered : (a b c : State) (o p q : Option (List ℕ)) (xs ys : List Parsed) → Answered g a b o p xs → Answered g b c p q ys → Answered g a c o q (xs ++ ys)
   both_answered a b c o p q xs ys h k =
@@ -93,10 +85,6 @@ module _ (g : Graph) where
         cut = s.cut;
         next = begins_more all rest xs s.before (Says s.command ∷ []) e s.next;
       }
-
-  -- no line was taken yet
-  pub went_nowhere : (st : State) (out : Option (List ℕ)) (s : Split) → s.taken ≤ 4294967295 → Went g st st out out s s
-  went_nowhere st out s low = record { before = []; answered = none_answered st out; says = λ more. refl; counted = omega arith; low = low }
 
   -- one line more
   pub went_on : (a b c : State) (o p q : Option (List ℕ)) (r s t : Split) (line : Parsed) → Went g a b o p r s → GoesOn line s t → Answered g b c p q (line ∷ []) → Went g a c o q r t

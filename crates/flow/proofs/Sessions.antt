@@ -1,14 +1,13 @@
 -- Calls of a plant, as what a script answers.
-use Rattle.std.proofs.Common.{◌≡◌, ℕ, ◌+◌, ◌<◌, ◌≤◌, Bool, true, false, not, List, [], ◌∷◌, ◌++◌, ℤ, length, map, refl, arith, ap, sym, ◌∙◌, cond, inl, inr, None, Some, Ok, Err, subst, ◌↔◌, T}
-use Rattle.std.specs.Prelude.{nat_lt, nat_le, int_le, ◌⊎◌, ◌&&◌, Option, Result, All, IfOk}
+use Rattle.std.proofs.Common.{◌≡◌, ℕ, ◌+◌, Bool, true, false, not, List, [], ◌∷◌, ℤ, length, map, refl, ap, sym, ◌∙◌, cond, inl, inr, None, Some, Ok, Err, subst, ◌↔◌, T}
+use Rattle.std.specs.Prelude.{nat_lt, int_le, ◌⊎◌, ◌&&◌, Option, Result, IfOk}
 use Rattle.std.specs.Result.{IsErrOf}
 use Rattle.std.specs.Int.Signed.{le_z_yes}
 use Rattle.std.proofs.lemmas.List.Elements.{All-nil, All-cons, All-head, All-tail}
 use Rattle.stream_model.specs.Numbers.{IsItem, AreItems, least_of, greatest_of}
 use Rattle.stream_model.specs.declared.vocabulary.ItemType.{ItemType}
-use Rattle.stream_model.specs.declared.vocabulary.ItemType.TheVariants as item
 use Rattle.stream_model.specs.Tags as model
-use Rattle.stream_model.specs.Network.{Network, State, node_at, role_at, handed_at, is_source, is_keeper}
+use Rattle.stream_model.specs.Network.{Network, State, role_at, handed_at, is_source, is_keeper}
 use Rattle.stream_model.specs.Machine as machine
 use Rattle.stream_model.specs.Machine.{Reply, Capacities, Refused}
 use Rattle.items.specs.declared.stream_items.Items.{Items}
@@ -20,36 +19,68 @@ use Rattle.items.specs.Items.{numbers_of, type_of}
 use Rattle.executor.specs.declared.fault.PlantFault.{PlantFault}
 use Rattle.executor.specs.declared.fault.PlantFault.TheVariants.{NoSuchBlock, NotSource, NotSink, Closed, ItemRange, TagPlace, TapeFull, BeyondEnd, Memory}
 use Rattle.executor.specs.Fault.{number_of}
-use Rattle.executor.specs.Answers.{Answered, AnsweredBy, refusal_of}
+use Rattle.executor.specs.Answers.{Answered, AnsweredAlways, AnsweredBy, refusal_of}
 use Rattle.executor.specs.Plant as plant
 use Rattle.executor.specs.Looks.{source_type_of}
 use Rattle.script_text.specs.Grammar as grammar
-use Rattle.script_text.specs.Commands.{mark_seen, marks_seen}
+use Rattle.script_text.specs.Commands.{marks_seen}
 use Rattle.script_text.specs.Replies.{reply_text, quiet_text, line_text}
-use Rattle.flow.specs.Session.{Graph, block_of, call_on, told, feed_numbers, reply_to, Tells, Answers, refusal_line, no_memory, in_state, displaced, given_type, are_items, is_item}
+use Rattle.flow.specs.Session.{Graph, block_of, feed_numbers, reply_to, Tells, TellsAlways, Answers, refusal_line, no_memory, in_state, displaced, given_type, are_items, is_item}
 
 -- a call that answered tells its reply
 pub tells : {G : Type 0} (now : Reply × State) (old new : G × Capacities × State) (reply : Reply) (line : List ℕ) →
     Answered now old new (Some reply) → line ≡ line_text (reply_text reply) → Tells now old.2 new.2 line
 tells now old new reply line h e = inl (e ∙ ap (λ (r : Reply). line_text (reply_text r)) h.0, ap (λ x. x.2) h.1)
 
+-- a fault is a refusal by its number, or memory ran out
+refusal_or_memory : (fault : PlantFault) → (refusal_of fault ≡ Some (Refused (number_of fault))) ⊎ ((refusal_of fault ≡ None) × (number_of fault ≡ 32))
+refusal_or_memory Memory = inr (refl, refl)
+refusal_or_memory NoSuchBlock = inl refl
+refusal_or_memory NotSource = inl refl
+refusal_or_memory NotSink = inl refl
+refusal_or_memory Closed = inl refl
+refusal_or_memory ItemRange = inl refl
+refusal_or_memory TagPlace = inl refl
+refusal_or_memory TapeFull = inl refl
+refusal_or_memory BeyondEnd = inl refl
+
+-- the line that tells that memory ran out
+memory_line : (fault : PlantFault) (line : List ℕ) → number_of fault ≡ 32 → line ≡ refusal_line fault → line ≡ line_text no_memory
+memory_line fault line m e = e ∙ ap (λ (k : ℕ). line_text (reply_text (Refused k))) m
+
 -- one that was refused tells the refusal, or that memory ran out
 pub tells_refused : {G : Type 0} (now : Reply × State) (old new : G × Capacities × State) (fault : PlantFault) (line : List ℕ) →
     Answered now old new (refusal_of fault) → line ≡ refusal_line fault → Tells now old.2 new.2 line
-tells_refused now old new Memory line h e = inr (e, ap (λ x. x.2) h)
-tells_refused now old new NoSuchBlock line h e = tells now old new (Refused (number_of NoSuchBlock)) line h e
-tells_refused now old new NotSource line h e = tells now old new (Refused (number_of NotSource)) line h e
-tells_refused now old new NotSink line h e = tells now old new (Refused (number_of NotSink)) line h e
-tells_refused now old new Closed line h e = tells now old new (Refused (number_of Closed)) line h e
-tells_refused now old new ItemRange line h e = tells now old new (Refused (number_of ItemRange)) line h e
-tells_refused now old new TagPlace line h e = tells now old new (Refused (number_of TagPlace)) line h e
-tells_refused now old new TapeFull line h e = tells now old new (Refused (number_of TapeFull)) line h e
-tells_refused now old new BeyondEnd line h e = tells now old new (Refused (number_of BeyondEnd)) line h e
+tells_refused now old new fault line h e =
+    elim (refusal_or_memory fault) [
+      | inl s ↦ tells now old new (Refused (number_of fault)) line (subst (Answered now old new) s h) e
+      | inr m ↦ inr (memory_line fault line m.1 e, ap (λ x. x.2) (subst (Answered now old new) m.0 h))
+    ]
+
+-- the same where memory cannot run out
+pub tells_always : {G : Type 0} (now : Reply × State) (old new : G × Capacities × State) (reply : Reply) (line : List ℕ) →
+    AnsweredAlways now old new (Some reply) → line ≡ line_text (reply_text reply) → TellsAlways now new.2 line
+tells_always now old new reply line h e = (e ∙ ap told_line h.0, ap (λ x. x.2) h.1)
+  where
+    told_line : Option Reply → List ℕ
+    told_line None = line
+    told_line (Some r) = line_text (reply_text r)
+
+pub tells_always_refused : {G : Type 0} (now : Reply × State) (old new : G × Capacities × State) (fault : PlantFault) (line : List ℕ) →
+    AnsweredAlways now old new (refusal_of fault) → line ≡ refusal_line fault → TellsAlways now new.2 line
+tells_always_refused now old new fault line h e =
+    elim (refusal_or_memory fault) [
+      | inl s ↦ tells_always now old new (Refused (number_of fault)) line (subst (AnsweredAlways now old new) s h) e
+      | inr m ↦ (let none : None ≡ Some now.0 = sym m.0 ∙ h.0 in cc)
+    ]
 
 -- a call moves the state alone
 pub keeps : {G : Type 0} (now : Reply × State) (old new : G × Capacities × State) (r : Option Reply) → Answered now old new r → new ≡ in_state old new.2
 keeps now old new None h = h ∙ ap (λ (st : State). in_state old st) (sym (ap (λ x. x.2) h))
 keeps now old new (Some r) h = h.1 ∙ ap (λ (st : State). in_state old st) (sym (ap (λ x. x.2) h.1))
+
+pub keeps_always : {G : Type 0} (now : Reply × State) (old new : G × Capacities × State) (r : Option Reply) → AnsweredAlways now old new r → new ≡ in_state old new.2
+keeps_always now old new r h = h.1 ∙ ap (λ (st : State). in_state old st) (sym (ap (λ x. x.2) h.1))
 
 -- a read leaves the state
 pub read_keeps : (net : Network) (st : State) (b from max : ℕ) → (machine.read_of net st b from max).1 ≡ st
@@ -68,15 +99,11 @@ tells_read net st b from max reply line h e = inl (e ∙ ap (λ (r : Reply). lin
 
 pub tells_read_refused : (net : Network) (st : State) (b from max : ℕ) (fault : PlantFault) (line : List ℕ) →
     AnsweredBy (machine.read_of net st b from max) (refusal_of fault) → line ≡ refusal_line fault → Tells (machine.read_of net st b from max) st st line
-tells_read_refused net st b from max Memory line h e = inr (e, refl)
-tells_read_refused net st b from max NoSuchBlock line h e = tells_read net st b from max (Refused (number_of NoSuchBlock)) line h e
-tells_read_refused net st b from max NotSource line h e = tells_read net st b from max (Refused (number_of NotSource)) line h e
-tells_read_refused net st b from max NotSink line h e = tells_read net st b from max (Refused (number_of NotSink)) line h e
-tells_read_refused net st b from max Closed line h e = tells_read net st b from max (Refused (number_of Closed)) line h e
-tells_read_refused net st b from max ItemRange line h e = tells_read net st b from max (Refused (number_of ItemRange)) line h e
-tells_read_refused net st b from max TagPlace line h e = tells_read net st b from max (Refused (number_of TagPlace)) line h e
-tells_read_refused net st b from max TapeFull line h e = tells_read net st b from max (Refused (number_of TapeFull)) line h e
-tells_read_refused net st b from max BeyondEnd line h e = tells_read net st b from max (Refused (number_of BeyondEnd)) line h e
+tells_read_refused net st b from max fault line h e =
+    elim (refusal_or_memory fault) [
+      | inl s ↦ tells_read net st b from max (Refused (number_of fault)) line (subst (AnsweredBy (machine.read_of net st b from max)) s h) e
+      | inr m ↦ inr (memory_line fault line m.1 e, refl)
+    ]
 
 -- what a call tells is what the command is answered
 module _ (g : Graph) (old new : State) (line : List ℕ) where
@@ -85,10 +112,9 @@ module _ (g : Graph) (old new : State) (line : List ℕ) where
   answers_feed name xs ms b e (inl h) = rw e (inl h)
   answers_feed name xs ms b e (inr h) = inr (refl, h.0, h.1)
 
-  pub answers_close : (name : List ℕ) (b : ℕ) → block_of g name ≡ Some b → Tells (machine.close_of g.net old b) old new line → Answers g (grammar.Close name) old new line
+  pub answers_close : (name : List ℕ) (b : ℕ) → block_of g name ≡ Some b → TellsAlways (machine.close_of g.net old b) new line → Answers g (grammar.Close name) old new line
   unfolding reply_to
-  answers_close name b e (inl h) = rw e (inl h)
-  answers_close name b e (inr h) = inr (refl, h.0, h.1)
+  answers_close name b e h = rw e (inl h)
 
   pub answers_step : (name : List ℕ) (max b : ℕ) → block_of g name ≡ Some b → Tells (machine.step_of g.net g.caps old b max) old new line → Answers g (grammar.Step name max) old new line
   unfolding reply_to

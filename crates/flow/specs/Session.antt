@@ -80,10 +80,14 @@ no_memory = reply_text (Refused 32)
 abbrev pub Tells : Reply × State → State → State → List ℕ → Type 0
 Tells now old new line = ((line ≡ line_text (reply_text now.0)) × (new ≡ now.1)) ⊎ ((line ≡ line_text no_memory) × (new ≡ old))
 
--- whether a command may be answered that memory ran out: all but the question whether the plant is quiet
+-- the same where memory cannot run out
+abbrev pub TellsAlways : Reply × State → State → List ℕ → Type 0
+TellsAlways now new line = (line ≡ line_text (reply_text now.0)) × (new ≡ now.1)
+
+-- whether a command may be answered that memory ran out: all but a close, and the question whether the plant is quiet
 abbrev pub may_run_out : Command → Bool
 may_run_out (Feed name xs ms) = true
-may_run_out (Close name) = true
+may_run_out (Close name) = false
 may_run_out (Step name max) = true
 may_run_out (Read name from max) = true
 may_run_out Quiet = false

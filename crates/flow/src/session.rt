@@ -7,7 +7,7 @@ ghost use Rattle.executor.specs.Chain.{network_of};
 ghost use Rattle.script_text.specs.Commands.{command_seen, marks_seen};
 ghost use Rattle.script_text.specs.Printed.{printed};
 ghost use Rattle.script_text.specs.Replies.{line_text};
-ghost use Rattle.flow.specs.Session.{graph_of, in_state, block_of, feed_numbers, Tells, Answers, IsAskable, refusal_line};
+ghost use Rattle.flow.specs.Session.{graph_of, in_state, block_of, feed_numbers, Tells, TellsAlways, Answers, IsAskable, refusal_line};
 
 use block_kinds::Block;
 use executor::{BlockId, Closed, Fed, Need, Plant, PlantFault, Step};
@@ -84,7 +84,7 @@ fn close<B: Block>(
     source: BlockId,
 ) -> Result<Vec<u8>, AllocError>
     ensures kept { plant.new ≡ in_state plant.old plant.new.2 }
-    ensures tells { IfOk result (λ line. Tells (machine.close_of (network_of B.meaning plant.old.0.1) plant.old.2 source.0) plant.old.2 plant.new.2 line.items) }
+    ensures tells { IfOk result (λ line. TellsAlways (machine.close_of (network_of B.meaning plant.old.0.1) plant.old.2 source.0) plant.new.2 line.items) }
 {
     match plant.close(source) {
         Ok(Closed(total)) => line_of(alloc, &Reply::Closed(total)),

@@ -16,7 +16,7 @@ use stream_model::Role;
 impl<B: Block> Plant<B> {
     /// Does `count` firings of a block, which fit. An `Err` changes nothing.
     pub(super) fn fire(&mut self, alloc: Global, block: usize, count: u32) -> Result<(), AllocError>
-        requires { CanFire (network_of B.meaning self.old.0.1) self.old.2 block count }
+        requires { CanFire (network_of B.meaning self.old.0.1) self.old.1 self.old.2 block count }
         ensures ok { OnOk result (self.new ≡ (self.old.0, self.old.1, after_firings self.old.2 block count)) }
         ensures err { OnErr result (self.new ≡ self.old) }
     {
@@ -32,7 +32,7 @@ impl<B: Block> Plant<B> {
     }
 
     fn fire_source(&mut self, block: usize, count: u32) -> Result<(), AllocError>
-        requires can { CanFire (network_of B.meaning self.old.0.1) self.old.2 block count }
+        requires can { CanFire (network_of B.meaning self.old.0.1) self.old.1 self.old.2 block count }
         requires role { role_at (network_of B.meaning self.old.0.1) block ≡ roles.Source }
         ensures ok { OnOk result (self.new ≡ (self.old.0, self.old.1, after_firings self.old.2 block count)) }
         ensures err { OnErr result (self.new ≡ self.old) }
@@ -49,7 +49,7 @@ impl<B: Block> Plant<B> {
     }
 
     fn fire_work(&mut self, alloc: Global, block: usize, count: u32) -> Result<(), AllocError>
-        requires can { CanFire (network_of B.meaning self.old.0.1) self.old.2 block count }
+        requires can { CanFire (network_of B.meaning self.old.0.1) self.old.1 self.old.2 block count }
         requires role { role_at (network_of B.meaning self.old.0.1) block ≡ roles.Work }
         ensures ok { OnOk result (self.new ≡ (self.old.0, self.old.1, after_firings self.old.2 block count)) }
         ensures err { OnErr result (self.new ≡ self.old) }
@@ -76,7 +76,7 @@ impl<B: Block> Plant<B> {
     }
 
     fn fire_keep(&mut self, alloc: Global, block: usize, count: u32) -> Result<(), AllocError>
-        requires can { CanFire (network_of B.meaning self.old.0.1) self.old.2 block count }
+        requires can { CanFire (network_of B.meaning self.old.0.1) self.old.1 self.old.2 block count }
         requires role { role_at (network_of B.meaning self.old.0.1) block ≡ roles.Keep }
         ensures ok { OnOk result (self.new ≡ (self.old.0, self.old.1, after_firings self.old.2 block count)) }
         ensures err { OnErr result (self.new ≡ self.old) }
@@ -93,7 +93,7 @@ impl<B: Block> Plant<B> {
     }
 
     fn fire_discard(&mut self, block: usize, count: u32)
-        requires can { CanFire (network_of B.meaning self.old.0.1) self.old.2 block count }
+        requires can { CanFire (network_of B.meaning self.old.0.1) self.old.1 self.old.2 block count }
         requires role { role_at (network_of B.meaning self.old.0.1) block ≡ roles.Discard }
         ensures { self.new ≡ (self.old.0, self.old.1, after_firings self.old.2 block count) }
     {

@@ -5,6 +5,7 @@ ghost use Rattle.stream_model.specs.Network.{opening, node_at};
 ghost use Rattle.items.specs.Items.{numbers_of, type_of};
 ghost use Rattle.executor.specs.Chain.{network_of};
 ghost use Rattle.executor.specs.Plant.{capacities_of};
+ghost use Rattle.executor.specs.Settled.{IsSettled};
 ghost use Rattle.executor.specs.Begins.{stored_at, capacities_to, words_to, AreUnfired, AreEmpty};
 
 use crate::chain::Valid;
@@ -20,6 +21,7 @@ impl<B: Block> Plant<B> {
     /// graph back.
     pub fn open(alloc: Global, graph: Valid<B>) -> Result<Plant<B>, (Valid<B>, AllocError)>
         ensures ok { IfOk result (λ p. p ≡ (graph, capacities_of (map (λ e. e.capacity) graph.1), opening (network_of B.meaning graph.1))) }
+        ensures settled { IfOk result (λ p. IsSettled (network_of B.meaning p.0.1) p.1 p.2) }
         ensures err { IfErr result (λ e. e.0 ≡ graph) }
     {
         graph.known();

@@ -1,6 +1,6 @@
 //! Whether a plant rests.
 
-ghost use Rattle.std.specs.Prelude.{◌≡◌, ◌<◌, length};
+ghost use Rattle.std.specs.Prelude.{◌≡◌, ◌<◌, length, true};
 ghost use Rattle.std.specs.List.{list_all};
 ghost use Rattle.stream_model.specs.Machine as machine;
 ghost use Rattle.executor.specs.Chain.{network_of};
@@ -12,9 +12,10 @@ use crate::progress::Progress;
 use block_kinds::Block;
 
 impl<B: Block> Plant<B> {
-    /// Whether each block is done.
+    /// Whether each block is done: then each sink holds its whole stream.
     pub fn all_done(&self) -> bool
-        ensures { result ≡ machine.is_all_done self.now.2 }
+        ensures value { result ≡ machine.is_all_done self.now.2 }
+        ensures whole { result ≡ true → machine.IsWhole (network_of B.meaning self.now.0.1) self.now.2 }
     {
         are_done(&self.progress)
     }

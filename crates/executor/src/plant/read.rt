@@ -1,6 +1,8 @@
 //! What a plant shows.
 
-ghost use Rattle.std.specs.Prelude.{◌≡◌};
+ghost use Rattle.std.specs.Prelude.{◌≡◌, true, length, IfOk};
+ghost use Rattle.stream_model.specs.Meaning.{input};
+ghost use Rattle.stream_model.specs.Network.{entering};
 ghost use Rattle.stream_model.specs.Machine as machine;
 ghost use Rattle.executor.specs.Chain.{network_of};
 ghost use Rattle.executor.specs.Answers.{AnsweredBy, reply_of, piece_reply};
@@ -36,7 +38,8 @@ impl<B: Block> Plant<B> {
         from: u64,
         max: u64,
     ) -> Result<Piece, PlantFault>
-        ensures { AnsweredBy (machine.read_of (network_of B.meaning self.now.0.1) self.now.2 sink.0 from max) (reply_of piece_reply result) }
+        ensures value { AnsweredBy (machine.read_of (network_of B.meaning self.now.0.1) self.now.2 sink.0 from max) (reply_of piece_reply result) }
+        ensures whole { IfOk result (λ piece. piece.done ≡ true → piece.held ≡ length (input (entering (network_of B.meaning self.now.0.1) self.now.2.handed sink.0) 0)) }
     {
         let block = sink.0 as usize;
         if self.graph.len() <= block {

@@ -1,4 +1,3 @@
-use Rattle.std.proofs.Common.{◌≡◌, refl, ap, sym, ◌∙◌}
 use Rattle.executor.proofs.BufferLemmas.{on_ok, on_err, types-kept, numbers-more, numbers-kept}
 use Rattle.executor.proofs.buffers.take_from_tape.Goals as goal
 

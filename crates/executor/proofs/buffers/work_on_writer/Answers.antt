@@ -1,4 +1,4 @@
-use Rattle.std.proofs.Common.{◌≡◌, ◌+◌, ◌<◌, ◌++◌, [], ◌∷◌, refl, arith, ap, sym, ◌∙◌, length}
+use Rattle.std.proofs.Common.{◌+◌, ◌++◌, [], ◌∷◌, arith, ap, ◌∙◌}
 use Rattle.std.proofs.lemmas.List.{set-set}
 use Rattle.items.specs.Items.{numbers_of, type_of}
 use Rattle.stream_model.specs.Meaning.{given_items}

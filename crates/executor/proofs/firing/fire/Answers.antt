@@ -1,5 +1,5 @@
-use Rattle.std.proofs.Common.{◌≡◌, ◌+◌, ◌-◌, ◌≤◌, [], ◌∷◌, length, refl, arith, ap, sym, ◌∙◌}
-use Rattle.items.specs.Items.{numbers_of, type_of}
+use Rattle.std.proofs.Common.{[], ◌∷◌, refl, ◌∙◌}
+use Rattle.items.specs.Items.{numbers_of}
 use Rattle.executor.proofs.Works.{is-work, can-work, worked, length-worked}
 use Rattle.executor.proofs.firing.fire.Goals as goal
 

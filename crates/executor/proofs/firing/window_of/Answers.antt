@@ -1,4 +1,4 @@
-use Rattle.std.proofs.Common.{◌≡◌, ◌-◌, length, refl, arith, ap, sym, ◌∙◌}
+use Rattle.std.proofs.Common.{◌-◌, refl}
 use Rattle.items.specs.Items.{numbers_of}
 use Rattle.executor.proofs.Windows.{window-parts}
 use Rattle.executor.proofs.firing.window_of.Goals as goal

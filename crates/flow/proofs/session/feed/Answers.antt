@@ -22,11 +22,11 @@ returns-in-Ok-feed-clause-tells g c =
     if_ok _ _ c.line_of-in-Ok-feed.result c.line_of-in-Ok-feed.ensures (λ line e.
     tells_fed (network_of g.B.Block.meaning c.args.plant.now.0.1) c.args.source.0 c.in-Ok.item c.args.plant.now c.feed.new.self c.args.numbers.now c.in-Ok-from_numbers.items c.args.marks.now _
     (sym c.in-Ok.ensures) c.in-Ok-from_numbers.ensures.item_type c.in-Ok-from_numbers.ensures.numbers c.in-Ok-from_numbers.ensures.in_range
-    c.in-Ok-feed.field-0.0 c.in-Ok-feed.ensures e)
+    c.in-Ok-feed.field-0.0 c.in-Ok-feed.ensures.value e)
 
 pub returns-in-Err-feed-clause-tells : goal.returns-in-Err-feed-clause-tells
 returns-in-Err-feed-clause-tells g c =
     if_ok _ _ c.refused-in-Err-feed.result c.refused-in-Err-feed.ensures (λ line e.
     tells_fed_refused (network_of g.B.Block.meaning c.args.plant.now.0.1) c.args.source.0 c.in-Ok.item c.args.plant.now c.feed.new.self c.args.numbers.now c.in-Ok-from_numbers.items c.args.marks.now _
     (sym c.in-Ok.ensures) c.in-Ok-from_numbers.ensures.item_type c.in-Ok-from_numbers.ensures.numbers c.in-Ok-from_numbers.ensures.in_range
-    c.in-Err-feed.fault c.in-Err-feed.ensures e)
+    c.in-Err-feed.fault c.in-Err-feed.ensures.value e)

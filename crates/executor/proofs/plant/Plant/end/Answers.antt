@@ -1,17 +1,16 @@
-use Rattle.std.proofs.Common.{◌≡◌, ◌<◌, length, map, refl, ap, sym, ◌∙◌}
-use Rattle.std.proofs.lemmas.List.{length-map}
+use Rattle.std.proofs.Common.{length, refl, ap}
 use Rattle.stream_model.specs.Network as model
-use Rattle.executor.specs.Plant.{progress_of, state_of, capacities_of}
-use Rattle.executor.proofs.Closes.{keeps-marked}
+use Rattle.executor.specs.Plant.{capacities_of}
+use Rattle.executor.proofs.Closes.{keeps-ended}
 use Rattle.executor.proofs.Decides.{ended-is}
 use Rattle.executor.proofs.plant.Plant.end.Goals as goal
 
 pub invariant_of-self : goal.invariant_of-self
 invariant_of-self g c =
     let own = rw (← c.self.view_is) at c.progress-own.ensures.value in
-    let in' = rw (← c.self.view_is) at c.requires in (
+    let end = rw (← c.self.view_is) at c.requires in (
       c.self.invariant.0,
-      keeps-marked _ _ c.self.inside.tape c.self.inside.closed c.self.inside.progress.items c.self.inside.buffers.items c.self.inside.words.items c.self.invariant.1 c.args.block _ (rw length-map in') (ap (λ (p : model.Progress). p.firings) own),
+      keeps-ended _ _ _ c.self.inside.tape c.self.inside.closed c.self.inside.progress.items c.self.inside.buffers.items c.self.inside.words.items c.self.invariant.1 c.args.block _ end (ap (λ (p : model.Progress). p.firings) own) refl,
     )
 
 pub returns : goal.returns

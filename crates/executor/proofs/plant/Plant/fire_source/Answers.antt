@@ -1,10 +1,8 @@
-use Rattle.std.proofs.Common.{◌≡◌, ◌+◌, ◌≤◌, ◌<◌, length, map, refl, arith, ap, sym, ◌∙◌}
-use Rattle.std.proofs.lemmas.List.{length-map}
+use Rattle.std.proofs.Common.{◌+◌, length, ap}
 use Rattle.stream_model.specs.Network as model
 use Rattle.stream_model.specs.Network.{is_source}
-use Rattle.items.specs.Items.{numbers_of, type_of}
 use Rattle.executor.specs.Chain.{network_of}
-use Rattle.executor.specs.Plant.{progress_of, state_of, capacities_of}
+use Rattle.executor.specs.Plant.{state_of, capacities_of}
 use Rattle.executor.proofs.Plain.{written-first}
 use Rattle.executor.proofs.Calls.{first-source}
 use Rattle.executor.proofs.FireLemmas.{fires-source_at}
@@ -22,7 +20,7 @@ invariant_of-self-2 g c =
     let come = written-first (network_of g.B.Block.meaning c.self.inside.graph.1) shown.chain (state_of c.self.inside.tape c.self.inside.closed (length c.self.inside.graph.1) c.self.inside.progress.items) in
     let fits = rw come at (rw first at can.fits) in (
       c.self.invariant.0,
-      keeps-fires_plainly _ _ c.self.inside.tape c.self.inside.closed c.self.inside.progress.items c.self.inside.buffers.items c.self.inside.words.items c.self.invariant.1 c.args.block c.args.count _ _ c.take_from_tape.new.buffers.items
+      keeps-fires_plainly _ _ _ c.self.inside.tape c.self.inside.closed c.self.inside.progress.items c.self.inside.buffers.items c.self.inside.words.items c.self.invariant.1 c.args.block c.args.count _ _ c.take_from_tape.new.buffers.items can (ap (λ (p : model.Progress). p.done) own)
           (fires-source_at _ _ _ _ _ _ shown c.args.block c.args.count _ _ first (ap (λ n. n + c.args.count) k) (rw first fits) can.within)
           (rw k at c.in_ok-take_from_tape.ensures.ok) c.in_ok-take_from_tape.ensures.types,
     )

@@ -1,17 +1,13 @@
-use Rattle.std.proofs.Common.{◌≡◌, ◌+◌, ◌-◌, ◌≤◌, ◌<◌, ◌++◌, [], ◌∷◌, length, map, refl, arith, ap, sym, ◌∙◌, get_or}
-use Rattle.std.specs.List.{slice_range}
-use Rattle.std.proofs.lemmas.List.{length-map, set-get_or}
+use Rattle.std.proofs.Common.{◌≡◌, ◌+◌, ◌-◌, ◌<◌, [], ◌∷◌, length, arith, ap, sym, ◌∙◌}
 use Rattle.std.proofs.lemmas.Grind.{get_or_default_zero}
 use Rattle.stream_model.specs.Network as model
 use Rattle.stream_model.specs.Network.{is_source, items_of, entering}
-use Rattle.stream_model.specs.Meaning.{given_items, input}
-use Rattle.items.specs.Items.{numbers_of, type_of}
 use Rattle.executor.specs.Chain.{network_of}
-use Rattle.executor.specs.Plant.{progress_of, state_of, capacities_of, handed_of}
+use Rattle.executor.specs.Plant.{state_of, capacities_of, handed_of}
 use Rattle.executor.proofs.Plain.{written-behind}
 use Rattle.executor.proofs.FireLemmas.{not-first, fires-work_at, length-kept_at, starts_at, plain-block_at, stated_at, word_at, taken_type_at, given_type_at}
 use Rattle.executor.proofs.FieldLemmas.{fired-short}
-use Rattle.executor.proofs.Closes.{keeps-fires, keeps-fires_plainly, keeps-marked, after-is}
+use Rattle.executor.proofs.Closes.{keeps-fires, after-is}
 use Rattle.executor.proofs.plant.Plant.fire_work.Goals as goal
 
 pub work_on_writer-requires-clause-plain : goal.work_on_writer-requires-clause-plain
@@ -123,7 +119,7 @@ invariant_of-self-2 g c =
     let moved = rw (back, ← worker, k) at (c.in_ok-word.ensures.ok stream start stated) in
     let word = rw (← worker, k) at (c.in_ok-word.ensures.word stream start stated) in (
       c.self.invariant.0,
-      keeps-fires _ _ c.self.inside.tape c.self.inside.closed c.self.inside.progress.items c.self.inside.buffers.items c.self.inside.words.items c.self.invariant.1 c.args.block c.args.count _ _ c.in_ok-word.word c.work_on_writer.new.buffers.items
+      keeps-fires _ _ _ c.self.inside.tape c.self.inside.closed c.self.inside.progress.items c.self.inside.buffers.items c.self.inside.words.items c.self.invariant.1 c.args.block c.args.count _ _ c.in_ok-word.word c.work_on_writer.new.buffers.items can (ap (λ (p : model.Progress). p.done) own)
           (fires-work_at _ _ _ _ _ _ shown c.args.block c.args.count _ _ role can.member (ap (λ n. n + c.args.count) k) fits can.within word)
           moved c.in_ok-word.ensures.types,
     )

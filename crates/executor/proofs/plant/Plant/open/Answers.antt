@@ -14,9 +14,14 @@ pub invariant_of-result : goal.invariant_of-result
 invariant_of-result g c =
     let net = network_of g.B.Block.meaning c.args.graph.1 in (
       ap length c.in-Ok.ensures ∙ length-map-range_with_len (λ b. (node_at net b).capacity) 0 (length c.args.graph.1),
-      keeps-open net c.known.ensures (length c.args.graph.1) (sym (length-map c.args.graph.1 (node_of g.B.Block.meaning))) c.tape-tape.result c.in-Ok-unfired.progress.items c.in-Ok-buffers.buffers.items c.in-Ok-words.words.items
+      keeps-open net c.known.ensures (length c.args.graph.1) (sym (length-map c.args.graph.1 (node_of g.B.Block.meaning))) _ c.tape-tape.result c.in-Ok-unfired.progress.items c.in-Ok-buffers.buffers.items c.in-Ok-words.words.items
           c.tape-tape.ensures.numbers c.tape-tape.ensures.item_type (rw c.len.ensures at c.in-Ok-unfired.ensures) c.in-Ok-buffers.ensures c.in-Ok-words.ensures,
     )
+
+pub returns-clause-settled : goal.returns-clause-settled
+returns-clause-settled g c =
+    (keeps-open (network_of g.B.Block.meaning c.args.graph.1) c.known.ensures (length c.args.graph.1) (sym (length-map c.args.graph.1 (node_of g.B.Block.meaning))) _ c.tape-tape.result c.in-Ok-unfired.progress.items c.in-Ok-buffers.buffers.items c.in-Ok-words.words.items
+    c.tape-tape.ensures.numbers c.tape-tape.ensures.item_type (rw c.len.ensures at c.in-Ok-unfired.ensures) c.in-Ok-buffers.ensures c.in-Ok-words.ensures).settled
 
 pub returns-clause-ok : goal.returns-clause-ok
 returns-clause-ok g c =

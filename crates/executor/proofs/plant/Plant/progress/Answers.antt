@@ -1,8 +1,7 @@
-use Rattle.std.proofs.Common.{◌≡◌, ◌<◌, ◌≤◌, length, map, refl, arith, ap, sym, ◌∙◌}
+use Rattle.std.proofs.Common.{ap, sym}
 use Rattle.std.proofs.lemmas.List.{length-map}
 use Rattle.stream_model.specs.Network as model
 use Rattle.executor.specs.Chain.{network_of}
-use Rattle.executor.specs.Plant.{progress_of}
 use Rattle.executor.proofs.FieldLemmas.{fired-short, progress-read}
 use Rattle.executor.proofs.plant.Plant.progress.Goals as goal
 
