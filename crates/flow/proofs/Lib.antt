@@ -1,3 +1,4 @@
 pub mod Sessions
 pub mod Askable
 pub mod Flows
+pub mod Serves

@@ -1,2 +1,4 @@
 pub mod Session
 pub mod Script
+pub mod Faults
+pub mod Serve

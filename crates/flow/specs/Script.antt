@@ -85,13 +85,6 @@ pub record Breaks (g : Graph) (st : State) (input input' out out' : Option (List
   pub read : Consumes input input' given
   pub stops : Stops g st out out' (script_after given) 0 fault ⊎ (IsAtEnd input' × Stops g st out out' (script_of given) 0 fault)
 
--- the number by which a fault is reported
-abbrev pub number_of : ScriptFault → ℕ
-number_of (BadLine n) = 50
-number_of Read = 51
-number_of Write = 52
-number_of Memory = 32
-
 -- how many reads failed, and how many writes
 abbrev pub failed_reads : {X : Type 0} → Result X ScriptFault → ℕ
 failed_reads (Ok x) = 0

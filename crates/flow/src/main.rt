@@ -1,6 +1,7 @@
 //! The program `flow`: runs a flowgraph that a file describes.
 #![tactic(auto)]
 
+mod fault;
 mod script;
 mod serve;
 mod session;
@@ -35,7 +36,7 @@ fn status(rt: &HostRuntime) -> u8 {
         Ok(path) => run(rt, path),
         Err(error) if error.kind() == ErrorKind::OutOfMemory => {
             let _ = eprintln!(rt; "flow: refused 32 Memory");
-            BAD_WORDS
+            FAILED
         }
         Err(error) => {
             let _ = eprintln!(rt; "{error}");

@@ -32,23 +32,12 @@ pub enum ScriptFault {
     Memory,
 }
 
-impl ScriptFault {
-    ghost use Rattle.flow.specs.Script.{number_of};
-
-    /// The number by which the fault is reported.
-    pub fn number(&self) -> u32
-        ensures { result ≡ number_of self.now }
-    {
-        match self {
-            ScriptFault::BadLine(_) => 50,
-            ScriptFault::Read => 51,
-            ScriptFault::Write => 52,
-            ScriptFault::Memory => 32,
-        }
-    }
-}
-
 impl fmt::Display for ScriptFault {
+    ghost use Rattle.std.specs.Prelude.{Some};
+    ghost use Rattle.flow.specs.Faults.{script_fault_text};
+
+    ghost output = { λ fault. Some (script_fault_text fault) };
+
     fn fmt<W: fmt::Write>(&self, f: &mut fmt::Formatter<W>) -> fmt::Result {
         match self {
             ScriptFault::BadLine(number) => write!(f, "50 BadLine {number}"),

@@ -1,10 +1,13 @@
 //! What the program does with a graph file and its standard streams, over any source and place of bytes.
 
-ghost use Rattle.std.specs.Prelude.{◌<◌, ◌-◌, ◌^◌};
+ghost use Rattle.std.specs.Prelude.{◌≡◌, ◌<◌, ◌-◌, ◌^◌, IfOk, IfErr, OnOk, string_bytes};
+ghost use Rattle.flow.specs.Serve.{Serves, IsReady, Took, Refuses, Runs, Stopped, Told, IsOpeningFault};
+ghost use Rattle.flow.specs.Faults.{fault_line};
 
-use crate::script::{ScriptFault, script};
+use crate::fault::Fault;
+use crate::script::script;
 use executor::{Plant, PlantFault};
-use graph_text::{File, FileFault, read_chain};
+use graph_text::{Feed, File, FileFault, read_chain};
 use kinds::Kind;
 use script_text::{ByteIn, ByteOut};
 use std::alloc::{AllocError, Global};
@@ -14,27 +17,6 @@ use std::alloc::{AllocError, Global};
 pub enum Command {
     /// To feed it and do the commands of standard input.
     Script,
-}
-
-/// Why a command stopped.
-#[derive(Clone, Copy, Debug, PartialEq, Eq)]
-pub enum Fault {
-    File(FileFault),
-    /// A feed of the file, counted from 0.
-    Feed(usize, PlantFault),
-    Script(ScriptFault),
-}
-
-impl From<FileFault> for Fault {
-    fn from(fault: FileFault) -> Fault {
-        Fault::File(fault)
-    }
-}
-
-impl From<ScriptFault> for Fault {
-    fn from(fault: ScriptFault) -> Fault {
-        Fault::Script(fault)
-    }
 }
 
 /// Does a command: reads the graph file, feeds its graph and does what the lines of `input` say. The status is 0 where
@@ -51,6 +33,7 @@ pub fn serve<I: ByteIn, O: ByteOut, E: ByteOut>(
     requires reads { I.failed input.old < 2 ^ 64 - 1 }
     requires writes { O.failed output.old < 2 ^ 64 - 1 }
     requires reports { E.failed errors.old < 2 ^ 64 - 1 }
+    ensures { Serves file.now (I.remaining input.old) (I.remaining input.new) (O.contents output.old) (O.contents output.new) (E.contents errors.old) (E.contents errors.new) (E.failed errors.old) (E.failed errors.new) result }
 {
     let outcome = match command {
         Command::Script => run_script(alloc, file, input, output),
@@ -58,8 +41,8 @@ pub fn serve<I: ByteIn, O: ByteOut, E: ByteOut>(
     match outcome {
         Ok(()) => 0,
         Err(fault) => {
-            let _ = report(alloc, fault, errors);
-            status_of(fault)
+            report(alloc, fault, errors);
+            fault.status()
         }
     }
 }
@@ -72,6 +55,8 @@ fn run_script<I: ByteIn, O: ByteOut>(
 ) -> Result<(), Fault>
     requires reads { I.failed input.old < 2 ^ 64 - 1 }
     requires writes { O.failed output.old < 2 ^ 64 - 1 }
+    ensures runs { OnOk result (Runs file.now (I.remaining input.old) (I.remaining input.new) (O.contents output.old) (O.contents output.new)) }
+    ensures stopped { IfErr result (λ fault. Stopped file.now (I.remaining input.old) (I.remaining input.new) (O.contents output.old) (O.contents output.new) fault) }
 {
     let plant = fed_plant(alloc, file)?;
     let _done = script(alloc, plant, input, output)?;
@@ -79,72 +64,50 @@ fn run_script<I: ByteIn, O: ByteOut>(
 }
 
 // The plant of a graph file, with the file's feeds on the tapes.
-fn fed_plant(alloc: Global, file: &[u8]) -> Result<Plant<Kind>, Fault> {
+fn fed_plant(alloc: Global, file: &[u8]) -> Result<Plant<Kind>, Fault>
+    ensures ready { IfOk result (λ plant. IsReady file.now plant) }
+    ensures refused { IfErr result (λ fault. IsOpeningFault file.now fault) }
+{
     let File { graph, feeds } = read_chain(alloc, file)?;
     let mut plant = match Plant::open(alloc, graph) {
         Ok(plant) => plant,
         Err(_) => return Err(Fault::File(FileFault::Memory)),
     };
-    let mut number = 0usize;
-    for feed in feeds {
-        match plant.feed(feed.source, feed.items, &[]) {
-            Ok(_) => number = number.saturating_add(1),
-            Err(fault) => return Err(Fault::Feed(number, fault)),
+    match take_feeds(&mut plant, feeds) {
+        Ok(()) => Ok(plant),
+        Err((number, fault)) => Err(Fault::Feed(number, fault)),
+    }
+}
+
+// Feeds a plant, in order. At a refusal it answers which feed it was, counted from 0.
+fn take_feeds(plant: &mut Plant<Kind>, feeds: Vec<Feed>) -> Result<(), (usize, PlantFault)>
+    ensures took { OnOk result (Took plant.old plant.new feeds.items) }
+    ensures refuses { IfErr result (λ refusal. Refuses plant.old refusal.0 refusal.1) }
+{
+    for (number, feed) in feeds.into_iter().enumerate() {
+        if let Err(fault) = plant.feed(feed.source, feed.items, &[]) {
+            return Err((number, fault));
         }
     }
-    Ok(plant)
+    Ok(())
 }
 
-// The exit status that a fault brings.
-fn status_of(fault: Fault) -> u8 {
-    match fault {
-        Fault::File(FileFault::Syntax) | Fault::Script(ScriptFault::BadLine(_)) => 1,
-        Fault::Feed(_, PlantFault::Memory) => 4,
-        Fault::Feed(_, _) => 1,
-        Fault::File(FileFault::Memory) => 4,
-        Fault::Script(ScriptFault::Read | ScriptFault::Write | ScriptFault::Memory) => 4,
-    }
-}
-
-// The line that says why the command stopped. Without memory for its numbers it says that.
-fn report<E: ByteOut>(
-    alloc: Global,
-    fault: Fault,
-    errors: &mut E,
-) -> Result<(), script_text::Broken>
+// Writes the line that says why the command stopped. Without memory for its text it says that.
+fn report<E: ByteOut>(alloc: Global, fault: Fault, errors: &mut E)
     requires { E.failed errors.old < 2 ^ 64 - 1 }
+    ensures { Told (E.contents errors.old) (E.contents errors.new) (E.failed errors.old) (E.failed errors.new) fault }
 {
-    match line_of(alloc, fault) {
+    let _ = match line_of(alloc, fault) {
         Ok(line) => errors.write(line.as_bytes()),
         Err(_) => errors.write(b"flow: refused 32 Memory\n"),
-    }
+    };
 }
 
-fn line_of(alloc: Global, fault: Fault) -> Result<String, AllocError> {
-    match fault {
-        Fault::File(FileFault::Syntax) => format!(in alloc; "flow: refused 40 Syntax\n"),
-        Fault::File(FileFault::Memory) | Fault::Feed(_, PlantFault::Memory) => {
-            format!(in alloc; "flow: refused 32 Memory\n")
-        }
-        Fault::Feed(number, fault) => {
-            let code = fault.number();
-            let name = name_of(fault);
-            format!(in alloc; "flow: refused {code} {name} feed {number}\n")
-        }
-        Fault::Script(fault) => format!(in alloc; "flow: refused {fault}\n"),
-    }
+fn line_of(alloc: Global, fault: Fault) -> Result<String, AllocError>
+    ensures { IfOk result (λ line. string_bytes line ≡ fault_line fault) }
+{
+    format!(in alloc; "flow: refused {fault}\n")
 }
 
-fn name_of(fault: PlantFault) -> &'static str {
-    match fault {
-        PlantFault::NoSuchBlock => "NoSuchBlock",
-        PlantFault::NotSource => "NotSource",
-        PlantFault::NotSink => "NotSink",
-        PlantFault::Closed => "Closed",
-        PlantFault::ItemRange => "ItemRange",
-        PlantFault::TagPlace => "TagPlace",
-        PlantFault::TapeFull => "TapeFull",
-        PlantFault::BeyondEnd => "BeyondEnd",
-        PlantFault::Memory => "Memory",
-    }
-}
+#[cfg(test)]
+mod tests;

@@ -1,6 +1,7 @@
 -- What a graph file gives: a chain, and items for its source.
-use Rattle.std.specs.Prelude.{◌≡◌, ℕ, ◌<◌, ◌≤◌, List, length, true, All, bytes_eq}
+use Rattle.std.specs.Prelude.{◌≡◌, ℕ, ◌<◌, ◌≤◌, List, length, true, All, bytes_eq, IsUtf8, IsSome}
 use Rattle.std.specs.List.{IsDistinct}
+use Rattle.toml.specs.Parse.{parse_document}
 use Rattle.stream_model.specs.Network.{node_at, role_at, is_source}
 use Rattle.items.specs.Items.{type_of}
 use Rattle.executor.specs.declared.chain.Entry.{Entry}
@@ -8,6 +9,10 @@ use Rattle.executor.specs.Chain.{network_of, IsPlainChain}
 use Rattle.kinds.specs.declared.kind.Kind.{Kind}
 use Rattle.kinds.specs.Kind.{meaning_of}
 use Rattle.graph_text.specs.declared.feeds.Feed.{Feed}
+
+-- a text that is a TOML document
+abbrev pub IsDocument : List ℕ → Type 0
+IsDocument text = IsUtf8 text × IsSome (parse_document text)
 
 -- a graph as contracts see it: the names of its blocks, and the blocks
 abbrev pub Graph : Type 0

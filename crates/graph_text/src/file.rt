@@ -1,7 +1,6 @@
 //! A graph file, read.
-ghost use Rattle.std.specs.Prelude.{◌≡◌, IfOk, OnOk, All, IsUtf8, IsSome};
-ghost use Rattle.toml.specs.Parse.{parse_document};
-ghost use Rattle.graph_text.specs.File.{IsNamedChain, FeedsSource};
+ghost use Rattle.std.specs.Prelude.{◌≡◌, IfOk, OnOk, All};
+ghost use Rattle.graph_text.specs.File.{IsDocument, IsNamedChain, FeedsSource};
 
 use crate::blocks::read_blocks;
 use crate::connections::require_chain;
@@ -24,7 +23,7 @@ pub struct File {
 /// one chain of a `vector_source`, `add_const` and a `vector_sink`, in the order of the file, and so are the
 /// connections. Any other text is refused as `Syntax`.
 pub fn read_chain(alloc: Global, file: &[u8]) -> Result<File, FileFault>
-    ensures document { OnOk result (IsUtf8 file.now × IsSome (parse_document file.now)) }
+    ensures document { OnOk result (IsDocument file.now) }
     ensures graph { IfOk result (λ file. IsNamedChain file.graph) }
     ensures feeds { IfOk result (λ file. All (FeedsSource file.graph) file.feeds.items) }
 {

@@ -1,4 +1,4 @@
-use Rattle.std.proofs.Common.{◌≡◌, refl, arith, ◌∙◌}
+use Rattle.std.proofs.Common.{refl, arith, ◌∙◌}
 use Rattle.std.proofs.lemmas.Result.{err_from_is_err_and}
 use Rattle.flow.specs.Session.{graph_of}
 use Rattle.flow.proofs.Flows.{flows_start, flows_on, breaks_in, breaks_last, ends_last, breaks_memory, breaks_between, breaks_read, kept_count}
