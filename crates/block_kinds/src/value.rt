@@ -1,7 +1,7 @@
 //! Values of settings.
 
-ghost use Rattle.std.specs.Prelude.{◌≡◌, length, IfOk};
-ghost use Rattle.block_kinds.specs.Values.{value_of};
+ghost use Rattle.std.specs.Prelude.{◌≡◌, IfOk, is_ok, true};
+ghost use Rattle.block_kinds.specs.Values.{value_of, is_number};
 
 use std::alloc::{AllocError, Global};
 use std::marker::Model;
@@ -53,7 +53,8 @@ pub enum Value {
 impl Value {
     /// The same value in memory of its own. A number takes none.
     pub fn copy(&self, alloc: Global) -> Result<Value, AllocError>
-        ensures { IfOk result (λ value. value_of value ≡ value_of self.now) }
+        ensures same { IfOk result (λ value. value_of value ≡ value_of self.now) }
+        ensures number { is_number self.now ≡ true → is_ok result ≡ true }
     {
         Ok(match self {
             Value::Number(number) => Value::Number(*number),

@@ -24,9 +24,10 @@ pub record TakesLine (old new : Split) : Type 0 where
   pub first : (more : List ℕ) → lines_of (old.rest ++ more) ≡ new.line ∷ lines_of (new.rest ++ more)
   pub counted : new.taken ≡ suc old.taken
 
--- the bytes and the count stay as they were
+-- no line was taken: the bytes, the line that was taken last and the count stay as they were
 pub record KeepsBytes (old new : Split) : Type 0 where
   pub rest : new.rest ≡ old.rest
+  pub line : new.line ≡ old.line
   pub taken : new.taken ≡ old.taken
 
 abbrev pub Takes : Taken → Split → Split → Type 0

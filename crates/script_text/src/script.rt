@@ -1,8 +1,8 @@
 //! Scripts, line by line, as what the lines say.
-ghost use Rattle.std.specs.Prelude.{◌≡◌, ◌-◌, ◌^◌, ◌<◌, suc, IfOk, OnErr};
+ghost use Rattle.std.specs.Prelude.{◌≡◌, ◌-◌, ◌^◌, ◌<◌, ◌⊎◌, suc, IfOk, OnErr};
 ghost use Rattle.std.specs.Option.{option_map, option_to_list};
 ghost use Rattle.script_text.specs.Lines.{lines_of};
-ghost use Rattle.script_text.specs.Splits.{IsUnfinished, TakesLine};
+ghost use Rattle.script_text.specs.Splits.{IsUnfinished, TakesLine, KeepsBytes};
 ghost use Rattle.script_text.specs.Grammar.{parsed_from};
 ghost use Rattle.script_text.specs.Commands.{line_seen};
 ghost use Rattle.script_text.specs.Scripts.{Continues};
@@ -12,11 +12,13 @@ use std::alloc::{AllocError, Global};
 
 const MOST_LINES: u64 = 4294967295;
 
-/// Takes the next line, where its end has come or it is too long, and tells what it says. An `Err` has taken it too.
+/// Takes the next line, where its end has come, and tells what it says. A line that is too long is told and stays. An `Err`
+/// has taken it too.
 pub fn next_line(alloc: Global, lines: &mut LineSplitter) -> Result<Option<Line>, AllocError>
     requires { lines.old.taken < 2 ^ 64 - 1 }
     ensures ok { IfOk result (λ line. Continues (option_map line_seen line) lines.old lines.new) }
     ensures err { OnErr result (TakesLine lines.old lines.new) }
+    ensures moves { TakesLine lines.old lines.new ⊎ KeepsBytes lines.old lines.new }
 {
     match lines.take_line() {
         Taken::Whole => {

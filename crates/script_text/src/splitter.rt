@@ -76,6 +76,7 @@ impl LineSplitter {
     pub fn push(&mut self, piece: &[u8]) -> Result<(), AllocError>
         ensures ok { OnOk result (self.new.rest ≡ self.old.rest ++ piece.now) }
         ensures err { OnErr result (self.new.rest ≡ self.old.rest) }
+        ensures line { self.new.line ≡ [] }
         ensures taken { self.new.taken ≡ self.old.taken }
     {
         self.forget_taken();
@@ -134,6 +135,7 @@ impl LineSplitter {
     // is moved more often than one is given up.
     fn forget_taken(&mut self)
         ensures rest { self.new.rest ≡ self.old.rest }
+        ensures line { self.new.line ≡ [] }
         ensures taken { self.new.taken ≡ self.old.taken }
     {
         self.line_start = 0;

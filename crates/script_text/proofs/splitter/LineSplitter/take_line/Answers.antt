@@ -31,6 +31,6 @@ returns-after-length-gt-LONGEST_LINE c =
     let long : length (without_return (drop s.start xs)) ≡ c.length_without_return-length.result = rest_length xs s.start end _ past within value in
     let no_end = rest_none xs s.start end past none in
     rw (← c.self.view_is) elim c.if-length-gt-LONGEST_LINE.branch [
-      | then-length-gt-LONGEST_LINE w ↦ rw w.result-is (too_long (drop s.start xs) no_end (omega (arith, long, w.if-length-gt-LONGEST_LINE.true)), record { rest = refl; taken = refl })
-      | else-length-gt-LONGEST_LINE w ↦ rw w.result-is (record { no_end = no_end; short = omega (arith, long, w.if-length-gt-LONGEST_LINE.false) }, record { rest = refl; taken = refl })
+      | then-length-gt-LONGEST_LINE w ↦ rw w.result-is (too_long (drop s.start xs) no_end (omega (arith, long, w.if-length-gt-LONGEST_LINE.true)), record { rest = refl; line = refl; taken = refl })
+      | else-length-gt-LONGEST_LINE w ↦ rw w.result-is (record { no_end = no_end; short = omega (arith, long, w.if-length-gt-LONGEST_LINE.false) }, record { rest = refl; line = refl; taken = refl })
     ]
