@@ -23,19 +23,20 @@ pub fn refuses()
 
 /// Where several refusals fit, the first in a fixed order is answered: no such block, then what the
 /// block is not, then the value, and a late setting last; a fed type before a closed tape, and that
-/// before a mark.
+/// before a mark. Marks right before and right behind the fed items are refused.
 pub fn refuses_in_order()
     ensures { replies_of (plus_ten 4096)
         (byte_feed 9 (1 ∷ []) ∷ Close 9 ∷ Close 1 ∷ SetAt 9 0 (Number (pos 1))
         ∷ Claim 9 1 ∷ Read 9 0 1
         ∷ byte_feed 0 (1 ∷ 2 ∷ []) ∷ marked_feed 0 (3 ∷ []) (mark 1 (codes "k") (pos 1) ∷ [])
+        ∷ marked_feed 0 (3 ∷ []) (mark 3 (codes "k") (pos 1) ∷ [])
         ∷ marked_feed 0 (3 ∷ []) (mark 2 (codes "k") (pos 1) ∷ []) ∷ Step 0 9 ∷ Step 1 1
         ∷ SetAt 1 0 (Number (pos 256)) ∷ SetAt 1 5 (Taps []) ∷ SetAt 1 0 (Number (pos 1))
         ∷ Close 0 ∷ Feed 0 Short (numbers (1 ∷ [])) []
         ∷ marked_feed 0 (1 ∷ []) (mark 9 (codes "k") (pos 1) ∷ [])
         ∷ Read 0 0 1 ∷ Read 2 1 1 ∷ Abandon 1 ∷ [])
         ≡ Refused 20 ∷ Refused 20 ∷ Refused 21 ∷ Refused 20 ∷ Refused 20 ∷ Refused 20
-        ∷ Fed 2 ∷ Refused 25 ∷ Fed 3 ∷ Did 3 ∷ Did 1 ∷ Refused 29 ∷ Refused 29 ∷ Late 1
+        ∷ Fed 2 ∷ Refused 25 ∷ Refused 25 ∷ Fed 3 ∷ Did 3 ∷ Did 1 ∷ Refused 29 ∷ Refused 29 ∷ Late 1
         ∷ Closed 3 ∷ Refused 24 ∷ Refused 23 ∷ Refused 22 ∷ Refused 31 ∷ Refused 30 ∷ [] }
 {}
 
