@@ -1,5 +1,5 @@
 -- What a call of a plant answers, beside the machine: its reply and its next state, or no memory and nothing changed.
-use Rattle.std.specs.Prelude.{◌≡◌, [], Option, Some, None, Result, Ok, Err}
+use Rattle.std.specs.Prelude.{◌≡◌, [], Option, Some, None, Bool, true, false, Result, Ok, Err}
 use Rattle.stream_model.specs.Network.{State}
 use Rattle.stream_model.specs.Machine as machine
 use Rattle.stream_model.specs.Machine.{Capacities, Reply, Refused, Did, Done, WaitingItems, WaitingRoom}
@@ -30,10 +30,17 @@ abbrev pub reply_of : {R : Type 0} → (R → Reply) → Result R PlantFault →
 reply_of ok (Ok r) = Some (ok r)
 reply_of ok (Err e) = refusal_of e
 
+-- whether a call that is so answered stores or gives items, for which memory may run out; no other reply needs any
+abbrev pub takes_memory : Reply → Bool
+takes_memory (machine.Fed total) = true
+takes_memory (Did count) = true
+takes_memory (machine.Piece from held items tags done) = true
+takes_memory _ = false
+
 -- a call took a plant with a graph and capacities from one state to the next: it answered as the machine does now, or memory
 -- ran out and nothing changed
 abbrev pub Answered : {G : Type 0} → Reply × State → G × Capacities × State → G × Capacities × State → Option Reply → Type 0
-Answered now old new None = new ≡ old
+Answered now old new None = (takes_memory now.0 ≡ true) × (new ≡ old)
 Answered now old new (Some reply) = (reply ≡ now.0) × (new ≡ (old.0, old.1, now.1))
 
 -- the same of a call that memory cannot fail
@@ -42,7 +49,7 @@ AnsweredAlways now old new reply = (reply ≡ Some now.0) × (new ≡ (old.0, ol
 
 -- a call that only looks answered as the machine does, or memory ran out
 abbrev pub AnsweredBy : Reply × State → Option Reply → Type 0
-AnsweredBy now None = Unit {0}
+AnsweredBy now None = takes_memory now.0 ≡ true
 AnsweredBy now (Some reply) = reply ≡ now.0
 
 -- what a step did, as a reply

@@ -35,7 +35,7 @@ took_more p q r feeds feed total o a =
     }
 
 answered_by : {G : Type 0} (now : Reply × State) (old new : G × Capacities × State) (reply : Option Reply) → Answered now old new reply → AnsweredBy now reply
-answered_by now old new None h = tt
+answered_by now old new None h = h.0
 answered_by now old new (Some reply) h = h.0
 
 -- the next feed was refused

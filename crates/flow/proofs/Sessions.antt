@@ -54,7 +54,7 @@ pub tells_refused : {G : Type 0} (now : Reply × State) (old new : G × Capaciti
 tells_refused now old new fault line h e =
     elim (refusal_or_memory fault) [
       | inl s ↦ tells now old new (Refused (number_of fault)) line (subst (Answered now old new) s h) e
-      | inr m ↦ inr (memory_line fault line m.1 e, ap (λ x. x.2) (subst (Answered now old new) m.0 h))
+      | inr m ↦ inr (memory_line fault line m.1 e, ap (λ x. x.2) (subst (Answered now old new) m.0 h).1)
     ]
 
 -- the same where memory cannot run out
@@ -76,7 +76,7 @@ tells_always_refused now old new fault line h e =
 
 -- a call moves the state alone
 pub keeps : {G : Type 0} (now : Reply × State) (old new : G × Capacities × State) (r : Option Reply) → Answered now old new r → new ≡ in_state old new.2
-keeps now old new None h = h ∙ ap (λ (st : State). in_state old st) (sym (ap (λ x. x.2) h))
+keeps now old new None h = h.1 ∙ ap (λ (st : State). in_state old st) (sym (ap (λ x. x.2) h.1))
 keeps now old new (Some r) h = h.1 ∙ ap (λ (st : State). in_state old st) (sym (ap (λ x. x.2) h.1))
 
 pub keeps_always : {G : Type 0} (now : Reply × State) (old new : G × Capacities × State) (r : Option Reply) → AnsweredAlways now old new r → new ≡ in_state old new.2

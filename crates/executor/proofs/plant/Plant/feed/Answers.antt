@@ -1,6 +1,9 @@
-use Rattle.std.proofs.Common.{◌≡◌, ◌<◌, length, arith, ap, sym, ◌∙◌, true, false, ◌++◌, length-append}
+use Rattle.std.proofs.Common.{◌≡◌, refl, ◌<◌, length, arith, ap, sym, ◌∙◌, true, false, ◌++◌, length-append}
 use Rattle.std.proofs.lemmas.List.{length-map}
-use Rattle.stream_model.specs.Network.{node_at}
+use Rattle.std.proofs.lemmas.Result.{err_from_is_err_and}
+use Rattle.stream_model.specs.Network.{State, node_at}
+use Rattle.stream_model.specs.Machine.{Reply}
+use Rattle.executor.specs.Answers.{takes_memory}
 use Rattle.items.specs.Items.{numbers_of}
 use Rattle.executor.specs.Chain.{network_of}
 use Rattle.executor.proofs.Calls.{stays, moves, feed-missing, feed-not_source, feed-other_type, feed-closed, feed-full, feed-fits, keeps-fed, first-source, types_agree-same, feed-any_marked, empty-is}
@@ -78,6 +81,21 @@ returns-clause-value g c =
     rw (← c.self.view_is, first, empty, c.len-5.ensures.value, grown, length-append (numbers_of c.self.inside.tape) (numbers_of c.args.items))
     (moves _ _ _ _ _ (feed-fits (network_of g.B.Block.meaning c.self.inside.graph.1) _ 0 c.args.items (rw first at in') (rw first at source) (rw first at typed) c.if-self.false
     (rw (← c.len-2.ensures.value, ← c.len-3.ensures.value) (omega arith))))
+
+pub returns-in_err-reserve-clause-value : goal.returns-in_err-reserve-clause-value
+returns-in_err-reserve-clause-value g c =
+    let p = err_from_is_err_and c.from_residual.result c.from_residual.ensures.1 in
+    let source = sym c.is_source.ensures ∙ c.if-not-is_source.false in
+    let in' : c.args.source.0 < length (network_of g.B.Block.meaning c.self.inside.graph.1).nodes = rw length-map (omega arith) in
+    let first = first-source (network_of g.B.Block.meaning c.self.inside.graph.1) c.self.invariant.1.shown.chain c.args.source.0 in' source in
+    let typed = sym (rw (c.item_out.ensures, c.item_type.ensures) at c.same_type.ensures) ∙ c.if-not-same_type.false in
+    let empty = empty-is c.args.marks.now (sym c.is_empty.ensures ∙ c.if-not-is_empty.false) in
+    rw (p.1, p.2) (
+      rw (← c.self.view_is, first, empty) (ap (λ (now : Reply × State). takes_memory now.0)
+          (feed-fits (network_of g.B.Block.meaning c.self.inside.graph.1) _ 0 c.args.items (rw first at in') (rw first at source) (rw first at typed) c.if-self.false
+          (rw (← c.len-2.ensures.value, ← c.len-3.ensures.value) (omega arith)))),
+      rw (← c.self.view_is, c.in_err-reserve.ensures.numbers) refl,
+    )
 
 pub returns-then-len-block-clause-settled : goal.returns-then-len-block-clause-settled
 returns-then-len-block-clause-settled g c = rw (← c.self.view_is) c.self.invariant.1.settled

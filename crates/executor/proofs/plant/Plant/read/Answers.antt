@@ -7,7 +7,7 @@ use Rattle.stream_model.specs.Meaning.{input}
 use Rattle.executor.specs.Shown.{fired}
 use Rattle.executor.specs.Chain.{network_of}
 use Rattle.executor.specs.Plant.{handed_of, progress_of, capacities_of}
-use Rattle.executor.proofs.Looking.{read-missing, read-not_sink, read-beyond, read-shown}
+use Rattle.executor.proofs.Looking.{read-missing, read-not_sink, read-beyond, read-there, read-shown}
 use Rattle.executor.proofs.TagFree.{handed-none}
 use Rattle.executor.proofs.Wholes.{sink-whole}
 use Rattle.executor.proofs.plant.Plant.read.Goals as goal
@@ -53,3 +53,9 @@ returns-in-Ok-clause-whole g c =
     ∙ sink-whole (network_of g.B.Block.meaning c.self.inside.graph.1) c.self.invariant.1.shown.chain (capacities_of c.self.inside.capacities.items)
     (handed_of c.self.inside.tape c.self.inside.closed (length c.self.inside.graph.1)) (map progress_of c.self.inside.progress.items) c.self.invariant.1.settled
     c.args.sink.0 (rw length-map (omega arith)) (sym c.is_keeper.ensures ∙ c.if-not-is_keeper.false) (sym (ap (λ (p : model.Progress). p.done) own) ∙ done))
+
+pub returns-in-Err-clause-value : goal.returns-in-Err-clause-value
+returns-in-Err-clause-value g c =
+    let there = read-there (network_of g.B.Block.meaning c.args.self.now.0.1) c.args.self.now.2 c.args.sink.0 c.args.from c.args.max in
+    let own = ap (λ (p : model.Progress). p.firings) c.progress-own.ensures.value in
+    rw (there (rw (← c.self.view_is, length-map) (omega arith)) (rw (← c.self.view_is, ← c.is_keeper.ensures) c.if-not-is_keeper.false) (rw (← own) (omega arith))) refl

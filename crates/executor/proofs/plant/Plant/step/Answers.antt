@@ -1,5 +1,6 @@
 use Rattle.std.proofs.Common.{refl, arith, sym, ◌∙◌}
 use Rattle.std.proofs.lemmas.List.{length-map}
+use Rattle.std.proofs.lemmas.Result.{err_from_is_err_and}
 use Rattle.executor.specs.Chain.{network_of}
 use Rattle.executor.specs.declared.decision.Decision.TheVariants as decision
 use Rattle.executor.proofs.Calls.{stays}
@@ -60,6 +61,15 @@ returns-in_ok-fire-in-Fires-clause-value g c =
     let step = step-is (network_of g.B.Block.meaning c.args.self.now.0.1) (rw (← c.self.view_is) c.self.invariant.1.shown.chain) c.args.self.now.1 c.args.self.now.2 c.args.block.0 c.args.max (decision.Fires c.in-Fires.count)
     (rw (← c.self.view_is, length-map) (omega arith)) (rw (← c.self.view_is, length-map) (omega arith)) c.requires (rw (← c.self.view_is) (idle-at c.self.inside.progress.items c.args.block.0)) decided in
     rw (c.in_ok-fire-in-Fires.ensures.ok, step) (refl, refl)
+
+pub returns-in_err-fire-in-Fires-clause-value : goal.returns-in_err-fire-in-Fires-clause-value
+returns-in_err-fire-in-Fires-clause-value g c =
+    let p = err_from_is_err_and c.from_residual.result c.from_residual.ensures.1 in
+    let decided = sym (rw c.counts-counts.ensures.value at c.decide.ensures) ∙ c.in-Fires.is in
+    let count = simp length-map at c.self.invariant.1.shown.progress_count in
+    let step = step-is (network_of g.B.Block.meaning c.args.self.now.0.1) (rw (← c.self.view_is) c.self.invariant.1.shown.chain) c.args.self.now.1 c.args.self.now.2 c.args.block.0 c.args.max (decision.Fires c.in-Fires.count)
+    (rw (← c.self.view_is, length-map) (omega arith)) (rw (← c.self.view_is, length-map) (omega arith)) c.requires (rw (← c.self.view_is) (idle-at c.self.inside.progress.items c.args.block.0)) decided in
+    rw (p.1, p.2, step) (refl, c.in_err-fire-in-Fires.ensures.err)
 
 pub returns-then-len-at-clause-settled : goal.returns-then-len-at-clause-settled
 returns-then-len-at-clause-settled g c = rw (← c.self.view_is) c.self.invariant.1.settled
