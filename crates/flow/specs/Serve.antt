@@ -37,7 +37,7 @@ abbrev pub Takes : Network → State → List Feed → State → Type 0
 Takes net old [] new = new ≡ old
 Takes net old (feed ∷ feeds) new = (total : ℕ) × ((feed_now net old feed).0 ≡ machine.Fed total) × Takes net (feed_now net old feed).1 feeds new
 
--- the plant of a graph file as it opens, with nothing fed
+-- a plant as it opens, with nothing fed: a chain with good names, read from a text that is a TOML document
 pub record Opens (text : List ℕ) (p : Shown) : Type 0 where
   pub document : IsDocument text
   pub graph : IsNamedChain p.0
@@ -58,7 +58,7 @@ pub record Refuses (p : Shown) (n : ℕ) (refusal : PlantFault) : Type 0 where
   pub feed : Feed
   pub refused : AnsweredBy (feed_now (network_in p) state feed) (refusal_of refusal)
 
--- a plant as a script finds it: that of a graph file, once it took the feeds of the file, which are all for its source
+-- a plant as a script finds it: opened so, and once it took feeds, which are all items for its source
 pub record IsReady (text : List ℕ) (q : Shown) : Type 0 where
   pub plant : Shown
   pub feeds : List Feed
@@ -72,7 +72,7 @@ IsOpeningFault text (fault.File refusal) = Unit {0}
 IsOpeningFault text (fault.Feed n refusal) = (plant : Shown) × Opens text plant × Refuses plant n refusal
 IsOpeningFault text (fault.Script refusal) = ⊥
 
--- a script ran on the plant of the file to the end of its input
+-- a script ran on such a plant to the end of its input
 pub record Runs (text : List ℕ) (input input' out out' : Option (List ℕ)) : Type 0 where
   pub plant : Shown
   pub last : State
