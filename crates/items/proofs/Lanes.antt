@@ -1,15 +1,8 @@
 -- Numbers of a vector and of its parts.
-use Rattle.std.proofs.Common.{◌≡◌, ℕ, zero, suc, ◌-◌, ◌∙◌, ap, sym, refl, List, ◌∷◌, ◌++◌, map, take, drop, replicate, slice_range, ℤ}
-use Rattle.std.specs.List.{take-map, drop-map}
+use Rattle.std.proofs.Common.{◌≡◌, ℕ, ◌∙◌, ap, List, ◌++◌, map, replicate, slice_range, ℤ}
 use Rattle.std.proofs.lemmas.List.{map-id, map-append}
-
--- a function of each element of a part is the part of the function of each
-pub map_slice_range : {X Y : Type 0} (f : X → Y) (xs : List X) (i j : ℕ) → map f (slice_range xs i j) ≡ slice_range (map f xs) i j
-map_slice_range f xs i j = sym (ap (take (j - i)) (drop-map f i xs) ∙ take-map f (j - i) (drop i xs))
-
-pub map_replicate : {X Y : Type 0} (f : X → Y) (n : ℕ) (x : X) → map f (replicate n x) ≡ replicate n (f x)
-map_replicate f zero x = refl
-map_replicate f (suc n) x = ap (λ ys. f x ∷ ys) (map_replicate f n x)
+use Rattle.lanes.proofs.Mapped.{map_replicate}
+pub use Rattle.lanes.proofs.Mapped.{map_slice_range}
 
 -- a signed lane is its number
 pub map_same : (zs : List ℤ) → map (λ z. z) zs ≡ zs

@@ -2,7 +2,6 @@
 #![tactic(auto)]
 
 pub mod fault;
-mod lane;
 pub mod marks;
 pub mod name;
 pub mod stream_items;

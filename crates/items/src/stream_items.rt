@@ -4,7 +4,8 @@ ghost use Rattle.stream_model.specs.Numbers.{IsItem, AreItems, least_of, greates
 ghost use Rattle.items.specs.Items.{type_of, numbers_of, spare_of};
 
 use crate::ItemFault;
-use crate::lane::{Lane, append, append_copies, are_in_range, narrowed};
+use lanes::Lane;
+use lanes::vectors::{append, append_copies, are_in_range, narrowed};
 use std::alloc::{AllocError, Global};
 use stream_model::ItemType;
 

@@ -1,0 +1,4 @@
+pub mod Ranges
+pub mod SlowestReader
+pub mod Windows
+pub mod Written

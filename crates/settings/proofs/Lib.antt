@@ -1,0 +1,5 @@
+pub mod Latest
+pub mod Made
+pub mod Places
+pub mod Points
+pub mod Rising

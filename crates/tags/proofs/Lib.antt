@@ -1,0 +1,4 @@
+pub mod Cuts
+pub mod Kept
+pub mod Order
+pub mod Rounding
