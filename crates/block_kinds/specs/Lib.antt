@@ -1,3 +1,2 @@
-pub mod Values
 pub mod Work
 pub use Rattle.items.specs.Items

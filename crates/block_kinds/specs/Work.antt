@@ -7,8 +7,8 @@ use Rattle.stream_model.specs.Settings as model
 use Rattle.stream_model.specs.Meaning.{Meaning, IsFed, given_outputs}
 use Rattle.items.specs.declared.stream_items.Items.{Items}
 use Rattle.items.specs.Items.{type_of, numbers_of, spare_of}
-use Rattle.block_kinds.specs.declared.value.Held.{Held}
-use Rattle.block_kinds.specs.Values.{held_of}
+use Rattle.settings.specs.declared.value.Held.{Held}
+use Rattle.settings.specs.Values.{held_of}
 
 -- windows and settings as the model has them are those of the streams xs under the settings ts
 abbrev pub IsWorkOf : Meaning → List model.Held → List (List ℤ) → ℕ → ℕ → ℕ → List Items → List Held → Type 0

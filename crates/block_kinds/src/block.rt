@@ -4,11 +4,11 @@ ghost use Rattle.std.specs.Prelude.{◌≡◌, ◌<◌, ◌^◌, ◌+◌, IfOk, 
 ghost use Rattle.std.specs.Option.{option_map};
 ghost use Rattle.stream_model.specs.Meaning.{Meaning, IsLawful};
 ghost use Rattle.stream_model.specs.Settings as model;
-ghost use Rattle.block_kinds.specs.Values.{value_of};
+ghost use Rattle.settings.specs.Values.{value_of};
 ghost use Rattle.block_kinds.specs.Work.{CanWork, HasWorked, IsWorkOf};
 
-use crate::value::{Held, Value};
 use items::Items;
+use settings::{Held, Value};
 use std::alloc::{AllocError, Global};
 use stream_model::{Role, Shift, Signature, Wanted};
 

@@ -2,8 +2,7 @@
 #![tactic(auto)]
 
 pub mod block;
-pub mod value;
 
 pub use block::Block;
+pub use settings::{Held, Taps, Value};
 pub use stream_model::{Policy, Role, Shift, Signature, Wanted};
-pub use value::{Held, Taps, Value};

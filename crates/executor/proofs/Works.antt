@@ -11,8 +11,8 @@ use Rattle.stream_model.specs.Settings as model
 use Rattle.stream_model.specs.Settings.{between, made_at, setting_at}
 use Rattle.stream_model.specs.Meaning.{Meaning, IsFed, windows_of, given_items, given_outputs}
 use Rattle.stream_model.specs.Meaning as meanings
-use Rattle.block_kinds.specs.declared.value.Held.{Held}
-use Rattle.block_kinds.specs.Values.{held_of}
+use Rattle.settings.specs.declared.value.Held.{Held}
+use Rattle.settings.specs.Values.{held_of}
 use Rattle.block_kinds.specs.Work.{IsWorkOf, IsReady, CanWork, HasWorked}
 use Rattle.executor.specs.Firing.{IsPlainBlock, IsStartOf, IsStated}
 use Rattle.executor.proofs.Windows.{window-parts, slice_range-take}

@@ -4,7 +4,7 @@ ghost use Rattle.std.specs.Prelude.{◌≡◌, ◌<◌, ◌≤◌, ◌+◌, ◌-
 ghost use Rattle.items.specs.Items.{type_of, numbers_of};
 ghost use Rattle.stream_model.specs.Lists.{window};
 ghost use Rattle.stream_model.specs.Meaning as meanings;
-ghost use Rattle.block_kinds.specs.Values.{held_of};
+ghost use Rattle.settings.specs.Values.{held_of};
 ghost use Rattle.executor.specs.Firing.{IsPlainBlock, IsStartOf, IsStated};
 
 use block_kinds::{Block, Held};

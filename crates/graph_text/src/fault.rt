@@ -55,24 +55,3 @@ impl<T: Drop> From<AllocFailed<T>> for FileFault {
         FileFault::Memory
     }
 }
-
-#[cfg(test)]
-mod tests {
-    use super::*;
-    use std::test::Fail;
-
-    #[test]
-    fn faults_have_numbers_and_texts(rt: HostRuntime) -> Result<(), Fail> {
-        assert_eq!(rt; FileFault::Syntax.number(), 40);
-        assert_eq!(rt; FileFault::from(AllocError).number(), 32);
-        assert_eq!(rt;
-            FileFault::Syntax.to_string(rt.alloc())?.as_str(),
-            "no graph file"
-        );
-        assert_eq!(rt;
-            FileFault::Memory.to_string(rt.alloc())?.as_str(),
-            "out of memory"
-        );
-        Ok(())
-    }
-}

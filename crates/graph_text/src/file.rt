@@ -54,6 +54,3 @@ fn read_graph(alloc: Global, table: &Table) -> Result<Valid<Kind>, FileFault>
         None => Err(FileFault::Syntax),
     }
 }
-
-#[cfg(test)]
-mod tests;

@@ -48,24 +48,3 @@ impl From<AllocError> for ItemFault {
         ItemFault::Memory
     }
 }
-
-#[cfg(test)]
-mod tests {
-    use super::*;
-    use std::test::Fail;
-
-    #[test]
-    fn faults_have_numbers_and_texts(rt: HostRuntime) -> Result<(), Fail> {
-        assert_eq!(rt; ItemFault::ItemRange.number(), 24);
-        assert_eq!(rt; ItemFault::from(AllocError).number(), 32);
-        assert_eq!(rt;
-            ItemFault::ItemRange.to_string(rt.alloc())?.as_str(),
-            "out of range"
-        );
-        assert_eq!(rt;
-            ItemFault::Memory.to_string(rt.alloc())?.as_str(),
-            "out of memory"
-        );
-        Ok(())
-    }
-}

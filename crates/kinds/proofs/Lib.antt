@@ -1,2 +1,1 @@
 pub mod SourceWork
-pub mod TestWork

@@ -133,6 +133,3 @@ impl From<VectorSink> for Kind {
         Kind::VectorSink(block)
     }
 }
-
-#[cfg(test)]
-mod tests;

@@ -3,7 +3,7 @@ ghost use Rattle.std.specs.Prelude.{◌≡◌, ◌+◌, ◌^◌, ◌<◌, ◌≤
 ghost use Rattle.stream_model.specs.Numbers.{IsItem, least_of, greatest_of};
 ghost use Rattle.stream_model.specs.Kinds.Math.{add_const};
 ghost use Rattle.items.specs.Items.{type_of, numbers_of, spare_of};
-ghost use Rattle.block_kinds.specs.Values.{held_of};
+ghost use Rattle.settings.specs.Values.{held_of};
 ghost use Rattle.math_blocks.specs.Stretch.{AreOver, added};
 
 use crate::stretch::add_held;
@@ -152,6 +152,3 @@ impl Block for AddConst {
 
     ghost same = { meaning_of-same };
 }
-
-#[cfg(test)]
-mod tests;

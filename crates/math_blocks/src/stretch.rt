@@ -1,7 +1,7 @@
 //! Stretches of items between two settings.
 ghost use Rattle.std.specs.Prelude.{◌≡◌, ◌+◌, ◌^◌, ◌<◌, ◌≤◌, ◌++◌, length, map, drop, vec_len, vec_capacity};
 ghost use Rattle.stream_model.specs.Kinds.Shapes.{number_set};
-ghost use Rattle.block_kinds.specs.Values.{value_of, held_of};
+ghost use Rattle.settings.specs.Values.{value_of, held_of};
 ghost use Rattle.math_blocks.specs.Stretch.{AreOver, added, end_before};
 
 use crate::lane::{Lane, add_to_each};

@@ -19,6 +19,3 @@ pub use parse::parse_line;
 pub use reply::Reply;
 pub use script::{last_line, next_line};
 pub use splitter::{LineSplitter, Taken};
-
-#[cfg(test)]
-mod tests;

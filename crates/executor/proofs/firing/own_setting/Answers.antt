@@ -1,6 +1,6 @@
 use Rattle.std.proofs.Common.{ap, sym, ◌∙◌}
 use Rattle.std.specs.Option.{option_map}
-use Rattle.block_kinds.specs.Values.{value_of}
+use Rattle.settings.specs.Values.{value_of}
 use Rattle.executor.proofs.Works.{own_setting-some}
 use Rattle.executor.proofs.firing.own_setting.Goals as goal
 

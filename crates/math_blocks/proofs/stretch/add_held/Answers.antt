@@ -1,6 +1,6 @@
 use Rattle.std.proofs.Common.{◌≡◌, ◌+◌, ◌++◌, length, map, arith, rules, FitsSigned, w64, length-take, length-drop}
 use Rattle.std.proofs.lemmas.Int.{to_z-of_z}
-use Rattle.block_kinds.specs.Values.{held_of}
+use Rattle.settings.specs.Values.{held_of}
 use Rattle.math_blocks.specs.Stretch.{added}
 use Rattle.math_blocks.proofs.StretchLemmas.{next_stretch, write_stretch, written_all, left-start}
 use Rattle.math_blocks.proofs.stretch.add_held.Goals as goal

@@ -1,5 +1,5 @@
 use Rattle.std.proofs.Common.{◌≡◌, ◌+◌, ◌-◌, ◌≤◌, ◌++◌, map, drop, vec_len, vec_capacity}
-use Rattle.block_kinds.specs.Values.{held_of}
+use Rattle.settings.specs.Values.{held_of}
 use Rattle.math_blocks.specs.Stretch.{AreOver, added}
 use Rattle.math_blocks.proofs.StretchLemmas.{left}
 use Rattle.math_blocks.proofs.stretch.add_held.Given as goal

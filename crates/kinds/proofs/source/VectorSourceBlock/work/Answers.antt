@@ -2,7 +2,7 @@ use Rattle.std.proofs.Common.{◌≡◌, ◌<◌, ◌≤◌, ◌++◌, length, m
 use Rattle.std.proofs.lemmas.List.{get_or-map, length-map}
 use Rattle.stream_model.specs.Meaning.{given_items}
 use Rattle.items.specs.Items.{type_of, numbers_of}
-use Rattle.block_kinds.specs.Values.{held_of}
+use Rattle.settings.specs.Values.{held_of}
 use Rattle.math_blocks.proofs.Windows.{only_output, only_output-same}
 use Rattle.kinds.specs.Ends.{source_meaning}
 use Rattle.kinds.proofs.SourceWork.{window-given}

@@ -2,7 +2,7 @@ use Rattle.std.proofs.Common.{◌≡◌, ◌+◌, ◌++◌, length, map, get_or,
 use Rattle.std.proofs.lemmas.List.{get_or-map, length-map}
 use Rattle.stream_model.specs.Meaning.{given_items}
 use Rattle.items.specs.Items.{type_of, numbers_of}
-use Rattle.block_kinds.specs.Values.{held_of}
+use Rattle.settings.specs.Values.{held_of}
 use Rattle.math_blocks.specs.AddConst.{meaning_of}
 use Rattle.math_blocks.specs.Stretch.{added}
 use Rattle.math_blocks.proofs.AddConstWork.{are_over, added-given}
