@@ -1,5 +1,5 @@
 -- Parts of two lists, one behind the other.
-use Rattle.std.proofs.Common.{◌≡◌, ℕ, zero, suc, ◌+◌, ◌-◌, ◌≤◌, min, ◌∙◌, ap, sym, refl, inl, inr, List, ◌∷◌, ◌++◌, length, map, take, drop, slice_range, arith, length-drop}
+use Rattle.std.proofs.Common.{◌≡◌, ℕ, ◌+◌, ◌-◌, ◌≤◌, min, ◌∙◌, ap, sym, inl, inr, List, ◌++◌, length, map, take, drop, slice_range, arith, length-drop}
 use Rattle.std.proofs.lemmas.Bool.{cases_lt}
 use Rattle.std.proofs.lemmas.List.{append-nil, append_assoc, drop-append-le, take-append-le, drop_all, take_all, take_min, drop_min, map-append, drop-map, length-map}
 use Rattle.std.proofs.Math.Seq.{drop-append-add, take-append-add}
