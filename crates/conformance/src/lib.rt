@@ -8,13 +8,19 @@ mod additions;
 #[cfg(test)]
 mod any_blocks;
 #[cfg(test)]
+mod arithmetic;
+#[cfg(test)]
 mod faults;
+#[cfg(test)]
+mod filters;
 #[cfg(test)]
 mod graph_files;
 #[cfg(test)]
 mod keys;
 #[cfg(test)]
 mod output_buffers;
+#[cfg(test)]
+mod packed_bytes;
 #[cfg(test)]
 mod rings;
 #[cfg(test)]

@@ -1,0 +1,10 @@
+pub mod Blocks
+pub mod Capped
+pub mod ByteDifferences
+pub mod Lists
+pub mod Neighbours
+pub mod PackedBits
+pub mod Products
+pub mod Rounded
+pub mod Signed
+pub mod Taps

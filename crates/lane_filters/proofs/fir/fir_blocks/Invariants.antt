@@ -1,0 +1,8 @@
+use Rattle.std.proofs.Common.{◌≡◌, ◌*◌, map, take}
+use Rattle.stream_model.specs.Kernels.{listed}
+use Rattle.lane_filters.specs.Words.{output}
+use Rattle.lane_filters.proofs.fir.fir_blocks.Given as goal
+
+abbrev pub invariant-loop-pair : goal.invariant-loop-pair
+invariant-loop-pair g l =
+    take (16 * l.pair) (map g.T.Lane.number l.out) ≡ listed (16 * l.pair) (output g.T.Lane.kind l.h (map g.T.Lane.number l.x) l.shift)

@@ -1,0 +1,45 @@
+-- Words of the contracts on vectors.
+use Rattle.std.specs.Prelude.{ℕ, zero, suc, ◌+◌, ◌-◌, ◌*◌, ◌/◌, ◌%◌, ◌^◌, slice_index, ◌≤◌, ℤ, pos, ◌*ℤ◌, ◌-ℤ◌, List, length, map}
+use Rattle.std.specs.Int.RustNames.{unsigned_abs}
+use Rattle.std.specs.Simd.Lanes.{Each1}
+use Rattle.stream_model.specs.Kernels.{sum_below, previous}
+use Rattle.stream_model.specs.Lists.{item, numbers_from}
+use Rattle.stream_model.specs.Numbers.{sat, rnd, residue}
+use Rattle.stream_model.specs.declared.vocabulary.ItemType.{ItemType}
+
+-- each number is at most so far from 0
+abbrev pub AreWithin : ℕ → List ℤ → Type 0
+AreWithin most xs = Each1 (λ z. unsigned_abs z ≤ most) xs
+
+-- the products of the first so many taps and their items, at output n, summed
+abbrev pub tap_sum : List ℤ → List ℤ → ℕ → ℕ → ℤ
+tap_sum h x count n = sum_below count (λ j. item h j *ℤ item x (n + length h - 1 - j))
+
+-- those sums at eight outputs, the first at output `at`
+abbrev pub tap_sums : List ℤ → List ℤ → ℕ → ℕ → List ℤ
+tap_sums h x count at = map (tap_sum h x count) (numbers_from at 8)
+
+-- the output that those sums of all taps give
+abbrev pub output : ItemType → List ℤ → List ℤ → ℕ → ℕ → ℤ
+output t h x shift n = sat t (rnd (tap_sum h x (length h) n) shift)
+
+-- the product of tap j and item j
+abbrev pub tap_product : List ℤ → List ℤ → ℕ → ℤ
+tap_product h x j = item h j *ℤ item x j
+
+-- two bytes' difference modulo m
+abbrev pub byte_difference : ℕ → ℕ → ℕ → ℕ
+byte_difference m now past = residue (pos now -ℤ pos past) m
+
+-- item n of the decoded differences
+abbrev pub decoded : ℕ → ℤ → List ℤ → ℕ → ℤ
+decoded m before x n = pos (residue (item x n -ℤ previous before x n) m)
+
+-- the number whose bits are the lowest bits of the first so many items, the first highest
+abbrev pub first_bits : List ℕ → ℕ → ℕ
+first_bits x zero = 0
+first_bits x (suc n) = 2 * first_bits x n + slice_index x n % 2
+
+-- bit j of the lowest k bits of a byte, counted from the highest
+abbrev pub bit_of : ℕ → ℕ → ℕ → ℕ
+bit_of k byte j = byte / 2 ^ (k - 1 - j) % 2

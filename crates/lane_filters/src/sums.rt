@@ -1,0 +1,68 @@
+//! Sums in lanes.
+ghost use Rattle.std.specs.Prelude.{◌≡◌, ◌+◌, ◌-◌, ◌≤◌, ◌^◌, ◌+ℤ◌, ◌*ℤ◌, pos, ◌==◌, if◌then◌else◌, map};
+ghost use Rattle.std.specs.Int.RustNames.{unsigned_abs};
+ghost use Rattle.std.specs.Simd.Lanes.{zip2};
+ghost use Rattle.stream_model.specs.Numbers.{rnd, total};
+ghost use Rattle.lane_filters.specs.Words.{AreWithin};
+
+use lanes::Lane;
+use std::simd::prelude::*;
+
+/// The sums, lane by lane.
+#[inline(always)]
+pub(crate) fn added(a: i64x8, b: i64x8) -> i64x8
+    requires left { AreWithin (2 ^ 60) a }
+    requires right { AreWithin (2 ^ 60) b }
+    ensures { result ≡ zip2 (λ x y. x +ℤ y) a b }
+{
+    a.strict_add(b)
+}
+
+/// The sum of the lanes.
+pub(crate) fn lane_total(sums: i64x8) -> i64
+    requires { AreWithin (2 ^ 58) sums }
+    ensures { result ≡ total sums }
+{
+    sums.strict_reduce_sum()
+}
+
+/// The sum with the product of a tap and an item.
+#[inline(always)]
+pub(crate) fn with_product<T: Lane>(sum: i64, tap: i16, item: T) -> i64
+    requires { unsigned_abs sum ≤ 2 ^ 60 }
+    ensures value { result ≡ sum +ℤ (tap *ℤ T.number item) }
+    ensures within { unsigned_abs result ≤ unsigned_abs sum + 2 ^ 46 }
+{
+    sum + i64::from(tap) * item.widen()
+}
+
+/// Half of what a shift divides by.
+#[inline(always)]
+fn half_of(shift: u32) -> i64
+    requires { shift ≤ 31 }
+    ensures { result ≡ (if shift == 0 then pos 0 else pos (2 ^ (shift - 1))) }
+{
+    if shift == 0 { 0 } else { 1 << (shift - 1) }
+}
+
+/// The sum over `2 ^ shift`, a half upwards.
+#[inline(always)]
+pub(crate) fn rounded(sum: i64, shift: u32) -> i64
+    requires shift { shift ≤ 31 }
+    requires sum { unsigned_abs sum ≤ 2 ^ 60 }
+    ensures { result ≡ rnd sum shift }
+{
+    (sum + half_of(shift)) >> shift
+}
+
+/// Each sum over `2 ^ shift`, a half upwards.
+#[inline(always)]
+pub(crate) fn rounded_lanes(sums: i64x8, shift: u32) -> i64x8
+    requires shift { shift ≤ 31 }
+    requires sums { AreWithin (2 ^ 60) sums }
+    ensures value { result ≡ map (λ z. rnd z shift) sums }
+    ensures within { AreWithin (2 ^ 61) result }
+{
+    let halves = i64x8::splat(half_of(shift));
+    sums.strict_add(halves) >> i64x8::splat(i64::from(shift))
+}

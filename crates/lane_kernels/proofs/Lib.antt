@@ -1,0 +1,10 @@
+pub mod ByteLanes
+pub mod Converted
+pub mod Lanes
+pub mod Listed
+pub mod Parts
+pub mod Products
+pub mod Rounding
+pub mod Scaled
+pub mod SignedLanes
+pub mod Wrapped

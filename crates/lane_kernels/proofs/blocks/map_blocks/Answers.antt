@@ -1,0 +1,25 @@
+use Rattle.std.proofs.Common.{◌≡◌, ◌+◌, ◌-◌, ◌*◌, ◌∙◌, length, map, arith}
+use Rattle.std.proofs.lemmas.List.{length-map}
+use Rattle.lane_kernels.proofs.Parts.{part_map, stepped, ended, sooner}
+use Rattle.lane_kernels.proofs.blocks.map_blocks.Goals as goal
+
+pub loop-i-preserved : goal.loop-i-preserved
+loop-i-preserved g c =
+    let f = g.M.MapBlock.means c.args.op.now in
+    let a = c.args.a.now in
+    let at = c.loop-i.i * 32 in
+    stepped g.U.Lane.number (map f (map g.T.Lane.number a)) at ((c.loop-i.i + 1) * 32) _ (at + 32 - at) c.loop-i.out c.block.new.out
+    (omega arith) (omega (arith, length-map (map g.T.Lane.number a) f, length-map a g.T.Lane.number))
+    (omega (arith, length-map (map g.T.Lane.number a) f, length-map a g.T.Lane.number)) c.loop-i.invariant
+    (c.block.ensures ∙ part_map g.T.Lane.number f at (at + 32 - at) a)
+
+pub returns-then-a-gt0 : goal.returns-then-a-gt0
+returns-then-a-gt0 g c =
+    let f = g.M.MapBlock.means c.args.op.now in
+    let a = c.args.a.now in
+    let at = c.saturating_sub-at.result in
+    let long : length (map f (map g.T.Lane.number a)) ≡ length a = length-map (map g.T.Lane.number a) f ∙ length-map a g.T.Lane.number in
+    ended g.U.Lane.number (map f (map g.T.Lane.number a)) at _ (length a - at) c.loop-i.out c.map_rest.new.out
+    (omega (arith, long, c.saturating_sub-at.ensures)) (omega arith) (omega (arith, long))
+    (sooner g.U.Lane.number (map f (map g.T.Lane.number a)) at (c.loop-i.i * 32) c.loop-i.out (omega (arith, c.saturating_sub-at.ensures)) c.loop-i.invariant)
+    (c.map_rest.ensures ∙ part_map g.T.Lane.number f at (length a - at) a)

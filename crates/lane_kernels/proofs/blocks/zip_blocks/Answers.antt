@@ -1,0 +1,35 @@
+use Rattle.std.proofs.Common.{◌≡◌, ◌+◌, ◌-◌, ◌*◌, ◌∙◌, length, map, take, drop, ap, arith}
+use Rattle.std.specs.Simd.Lanes.{zip2}
+use Rattle.lane_kernels.proofs.Parts.{part_zip, length-zipped, stepped, ended, all_there, sooner}
+use Rattle.lane_kernels.proofs.blocks.zip_blocks.Goals as goal
+
+pub loop-i-preserved : goal.loop-i-preserved
+loop-i-preserved g c =
+    let number = g.T.Lane.number in
+    let f = g.Z.ZipBlock.means in
+    let a = c.args.a.now in
+    let b = c.args.b.now in
+    let at = c.loop-i.i * 32 in
+    let long : length (zip2 f (map number a) (map number b)) ≡ length a = length-zipped number f a b c.requires.b_length in
+    stepped number (zip2 f (map number a) (map number b)) at ((c.loop-i.i + 1) * 32) _ (at + 32 - at) c.loop-i.out c.block.new.out
+    (omega arith) (omega (arith, long)) (omega (arith, long)) c.loop-i.invariant
+    (c.block.ensures ∙ part_zip number f at (at + 32 - at) a b c.requires.b_length)
+
+pub returns-then-a-gt0 : goal.returns-then-a-gt0
+returns-then-a-gt0 g c =
+    let number = g.T.Lane.number in
+    let f = g.Z.ZipBlock.means in
+    let a = c.args.a.now in
+    let b = c.args.b.now in
+    let at = c.saturating_sub-at.result in
+    let long : length (zip2 f (map number a) (map number b)) ≡ length a = length-zipped number f a b c.requires.b_length in
+    ended number (zip2 f (map number a) (map number b)) at _ (length a - at) c.loop-i.out c.zip_rest.new.out
+    (omega (arith, long, c.saturating_sub-at.ensures)) (omega arith) (omega (arith, long))
+    (sooner number (zip2 f (map number a) (map number b)) at (c.loop-i.i * 32) c.loop-i.out (omega (arith, c.saturating_sub-at.ensures)) c.loop-i.invariant)
+    (c.zip_rest.ensures ∙ ap (λ k. zip2 f (map number (take (length a - at) (drop at a))) (map number (take (k - at) (drop at b)))) c.requires.b_length
+    ∙ part_zip number f at (length a - at) a b c.requires.b_length)
+
+pub returns-else-a-gt0 : goal.returns-else-a-gt0
+returns-else-a-gt0 g c =
+    let long = length-zipped g.T.Lane.number g.Z.ZipBlock.means c.args.a.now c.args.b.now c.requires.b_length in
+    all_there g.T.Lane.number _ (c.loop-i.i * 32) c.loop-i.out (omega arith) (omega (arith, long)) c.loop-i.invariant

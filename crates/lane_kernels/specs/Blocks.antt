@@ -1,0 +1,23 @@
+-- Blocks of items, and what logic makes of two numbers.
+use Rattle.std.specs.Prelude.{◌≡◌, ℕ, ◌≤◌, ℤ, pos, List, length, All, unsigned_abs, int_lt, if◌then◌else◌}
+use Rattle.stream_model.specs.Numbers.{IsItem, wrap}
+use Rattle.stream_model.specs.Kernels.{bits_in}
+use Rattle.stream_model.specs.declared.vocabulary.ItemType.{ItemType}
+use Rattle.lane_kernels.specs.declared.simd_lane.TheConstants.{LANES}
+
+-- as many items of the type as a block has
+pub record IsBlock {X : Type 0} (t : ItemType) (number : X → ℤ) (xs : List X) : Type 0 where
+  pub whole : length xs ≡ LANES
+  pub items : All (λ x. IsItem t (number x)) xs
+
+-- the number whose bits are those of x and y, joined bit for bit by op
+abbrev pub joined : (ℕ → ℕ → ℕ) → ItemType → ℤ → ℤ → ℤ
+joined op t x y = wrap t (pos (op (bits_in t x) (bits_in t y)))
+
+-- z is at most bound away from 0
+pub record IsWithin (bound : ℕ) (z : ℤ) : Type 0 where
+  pub near : unsigned_abs z ≤ bound
+
+-- z, or the nearer of two ends
+abbrev pub clamped : ℤ → ℤ → ℤ → ℤ
+clamped least greatest z = if int_lt z least then least else if int_lt greatest z then greatest else z

@@ -1,0 +1,97 @@
+//! Sums and products of items.
+ghost use Rattle.std.specs.Prelude.{◌≡◌, ◌≤◌, length, map, ◌+ℤ◌, ◌*ℤ◌};
+ghost use Rattle.stream_model.specs.Kernels;
+ghost use Rattle.stream_model.specs.Numbers.{wrap};
+
+use crate::SimdLane;
+use crate::blocks::{MapBlock, ZipBlock, map_blocks, zip_blocks};
+
+struct Sum;
+
+impl<T: SimdLane> ZipBlock<T> for Sum {
+    ghost means = { λ x y. wrap T.kind (x +ℤ y) };
+
+    fn block(a: &[T], b: &[T], out: &mut [T]) {
+        T::add_block(a, b, out);
+    }
+}
+
+#[derive(Drop)]
+struct Offset<T> {
+    by: T,
+}
+
+impl<T: SimdLane> MapBlock<T, T> for Offset<T> {
+    ghost means = { λ s x. wrap T.kind (x +ℤ T.number s.by) };
+
+    fn block(&self, a: &[T], out: &mut [T]) {
+        T::add_const_block(a, self.by, out);
+    }
+}
+
+#[derive(Drop)]
+struct Multiple<T> {
+    by: T,
+}
+
+impl<T: SimdLane> MapBlock<T, T> for Multiple<T> {
+    ghost means = { λ s x. wrap T.kind (x *ℤ T.number s.by) };
+
+    fn block(&self, a: &[T], out: &mut [T]) {
+        T::mul_block(a, self.by, out);
+    }
+}
+
+#[derive(Drop)]
+struct Scaling {
+    factor: i16,
+    shift: u32,
+    ghost in_range: { shift ≤ 31 },
+}
+
+impl<T: SimdLane> MapBlock<T, T> for Scaling {
+    ghost means = { λ s x. Kernels.scaled T.kind s.factor s.shift x };
+
+    fn block(&self, a: &[T], out: &mut [T]) {
+        T::scale_block(a, self.factor, self.shift, out);
+    }
+}
+
+/// Adds the items of `a` and `b`, wrapping where a sum leaves the type's range.
+#[tactic(auto, using(crate::proofs::Listed::zipped_is_listed))]
+pub fn add_wrap<T: SimdLane>(a: &[T], b: &[T], out: &mut [T])
+    requires same_length { length a.now ≡ length b.now }
+    requires out_length { length out.old ≡ length a.now }
+    ensures { map T.number out.new ≡ Kernels.add_wrap T.kind (map T.number a.now) (map T.number b.now) }
+{
+    zip_blocks::<T, Sum>(a, b, out);
+}
+
+/// Adds `c` to each item, wrapping where a sum leaves the type's range.
+#[tactic(auto, using(crate::proofs::Listed::mapped_is_listed))]
+pub fn add_const_wrap<T: SimdLane>(a: &[T], c: T, out: &mut [T])
+    requires { length out.old ≡ length a.now }
+    ensures { map T.number out.new ≡ Kernels.add_const_wrap T.kind (map T.number a.now) (T.number c) }
+{
+    map_blocks(&Offset { by: c }, a, out);
+}
+
+/// Multiplies each item by `c`, wrapping where a product leaves the type's range.
+#[tactic(auto, using(crate::proofs::Listed::mapped_is_listed))]
+pub fn mul_wrap<T: SimdLane>(a: &[T], c: T, out: &mut [T])
+    requires { length out.old ≡ length a.now }
+    ensures { map T.number out.new ≡ Kernels.mul_wrap T.kind (map T.number a.now) (T.number c) }
+{
+    map_blocks(&Multiple { by: c }, a, out);
+}
+
+/// Multiplies each item by `factor` and divides by two to the power of `shift`, to the nearest
+/// number of the type, a half upwards.
+#[tactic(auto, using(crate::proofs::Listed::mapped_is_listed))]
+pub fn scale_sat<T: SimdLane>(a: &[T], factor: i16, shift: u32, out: &mut [T])
+    requires in_range { shift ≤ 31 }
+    requires out_length { length out.old ≡ length a.now }
+    ensures { map T.number out.new ≡ Kernels.scale_sat T.kind (map T.number a.now) factor shift }
+{
+    map_blocks(&Scaling { factor, shift }, a, out);
+}

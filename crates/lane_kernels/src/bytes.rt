@@ -1,0 +1,48 @@
+//! Blocks of bytes.
+ghost use Rattle.std.proofs.Common.{rules};
+
+use crate::scaling::scaled;
+use crate::{LANES, SimdLane};
+use std::simd::prelude::*;
+
+type Block = Simd<u8, LANES>;
+
+impl SimdLane for u8 {
+    fn add_block(a: &[u8], b: &[u8], out: &mut [u8]) {
+        (Block::from_slice(a) + Block::from_slice(b)).copy_to_slice(out);
+    }
+
+    fn add_const_block(a: &[u8], c: u8, out: &mut [u8]) {
+        (Block::from_slice(a) + Block::splat(c)).copy_to_slice(out);
+    }
+
+    fn mul_block(a: &[u8], c: u8, out: &mut [u8]) {
+        (Block::from_slice(a) * Block::splat(c)).copy_to_slice(out);
+    }
+
+    fn and_block(a: &[u8], b: &[u8], out: &mut [u8]) {
+        (Block::from_slice(a) & Block::from_slice(b)).copy_to_slice(out);
+    }
+
+    fn or_block(a: &[u8], b: &[u8], out: &mut [u8]) {
+        (Block::from_slice(a) | Block::from_slice(b)).copy_to_slice(out);
+    }
+
+    fn xor_block(a: &[u8], b: &[u8], out: &mut [u8]) {
+        (Block::from_slice(a) ^ Block::from_slice(b)).copy_to_slice(out);
+    }
+
+    fn not_block(a: &[u8], out: &mut [u8]) {
+        (!Block::from_slice(a)).copy_to_slice(out);
+    }
+
+    fn scale_block(a: &[u8], factor: i16, shift: u32, out: &mut [u8]) {
+        let factors = Simd::splat(i32::from(factor));
+        let products = Block::from_slice(a).cast::<i32>() * factors;
+        scaled(products, shift, 0, 255)
+            .cast::<u8>()
+            .copy_to_slice(out);
+    }
+
+    ghost is_small = { Prim.search rules };
+}

@@ -1,0 +1,48 @@
+//! Blocks of ints.
+ghost use Rattle.std.proofs.Common.{rules};
+
+use crate::scaling::scaled_wide;
+use crate::{LANES, SimdLane};
+use std::simd::prelude::*;
+
+type Block = Simd<i32, LANES>;
+
+impl SimdLane for i32 {
+    fn add_block(a: &[i32], b: &[i32], out: &mut [i32]) {
+        (Block::from_slice(a) + Block::from_slice(b)).copy_to_slice(out);
+    }
+
+    fn add_const_block(a: &[i32], c: i32, out: &mut [i32]) {
+        (Block::from_slice(a) + Block::splat(c)).copy_to_slice(out);
+    }
+
+    fn mul_block(a: &[i32], c: i32, out: &mut [i32]) {
+        (Block::from_slice(a) * Block::splat(c)).copy_to_slice(out);
+    }
+
+    fn and_block(a: &[i32], b: &[i32], out: &mut [i32]) {
+        (Block::from_slice(a) & Block::from_slice(b)).copy_to_slice(out);
+    }
+
+    fn or_block(a: &[i32], b: &[i32], out: &mut [i32]) {
+        (Block::from_slice(a) | Block::from_slice(b)).copy_to_slice(out);
+    }
+
+    fn xor_block(a: &[i32], b: &[i32], out: &mut [i32]) {
+        (Block::from_slice(a) ^ Block::from_slice(b)).copy_to_slice(out);
+    }
+
+    fn not_block(a: &[i32], out: &mut [i32]) {
+        (!Block::from_slice(a)).copy_to_slice(out);
+    }
+
+    fn scale_block(a: &[i32], factor: i16, shift: u32, out: &mut [i32]) {
+        let factors = Simd::splat(i64::from(factor));
+        let products = Block::from_slice(a).cast::<i64>() * factors;
+        scaled_wide(products, shift, -2147483648, 2147483647)
+            .cast::<i32>()
+            .copy_to_slice(out);
+    }
+
+    ghost is_small = { Prim.search rules };
+}

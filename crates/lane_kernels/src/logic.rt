@@ -1,0 +1,87 @@
+//! Logic on the bits of items.
+ghost use Rattle.std.specs.Prelude.{◌≡◌, length, map, bit_and, bit_or, bit_xor};
+ghost use Rattle.stream_model.specs.Kernels.{and_bits, or_bits, xor_bits, not_bits, turned};
+ghost use Rattle.lane_kernels.specs.Blocks.{joined};
+
+use crate::SimdLane;
+use crate::blocks::{MapBlock, ZipBlock, map_blocks, zip_blocks};
+
+struct Both;
+
+impl<T: SimdLane> ZipBlock<T> for Both {
+    ghost means = { joined bit_and T.kind };
+
+    fn block(a: &[T], b: &[T], out: &mut [T]) {
+        T::and_block(a, b, out);
+    }
+}
+
+struct Either;
+
+impl<T: SimdLane> ZipBlock<T> for Either {
+    ghost means = { joined bit_or T.kind };
+
+    fn block(a: &[T], b: &[T], out: &mut [T]) {
+        T::or_block(a, b, out);
+    }
+}
+
+struct OneAlone;
+
+impl<T: SimdLane> ZipBlock<T> for OneAlone {
+    ghost means = { joined bit_xor T.kind };
+
+    fn block(a: &[T], b: &[T], out: &mut [T]) {
+        T::xor_block(a, b, out);
+    }
+}
+
+#[derive(Drop)]
+struct Turn;
+
+impl<T: SimdLane> MapBlock<T, T> for Turn {
+    ghost means = { λ s. turned T.kind };
+
+    fn block(&self, a: &[T], out: &mut [T]) {
+        T::not_block(a, out);
+    }
+}
+
+/// The bits that both items have.
+#[tactic(auto, using(crate::proofs::Listed::zipped_is_listed))]
+pub fn and<T: SimdLane>(a: &[T], b: &[T], out: &mut [T])
+    requires same_length { length a.now ≡ length b.now }
+    requires out_length { length out.old ≡ length a.now }
+    ensures { map T.number out.new ≡ and_bits T.kind (map T.number a.now) (map T.number b.now) }
+{
+    zip_blocks::<T, Both>(a, b, out);
+}
+
+/// The bits that either item has.
+#[tactic(auto, using(crate::proofs::Listed::zipped_is_listed))]
+pub fn or<T: SimdLane>(a: &[T], b: &[T], out: &mut [T])
+    requires same_length { length a.now ≡ length b.now }
+    requires out_length { length out.old ≡ length a.now }
+    ensures { map T.number out.new ≡ or_bits T.kind (map T.number a.now) (map T.number b.now) }
+{
+    zip_blocks::<T, Either>(a, b, out);
+}
+
+/// The bits that one of two items has alone.
+#[tactic(auto, using(crate::proofs::Listed::zipped_is_listed))]
+pub fn xor<T: SimdLane>(a: &[T], b: &[T], out: &mut [T])
+    requires same_length { length a.now ≡ length b.now }
+    requires out_length { length out.old ≡ length a.now }
+    ensures { map T.number out.new ≡ xor_bits T.kind (map T.number a.now) (map T.number b.now) }
+{
+    zip_blocks::<T, OneAlone>(a, b, out);
+}
+
+/// The bits that each item lacks.
+#[tactic(auto, using(crate::proofs::Listed::mapped_is_listed))]
+pub fn not<T: SimdLane>(a: &[T], out: &mut [T])
+    requires { length out.old ≡ length a.now }
+    ensures { map T.number out.new ≡ not_bits T.kind (map T.number a.now) }
+{
+    map_blocks(&Turn, a, out);
+}
