@@ -117,7 +117,7 @@ cast_byte_asks = Each1-map (IsItem Byte) (λ u. T (non_neg (to_z w32 u)) × Fits
 -- a block that is scaled: `casts` are the lanes of a, cast to width w, and f is the factor
 module _ {X : Type 0} (t : ItemType) (w : Width) (number : X → ℤ) (cast : X → ℕ) (m : ℕ) (h : Widened t w number cast m)
     (factor f : ℤ) (short : SFits w16 factor) (is_factor : f ≡ factor)
-    (casts : List ℕ) (a : List X) (is_casts : casts ≡ map cast (take 32 a)) (p : IsBlock t number a) where
+    (casts : List ℕ) (a : List X) (is_casts : casts ≡ map cast (take 16 a)) (p : IsBlock t number a) where
   near : unsigned_abs factor ≤ 2 ^ 15
   near = omega (arith, abs-le-mag factor, short.sfits)
 
@@ -125,16 +125,16 @@ module _ {X : Type 0} (t : ItemType) (w : Width) (number : X → ℤ) (cast : X 
   fits = record { sfits = omega (arith, short.sfits, h.long) }
 
   abbrev input : List ℤ
-  input = map (to_z w) (zip2 (λ a b. (a * b) % 2 ^ bits w) casts (replicate 32 (of_z w f)))
+  input = map (to_z w) (zip2 (λ a b. (a * b) % 2 ^ bits w) casts (replicate 16 (of_z w f)))
 
   is_products : input ≡ map (λ x. number x *ℤ factor) a
   is_products =
-      let all : take 32 a ≡ a = take_all 32 a (omega (arith, p.whole)) in
+      let all : take 16 a ≡ a = take_all 16 a (omega (arith, p.whole)) in
       let lanes : casts ≡ map cast a = is_casts ∙ ap (map cast) all in
-      (λ i. map (to_z w) (zip2 (λ a b. (a * b) % 2 ^ bits w) (lanes i) (replicate 32 (of_z w (is_factor i)))))
-      ∙ products w number cast (λ x. IsItem t (number x)) h.is_cast m (2 ^ 15) h.within factor near h.wide h.one fits 32 a p.whole p.items
+      (λ i. map (to_z w) (zip2 (λ a b. (a * b) % 2 ^ bits w) (lanes i) (replicate 16 (of_z w (is_factor i)))))
+      ∙ products w number cast (λ x. IsItem t (number x)) h.is_cast m (2 ^ 15) h.within factor near h.wide h.one fits 16 a p.whole p.items
 
-  pub products_whole : length input ≡ 32
+  pub products_whole : length input ≡ 16
   products_whole = ap length is_products ∙ length-map a (λ x. number x *ℤ factor) ∙ p.whole
 
   pub products_small : All (IsWithin (m * 2 ^ 15)) input
@@ -146,7 +146,7 @@ module _ {X : Type 0} (t : ItemType) (w : Width) (number : X → ℤ) (cast : X 
         made ∙ ap (map (λ z. clamped (least_of t) (greatest_of t) (rnd z s))) is_products ∙ map-map (λ z. clamped (least_of t) (greatest_of t) (rnd z s)) (λ x. number x *ℤ factor) a
         ∙ sym (map-map (scaled t factor s) number a)
 
-    pub scaled_whole : length zs ≡ 32
+    pub scaled_whole : length zs ≡ 16
     scaled_whole = ap length numbers_scaled ∙ length-map (map number a) (scaled t factor s) ∙ length-map a number ∙ p.whole
 
     pub scaled_items : All (IsItem t) zs

@@ -9,7 +9,7 @@ ghost use Rattle.lane_kernels.specs.Blocks.{IsBlock, joined};
 use lanes::Lane;
 
 /// How many items a block has.
-pub const LANES: usize = 32;
+pub const LANES: usize = 16;
 
 /// A number type of items with operations on blocks of them.
 pub trait SimdLane: Lane {

@@ -9,11 +9,11 @@ loop-i-preserved g c =
     let f = g.Z.ZipBlock.means in
     let a = c.args.a.now in
     let b = c.args.b.now in
-    let at = c.loop-i.i * 32 in
+    let at = c.loop-i.i * 16 in
     let long : length (zip2 f (map number a) (map number b)) ≡ length a = length-zipped number f a b c.requires.b_length in
-    stepped number (zip2 f (map number a) (map number b)) at ((c.loop-i.i + 1) * 32) _ (at + 32 - at) c.loop-i.out c.block.new.out
+    stepped number (zip2 f (map number a) (map number b)) at ((c.loop-i.i + 1) * 16) _ (at + 16 - at) c.loop-i.out c.block.new.out
     (omega arith) (omega (arith, long)) (omega (arith, long)) c.loop-i.invariant
-    (c.block.ensures ∙ part_zip number f at (at + 32 - at) a b c.requires.b_length)
+    (c.block.ensures ∙ part_zip number f at (at + 16 - at) a b c.requires.b_length)
 
 pub returns-then-a-gt0 : goal.returns-then-a-gt0
 returns-then-a-gt0 g c =
@@ -25,11 +25,11 @@ returns-then-a-gt0 g c =
     let long : length (zip2 f (map number a) (map number b)) ≡ length a = length-zipped number f a b c.requires.b_length in
     ended number (zip2 f (map number a) (map number b)) at _ (length a - at) c.loop-i.out c.zip_rest.new.out
     (omega (arith, long, c.saturating_sub-at.ensures)) (omega arith) (omega (arith, long))
-    (sooner number (zip2 f (map number a) (map number b)) at (c.loop-i.i * 32) c.loop-i.out (omega (arith, c.saturating_sub-at.ensures)) c.loop-i.invariant)
+    (sooner number (zip2 f (map number a) (map number b)) at (c.loop-i.i * 16) c.loop-i.out (omega (arith, c.saturating_sub-at.ensures)) c.loop-i.invariant)
     (c.zip_rest.ensures ∙ ap (λ k. zip2 f (map number (take (length a - at) (drop at a))) (map number (take (k - at) (drop at b)))) c.requires.b_length
     ∙ part_zip number f at (length a - at) a b c.requires.b_length)
 
 pub returns-else-a-gt0 : goal.returns-else-a-gt0
 returns-else-a-gt0 g c =
     let long = length-zipped g.T.Lane.number g.Z.ZipBlock.means c.args.a.now c.args.b.now c.requires.b_length in
-    all_there g.T.Lane.number _ (c.loop-i.i * 32) c.loop-i.out (omega arith) (omega (arith, long)) c.loop-i.invariant
+    all_there g.T.Lane.number _ (c.loop-i.i * 16) c.loop-i.out (omega arith) (omega (arith, long)) c.loop-i.invariant

@@ -9,4 +9,4 @@ returns c =
     let first = c.args.shift - last in
     scaled_lanes w32 tops_32 c.args.least c.args.greatest c.ranges.least c.ranges.greatest c.requires.ordered c.args.shift (IsWithin (2 ^ 30))
     (λ u. shift w32 (raise w32 (shift w32 u first) last) last) (narrow_lane w32 c.args.shift (2 ^ 30) last c.min-last.ensures (omega arith))
-    32 (narrow w32 first last 32) (narrow_lanes w32 first last 32) c.args.products c.requires.whole c.requires.small
+    16 (narrow w32 first last 16) (narrow_lanes w32 first last 16) c.args.products c.requires.whole c.requires.small

@@ -10,4 +10,4 @@ returns c =
     let is_half : half ≡ 2 ^ s / 2 = half_of s c.requires.in_range in
     scaled_lanes w64 tops_64 c.args.least c.args.greatest c.ranges.least c.ranges.greatest c.requires.ordered s (IsWithin (2 ^ 46))
     (λ u. shift w64 (raise w64 u half) s) (wide_lane w64 s (2 ^ 46) half is_half (omega arith))
-    32 (wide w64 half s 32) (wide_lanes w64 half s 32) c.args.wide c.requires.whole c.requires.small
+    16 (wide w64 half s 16) (wide_lanes w64 half s 16) c.args.wide c.requires.whole c.requires.small

@@ -24,7 +24,7 @@ overflow_cast-out c =
 pub returns : goal.returns
 returns c =
     ap (λ ys. map pos (put_chunk 0 c.args.out.now ys)) (map-map (λ u. unsigned_abs (to_z w32 u)) (of_z w32) c.scaled.result)
-    ∙ restored pos (λ z. unsigned_abs (to_z w32 (of_z w32 z))) Byte byte_back 32 c.args.out.now c.requires.out_block c.scaled.result
+    ∙ restored pos (λ z. unsigned_abs (to_z w32 (of_z w32 z))) Byte byte_back 16 c.args.out.now c.requires.out_block c.scaled.result
     (scaled_whole Byte w32 pos (λ x. x) (2 ^ 15) byte_wide c.args.factor c.from-factors.result c.ranges.factor (c.from-factors.ensures ∙ to_z-of_z w16 c.args.factor c.ranges.factor)
     _ c.args.a.now refl c.requires.a_block c.args.shift c.scaled.result c.scaled.ensures)
     (scaled_items Byte w32 pos (λ x. x) (2 ^ 15) byte_wide c.args.factor c.from-factors.result c.ranges.factor (c.from-factors.ensures ∙ to_z-of_z w16 c.args.factor c.ranges.factor)

@@ -8,10 +8,10 @@ use Rattle.lane_kernels.proofs.conversion.I32NarrowsToU8.narrow_block.Goals as g
 
 pub overflow_cast-out : goal.overflow_cast-out
 overflow_cast-out c =
-    byte_asks w32 (omega arith) (map (of_z w32) (take 32 c.args.a.now))
+    byte_asks w32 (omega arith) (map (of_z w32) (take 16 c.args.a.now))
 
 pub returns : goal.returns
 returns c =
-    stored_map (λ (z : ℤ). z) pos (IsItem Int) 32 c.args.out.now c.requires.out_block (λ xs. map (λ u. unsigned_abs (to_z w32 u)) (zip2 bit_and (map (of_z w32) xs) (replicate 32 255)))
-    (λ z. unsigned_abs (to_z w32 (bit_and (of_z w32 z) 255))) (wrap Byte) (splat_of_bits (of_z w32) (λ u. unsigned_abs (to_z w32 u)) bit_and 255 32) int_to_byte
+    stored_map (λ (z : ℤ). z) pos (IsItem Int) 16 c.args.out.now c.requires.out_block (λ xs. map (λ u. unsigned_abs (to_z w32 u)) (zip2 bit_and (map (of_z w32) xs) (replicate 16 255)))
+    (λ z. unsigned_abs (to_z w32 (bit_and (of_z w32 z) 255))) (wrap Byte) (splat_of_bits (of_z w32) (λ u. unsigned_abs (to_z w32 u)) bit_and 255 16) int_to_byte
     c.args.a.now c.requires.a_block.whole c.requires.a_block.items
