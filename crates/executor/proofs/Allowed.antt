@@ -1,5 +1,5 @@
 -- How often the streams of a chain allow a block to fire.
-use Rattle.std.proofs.Common.{◌≡◌, ℕ, zero, suc, ◌*◌, ◌<◌, ◌≤◌, true, List, [], ◌∷◌, ℤ, length, Option, Some, None, refl, arith, ap, sym, ◌∙◌, subst, inl, inr, one-mul}
+use Rattle.std.proofs.Common.{◌≡◌, ℕ, zero, suc, ◌*◌, ◌<◌, ◌≤◌, true, List, [], ◌∷◌, ℤ, length, map, Option, Some, None, refl, arith, ap, sym, ◌∙◌, subst, inl, inr, one-mul}
 use Rattle.std.specs.Prelude.{◌⊎◌}
 use Rattle.std.proofs.lemmas.Bool.{cases_lt, leb-true}
 use Rattle.stream_model.specs.declared.vocabulary.Role.{Role}
@@ -37,48 +37,48 @@ module _ (net : Network) (chain : IsPlainChain net) where
   entering-one hs zero in' = rw (entering-first net chain hs) refl
   entering-one hs (suc b) in' = rw (entering-next net chain hs b in') refl
 
-  fires-few : (b : ℕ) (x : List ℤ) → b < length net.nodes → fires (node_at net b) (x ∷ []) ≤ length x
+  fires-few : (b : ℕ) (x : List ℤ) → b < length net.nodes → fires (node_at net b) (length x ∷ []) ≤ length x
   fires-few b x in' =
-      rw (taken-plain net chain b (fires (node_at net b) (x ∷ [])) in') at
-      (fires-holds (node_at net b) (chain-sound net chain b) (x ∷ []) (fires (node_at net b) (x ∷ [])) 0 (omega arith) (omega arith))
+      rw (taken-plain net chain b (fires (node_at net b) (length x ∷ [])) in') at
+      (fires-holds (node_at net b) (chain-sound net chain b) (x ∷ []) (fires (node_at net b) (length x ∷ [])) 0 (omega arith) (omega arith))
 
   -- a count is the greatest where the stream has its items, the limit allows it, and either has no more
   pub fires-is : (b k : ℕ) (x : List ℤ) → b < length net.nodes → k ≤ length x → within_limit (node_at net b).meaning.limit k ≡ true →
-      (is_at_limit k (node_at net b).meaning.limit ≡ true) ⊎ (length x ≤ k) → k ≡ fires (node_at net b) (x ∷ [])
+      (is_at_limit k (node_at net b).meaning.limit ≡ true) ⊎ (length x ≤ k) → k ≡ fires (node_at net b) (length x ∷ [])
   fires-is b k x in' there within over =
-      let low : k ≤ fires (node_at net b) (x ∷ []) =
+      let low : k ≤ fires (node_at net b) (length x ∷ []) =
       fires-reaches (node_at net b) (chain-sound net chain b) (x ∷ []) k (omega arith) (λ p i. let first : p ≡ 0 = omega arith in rw (first, taken-plain net chain b k in') there) within in
       let few = fires-few b x in' in
       elim over [
-        | inl limited ↦ (let high = at_limit-most (node_at net b).meaning.limit k (fires (node_at net b) (x ∷ [])) limited
-            (λ some. fires-within (node_at net b) (chain-sound net chain b) (x ∷ []) (fires (node_at net b) (x ∷ [])) some (omega arith)) in omega arith)
+        | inl limited ↦ (let high = at_limit-most (node_at net b).meaning.limit k (fires (node_at net b) (length x ∷ [])) limited
+            (λ some. fires-within (node_at net b) (chain-sound net chain b) (x ∷ []) (fires (node_at net b) (length x ∷ [])) some (omega arith)) in omega arith)
         | inr whole ↦ omega arith
       ]
 
   -- without a limit, the whole stream
-  fires-whole : (hs : List Handed) (b : ℕ) → b < length net.nodes → (node_at net b).meaning.limit ≡ None → fires (node_at net b) (entering net hs b) ≡ length (input (entering net hs b) 0)
+  fires-whole : (hs : List Handed) (b : ℕ) → b < length net.nodes → (node_at net b).meaning.limit ≡ None → fires (node_at net b) (map length (entering net hs b)) ≡ length (input (entering net hs b) 0)
   fires-whole hs b in' none =
       let x = input (entering net hs b) 0 in
-      ap (fires (node_at net b)) (entering-one hs b in')
+      ap (λ xs. fires (node_at net b) (map length xs)) (entering-one hs b in')
       ∙ sym (fires-is b (length x) x in' (omega arith) (within-none (node_at net b).meaning.limit (length x) none) (inr (omega arith)))
 
-  pub fires-source : (hs : List Handed) → fires (node_at net 0) (entering net hs 0) ≡ length (handed_at hs 0).tape
+  pub fires-source : (hs : List Handed) → fires (node_at net 0) (map length (entering net hs 0)) ≡ length (handed_at hs 0).tape
   fires-source hs =
       let long = chain.long in
       let member : 0 < length net.nodes = omega arith in
       let role = subst (KeepsRole (node_at net 0).meaning) chain.source (chain.lawful 0 member).role in
       fires-whole hs 0 member role.plain.1 ∙ rw (entering-first net chain hs) refl
 
-  pub fires-sink : (hs : List Handed) (b : ℕ) → suc b ≡ length net.nodes → fires (node_at net b) (entering net hs b) ≡ length (input (entering net hs b) 0)
+  pub fires-sink : (hs : List Handed) (b : ℕ) → suc b ≡ length net.nodes → fires (node_at net b) (map length (entering net hs b)) ≡ length (input (entering net hs b) 0)
   fires-sink hs b last =
       let member : b < length net.nodes = omega arith in
       fires-whole hs b member (sink_unlimited (node_at net b).meaning (role_at net b) (chain.sink b last) (chain.lawful b member).role)
 
   -- a block gives an item a firing
-  pub length-items : (hs : List Handed) (b : ℕ) → b < length net.nodes → length (items_of net hs b 0) ≡ fires (node_at net b) (entering net hs b)
+  pub length-items : (hs : List Handed) (b : ℕ) → b < length net.nodes → length (items_of net hs b 0) ≡ fires (node_at net b) (map length (entering net hs b))
   length-items hs zero in' = ap length (items-first net chain hs) ∙ sym (fires-source hs)
   length-items hs (suc b) in' =
-      let count = fires (node_at net (suc b)) (entering net hs (suc b)) in
+      let count = fires (node_at net (suc b)) (map length (entering net hs (suc b))) in
       ap length (items-next net chain hs b in')
       ∙ length-given_items (node_at net (suc b)).meaning (chain.lawful (suc b) in') (handed_at hs (suc b)).settings (entering net hs (suc b)) 0 ((node_at net (suc b)).multiple * count)
       ∙ meaning_given-plain net chain (suc b) ((node_at net (suc b)).multiple * count) in'

@@ -29,7 +29,7 @@ module _ (net : Network) (caps : Capacities) (blocks : ℕ) (tape : Items) (clos
       rw set-get_or at (keeps-fires b n p y (get_or words b 0) buffers' can done fires numbers types)
 
   -- a block that may end is marked done, with its count as it was
-  pub keeps-ended : (b : ℕ) (p : Progress) → CanEnd net (state_of tape closed blocks progress) b → p.firings ≡ (progress_at (map progress_of progress) b).firings → p.done ≡ true → Keeps net caps blocks tape closed (set progress b p) buffers words
+  pub keeps-ended : (b : ℕ) (p : Progress) → CanEnd net caps (state_of tape closed blocks progress) b → p.firings ≡ (progress_at (map progress_of progress) b).firings → p.done ≡ true → Keeps net caps blocks tape closed (set progress b p) buffers words
   keeps-ended b p end same done =
       record {
         shown = rw map-set (shown-marked net (handed_of tape closed blocks) (map progress_of progress) (map numbers_of buffers) (map type_of buffers) words keeps.shown b (progress_of p) end.member same);

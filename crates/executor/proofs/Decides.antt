@@ -16,9 +16,8 @@ use Rattle.executor.specs.Chain.{IsPlainChain}
 use Rattle.executor.specs.Plant.{CanFire, progress_of, state_of}
 use Rattle.executor.specs.Decision as decides
 use Rattle.executor.specs.Settled.{CanEnd}
-use Rattle.executor.specs.Decision.{counts_of, reader_of, decision_of, stepped_by, fitting, unless_it_fires, is_at_limit}
+use Rattle.executor.specs.Decision.{counts_of, reader_of, decision_of, stepped_by, fitting, unless_it_fires, is_at_limit, is_over}
 use Rattle.executor.proofs.Fitting.{fits, greatest-fits}
-use Rattle.executor.proofs.Claims.{finished-is, unread-plain}
 use Rattle.executor.proofs.Steps.{step-decides}
 
 fits-at : (c : Counts) (max n : ℕ) → fitting c max ≡ n → 0 < n → fits c n ≡ true
@@ -64,15 +63,15 @@ decided-can net caps st b max n member e =
     }
 
 -- a block that was not done, and whose end has come, may end
-pub decided-end : (net : Network) → IsPlainChain net → (caps : Capacities) (st : State) (b max : ℕ) → b < length net.nodes → decision_of (counts_of net caps st b) max ≡ decision.Ends → CanEnd net st b
+pub decided-end : (net : Network) → IsPlainChain net → (caps : Capacities) (st : State) (b max : ℕ) → b < length net.nodes → decision_of (counts_of net caps st b) max ≡ decision.Ends → CanEnd net caps st b
 decided-end net chain caps st b max member e =
     at_start (progress_at st.progress b).done (decides.is_unread (reader_of net caps st b)) refl refl e
   where
     c : Counts
     c = counts_of net caps st b
 
-    over : (n : ℕ) → unless_it_fires c n ≡ decision.Ends → machine.is_finished net st b ≡ true
-    over zero d = finished-is net chain caps st b member ∙ at_end (is_at_limit c.firings c.limit || (c.ended && nat_le c.written c.firings)) (nat_le c.written c.firings) d
+    over : (n : ℕ) → unless_it_fires c n ≡ decision.Ends → is_over c ≡ true
+    over zero d = at_end (is_over c) (nat_le c.written c.firings) d
       where
         at_end : (finished lacks : Bool) → cond finished decision.Ends (cond lacks decision.LacksItems decision.LacksRoom) ≡ decision.Ends → finished ≡ true
         at_end true lacks d' = refl
@@ -81,9 +80,9 @@ decided-end net chain caps st b max member e =
     over (suc n) d = cc
 
     at_start : (done unread : Bool) → (progress_at st.progress b).done ≡ done → decides.is_unread (reader_of net caps st b) ≡ unread →
-        cond done decision.IsDone (cond unread decision.Ends (unless_it_fires c (fitting c max))) ≡ decision.Ends → CanEnd net st b
+        cond done decision.IsDone (cond unread decision.Ends (unless_it_fires c (fitting c max))) ≡ decision.Ends → CanEnd net caps st b
     at_start true unread p q e' = cc
-    at_start false true p q e' = record { member = member; live = p; over = inl (unread-plain net chain caps st b member ∙ q) }
+    at_start false true p q e' = record { member = member; live = p; over = inl q }
     at_start false false p q e' = record { member = member; live = p; over = inr (over (fitting c max) e') }
 
 -- the step that was decided

@@ -7,7 +7,7 @@ use Rattle.std.specs.List.{All}
 use Rattle.std.proofs.lemmas.List.Elements.{All-nil, All-cons}
 use Rattle.stream_model.specs.Meaning.{IsLawful, IsAtRate}
 use Rattle.stream_model.specs.Network.{Network, Connection, Handed, IsSound, HasLevels, node_at, role_at, handed_at, is_source, items_of, entering, stream_from, no_node, no_meaning, writers_of}
-use Rattle.stream_model.proofs.Streams.{IsSoundNetwork, elim-true, elim-false, streams_unfold, entering_by}
+use Rattle.stream_model.proofs.Streams.{IsSoundNetwork, ComesFrom, elim-true, elim-false, streams_unfold, entering_by}
 use Rattle.executor.specs.Chain.{link, links, IsPlainChain}
 use Rattle.executor.proofs.Links.{writers-first, writers-next}
 use Rattle.executor.proofs.Plain.{source-first, source-next}
@@ -34,8 +34,8 @@ no_block-lawful =
       own = refl;
       settable = λ h. refl;
       starts = λ ts xs. refl;
-      in_range = λ ts xs p n h. record { above = omega (arith, ints); below = omega (arith, ints) };
-      local = λ ts us xs ys k p n settings inputs h. refl;
+      in_range = λ ts xs p n port wanted h. record { above = omega (arith, ints); below = omega (arith, ints) };
+      local = λ ts us xs ys k p n port settings inputs h. refl;
       local_word = λ ts us xs ys k settings inputs. refl;
     }
 
@@ -85,9 +85,9 @@ module _ (net : Network) (chain : IsPlainChain net) where
       streams_unfold net hs (λ b. b) chain-levels (suc b) 0 in'
       ∙ elim-false (is_source (role_at net (suc b))) (handed_at hs (suc b)).tape (stream_from (node_at net (suc b)) (handed_at hs (suc b)).settings (entering net hs (suc b)) 0) (source-next net chain b in')
 
-  chain-inside : (b : ℕ) → b < length net.nodes → All (λ (c : Connection). c.from < length net.nodes) (writers_of net b)
-  chain-inside zero in' = rw (writers-first net chain) (All-nil (λ (c : Connection). c.from < length net.nodes))
-  chain-inside (suc b) in' = rw (writers-next net chain b in') (All-cons (λ (c : Connection). c.from < length net.nodes) (link b) [] (omega arith) (All-nil (λ (c : Connection). c.from < length net.nodes)))
+  chain-inside : (b : ℕ) → b < length net.nodes → All (ComesFrom net) (writers_of net b)
+  chain-inside zero in' = rw (writers-first net chain) (All-nil (ComesFrom net))
+  chain-inside (suc b) in' = rw (writers-next net chain b in') (All-cons (ComesFrom net) (link b) [] (omega arith, (chain.one_output b in').1) (All-nil (ComesFrom net)))
 
   pub chain-sound_network : IsSoundNetwork net
   chain-sound_network = record { sound = chain-sound; fed = λ b in' e. writes-one b e in'; inside = chain-inside }

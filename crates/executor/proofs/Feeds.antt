@@ -44,17 +44,17 @@ module _ (net : Network) (hs : List Handed) (ps : List Progress) (kept : List (L
         }
 
   module _ (hs' : List Handed) (more : HandedMore hs hs') (tape : length (handed_at hs' 0).tape ≤ longest_tape) where
-    goes : (b p : ℕ) → b < length net.nodes → IsBeginning (items_of net hs b p) (items_of net hs' b p)
-    goes b p in' = items_by-grows net (chain-sound_network net s.chain) hs hs' more (length net.nodes) b p in'
+    goes : (b : ℕ) → suc b < length net.nodes → IsBeginning (items_of net hs b 0) (items_of net hs' b 0)
+    goes b in' = items_by-grows net (chain-sound_network net s.chain) hs hs' more (length net.nodes) b 0 (omega arith) (s.chain.one_output b in').1
 
     fed' : fired ps 0 ≤ length (handed_at hs' 0).tape
     fed' = let l = length-beginning (handed_at hs 0).tape (handed_at hs' 0).tape (more.tapes 0) in let f = s.fed in omega arith
 
     there' : (b : ℕ) → suc b < length net.nodes → fired ps b ≤ length (items_of net hs' b 0)
-    there' b in' = let l = length-beginning (items_of net hs b 0) (items_of net hs' b 0) (goes b 0 (omega arith)) in let t = s.there b in' in omega arith
+    there' b in' = let l = length-beginning (items_of net hs b 0) (items_of net hs' b 0) (goes b in') in let t = s.there b in' in omega arith
 
     first : (b : ℕ) → suc b < length net.nodes → (k : ℕ) → k ≤ fired ps b → take k (items_of net hs b 0) ≡ take k (items_of net hs' b 0)
-    first b in' k le = take-beginning k (items_of net hs b 0) (items_of net hs' b 0) (goes b 0 (omega arith)) (let t = s.there b in' in omega arith)
+    first b in' k le = take-beginning k (items_of net hs b 0) (items_of net hs' b 0) (goes b in') (let t = s.there b in' in omega arith)
 
     -- what entered a block agrees in the items that it took
     agree : (b : ℕ) → suc b < length net.nodes → SameInputs (node_at net (suc b)).meaning (fired ps (suc b)) (items_of net hs b 0 ∷ []) (items_of net hs' b 0 ∷ [])

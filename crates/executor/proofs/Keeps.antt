@@ -14,7 +14,7 @@ use Rattle.executor.proofs.Entering.{entering-next, items-next, chain-sound}
 
 module _ (net : Network) (hs : List Handed) (ps : List Progress) (kept : List (List ℤ)) (types : List ItemType) (words : List ℕ) (s : IsShown net hs ps kept types words) where
   -- with room for n more items on its input and in its limit, a block in the middle goes on with its equation
-  fires-more : (b n : ℕ) → suc b < length net.nodes → fired ps (suc b) + n ≤ fired ps b → within_limit (node_at net (suc b)).meaning.limit (fired ps (suc b) + n) ≡ true → fired ps (suc b) + n ≤ fires (node_at net (suc b)) (items_of net hs b 0 ∷ [])
+  fires-more : (b n : ℕ) → suc b < length net.nodes → fired ps (suc b) + n ≤ fired ps b → within_limit (node_at net (suc b)).meaning.limit (fired ps (suc b) + n) ≡ true → fired ps (suc b) + n ≤ fires (node_at net (suc b)) (length (items_of net hs b 0) ∷ [])
   fires-more b n in' fits within =
       let there = s.there b in' in
       fires-reaches (node_at net (suc b)) (chain-sound net s.chain (suc b)) (items_of net hs b 0 ∷ []) (fired ps (suc b) + n) (omega arith)
@@ -22,7 +22,7 @@ module _ (net : Network) (hs : List Handed) (ps : List Progress) (kept : List (L
       within
 
   -- the stream of a block in the middle, from its equation
-  stream-is : (b : ℕ) → suc b < length net.nodes → items_of net hs (suc b) 0 ≡ given_items (node_at net (suc b)).meaning [] (items_of net hs b 0 ∷ []) 0 (fires (node_at net (suc b)) (items_of net hs b 0 ∷ [])) 0
+  stream-is : (b : ℕ) → suc b < length net.nodes → items_of net hs (suc b) 0 ≡ given_items (node_at net (suc b)).meaning [] (items_of net hs b 0 ∷ []) 0 (fires (node_at net (suc b)) (length (items_of net hs b 0) ∷ [])) 0
   stream-is b in' =
       items-next net s.chain hs b in'
       ∙ rw (entering-next net s.chain hs b in', s.unset (suc b), s.chain.single (suc b) in', one-mul) refl
@@ -35,10 +35,10 @@ module _ (net : Network) (hs : List Handed) (ps : List Progress) (kept : List (L
       rw (none, count, rest) refl
 
   -- its first items are what its first firings give
-  first-items : (b j : ℕ) → suc b < length net.nodes → j ≤ fires (node_at net (suc b)) (items_of net hs b 0 ∷ []) → take j (items_of net hs (suc b) 0) ≡ given_items (node_at net (suc b)).meaning [] (items_of net hs b 0 ∷ []) 0 j 0
+  first-items : (b j : ℕ) → suc b < length net.nodes → j ≤ fires (node_at net (suc b)) (length (items_of net hs b 0) ∷ []) → take j (items_of net hs (suc b) 0) ≡ given_items (node_at net (suc b)).meaning [] (items_of net hs b 0 ∷ []) 0 j 0
   first-items b j in' le =
-      rw (stream-is b in', given_items-plain b (fires (node_at net (suc b)) (items_of net hs b 0 ∷ [])) in')
-      (take-map-range_with_len ((node_at net (suc b)).meaning.out [] (items_of net hs b 0 ∷ []) 0) 0 (fires (node_at net (suc b)) (items_of net hs b 0 ∷ [])) j le)
+      rw (stream-is b in', given_items-plain b (fires (node_at net (suc b)) (length (items_of net hs b 0) ∷ [])) in')
+      (take-map-range_with_len ((node_at net (suc b)).meaning.out [] (items_of net hs b 0 ∷ []) 0) 0 (fires (node_at net (suc b)) (length (items_of net hs b 0) ∷ [])) j le)
       ∙ sym (given_items-plain b j in')
 
   pub reaches : (b n : ℕ) → suc b < length net.nodes → fired ps (suc b) + n ≤ fired ps b → within_limit (node_at net (suc b)).meaning.limit (fired ps (suc b) + n) ≡ true → fired ps (suc b) + n ≤ length (items_of net hs (suc b) 0)
@@ -46,8 +46,8 @@ module _ (net : Network) (hs : List Handed) (ps : List Progress) (kept : List (L
       let le = fires-more b n in' fits within in
       rw (
         stream-is b in',
-        length-given_items (node_at net (suc b)).meaning (s.chain.lawful (suc b) in') [] (items_of net hs b 0 ∷ []) 0 (fires (node_at net (suc b)) (items_of net hs b 0 ∷ [])),
-        meaning_given-plain net s.chain (suc b) (fires (node_at net (suc b)) (items_of net hs b 0 ∷ [])) in',
+        length-given_items (node_at net (suc b)).meaning (s.chain.lawful (suc b) in') [] (items_of net hs b 0 ∷ []) 0 (fires (node_at net (suc b)) (length (items_of net hs b 0) ∷ [])),
+        meaning_given-plain net s.chain (suc b) (fires (node_at net (suc b)) (length (items_of net hs b 0) ∷ [])) in',
       ) le
 
   -- n more firings append what they give

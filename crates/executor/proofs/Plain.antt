@@ -5,8 +5,10 @@ use Rattle.stream_model.specs.declared.vocabulary.Role.{Role}
 use Rattle.stream_model.specs.declared.vocabulary.Role.TheVariants.{Source, Work, Keep, Discard}
 use Rattle.stream_model.specs.Meaning.{IsAtRate, HasCounts}
 use Rattle.stream_model.specs.Network.{Network, State, handed_at, progress_at, node_at, role_at, is_source, taken_by, given_by}
-use Rattle.stream_model.specs.Machine.{inputs_of, written, is_ended}
+use Rattle.stream_model.specs.Machine.{counts_in, tape_counts}
+use Rattle.stream_model.proofs.Streams.{elim-true, elim-false}
 use Rattle.executor.specs.Chain.{IsPlainChain, is_sink}
+use Rattle.executor.specs.Decision.{input_of}
 use Rattle.executor.proofs.Links.{writers-next}
 
 sink_not_source : (r : Role) → is_sink r ≡ true → is_source r ≡ false
@@ -44,27 +46,38 @@ module _ (net : Network) (chain : IsPlainChain net) where
         | inr h ↦ (let last : suc (suc b) ≡ length net.nodes = omega arith in sink_not_source (role_at net (suc b)) (chain.sink (suc b) last))
       ]
 
-  pub inputs-one : (b : ℕ) → b < length net.nodes → inputs_of net b ≡ 0 ∷ []
-  inputs-one zero in' = rw source-first refl
-  inputs-one (suc b) in' = rw (source-next b in', writers-next net chain b in') refl
+  -- what came to a block, from the block before it
+  pub input-first : (st : State) → counts_in net st 0 ≡ tape_counts (handed_at st.handed 0) ∷ []
+  unfolding counts_in
+  input-first st = elim-true (is_source (role_at net 0)) _ _ source-first
 
-  -- how much came to a block, and whether nothing more will, from the block before it
-  pub written-first : (st : State) → written net st 0 0 ≡ length (handed_at st.handed 0).tape
-  written-first st = rw source-first refl
+  pub input-next : (st : State) (b : ℕ) → suc b < length net.nodes → counts_in net st (suc b) ≡ record { written = (progress_at st.progress b).firings; ended = (progress_at st.progress b).done } ∷ []
+  unfolding counts_in
+  input-next st b in' =
+      elim-false (is_source (role_at net (suc b))) _ _ (source-next b in')
+      ∙ rw (writers-next net chain b in', given-plain b (progress_at st.progress b).firings (omega arith)) refl
 
-  pub written-next : (st : State) (b : ℕ) → suc b < length net.nodes → written net st (suc b) 0 ≡ (progress_at st.progress b).firings
-  written-next st b in' = rw (source-next b in', writers-next net chain b in') (given-plain b (progress_at st.progress b).firings (omega arith))
+  pub written-first : (st : State) → (input_of net st 0).written ≡ length (handed_at st.handed 0).tape
+  written-first st = rw (input-first st) refl
 
-  pub ended-first : (st : State) → is_ended net st 0 0 ≡ (handed_at st.handed 0).closed
-  ended-first st = rw source-first refl
+  pub written-next : (st : State) (b : ℕ) → suc b < length net.nodes → (input_of net st (suc b)).written ≡ (progress_at st.progress b).firings
+  written-next st b in' = rw (input-next st b in') refl
 
-  pub ended-next : (st : State) (b : ℕ) → suc b < length net.nodes → is_ended net st (suc b) 0 ≡ (progress_at st.progress b).done
-  ended-next st b in' = rw (source-next b in', writers-next net chain b in') refl
+  pub ended-first : (st : State) → (input_of net st 0).ended ≡ (handed_at st.handed 0).closed
+  ended-first st = rw (input-first st) refl
 
-  pub written-behind : (st : State) (b : ℕ) → (b ≡ 0 → ⊥) → b < length net.nodes → written net st b 0 ≡ (progress_at st.progress (b - 1)).firings
+  pub ended-next : (st : State) (b : ℕ) → suc b < length net.nodes → (input_of net st (suc b)).ended ≡ (progress_at st.progress b).done
+  ended-next st b in' = rw (input-next st b in') refl
+
+  -- a block of a chain has one input
+  pub input-one : (st : State) (b : ℕ) → b < length net.nodes → counts_in net st b ≡ input_of net st b ∷ []
+  input-one st zero in' = rw (input-first st) refl
+  input-one st (suc b) in' = rw (input-next st b in') refl
+
+  pub written-behind : (st : State) (b : ℕ) → (b ≡ 0 → ⊥) → b < length net.nodes → (input_of net st b).written ≡ (progress_at st.progress (b - 1)).firings
   written-behind st zero some in' = absurd (some refl)
   written-behind st (suc b) some in' = let e : suc b - 1 ≡ b = omega arith in written-next st b in' ∙ rw e refl
 
-  pub ended-behind : (st : State) (b : ℕ) → (b ≡ 0 → ⊥) → b < length net.nodes → is_ended net st b 0 ≡ (progress_at st.progress (b - 1)).done
+  pub ended-behind : (st : State) (b : ℕ) → (b ≡ 0 → ⊥) → b < length net.nodes → (input_of net st b).ended ≡ (progress_at st.progress (b - 1)).done
   ended-behind st zero some in' = absurd (some refl)
   ended-behind st (suc b) some in' = let e : suc b - 1 ≡ b = omega arith in ended-next st b in' ∙ rw e refl

@@ -1,5 +1,5 @@
 -- What is true of a chain at every moment stays true: as it is fed, as a block fires, and as one ends.
-use Rattle.std.proofs.Common.{◌≡◌, ◌≢◌, ℕ, zero, suc, ◌+◌, ◌<◌, ◌≤◌, true, false, List, ◌++◌, ℤ, length, set, refl, arith, ap, sym, ◌∙◌, subst, inl, inr}
+use Rattle.std.proofs.Common.{◌≡◌, ◌≢◌, ℕ, zero, suc, ◌+◌, ◌<◌, ◌≤◌, true, false, List, ◌++◌, ℤ, length, map, set, refl, arith, ap, sym, ◌∙◌, subst, inl, inr, lt-ltb, le-ltb}
 use Rattle.std.specs.Prelude.{nat_le, ◌⊎◌}
 use Rattle.std.proofs.lemmas.Bool.{cases_lt, cases_eq, leb-true, and_parts, or_cases}
 use Rattle.std.proofs.lemmas.List.{append_assoc}
@@ -7,16 +7,14 @@ use Rattle.stream_model.specs.declared.vocabulary.ItemType.{ItemType}
 use Rattle.stream_model.specs.Lists.{IsBeginning}
 use Rattle.stream_model.specs.Meaning.{input}
 use Rattle.stream_model.specs.Network.{Network, Handed, Progress, State, node_at, handed_at, progress_at, items_of, entering, fires}
-use Rattle.stream_model.specs.Machine as machine
-use Rattle.stream_model.specs.Machine.{Capacities, capacity_at, written, is_ended}
+use Rattle.stream_model.specs.Machine.{Capacities}
 use Rattle.stream_model.proofs.Streams.{beginning_refl, length-beginning, items_by-grows}
-use Rattle.executor.specs.Decision.{is_at_limit}
+use Rattle.executor.specs.Decision.{is_at_limit, is_unread, input_of, reader_of}
 use Rattle.executor.specs.Shown.{IsShown, fired}
 use Rattle.executor.specs.Plant.{CanFire}
 use Rattle.executor.specs.Settled.{IsSettled, MayBecome, MayBeRead, HasFiredAll, CanEnd}
 use Rattle.executor.proofs.Plain.{written-first, written-next, ended-first, ended-next}
 use Rattle.executor.proofs.Entering.{entering-first, entering-next, chain-sound_network}
-use Rattle.executor.proofs.Claims.{finished-is, unread-is, unread-last}
 use Rattle.executor.proofs.Fires.{fired-other}
 use Rattle.executor.proofs.Bounded.{done-other, done-still, fired-still, bounded-ended, bounded-fires}
 use Rattle.executor.proofs.Allowed.{entering-one, fires-is, length-items}
@@ -62,7 +60,7 @@ module _ (net : Network) (caps : Capacities) (hs : List Handed) (ps : List Progr
       let fed = s.fed in
       rw (entering-first net s.chain hs') (omega arith)
   stays_there hs' may (suc b) in' =
-      let grows = items_by-grows net (chain-sound_network net s.chain) hs hs' (record { tapes = may.tapes; settings = may.settings }) (length net.nodes) b 0 (omega arith) in
+      let grows = items_by-grows net (chain-sound_network net s.chain) hs hs' (record { tapes = may.tapes; settings = may.settings }) (length net.nodes) b 0 (omega arith) (s.chain.one_output b in').1 in
       let more = length-beginning (items_of net hs b 0) (items_of net hs' b 0) grows in
       let there = s.there b in' in
       let order = s.order b in' in
@@ -73,7 +71,7 @@ module _ (net : Network) (caps : Capacities) (hs : List Handed) (ps : List Progr
 
   module _ (settled : IsSettled net caps (record { handed = hs; progress = ps })) where
     -- where nothing more comes to a block that took all that came, its stream never has more
-    exhausted : (b : ℕ) → b < length net.nodes → is_ended net st b 0 ≡ true → nat_le (written net st b 0) (fired ps b) ≡ true → (progress_at ps b).done ≡ false →
+    exhausted : (b : ℕ) → b < length net.nodes → (input_of net st b).ended ≡ true → nat_le (input_of net st b).written (fired ps b) ≡ true → (progress_at ps b).done ≡ false →
         (hs' : List Handed) → MayBecome hs hs' → length (input (entering net hs' b) 0) ≤ fired ps b
     exhausted zero in' ended took live hs' may =
         let closed : (handed_at hs 0).closed ≡ true = sym (ended-first net s.chain st) ∙ ended in
@@ -88,30 +86,30 @@ module _ (net : Network) (caps : Capacities) (hs : List Handed) (ps : List Progr
         rw (entering-next net s.chain hs' b in') (omega arith)
 
     -- a block that is read to the end ends only when it has fired all
-    ends : (b : ℕ) → CanEnd net st b → MayBeRead net st b → HasFiredAll net st b
+    ends : (b : ℕ) → CanEnd net caps st b → MayBeRead net st b → HasFiredAll net st b
     ends b end read =
         λ hs' may.
         fires-is net s.chain b (fired ps b) (input (entering net hs' b) 0) end.member (stays_there hs' may b end.member) (s.within b end.member) (over hs' may)
-        ∙ ap (fires (node_at net b)) (sym (entering-one net s.chain hs' b end.member))
+        ∙ ap (λ xs. fires (node_at net b) (map length xs)) (sym (entering-one net s.chain hs' b end.member))
       where
-        read_still : machine.is_unread net st b ≡ true → ⊥
+        read_still : is_unread (reader_of net caps st b) ≡ true → ⊥
         read_still unread =
             elim (cases_lt (suc b) (length net.nodes)) [
-              | inl next ↦ (let bad : true ≡ false = sym unread ∙ unread-is net s.chain caps st b end.member next ∙ read next in cc)
-              | inr past ↦ (let last : suc b ≡ length net.nodes = omega (arith, end.member) in let bad : true ≡ false = sym unread ∙ unread-last net s.chain caps st b end.member last in cc)
+              | inl next ↦ (let behind = lt-ltb (suc b) (length net.nodes) next in let done : (progress_at ps (suc b)).done ≡ true = (rw behind at unread) in let bad : true ≡ false = sym done ∙ read next in cc)
+              | inr past ↦ (let behind = le-ltb (suc b) (length net.nodes) past in let bad : false ≡ true = (rw behind at unread) in cc)
             ]
 
         over : (hs' : List Handed) → MayBecome hs hs' → (is_at_limit (fired ps b) (node_at net b).meaning.limit ≡ true) ⊎ (length (input (entering net hs' b) 0) ≤ fired ps b)
         over hs' may =
             elim end.over [
               | inl unread ↦ absurd (read_still unread)
-              | inr finished ↦ elim (or_cases _ _ (sym (finished-is net s.chain caps st b end.member) ∙ finished)) [
+              | inr finished ↦ elim (or_cases _ _ finished) [
                 | inl limited ↦ inl limited
                 | inr both ↦ (let parts = and_parts _ _ both in inr (exhausted b end.member parts.0 parts.1 end.live hs' may))
               ]
             ]
 
-    pub settled-ended : (b : ℕ) → CanEnd net st b → (p : Progress) → p.firings ≡ fired ps b → p.done ≡ true → IsSettled net caps (record { handed = hs; progress = set ps b p })
+    pub settled-ended : (b : ℕ) → CanEnd net caps st b → (p : Progress) → p.firings ≡ fired ps b → p.done ≡ true → IsSettled net caps (record { handed = hs; progress = set ps b p })
     settled-ended b end p same done =
         record {
           bounded = bounded-ended ps b p there net caps hs settled.bounded same done;
@@ -140,7 +138,7 @@ module _ (net : Network) (caps : Capacities) (hs : List Handed) (ps : List Progr
         here : (c : ℕ) → c ≡ b → MayBeRead net st' c → HasFiredAll net st' c
         here c e read' = λ hs' may.
             count c
-            ∙ subst (λ d. fired ps d ≡ fires (node_at net d) (entering net hs' d)) (sym e)
+            ∙ subst (λ d. fired ps d ≡ fires (node_at net d) (map length (entering net hs' d))) (sym e)
             (ends b end (before b (subst (λ d. MayBeRead net st' d) e read')) hs' may)
 
     pub settled-fires : (b n : ℕ) → CanFire net caps st b n → (p : Progress) → p.firings ≡ fired ps b + n → p.done ≡ (progress_at ps b).done → IsSettled net caps (record { handed = hs; progress = set ps b p })

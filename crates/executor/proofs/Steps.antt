@@ -32,7 +32,7 @@ settings_agree-refl (h ∷ hs) = and_from _ _ (and_from _ _ (eq-eqb h.at h.at re
 
 jobs_agree-refl : (j : Job) → jobs_agree j j ≡ true
 jobs_agree-refl j =
-    and_from _ _ (and_from _ _ (and_from _ _ (and_from _ _ (and_from _ _ (eq-eqb j.block j.block refl) (eq-eqb j.first j.first refl)) (eq-eqb j.count j.count refl))
+    and_from _ _ (and_from _ _ (and_from _ _ (and_from _ _ (and_from _ _ (and_from _ _ (eq-eqb j.block j.block refl) (eq-eqb j.outputs j.outputs refl)) (eq-eqb j.first j.first refl)) (eq-eqb j.count j.count refl))
     (windows_agree-refl j.windows)) (settings_agree-refl j.held)) (eq-eqb j.word j.word refl)
 
 -- who fires, fires at least once

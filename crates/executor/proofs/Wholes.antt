@@ -1,16 +1,17 @@
 -- A done sink holds the whole of its stream.
-use Rattle.std.proofs.Common.{◌≡◌, ℕ, zero, suc, ◌<◌, true, false, List, [], ◌∷◌, length, arith, ap, sym, ◌∙◌, inl, inr}
+use Rattle.std.proofs.Common.{◌≡◌, ℕ, zero, suc, ◌<◌, true, false, List, [], ◌∷◌, length, refl, arith, ap, sym, ◌∙◌, inl, inr}
 use Rattle.std.specs.List.{list_all}
 use Rattle.std.proofs.lemmas.Bool.{cases_lt, and_parts}
 use Rattle.std.proofs.lemmas.List.{get_or_past}
 use Rattle.stream_model.specs.Meaning.{input}
-use Rattle.stream_model.specs.Network.{Network, Node, Handed, Progress, no_node, node_at, role_at, progress_at, is_keeper, entering}
+use Rattle.stream_model.specs.Network.{Network, Node, Handed, Progress, no_node, node_at, role_at, progress_at, is_keeper, entering, handed_at, writer_of}
 use Rattle.stream_model.specs.Machine as machine
 use Rattle.stream_model.specs.Machine.{Capacities}
 use Rattle.executor.specs.Chain.{IsPlainChain}
 use Rattle.executor.specs.Shown.{fired}
 use Rattle.executor.specs.Settled.{IsSettled}
 use Rattle.executor.proofs.Looking.{keeper-last}
+use Rattle.executor.proofs.TagFree.{tags_by-none}
 use Rattle.executor.proofs.Allowed.{fires-sink}
 use Rattle.executor.proofs.Settles.{handed_same}
 
@@ -34,8 +35,9 @@ module _ (net : Network) (chain : IsPlainChain net) (caps : Capacities) (hs : Li
       let last = keeper-last net chain b in' keeper in
       settled.complete b in' done (λ next. absurd (omega arith)) hs (handed_same hs) ∙ fires-sink net chain hs b last
 
-  pub all-whole : length ps ≡ length net.nodes → machine.is_all_done (record { handed = hs; progress = ps }) ≡ true → machine.IsWhole net (record { handed = hs; progress = ps })
-  all-whole count all b keeper =
+  pub all-whole : ((b : ℕ) → (handed_at hs b).tags ≡ []) → length ps ≡ length net.nodes → machine.is_all_done (record { handed = hs; progress = ps }) ≡ true → machine.IsWhole net (record { handed = hs; progress = ps })
+  all-whole untagged count all b keeper =
       let in' = keeper-inside net b keeper in
       let there : b < length ps = omega arith in
-      sink-whole b in' keeper (each-done ps all b there)
+      let none = tags_by-none net hs untagged (length net.nodes) (writer_of net b 0).from (writer_of net b 0).out_port in
+      record { items = sink-whole b in' keeper (each-done ps all b there); tags = rw none refl }

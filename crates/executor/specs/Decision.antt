@@ -1,10 +1,11 @@
 -- What a claim decides, from the counts of a block and its neighbours alone.
-use Rattle.std.specs.Prelude.{ℕ, zero, suc, ◌+◌, ◌-◌, ◌<◌, ◌^◌, min, Option, Some, None, Bool, false, ◌&&◌, ◌||◌, nat_le, nat_lt, if◌then◌else◌, length}
+use Rattle.std.specs.Prelude.{ℕ, zero, suc, ◌+◌, ◌-◌, ◌<◌, ◌^◌, min, Option, Some, None, Bool, false, ◌&&◌, ◌||◌, nat_le, nat_lt, if◌then◌else◌, length, slice_index_or}
 use Rattle.executor.specs.declared.decision.Counts.{Counts}
 use Rattle.executor.specs.declared.decision.Reader.{Reader}
 use Rattle.executor.specs.declared.decision.Decision.{Decision}
 use Rattle.executor.specs.declared.decision.Decision.TheVariants as decision
 use Rattle.stream_model.specs.Network.{Network, State, node_at, progress_at}
+use Rattle.stream_model.specs.Claims as claims
 use Rattle.stream_model.specs.Machine as machine
 
 -- the least of n and a bound, where there is one
@@ -34,9 +35,13 @@ abbrev pub is_at_limit : ℕ → Option ℕ → Bool
 is_at_limit firings None = false
 is_at_limit firings (Some n) = nat_le n firings
 
+-- the block will not fire again
+abbrev pub is_over : Counts → Bool
+is_over c = is_at_limit c.firings c.limit || (c.ended && nat_le c.written c.firings)
+
 abbrev pub unless_it_fires : Counts → ℕ → Decision
 unless_it_fires c zero =
-    if is_at_limit c.firings c.limit || (c.ended && nat_le c.written c.firings) then decision.Ends
+    if is_over c then decision.Ends
     else (if nat_le c.written c.firings then decision.LacksItems else decision.LacksRoom)
 unless_it_fires c (suc n) = decision.Fires (suc n)
 
@@ -47,6 +52,13 @@ decision_of c max = if c.done then decision.IsDone else (if is_unread c.reader t
 abbrev pub reader_is_small : Option Reader → Type 0
 reader_is_small None = Unit {0}
 reader_is_small (Some r) = r.firings < 2 ^ 63
+
+-- the one input of block b in a chain
+abbrev pub no_input : claims.InputCounts
+no_input = record { written = 0; ended = false }
+
+abbrev pub input_of : Network → State → ℕ → claims.InputCounts
+input_of net st b = slice_index_or (machine.counts_in net st b) 0 no_input
 
 -- the counts of block b in a chain: its reader is the next block
 abbrev pub reader_of : Network → machine.Capacities → State → ℕ → Option Reader
@@ -60,19 +72,23 @@ counts_of net caps st b =
     record {
       firings = (progress_at st.progress b).firings;
       done = (progress_at st.progress b).done;
-      written = machine.written net st b 0;
-      ended = machine.is_ended net st b 0;
+      written = (input_of net st b).written;
+      ended = (input_of net st b).ended;
       limit = (node_at net b).meaning.limit;
       reader = reader_of net caps st b;
     }
 
+-- the same decision of a block that may have many ports
+abbrev pub decided : Decision → claims.Decision
+decided decision.IsDone = claims.IsDone
+decided decision.Ends = claims.Ends
+decided decision.LacksItems = claims.LacksItems 0
+decided decision.LacksRoom = claims.LacksRoom 0
+decided (decision.Fires n) = claims.Fires n
+
 -- what the machine answers to a claim that so decides
 abbrev pub claimed_by : Network → State → ℕ → Decision → machine.Reply × State
-claimed_by net st b decision.IsDone = (machine.Done, st)
-claimed_by net st b decision.Ends = (machine.Done, machine.ended st b)
-claimed_by net st b decision.LacksItems = (machine.WaitingItems 0, st)
-claimed_by net st b decision.LacksRoom = (machine.WaitingRoom 0, st)
-claimed_by net st b (decision.Fires n) = (machine.Claimed (machine.job_of net st b n), machine.with_progress st b (record (progress_at st.progress b) { claimed = n }))
+claimed_by net st b d = machine.claimed_by net st b (decided d)
 
 -- the same for a step, which commits what it claims
 abbrev pub stepped_by : Network → State → ℕ → Decision → machine.Reply × State

@@ -10,6 +10,7 @@ use Rattle.items.specs.Items.{numbers_of, type_of}
 use Rattle.executor.specs.declared.progress.Progress.{Progress}
 use Rattle.executor.specs.Shown.{IsShown}
 use Rattle.executor.specs.Settled.{IsSettled}
+use Rattle.executor.specs.Decision.{input_of}
 
 -- how far a block is: no claim is in flight between calls
 abbrev pub progress_of : Progress → model_network.Progress
@@ -46,7 +47,7 @@ fed_by net st b items marks =
 pub record CanFire (net : Network) (caps : machine.Capacities) (st : State) (b count : ℕ) : Type 0 where
   pub member : b < length net.nodes
   pub live : (progress_at st.progress b).done ≡ false
-  pub fits : (progress_at st.progress b).firings + count ≤ machine.written net st b 0
+  pub fits : (progress_at st.progress b).firings + count ≤ (input_of net st b).written
   pub room : suc b < length net.nodes → (progress_at st.progress (suc b)).done ≡ false → (progress_at st.progress b).firings + count ≤ (progress_at st.progress (suc b)).firings + machine.capacity_at caps b 0
   pub within : within_limit (node_at net b).meaning.limit ((progress_at st.progress b).firings + count) ≡ true
 

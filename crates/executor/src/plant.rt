@@ -11,7 +11,7 @@ ghost use Rattle.stream_model.specs.Network.{node_at, role_at, progress_at};
 ghost use Rattle.executor.specs.Plant.{progress_of, fed_by};
 ghost use Rattle.executor.specs.Chain.{network_of};
 ghost use Rattle.executor.specs.Answers.{Answered, AnsweredAlways, reply_of, step_reply};
-ghost use Rattle.executor.specs.Decision.{counts_of, reader_of, reader_is_small};
+ghost use Rattle.executor.specs.Decision.{counts_of, input_of, reader_of, reader_is_small};
 ghost use Rattle.executor.specs.Settled.{IsSettled, CanEnd};
 
 use crate::answers::{BlockId, Closed, Fed, Need, Piece, Step};
@@ -153,7 +153,7 @@ impl<B: Block> Plant<B> {
 
     // Marks a block as done.
     fn end(&mut self, block: usize)
-        requires { CanEnd (network_of B.meaning self.old.0.1) self.old.2 block }
+        requires { CanEnd (network_of B.meaning self.old.0.1) self.old.1 self.old.2 block }
         ensures { self.new ≡ (self.old.0, self.old.1, machine.ended self.old.2 block) }
     {
         let own = self.progress(block);
@@ -192,7 +192,7 @@ impl<B: Block> Plant<B> {
     // The items that came to a block.
     fn written(&self, block: usize) -> u64
         requires { block < length self.now.0.1 }
-        ensures { result ≡ machine.written (network_of B.meaning self.now.0.1) self.now.2 block 0 }
+        ensures { result ≡ (input_of (network_of B.meaning self.now.0.1) self.now.2 block).written }
     {
         if block == 0 {
             return self.tape.len() as u64;
@@ -203,7 +203,7 @@ impl<B: Block> Plant<B> {
     // Whether nothing more will come to a block.
     fn is_ended(&self, block: usize) -> bool
         requires { block < length self.now.0.1 }
-        ensures { result ≡ machine.is_ended (network_of B.meaning self.now.0.1) self.now.2 block 0 }
+        ensures { result ≡ (input_of (network_of B.meaning self.now.0.1) self.now.2 block).ended }
     {
         if block == 0 {
             return self.closed;

@@ -1,3 +1,3 @@
-pub mod Lanes
+pub mod Numbers
 pub mod Padding
 pub mod Same

@@ -4,8 +4,8 @@ ghost use Rattle.stream_model.specs.Numbers.{IsItem, AreItems, least_of, greates
 ghost use Rattle.items.specs.Items.{type_of, numbers_of, spare_of};
 
 use crate::ItemFault;
-use lanes::Lane;
-use lanes::vectors::{append, append_copies, are_in_range, narrowed};
+use numbers::Number;
+use numbers::vectors::{append, append_copies, are_in_range, narrowed};
 use std::alloc::{AllocError, Global};
 use stream_model::ItemType;
 
@@ -77,7 +77,7 @@ impl Items {
 
     /// The items of these numbers. `ItemRange` comes before any memory is asked for, and `Memory`
     /// only where the allocator refuses.
-    #[tactic(auto, using(crate::proofs::Lanes::map_same))]
+    #[tactic(auto, using(crate::proofs::Numbers::map_same))]
     pub fn from_numbers(alloc: Global, t: ItemType, numbers: &[i64]) -> Result<Items, ItemFault>
         ensures item_type { IfOk result (λ items. type_of items ≡ t) }
         ensures numbers { IfOk result (λ items. numbers_of items ≡ numbers.now) }
@@ -166,7 +166,7 @@ impl Items {
     }
 
     /// Appends the items of `other` from place `from` to below place `to`. It takes no memory.
-    #[tactic(auto, using(crate::proofs::Lanes::map_push_range))]
+    #[tactic(auto, using(crate::proofs::Numbers::map_push_range))]
     pub fn push_range(&mut self, other: &Items, from: usize, to: usize)
         requires same_type { type_of self.old ≡ type_of other.now }
         requires ordered { from ≤ to }
@@ -180,7 +180,7 @@ impl Items {
     }
 
     /// Appends `n` zeros. It takes no memory.
-    #[tactic(auto, using(crate::proofs::Lanes::map_push_copies))]
+    #[tactic(auto, using(crate::proofs::Numbers::map_push_copies))]
     pub fn push_zeros(&mut self, n: usize)
         requires { n ≤ spare_of self.old }
         ensures item_type { type_of self.new ≡ type_of self.old }
@@ -192,7 +192,7 @@ impl Items {
 
     /// A copy of the items from place `from` to below place `to`. `ItemRange` comes before any memory
     /// is asked for, and `Memory` only where the allocator refuses.
-    #[tactic(auto, using(crate::proofs::Lanes::map_slice_range))]
+    #[tactic(auto, using(crate::proofs::Numbers::map_slice_range))]
     pub fn slice(&self, alloc: Global, from: usize, to: usize) -> Result<Items, ItemFault>
         ensures item_type { IfOk result (λ items. type_of items ≡ type_of self.now) }
         ensures numbers { IfOk result (λ items. numbers_of items ≡ slice_range (numbers_of self.now) from to) }

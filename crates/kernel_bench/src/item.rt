@@ -2,33 +2,33 @@
 use num_traits::AsPrimitive;
 
 /// A number type of items, or of sums.
-pub trait Number: Copy + PartialEq {
+pub trait Element: Copy + PartialEq {
     /// The number of the low bits, as `as` gives it.
     fn wrapped(n: i64) -> Self;
 }
 
-impl Number for u8 {
+impl Element for u8 {
     #[inline(always)]
     fn wrapped(n: i64) -> u8 {
         n.as_()
     }
 }
 
-impl Number for i16 {
+impl Element for i16 {
     #[inline(always)]
     fn wrapped(n: i64) -> i16 {
         n.as_()
     }
 }
 
-impl Number for i32 {
+impl Element for i32 {
     #[inline(always)]
     fn wrapped(n: i64) -> i32 {
         n.as_()
     }
 }
 
-impl Number for i64 {
+impl Element for i64 {
     #[inline(always)]
     fn wrapped(n: i64) -> i64 {
         n
@@ -36,7 +36,7 @@ impl Number for i64 {
 }
 
 /// A number type of items.
-pub trait Item: Number {
+pub trait Item: Element {
     /// The name of the type in a line.
     const NAME: &'static str;
 

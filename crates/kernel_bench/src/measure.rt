@@ -2,7 +2,7 @@
 ghost use Rattle.std.specs.Prelude.{◌≡◌, ◌≤◌, ◌-◌, length, IfOk, vec_len};
 
 use crate::contests::Contest;
-use crate::item::Number;
+use crate::item::Element;
 use std::alloc::{AllocError, Global};
 use std::io;
 use std::rt::Clock;
@@ -28,7 +28,7 @@ pub struct Times {
 }
 
 /// So many items, evenly over the type's range.
-pub fn noise<T: Number>(alloc: Global, count: usize) -> Result<Vec<T>, AllocError>
+pub fn noise<T: Element>(alloc: Global, count: usize) -> Result<Vec<T>, AllocError>
     ensures { IfOk result (λ v. vec_len v ≡ count) }
 {
     let mut items = Vec::with_capacity(alloc, count)?;

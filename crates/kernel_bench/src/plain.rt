@@ -1,8 +1,8 @@
 //! Each kernel as the plain loop that its definition suggests: the measuring stick.
 ghost use Rattle.std.specs.Prelude.{◌≡◌, ◌+◌, ◌≤◌, length};
 
-use crate::item::{Item, Number};
-use lanes::Lane;
+use crate::item::{Item, Element};
+use numbers::Number;
 use num_traits::{PrimInt, WrappingAdd, WrappingMul};
 
 pub fn add_wrap<T: WrappingAdd + Copy>(a: &[T], b: &[T], out: &mut [T])
@@ -65,7 +65,7 @@ pub fn not<T: PrimInt>(a: &[T], out: &mut [T])
     }
 }
 
-pub fn scale_sat<T: Lane + Item>(a: &[T], factor: i16, shift: u32, out: &mut [T])
+pub fn scale_sat<T: Number + Item>(a: &[T], factor: i16, shift: u32, out: &mut [T])
     requires in_range { shift ≤ 31 }
     requires out_length { length out.old ≡ length a.now }
 {
@@ -75,7 +75,7 @@ pub fn scale_sat<T: Lane + Item>(a: &[T], factor: i16, shift: u32, out: &mut [T]
     }
 }
 
-pub fn convert<T: Lane, U: Number>(a: &[T], out: &mut [U])
+pub fn convert<T: Number, U: Element>(a: &[T], out: &mut [U])
     requires { length out.old ≡ length a.now }
 {
     for i in 0..a.len() {
@@ -83,7 +83,7 @@ pub fn convert<T: Lane, U: Number>(a: &[T], out: &mut [U])
     }
 }
 
-pub fn dot<T: Lane>(h: &[i16], x: &[T]) -> i64
+pub fn dot<T: Number>(h: &[i16], x: &[T]) -> i64
     requires { length h.now ≡ length x.now }
 {
     let mut sum: i64 = 0;
@@ -93,7 +93,7 @@ pub fn dot<T: Lane>(h: &[i16], x: &[T]) -> i64
     sum
 }
 
-pub fn fir_row<T: Lane + Item>(h: &[i16], x: &[T], shift: u32, out: &mut [T])
+pub fn fir_row<T: Number + Item>(h: &[i16], x: &[T], shift: u32, out: &mut [T])
     requires taps { 1 ≤ length h.now }
     requires lengths { length x.now + 1 ≡ length out.old + length h.now }
     requires in_range { shift ≤ 31 }

@@ -2,7 +2,7 @@
 ghost use Rattle.std.specs.Prelude.{◌≤◌, ◌<◌};
 
 use crate::contests::*;
-use crate::item::{Item, Number};
+use crate::item::{Item, Element};
 use crate::measure::{SPARE, Times, best_times, noise};
 use lane_filters::FilterLane;
 use lane_kernels::{NarrowsTo, SimdLane, WidensTo};
@@ -56,7 +56,7 @@ fn conversion_rows(rt: &HostRuntime, length: u32) -> io::Result<()> {
     narrow_row::<i32, i16>(rt, "int short", length)
 }
 
-fn widen_row<T: WidensTo<U> + Number, U: Sample>(
+fn widen_row<T: WidensTo<U> + Element, U: Sample>(
     rt: &HostRuntime,
     item: &str,
     length: u32,
@@ -65,7 +65,7 @@ fn widen_row<T: WidensTo<U> + Number, U: Sample>(
     row::<T, U, Widen>(rt, "widen", Case::new(item, length), &Widen, count, count)
 }
 
-fn narrow_row<T: NarrowsTo<U> + Number, U: Sample>(
+fn narrow_row<T: NarrowsTo<U> + Element, U: Sample>(
     rt: &HostRuntime,
     item: &str,
     length: u32,
@@ -195,7 +195,7 @@ impl<'a> Case<'a> {
 }
 
 // Measures at an input and an output of so many items, and prints the row.
-fn row<T: Number, U: Number, C: Contest<T, U>>(
+fn row<T: Element, U: Element, C: Contest<T, U>>(
     rt: &HostRuntime,
     kernel: &str,
     case: Case,

@@ -2,8 +2,8 @@
 use Rattle.std.specs.Prelude.{◌≡◌, true}
 use Rattle.stream_model.specs.Meaning.{Meaning, IsLawful}
 use Rattle.stream_model.specs.Kinds.Ends.{vector_source, vector_sink}
-use Rattle.stream_model.specs.Kinds.EndsLaws.{vector_source-lawful, vector_sink-lawful}
-use Rattle.stream_model.specs.Kinds.MathLaws.{add_const-lawful}
+use Rattle.kind_laws.specs.Ends.{vector_source-lawful, vector_sink-lawful}
+use Rattle.kind_laws.specs.Math.{add_const-lawful}
 use Rattle.math_blocks.specs.AddConst as add_const
 use Rattle.math_blocks.specs.SameItem.{same_item}
 use Rattle.kinds.specs.Ends.{source_meaning, sink_meaning}

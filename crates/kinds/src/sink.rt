@@ -24,7 +24,7 @@ impl VectorSink {
 }
 
 impl Block for VectorSink {
-    ghost use Rattle.stream_model.specs.Kinds.EndsLaws.{vector_sink-lawful};
+    ghost use Rattle.kind_laws.specs.Ends.{vector_sink-lawful};
     ghost use Rattle.stream_model.specs.Kinds.Ends.{vector_sink};
     ghost use Rattle.kinds.specs.Ends.{sink_meaning};
     ghost use Rattle.math_blocks.specs.SameItem.{same_item};

@@ -24,7 +24,7 @@ impl VectorSource {
 }
 
 impl Block for VectorSource {
-    ghost use Rattle.stream_model.specs.Kinds.EndsLaws.{vector_source-lawful};
+    ghost use Rattle.kind_laws.specs.Ends.{vector_source-lawful};
     ghost use Rattle.stream_model.specs.Kinds.Ends.{vector_source};
     ghost use Rattle.kinds.specs.Ends.{source_meaning};
     ghost use Rattle.math_blocks.specs.SameItem.{same_item};

@@ -8,7 +8,7 @@ ghost use Rattle.lane_filters.specs.Words.{AreWithin, tap_product};
 
 use crate::FilterLane;
 use crate::sums::{added, lane_total, with_product};
-use lanes::vectors::are_in_range;
+use numbers::vectors::are_in_range;
 use std::simd::prelude::*;
 
 /// The sum of the products of taps and short items, exactly.

@@ -5,11 +5,11 @@ ghost use Rattle.stream_model.specs.Numbers.{sat, IsItem, AreItems};
 ghost use Rattle.stream_model.specs.declared.vocabulary.ItemType.TheVariants.{Short};
 ghost use Rattle.lane_filters.specs.Words.{AreWithin};
 
-use lanes::Lane;
+use numbers::Number;
 use std::simd::prelude::*;
 
 /// An item type that has filters.
-pub trait FilterLane: Lane {
+pub trait FilterLane: Number {
     /// Lane by lane, a tap times an item: the first eight items.
     fn products(taps: i16x8, items: &[Self]) -> i64x8
         requires taps { AreItems Short taps }

@@ -8,7 +8,7 @@ ghost use Rattle.lane_filters.specs.Words.{AreWithin, tap_sum, tap_sums, output}
 
 use crate::FilterLane;
 use crate::sums::{added, rounded, rounded_lanes, with_product};
-use lanes::vectors::are_in_range;
+use numbers::vectors::are_in_range;
 use std::simd::prelude::*;
 
 /// Each output is the sum of the taps times the items up to it, the newest first, over `2 ^ shift`,

@@ -5,7 +5,7 @@ ghost use Rattle.std.specs.Simd.Lanes.{zip2};
 ghost use Rattle.stream_model.specs.Numbers.{rnd, total};
 ghost use Rattle.lane_filters.specs.Words.{AreWithin};
 
-use lanes::Lane;
+use numbers::Number;
 use std::simd::prelude::*;
 
 /// The sums, lane by lane.
@@ -28,7 +28,7 @@ pub(crate) fn lane_total(sums: i64x8) -> i64
 
 /// The sum with the product of a tap and an item.
 #[inline(always)]
-pub(crate) fn with_product<T: Lane>(sum: i64, tap: i16, item: T) -> i64
+pub(crate) fn with_product<T: Number>(sum: i64, tap: i16, item: T) -> i64
     requires { unsigned_abs sum ≤ 2 ^ 60 }
     ensures value { result ≡ sum +ℤ (tap *ℤ T.number item) }
     ensures within { unsigned_abs result ≤ unsigned_abs sum + 2 ^ 46 }

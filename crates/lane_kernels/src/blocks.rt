@@ -4,7 +4,7 @@ ghost use Rattle.std.specs.Simd.Lanes.{zip2};
 ghost use Rattle.lane_kernels.specs.Blocks.{IsBlock};
 
 use crate::{LANES, SimdLane};
-use lanes::vectors::are_in_range;
+use numbers::vectors::are_in_range;
 
 /// An operation that makes an item from one.
 pub(crate) trait MapBlock<T: SimdLane, U: SimdLane> {

@@ -6,13 +6,13 @@ ghost use Rattle.stream_model.specs.Numbers.{wrap};
 ghost use Rattle.stream_model.specs.Kernels.{scaled, turned};
 ghost use Rattle.lane_kernels.specs.Blocks.{IsBlock, joined};
 
-use lanes::Lane;
+use numbers::Number;
 
 /// How many items a block has.
 pub const LANES: usize = 16;
 
 /// A number type of items with operations on blocks of them.
-pub trait SimdLane: Lane {
+pub trait SimdLane: Number {
     /// The sums, wrapped.
     fn add_block(a: &[Self], b: &[Self], out: &mut [Self])
         requires a_block { IsBlock Self.kind Self.number a.now }

@@ -69,7 +69,7 @@ fn add_items(items: &Items, held: &[Held], from: u64, out: &mut Items)
 }
 
 impl Block for AddConst {
-    ghost use Rattle.stream_model.specs.Kinds.MathLaws.{add_const-lawful};
+    ghost use Rattle.kind_laws.specs.Math.{add_const-lawful};
     ghost use Rattle.math_blocks.specs.AddConst.{meaning_of, meaning_of-same};
 
     ghost meaning = { meaning_of };

@@ -3,7 +3,7 @@ use Rattle.std.proofs.Common.{◌≡◌, ℕ, ℤ, pos, ◌+◌, ◌-◌, ◌≤
 use Rattle.std.proofs.lemmas.List.{append_assoc, drop-drop, drop-replicate, take_all, length-replicate, map-append, length-map}
 use Rattle.stream_model.specs.Lists.{window}
 use Rattle.ring_readers.specs.State.{RingState, IsRing, IsLive, IsEndOf, nobody, reader_at, past_of}
-use Rattle.lanes.proofs.Mapped.{map_slice_range, map_replicate}
+use Rattle.numbers.proofs.Mapped.{map_slice_range, map_replicate}
 use Rattle.ring_readers.proofs.Ranges.{drop-append, take-append}
 
 -- the zeros before item 0, and then the items

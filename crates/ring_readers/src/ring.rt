@@ -7,15 +7,15 @@ use crate::RingFault;
 use crate::copies::append_range;
 use crate::reader::{Place, Reader};
 use circular_buffer::HeapCircularBuffer;
-use lanes::Lane;
-use lanes::vectors::append_copies;
+use numbers::Number;
+use numbers::vectors::append_copies;
 use std::alloc::Global;
 use std::marker::Model;
 
 /// A bounded buffer with one writer and several readers. A contract sees what was written, what is
 /// kept of it, and the places of the readers.
 #[derive(Drop)]
-pub struct Ring<T: Lane> {
+pub struct Ring<T: Number> {
     items: HeapCircularBuffer<T>,
     capacity: u32,
     greatest: u32,
@@ -23,7 +23,7 @@ pub struct Ring<T: Lane> {
     readers: Vec<Place>,
 }
 
-impl<T: Lane> Model for Ring<T> {
+impl<T: Number> Model for Ring<T> {
     ghost use Rattle.std.specs.Prelude.{◌≡◌, map};
     ghost use Rattle.ring_readers.specs.State.{RingState, ring_state, IsRing, most_kept};
 
@@ -36,7 +36,7 @@ impl<T: Lane> Model for Ring<T> {
         × (r.items.capacity ≡ most_kept r.capacity r.greatest) };
 }
 
-impl<T: Lane> Ring<T> {
+impl<T: Number> Ring<T> {
     /// An empty ring, whose readers may each have `capacity` unread items and a history of `greatest`.
     pub fn new(alloc: Global, capacity: u32, greatest: u32) -> Result<Self, RingFault>
         requires some_capacity { 1 ≤ capacity }

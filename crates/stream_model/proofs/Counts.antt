@@ -1,14 +1,14 @@
 -- Counts of a lawful block: nothing at first, and they do not fall.
-use Rattle.std.proofs.Common.{◌≡◌, ℕ, ◌+◌, ◌-◌, ◌*◌, ◌<◌, ◌≤◌, Option, Some, None, refl, arith, ap, sym, ◌∙◌, subst}
+use Rattle.std.proofs.Common.{◌≡◌, ℕ, ◌+◌, ◌-◌, ◌*◌, ◌≤◌, Option, Some, None, arith, ◌∙◌, subst}
 use Rattle.std.proofs.Math.Nat.{mul-le-mul_left, mul-le-mul_right, mul-zero}
 use Rattle.stream_model.specs.declared.vocabulary.Shift.{Shift}
 use Rattle.stream_model.specs.declared.vocabulary.Shift.TheVariants.{No, Skip, Delay}
-use Rattle.stream_model.specs.Meaning.{Meaning, IsLawful, HasCounts, IsShifted, IsAtRate}
+use Rattle.stream_model.specs.Meaning.{Meaning, IsLawful, HasCounts, IsShifted}
 
 module _ (m : Meaning) (p : ℕ) where
   shifted_given-rises : (s : Shift) → IsShifted m p s → (a b : ℕ) → a ≤ b → m.given a ≤ m.given b
   shifted_given-rises No h a b le = elim h [ ]
-  shifted_given-rises (Skip n) h a b le = rw (h.2 a, h.2 b) (omega arith)
+  shifted_given-rises (Skip n) h a b le = rw (h.1 a, h.1 b) (omega arith)
   shifted_given-rises (Delay n) h a b le = rw (h.2 a, h.2 b) le
 
   counted_given-rises : (r : Option (ℕ × ℕ)) → HasCounts m p r → (a b : ℕ) → a ≤ b → m.given a ≤ m.given b
@@ -17,7 +17,7 @@ module _ (m : Meaning) (p : ℕ) where
 
   shifted_taken-rises : (s : Shift) → IsShifted m p s → (a b : ℕ) → a ≤ b → m.taken p a ≤ m.taken p b
   shifted_taken-rises No h a b le = elim h [ ]
-  shifted_taken-rises (Skip n) h a b le = rw (h.1 a, h.1 b) le
+  shifted_taken-rises (Skip n) h a b le = rw (h.0 a, h.0 b) le
   shifted_taken-rises (Delay n) h a b le = rw (h.1 a, h.1 b) (omega arith)
 
   counted_taken-rises : (r : Option (ℕ × ℕ)) → HasCounts m p r → (a b : ℕ) → a ≤ b → m.taken p a ≤ m.taken p b
@@ -26,7 +26,7 @@ module _ (m : Meaning) (p : ℕ) where
 
   shifted_starts : (s : Shift) → IsShifted m p s → (m.taken p 0 ≡ 0) × (m.given 0 ≡ 0)
   shifted_starts No h = elim h [ ]
-  shifted_starts (Skip n) h = (h.1 0, h.2 0 ∙ omega arith)
+  shifted_starts (Skip n) h = (h.0 0, h.1 0 ∙ omega arith)
   shifted_starts (Delay n) h = (h.1 0 ∙ omega arith, h.2 0)
 
   counted_starts : (r : Option (ℕ × ℕ)) → HasCounts m p r → (m.taken p 0 ≡ 0) × (m.given 0 ≡ 0)
@@ -36,7 +36,7 @@ module _ (m : Meaning) (p : ℕ) where
   -- a block fires at most a delay more often than it takes items
   shifted_near : (s : Shift) → IsShifted m p s → (k : ℕ) → k ≤ m.taken p k + 65536
   shifted_near No h k = elim h [ ]
-  shifted_near (Skip n) h k = rw (h.1 k) (omega arith)
+  shifted_near (Skip n) h k = rw (h.0 k) (omega arith)
   shifted_near (Delay n) h k = let few = h.0 in rw (h.1 k) (omega arith)
 
   counted_near : (r : Option (ℕ × ℕ)) → HasCounts m p r → (k : ℕ) → k ≤ m.taken p k + 65536
@@ -46,7 +46,7 @@ module _ (m : Meaning) (p : ℕ) where
   -- an item that firing k takes, counted from 0, has its tag at or behind what was given before
   shifted_in_time : (s : Shift) → IsShifted m p s → (k a : ℕ) → m.taken p k ≤ a → m.given k ≤ m.place p a
   shifted_in_time No h k a le = elim h [ ]
-  shifted_in_time (Skip n) h k a le = let le' : k ≤ a = rw (← h.1 k) le in rw (h.2 k, h.3 a) (omega arith)
+  shifted_in_time (Skip n) h k a le = let le' : k ≤ a = rw (← h.0 k) le in rw (h.1 k, h.2 a) (omega arith)
   shifted_in_time (Delay n) h k a le = let le' : k - n ≤ a = rw (← h.1 k) le in rw (h.2 k, h.3 a) (omega arith)
 
 pub given-rises : (m : Meaning) → IsLawful m → (a b : ℕ) → a ≤ b → m.given a ≤ m.given b

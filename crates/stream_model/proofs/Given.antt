@@ -1,12 +1,11 @@
 -- What firings give: cut anywhere, and as the inputs grow.
-use Rattle.std.proofs.Common.{◌≡◌, ℕ, zero, suc, ◌+◌, ◌-◌, ◌*◌, ◌<◌, ◌≤◌, Bool, true, false, ◌&&◌, List, [], ◌∷◌, ◌++◌, map, length, take, drop, get_or, refl, arith, ap, sym, ◌∙◌, subst, inl, inr, ℤ, add-suc, suc-add, mul-zero, MatchOption, Option, Some, None, append-nil}
-use Rattle.std.proofs.Math.Nat.{zero-add, add-zero, mul-le-mul_left}
-use Rattle.std.proofs.lemmas.Bool.{leb-true, le-leb, and_parts, and_from, cases_lt}
-use Rattle.std.proofs.lemmas.List.{map-append, take-append-le}
+use Rattle.std.proofs.Common.{◌≡◌, ℕ, zero, suc, ◌+◌, ◌-◌, ◌<◌, ◌≤◌, List, ◌∷◌, ◌++◌, map, length, refl, arith, ap, ◌∙◌, ℤ, suc-add}
+use Rattle.std.proofs.Math.Nat.{zero-add, add-zero}
+use Rattle.std.proofs.lemmas.List.{map-append}
 use Rattle.std.proofs.lemmas.List.FromFn.{length-map-range_with_len}
-use Rattle.stream_model.specs.Lists.{numbers_from, IsBeginning, greatest}
-use Rattle.stream_model.specs.Settings.{Held, in_force}
-use Rattle.stream_model.specs.Meaning.{Meaning, IsLawful, input, given_items, SameSettings, SameInputs}
+use Rattle.stream_model.specs.Lists.{numbers_from}
+use Rattle.stream_model.specs.Settings.{Held}
+use Rattle.stream_model.specs.Meaning.{Meaning, IsLawful, given_items, SameSettings, SameInputs}
 use Rattle.stream_model.proofs.Counts.{given-rises, given-zero}
 
 pub numbers_from-append : (n a b : ℕ) → numbers_from n (a + b) ≡ numbers_from n a ++ numbers_from (n + a) b
@@ -38,11 +37,11 @@ module _ (m : Meaning) (lawful : IsLawful m) where
       rw (length-map-range_with_len, zero-add k, g0) (omega arith)
 
   -- the first k firings give the same on inputs that agree in the items that they take
-  pub given_items-same : (ts us : List Held) (xs ys : List (List ℤ)) (p k : ℕ) → SameSettings m k ts us → SameInputs m k xs ys → given_items m ts xs 0 k p ≡ given_items m us ys 0 k p
-  given_items-same ts us xs ys p k settings inputs =
+  pub given_items-same : (ts us : List Held) (xs ys : List (List ℤ)) (p k : ℕ) → p < m.outputs.most → SameSettings m k ts us → SameInputs m k xs ys → given_items m ts xs 0 k p ≡ given_items m us ys 0 k p
+  given_items-same ts us xs ys p k port settings inputs =
       map-numbers_from (m.out ts xs p) (m.out us ys p) (m.given 0) (m.given (0 + k) - m.given 0)
       (λ j low high.
       let g0 = given-zero m lawful in
       let e : 0 + k ≡ k = zero-add k in
       let whole : m.given (0 + k) ≡ m.given k = ap m.given e in let below : j < m.given k = omega arith in
-      lawful.local ts us xs ys k p j settings inputs below)
+      lawful.local ts us xs ys k p j port settings inputs below)

@@ -2,8 +2,3 @@ pub mod Greatest
 pub mod Counts
 pub mod Given
 pub mod Streams
-pub mod Skips
-pub mod FiringCounts
-pub mod Growth
-pub mod Room
-pub mod Sizes

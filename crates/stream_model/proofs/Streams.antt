@@ -1,19 +1,19 @@
 -- Streams grow with what enters them, and solve their equations.
-use Rattle.std.proofs.Common.{◌≡◌, ℕ, zero, suc, ◌+◌, ◌-◌, ◌*◌, ◌<◌, ◌≤◌, Bool, true, false, ◌&&◌, List, [], ◌∷◌, ◌++◌, map, length, take, drop, get_or, refl, arith, ap, sym, ◌∙◌, subst, inl, inr, ℤ, add-suc, suc-add, mul-zero, MatchOption, Option, Some, None, append-nil, length-append, zero-lt-suc, eqb-true}
+use Rattle.std.proofs.Common.{◌≡◌, ℕ, zero, suc, ◌+◌, ◌-◌, ◌*◌, ◌<◌, ◌≤◌, Bool, true, false, ◌&&◌, List, [], ◌∷◌, map, length, take, get_or, refl, arith, ap, sym, ◌∙◌, inl, inr, ℤ, mul-zero, MatchOption, Option, Some, None, append-nil, length-append, zero-lt-suc, eqb-true}
 use Rattle.std.proofs.Math.Nat.{zero-add, add-zero, mul-add, mul-le-mul_left, mul-le-mul_right}
 use Rattle.std.proofs.lemmas.Bool.{leb-true, le-leb, and_parts, and_from, cases_lt}
-use Rattle.std.proofs.lemmas.List.{length-map, map-append, take-append-le, get_or_past}
+use Rattle.std.proofs.lemmas.List.{length-map, take-append-le, get_or_past}
 use Rattle.std.specs.List.{All, filter, flat_map}
 use Rattle.std.specs.Bool.{⊤}
 use Rattle.std.proofs.lemmas.List.Elements.{All-nil, All-append, All-head, All-tail, All-filter, filter_passes}
 use Rattle.std.proofs.lemmas.List.Concat.{flat_map-cons}
 use Rattle.std.specs.Prelude.{◌==◌}
-use Rattle.stream_model.specs.Lists.{below, numbers_from, IsBeginning, greatest}
+use Rattle.stream_model.specs.Lists.{below, IsBeginning}
 use Rattle.stream_model.specs.Settings.{Value, Held, in_force}
-use Rattle.stream_model.specs.Meaning.{Meaning, IsLawful, input, given_items, SameSettings, SameInputs}
+use Rattle.stream_model.specs.Meaning.{Meaning, input, given_items, SameSettings, SameInputs}
 use Rattle.stream_model.specs.Network.{Network, Connection, Handed, Node, IsSound, node_at, handed_at, role_at, is_source, writers_of, items_by, items_of, entering, HasLevels, enters, StreamsUnfold, taken_by, given_by, holds_inputs, within_limit, fires, stream_from, longest_delay}
-use Rattle.stream_model.proofs.Greatest.{greatest-le, greatest-passes, greatest-reaches}
-use Rattle.stream_model.proofs.Counts.{given-rises, taken-rises, taken-zero, given-zero, fires_near_taken}
+use Rattle.stream_model.proofs.Greatest.{greatest-passes, greatest-reaches}
+use Rattle.stream_model.proofs.Counts.{given-rises, taken-rises, taken-zero, fires_near_taken}
 use Rattle.stream_model.proofs.Given.{given_items-more, given_items-same}
 
 -- the inputs of one block, before and after they grew
@@ -30,8 +30,13 @@ take-beginning n xs ys b h = rw b.is (sym (take-append-le n xs b.rest h))
 pub beginning_refl : {A : Type 0} (xs : List A) → IsBeginning xs xs
 beginning_refl xs = record { rest = []; is = sym (append-nil xs) }
 
+-- the length of input 0 is the first of the lengths
+first-length : (xs : List (List ℤ)) → get_or (map length xs) 0 0 ≡ length (input xs 0)
+first-length [] = refl
+first-length (x ∷ xs) = refl
+
 -- the inputs hold what k firings take, port by port
-pub holds_inputs-at : (n : Node) (q : ℕ) (xs : List (List ℤ)) (k : ℕ) → holds_inputs n q xs k ≡ true → (p : ℕ) → p < length xs → taken_by n (q + p) k ≤ length (input xs p)
+pub holds_inputs-at : (n : Node) (q : ℕ) (xs : List (List ℤ)) (k : ℕ) → holds_inputs n q (map length xs) k ≡ true → (p : ℕ) → p < length xs → taken_by n (q + p) k ≤ length (input xs p)
 holds_inputs-at n q [] k h p in' = absurd (omega arith)
 holds_inputs-at n q (x ∷ xs) k h zero in' = rw (add-zero q) (leb-true _ _ (and_parts _ _ h).0)
 holds_inputs-at n q (x ∷ xs) k h (suc p) in' =
@@ -39,7 +44,7 @@ holds_inputs-at n q (x ∷ xs) k h (suc p) in' =
     let i : p < length xs = omega arith in
     rw e (holds_inputs-at n (suc q) xs k (and_parts _ _ h).1 p i)
 
-pub holds_inputs-from : (n : Node) (q : ℕ) (xs : List (List ℤ)) (k : ℕ) → ((p : ℕ) → p < length xs → taken_by n (q + p) k ≤ length (input xs p)) → holds_inputs n q xs k ≡ true
+pub holds_inputs-from : (n : Node) (q : ℕ) (xs : List (List ℤ)) (k : ℕ) → ((p : ℕ) → p < length xs → taken_by n (q + p) k ≤ length (input xs p)) → holds_inputs n q (map length xs) k ≡ true
 holds_inputs-from n q [] k h = refl
 holds_inputs-from n q (x ∷ xs) k h =
     let head : taken_by n q k ≤ length x = rw add-zero at (h 0 (zero-lt-suc (length xs))) in
@@ -68,15 +73,15 @@ module _ (n : Node) (sound : IsSound n) where
   taken_by-zero p = rw (taken_by, mul-zero n.multiple) (taken-zero n.meaning sound.lawful p)
 
   -- as many firings as a block makes, its inputs hold
-  pub fires-holds : (xs : List (List ℤ)) (k p : ℕ) → k ≤ fires n xs → p < length xs → taken_by n p k ≤ length (input xs p)
+  pub fires-holds : (xs : List (List ℤ)) (k p : ℕ) → k ≤ fires n (map length xs) → p < length xs → taken_by n p k ≤ length (input xs p)
   fires-holds xs zero p le in' = rw (taken_by-zero p) (omega arith)
   fires-holds xs (suc k) p le in' =
-      let ok = greatest-passes (λ k. holds_inputs n 0 xs k && within_limit n.meaning.limit k) (length (input xs 0) + longest_delay) (suc k) (zero-lt-suc k) le in
+      let ok = greatest-passes (λ k. holds_inputs n 0 (map length xs) k && within_limit n.meaning.limit k) (get_or (map length xs) 0 0 + longest_delay) (suc k) (zero-lt-suc k) le in
       rw zero-add at (holds_inputs-at n 0 xs (suc k) (and_parts _ _ ok).0 p in')
 
-  pub fires-within : (xs : List (List ℤ)) (k : ℕ) → 0 < k → k ≤ fires n xs → within_limit n.meaning.limit k ≡ true
+  pub fires-within : (xs : List (List ℤ)) (k : ℕ) → 0 < k → k ≤ fires n (map length xs) → within_limit n.meaning.limit k ≡ true
   fires-within xs k some le =
-      let ok = greatest-passes (λ k. holds_inputs n 0 xs k && within_limit n.meaning.limit k) (length (input xs 0) + longest_delay) k some le in
+      let ok = greatest-passes (λ k. holds_inputs n 0 (map length xs) k && within_limit n.meaning.limit k) (get_or (map length xs) 0 0 + longest_delay) k some le in
       (and_parts _ _ ok).1
 
   limit-falls : (limit : Option ℕ) (j k : ℕ) → j ≤ k → within_limit limit k ≡ true → within_limit limit j ≡ true
@@ -89,15 +94,15 @@ module _ (n : Node) (sound : IsSound n) where
       omega (arith, fires_near_taken n.meaning sound.lawful p (n.multiple * k))
 
   -- and it makes as many as they hold, up to its limit
-  pub fires-reaches : (xs : List (List ℤ)) (k : ℕ) → 0 < length xs → ((p : ℕ) → p < length xs → taken_by n p k ≤ length (input xs p)) → within_limit n.meaning.limit k ≡ true → k ≤ fires n xs
+  pub fires-reaches : (xs : List (List ℤ)) (k : ℕ) → 0 < length xs → ((p : ℕ) → p < length xs → taken_by n p k ≤ length (input xs p)) → within_limit n.meaning.limit k ≡ true → k ≤ fires n (map length xs)
   fires-reaches xs k some holds within =
       let first = holds 0 some in
-      greatest-reaches (λ k. holds_inputs n 0 xs k && within_limit n.meaning.limit k) (length (input xs 0) + longest_delay) k
+      greatest-reaches (λ k. holds_inputs n 0 (map length xs) k && within_limit n.meaning.limit k) (get_or (map length xs) 0 0 + longest_delay) k
       (λ j above upto.
       and_from _ _
       (holds_inputs-from n 0 xs j (λ p i. rw zero-add (let t = taken_by-rises p j k upto in let h = holds p i in omega arith)))
       (limit-falls n.meaning.limit j k upto within))
-      (let t = near 0 k in omega arith)
+      (let t = near 0 k in omega (arith, first-length xs))
 
   -- inputs that grew agree in the items that the firings so far took
   pub grown-same : (xs ys : List (List ℤ)) → HaveGrown xs ys → (k : ℕ) → ((p : ℕ) → p < length xs → taken_by n p k ≤ length (input xs p)) → SameInputs n.meaning (n.multiple * k) xs ys
@@ -110,29 +115,29 @@ module _ (n : Node) (sound : IsSound n) where
         ];
       }
 
-  pub fires-grows : (xs ys : List (List ℤ)) → HaveGrown xs ys → 0 < length xs → fires n xs ≤ fires n ys
+  pub fires-grows : (xs ys : List (List ℤ)) → HaveGrown xs ys → 0 < length xs → fires n (map length xs) ≤ fires n (map length ys)
   fires-grows xs ys grown some =
-      elim (cases_lt 0 (fires n xs)) [
-        | inl h ↦ fires-reaches ys (fires n xs) (rw (← grown.ports) some)
+      elim (cases_lt 0 (fires n (map length xs))) [
+        | inl h ↦ fires-reaches ys (fires n (map length xs)) (rw (← grown.ports) some)
             (λ p i. let i' : p < length xs = rw grown.ports i in
-            let t = fires-holds xs (fires n xs) p (omega arith) i' in
+            let t = fires-holds xs (fires n (map length xs)) p (omega arith) i' in
             let l = length-beginning (input xs p) (input ys p) (grown.each p) in
             omega arith)
-            (fires-within xs (fires n xs) h (omega arith))
+            (fires-within xs (fires n (map length xs)) h (omega arith))
         | inr h ↦ omega arith
       ]
 
   -- feeding only appends: a stream goes on as its inputs do
-  pub stream_from-grows : (ts : List Held) (xs ys : List (List ℤ)) (p : ℕ) → HaveGrown xs ys → 0 < length xs → IsBeginning (stream_from n ts xs p) (stream_from n ts ys p)
-  stream_from-grows ts xs ys p grown some =
+  pub stream_from-grows : (ts : List Held) (xs ys : List (List ℤ)) (p : ℕ) → p < n.meaning.outputs.most → HaveGrown xs ys → 0 < length xs → IsBeginning (stream_from n ts xs p) (stream_from n ts ys p)
+  stream_from-grows ts xs ys p port grown some =
       let more = fires-grows xs ys grown some in
-      let before = n.multiple * fires n xs in
-      let extra = n.multiple * (fires n ys - fires n xs) in
-      let sum : fires n xs + (fires n ys - fires n xs) ≡ fires n ys = omega arith in
-      let split : n.multiple * fires n ys ≡ before + extra = sym (ap (λ f. n.multiple * f) sum) ∙ mul-add n.multiple (fires n xs) (fires n ys - fires n xs) in
+      let before = n.multiple * fires n (map length xs) in
+      let extra = n.multiple * (fires n (map length ys) - fires n (map length xs)) in
+      let sum : fires n (map length xs) + (fires n (map length ys) - fires n (map length xs)) ≡ fires n (map length ys) = omega arith in
+      let split : n.multiple * fires n (map length ys) ≡ before + extra = sym (ap (λ f. n.multiple * f) sum) ∙ mul-add n.multiple (fires n (map length xs)) (fires n (map length ys) - fires n (map length xs)) in
       let same : given_items n.meaning ts xs 0 before p ≡ given_items n.meaning ts ys 0 before p =
-      given_items-same n.meaning sound.lawful ts ts xs ys p before (same_settings n.meaning before ts)
-      (grown-same xs ys grown (fires n xs) (λ p i. fires-holds xs (fires n xs) p (omega arith) i)) in
+      given_items-same n.meaning sound.lawful ts ts xs ys p before port (same_settings n.meaning before ts)
+      (grown-same xs ys grown (fires n (map length xs)) (λ p i. fires-holds xs (fires n (map length xs)) p (omega arith) i)) in
       record {
         rest = given_items n.meaning ts ys before extra p;
         is = rw (split, same) (given_items-more n.meaning sound.lawful ts ys p before extra);
@@ -155,11 +160,15 @@ pub record HandedMore (hs hs' : List Handed) : Type 0 where
   pub tapes : (b : ℕ) → IsBeginning (handed_at hs b).tape (handed_at hs' b).tape
   pub settings : (b : ℕ) → (handed_at hs b).settings ≡ (handed_at hs' b).settings
 
--- each block of the network is sound, and each that is no source has an input, from a block of the network
+-- a connection comes from an output that there is
+abbrev pub ComesFrom : Network → Connection → Type 0
+ComesFrom net c = (c.from < length net.nodes) × (c.out_port < (node_at net c.from).meaning.outputs.most)
+
+-- each block of the network is sound, and each that is no source has an input, from an output of the network
 pub record IsSoundNetwork (net : Network) : Type 0 where
   pub sound : (b : ℕ) → IsSound (node_at net b)
   pub fed : (b : ℕ) → b < length net.nodes → is_source (role_at net b) ≡ false → 0 < length (writers_of net b)
-  pub inside : (b : ℕ) → b < length net.nodes → All (λ c. c.from < length net.nodes) (writers_of net b)
+  pub inside : (b : ℕ) → b < length net.nodes → All (ComesFrom net) (writers_of net b)
 
 -- the streams that the writers give
 abbrev pub entering_by : ℕ → Network → List Handed → ℕ → List (List ℤ)
@@ -183,19 +192,19 @@ unfolding items_by
 items_by-worker turns net hs b p e = elim-false (is_source (role_at net b)) (handed_at hs b).tape (stream_from (node_at net b) (handed_at hs b).settings (entering_by turns net hs b) p) e
 
 module _ (net : Network) (sound : IsSoundNetwork net) (hs hs' : List Handed) (more : HandedMore hs hs') where
-  grows_at : (turns b p : ℕ) (s : Bool) → b < length net.nodes → is_source (role_at net b) ≡ s → ((c : Connection) → c.from < length net.nodes → IsBeginning (items_by turns net hs c.from c.out_port) (items_by turns net hs' c.from c.out_port)) → IsBeginning (items_by (suc turns) net hs b p) (items_by (suc turns) net hs' b p)
-  grows_at turns b p true in' e each = rw (items_by-source turns net hs b p e, items_by-source turns net hs' b p e) (more.tapes b)
-  grows_at turns b p false in' e each =
+  grows_at : (turns b p : ℕ) (s : Bool) → b < length net.nodes → p < (node_at net b).meaning.outputs.most → is_source (role_at net b) ≡ s → ((c : Connection) → ComesFrom net c → IsBeginning (items_by turns net hs c.from c.out_port) (items_by turns net hs' c.from c.out_port)) → IsBeginning (items_by (suc turns) net hs b p) (items_by (suc turns) net hs' b p)
+  grows_at turns b p true in' port e each = rw (items_by-source turns net hs b p e, items_by-source turns net hs' b p e) (more.tapes b)
+  grows_at turns b p false in' port e each =
       rw (items_by-worker turns net hs b p e, items_by-worker turns net hs' b p e, ← more.settings b)
-      (stream_from-grows (node_at net b) (sound.sound b) (handed_at hs b).settings (entering_by turns net hs b) (entering_by turns net hs' b) p
-      (map-grows (λ (c : Connection). c.from < length net.nodes) (λ (c : Connection). items_by turns net hs c.from c.out_port) (λ (c : Connection). items_by turns net hs' c.from c.out_port) (writers_of net b) (sound.inside b in') each)
+      (stream_from-grows (node_at net b) (sound.sound b) (handed_at hs b).settings (entering_by turns net hs b) (entering_by turns net hs' b) p port
+      (map-grows (ComesFrom net) (λ (c : Connection). items_by turns net hs c.from c.out_port) (λ (c : Connection). items_by turns net hs' c.from c.out_port) (writers_of net b) (sound.inside b in') each)
       (map-length (λ (c : Connection). items_by turns net hs c.from c.out_port) (writers_of net b) (sound.fed b in' e)))
 
   -- feeding only appends to every stream
-  pub items_by-grows : (turns b p : ℕ) → b < length net.nodes → IsBeginning (items_by turns net hs b p) (items_by turns net hs' b p)
+  pub items_by-grows : (turns b p : ℕ) → b < length net.nodes → p < (node_at net b).meaning.outputs.most → IsBeginning (items_by turns net hs b p) (items_by turns net hs' b p)
   unfolding items_by
-  items_by-grows zero b p in' = more.tapes b
-  items_by-grows (suc turns) b p in' = grows_at turns b p (is_source (role_at net b)) in' refl (λ c. items_by-grows turns c.from c.out_port)
+  items_by-grows zero b p in' port = more.tapes b
+  items_by-grows (suc turns) b p in' port = grows_at turns b p (is_source (role_at net b)) in' port refl (λ c from. items_by-grows turns c.from c.out_port from.0 from.1)
 
 All-flat_map : {A B : Type 0} (P : B → Type 0) (f : A → List B) (xs : List A) → ((x : A) → All P (f x)) → All P (flat_map f xs)
 All-flat_map P f [] each = All-nil P

@@ -4,12 +4,3 @@ pub mod Math
 pub mod Filters
 pub mod Bits
 pub mod Rates
-pub mod Worked
-pub mod Laws
-pub mod WindowLaws
-pub mod EndsLaws
-pub mod MathLaws
-pub mod FilterLaws
-pub mod RateLaws
-pub mod BitLaws
-pub mod RegisterLaws

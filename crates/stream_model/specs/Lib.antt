@@ -4,9 +4,7 @@ pub mod Settings
 pub mod Tags
 pub mod Meaning
 pub mod Network
+pub mod Claims
 pub mod Machine
 pub mod Kernels
 pub mod Kinds
-pub mod Worked
-pub mod Rates
-pub mod Graphs

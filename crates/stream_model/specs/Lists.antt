@@ -1,6 +1,6 @@
 -- Words on lists that the definitions share.
 use Rattle.std.specs.List.{range_with_len}
-use Rattle.std.specs.Prelude.{◌≡◌, ℕ, zero, suc, ◌+◌, ◌-◌, ◌≤◌, ◌<◌, ℤ, pos, List, [], ◌∷◌, ◌++◌, Bool, true, false, slice_index_or, nat_le, if◌then◌else◌, take, drop, replicate, map}
+use Rattle.std.specs.Prelude.{◌≡◌, ℕ, zero, suc, ◌+◌, ◌-◌, ℤ, pos, List, ◌++◌, Bool, true, false, slice_index_or, nat_le, if◌then◌else◌, take, drop, replicate}
 
 -- n, n + 1 and so on: count numbers
 abbrev pub numbers_from : ℕ → ℕ → List ℕ

@@ -1,21 +1,24 @@
 -- The machine of calls: each call takes a state to a reply and the next state. Which block acts, when and how much is the
 -- caller's choice; the reply to a call in a state is not.
-use Rattle.std.specs.Prelude.{ℕ, zero, suc, ◌+◌, ◌-◌, ◌*◌, ◌^◌, ◌<◌, ◌≤◌, ◌≡◌, min, ℤ, pos, int_le, List, [], ◌∷◌, ◌++◌, length, map, filter, find, Option, Some, None, MatchOption, Bool, true, false, ◌&&◌, ◌||◌, not, nat_le, nat_lt, ◌==◌, if◌then◌else◌, slice_index_or, slice_set, slice_range, is_some, is_none}
-use Rattle.std.specs.List.{list_all, list_any}
+use Rattle.std.specs.Prelude.{ℕ, ◌+◌, ◌*◌, ◌^◌, ◌≡◌, min, ℤ, int_le, List, [], ◌∷◌, ◌++◌, length, map, Option, Some, None, Bool, true, false, ◌&&◌, ◌||◌, not, nat_le, nat_lt, ◌==◌, if◌then◌else◌, slice_index_or, slice_set, slice_range}
+use Rattle.std.specs.List.{list_all}
 use Rattle.std.specs.Ordering.{int_eq}
 use Rattle.stream_model.specs.declared.vocabulary.ItemType.{ItemType}
 use Rattle.stream_model.specs.declared.vocabulary.ItemType.TheVariants.{Byte, Short, Int}
 use Rattle.stream_model.specs.declared.vocabulary.Wanted.{Wanted}
 use Rattle.stream_model.specs.declared.vocabulary.Wanted.TheVariants as wanted
-use Rattle.stream_model.specs.Lists.{below, greatest}
+use Rattle.stream_model.specs.Lists.{below}
 use Rattle.stream_model.specs.Settings.{Value, Number, Taps, Held}
 use Rattle.stream_model.specs.Tags.{Tag, Mark, tags_within}
-use Rattle.stream_model.specs.Meaning.{Meaning, windows_of, held_of, input}
-use Rattle.stream_model.specs.Network.{Node, Connection, Network, Handed, Progress, State, node_at, handed_at, progress_at, is_source, is_keeper, role_at, writer_of, writers_of, readers_of, used_outputs, taken_by, given_by, within_limit, entering, tags_entering}
+use Rattle.stream_model.specs.Meaning.{windows_of, held_of, input}
+use Rattle.stream_model.specs.Network.{Connection, Network, Handed, Progress, State, node_at, handed_at, progress_at, is_source, is_keeper, role_at, writers_of, readers_of, used_outputs, taken_by, given_by, entering, tags_entering}
+use Rattle.stream_model.specs.Claims.{InputCounts, ReaderCounts, OutputCounts, Counts, Decision, IsDone, IsBusy, Ends, Fires, LacksItems, LacksRoom, decide}
 
--- what a claim hands out: the block, its first firing and how many, the windows on its inputs, its settings over them and its state word
+-- what a claim hands out: the block with how many of its outputs are used, its first firing and how many, the windows on its inputs, its
+-- settings over them and its state word
 pub record Job : Type 0 where
   pub block : ℕ
+  pub outputs : ℕ
   pub first : ℕ
   pub count : ℕ
   pub windows : List (List ℤ)
@@ -92,67 +95,48 @@ Capacities = List (List ℕ)
 abbrev pub capacity_at : Capacities → ℕ → ℕ → ℕ
 capacity_at caps b p = slice_index_or (slice_index_or caps b []) p 0
 
--- how many items have come to input p of block b; a source's tape is its input 0
-abbrev pub written : Network → State → ℕ → ℕ → ℕ
-written net st b p =
-    if is_source (role_at net b) then length (handed_at st.handed b).tape
-    else (let c = writer_of net b p in given_by (node_at net c.from) (progress_at st.progress c.from).firings)
+-- how many items have come to an input, and whether nothing more will: its writer is done
+abbrev pub input_counts : Network → State → Connection → InputCounts
+input_counts net st c =
+    let writer = progress_at st.progress c.from in
+    record { written = given_by (node_at net c.from) writer.firings; ended = writer.done }
 
--- the used inputs of a block
-abbrev pub inputs_of : Network → ℕ → List ℕ
-inputs_of net b = if is_source (role_at net b) then 0 ∷ [] else below (length (writers_of net b))
+-- a source's tape is its input 0, which has ended once the tape is closed
+abbrev pub tape_counts : Handed → InputCounts
+tape_counts h = record { written = length h.tape; ended = h.closed }
 
--- how many items of input p the committed firings and r more take
-abbrev pub taken_after : Network → State → ℕ → ℕ → ℕ → ℕ
-taken_after net st b p r = taken_by (node_at net b) p ((progress_at st.progress b).firings + r)
+-- the used inputs of block b
+unfoldable pub counts_in : Network → State → ℕ → List InputCounts
+counts_in net st b =
+    elim (is_source (role_at net b)) [
+      | true ↦ tape_counts (handed_at st.handed b) ∷ []
+      | false ↦ map (input_counts net st) (writers_of net b)
+    ]
 
--- input p holds the items of r more firings
-abbrev pub has_items_on : Network → State → ℕ → ℕ → ℕ → Bool
-has_items_on net st b r p = nat_le (taken_after net st b p r) (written net st b p)
+-- how many items a reader has taken, and whether it is done
+abbrev pub reader_counts : Network → State → Connection → ReaderCounts
+reader_counts net st c =
+    let reader = progress_at st.progress c.to in
+    record { taken = taken_by (node_at net c.to) c.in_port reader.firings; done = reader.done }
 
-abbrev pub has_items : Network → State → ℕ → ℕ → Bool
-has_items net st b r = list_all (has_items_on net st b r) (inputs_of net b)
+abbrev pub output_counts : Network → Capacities → State → ℕ → ℕ → OutputCounts
+output_counts net caps st b p = record { capacity = capacity_at caps b p; readers = map (reader_counts net st) (readers_of net b p) }
 
--- a reader is live unless its block is done
-abbrev pub is_live : State → Connection → Bool
-is_live st c = not (progress_at st.progress c.to).done
+-- the used outputs of block b
+abbrev pub counts_out : Network → Capacities → State → ℕ → List OutputCounts
+counts_out net caps st b = map (output_counts net caps st b) (below (used_outputs net b))
 
--- after r more firings, output p is at most its capacity ahead of a reader
-abbrev pub has_room_for : Network → Capacities → State → ℕ → ℕ → ℕ → Connection → Bool
-has_room_for net caps st b r p c =
-    nat_le (given_by (node_at net b) ((progress_at st.progress b).firings + r))
-    (taken_by (node_at net c.to) c.in_port (progress_at st.progress c.to).firings + capacity_at caps b p)
-
--- output p has room for r more firings: no live reader would fall further behind than the capacity
-abbrev pub has_room_on : Network → Capacities → State → ℕ → ℕ → ℕ → Bool
-has_room_on net caps st b r p = list_all (λ c. not (is_live st c) || has_room_for net caps st b r p c) (readers_of net b p)
-
-abbrev pub has_room : Network → Capacities → State → ℕ → ℕ → Bool
-has_room net caps st b r = list_all (has_room_on net caps st b r) (below (used_outputs net b))
-
--- how many firings a claim of at most max gets: as many as there are items for, room for, and left of the limit
-abbrev pub may_fire : Network → Capacities → State → ℕ → ℕ → Bool
-may_fire net caps st b r =
-    has_items net st b r && has_room net caps st b r && within_limit (node_at net b).meaning.limit ((progress_at st.progress b).firings + r)
-
-unfoldable pub most : Network → Capacities → State → ℕ → ℕ → ℕ
-most net caps st b max = greatest (may_fire net caps st b) max
-
--- the block has outputs, and nobody reads them any more
-abbrev pub is_unread : Network → State → ℕ → Bool
-is_unread net st b =
-    nat_lt 0 (used_outputs net b) && list_all (λ p. list_all (λ c. not (is_live st c)) (readers_of net b p)) (below (used_outputs net b))
-
--- nothing more will come to input p: its writer is done, or the source's tape is closed
-abbrev pub is_ended : Network → State → ℕ → ℕ → Bool
-is_ended net st b p =
-    if is_source (role_at net b) then (handed_at st.handed b).closed else (progress_at st.progress (writer_of net b p).from).done
-
--- the block will not fire again: its limit is reached, or an ended input lacks the items of one firing
-abbrev pub is_finished : Network → State → ℕ → Bool
-is_finished net st b =
-    not (within_limit (node_at net b).meaning.limit ((progress_at st.progress b).firings + 1))
-    || list_any (λ p. is_ended net st b p && not (has_items_on net st b 1 p)) (inputs_of net b)
+-- what a claim of block b looks at
+abbrev pub counts_of : Network → Capacities → State → ℕ → Counts
+counts_of net caps st b =
+    let own = progress_at st.progress b in
+    record {
+      firings = own.firings;
+      claimed = own.claimed;
+      done = own.done;
+      inputs = counts_in net st b;
+      outputs = counts_out net caps st b;
+    }
 
 -- the firings of a job: the windows are those of the streams that enter the block as they are now
 unfoldable pub job_of : Network → State → ℕ → ℕ → Job
@@ -164,6 +148,7 @@ job_of net st b count =
     let xs = entering net st.handed b in
     record {
       block = b;
+      outputs = used_outputs net b;
       first = done;
       count = count;
       windows = windows_of n.meaning xs first (n.multiple * count);
@@ -178,29 +163,21 @@ with_progress st b s = record st { progress = slice_set st.progress b s }
 abbrev pub with_handed : State → ℕ → Handed → State
 with_handed st b h = record st { handed = slice_set st.handed b h }
 
--- what a block that cannot fire waits for: the lowest input that lacks the items of one firing, else the lowest output without room for one
-abbrev pub waiting_of : Network → Capacities → State → ℕ → Reply
-waiting_of net caps st b = waits_for (find (λ p. not (has_items_on net st b 1 p)) (inputs_of net b)) (find (λ p. not (has_room_on net caps st b 1 p)) (below (used_outputs net b)))
-  where
-    waits_for : Option ℕ → Option ℕ → Reply
-    waits_for (Some p) q = WaitingItems p
-    waits_for None (Some q) = WaitingRoom q
-    waits_for None None = Done
-
--- a claim, in the order of its cases: done already; a claim in flight; nobody reads the outputs; firings that fit; the end; waiting
 abbrev pub ended : State → ℕ → State
 ended st b = with_progress st b (record (progress_at st.progress b) { done = true })
 
-abbrev pub claim_firings : Network → Capacities → State → ℕ → ℕ → Reply × State
-claim_firings net caps st b zero = if is_finished net st b then (Done, ended st b) else (waiting_of net caps st b, st)
-claim_firings net caps st b (suc n) = (Claimed (job_of net st b (suc n)), with_progress st b (record (progress_at st.progress b) { claimed = suc n }))
+-- the answer to what a claim decides, and the state after it
+abbrev pub claimed_by : Network → State → ℕ → Decision → Reply × State
+claimed_by net st b IsDone = (Done, st)
+claimed_by net st b IsBusy = (Busy, st)
+claimed_by net st b Ends = (Done, ended st b)
+claimed_by net st b (Fires count) = (Claimed (job_of net st b count), with_progress st b (record (progress_at st.progress b) { claimed = count }))
+claimed_by net st b (LacksItems p) = (WaitingItems p, st)
+claimed_by net st b (LacksRoom p) = (WaitingRoom p, st)
 
+-- a claim of at most max firings, which are at least one
 unfoldable pub claim_of : Network → Capacities → State → ℕ → ℕ → Reply × State
-claim_of net caps st b max =
-    if (progress_at st.progress b).done then (Done, st)
-    else (if nat_lt 0 (progress_at st.progress b).claimed then (Busy, st)
-    else (if is_unread net st b then (Done, ended st b)
-    else claim_firings net caps st b (most net caps st b max)))
+claim_of net caps st b max = claimed_by net st b (decide (node_at net b) (counts_of net caps st b) max)
 
 -- two jobs that agree in all that a commit compares
 abbrev pub lists_agree : List ℤ → List ℤ → Bool
@@ -229,7 +206,7 @@ settings_agree (g ∷ gs) (h ∷ hs) = g.at == h.at && values_agree g.value h.va
 
 abbrev pub jobs_agree : Job → Job → Bool
 jobs_agree i j =
-    i.block == j.block && i.first == j.first && i.count == j.count && windows_agree i.windows j.windows
+    i.block == j.block && i.outputs == j.outputs && i.first == j.first && i.count == j.count && windows_agree i.windows j.windows
     && settings_agree i.held j.held && i.word == j.word
 
 -- the job is the block's claim in flight
@@ -302,7 +279,7 @@ is_wanted (wanted.Taps count) (Taps h) = length h == count
 
 -- the first item at which a setting may still be placed: behind what is committed and claimed
 abbrev pub floor_of : Network → State → ℕ → ℕ
-floor_of net st b = taken_after net st b 0 (progress_at st.progress b).claimed
+floor_of net st b = let own = progress_at st.progress b in taken_by (node_at net b) 0 (own.firings + own.claimed)
 
 abbrev pub place_setting : ℕ → State → ℕ → ℕ → Value → Reply × State
 place_setting floor st b at v =
@@ -378,6 +355,11 @@ is_quiet net caps st =
 abbrev pub is_all_done : State → Bool
 is_all_done st = list_all (λ s. s.done) st.progress
 
--- each sink holds all items of the stream that enters it
+-- a sink holds all items of the stream that enters it, and all its tags: those that lie on items that it has taken
+pub record HoldsAll (net : Network) (st : State) (b : ℕ) : Type 0 where
+  pub items : (progress_at st.progress b).firings ≡ length (input (entering net st.handed b) 0)
+  pub tags : tags_within 0 (progress_at st.progress b).firings (tags_entering net st.handed b 0) ≡ tags_entering net st.handed b 0
+
+-- each sink does
 abbrev pub IsWhole : Network → State → Type 0
-IsWhole net st = (b : ℕ) → is_keeper (role_at net b) ≡ true → (progress_at st.progress b).firings ≡ length (input (entering net st.handed b) 0)
+IsWhole net st = (b : ℕ) → is_keeper (role_at net b) ≡ true → HoldsAll net st b

@@ -1,5 +1,5 @@
 -- What a block means, over whole lists. Counts are base firings: a firing is one use of the block's equation.
-use Rattle.std.specs.Prelude.{ℕ, zero, suc, ◌+◌, ◌-◌, ◌*◌, ◌/◌, ◌^◌, ◌<◌, ◌≤◌, ◌≡◌, ℤ, pos, ◌≤ℤ◌, List, [], ◌∷◌, length, map, take, Option, Some, None, IsSome, MatchOption, All, ⊤, slice_index_or, ◌≢◌}
+use Rattle.std.specs.Prelude.{ℕ, suc, ◌+◌, ◌-◌, ◌*◌, ◌/◌, ◌<◌, ◌≤◌, ◌≡◌, ℤ, ◌≤ℤ◌, List, [], ◌∷◌, length, map, take, Option, Some, None, IsSome, MatchOption, All, ⊤, slice_index_or}
 use Rattle.stream_model.specs.declared.vocabulary.Role.{Role}
 use Rattle.stream_model.specs.declared.vocabulary.Role.TheVariants.{Source, Work, Keep, Discard}
 use Rattle.stream_model.specs.declared.vocabulary.Signature.{Signature}
@@ -47,6 +47,10 @@ IsWanted (wanted.Taps count) (Taps h) = length h ≡ count
 IsWanted (wanted.Number least most) (Taps h) = ⊥
 IsWanted (wanted.Taps count) (Number z) = ⊥
 
+-- each setting has a value that the block's setting may have
+abbrev pub AreWanted : Meaning → List Held → Type 0
+AreWanted m ts = MatchOption m.setting ⊤ (λ w. All (λ (h : Held). IsWanted w h.value) ts)
+
 -- two lists of settings are in force alike at the items that k firings take (those of input 0)
 abbrev pub SameSettings : Meaning → ℕ → List Held → List Held → Type 0
 SameSettings m k ts us = MatchOption m.own ⊤ (λ own. (a : ℕ) → a < m.taken 0 k → in_force own ts a ≡ in_force own us a)
@@ -67,10 +71,10 @@ pub record IsAtRate (m : Meaning) (p d i : ℕ) : Type 0 where
   pub not_early : (s : ℕ) → s / d * i ≤ m.place p s
   pub not_far : (s : ℕ) → m.place p s ≤ s / d * i + i
 
--- a block without a rate leaves out its first items, or puts zeros before them
+-- a block without a rate leaves out its first items, or puts zeros before them: not too many, since each delay adds to the numbers of items
 abbrev pub IsShifted : Meaning → ℕ → Shift → Type 0
 IsShifted m p No = ⊥
-IsShifted m p (Skip n) = (n ≤ 2 ^ 32) × ((k : ℕ) → m.taken p k ≡ k) × ((k : ℕ) → m.given k ≡ k - n) × ((s : ℕ) → m.place p s ≡ s - n)
+IsShifted m p (Skip n) = ((k : ℕ) → m.taken p k ≡ k) × ((k : ℕ) → m.given k ≡ k - n) × ((s : ℕ) → m.place p s ≡ s - n)
 IsShifted m p (Delay n) = (n ≤ 65536) × ((k : ℕ) → m.taken p k ≡ k - n) × ((k : ℕ) → m.given k ≡ k) × ((s : ℕ) → m.place p s ≡ s + n)
 
 abbrev pub HasCounts : Meaning → ℕ → Option (ℕ × ℕ) → Type 0
@@ -105,9 +109,9 @@ pub record IsLawful (m : Meaning) : Type 0 where
   -- a block without a rate has no setting
   pub settable : IsSome m.setting → IsSome (m.rate 0)
   pub starts : (ts : List Held) (xs : List (List ℤ)) → m.word ts xs 0 ≡ m.start
-  pub in_range : (ts : List Held) (xs : List (List ℤ)) (p n : ℕ) → All (AreItems m.inputs.item) xs → IsItem m.outputs.item (m.out ts xs p n)
+  pub in_range : (ts : List Held) (xs : List (List ℤ)) (p n : ℕ) → p < m.outputs.most → AreWanted m ts → All (AreItems m.inputs.item) xs → IsItem m.outputs.item (m.out ts xs p n)
   -- what k firings give, and the state word after them, depends on the items that they take and on the settings in force at these alone
-  pub local : (ts us : List Held) (xs ys : List (List ℤ)) (k p n : ℕ) → SameSettings m k ts us → SameInputs m k xs ys → n < m.given k → m.out ts xs p n ≡ m.out us ys p n
+  pub local : (ts us : List Held) (xs ys : List (List ℤ)) (k p n : ℕ) → p < m.outputs.most → SameSettings m k ts us → SameInputs m k xs ys → n < m.given k → m.out ts xs p n ≡ m.out us ys p n
   pub local_word : (ts us : List Held) (xs ys : List (List ℤ)) (k : ℕ) → SameSettings m k ts us → SameInputs m k xs ys → m.word ts xs k ≡ m.word us ys k
 
 -- the windows on inputs p, p + 1, ..: the items that firings first to below first + n take, behind the past that they read

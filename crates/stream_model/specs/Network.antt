@@ -1,16 +1,15 @@
 -- A network of blocks, and the streams that its equations give (Kahn 1974): a stream depends on the tapes and settings alone, never on a schedule.
-use Rattle.std.specs.Prelude.{ℕ, zero, suc, ◌+◌, ◌-◌, ◌*◌, ◌^◌, ◌<◌, ◌≤◌, ◌≡◌, max, ℤ, pos, List, [], ◌∷◌, ◌++◌, length, map, filter, flat_map, find, Option, Some, None, IsSome, unwrap_or, Bool, true, false, ◌&&◌, nat_le, ◌==◌, slice_index_or, if◌then◌else◌, All}
-use Rattle.std.specs.List.{list_all}
+use Rattle.std.specs.Prelude.{ℕ, zero, suc, ◌+◌, ◌*◌, ◌<◌, ◌≤◌, ◌≡◌, max, ℤ, pos, List, [], ◌∷◌, ◌++◌, length, map, filter, flat_map, Option, Some, None, Bool, true, false, ◌&&◌, nat_le, ◌==◌, slice_index_or, if◌then◌else◌, All}
 use Rattle.stream_model.specs.declared.vocabulary.Role.{Role}
 use Rattle.stream_model.specs.declared.vocabulary.Role.TheVariants.{Source, Work, Keep, Discard}
 use Rattle.stream_model.specs.declared.vocabulary.ItemType.TheVariants.{Byte}
 use Rattle.stream_model.specs.declared.vocabulary.Shift.TheVariants.{No}
 use Rattle.stream_model.specs.declared.vocabulary.Policy.{Policy}
 use Rattle.stream_model.specs.declared.vocabulary.Policy.TheVariants as policy
-use Rattle.stream_model.specs.Lists.{below, numbers_from, item, greatest}
-use Rattle.stream_model.specs.Settings.{Value, Held}
+use Rattle.stream_model.specs.Lists.{below, greatest}
+use Rattle.stream_model.specs.Settings.{Held}
 use Rattle.stream_model.specs.Tags.{Tag, sorted_tags, tags_within}
-use Rattle.stream_model.specs.Meaning.{Meaning, IsLawful, input, given_items}
+use Rattle.stream_model.specs.Meaning.{Meaning, IsLawful, given_items}
 
 -- a block in a network, with its options
 pub record Node : Type 0 where
@@ -145,22 +144,22 @@ abbrev pub within_limit : Option ℕ → ℕ → Bool
 within_limit None k = true
 within_limit (Some n) k = nat_le k n
 
--- the inputs, from input p on, hold what k firings take
-abbrev pub holds_inputs : Node → ℕ → List (List ℤ) → ℕ → Bool
+-- inputs p, p + 1, .. with so many items hold what k firings take
+abbrev pub holds_inputs : Node → ℕ → List ℕ → ℕ → Bool
 holds_inputs n p [] k = true
-holds_inputs n p (x ∷ xs) k = nat_le (taken_by n p k) (length x) && holds_inputs n (suc p) xs k
+holds_inputs n p (count ∷ counts) k = nat_le (taken_by n p k) count && holds_inputs n (suc p) counts k
 
--- how often a block fires on these whole inputs: the greatest count whose items are there, up to the limit.
+-- how often a block fires on whole inputs of these lengths: the greatest count whose items are there, up to the limit.
 -- No block takes fewer items than it fires, less the longest delay
 abbrev pub longest_delay : ℕ
 longest_delay = 65536
 
-abbrev pub fires : Node → List (List ℤ) → ℕ
-fires n xs = greatest (λ k. holds_inputs n 0 xs k && within_limit n.meaning.limit k) (length (input xs 0) + longest_delay)
+abbrev pub fires : Node → List ℕ → ℕ
+fires n counts = greatest (λ k. holds_inputs n 0 counts k && within_limit n.meaning.limit k) (slice_index_or counts 0 0 + longest_delay)
 
 -- the stream of a block's output, from the whole streams that enter it
 abbrev pub stream_from : Node → List Held → List (List ℤ) → ℕ → List ℤ
-stream_from n ts xs p = given_items n.meaning ts xs 0 (n.multiple * fires n xs) p
+stream_from n ts xs p = given_items n.meaning ts xs 0 (n.multiple * fires n (map length xs)) p
 
 -- the items of the streams: a source's is its tape, any other's is its block's equation on the streams that enter it.
 -- Connections form no loop, so as many turns as there are blocks reach each stream

@@ -1,5 +1,5 @@
 -- Settings at item numbers: which value is in force at an item.
-use Rattle.std.specs.Prelude.{ℕ, suc, ◌+◌, ◌-◌, ◌<◌, ◌≤◌, ◌≡◌, ℤ, pos, List, [], ◌∷◌, Option, Some, None, Bool, true, false, ◌&&◌, nat_le, ◌==◌, if◌then◌else◌, filter_map}
+use Rattle.std.specs.Prelude.{ℕ, suc, ◌-◌, ℤ, List, [], ◌∷◌, Option, Some, None, ◌&&◌, nat_le, ◌==◌, if◌then◌else◌, filter_map}
 use Rattle.stream_model.specs.Lists.{numbers_from}
 
 -- what a setting sets: one number, or the taps of a filter

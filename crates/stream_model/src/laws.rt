@@ -1,8 +1,8 @@
-//! Laws of the definitions: functions with empty bodies, whose clauses are what is proved.
+//! Laws of streams.
 
-pub mod graphs;
-pub mod kernels;
-pub mod kinds;
-pub mod machine;
-pub mod rates;
-pub mod streams;
+ghost use Rattle.stream_model.specs.Network.{StreamsUnfold};
+
+/// In a network whose connections form no loop, each stream is its block's equation on the streams that enter the block.
+pub fn streams_solve_their_equations()
+    ensures { StreamsUnfold }
+{}

@@ -38,10 +38,10 @@ loop-block-preserved g c =
     let hs = c.args.h.now in
     let xs = c.args.x.now in
     let e : 8 * b + 8 ≡ 8 * (b + 1) = omega arith in
-    let r = dots_more g.T.Lane.number hs xs (8 * b) b (omega arith) (omega arith) (omega arith) c.requires.taps
+    let r = dots_more g.T.Number.number hs xs (8 * b) b (omega arith) (omega arith) (omega arith) c.requires.taps
     (map (to_z w64) c.loop-block.sums) c.products.result c.added-sums.result c.loop-block.invariant.0 c.loop-block.invariant.1 c.loop-block.invariant.2
     c.products.ensures.value c.products.ensures.within c.added-sums.ensures in
-    (r.0 ∙ ap (λ n. sum_below n (tap_product hs (map g.T.Lane.number xs))) e, r.1, r.2)
+    (r.0 ∙ ap (λ n. sum_below n (tap_product hs (map g.T.Number.number xs))) e, r.1, r.2)
 
 pub returns-clause-within : goal.returns-clause-within
 returns-clause-within g c =

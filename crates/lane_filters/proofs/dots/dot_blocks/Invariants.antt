@@ -7,6 +7,6 @@ use Rattle.lane_filters.proofs.dots.dot_blocks.Given as goal
 
 abbrev pub invariant-loop-block : goal.invariant-loop-block
 invariant-loop-block g l =
-    (total (map (to_z w64) l.sums) ≡ sum_below (8 * l.block) (tap_product l.h (map g.T.Lane.number l.x)))
+    (total (map (to_z w64) l.sums) ≡ sum_below (8 * l.block) (tap_product l.h (map g.T.Number.number l.x)))
     × AreWithin (l.block * 2 ^ 46) (map (to_z w64) l.sums)
     × (length (map (to_z w64) l.sums) ≡ 8)

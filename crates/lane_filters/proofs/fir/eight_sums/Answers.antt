@@ -16,7 +16,7 @@ added-sums-requires-clause-left g c =
 
 pub loop-j-preserved : goal.loop-j-preserved
 loop-j-preserved g c =
-    eight_more g.T.Lane.number c.args.h.now c.args.x.now c.args.at c.loop-j.j c.loop-j-test.true (omega arith) c.requires.room c.requires.taps_in_range
+    eight_more g.T.Number.number c.args.h.now c.args.x.now c.args.at c.loop-j.j c.loop-j-test.true (omega arith) c.requires.room c.requires.taps_in_range
     (map (to_z w64) c.loop-j.sums) c.products.result c.added-sums.result c.loop-j.invariant.0 c.loop-j.invariant.1 c.products.ensures.value c.products.ensures.within
     c.added-sums.ensures
 

@@ -5,5 +5,5 @@ use Rattle.lane_filters.proofs.fir.eight_sums.Given as goal
 
 abbrev pub invariant-loop-j : goal.invariant-loop-j
 invariant-loop-j g l =
-    (map (to_z w64) l.sums ≡ tap_sums l.h (map g.T.Lane.number l.x) l.j l.at)
+    (map (to_z w64) l.sums ≡ tap_sums l.h (map g.T.Number.number l.x) l.j l.at)
     × AreWithin (l.j * 2 ^ 46) (map (to_z w64) l.sums)

@@ -5,4 +5,4 @@ use Rattle.lane_filters.proofs.fir.fir_blocks.Given as goal
 
 abbrev pub invariant-loop-pair : goal.invariant-loop-pair
 invariant-loop-pair g l =
-    take (16 * l.pair) (map g.T.Lane.number l.out) ≡ listed (16 * l.pair) (output g.T.Lane.kind l.h (map g.T.Lane.number l.x) l.shift)
+    take (16 * l.pair) (map g.T.Number.number l.out) ≡ listed (16 * l.pair) (output g.T.Number.kind l.h (map g.T.Number.number l.x) l.shift)

@@ -28,10 +28,10 @@ added-high-requires-clause-right g c = near_again (2 ^ 46) (2 ^ 60) c.products-i
 pub loop-j-preserved : goal.loop-j-preserved
 loop-j-preserved g c =
     let few : c.loop-j.j < 256 = omega arith in
-    let low = eight_more g.T.Lane.number c.args.h.now c.args.x.now c.args.at c.loop-j.j c.loop-j-test.true few (omega arith) c.requires.taps_in_range
+    let low = eight_more g.T.Number.number c.args.h.now c.args.x.now c.args.at c.loop-j.j c.loop-j-test.true few (omega arith) c.requires.taps_in_range
     (map (to_z w64) c.loop-j.low) c.products.result c.added-low.result c.loop-j.invariant.0 c.loop-j.invariant.1 c.products.ensures.value c.products.ensures.within
     c.added-low.ensures in
-    let high = eight_more g.T.Lane.number c.args.h.now c.args.x.now (c.args.at + 8) c.loop-j.j c.loop-j-test.true few (omega arith) c.requires.taps_in_range
+    let high = eight_more g.T.Number.number c.args.h.now c.args.x.now (c.args.at + 8) c.loop-j.j c.loop-j-test.true few (omega arith) c.requires.taps_in_range
     (map (to_z w64) c.loop-j.high) c.products-in-loop-j.result c.added-high.result c.loop-j.invariant.2 c.loop-j.invariant.3 c.products-in-loop-j.ensures.value
     c.products-in-loop-j.ensures.within c.added-high.ensures in
     (low.0, low.1, high.0, high.1)

@@ -6,6 +6,6 @@ use Rattle.lane_kernels.proofs.arithmetic.scale_sat.Goals as goal
 
 pub returns : goal.returns
 returns g c =
-    let numbers = map g.T.Lane.number c.args.a.now in
-    c.map_blocks.ensures ∙ (λ i. map (scaled g.T.Lane.kind (to_z-of_z w16 c.args.factor c.ranges.factor i) c.args.shift) numbers)
-    ∙ mapped_is_listed (scaled g.T.Lane.kind c.args.factor c.args.shift) numbers
+    let numbers = map g.T.Number.number c.args.a.now in
+    c.map_blocks.ensures ∙ (λ i. map (scaled g.T.Number.kind (to_z-of_z w16 c.args.factor c.ranges.factor i) c.args.shift) numbers)
+    ∙ mapped_is_listed (scaled g.T.Number.kind c.args.factor c.args.shift) numbers

@@ -5,7 +5,7 @@ use Rattle.lane_kernels.proofs.blocks.zip_blocks.Goals as goal
 
 pub loop-i-preserved : goal.loop-i-preserved
 loop-i-preserved g c =
-    let number = g.T.Lane.number in
+    let number = g.T.Number.number in
     let f = g.Z.ZipBlock.means in
     let a = c.args.a.now in
     let b = c.args.b.now in
@@ -17,7 +17,7 @@ loop-i-preserved g c =
 
 pub returns-then-a-gt0 : goal.returns-then-a-gt0
 returns-then-a-gt0 g c =
-    let number = g.T.Lane.number in
+    let number = g.T.Number.number in
     let f = g.Z.ZipBlock.means in
     let a = c.args.a.now in
     let b = c.args.b.now in
@@ -31,5 +31,5 @@ returns-then-a-gt0 g c =
 
 pub returns-else-a-gt0 : goal.returns-else-a-gt0
 returns-else-a-gt0 g c =
-    let long = length-zipped g.T.Lane.number g.Z.ZipBlock.means c.args.a.now c.args.b.now c.requires.b_length in
-    all_there g.T.Lane.number _ (c.loop-i.i * 16) c.loop-i.out (omega arith) (omega (arith, long)) c.loop-i.invariant
+    let long = length-zipped g.T.Number.number g.Z.ZipBlock.means c.args.a.now c.args.b.now c.requires.b_length in
+    all_there g.T.Number.number _ (c.loop-i.i * 16) c.loop-i.out (omega arith) (omega (arith, long)) c.loop-i.invariant

@@ -5,6 +5,7 @@ use Rattle.stream_model.specs.Network as model
 use Rattle.executor.specs.declared.progress.Progress.{Progress}
 use Rattle.executor.specs.Chain.{network_of}
 use Rattle.executor.specs.Plant.{progress_of, capacities_of, handed_of}
+use Rattle.executor.proofs.TagFree.{handed-none}
 use Rattle.executor.proofs.Wholes.{all-whole}
 use Rattle.executor.proofs.plant.Plant.all_done.Goals as goal
 
@@ -22,4 +23,4 @@ returns-clause-whole g c =
     λ done. rw (← c.self.view_is)
     (all-whole (network_of g.B.Block.meaning c.self.inside.graph.1) c.self.invariant.1.shown.chain (capacities_of c.self.inside.capacities.items)
     (handed_of c.self.inside.tape c.self.inside.closed (length c.self.inside.graph.1)) (map progress_of c.self.inside.progress.items)
-    c.self.invariant.1.settled c.self.invariant.1.shown.progress_count (sym value ∙ done))
+    c.self.invariant.1.settled (handed-none c.self.inside.tape c.self.inside.closed (length c.self.inside.graph.1)) c.self.invariant.1.shown.progress_count (sym value ∙ done))

@@ -3,7 +3,7 @@ use Rattle.std.proofs.lemmas.List.{length-map}
 use Rattle.stream_model.specs.Network as model
 use Rattle.executor.specs.Chain.{network_of}
 use Rattle.executor.specs.Plant.{state_of}
-use Rattle.executor.proofs.Plain.{ended-behind}
+use Rattle.executor.proofs.Plain.{ended-first, ended-behind}
 use Rattle.executor.proofs.plant.Plant.is_ended.Goals as goal
 
 pub returns : goal.returns
@@ -13,3 +13,9 @@ returns g c =
     let behind = ended-behind (network_of g.B.Block.meaning c.self.inside.graph.1) c.self.invariant.1.shown.chain
     (state_of c.self.inside.tape c.self.inside.closed (length c.self.inside.graph.1) c.self.inside.progress.items) c.args.block c.if-block-eq0.false (rw length-map in') in
     rw (← c.self.view_is) (ap (λ (p : model.Progress). p.done) own ∙ sym behind)
+
+pub returns-then-block-eq0 : goal.returns-then-block-eq0
+returns-then-block-eq0 g c =
+    rw (← c.self.view_is, c.if-block-eq0.true)
+    (sym (ended-first (network_of g.B.Block.meaning c.self.inside.graph.1) c.self.invariant.1.shown.chain
+    (state_of c.self.inside.tape c.self.inside.closed (length c.self.inside.graph.1) c.self.inside.progress.items)))

@@ -1,0 +1,4 @@
+pub mod FiringCounts
+pub mod Growth
+pub mod Room
+pub mod Sizes

@@ -1,0 +1,8 @@
+pub mod Shared
+pub mod Windows
+pub mod Ends
+pub mod Math
+pub mod Filters
+pub mod Rates
+pub mod Bits
+pub mod Registers

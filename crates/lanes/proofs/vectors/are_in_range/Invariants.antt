@@ -1,6 +1,0 @@
-use Rattle.std.proofs.Common.{ℕ, ◌<◌, slice_index_or}
-use Rattle.stream_model.specs.Numbers.{IsItem}
-use Rattle.lanes.proofs.vectors.are_in_range.Given as goal
-
-abbrev pub invariant-loop-x : goal.invariant-loop-x
-invariant-loop-x g l = (k : ℕ) (d : g.row.T.Denot) → k < l.x-index → IsItem g.T.Lane.kind (g.T.Lane.number (slice_index_or l.lanes k d))

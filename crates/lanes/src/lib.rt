@@ -1,7 +1,0 @@
-//! The number types of items: one trait, so that code over items is written once.
-#![tactic(auto)]
-
-pub mod lane;
-pub mod vectors;
-
-pub use lane::Lane;

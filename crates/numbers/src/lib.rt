@@ -1,0 +1,7 @@
+//! The number types of items: one trait, so that code over items is written once.
+#![tactic(auto)]
+
+pub mod number;
+pub mod vectors;
+
+pub use number::Number;

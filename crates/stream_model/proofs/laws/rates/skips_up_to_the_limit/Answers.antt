@@ -1,5 +1,0 @@
-use Rattle.stream_model.proofs.Skips.{balances_skip}
-use Rattle.stream_model.proofs.laws.rates.skips_up_to_the_limit.Goals as goal
-
-pub returns-clause-up_to : goal.returns-clause-up_to
-returns-clause-up_to c = balances_skip

@@ -1,0 +1,89 @@
+//! Worked rows of the refusals of graphs. Where nothing else is said, blocks have bytes and the
+//! default capacity of 4,096.
+
+ghost use Rattle.std.specs.Prelude.{◌≡◌, [], ◌∷◌, Some, None};
+ghost use Rattle.stream_model.specs.declared.vocabulary.ItemType.TheVariants.{Byte, Short};
+ghost use Rattle.stream_model.specs.declared.vocabulary.Policy.TheVariants.{One};
+ghost use Rattle.stream_model.specs.Kinds.Ends.{vector_sink};
+ghost use Rattle.stream_model.specs.Kinds.Math.{add, not_of};
+ghost use Rattle.stream_model.specs.Kinds.Rates.{repeat, head};
+ghost use Rattle.graph_model.specs.Graphs.{In, Out, BadName, BadMultiple, BadCapacity, DuplicateName, InputTaken, PortGap, TypeMismatch, Loop, TooFewPorts, OneToOne, Gain, PortRange, UnknownBlock, add_fault, connect_fault, graph_fault};
+ghost use Rattle.worked_rows.specs.Rates.{sized, plain, source, sink, into, link, chain, around};
+
+/// Three times 1,024 items for one are too many: the last of the three blocks is named. With 16 in
+/// its place it is the limit itself.
+pub fn refuses_gain()
+    ensures above { graph_fault (chain (source ∷ plain (repeat Byte 1024) ∷ plain (repeat Byte 1024)
+        ∷ plain (repeat Byte 1024) ∷ sink ∷ [])) ≡ Some (Gain 3) }
+    ensures limit { graph_fault (chain (source ∷ plain (repeat Byte 1024) ∷ plain (repeat Byte 1024)
+        ∷ plain (repeat Byte 16) ∷ sink ∷ [])) ≡ None }
+{}
+
+/// The source and the second block to the first, the first to the second: the first is the lower
+/// of the two.
+pub fn refuses_loops()
+    ensures lowest { graph_fault (record {
+      nodes = source ∷ plain (add Byte) ∷ plain (not_of Byte) ∷ sink ∷ [];
+      connections = into 0 1 0 ∷ into 2 1 1 ∷ link 1 2 ∷ link 2 3 ∷ [];
+    }) ≡ Some (Loop 1) }
+{}
+
+/// Input 1 is used and input 0 is not.
+pub fn refuses_gaps()
+    ensures lowest { graph_fault (record {
+      nodes = source ∷ plain (add Byte) ∷ sink ∷ [];
+      connections = into 0 1 1 ∷ link 1 2 ∷ [];
+    }) ≡ Some (PortGap 1 In 0) }
+{}
+
+/// A block without its connections has too few ports, and a graph without blocks is valid.
+pub fn refuses_few_ports()
+    ensures alone { graph_fault (record { nodes = source ∷ []; connections = [] })
+        ≡ Some (TooFewPorts 0) }
+    ensures empty { graph_fault (record { nodes = []; connections = [] }) ≡ None }
+{}
+
+/// Tags go from one port to one port only where as many inputs as outputs are used.
+pub fn refuses_unequal_ports()
+    ensures two_to_one { graph_fault (record {
+      nodes = source ∷ record (plain (add Byte)) { policy = One } ∷ sink ∷ [];
+      connections = into 0 1 0 ∷ into 0 1 1 ∷ link 1 2 ∷ [];
+    }) ≡ Some (OneToOne 1) }
+    ensures one_to_one { graph_fault (record {
+      nodes = source ∷ record (plain (add Byte)) { policy = One } ∷ sink ∷ [];
+      connections = into 0 1 0 ∷ link 1 2 ∷ [];
+    }) ≡ None }
+{}
+
+/// A second connection to an input, another type, a port or a block that is not there.
+pub fn refuses_connections()
+    ensures taken { connect_fault (chain (source ∷ sink ∷ [])) (link 0 1) ≡ Some (InputTaken 1 0) }
+    ensures mismatch { connect_fault (record {
+      nodes = source ∷ plain (vector_sink Short) ∷ [];
+      connections = [];
+    }) (link 0 1)
+        ≡ Some (TypeMismatch 1 0) }
+    ensures range { connect_fault (chain (source ∷ sink ∷ [])) (into 0 1 1)
+        ≡ Some (PortRange 1 In 1) }
+    ensures range_first { connect_fault (chain (source ∷ sink ∷ [])) (into 1 0 1)
+        ≡ Some (PortRange 1 Out 0) }
+    ensures unknown { connect_fault (chain (source ∷ sink ∷ [])) (link 0 2) ≡ Some UnknownBlock }
+    ensures good { connect_fault (record { nodes = source ∷ sink ∷ []; connections = [] })
+        (link 0 1) ≡ None }
+{}
+
+/// A name of no bytes, a multiple of a sink or of a block that ends by itself, no capacity, a name
+/// that another block has.
+pub fn refuses_blocks()
+    ensures name { add_fault [] (record { nodes = []; connections = [] }) [] source ≡ Some BadName }
+    ensures sink { add_fault [] (record { nodes = []; connections = [] }) (97 ∷ [])
+        (record sink { multiple = 2 }) ≡ Some BadMultiple }
+    ensures head { add_fault [] (record { nodes = []; connections = [] }) (97 ∷ [])
+        (record (plain (head Byte 3)) { multiple = 2 }) ≡ Some BadMultiple }
+    ensures capacity { add_fault [] (record { nodes = []; connections = [] }) (97 ∷ [])
+        (sized 0 (not_of Byte)) ≡ Some BadCapacity }
+    ensures duplicate { add_fault ((97 ∷ []) ∷ []) (record { nodes = source ∷ []; connections = [] })
+        (97 ∷ []) sink ≡ Some DuplicateName }
+    ensures good { add_fault ((97 ∷ []) ∷ []) (record { nodes = source ∷ []; connections = [] })
+        (98 ∷ []) (record (plain (not_of Byte)) { multiple = 64 }) ≡ None }
+{}

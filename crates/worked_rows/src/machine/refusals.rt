@@ -1,0 +1,48 @@
+//! Runs whose calls are refused.
+#![tactic(auto, unfolding(crate::specs::Runs::worked_rows))]
+
+ghost use Rattle.std.specs.Prelude.{◌≡◌, pos, [], ◌∷◌, codes};
+ghost use Rattle.stream_model.specs.declared.vocabulary.ItemType.TheVariants.{Byte, Short};
+ghost use Rattle.stream_model.specs.Settings.{Number, Taps};
+ghost use Rattle.stream_model.specs.Machine.{Fed, Closed, Done, WaitingItems, Did, Refused, Late};
+ghost use Rattle.worked_rows.specs.Runs.{byte_source, chain, plus_ten, Feed, Close, SetAt, SetNow, Claim, Commit, Abandon, Step, Read, byte_feed, marked_feed, mark, replies_of};
+ghost use Rattle.worked_rows.specs.Kinds.{numbers, alone};
+ghost use Rattle.stream_model.specs.Kinds.Ends.{null_sink};
+
+/// Each call that cannot be answered has its number. Feeding 256 to a source of bytes is feeding
+/// another type.
+pub fn refuses()
+    ensures { replies_of (plus_ten 4096)
+        (byte_feed 2 (1 ∷ []) ∷ Feed 0 Short (numbers (256 ∷ [])) []
+        ∷ marked_feed 0 (1 ∷ []) (mark 5 (codes "k") (pos 1) ∷ [])
+        ∷ Read 1 0 1 ∷ Read 2 1 1 ∷ SetNow 0 (Number (pos 1)) ∷ SetNow 1 (Number (pos 300))
+        ∷ Step 9 1 ∷ Commit 1 ∷ Step 0 1 ∷ Close 0 ∷ Close 0 ∷ Step 0 1 ∷ [])
+        ≡ Refused 21 ∷ Refused 24 ∷ Refused 25 ∷ Refused 22 ∷ Refused 31 ∷ Refused 28 ∷ Refused 29
+        ∷ Refused 20 ∷ Refused 30 ∷ WaitingItems 0 ∷ Closed 0 ∷ Refused 23 ∷ Done ∷ [] }
+{}
+
+/// Where several refusals fit, the first in a fixed order is answered: no such block, then what the
+/// block is not, then the value, and a late setting last; a fed type before a closed tape, and that
+/// before a mark. Marks right before and right behind the fed items are refused.
+pub fn refuses_in_order()
+    ensures { replies_of (plus_ten 4096)
+        (byte_feed 9 (1 ∷ []) ∷ Close 9 ∷ Close 1 ∷ SetAt 9 0 (Number (pos 1))
+        ∷ Claim 9 1 ∷ Read 9 0 1
+        ∷ byte_feed 0 (1 ∷ 2 ∷ []) ∷ marked_feed 0 (3 ∷ []) (mark 1 (codes "k") (pos 1) ∷ [])
+        ∷ marked_feed 0 (3 ∷ []) (mark 3 (codes "k") (pos 1) ∷ [])
+        ∷ marked_feed 0 (3 ∷ []) (mark 2 (codes "k") (pos 1) ∷ []) ∷ Step 0 9 ∷ Step 1 1
+        ∷ SetAt 1 0 (Number (pos 256)) ∷ SetAt 1 5 (Taps []) ∷ SetAt 1 0 (Number (pos 1))
+        ∷ Close 0 ∷ Feed 0 Short (numbers (1 ∷ [])) []
+        ∷ marked_feed 0 (1 ∷ []) (mark 9 (codes "k") (pos 1) ∷ [])
+        ∷ Read 0 0 1 ∷ Read 2 1 1 ∷ Abandon 1 ∷ [])
+        ≡ Refused 20 ∷ Refused 20 ∷ Refused 21 ∷ Refused 20 ∷ Refused 20 ∷ Refused 20
+        ∷ Fed 2 ∷ Refused 25 ∷ Refused 25 ∷ Fed 3 ∷ Did 3 ∷ Did 1 ∷ Refused 29 ∷ Refused 29 ∷ Late 1
+        ∷ Closed 3 ∷ Refused 24 ∷ Refused 23 ∷ Refused 22 ∷ Refused 31 ∷ Refused 30 ∷ [] }
+{}
+
+/// A sink that drops its input cannot be read.
+pub fn refuses_to_read_what_is_dropped()
+    ensures { replies_of (chain (byte_source ∷ alone (null_sink Byte) ∷ []))
+        (byte_feed 0 (1 ∷ 2 ∷ []) ∷ Step 0 9 ∷ Step 1 9 ∷ Read 1 0 9 ∷ [])
+        ≡ Fed 2 ∷ Did 2 ∷ Did 2 ∷ Refused 22 ∷ [] }
+{}

@@ -1,0 +1,136 @@
+//! Worked rows of rates and capacities. Where nothing else is said, blocks have bytes and the default
+//! capacity of 4,096.
+
+ghost use Rattle.std.specs.Prelude.{◌≡◌, ◌≤◌, ℕ, [], ◌∷◌, true, false};
+ghost use Rattle.stream_model.specs.declared.vocabulary.ItemType.TheVariants.{Byte};
+ghost use Rattle.stream_model.specs.Kinds.Ends.{vector_source};
+ghost use Rattle.worked_rows.specs.Kinds.{numbers};
+ghost use Rattle.stream_model.specs.Kinds.Math.{add, not_of};
+ghost use Rattle.stream_model.specs.Kinds.Rates.{keep_one_in_n, repeat, head, skiphead, delay, stream_mux};
+ghost use Rattle.stream_model.specs.Machine.{Piece};
+ghost use Rattle.graph_model.specs.Rates.{Balanced, Uneven, TooLarge, balance_of, capacities_of};
+ghost use Rattle.worked_rows.specs.Rates.{sized, plain, source, sink, into, link, chain, around, joined, shown};
+
+/// Three items for one, and then one for two: two firings of the first two blocks meet three of
+/// the others, and the buffers hold what these give. The source and the first block have a
+/// capacity of 1.
+pub fn balances_a_chain()
+    ensures firings { balance_of (chain (sized 1 (vector_source Byte) ∷ sized 1 (repeat Byte 3)
+        ∷ plain (keep_one_in_n Byte 2) ∷ sink ∷ [])) ≡ Balanced (2 ∷ 2 ∷ 3 ∷ 3 ∷ []) }
+    ensures capacities { capacities_of (chain (sized 1 (vector_source Byte) ∷ sized 1 (repeat Byte 3)
+        ∷ plain (keep_one_in_n Byte 2) ∷ sink ∷ [])) (Balanced (2 ∷ 2 ∷ 3 ∷ 3 ∷ []))
+        ≡ (2 ∷ []) ∷ (6 ∷ []) ∷ (4096 ∷ []) ∷ [] ∷ [] }
+{}
+
+/// A stream is joined with one item in two of itself: there is no balance, and no buffer grows.
+pub fn finds_no_balance()
+    ensures uneven { balance_of (joined (sized 4 (vector_source Byte)) (add Byte)
+        (plain (keep_one_in_n Byte 2))) ≡ Uneven }
+    ensures capacities { capacities_of (joined (sized 4 (vector_source Byte)) (add Byte)
+        (plain (keep_one_in_n Byte 2))) Uneven ≡ (4 ∷ []) ∷ (4096 ∷ []) ∷ (4096 ∷ []) ∷ [] ∷ [] }
+{}
+
+/// With one in two on both ways there is one. The blocks are the source, the join, the two that
+/// keep one in two, and the sink.
+pub fn balances_a_join()
+    ensures firings { balance_of (record {
+      nodes = sized 4 (vector_source Byte) ∷ plain (add Byte) ∷ plain (keep_one_in_n Byte 2)
+          ∷ plain (keep_one_in_n Byte 2) ∷ sink ∷ [];
+      connections = link 0 3 ∷ into 3 1 0 ∷ link 0 2 ∷ into 2 1 1 ∷ link 1 4 ∷ [];
+    })
+        ≡ Balanced (2 ∷ 1 ∷ 1 ∷ 1 ∷ 1 ∷ []) }
+{}
+
+/// Four base firings in one.
+pub fn balances_a_multiple()
+    ensures firings { balance_of
+        (chain (source ∷ record (plain (not_of Byte)) { multiple = 4 } ∷ sink ∷ []))
+        ≡ Balanced (4 ∷ 1 ∷ 4 ∷ []) }
+{}
+
+/// Each connected part has its own least numbers: the second does not fire more often for the
+/// first.
+pub fn balances_parts()
+    ensures firings { balance_of (record {
+      nodes = source ∷ source ∷ plain (keep_one_in_n Byte 3) ∷ plain (keep_one_in_n Byte 2)
+          ∷ sink ∷ sink ∷ [];
+      connections = link 0 2 ∷ link 2 4 ∷ link 1 3 ∷ link 3 5 ∷ [];
+    })
+        ≡ Balanced (3 ∷ 2 ∷ 1 ∷ 1 ∷ 1 ∷ 1 ∷ []) }
+    ensures empty { balance_of (record { nodes = []; connections = [] }) ≡ Balanced [] }
+{}
+
+/// One in 1,048,576 asks for too many firings of the source.
+pub fn finds_too_many_firings()
+    ensures answer { balance_of (chain (source ∷ plain (keep_one_in_n Byte 1024)
+        ∷ plain (keep_one_in_n Byte 1024) ∷ sink ∷ [])) ≡ TooLarge }
+{}
+
+/// Each input has its own rate: two items of the first, one of the second, three out.
+pub fn balances_a_mux()
+    ensures firings { balance_of (record {
+      nodes = source ∷ source ∷ plain (stream_mux Byte (2 ∷ 1 ∷ [])) ∷ sink ∷ [];
+      connections = into 0 2 0 ∷ into 1 2 1 ∷ link 2 3 ∷ [];
+    })
+        ≡ Balanced (2 ∷ 1 ∷ 1 ∷ 3 ∷ []) }
+{}
+
+/// A stream is joined with all but its first three items: the source runs four items ahead of the
+/// join before there is something to join. The source and the block that skips have a capacity of 1.
+pub fn makes_room_for_a_skip()
+    ensures firings { balance_of (joined (sized 1 (vector_source Byte)) (add Byte)
+        (sized 1 (skiphead Byte 3))) ≡ Balanced (1 ∷ 1 ∷ 1 ∷ 1 ∷ []) }
+    ensures capacities { capacities_of (joined (sized 1 (vector_source Byte)) (add Byte)
+        (sized 1 (skiphead Byte 3))) (Balanced (1 ∷ 1 ∷ 1 ∷ 1 ∷ []))
+        ≡ (4 ∷ []) ∷ (4096 ∷ []) ∷ (1 ∷ []) ∷ [] ∷ [] }
+{}
+
+/// And with itself, two zeros before it: the block that delays gives these first, and one item
+/// more.
+pub fn makes_room_for_a_delay()
+    ensures firings { balance_of (joined (sized 1 (vector_source Byte)) (add Byte)
+        (sized 1 (delay Byte 2))) ≡ Balanced (1 ∷ 1 ∷ 1 ∷ 1 ∷ []) }
+    ensures capacities { capacities_of (joined (sized 1 (vector_source Byte)) (add Byte)
+        (sized 1 (delay Byte 2))) (Balanced (1 ∷ 1 ∷ 1 ∷ 1 ∷ []))
+        ≡ (1 ∷ []) ∷ (4096 ∷ []) ∷ (3 ∷ []) ∷ [] ∷ [] }
+{}
+
+/// A chain with a shift is balanced, and a limit plays no part.
+pub fn balances_shifts()
+    ensures delayed { balance_of (around (delay Byte 2)) ≡ Balanced (1 ∷ 1 ∷ 1 ∷ []) }
+    ensures skipped { balance_of (around (skiphead Byte 2)) ≡ Balanced (1 ∷ 1 ∷ 1 ∷ []) }
+    ensures ended { balance_of (around (head Byte 0)) ≡ Balanced (1 ∷ 1 ∷ 1 ∷ []) }
+{}
+
+/// Every skip of at most 65,536 items is balanced, and one longer is not. The first is shown for
+/// all of them at once: to compute it for the longest would take a step for each iteration.
+pub fn skips_up_to_the_limit()
+    ensures above { balance_of (around (skiphead Byte 65537)) ≡ TooLarge }
+    ensures up_to { (n : ℕ) → n ≤ 65536 →
+        balance_of (around (skiphead Byte n)) ≡ Balanced (1 ∷ 1 ∷ 1 ∷ []) }
+{}
+
+/// A delay gives its zeros at once, and each of them may become several items.
+pub fn delays_up_to_the_limit()
+    ensures longest { balance_of (around (delay Byte 65536)) ≡ Balanced (1 ∷ 1 ∷ 1 ∷ []) }
+    ensures repeated { balance_of (chain (source ∷ plain (delay Byte 65536)
+        ∷ plain (repeat Byte 2) ∷ sink ∷ [])) ≡ TooLarge }
+{}
+
+/// What the joins with a block that shifts show at the end, in buffers that hold no more than is
+/// needed: after 24 and 12 rounds of steps. With one item less for the skip nothing comes out.
+pub fn joins_shifted_streams()
+    ensures skipped { shown
+        (joined (sized 1 (vector_source Byte)) (add Byte) (sized 1 (skiphead Byte 3)))
+        ((4 ∷ []) ∷ (4096 ∷ []) ∷ (1 ∷ []) ∷ [] ∷ []) 24
+        (numbers (1 ∷ 2 ∷ 3 ∷ 4 ∷ 5 ∷ 6 ∷ 7 ∷ 8 ∷ 9 ∷ 10 ∷ [])) 3
+        ≡ Piece 0 7 (numbers (5 ∷ 7 ∷ 9 ∷ 11 ∷ 13 ∷ 15 ∷ 17 ∷ [])) [] true }
+    ensures stalled { shown
+        (joined (sized 1 (vector_source Byte)) (add Byte) (sized 1 (skiphead Byte 3)))
+        ((3 ∷ []) ∷ (4096 ∷ []) ∷ (1 ∷ []) ∷ [] ∷ []) 24
+        (numbers (1 ∷ 2 ∷ 3 ∷ 4 ∷ 5 ∷ 6 ∷ 7 ∷ 8 ∷ 9 ∷ 10 ∷ [])) 3 ≡ Piece 0 0 [] [] false }
+    ensures delayed { shown
+        (joined (sized 1 (vector_source Byte)) (add Byte) (sized 1 (delay Byte 2)))
+        ((1 ∷ []) ∷ (4096 ∷ []) ∷ (3 ∷ []) ∷ [] ∷ []) 12 (numbers (1 ∷ 2 ∷ 3 ∷ [])) 3
+        ≡ Piece 0 3 (numbers (1 ∷ 2 ∷ 4 ∷ [])) [] true }
+{}
