@@ -14,10 +14,10 @@ pub mod FieldLemmas
 pub mod FireLemmas
 pub mod BufferLemmas
 pub mod TagFree
-pub mod Looking
+pub mod PiecesRead
 pub mod Resting
 pub mod Opens
-pub mod Closes
+pub mod AfterFirings
 pub mod Decides
 pub mod ChainTests
 pub mod Allowed

@@ -10,7 +10,7 @@ use Rattle.stream_model.specs.Machine.{Capacities}
 use Rattle.executor.specs.Chain.{IsPlainChain}
 use Rattle.executor.specs.Shown.{fired}
 use Rattle.executor.specs.Settled.{IsSettled}
-use Rattle.executor.proofs.Looking.{keeper-last}
+use Rattle.executor.proofs.PiecesRead.{keeper-last}
 use Rattle.executor.proofs.TagFree.{tags_by-none}
 use Rattle.executor.proofs.Allowed.{fires-sink}
 use Rattle.executor.proofs.Settles.{handed_same}

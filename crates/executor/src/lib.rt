@@ -2,7 +2,6 @@
 #![tactic(auto)]
 
 pub mod answers;
-mod buffers;
 pub mod chain;
 pub mod decision;
 pub mod fault;
@@ -10,6 +9,7 @@ mod firing;
 pub mod name;
 pub mod plant;
 pub mod progress;
+mod transfers;
 
 pub use answers::{BlockId, Closed, Fed, Need, Piece, Step};
 pub use chain::{Entry, Valid};

@@ -7,8 +7,8 @@ ghost use Rattle.executor.specs.Chain.{network_of};
 ghost use Rattle.executor.specs.Plant.{CanFire, after_firings};
 
 use super::Plant;
-use crate::buffers::{take_from_tape, take_from_writer, work_on_writer};
 use crate::progress::Progress;
+use crate::transfers::{take_from_tape, take_from_writer, work_on_writer};
 use block_kinds::Block;
 use std::alloc::{AllocError, Global};
 use stream_model::Role;

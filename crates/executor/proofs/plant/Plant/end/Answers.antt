@@ -1,7 +1,7 @@
 use Rattle.std.proofs.Common.{length, refl, ap}
 use Rattle.stream_model.specs.Network as model
 use Rattle.executor.specs.Plant.{capacities_of}
-use Rattle.executor.proofs.Closes.{keeps-ended}
+use Rattle.executor.proofs.AfterFirings.{keeps-ended}
 use Rattle.executor.proofs.Decides.{ended-is}
 use Rattle.executor.proofs.plant.Plant.end.Goals as goal
 

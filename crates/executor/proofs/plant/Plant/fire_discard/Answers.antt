@@ -7,7 +7,7 @@ use Rattle.executor.specs.Chain.{network_of}
 use Rattle.executor.specs.Plant.{state_of, capacities_of}
 use Rattle.executor.proofs.Plain.{written-behind}
 use Rattle.executor.proofs.FireLemmas.{not-first, fires-discard_at}
-use Rattle.executor.proofs.Closes.{keeps-fires_plainly, after-is}
+use Rattle.executor.proofs.AfterFirings.{keeps-fires_plainly, after-is}
 use Rattle.executor.proofs.plant.Plant.fire_discard.Goals as goal
 
 pub invariant_of-self : goal.invariant_of-self

@@ -5,7 +5,7 @@ use Rattle.executor.specs.Chain.{network_of}
 use Rattle.executor.specs.Plant.{state_of, capacities_of}
 use Rattle.executor.proofs.Plain.{written-behind}
 use Rattle.executor.proofs.FireLemmas.{not-first, fires-keep_at, length-kept_at, kept_type_at, taken_type_at}
-use Rattle.executor.proofs.Closes.{keeps-fires_plainly, after-is}
+use Rattle.executor.proofs.AfterFirings.{keeps-fires_plainly, after-is}
 use Rattle.executor.proofs.plant.Plant.fire_keep.Goals as goal
 
 pub take_from_writer-requires-clause-same_type : goal.take_from_writer-requires-clause-same_type

@@ -6,7 +6,7 @@ use Rattle.executor.specs.Plant.{state_of, capacities_of}
 use Rattle.executor.proofs.Plain.{written-first}
 use Rattle.executor.proofs.Calls.{first-source}
 use Rattle.executor.proofs.FireLemmas.{fires-source_at}
-use Rattle.executor.proofs.Closes.{keeps-fires_plainly, after-is}
+use Rattle.executor.proofs.AfterFirings.{keeps-fires_plainly, after-is}
 use Rattle.executor.proofs.plant.Plant.fire_source.Goals as goal
 
 pub take_from_tape-requires-clause-same_type : goal.take_from_tape-requires-clause-same_type

@@ -7,7 +7,7 @@ use Rattle.executor.specs.Plant.{state_of, capacities_of, handed_of}
 use Rattle.executor.proofs.Plain.{written-behind}
 use Rattle.executor.proofs.FireLemmas.{not-first, fires-work_at, length-kept_at, starts_at, plain-block_at, stated_at, word_at, taken_type_at, given_type_at}
 use Rattle.executor.proofs.FieldLemmas.{fired-short}
-use Rattle.executor.proofs.Closes.{keeps-fires, after-is}
+use Rattle.executor.proofs.AfterFirings.{keeps-fires, after-is}
 use Rattle.executor.proofs.plant.Plant.fire_work.Goals as goal
 
 pub work_on_writer-requires-clause-plain : goal.work_on_writer-requires-clause-plain

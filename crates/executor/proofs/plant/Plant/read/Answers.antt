@@ -7,7 +7,7 @@ use Rattle.stream_model.specs.Meaning.{input}
 use Rattle.executor.specs.Shown.{fired}
 use Rattle.executor.specs.Chain.{network_of}
 use Rattle.executor.specs.Plant.{handed_of, progress_of, capacities_of}
-use Rattle.executor.proofs.Looking.{read-missing, read-not_sink, read-beyond, read-there, read-shown}
+use Rattle.executor.proofs.PiecesRead.{read-missing, read-not_sink, read-beyond, read-there, read-shown}
 use Rattle.executor.proofs.TagFree.{handed-none}
 use Rattle.executor.proofs.Wholes.{sink-whole}
 use Rattle.executor.proofs.plant.Plant.read.Goals as goal

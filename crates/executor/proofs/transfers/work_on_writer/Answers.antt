@@ -3,7 +3,7 @@ use Rattle.std.proofs.lemmas.List.{set-set}
 use Rattle.items.specs.Items.{numbers_of, type_of}
 use Rattle.stream_model.specs.Meaning.{given_items}
 use Rattle.executor.proofs.BufferLemmas.{on_ok, on_err, if_ok, types-kept, numbers-more, numbers-kept, numbers-at, beside}
-use Rattle.executor.proofs.buffers.work_on_writer.Goals as goal
+use Rattle.executor.proofs.transfers.work_on_writer.Goals as goal
 
 pub returns-clause-types : goal.returns-clause-types
 returns-clause-types g c =

@@ -3,7 +3,7 @@ use Rattle.std.specs.List.{slice_range}
 use Rattle.std.proofs.lemmas.List.{set-set}
 use Rattle.items.specs.Items.{numbers_of, type_of}
 use Rattle.executor.proofs.BufferLemmas.{on_ok, on_err, types-kept, numbers-more, numbers-kept, numbers-at, beside}
-use Rattle.executor.proofs.buffers.take_from_writer.Goals as goal
+use Rattle.executor.proofs.transfers.take_from_writer.Goals as goal
 
 pub returns-clause-types : goal.returns-clause-types
 returns-clause-types c =
