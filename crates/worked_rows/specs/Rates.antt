@@ -7,6 +7,8 @@ use Rattle.stream_model.specs.Meaning.{Meaning}
 use Rattle.stream_model.specs.Network.{Node, Connection, Network, State, opening}
 use Rattle.stream_model.specs.Machine.{Capacities, Feed, Close, Read, Reply, next, run_of, step_of}
 use Rattle.stream_model.specs.Kinds.Ends.{vector_source, vector_sink}
+use Rattle.stream_model.specs.Kinds.Math.{add}
+use Rattle.stream_model.specs.Kinds.Rates.{keep_one_in_n}
 
 -- a block whose outputs have this configured capacity
 abbrev pub sized : ℕ → Meaning → Node
@@ -41,6 +43,19 @@ around m = chain (source ∷ plain m ∷ sink ∷ [])
 -- a source whose stream is joined with what a block makes of it: the source, the join, the block, the sink
 abbrev pub joined : Node → Meaning → Node → Network
 joined from join n = record { nodes = from ∷ plain join ∷ n ∷ sink ∷ []; connections = into 0 1 0 ∷ link 0 2 ∷ into 2 1 1 ∷ link 1 3 ∷ [] }
+
+-- a source joined with every second item of itself, which has no balance, and beside it these two blocks in a row behind the source:
+-- the source, the join, the thinning, the two, and their sinks
+abbrev pub uneven_beside : Meaning → Meaning → Network
+uneven_beside a b =
+    record {
+      nodes = source ∷ plain (add Byte) ∷ plain (keep_one_in_n Byte 2) ∷ sink ∷ plain a ∷ plain b ∷ sink ∷ [];
+      connections = into 0 1 0 ∷ link 0 2 ∷ into 2 1 1 ∷ link 1 3 ∷ link 0 4 ∷ link 4 5 ∷ link 5 6 ∷ [];
+    }
+
+-- a source before two blocks side by side, each before a sink
+abbrev pub beside : Meaning → Meaning → Network
+beside a b = record { nodes = source ∷ plain a ∷ plain b ∷ sink ∷ sink ∷ []; connections = link 0 1 ∷ link 0 2 ∷ link 1 3 ∷ link 2 4 ∷ [] }
 
 -- each block in order steps with at most 1,024 firings, again and again: so many rounds
 abbrev pub stepped : Network → Capacities → List ℕ → State → State

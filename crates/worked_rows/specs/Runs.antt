@@ -3,14 +3,15 @@ use Rattle.std.specs.Prelude.{ℕ, suc, ◌-◌, ℤ, pos, List, [], ◌∷◌, 
 use Rattle.stream_model.specs.declared.vocabulary.ItemType.{ItemType}
 use Rattle.stream_model.specs.declared.vocabulary.ItemType.TheVariants.{Byte}
 use Rattle.stream_model.specs.declared.vocabulary.Policy.{Policy}
-use Rattle.stream_model.specs.Lists.{below}
+use Rattle.stream_model.specs.Lists.{below, item}
 use Rattle.stream_model.specs.Settings.{Value, Number, Held}
 use Rattle.stream_model.specs.Tags.{Tag, Mark}
-use Rattle.stream_model.specs.Meaning.{Meaning}
-use Rattle.stream_model.specs.Network.{Node, Connection, Network, State, node_at, progress_at, used_outputs, opening, items_by, entering, tags_by}
+use Rattle.stream_model.specs.Meaning.{Meaning, input}
+use Rattle.stream_model.specs.Network.{Node, Connection, Network, State, node_at, progress_at, used_outputs, opening, nothing_handed, items_by, entering, tags_by}
 use Rattle.stream_model.specs.Machine.{Job, Reply, Claimed, Did, Capacities, next, step_of, counts_in, job_of, claim_of, commit_of, abandon_of, feed_of, close_of, set_of, read_of}
 use Rattle.stream_model.specs.Machine as machine
 use Rattle.stream_model.specs.Claims.{most, decide}
+use Rattle.stream_model.specs.Kinds.Shapes.{ports, at_rate}
 use Rattle.stream_model.specs.Kinds.Ends.{vector_source, vector_sink}
 use Rattle.stream_model.specs.Kinds.Math.{add_const, add}
 use Rattle.stream_model.specs.Kinds.Rates.{keep_one_in_n}
@@ -69,6 +70,17 @@ abbrev pub sum_with : ℕ → Node → Network
 sum_with n m =
     network (node (vector_source Byte) n ∷ alone (add Byte) ∷ m ∷ byte_sink ∷ [])
     (arrow 0 1 0 ∷ arrow 0 2 0 ∷ arrow 2 1 1 ∷ arrow 1 3 0 ∷ [])
+
+-- a block of two inputs and two outputs of bytes, each output the input of its number, with this policy
+abbrev pub two_through : Policy → Node
+two_through t =
+    record (alone (record (at_rate (ports 2 Byte) (ports 2 Byte) 1 1) { out = λ _ xs p n. item (input xs p) n })) { policy = t }
+
+-- sources 0 and 1 through such a block, 2, to sinks 3 and 4
+abbrev pub two_beside : Policy → Network
+two_beside t =
+    network (byte_source ∷ byte_source ∷ two_through t ∷ byte_sink ∷ byte_sink ∷ [])
+    (arrow 0 2 0 ∷ arrow 1 2 1 ∷ arrow 2 3 0 ∷ record { from = 2; out_port = 1; to = 4; in_port = 0 } ∷ [])
 
 -- the capacities where each output has the number that its block was given
 abbrev pub own_capacities : Network → Capacities
@@ -152,6 +164,10 @@ replies_of net lines = replies_to net (own_capacities net) (opening net) lines
 
 abbrev pub state_after : Network → List Line → State
 state_after net lines = (run_of_lines net (own_capacities net) (opening net) lines).1
+
+-- the state after opening that network, but that this tape was fed to its first block
+abbrev pub with_first_tape : List ℤ → State
+with_first_tape tape = record (opening (plus_ten 4096)) { handed = record nothing_handed { tape = tape } ∷ nothing_handed ∷ nothing_handed ∷ [] }
 
 -- the committed firings, block by block
 abbrev pub firings_in : State → List ℕ

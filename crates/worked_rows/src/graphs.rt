@@ -1,13 +1,14 @@
 //! Worked rows of the refusals of graphs. Where nothing else is said, blocks have bytes and the
 //! default capacity of 4,096.
 
-ghost use Rattle.std.specs.Prelude.{◌≡◌, [], ◌∷◌, Some, None};
+ghost use Rattle.std.specs.Prelude.{◌≡◌, [], ◌∷◌, Some, None, replicate};
 ghost use Rattle.stream_model.specs.declared.vocabulary.ItemType.TheVariants.{Byte, Short};
-ghost use Rattle.stream_model.specs.declared.vocabulary.Policy.TheVariants.{One};
+ghost use Rattle.stream_model.specs.declared.vocabulary.Policy.TheVariants.{One, All};
 ghost use Rattle.stream_model.specs.Kinds.Ends.{vector_sink};
 ghost use Rattle.stream_model.specs.Kinds.Math.{add, not_of};
 ghost use Rattle.stream_model.specs.Kinds.Rates.{repeat, head};
-ghost use Rattle.graph_model.specs.Graphs.{In, Out, BadName, BadMultiple, BadCapacity, DuplicateName, InputTaken, PortGap, TypeMismatch, Loop, TooFewPorts, OneToOne, Gain, PortRange, UnknownBlock, add_fault, connect_fault, graph_fault};
+ghost use Rattle.graph_model.specs.Graphs.{In, Out, BadName, BadMultiple, BadCapacity, DuplicateName, InputTaken, PortGap, TypeMismatch, Loop, TooFewPorts, OneToOne, Gain, PortRange, UnknownBlock, TooLarge, add_fault, connect_fault, graph_fault};
+ghost use Rattle.worked_rows.specs.Runs.{two_through};
 ghost use Rattle.worked_rows.specs.Rates.{sized, plain, source, sink, into, link, chain, around};
 
 /// Three times 1,024 items for one are too many: the last of the three blocks is named. With 16 in
@@ -86,4 +87,40 @@ pub fn refuses_blocks()
         (97 ∷ []) sink ≡ Some DuplicateName }
     ensures good { add_fault ((97 ∷ []) ∷ []) (record { nodes = source ∷ []; connections = [] })
         (98 ∷ []) (record (plain (not_of Byte)) { multiple = 64 }) ≡ None }
+{}
+
+/// The multiple of a block does not count in the gain.
+pub fn leaves_multiples_out_of_the_gain()
+    ensures { graph_fault (chain (source ∷ record (plain (repeat Byte 1024)) { multiple = 64 }
+        ∷ plain (repeat Byte 1024) ∷ plain (repeat Byte 16) ∷ sink ∷ [])) ≡ None }
+{}
+
+/// A block whose input 1 and output 1 are used alone: the gap of the inputs is named.
+pub fn names_a_gap_of_inputs_first()
+    ensures { graph_fault (record {
+      nodes = source ∷ two_through All ∷ sink ∷ [];
+      connections = into 0 1 1 ∷ record { from = 1; out_port = 1; to = 2; in_port = 0 } ∷ [];
+    }) ≡ Some (PortGap 1 In 0) }
+{}
+
+/// Each limit at its end, and one beyond: 256 blocks, 1,024 connections, 16 ports, a multiple of 64, a name
+/// of 32 bytes, a capacity of 65,536.
+pub fn keeps_limits()
+    ensures blocks { add_fault [] (record { nodes = replicate 255 source; connections = [] }) (97 ∷ []) sink ≡ None }
+    ensures blocks_more { add_fault [] (record { nodes = replicate 256 source; connections = [] }) (97 ∷ []) sink
+        ≡ Some TooLarge }
+    ensures connections { connect_fault (record { nodes = source ∷ sink ∷ sink ∷ []; connections = replicate 1023 (link 0 2) })
+        (link 0 1) ≡ None }
+    ensures connections_more { connect_fault (record { nodes = source ∷ sink ∷ sink ∷ []; connections = replicate 1024 (link 0 2) })
+        (link 0 1) ≡ Some TooLarge }
+    ensures ports { connect_fault (record { nodes = source ∷ plain (add Byte) ∷ []; connections = [] }) (into 0 1 15) ≡ None }
+    ensures ports_more { connect_fault (record { nodes = source ∷ plain (add Byte) ∷ []; connections = [] }) (into 0 1 16)
+        ≡ Some (PortRange 1 In 16) }
+    ensures multiple { add_fault [] (record { nodes = []; connections = [] }) (97 ∷ [])
+        (record (plain (not_of Byte)) { multiple = 65 }) ≡ Some BadMultiple }
+    ensures name { add_fault [] (record { nodes = []; connections = [] }) (replicate 32 97) sink ≡ None }
+    ensures name_more { add_fault [] (record { nodes = []; connections = [] }) (replicate 33 97) sink ≡ Some BadName }
+    ensures capacity { add_fault [] (record { nodes = []; connections = [] }) (97 ∷ []) (sized 65536 (not_of Byte)) ≡ None }
+    ensures capacity_more { add_fault [] (record { nodes = []; connections = [] }) (97 ∷ []) (sized 65537 (not_of Byte))
+        ≡ Some BadCapacity }
 {}

@@ -9,7 +9,7 @@ ghost use Rattle.stream_model.specs.Kinds.Math.{add, not_of};
 ghost use Rattle.stream_model.specs.Kinds.Rates.{keep_one_in_n, repeat, head, skiphead, delay, stream_mux};
 ghost use Rattle.stream_model.specs.Machine.{Piece};
 ghost use Rattle.graph_model.specs.Rates.{Balanced, Uneven, TooLarge, balance_of, capacities_of};
-ghost use Rattle.worked_rows.specs.Rates.{sized, plain, source, sink, into, link, chain, around, joined, shown};
+ghost use Rattle.worked_rows.specs.Rates.{sized, plain, source, sink, into, link, chain, around, joined, uneven_beside, beside, shown};
 
 /// Three items for one, and then one for two: two firings of the first two blocks meet three of
 /// the others, and the buffers hold what these give. The source and the first block have a
@@ -133,4 +133,21 @@ pub fn joins_shifted_streams()
         (joined (sized 1 (vector_source Byte)) (add Byte) (sized 1 (delay Byte 2)))
         ((1 ∷ []) ∷ (4096 ∷ []) ∷ (3 ∷ []) ∷ [] ∷ []) 12 (numbers (1 ∷ 2 ∷ 3 ∷ [])) 3
         ≡ Piece 0 3 (numbers (1 ∷ 2 ∷ 4 ∷ [])) [] true }
+{}
+
+/// A ratio above the limit ends the search at once, also where the connections do not hold: its denominator as
+/// its numerator, 1,048,576 each. Where the ratios are small, connections that do not hold are told before counts
+/// that are too many: of the two denominators 1,021 and 1,019 a whole solution takes 1,040,399.
+pub fn tells_too_large_from_uneven()
+    ensures denominator { balance_of (uneven_beside (keep_one_in_n Byte 1024) (keep_one_in_n Byte 1024)) ≡ TooLarge }
+    ensures numerator { balance_of (uneven_beside (repeat Byte 1024) (repeat Byte 1024)) ≡ TooLarge }
+    ensures small { balance_of (uneven_beside (repeat Byte 1024) (keep_one_in_n Byte 1024)) ≡ Uneven }
+    ensures uneven_first { balance_of (record {
+      nodes = source ∷ plain (add Byte) ∷ plain (keep_one_in_n Byte 2) ∷ sink
+          ∷ plain (keep_one_in_n Byte 1021) ∷ plain (keep_one_in_n Byte 1019) ∷ sink ∷ sink ∷ [];
+      connections = into 0 1 0 ∷ link 0 2 ∷ into 2 1 1 ∷ link 1 3 ∷ link 0 4 ∷ link 0 5 ∷ link 4 6 ∷ link 5 7 ∷ [];
+    }) ≡ Uneven }
+    ensures whole { balance_of (beside (keep_one_in_n Byte 1021) (keep_one_in_n Byte 1019)) ≡ TooLarge }
+    ensures within { balance_of (beside (keep_one_in_n Byte 255) (keep_one_in_n Byte 257))
+        ≡ Balanced (65535 ∷ 257 ∷ 255 ∷ 257 ∷ 255 ∷ []) }
 {}

@@ -1,14 +1,14 @@
 //! Runs where work is apart from its claim.
 #![tactic(auto, unfolding(crate::specs::Runs::worked_rows))]
 
-ghost use Rattle.std.specs.Prelude.{◌≡◌, pos, true, false, [], ◌∷◌};
+ghost use Rattle.std.specs.Prelude.{◌≡◌, pos, true, false, [], ◌∷◌, map};
 ghost use Rattle.stream_model.specs.declared.vocabulary.ItemType.TheVariants.{Byte};
 ghost use Rattle.stream_model.specs.declared.vocabulary.Policy.TheVariants as policies;
 ghost use Rattle.stream_model.specs.Lists.{numbers_from};
 ghost use Rattle.stream_model.specs.Settings.{Number};
 ghost use Rattle.stream_model.specs.Network.{State};
-ghost use Rattle.stream_model.specs.Machine.{Fed, Taken, WaitingItems, Did, Abandoned, Piece, Refused, foreign, commit_of, abandon_of};
-ghost use Rattle.worked_rows.specs.Runs.{through, plus_ten, two_readers, sum_of_two, SetAt, Claim, Commit, Abandon, Step, Read, byte_feed, claim_reply, plain_claim, job_at, replies_of, state_after};
+ghost use Rattle.stream_model.specs.Machine.{Job, Busy, is_quiet, Fed, Taken, WaitingItems, Did, Abandoned, Piece, Refused, foreign, commit_of, abandon_of};
+ghost use Rattle.worked_rows.specs.Runs.{through, plus_ten, own_capacities, two_readers, sum_of_two, SetAt, Claim, Commit, Abandon, Step, Read, byte_feed, claim_reply, plain_claim, job_at, replies_of, state_after};
 ghost use Rattle.worked_rows.specs.Kinds.{numbers, alone, set_at};
 ghost use Rattle.stream_model.specs.Kinds.Math.{add_const, moving_sum};
 ghost use Rattle.stream_model.specs.Kinds.Bits.{diff_encoder};
@@ -115,4 +115,31 @@ pub fn claims_on_each_input()
         ∷ Step 0 9 ∷ Step 1 9 ∷ Claim 2 9 ∷ [])
         ≡ Fed 3 ∷ Fed 2 ∷ Did 3 ∷ Did 2
         ∷ claim_reply 2 0 2 (numbers (1 ∷ 2 ∷ []) ∷ numbers (10 ∷ 20 ∷ []) ∷ []) [] 0 ∷ [] }
+{}
+
+/// While a block has a claim in flight it is busy, be it for one firing, and the plant is not quiet. Once it is
+/// committed, and the sink has taken the item, the plant is.
+pub fn is_busy_with_a_claim()
+    ensures busy { replies_of (plus_ten 4096)
+        (byte_feed 0 (5 ∷ []) ∷ Step 0 2 ∷ Claim 1 1 ∷ Claim 1 1 ∷ Step 1 1 ∷ [])
+        ≡ Fed 1 ∷ Did 1 ∷ plain_claim 1 0 (5 ∷ []) 10 ∷ Busy ∷ Busy ∷ [] }
+    ensures claimed { is_quiet (plus_ten 4096) (own_capacities (plus_ten 4096))
+        (state_after (plus_ten 4096) (byte_feed 0 (5 ∷ []) ∷ Step 0 2 ∷ Claim 1 1 ∷ [])) ≡ false }
+    ensures committed { is_quiet (plus_ten 4096) (own_capacities (plus_ten 4096))
+        (state_after (plus_ten 4096)
+        (byte_feed 0 (5 ∷ []) ∷ Step 0 2 ∷ Claim 1 1 ∷ Commit 1 ∷ Step 2 1 ∷ [])) ≡ true }
+{}
+
+/// A job that differs from the claim in flight in one thing is refused: the used outputs, the first firing, the
+/// count, an item of a window, a value in force, the state word.
+pub fn refuses_another_job()
+    ensures { let net = plus_ten 4096 in
+        let claimed : State = state_after net (byte_feed 0 (5 ∷ 6 ∷ []) ∷ Step 0 2 ∷ Claim 1 2 ∷ []) in
+        let job : Job = job_at net claimed 1 in
+        map (λ (j : Job). (commit_of net claimed true j).0)
+        (record job { outputs = 2 } ∷ record job { first = 1 } ∷ record job { count = 1 }
+        ∷ record job { windows = numbers (5 ∷ 7 ∷ []) ∷ [] } ∷ record job { held = set_at 0 (Number (pos 11)) ∷ [] }
+        ∷ record job { word = 1 } ∷ job ∷ [])
+        ≡ Refused foreign ∷ Refused foreign ∷ Refused foreign ∷ Refused foreign ∷ Refused foreign
+        ∷ Refused foreign ∷ Did 2 ∷ [] }
 {}

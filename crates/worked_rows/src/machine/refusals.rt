@@ -1,13 +1,14 @@
 //! Runs whose calls are refused.
 #![tactic(auto, unfolding(crate::specs::Runs::worked_rows))]
 
-ghost use Rattle.std.specs.Prelude.{◌≡◌, pos, [], ◌∷◌, codes};
+ghost use Rattle.std.specs.Prelude.{◌≡◌, List, ℤ, length, pos, [], ◌∷◌, codes};
 ghost use Rattle.stream_model.specs.declared.vocabulary.ItemType.TheVariants.{Byte, Short};
 ghost use Rattle.stream_model.specs.Settings.{Number, Taps};
-ghost use Rattle.stream_model.specs.Machine.{Fed, Closed, Done, WaitingItems, Did, Refused, Late};
-ghost use Rattle.worked_rows.specs.Runs.{byte_source, chain, plus_ten, Feed, Close, SetAt, SetNow, Claim, Commit, Abandon, Step, Read, byte_feed, marked_feed, mark, replies_of};
+ghost use Rattle.stream_model.specs.Machine.{Fed, Closed, Taken, Done, WaitingItems, Did, Refused, Late, feed_of};
+ghost use Rattle.worked_rows.specs.Runs.{byte_source, chain, through, plus_ten, with_first_tape, Feed, Close, SetAt, SetNow, Claim, Commit, Abandon, Step, Read, byte_feed, marked_feed, mark, replies_of};
 ghost use Rattle.worked_rows.specs.Kinds.{numbers, alone};
 ghost use Rattle.stream_model.specs.Kinds.Ends.{null_sink};
+ghost use Rattle.stream_model.specs.Kinds.Filters.{fir};
 
 /// Each call that cannot be answered has its number. Feeding 256 to a source of bytes is feeding
 /// another type.
@@ -45,4 +46,20 @@ pub fn refuses_to_read_what_is_dropped()
     ensures { replies_of (chain (byte_source ∷ alone (null_sink Byte) ∷ []))
         (byte_feed 0 (1 ∷ 2 ∷ []) ∷ Step 0 9 ∷ Step 1 9 ∷ Read 1 0 9 ∷ [])
         ≡ Fed 2 ∷ Did 2 ∷ Did 2 ∷ Refused 22 ∷ [] }
+{}
+
+/// A list of taps has to be as long as the filter's own.
+pub fn refuses_other_lengths()
+    ensures { replies_of (through Short (alone (fir Short (numbers (1 ∷ 1 ∷ [])) 1 0)))
+        (SetNow 1 (Taps (numbers (1 ∷ []))) ∷ SetNow 1 (Taps (numbers (1 ∷ 2 ∷ 3 ∷ [])))
+        ∷ SetNow 1 (Number (pos 1)) ∷ SetNow 1 (Taps (numbers (1 ∷ 2 ∷ []))) ∷ [])
+        ≡ Refused 29 ∷ Refused 29 ∷ Refused 29 ∷ Taken 0 ∷ [] }
+{}
+
+/// A tape takes 4,294,967,296 items, and not one more.
+pub fn fills_a_tape()
+    ensures last { (tape : List ℤ) → length tape ≡ 4294967295 →
+        (feed_of (plus_ten 4096) (with_first_tape tape) 0 Byte (pos 7 ∷ []) []).0 ≡ Fed 4294967296 }
+    ensures above { (tape : List ℤ) → length tape ≡ 4294967295 →
+        (feed_of (plus_ten 4096) (with_first_tape tape) 0 Byte (pos 7 ∷ pos 8 ∷ []) []).0 ≡ Refused 26 }
 {}

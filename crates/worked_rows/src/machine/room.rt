@@ -3,9 +3,10 @@
 
 ghost use Rattle.std.specs.Prelude.{◌≡◌, pos, true, false, [], ◌∷◌, ◌++◌};
 ghost use Rattle.stream_model.specs.declared.vocabulary.ItemType.TheVariants.{Byte};
+ghost use Rattle.stream_model.specs.declared.vocabulary.Policy.TheVariants as policies;
 ghost use Rattle.stream_model.specs.Lists.{numbers_from};
 ghost use Rattle.stream_model.specs.Machine.{Fed, Closed, Done, WaitingItems, WaitingRoom, Did, Piece, is_quiet, is_all_done};
-ghost use Rattle.worked_rows.specs.Runs.{node, byte_source, byte_sink, chain, arrow, network, plus_ten, two_readers, sum_with, through, times, own_capacities, Close, Step, Read, byte_feed, replies_of, state_after, firings_in};
+ghost use Rattle.worked_rows.specs.Runs.{node, sum_of_two, byte_source, byte_sink, chain, arrow, network, plus_ten, two_readers, sum_with, through, times, own_capacities, Close, Step, Read, byte_feed, replies_of, state_after, firings_in};
 ghost use Rattle.worked_rows.specs.Kinds.{numbers, alone};
 ghost use Rattle.stream_model.specs.Kinds.Ends.{vector_source};
 ghost use Rattle.stream_model.specs.Kinds.Math.{add_const, add, not_of};
@@ -190,4 +191,21 @@ pub fn goes_on_for_a_live_output()
         ≡ Fed 6 ∷ Did 6 ∷ Did 1 ∷ Did 1 ∷ Done
         ∷ Did 1 ∷ Did 2 ∷ Done ∷ Done ∷ Done ∷ Did 2
         ∷ Piece 0 2 (numbers (2 ∷ 4 ∷ [])) [] false ∷ [] }
+{}
+
+/// A block with a limit waits while items lack and firings are left of it.
+pub fn waits_before_its_limit()
+    ensures { replies_of (through Byte (alone (head Byte 3)))
+        (byte_feed 0 (1 ∷ []) ∷ Step 0 9 ∷ Step 1 9 ∷ Step 1 9 ∷ byte_feed 0 (2 ∷ 3 ∷ 4 ∷ []) ∷ Step 0 9
+        ∷ Step 1 9 ∷ Step 1 9 ∷ [])
+        ≡ Fed 1 ∷ Did 1 ∷ Did 1 ∷ WaitingItems 0 ∷ Fed 4 ∷ Did 3 ∷ Did 2 ∷ Done ∷ [] }
+{}
+
+/// A block waits for the lowest input that lacks items.
+pub fn waits_for_the_lowest_input()
+    ensures { replies_of (sum_of_two policies.All)
+        (Step 2 1 ∷ byte_feed 0 (1 ∷ []) ∷ Step 0 9 ∷ Step 2 1 ∷ byte_feed 1 (1 ∷ []) ∷ Step 1 9 ∷ Step 2 9
+        ∷ byte_feed 1 (1 ∷ []) ∷ Step 1 9 ∷ Step 2 1 ∷ [])
+        ≡ WaitingItems 0 ∷ Fed 1 ∷ Did 1 ∷ WaitingItems 1 ∷ Fed 1 ∷ Did 1 ∷ Did 1
+        ∷ Fed 2 ∷ Did 1 ∷ WaitingItems 0 ∷ [] }
 {}

@@ -4,8 +4,8 @@
 ghost use Rattle.std.specs.Prelude.{◌≡◌, pos, negsuc, false, [], ◌∷◌};
 ghost use Rattle.stream_model.specs.declared.vocabulary.ItemType.TheVariants.{Short};
 ghost use Rattle.stream_model.specs.Settings.{Number, Taps};
-ghost use Rattle.stream_model.specs.Machine.{Fed, Closed, Taken, Done, Busy, Did, Piece, Late};
-ghost use Rattle.worked_rows.specs.Runs.{through, plus_ten, Feed, Close, SetAt, SetNow, Claim, Commit, Step, Read, byte_feed, claim_reply, plain_claim, replies_of};
+ghost use Rattle.stream_model.specs.Machine.{Fed, Closed, Taken, Abandoned, Done, Busy, Did, Piece, Late};
+ghost use Rattle.worked_rows.specs.Runs.{through, plus_ten, Feed, Close, SetAt, SetNow, Claim, Commit, Abandon, Step, Read, byte_feed, claim_reply, plain_claim, replies_of};
 ghost use Rattle.worked_rows.specs.Kinds.{numbers, alone, set_at};
 ghost use Rattle.stream_model.specs.Kinds.Filters.{fir};
 
@@ -73,4 +73,28 @@ pub fn sets_a_done_block()
     ensures { replies_of (plus_ten 4096)
         (Close 0 ∷ Step 0 1 ∷ Step 1 1 ∷ SetAt 1 9 (Number (pos 20)) ∷ [])
         ≡ Closed 0 ∷ Done ∷ Done ∷ Taken 9 ∷ [] }
+{}
+
+/// In force is the setting with the greatest place, whichever call came last: one at item 5, and then one
+/// at item 3.
+pub fn sets_before_a_setting()
+    ensures { replies_of (plus_ten 4096)
+        (SetAt 1 5 (Number (pos 20)) ∷ SetAt 1 3 (Number (pos 30))
+        ∷ byte_feed 0 (0 ∷ 0 ∷ 0 ∷ 0 ∷ 0 ∷ 0 ∷ 0 ∷ []) ∷ Step 0 9 ∷ Step 1 9 ∷ Step 2 9 ∷ Read 2 0 9 ∷ [])
+        ≡ Taken 5 ∷ Taken 3 ∷ Fed 7 ∷ Did 7 ∷ Did 7 ∷ Did 7
+        ∷ Piece 0 7 (numbers (10 ∷ 10 ∷ 10 ∷ 30 ∷ 30 ∷ 20 ∷ 20 ∷ [])) [] false ∷ [] }
+{}
+
+/// A claim brings the setting in force at its first item, with the place where it was made, and those made
+/// behind it up to its end: a setting at the item behind the last is not among them.
+pub fn claims_settings()
+    ensures { replies_of (plus_ten 4096)
+        (SetAt 1 1 (Number (pos 20)) ∷ SetAt 1 2 (Number (pos 30)) ∷ SetAt 1 4 (Number (pos 40))
+        ∷ byte_feed 0 (0 ∷ 1 ∷ 2 ∷ 3 ∷ 4 ∷ 5 ∷ []) ∷ Step 0 9 ∷ Step 1 1
+        ∷ Claim 1 3 ∷ Abandon 1 ∷ Step 1 2 ∷ Claim 1 1 ∷ Commit 1 ∷ Claim 1 9 ∷ [])
+        ≡ Taken 1 ∷ Taken 2 ∷ Taken 4 ∷ Fed 6 ∷ Did 6 ∷ Did 1
+        ∷ claim_reply 1 1 3 (numbers (1 ∷ 2 ∷ 3 ∷ []) ∷ [])
+        (set_at 1 (Number (pos 20)) ∷ set_at 2 (Number (pos 30)) ∷ []) 0 ∷ Abandoned ∷ Did 2
+        ∷ claim_reply 1 3 1 (numbers (3 ∷ []) ∷ []) (set_at 2 (Number (pos 30)) ∷ []) 0 ∷ Did 1
+        ∷ claim_reply 1 4 2 (numbers (4 ∷ 5 ∷ []) ∷ []) (set_at 4 (Number (pos 40)) ∷ []) 0 ∷ [] }
 {}

@@ -5,10 +5,10 @@ ghost use Rattle.std.specs.Prelude.{◌≡◌, List, ℕ, pos, negsuc, false, []
 ghost use Rattle.stream_model.specs.declared.vocabulary.Policy.TheVariants as policies;
 ghost use Rattle.stream_model.specs.declared.vocabulary.ItemType.TheVariants.{Byte};
 ghost use Rattle.stream_model.specs.Machine.{Reply, Fed, Did, Piece};
-ghost use Rattle.worked_rows.specs.Runs.{byte_source, byte_sink, arrow, network, through, sum_of_two, thinned_sum, plus_ten, Step, Read, byte_feed, marked_feed, mark, tag, steps, full_replies, replies_of};
+ghost use Rattle.worked_rows.specs.Runs.{byte_source, byte_sink, chain, two_beside, arrow, network, through, sum_of_two, thinned_sum, plus_ten, Step, Read, byte_feed, marked_feed, mark, tag, steps, full_replies, replies_of};
 ghost use Rattle.worked_rows.specs.Kinds.{numbers, alone};
 ghost use Rattle.stream_model.specs.Kinds.Math.{add};
-ghost use Rattle.stream_model.specs.Kinds.Rates.{keep_one_in_n, skiphead, delay, repeat};
+ghost use Rattle.stream_model.specs.Kinds.Rates.{stream_mux, keep_one_in_n, skiphead, delay, repeat};
 
 /// Every fourth item: a tag goes to the nearest item of the output, a half upwards, and shows once
 /// that item is there.
@@ -129,4 +129,47 @@ pub fn reads_a_piece()
         ≡ Fed 3 ∷ Did 3 ∷ Did 3 ∷ Did 3
         ∷ Piece 1 3 (numbers (12 ∷ [])) (tag 1 (codes "k") (pos 6) 0 ∷ []) false
         ∷ Piece 3 3 [] [] false ∷ [] }
+{}
+
+/// Keys are ordered by their bytes, a beginning first: `a`, `ab`, `b`. A source's tags are in order, whatever the
+/// order of its marks.
+pub fn orders_tags()
+    ensures keys { replies_of (chain (byte_source ∷ byte_sink ∷ []))
+        (marked_feed 0 (1 ∷ [])
+        (mark 0 (codes "b") (pos 1) ∷ mark 0 (codes "ab") (pos 1) ∷ mark 0 (codes "a") (pos 1) ∷ [])
+        ∷ Step 0 9 ∷ Step 1 9 ∷ Read 1 0 9 ∷ [])
+        ≡ Fed 1 ∷ Did 1 ∷ Did 1 ∷ Piece 0 1 (numbers (1 ∷ []))
+        (tag 0 (codes "a") (pos 1) 0 ∷ tag 0 (codes "ab") (pos 1) 0 ∷ tag 0 (codes "b") (pos 1) 0 ∷ [])
+        false ∷ [] }
+    ensures offsets { replies_of (chain (byte_source ∷ byte_sink ∷ []))
+        (marked_feed 0 (1 ∷ 2 ∷ []) (mark 1 (codes "a") (pos 1) ∷ mark 0 (codes "z") (pos 2) ∷ [])
+        ∷ Step 0 9 ∷ Step 1 9 ∷ Read 1 0 9 ∷ [])
+        ≡ Fed 2 ∷ Did 2 ∷ Did 2 ∷ Piece 0 2 (numbers (1 ∷ 2 ∷ []))
+        (tag 0 (codes "z") (pos 2) 0 ∷ tag 1 (codes "a") (pos 1) 0 ∷ []) false ∷ [] }
+{}
+
+/// Under the policy `One` the tags of each input go to the output of its number, and to no other.
+pub fn lets_tags_through_by_port()
+    ensures { replies_of (two_beside policies.One)
+        (marked_feed 0 (1 ∷ 2 ∷ []) (mark 0 (codes "a") (pos 1) ∷ [])
+        ∷ marked_feed 1 (10 ∷ 20 ∷ []) (mark 1 (codes "b") (pos 2) ∷ [])
+        ∷ Step 0 9 ∷ Step 1 9 ∷ Step 2 9 ∷ Step 3 9 ∷ Step 4 9 ∷ Read 3 0 9 ∷ Read 4 0 9 ∷ [])
+        ≡ Fed 2 ∷ Fed 2 ∷ Did 2 ∷ Did 2 ∷ Did 2 ∷ Did 2 ∷ Did 2
+        ∷ Piece 0 2 (numbers (1 ∷ 2 ∷ [])) (tag 0 (codes "a") (pos 1) 0 ∷ []) false
+        ∷ Piece 0 2 (numbers (10 ∷ 20 ∷ [])) (tag 1 (codes "b") (pos 2) 1 ∷ []) false ∷ [] }
+{}
+
+/// Two items of the first input and one of the second in a round: a tag stays on its item. That on the fifth item
+/// of the first waits for the next round.
+pub fn muxes_tags()
+    ensures { replies_of (network
+        (byte_source ∷ byte_source ∷ alone (stream_mux Byte (2 ∷ 1 ∷ [])) ∷ byte_sink ∷ [])
+        (arrow 0 2 0 ∷ arrow 1 2 1 ∷ arrow 2 3 0 ∷ []))
+        (marked_feed 0 (1 ∷ 2 ∷ 3 ∷ 4 ∷ 5 ∷ [])
+        (mark 3 (codes "k") (pos 1) ∷ mark 4 (codes "k") (pos 2) ∷ [])
+        ∷ marked_feed 1 (10 ∷ 20 ∷ 30 ∷ []) (mark 1 (codes "k") (pos 3) ∷ [])
+        ∷ Step 0 9 ∷ Step 1 9 ∷ Step 2 9 ∷ Step 3 9 ∷ Read 3 0 9 ∷ [])
+        ≡ Fed 5 ∷ Fed 3 ∷ Did 5 ∷ Did 3 ∷ Did 2 ∷ Did 6
+        ∷ Piece 0 6 (numbers (1 ∷ 2 ∷ 10 ∷ 3 ∷ 4 ∷ 20 ∷ []))
+        (tag 4 (codes "k") (pos 1) 0 ∷ tag 5 (codes "k") (pos 3) 1 ∷ []) false ∷ [] }
 {}
