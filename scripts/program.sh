@@ -1,0 +1,72 @@
+# shellcheck shell=bash disable=SC2034
+# For ./flow, ./build and the scripts of tests/ to source: which crate is the program, and which crates it stands on.
+
+# The crate of the program.
+program_crate=flow
+# The minutes that a first ./build takes on four cores.
+build_minutes=10
+
+# (`cd` would go by CDPATH, and a link to a script does not stand in this checkout.)
+top=$(dirname -- "$(dirname -- "$(readlink -f -- "${BASH_SOURCE[0]}")")")
+program=$top/crates/$program_crate/out/$program_crate
+
+# The line of each crate in crates.txt, and the libraries that it names, of this repository and of the toolchain.
+declare -A line_of=() uses=()
+# The crates that were asked for and all crates of this repository below them, each after those that it uses.
+order=()
+
+read_crates() {
+    local line name
+    while IFS= read -r line || [[ -n $line ]]; do
+        line=${line%%#*}
+        read -r name _ <<<"${line%%:*}"
+        if [[ -n $name ]]; then
+            line_of[$name]=$line
+            line=$line:
+            line=${line#*:}
+            uses[$name]=${line//[:,]/ }
+        fi
+    done <"$top/crates.txt"
+}
+
+# put_in_order CRATE: adds the crate to `order`, after the crates below it
+put_in_order() {
+    local it
+    if [[ " ${order[*]} " == *" $1 "* ]]; then
+        return
+    fi
+    for it in ${uses[$1]}; do
+        if [[ -v uses[$it] ]]; then
+            put_in_order "$it"
+        fi
+    done
+    order+=("$1")
+}
+
+# Whether the program is built, and newer than each file that it is made of, and each folder of them: a file may go or be renamed.
+is_fresh() {
+    local crate part newer sources=("$top/crates.txt")
+    [[ -x $program ]] || return 1
+    for crate in "${order[@]}"; do
+        for part in src specs proofs; do
+            if [[ -d $top/crates/$crate/$part ]]; then
+                sources+=("$top/crates/$crate/$part")
+            fi
+        done
+    done
+    if [[ -e $top/HANDLES ]]; then
+        sources+=("$top/HANDLES")
+    fi
+    newer=$(find "${sources[@]}" -newer "$program" -print -quit) && [[ -z $newer ]]
+}
+
+# needs_rt NAME: ends the script of this name where the toolchain is not to be found
+needs_rt() {
+    if ! command -v rt >/dev/null; then
+        echo "$1: there is no rt in PATH: it is the command of the Rattle toolchain, which proves and compiles this repository" >&2
+        exit 127
+    fi
+}
+
+read_crates
+put_in_order "$program_crate"
