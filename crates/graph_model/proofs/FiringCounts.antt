@@ -1,17 +1,15 @@
 -- The counts of firings that the rates compute are those that they say in words.
-use Rattle.std.proofs.Common.{◌≡◌, ℕ, zero, suc, ◌-◌, ◌*◌, ◌/◌, ◌<◌, ◌≤◌, min, Bool, true, false, List, [], ◌∷◌, map, length, Option, Some, None, refl, arith, ap, sym, ◌∙◌, subst, get_or, eqb-true}
-use Rattle.std.proofs.Math.Nat.{le-div_iff_mul-le, mul-pos}
+use Rattle.std.proofs.Common.{◌≡◌, ℕ, zero, suc, ◌*◌, ◌<◌, ◌≤◌, min, Bool, true, false, List, [], ◌∷◌, map, length, refl, arith, ap, sym, ◌∙◌, subst, get_or, eqb-true}
 use Rattle.std.proofs.lemmas.Bool.{eq-eqb}
 use Rattle.std.proofs.lemmas.List.{length-map}
 use Rattle.std.proofs.lemmas.List.Elements.{All-nil, All-cons, All-head, All-tail, All-map, All-weaker, All-filter, filter_passes}
 use Rattle.std.specs.List.{All, filter, fold}
-use Rattle.std.specs.Prelude.{◌==◌, cond, ◌↔◌, slice_index}
-use Rattle.stream_model.specs.declared.vocabulary.Shift.{Shift}
-use Rattle.stream_model.specs.declared.vocabulary.Shift.TheVariants.{No, Skip, Delay}
-use Rattle.stream_model.specs.Meaning.{HasCounts, IsShifted}
-use Rattle.stream_model.specs.Network.{Network, Connection, Node, IsSound, node_at, role_at, is_source, HasLevels, taken_by, given_by}
-use Rattle.graph_model.specs.Rates.{takes, taken_at, allowed_by, allowed, least_of, count_by, count_after, AreCounts, Allow, CanCount, CountsAreGreatest}
-use Rattle.stream_model.proofs.Streams.{elim-true, elim-false}
+use Rattle.std.specs.Prelude.{◌==◌, cond, slice_index}
+use Rattle.stream_model.specs.Network.{Network, Connection, node_at, role_at, is_source, HasLevels, taken_by, given_by}
+use Rattle.stream_model.specs.Firings.{allowed}
+use Rattle.stream_model.proofs.Firings.{allows}
+use Rattle.graph_model.specs.Rates.{least_of, count_by, count_after, AreCounts, Allow, CanCount, CountsAreGreatest}
+use Rattle.stream_model.proofs.Streams.{elim-true, elim-false, map-agree}
 
 -- the least of a list
 fold_min-start : (start : ℕ) (xs : List ℕ) → fold min start xs ≤ start
@@ -54,48 +52,10 @@ module _ {X : Type 0} (test : X → Bool) (P : X → Type 0) where
   pub All-refilter : (xs : List X) → All (λ y. test y ≡ true → P y) xs → All P (filter test xs)
   All-refilter xs all = λ k d lt. All-filter test (λ y. test y ≡ true → P y) xs all k d lt (filter_passes test xs k d lt)
 
--- how many firings items allow, input by input
-module _ (n : Node) (sound : IsSound n) (single : n.meaning.rate 0 ≡ None → n.multiple ≡ 1) (p : ℕ) where
-  pub one_at : (o : Option (ℕ × ℕ)) → n.meaning.rate 0 ≡ o → HasCounts n.meaning 0 o → IsShifted n.meaning p n.meaning.shift → n.multiple ≡ 1
-  one_at None e h shifted = single e
-  one_at (Some r) e h shifted = absurd (subst (λ (s : Shift). IsShifted n.meaning p s) h.0 shifted)
-
-  shifted_allow : (s : Shift) → IsShifted n.meaning p s → n.multiple ≡ 1 → (k items : ℕ) → (taken_by n p k ≤ items) ↔ (k ≤ allowed_by s (takes n p) items)
-  shifted_allow No h one k items = absurd h
-  shifted_allow (Skip a) h one k items =
-      let same : taken_by n p k ≡ n.multiple * k = h.0 (n.multiple * k) in
-      let plain : n.multiple * k ≡ k = rw one (omega arith) in
-      (λ le. omega arith, λ le. omega arith)
-  shifted_allow (Delay a) h one k items =
-      let same : taken_by n p k ≡ n.multiple * k - a = h.1 (n.multiple * k) in
-      let plain : n.multiple * k ≡ k = rw one (omega arith) in
-      (λ le. omega arith, λ le. omega arith)
-
-  allow_at : (o : Option (ℕ × ℕ)) → n.meaning.rate p ≡ o → HasCounts n.meaning p o → (k items : ℕ) → (taken_by n p k ≤ items) ↔ (k ≤ allowed n p items)
-  allow_at None e h k items = shifted_allow n.meaning.shift h (one_at (n.meaning.rate 0) refl (sound.lawful.counts 0) h) k items
-  allow_at (Some r) e h k items =
-      let same : taken_by n p k ≡ r.0 * (n.multiple * k) = h.1.taken (n.multiple * k) in
-      let each : takes n p ≡ n.multiple * r.0 = ap (λ o. n.multiple * taken_at o) e in
-      let some : 0 < n.multiple * r.0 = mul-pos sound.some h.1.takes_some in
-      let closed : allowed n p items ≡ items / (n.multiple * r.0) = ap (λ s. allowed_by s (takes n p) items) h.0 ∙ ap (λ t. items / t) each in
-      let order : r.0 * (n.multiple * k) ≡ k * (n.multiple * r.0) = omega arith in
-      (λ le. rw closed ((le-div_iff_mul-le some).1 (rw (← order, ← same) le)), λ le. rw (same, order) ((le-div_iff_mul-le some).0 (rw closed at le)))
-
-  pub allows : (k items : ℕ) → (taken_by n p k ≤ items) ↔ (k ≤ allowed n p items)
-  allows = allow_at (n.meaning.rate p) refl (sound.lawful.counts p)
-
 pub All-unmap : {X : Type 0} (f : X → ℕ) (P : ℕ → Type 0) (xs : List X) → All P (map f xs) → All (λ x. P (f x)) xs
 All-unmap f P [] all = All-nil (λ x. P (f x))
 All-unmap f P (x ∷ xs) all =
     All-cons (λ y. P (f y)) x xs (All-head P (f x) (map f xs) all) (All-unmap f P xs (All-tail P (f x) (map f xs) all))
-
--- functions that agree on the elements of a list
-pub map-agree : {X : Type 0} (P : X → Type 0) (f g : X → ℕ) (xs : List X) → All P xs → ((x : X) → P x → f x ≡ g x) → map f xs ≡ map g xs
-map-agree P f g [] all each = refl
-map-agree P f g (x ∷ xs) all each =
-    let head = each x (All-head P x xs all) in
-    let tail = map-agree P f g xs (All-tail P x xs all) each in
-    cc
 
 module _ (net : Network) (q : List ℕ) (level : ℕ → ℕ) (levels : HasLevels net level) where
   -- the connections to a block, which come from lower levels

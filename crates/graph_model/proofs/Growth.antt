@@ -12,8 +12,11 @@ use Rattle.stream_model.specs.declared.vocabulary.Shift.TheVariants.{No, Skip, D
 use Rattle.stream_model.specs.Lists.{below}
 use Rattle.stream_model.specs.Meaning.{HasCounts, IsShifted}
 use Rattle.stream_model.specs.Network.{Network, Connection, Node, IsSound, node_at, role_at, is_source, HasLevels, given_by}
-use Rattle.graph_model.specs.Rates.{takes, gives, taken_at, given_at, takes_on, gives_on, allowed_by, allowed, least_of, count_after, CanCount, IsBalanced, is_past_skip, is_past_skips, CountsGrow}
-use Rattle.graph_model.proofs.FiringCounts.{one_at, to_block, Below, all_below, allowance, worker_unfolds, source_unfolds, map-agree}
+use Rattle.stream_model.specs.Firings.{takes, gives, taken_at, given_at, allowed_by, allowed}
+use Rattle.graph_model.specs.Rates.{takes_on, gives_on, least_of, count_after, CanCount, IsBalanced, is_past_skip, is_past_skips, CountsGrow}
+use Rattle.stream_model.proofs.Streams.{map-agree}
+use Rattle.stream_model.proofs.Firings.{one_at}
+use Rattle.graph_model.proofs.FiringCounts.{to_block, Below, all_below, allowance, worker_unfolds, source_unfolds}
 
 module _ (n : Node) (sound : IsSound n) (single : n.meaning.rate 0 ≡ None → n.multiple ≡ 1) where
   -- what more firings give, behind a skip

@@ -16,9 +16,11 @@ use Rattle.stream_model.specs.declared.vocabulary.Shift.TheVariants.{No, Skip, D
 use Rattle.stream_model.specs.Lists.{below, numbers_from, greatest}
 use Rattle.stream_model.specs.Meaning.{Meaning, HasCounts, IsShifted, KeepsRole}
 use Rattle.stream_model.specs.Network.{Network, Connection, Node, IsSound, node_at, role_at, is_source, HasLevels, given_by, taken_by}
-use Rattle.graph_model.specs.Rates.{takes, taken_at, takes_on, gives_on, allowed_by, least_of, count_after, CanCount, IsBalanced, is_past_skip, is_past_skips, count_limit, ahead, needed_on, NeededIsEnough}
+use Rattle.stream_model.specs.Firings.{takes, taken_at, allowed_by}
+use Rattle.graph_model.specs.Rates.{takes_on, gives_on, least_of, count_after, CanCount, IsBalanced, is_past_skip, is_past_skips, count_limit, ahead, needed_on, NeededIsEnough}
 use Rattle.stream_model.proofs.Greatest.{greatest-le, greatest-stops}
-use Rattle.graph_model.proofs.FiringCounts.{one_at, to_block, Below, all_below, allowance, worker_unfolds, least_of-ge}
+use Rattle.stream_model.proofs.Firings.{one_at}
+use Rattle.graph_model.proofs.FiringCounts.{to_block, Below, all_below, allowance, worker_unfolds, least_of-ge}
 use Rattle.graph_model.proofs.Growth.{gives_more, past_at, counts_grow}
 
 -- a block that delays has given its zeros
@@ -87,7 +89,7 @@ not_false : (b : Bool) → not b ≡ false → b ≡ true
 not_false true e = refl
 not_false false e = cc
 
-past_first : (net : Network) (q : List ℕ) (j : ℕ) (b : Bool) → is_past_skips net q count_limit ≡ b →
+pub past_first : (net : Network) (q : List ℕ) (j : ℕ) (b : Bool) → is_past_skips net q count_limit ≡ b →
     (elim b [ true ↦ Some (greatest (λ n. not (is_past_skips net q (n - 1))) count_limit) | false ↦ None ]) ≡ Some j → is_past_skips net q j ≡ true
 past_first net q j false e some = absurd (cc)
 past_first net q j true e some =
@@ -115,7 +117,7 @@ module _ (net : Network) (q : List ℕ) (level : ℕ → ℕ) (can : CanCount ne
       (subst (λ k. is_past_skip (node_at net b).meaning.shift k ≡ true) (sym (counts_grow net q level can levels balanced j past b in'))
       (skip_more (node_at net b).meaning.shift (count_after net q b j) (slice_index q b) (past_at net q level can levels balanced j past b in'))))
 
-  past_from : (j d : ℕ) → is_past_skips net q j ≡ true → is_past_skips net q (j + d) ≡ true
+  pub past_from : (j d : ℕ) → is_past_skips net q j ≡ true → is_past_skips net q (j + d) ≡ true
   past_from j zero past = rw add-zero past
   past_from j (suc d) past = subst (λ i. is_past_skips net q i ≡ true) (omega arith) (past_more (j + d) (past_from j d past))
 

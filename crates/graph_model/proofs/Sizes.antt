@@ -8,16 +8,17 @@ use Rattle.std.specs.Prelude.{◌==◌, ◌&&◌, if◌then◌else◌}
 use Rattle.stream_model.specs.Lists.{below}
 use Rattle.stream_model.specs.Network.{Network, Connection, node_at, readers_of, greatest_port, used_outputs}
 use Rattle.stream_model.specs.Machine.{capacity_at}
-use Rattle.graph_model.specs.Rates.{Balance, Balanced, gives, takes_on, ahead, needed_on, needed_by, needed_of, capacity_of, capacities_of, CapacitiesSuffice}
+use Rattle.stream_model.specs.Firings.{gives}
+use Rattle.graph_model.specs.Rates.{Balance, Balanced, takes_on, ahead, needed_on, needed_by, needed_of, capacity_of, capacities_of, CapacitiesSuffice}
 use Rattle.graph_model.proofs.FiringCounts.{All-unmap, All-unfilter}
 use Rattle.graph_model.proofs.Room.{needed_is_enough}
 
 -- each number of a list is at most the greatest
-fold_max-start : (start : ℕ) (xs : List ℕ) → start ≤ fold max start xs
+pub fold_max-start : (start : ℕ) (xs : List ℕ) → start ≤ fold max start xs
 fold_max-start start [] = omega arith
 fold_max-start start (x ∷ xs) = omega (arith, fold_max-start (max start x) xs)
 
-fold_max-each : (start : ℕ) (xs : List ℕ) → All (λ x. x ≤ fold max start xs) xs
+pub fold_max-each : (start : ℕ) (xs : List ℕ) → All (λ x. x ≤ fold max start xs) xs
 fold_max-each start [] = All-nil (λ x. x ≤ start)
 fold_max-each start (x ∷ xs) =
     let high : x ≤ fold max start (x ∷ xs) = omega (arith, fold_max-start (max start x) xs) in
@@ -36,7 +37,7 @@ port_later : (p more : ℕ) (t : Bool) → more ≤ (if t then max (suc p) more 
 port_later p more true = omega arith
 port_later p more false = omega arith
 
-port_used : (b : ℕ) (cs : List Connection) → All (λ c. c.from ≡ b → c.out_port < greatest_port b cs) cs
+pub port_used : (b : ℕ) (cs : List Connection) → All (λ c. c.from ≡ b → c.out_port < greatest_port b cs) cs
 port_used b [] = All-nil (λ c. c.from ≡ b → c.out_port < 0)
 port_used b (c ∷ cs) =
     All-cons (λ e. e.from ≡ b → e.out_port < greatest_port b (c ∷ cs)) c cs (port_here c b (greatest_port b cs) (c.from == b) refl)

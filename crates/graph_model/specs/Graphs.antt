@@ -12,7 +12,8 @@ use Rattle.stream_model.specs.Lists.{below}
 use Rattle.stream_model.specs.Meaning.{Meaning}
 use Rattle.stream_model.specs.Network.{Node, Connection, Network, HasLevels, node_at, enters}
 use Rattle.stream_model.specs.Machine.{types_agree}
-use Rattle.graph_model.specs.Rates.{given_at, greatest_of}
+use Rattle.stream_model.specs.Firings.{given_at}
+use Rattle.graph_model.specs.Rates.{greatest_of}
 
 -- the limits of a graph: blocks, connections, ports on a side of a block, bytes of a name, base firings in one, items of a configured
 -- capacity, and the product of the interpolations along a path

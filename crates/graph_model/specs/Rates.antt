@@ -4,7 +4,8 @@ use Rattle.std.specs.List.{list_all}
 use Rattle.stream_model.specs.declared.vocabulary.Shift.{Shift}
 use Rattle.stream_model.specs.declared.vocabulary.Shift.TheVariants.{No, Skip, Delay}
 use Rattle.stream_model.specs.Lists.{below, greatest}
-use Rattle.stream_model.specs.Network.{Node, Connection, Network, HasLevels, IsSound, node_at, role_at, is_source, readers_of, used_outputs, taken_by, given_by}
+use Rattle.stream_model.specs.Firings.{gives, takes, allowed}
+use Rattle.stream_model.specs.Network.{Connection, Network, HasLevels, IsSound, node_at, role_at, is_source, readers_of, used_outputs, taken_by, given_by}
 use Rattle.stream_model.specs.Machine.{Capacities, capacity_at}
 
 -- the answer on a network: firings of each block that leave every connection as it was, or that there are none, or that they are too many (own)
@@ -16,22 +17,6 @@ pub data Balance : Type 0 where
 -- the greatest numerator, denominator, count of firings, of items and of iterations, and capacity needed (own)
 abbrev pub count_limit : ℕ
 count_limit = 65536
-
--- how many items a base firing takes of an input, and gives on each output: one where there is no rate (own)
-abbrev pub taken_at : Option (ℕ × ℕ) → ℕ
-taken_at None = 1
-taken_at (Some r) = r.0
-
-abbrev pub given_at : Option (ℕ × ℕ) → ℕ
-given_at None = 1
-given_at (Some r) = r.1
-
--- how many items one firing takes of input p, and gives on each output (Lee and Messerschmitt 1987; `multiple` is own)
-abbrev pub takes : Node → ℕ → ℕ
-takes n p = n.multiple * taken_at (n.meaning.rate p)
-
-abbrev pub gives : Node → ℕ
-gives n = n.multiple * given_at (n.meaning.rate 0)
 
 -- how many items a firing of the writer of a connection puts there, and one of its reader takes
 abbrev pub gives_on : Network → Connection → ℕ
@@ -87,23 +72,23 @@ abbrev pub Known : Type 0
 Known = List (Option Ratio)
 
 -- where exactly one end of a connection has a ratio: the block at the other end, and the ratio that the connection gives it
+abbrev pub told : Network → Connection → Option Ratio → Option Ratio → Option (ℕ × Ratio)
+told net c (Some u) None = Some (c.to, times u (gives_on net c) (takes_on net c))
+told net c None (Some v) = Some (c.from, times v (takes_on net c) (gives_on net c))
+told net c (Some u) (Some v) = None
+told net c None None = None
+
 abbrev pub told_by : Network → Known → Connection → Option (ℕ × Ratio)
-told_by net rs c = told (slice_index_or rs c.from None) (slice_index_or rs c.to None)
-  where
-    told : Option Ratio → Option Ratio → Option (ℕ × Ratio)
-    told (Some u) None = Some (c.to, times u (gives_on net c) (takes_on net c))
-    told None (Some v) = Some (c.from, times v (takes_on net c) (gives_on net c))
-    told (Some u) (Some v) = None
-    told None None = None
+told_by net rs c = told net c (slice_index_or rs c.from None) (slice_index_or rs c.to None)
 
 -- the next ratio: of the first such connection, in the order of connecting; where there is none, 1 for the lowest block without one (own)
+abbrev pub told_or : Option (ℕ × Ratio) → Option ℕ → Option (ℕ × Ratio)
+told_or (Some t) b = Some t
+told_or None (Some b) = Some (b, record { part = b; over = 1; under = 1 })
+told_or None None = None
+
 abbrev pub next_ratio : Network → Known → Option (ℕ × Ratio)
 next_ratio net rs = told_or (slice_get (filter_map (told_by net rs) net.connections) 0) (position is_none rs)
-  where
-    told_or : Option (ℕ × Ratio) → Option ℕ → Option (ℕ × Ratio)
-    told_or (Some t) b = Some t
-    told_or None (Some b) = Some (b, record { part = b; over = 1; under = 1 })
-    told_or None None = None
 
 abbrev pub is_small : Ratio → Bool
 is_small r = nat_le r.over count_limit && nat_le r.under count_limit
@@ -140,16 +125,6 @@ firings_of rs = map (λ r. whole_of rs r.part / r.under * r.over) rs
 -- no block fires or gives more than the limit in an iteration, which is q firings of each block (own)
 abbrev pub are_few : Network → List ℕ → Bool
 are_few net q = list_all (λ b. nat_le (slice_index q b) count_limit && nat_le (slice_index q b * gives (node_at net b)) count_limit) (below (length net.nodes))
-
--- the greatest k such that k firings take at most so many items of input p: in closed form, since a search for it would take long.
--- A block that shifts has a multiple of 1
-abbrev pub allowed_by : Shift → ℕ → ℕ → ℕ
-allowed_by No each items = items / each
-allowed_by (Skip n) each items = items
-allowed_by (Delay n) each items = items + n
-
-abbrev pub allowed : Node → ℕ → ℕ → ℕ
-allowed n p items = allowed_by n.meaning.shift (takes n p) items
 
 -- the least number of a list, 0 of none
 abbrev pub least_of : List ℕ → ℕ

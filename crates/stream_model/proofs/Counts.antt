@@ -1,6 +1,6 @@
 -- Counts of a lawful block: nothing at first, and they do not fall.
-use Rattle.std.proofs.Common.{◌≡◌, ℕ, ◌+◌, ◌-◌, ◌*◌, ◌≤◌, Option, Some, None, arith, ◌∙◌, subst}
-use Rattle.std.proofs.Math.Nat.{mul-le-mul_left, mul-le-mul_right, mul-zero}
+use Rattle.std.proofs.Common.{◌≡◌, ℕ, ◌+◌, ◌-◌, ◌*◌, ◌/◌, ◌≤◌, Option, Some, None, arith, ◌∙◌, subst}
+use Rattle.std.proofs.Math.Nat.{le-div_iff_mul-le, mul-le-mul_left, mul-le-mul_right, mul-zero}
 use Rattle.stream_model.specs.declared.vocabulary.Shift.{Shift}
 use Rattle.stream_model.specs.declared.vocabulary.Shift.TheVariants.{No, Skip, Delay}
 use Rattle.stream_model.specs.Meaning.{Meaning, IsLawful, HasCounts, IsShifted}
@@ -49,6 +49,15 @@ module _ (m : Meaning) (p : ℕ) where
   shifted_in_time (Skip n) h k a le = let le' : k ≤ a = rw (← h.0 k) le in rw (h.1 k, h.2 a) (omega arith)
   shifted_in_time (Delay n) h k a le = let le' : k - n ≤ a = rw (← h.1 k) le in rw (h.2 k, h.3 a) (omega arith)
 
+  counted_in_time : (r : Option (ℕ × ℕ)) → HasCounts m p r → (k a : ℕ) → m.taken p k ≤ a → m.given k ≤ m.place p a
+  counted_in_time None h = shifted_in_time m.shift h
+  counted_in_time (Some r) h = λ k a le.
+      let le' : k * r.0 ≤ a = (let e = h.1.taken k in omega arith) in
+      let firings : k ≤ a / r.0 = (le-div_iff_mul-le h.1.takes_some).1 le' in
+      let given = mul-le-mul_right r.1 firings in
+      let early = h.1.not_early a in
+      rw (h.1.given k) (omega arith)
+
 pub given-rises : (m : Meaning) → IsLawful m → (a b : ℕ) → a ≤ b → m.given a ≤ m.given b
 given-rises m l = counted_given-rises m 0 (m.rate 0) (l.counts 0)
 
@@ -63,6 +72,10 @@ given-zero m l = (counted_starts m 0 (m.rate 0) (l.counts 0)).1
 
 pub fires_near_taken : (m : Meaning) → IsLawful m → (p k : ℕ) → k ≤ m.taken p k + 65536
 fires_near_taken m l p = counted_near m p (m.rate p) (l.counts p)
+
+-- so no tag comes late
+pub in_time : (m : Meaning) → IsLawful m → (p k a : ℕ) → m.taken p k ≤ a → m.given k ≤ m.place p a
+in_time m l p = counted_in_time m p (m.rate p) (l.counts p)
 
 -- a block at a rate takes at most 1,024 items of each input a firing
 module _ (m : Meaning) (l : IsLawful m) (d i : ℕ) (e : m.rate 0 ≡ Some (d, i)) where

@@ -84,11 +84,11 @@ module _ (n : Node) (sound : IsSound n) where
       let ok = greatest-passes (λ k. holds_inputs n 0 (map length xs) k && within_limit n.meaning.limit k) (get_or (map length xs) 0 0 + longest_delay) k some le in
       (and_parts _ _ ok).1
 
-  limit-falls : (limit : Option ℕ) (j k : ℕ) → j ≤ k → within_limit limit k ≡ true → within_limit limit j ≡ true
+  pub limit-falls : (limit : Option ℕ) (j k : ℕ) → j ≤ k → within_limit limit k ≡ true → within_limit limit j ≡ true
   limit-falls None j k le h = refl
   limit-falls (Some l) j k le h = let h' : k ≤ l = leb-true k l h in le-leb j l (omega arith)
 
-  near : (p k : ℕ) → k ≤ taken_by n p k + longest_delay
+  pub near : (p k : ℕ) → k ≤ taken_by n p k + longest_delay
   near p k =
       let more : 1 * k ≤ n.multiple * k = mul-le-mul_right k sound.some in
       omega (arith, fires_near_taken n.meaning sound.lawful p (n.multiple * k))
@@ -206,11 +206,12 @@ module _ (net : Network) (sound : IsSoundNetwork net) (hs hs' : List Handed) (mo
   items_by-grows zero b p in' port = more.tapes b
   items_by-grows (suc turns) b p in' port = grows_at turns b p (is_source (role_at net b)) in' port refl (λ c from. items_by-grows turns c.from c.out_port from.0 from.1)
 
-All-flat_map : {A B : Type 0} (P : B → Type 0) (f : A → List B) (xs : List A) → ((x : A) → All P (f x)) → All P (flat_map f xs)
+pub All-flat_map : {A B : Type 0} (P : B → Type 0) (f : A → List B) (xs : List A) → ((x : A) → All P (f x)) → All P (flat_map f xs)
 All-flat_map P f [] each = All-nil P
 All-flat_map P f (x ∷ xs) each = rw flat_map-cons (All-append P (f x) (flat_map f xs) (each x) (All-flat_map P f xs each))
 
-map-agree : {A B : Type 0} (P : A → Type 0) (f g : A → B) (xs : List A) → All P xs → ((x : A) → P x → f x ≡ g x) → map f xs ≡ map g xs
+-- two functions that agree on the elements of a list
+pub map-agree : {A B : Type 0} (P : A → Type 0) (f g : A → B) (xs : List A) → All P xs → ((x : A) → P x → f x ≡ g x) → map f xs ≡ map g xs
 map-agree P f g [] all each = refl
 map-agree P f g (x ∷ xs) all each =
     let head = each x (All-head P x xs all) in

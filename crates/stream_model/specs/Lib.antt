@@ -4,6 +4,7 @@ pub mod Settings
 pub mod Tags
 pub mod Meaning
 pub mod Network
+pub mod Firings
 pub mod Claims
 pub mod Machine
 pub mod Kernels

@@ -1,5 +1,5 @@
 -- Stream tags: values that travel with an item. A tag's offset is the absolute number of its item, as in GNU Radio.
-use Rattle.std.specs.Prelude.{ℕ, ◌+◌, ◌*◌, ◌/◌, ℤ, List, [], ◌∷◌, filter, ◌&&◌, nat_le, nat_lt, if◌then◌else◌}
+use Rattle.std.specs.Prelude.{ℕ, ◌+◌, ◌*◌, ◌/◌, ◌≡◌, ℤ, List, [], ◌∷◌, AllPairs, filter, ◌&&◌, false, nat_le, nat_lt, if◌then◌else◌}
 use Rattle.std.specs.declared.cmp.Ordering.{Ordering}
 use Rattle.std.specs.Ordering.{nat_cmp, int_cmp, ordering_then, is_gt}
 use Rattle.std.specs.Cmp.Lexicographic.{slice_cmp}
@@ -32,6 +32,10 @@ insert_tag t (u ∷ us) = if is_gt (tag_cmp t u) then u ∷ insert_tag t us else
 abbrev pub sorted_tags : List Tag → List Tag
 sorted_tags [] = []
 sorted_tags (t ∷ ts) = insert_tag t (sorted_tags ts)
+
+-- no tag comes after a later one in the order of tags
+abbrev pub IsOrdered : List Tag → Type 0
+IsOrdered ts = AllPairs (λ t u. is_gt (tag_cmp t u) ≡ false) ts
 
 -- the tags on items from on to below to
 abbrev pub tags_within : ℕ → ℕ → List Tag → List Tag

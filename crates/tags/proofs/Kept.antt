@@ -4,7 +4,7 @@ use Rattle.std.specs.Ordering.{is_gt}
 use Rattle.std.proofs.lemmas.Bool.{cases_Bool, leb-true, leb-false, le-leb, lt-leb}
 use Rattle.stream_model.specs.Tags.{Tag, tag_cmp, insert_tag, tags_within}
 use Rattle.tags.specs.TagList.{tags_from}
-use Rattle.tags.proofs.Order.{first_after, first_here, offset_upto}
+use Rattle.stream_model.proofs.TagOrder.{first_after, first_here, offset_upto}
 
 kept : (p : ℕ) (t : Tag) (ts : List Tag) → p ≤ t.offset → tags_from p (t ∷ ts) ≡ t ∷ tags_from p ts
 kept p t ts le = let e = le-leb p t.offset le in rw e refl

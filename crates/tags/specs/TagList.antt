@@ -1,7 +1,5 @@
 -- A list of tags in order, with spare room for more.
-use Rattle.std.specs.Prelude.{◌≡◌, ℕ, List, filter, false, nat_le}
-use Rattle.std.specs.List.{AllPairs}
-use Rattle.std.specs.Ordering.{is_gt}
+use Rattle.std.specs.Prelude.{ℕ, List, filter, nat_le}
 use Rattle.stream_model.specs.Tags as model
 use Rattle.items.specs.declared.marks.Tag.{Tag}
 
@@ -13,10 +11,6 @@ tag_of t = record { offset = t.offset; key = t.key; value = t.value; source = t.
 pub record TagList : Type 0 where
   pub tags : List model.Tag
   pub spare : ℕ
-
--- no tag comes after a later one in the order of tags
-abbrev pub IsOrdered : List model.Tag → Type 0
-IsOrdered ts = AllPairs (λ t u. is_gt (model.tag_cmp t u) ≡ false) ts
 
 -- the tags on items from `before` on
 abbrev pub tags_from : ℕ → List model.Tag → List model.Tag

@@ -1,8 +1,8 @@
 //! The tags of a stream, in their order.
 ghost use Rattle.std.specs.Prelude.{◌≡◌, ◌+◌, ◌<◌, ◌≤◌, ◌↔◌, [], length, map, insert, nat_lt, true, false, IsTrue, IsOk, OnOk, OnErr};
 ghost use Rattle.std.specs.List.Sorted.{IsPartitionPoint};
-ghost use Rattle.stream_model.specs.Tags.{insert_tag, tags_within};
-ghost use Rattle.tags.specs.TagList.{tag_of, tags_from, IsOrdered};
+ghost use Rattle.stream_model.specs.Tags.{IsOrdered, insert_tag, tags_within};
+ghost use Rattle.tags.specs.TagList.{tag_of, tags_from};
 
 use items::Tag;
 use std::alloc::{AllocError, Global};
@@ -18,7 +18,8 @@ pub struct Tags {
 impl Model for Tags {
     ghost use Rattle.std.specs.Prelude.{◌-◌, map};
     ghost use Rattle.std.specs.Vec.{vec_len, vec_capacity};
-    ghost use Rattle.tags.specs.TagList.{TagList, tag_of, IsOrdered};
+    ghost use Rattle.stream_model.specs.Tags.{IsOrdered};
+    ghost use Rattle.tags.specs.TagList.{TagList, tag_of};
 
     ghost Value = { TagList };
 

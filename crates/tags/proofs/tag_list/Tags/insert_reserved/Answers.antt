@@ -1,7 +1,8 @@
 use Rattle.std.proofs.Common.{rules, ◌≡◌, ◌∙◌, ap, sym, subst, map, insert, true, is_ok, cond}
-use Rattle.stream_model.specs.Tags.{insert_tag}
-use Rattle.tags.specs.TagList.{tag_of, IsOrdered}
-use Rattle.tags.proofs.Order.{ordered_insert, map_insert}
+use Rattle.stream_model.specs.Tags.{IsOrdered, insert_tag}
+use Rattle.stream_model.proofs.TagOrder.{ordered_insert}
+use Rattle.tags.specs.TagList.{tag_of}
+use Rattle.tags.proofs.Order.{map_insert}
 use Rattle.tags.proofs.tag_list.Tags.insert_reserved.Goals as goal
 
 inserted : (c : goal.Else-is_err) → map tag_of c.insert.new.self.items ≡ insert_tag (tag_of c.args.tag) (map tag_of c.self.inside.tags.items)

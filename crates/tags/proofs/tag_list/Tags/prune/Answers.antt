@@ -3,7 +3,8 @@ use Rattle.std.specs.Ordering.{is_gt}
 use Rattle.std.proofs.lemmas.Fn.{filter_same}
 use Rattle.std.proofs.lemmas.List.Kept.{AllPairs-filter}
 use Rattle.stream_model.specs.Tags as model
-use Rattle.tags.specs.TagList.{tag_of, tags_from, IsOrdered}
+use Rattle.stream_model.specs.Tags.{IsOrdered}
+use Rattle.tags.specs.TagList.{tag_of, tags_from}
 use Rattle.tags.proofs.Cuts.{none_before, map-tags_from}
 use Rattle.tags.proofs.Order.{stored_offsets_rise}
 use Rattle.tags.proofs.tag_list.Tags.prune.Goals as goal

@@ -1,5 +1,5 @@
 use Rattle.stream_model.proofs.Streams.{streams_unfold}
-use Rattle.stream_model.proofs.laws.streams_solve_their_equations.Goals as goal
+use Rattle.stream_laws.proofs.laws.streams_solve_their_equations.Goals as goal
 
 pub returns : goal.returns
 returns c = streams_unfold

@@ -1,0 +1,16 @@
+pub mod Members
+pub mod Pigeons
+pub mod Walks
+pub mod Levels
+pub mod Search
+pub mod Decide
+pub mod Build
+pub mod Inputs
+pub mod Runs
+pub mod Divisors
+pub mod Ratios
+pub mod Finding
+pub mod Wholes
+pub mod Answering
+pub mod Filling
+pub mod Short

@@ -1,0 +1,257 @@
+-- Streams of a valid graph are short: along a path, interpolations multiply a tape's length, and delays add to it.
+use Rattle.std.proofs.Common.{◌≡◌, ℕ, zero, suc, ◌+◌, ◌*◌, ◌/◌, ◌<◌, ◌≤◌, Bool, true, false, List, [], ◌∷◌, ◌++◌, length, refl, arith, ap, sym, ◌∙◌, subst, All, Option, Some, None, inl, inr}
+use Rattle.std.specs.List.{Contains}
+use Rattle.std.proofs.Math.Nat.{mul-le-mul_left, mul-le-mul_right, mul_assoc, mul_comm, mul-add, mul-pos, div-le_self}
+use Rattle.std.proofs.lemmas.Bool.{cases_Bool, cases_lt}
+use Rattle.std.proofs.lemmas.List.{get_or_past}
+use Rattle.std.proofs.lemmas.List.Elements.{All-contains_itself}
+use Rattle.stream_model.specs.declared.vocabulary.Shift.{Shift}
+use Rattle.stream_model.specs.declared.vocabulary.Shift.TheVariants.{No, Skip, Delay}
+use Rattle.stream_model.specs.Meaning.{Meaning, IsLawful, HasCounts, IsShifted, input}
+use Rattle.stream_model.specs.Network.{Node, Connection, Network, Handed, node_at, role_at, handed_at, is_source, writers_of, writer_of, no_connection, taken_by, entering, items_of}
+use Rattle.stream_model.specs.Machine.{longest_tape}
+use Rattle.stream_model.specs.Firings.{given_at}
+use Rattle.stream_model.proofs.Counts.{fires_near_taken}
+use Rattle.stream_laws.specs.CanRun.{CanRun}
+use Rattle.stream_laws.specs.Past.{fires_of}
+use Rattle.stream_laws.proofs.Writers.{All-writers, is_input, entering-source, entering-input, length-entering, items-source}
+use Rattle.stream_laws.proofs.Later.{held_by_inputs, items-length}
+use Rattle.graph_model.specs.Graphs.{IsWalk, most_gain, most_blocks, interpolation, gain_along, IsValidGraph}
+use Rattle.graph_laws.specs.Short.{longest_stream, IsShort, StreamsAreShort}
+use Rattle.graph_laws.proofs.Runs.{valid_graphs_run}
+
+module _ (m : Meaning) (lawful : IsLawful m) where
+  -- firings give at most so many times what they take, behind a delay
+  shifted_gives : (s : Shift) → IsShifted m 0 s → (k : ℕ) → m.given k ≤ m.taken 0 k + 65536
+  shifted_gives No h k = absurd h
+  shifted_gives (Skip a) h k = rw (h.0 k, h.1 k) (omega arith)
+  shifted_gives (Delay a) h k = let few = h.0 in rw (h.1 k, h.2 k) (omega arith)
+
+  counted_gives : (r : Option (ℕ × ℕ)) → HasCounts m 0 r → (k : ℕ) → (1 ≤ given_at r) × (m.given k ≤ given_at r * (m.taken 0 k + 65536))
+  counted_gives None h k = let le = shifted_gives m.shift h k in (omega arith, omega arith)
+  counted_gives (Some r) h k =
+      let each : 1 * k ≤ r.0 * k = mul-le-mul_right k h.1.takes_some in
+      let more : r.1 * k ≤ r.1 * (m.taken 0 k + 65536) = mul-le-mul_left r.1 (let t = h.1.taken k in omega arith) in
+      (h.1.gives_some, rw (h.1.given k) more)
+
+  gives_at_most : (k : ℕ) → (1 ≤ given_at (m.rate 0)) × (m.given k ≤ given_at (m.rate 0) * (m.taken 0 k + 65536))
+  gives_at_most k = counted_gives (m.rate 0) (lawful.counts 0) k
+
+  -- and a tag is placed not far from its item's
+  shifted_places : (p : ℕ) (s : Shift) → IsShifted m p s → (a : ℕ) → m.place p a ≤ a + 65536
+  shifted_places p No h a = absurd h
+  shifted_places p (Skip n) h a = rw (h.2 a) (omega arith)
+  shifted_places p (Delay n) h a = let few = h.0 in rw (h.3 a) (omega arith)
+
+  counted_places : (p : ℕ) (o r : Option (ℕ × ℕ)) → HasCounts m 0 o → HasCounts m p r → (a : ℕ) → m.place p a ≤ given_at o * (a + 1 + 65536)
+  counted_places p None None h g a = let le = shifted_places p m.shift g a in omega arith
+  counted_places p None (Some r) h g a = absurd (subst (λ (s : Shift). IsShifted m 0 s) g.0 h)
+  counted_places p (Some o) None h g a = absurd (subst (λ (s : Shift). IsShifted m p s) h.0 g)
+  counted_places p (Some o) (Some r) h g a =
+      let same : r.1 ≡ o.1 = (let e = g.1.given 1 in let f = h.1.given 1 in omega arith) in
+      let far = g.1.not_far a in
+      let less : a / r.0 * r.1 ≤ a * r.1 = mul-le-mul_right r.1 (div-le_self a r.0) in
+      let more : a * o.1 + o.1 ≤ o.1 * (a + 1 + 65536) = omega arith in
+      let e : a * r.1 + r.1 ≡ a * o.1 + o.1 = ap (λ i. a * i + i) same in
+      omega arith
+
+  places_at_most : (p a : ℕ) → m.place p a ≤ given_at (m.rate 0) * (a + 1 + 65536)
+  places_at_most p = counted_places p (m.rate 0) (m.rate p) (lawful.counts 0) (lawful.counts p)
+
+-- a walk with one connection more
+walk_more : (net : Network) (a x : ℕ) (cs : List Connection) (c : Connection) → IsWalk net a x cs → Contains net.connections c → c.from ≡ x →
+    IsWalk net a c.to (cs ++ c ∷ []) × (gain_along net a (cs ++ c ∷ []) ≡ gain_along net a cs * interpolation net c.to)
+walk_more net a x [] c walk there from = ((there, from ∙ sym walk, refl), refl)
+walk_more net a x (d ∷ ds) c walk there from =
+    let rest = walk_more net d.to x ds c walk.2 there from in
+    ((walk.0, walk.1, rest.0), ap (λ g. interpolation net a * g) rest.1 ∙ sym (mul_assoc (interpolation net a) (gain_along net d.to ds) (interpolation net c.to)))
+
+-- one block more on the way: its interpolation multiplies, and its delay adds
+step : (g i t low high x y : ℕ) → 1 ≤ g → low < high → x ≤ g * (t + 65536 * low) → y ≤ i * (x + 65536) → y ≤ g * i * (t + 65536 * high)
+step g i t low high x y some up le last =
+    let room : g * (t + 65536 * low + 65536) ≤ g * (t + 65536 * high) = mul-le-mul_left g (let e : t + 65536 * low + 65536 ≤ t + 65536 * high = omega arith in e) in
+    let delay : 1 * 65536 ≤ g * 65536 = mul-le-mul_right 65536 some in
+    let spread : g * (t + 65536 * low + 65536) ≡ g * (t + 65536 * low) + g * 65536 = mul-add g (t + 65536 * low) 65536 in
+    let both : x + 65536 ≤ g * (t + 65536 * high) = omega arith in
+    let times : i * (x + 65536) ≤ i * (g * (t + 65536 * high)) = mul-le-mul_left i both in
+    let order : i * (g * (t + 65536 * high)) ≡ g * i * (t + 65536 * high) = sym (mul_assoc i g (t + 65536 * high)) ∙ ap (λ k. k * (t + 65536 * high)) (mul_comm i g) in
+    omega arith
+
+module _ (net : Network) (can : CanRun net) (hs : List Handed) (tape : ℕ) (tapes : (b : ℕ) → b < length net.nodes → length (handed_at hs b).tape ≤ tape) where
+  -- a path to a block, whose interpolations bound its streams
+  record IsBounded (b : ℕ) : Type 0 where
+    pub first : ℕ
+    pub within : first < length net.nodes
+    pub walk : List Connection
+    pub joins : IsWalk net first b walk
+    pub some : 1 ≤ gain_along net first walk
+    pub items : (p : ℕ) → length (items_of net hs b p) ≤ gain_along net first walk * (tape + 65536 * can.level b)
+
+  interpolation-some : (b : ℕ) → 1 ≤ interpolation net b
+  interpolation-some b = (gives_at_most (node_at net b).meaning (can.sound b).lawful 0).0
+
+  source_bounded : (b : ℕ) → b < length net.nodes → is_source (role_at net b) ≡ true → IsBounded b
+  source_bounded b in' e =
+      record {
+        first = b;
+        within = in';
+        walk = [];
+        joins = refl;
+        some = interpolation-some b;
+        items = λ p.
+            let same = ap length (items-source net hs can.level can.levels b p in' e) in
+            let short = tapes b in' in
+            let times : 1 * (tape + 65536 * can.level b) ≤ interpolation net b * (tape + 65536 * can.level b) = mul-le-mul_right (tape + 65536 * can.level b) (interpolation-some b) in
+            omega arith;
+      }
+
+  module _ (b : ℕ) (in' : b < length net.nodes) (q : ℕ) (at : q < length (writers_of net b)) (before : IsBounded (writer_of net b q).from) where
+    there : Contains net.connections (writer_of net b q)
+    there = All-writers (Contains net.connections) net (All-contains_itself net.connections) b q no_connection at
+
+    abbrev longer : List Connection
+    longer = before.walk ++ writer_of net b q ∷ []
+
+    more : IsWalk net before.first (writer_of net b q).to longer × (gain_along net before.first longer ≡ gain_along net before.first before.walk * interpolation net (writer_of net b q).to)
+    more = walk_more net before.first (writer_of net b q).from before.walk (writer_of net b q) before.joins there refl
+
+    longer_joins : IsWalk net before.first b longer
+    longer_joins = subst (λ x. IsWalk net before.first x longer) (is_input net can b q at).to more.0
+
+    longer_gain : gain_along net before.first longer ≡ gain_along net before.first before.walk * interpolation net b
+    longer_gain = more.1 ∙ ap (λ x. gain_along net before.first before.walk * interpolation net x) (is_input net can b q at).to
+
+    -- what the block makes of an input of so many items
+    makes : (y : ℕ) → y ≤ interpolation net b * (length (items_of net hs (writer_of net b q).from (writer_of net b q).out_port) + 65536) → y ≤ gain_along net before.first longer * (tape + 65536 * can.level b)
+    makes y le =
+        let bound = step (gain_along net before.first before.walk) (interpolation net b) tape (can.level (writer_of net b q).from) (can.level b)
+        (length (items_of net hs (writer_of net b q).from (writer_of net b q).out_port)) y before.some (is_input net can b q at).lower (before.items (writer_of net b q).out_port) le in
+        subst (λ g. y ≤ g * (tape + 65536 * can.level b)) (sym longer_gain) bound
+
+  worker_bounded : (b : ℕ) → b < length net.nodes → is_source (role_at net b) ≡ false → (at : 0 < length (writers_of net b)) → IsBounded (writer_of net b 0).from → IsBounded b
+  worker_bounded b in' e at before =
+      record {
+        first = before.first;
+        within = before.within;
+        walk = longer b in' 0 at before;
+        joins = longer_joins b in' 0 at before;
+        some = rw (longer_gain b in' 0 at before) (mul-pos before.some (interpolation-some b));
+        items = λ p. makes b in' 0 at before (length (items_of net hs b p)) (
+            let given = items-length net can hs b p in' in
+            let most = (gives_at_most (node_at net b).meaning (can.sound b).lawful ((node_at net b).multiple * fires_of net hs b)).1 in
+            let holds = held_by_inputs net can hs b 0 (let l = length-entering net hs b e in omega arith) in
+            let stream = ap length (entering-input net hs b 0 e at) in
+            let times : interpolation net b * (taken_by (node_at net b) 0 (fires_of net hs b) + 65536) ≤ interpolation net b * (length (items_of net hs (writer_of net b 0).from (writer_of net b 0).out_port) + 65536) = mul-le-mul_left (interpolation net b) (omega arith) in
+            omega arith);
+      }
+
+  bounded_at : (b : ℕ) (s : Bool) → b < length net.nodes → is_source (role_at net b) ≡ s → ((q : ℕ) → q < length (writers_of net b) → IsBounded (writer_of net b q).from) → IsBounded b
+  bounded_at b true in' e each = source_bounded b in' e
+  bounded_at b false in' e each = worker_bounded b in' e (can.fed b in' e) (each 0 (can.fed b in' e))
+
+  bounded : (turns b : ℕ) → can.level b < turns → b < length net.nodes → IsBounded b
+  bounded zero b low in' = absurd (omega arith)
+  bounded (suc turns) b low in' =
+      bounded_at b (is_source (role_at net b)) in' refl
+      (λ q at. let is = is_input net can b q at in let lower = is.lower in let low' : can.level (writer_of net b q).from < turns = omega arith in bounded turns (writer_of net b q).from low' is.from)
+
+-- what a short path and few blocks bound
+below_both : (g l most few t y : ℕ) → g ≤ most → l ≤ few → y ≤ g * (t + 65536 * l) → y ≤ most * (t + 65536 * few)
+below_both g l most few t y up low le =
+    let first : g * (t + 65536 * l) ≤ most * (t + 65536 * l) = mul-le-mul_right (t + 65536 * l) up in
+    let second : most * (t + 65536 * l) ≤ most * (t + 65536 * few) = mul-le-mul_left most (let e : t + 65536 * l ≤ t + 65536 * few = omega arith in e) in
+    omega arith
+
+abbrev limit : ℕ
+limit = most_gain * (longest_tape + 65536 * most_blocks)
+
+limit-fits : limit + 65536 ≤ longest_stream
+limit-fits = omega arith
+
+tape-fits : longest_tape ≤ limit
+tape-fits = omega arith
+
+module _ (names : List (List ℕ)) (net : Network) (valid : IsValidGraph names net) (lawful : All (λ (n : Node). IsLawful n.meaning) net.nodes) (hs : List Handed)
+    (tapes : (b : ℕ) → b < length net.nodes → length (handed_at hs b).tape ≤ longest_tape) where
+  can : CanRun net
+  can = (valid_graphs_run names net valid lawful).0
+
+  path_short : (b first : ℕ) (cs : List Connection) (y : ℕ) → b < length net.nodes → first < length net.nodes → IsWalk net first b cs → y ≤ gain_along net first cs * (longest_tape + 65536 * can.level b) → y ≤ limit
+  path_short b first cs y in' within joins le =
+      let low = can.levels.few b in' in
+      let few = valid.graph.few_blocks in
+      below_both (gain_along net first cs) (can.level b) most_gain most_blocks longest_tape y (valid.gain first b cs within joins) (omega arith) le
+
+  path : (b : ℕ) → b < length net.nodes → IsBounded net can hs longest_tape tapes b
+  path b in' = bounded net can hs longest_tape tapes (suc (can.level b)) b (omega arith) in'
+
+  items_short : (b p : ℕ) → b < length net.nodes → length (items_of net hs b p) ≤ limit
+  items_short b p in' = let to = path b in' in path_short b to.first to.walk (length (items_of net hs b p)) in' to.within to.joins (to.items p)
+
+  module _ (b : ℕ) (in' : b < length net.nodes) where
+    tape_input : (q : ℕ) → length (input ((handed_at hs b).tape ∷ []) q) ≤ longest_tape
+    tape_input zero = tapes b in'
+    tape_input (suc q) = omega arith
+
+    worker_input : (q : ℕ) → is_source (role_at net b) ≡ false → length (input (entering net hs b) q) ≤ limit
+    worker_input q e =
+        elim (cases_lt q (length (writers_of net b))) [
+          | inl at ↦ rw (entering-input net hs b q e at) (items_short (writer_of net b q).from (writer_of net b q).out_port (is_input net can b q at).from)
+          | inr past ↦ (let none : input (entering net hs b) q ≡ [] = get_or_past (entering net hs b) q [] (let l = length-entering net hs b e in omega arith) in rw none (omega arith))
+        ]
+
+    input_short : (q : ℕ) → length (input (entering net hs b) q) ≤ limit
+    input_short q =
+        elim (cases_Bool (is_source (role_at net b))) [
+          | inl e ↦ rw (entering-source net hs b e) (let t = tape_input q in let f = tape-fits in omega (arith, t, f))
+          | inr e ↦ worker_input q e
+        ]
+
+    some_input : 0 < length (entering net hs b)
+    some_input =
+        elim (cases_Bool (is_source (role_at net b))) [
+          | inl e ↦ (let one = ap length (entering-source net hs b e) in omega arith)
+          | inr e ↦ (let l = length-entering net hs b e in let some = can.fed b in' e in omega arith)
+        ]
+
+    firings_short : (node_at net b).multiple * fires_of net hs b ≤ longest_stream
+    firings_short =
+        let close = fires_near_taken (node_at net b).meaning (can.sound b).lawful 0 ((node_at net b).multiple * fires_of net hs b) in
+        let held = held_by_inputs net can hs b 0 some_input in
+        let short = input_short 0 in
+        let fits = limit-fits in
+        omega (arith, close, held, short, fits)
+
+    source_places : (p s : ℕ) → is_source (role_at net b) ≡ true → s < length (input (entering net hs b) p) → (node_at net b).meaning.place p s ≤ limit
+    source_places p s e on =
+        let tape : length (input (entering net hs b) p) ≤ longest_tape = rw (entering-source net hs b e) (tape_input p) in
+        let place = places_at_most (node_at net b).meaning (can.sound b).lawful p s in
+        let far : interpolation net b * (s + 1 + 65536) ≤ interpolation net b * (longest_tape + 65536 * 1) = mul-le-mul_left (interpolation net b) (let e' : s + 1 + 65536 ≤ longest_tape + 65536 * 1 = omega (arith, tape, on) in e') in
+        below_both (interpolation net b) 1 most_gain most_blocks longest_tape ((node_at net b).meaning.place p s) (valid.gain b b [] in' refl) (omega arith) (omega (arith, place, far))
+
+    worker_places : (p s : ℕ) → is_source (role_at net b) ≡ false → s < length (input (entering net hs b) p) → (node_at net b).meaning.place p s ≤ limit
+    worker_places p s e on =
+        elim (cases_lt p (length (writers_of net b))) [
+          | inl at ↦ (let before = path (writer_of net b p).from (is_input net can b p at).from in
+              let stream = ap length (entering-input net hs b p e at) in
+              let far : interpolation net b * (s + 1 + 65536) ≤ interpolation net b * (length (items_of net hs (writer_of net b p).from (writer_of net b p).out_port) + 65536) = mul-le-mul_left (interpolation net b) (let e' : s + 1 + 65536 ≤ length (items_of net hs (writer_of net b p).from (writer_of net b p).out_port) + 65536 = omega arith in e') in
+              let place = places_at_most (node_at net b).meaning (can.sound b).lawful p s in
+              path_short b before.first (longer net can hs longest_tape tapes b in' p at before) ((node_at net b).meaning.place p s) in' before.within (longer_joins net can hs longest_tape tapes b in' p at before)
+              (makes net can hs longest_tape tapes b in' p at before ((node_at net b).meaning.place p s) (omega (arith, place, far))))
+          | inr past ↦ (let none = ap length (get_or_past (entering net hs b) p [] (let l = length-entering net hs b e in omega arith)) in absurd (omega (arith, none, on)))
+        ]
+
+    short : IsShort net hs b
+    short =
+        let fits = limit-fits in
+        record {
+          items = λ p. omega (arith, items_short b p in', fits);
+          firings = firings_short;
+          places = λ p s on. elim (cases_Bool (is_source (role_at net b))) [
+            | inl e ↦ omega (arith, source_places p s e on, fits)
+            | inr e ↦ omega (arith, worker_places p s e on, fits)
+          ];
+        }
+
+pub streams_are_short : StreamsAreShort
+streams_are_short = short

@@ -1,0 +1,174 @@
+-- Counts stay small: interpolations along a path multiply to a limit, and each block on it adds at most a delay.
+use Rattle.std.proofs.Common.{◌≡◌, ℕ, zero, suc, ◌+◌, ◌-◌, ◌*◌, ◌<◌, ◌≤◌, Bool, true, false, List, [], ◌∷◌, ◌++◌, length, Option, Some, None, refl, arith, ap, sym, ◌∙◌, subst, mul-le-mul_left, mul-le-mul_right, mul-pos}
+use Rattle.std.specs.List.{Contains}
+use Rattle.std.proofs.lemmas.List.Elements.{All-contains_itself}
+use Rattle.stream_model.specs.declared.vocabulary.Shift.{Shift}
+use Rattle.stream_model.specs.declared.vocabulary.Shift.TheVariants.{No, Skip, Delay}
+use Rattle.stream_model.specs.Meaning.{HasCounts, IsShifted}
+use Rattle.stream_model.specs.Network.{Network, Connection, State, node_at, role_at, is_source, writers_of, writer_of, no_connection, taken_by, given_by}
+use Rattle.stream_model.specs.Machine.{Capacities}
+use Rattle.stream_model.proofs.Counts.{fires_near_taken}
+use Rattle.stream_model.proofs.Streams.{given_by-rises}
+use Rattle.stream_model.specs.Firings.{given_at}
+use Rattle.graph_model.specs.Graphs.{IsWalk, IsValidGraph, interpolation, gain_along}
+use Rattle.stream_laws.specs.CanRun.{CanRun}
+use Rattle.stream_laws.proofs.Writers.{source_takes, source_gives}
+use Rattle.machine_laws.specs.Sound.{fired, reached, Sound}
+use Rattle.machine_laws.specs.Bounds.{CountsAreSmall}
+use Rattle.machine_laws.proofs.Ports.{writers_all}
+
+-- a walk goes on by a connection
+walk_on : (net : Network) (a b : ℕ) (cs : List Connection) (c : Connection) → Contains net.connections c → c.from ≡ b → IsWalk net a b cs → IsWalk net a c.to (cs ++ c ∷ [])
+walk_on net a b [] c in' from walk = (in', from ∙ sym walk, refl)
+walk_on net a b (d ∷ cs) c in' from walk = (walk.0, walk.1, walk_on net d.to b cs c in' from walk.2)
+
+-- and its gain by that of the block there
+gain_on : (net : Network) (a : ℕ) (cs : List Connection) (c : Connection) → gain_along net a (cs ++ c ∷ []) ≡ gain_along net a cs * interpolation net c.to
+gain_on net a [] c = refl
+gain_on net a (d ∷ cs) c = let rest = gain_on net d.to cs c in rw rest (omega arith)
+
+module _ (net : Network) (can : CanRun net) where
+  -- firings give at most the interpolation times what they take and a delay
+  module _ (b k : ℕ) where
+    shifted_few : (s : Shift) → IsShifted (node_at net b).meaning 0 s → given_by (node_at net b) k ≤ taken_by (node_at net b) 0 k + 65536
+    shifted_few No h = absurd h
+    shifted_few (Skip n) h =
+        let taken : taken_by (node_at net b) 0 k ≡ (node_at net b).multiple * k = h.0 ((node_at net b).multiple * k) in
+        let given : given_by (node_at net b) k ≡ (node_at net b).multiple * k - n = h.1 ((node_at net b).multiple * k) in
+        omega arith
+    shifted_few (Delay n) h =
+        let few = h.0 in
+        let taken : taken_by (node_at net b) 0 k ≡ (node_at net b).multiple * k - n = h.1 ((node_at net b).multiple * k) in
+        let given : given_by (node_at net b) k ≡ (node_at net b).multiple * k = h.2 ((node_at net b).multiple * k) in
+        omega arith
+
+    gives_at : (r : Option (ℕ × ℕ)) → (node_at net b).meaning.rate 0 ≡ r → HasCounts (node_at net b).meaning 0 r →
+        (1 ≤ interpolation net b) × (given_by (node_at net b) k ≤ interpolation net b * (taken_by (node_at net b) 0 k + 65536))
+    gives_at None e h =
+        let one : interpolation net b ≡ 1 = ap given_at e in
+        let few = shifted_few (node_at net b).meaning.shift h in
+        rw one (omega arith, omega arith)
+    gives_at (Some r) e h =
+        let same : interpolation net b ≡ r.1 = ap given_at e in
+        let some = h.1.gives_some in
+        let taken : taken_by (node_at net b) 0 k ≡ r.0 * ((node_at net b).multiple * k) = h.1.taken ((node_at net b).multiple * k) in
+        let given : given_by (node_at net b) k ≡ r.1 * ((node_at net b).multiple * k) = h.1.given ((node_at net b).multiple * k) in
+        let each = mul-le-mul_right ((node_at net b).multiple * k) h.1.takes_some in
+        let all : r.1 * ((node_at net b).multiple * k) ≤ r.1 * (r.0 * ((node_at net b).multiple * k) + 65536) = mul-le-mul_left r.1 (omega arith) in
+        rw (same, taken, given) (some, all)
+
+    gives_few : (1 ≤ interpolation net b) × (given_by (node_at net b) k ≤ interpolation net b * (taken_by (node_at net b) 0 k + 65536))
+    gives_few = gives_at ((node_at net b).meaning.rate 0) refl ((can.sound b).lawful.counts 0)
+
+  -- what a path of l blocks may bring, for each item that its gain makes of one
+  abbrev pub brings : ℕ → ℕ
+  brings l = 4294967296 + 65536 * l
+
+  module _ (caps : Capacities) (st : State) (sound : Sound net caps st) where
+    -- a path to block b that bounds what it gives
+    pub record Path (b : ℕ) : Type 0 where
+      pub from : ℕ
+      pub walk : List Connection
+      pub member : from < length net.nodes
+      pub joins : IsWalk net from b walk
+      pub some : 1 ≤ gain_along net from walk
+      pub bounds : given_by (node_at net b) (reached st b) ≤ gain_along net from walk * brings (can.level b + 1)
+
+    tape_few : (b : ℕ) → b < length net.nodes → is_source (role_at net b) ≡ true → reached st b ≤ 4294967296
+    tape_few b in1 e = let there = (sound.fits b in1).tape e in let short = (sound.handed b in1).short in omega arith
+
+    bound_on : (i g x z l m : ℕ) → 1 ≤ g → z ≤ i * (x + 65536) → x ≤ g * (4294967296 + 65536 * (l + 1)) → l < m → z ≤ g * i * (4294967296 + 65536 * (m + 1))
+    bound_on i g x z l m some gives few higher =
+        let delay : 65536 ≤ g * 65536 = mul-le-mul_right 65536 some in
+        let more : g * (4294967296 + 65536 * (l + 1) + 65536) ≤ g * (4294967296 + 65536 * (m + 1)) = mul-le-mul_left g (omega arith) in
+        let sum : x + 65536 ≤ g * (4294967296 + 65536 * (m + 1)) = omega arith in
+        let all : i * (x + 65536) ≤ i * (g * (4294967296 + 65536 * (m + 1))) = mul-le-mul_left i sum in
+        omega arith
+
+    -- what a block takes is there, in what its writers give
+    abbrev pub Comes : ℕ → Connection → Type 0
+    Comes b c =
+        Contains net.connections c × (c.from < length net.nodes) × (can.level c.from < can.level c.to)
+        × (c.to ≡ b → taken_by (node_at net b) c.in_port (reached st b) ≤ given_by (node_at net c.from) (fired st c.from))
+
+    comes : (b p : ℕ) → b < length net.nodes → p < length (writers_of net b) → ((writer_of net b p).to ≡ b) × Comes b (writer_of net b p)
+    comes b p in1 used =
+        writers_all net can (Comes b) b
+        (λ k d lt. (All-contains_itself net.connections k d lt, (can.levels.rises k d lt).0, (can.levels.rises k d lt).2, (sound.fits b in1).items k d lt)) p no_connection used
+
+    taken_few : (b p : ℕ) → b < length net.nodes → p < length (writers_of net b) → taken_by (node_at net b) p (reached st b) ≤ given_by (node_at net (writer_of net b p).from) (reached st (writer_of net b p).from)
+    taken_few b p in1 used =
+        let own = comes b p in1 used in
+        let there = own.1.3 own.0 in
+        let number = ap (λ q. taken_by (node_at net b) q (reached st b)) (can.numbered b p used) in
+        let more = given_by-rises (node_at net (writer_of net b p).from) (can.sound (writer_of net b p).from) (fired st (writer_of net b p).from) (reached st (writer_of net b p).from) (omega arith) in
+        omega arith
+
+    path_at : (b : ℕ) (s : Bool) → b < length net.nodes → is_source (role_at net b) ≡ s → ((c : ℕ) → c < length net.nodes → can.level c < can.level b → Path c) → Path b
+    path_at b true in1 e each =
+        let some = (gives_few b (reached st b)).0 in
+        let few = tape_few b in1 e in
+        let given = source_gives net can b (reached st b) e in
+        let all = mul-le-mul_right (4294967296 + 65536 * (can.level b + 1)) some in
+        record { from = b; walk = []; member = in1; joins = refl; some = some; bounds = omega arith }
+    path_at b false in1 e each =
+        let used : 0 < length (writers_of net b) = can.fed b in1 e in
+        let own = comes b 0 in1 used in
+        let c = writer_of net b 0 in
+        let level = ap can.level own.0 in
+        let higher = own.1.2 in
+        let lower : can.level (writer_of net b 0).from < can.level b = omega arith in
+        let path = each (writer_of net b 0).from own.1.1 lower in
+        let gives = gives_few b (reached st b) in
+        let taken = taken_few b 0 in1 used in
+        let more : interpolation net b * (taken_by (node_at net b) 0 (reached st b) + 65536) ≤ interpolation net b * (given_by (node_at net (writer_of net b 0).from) (reached st (writer_of net b 0).from) + 65536) = mul-le-mul_left (interpolation net b) (omega arith) in
+        let gave = gives.1 in
+        let bound = bound_on (interpolation net b) (gain_along net path.from path.walk) (given_by (node_at net (writer_of net b 0).from) (reached st (writer_of net b 0).from)) (given_by (node_at net b) (reached st b)) (can.level (writer_of net b 0).from) (can.level b) path.some (omega arith) path.bounds lower in
+        let gain : gain_along net path.from (path.walk ++ writer_of net b 0 ∷ []) ≡ gain_along net path.from path.walk * interpolation net b = gain_on net path.from path.walk (writer_of net b 0) ∙ ap (λ v. gain_along net path.from path.walk * interpolation net v) own.0 in
+        let some : 1 ≤ gain_along net path.from path.walk * interpolation net b = mul-pos path.some gives.0 in
+        record {
+          from = path.from;
+          walk = path.walk ++ writer_of net b 0 ∷ [];
+          member = path.member;
+          joins = subst (λ v. IsWalk net path.from v (path.walk ++ writer_of net b 0 ∷ [])) own.0 (walk_on net path.from (writer_of net b 0).from path.walk (writer_of net b 0) own.1.0 refl path.joins);
+          some = rw gain some;
+          bounds = rw gain bound;
+        }
+
+    path : (turns b : ℕ) → can.level b < turns → b < length net.nodes → Path b
+    path zero b low in1 = absurd (omega arith)
+    path (suc turns) b low in1 = path_at b (is_source (role_at net b)) in1 refl (λ c in2 lower. let h : can.level c < turns = omega arith in path turns c h in2)
+
+    module _ (names : List (List ℕ)) (valid : IsValidGraph names net) where
+      -- 2 ^ 24 times what 256 blocks bring
+      given_few : (b : ℕ) → b < length net.nodes → given_by (node_at net b) (reached st b) ≤ 72339069014638592
+      given_few b in1 =
+          let here = path (suc (can.level b)) b (omega arith) in1 in
+          let gain : gain_along net here.from here.walk ≤ 16777216 = valid.gain here.from b here.walk here.member here.joins in
+          let blocks = valid.graph.few_blocks in
+          let level = can.levels.few b in1 in
+          let deep : gain_along net here.from here.walk * (4294967296 + 65536 * (can.level b + 1)) ≤ gain_along net here.from here.walk * 4311744512 = mul-le-mul_left (gain_along net here.from here.walk) (omega arith) in
+          let wide : gain_along net here.from here.walk * 4311744512 ≤ 16777216 * 4311744512 = mul-le-mul_right 4311744512 gain in
+          let bounds = here.bounds in
+          omega arith
+
+      firings_few : (b : ℕ) (s : Bool) → b < length net.nodes → is_source (role_at net b) ≡ s → (node_at net b).multiple * reached st b ≤ 72339069014704128
+      firings_few b true in1 e =
+          let near = fires_near_taken (node_at net b).meaning (can.sound b).lawful 0 ((node_at net b).multiple * reached st b) in
+          let taken = source_takes net can b (reached st b) e in
+          let few = tape_few b in1 e in
+          omega arith
+      firings_few b false in1 e =
+          let used : 0 < length (writers_of net b) = can.fed b in1 e in
+          let near = fires_near_taken (node_at net b).meaning (can.sound b).lawful 0 ((node_at net b).multiple * reached st b) in
+          let taken = taken_few b 0 in1 used in
+          let few = given_few (writer_of net b 0).from (comes b 0 in1 used).1.1 in
+          omega arith
+
+pub counts_are_small : CountsAreSmall
+counts_are_small names net caps st can valid sound b in' =
+    record {
+      firings = (let few = firings_few net can caps st sound names valid b (is_source (role_at net b)) in' refl in omega arith);
+      given = (let few = given_few net can caps st sound names valid b in' in omega arith);
+      taken = λ p used. (let taken = taken_few net can caps st sound b p in' used in let few = given_few net can caps st sound names valid (writer_of net b p).from (comes net can caps st sound b p in' used).1.1 in omega arith);
+    }

@@ -1,0 +1,18 @@
+-- Counts stay small in a valid graph.
+use Rattle.std.specs.Prelude.{ℕ, ◌*◌, ◌^◌, ◌<◌, List, length}
+use Rattle.stream_model.specs.Network.{Network, State, node_at, writers_of, taken_by, given_by}
+use Rattle.stream_model.specs.Machine.{Capacities}
+use Rattle.graph_model.specs.Graphs.{IsValidGraph}
+use Rattle.stream_laws.specs.CanRun.{CanRun}
+use Rattle.machine_laws.specs.Sound.{reached, Sound}
+
+-- the firings of block b that are committed or claimed, one by one, the items that they give, and those that they take on each input
+pub record IsSmall (net : Network) (st : State) (b : ℕ) : Type 0 where
+  pub firings : (node_at net b).multiple * reached st b < 2 ^ 62
+  pub given : given_by (node_at net b) (reached st b) < 2 ^ 62
+  pub taken : (p : ℕ) → p < length (writers_of net b) → taken_by (node_at net b) p (reached st b) < 2 ^ 62
+
+abbrev pub CountsAreSmall : Type 0
+CountsAreSmall =
+    (names : List (List ℕ)) (net : Network) (caps : Capacities) (st : State) → CanRun net → IsValidGraph names net → Sound net caps st →
+    (b : ℕ) → b < length net.nodes → IsSmall net st b

@@ -1,0 +1,7 @@
+pub mod Sound
+pub mod Whole
+pub mod Stalls
+pub mod Steps
+pub mod Stays
+pub mod Runs
+pub mod Bounds

@@ -1,0 +1,5 @@
+pub mod CanRun
+pub mod Cuts
+pub mod Tags
+pub mod Past
+pub mod Firings
