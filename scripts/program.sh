@@ -2,7 +2,7 @@
 # For ./flow, ./build and the scripts of tests/ to source: which crate is the program, and which crates it stands on.
 
 # The crate of the program.
-program_crate=flow
+program_crate=flow_program
 # The minutes that a first ./build takes on four cores.
 build_minutes=10
 

@@ -14,8 +14,6 @@ mod faults;
 #[cfg(test)]
 mod filters;
 #[cfg(test)]
-mod graph_files;
-#[cfg(test)]
 mod keys;
 #[cfg(test)]
 mod output_buffers;
@@ -23,8 +21,6 @@ mod output_buffers;
 mod packed_bytes;
 #[cfg(test)]
 mod rings;
-#[cfg(test)]
-mod script_lines;
 #[cfg(test)]
 mod tag_lists;
 #[cfg(test)]

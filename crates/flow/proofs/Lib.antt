@@ -1,4 +1,5 @@
 pub mod Sessions
+pub mod WithoutMemory
 pub mod Askable
 pub mod Flows
 pub mod Serves

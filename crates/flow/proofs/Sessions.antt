@@ -1,7 +1,6 @@
 -- Calls of a plant, as what a script answers.
-use Rattle.std.proofs.Common.{◌≡◌, ℕ, ◌+◌, Bool, true, false, not, List, [], ◌∷◌, ℤ, length, map, refl, ap, sym, ◌∙◌, cond, inl, inr, None, Some, Ok, Err, subst, ◌↔◌, T}
+use Rattle.std.proofs.Common.{◌≡◌, ◌≢◌, ℕ, ◌+◌, Bool, true, false, not, List, [], ◌∷◌, ℤ, length, map, refl, ap, sym, ◌∙◌, cond, inl, inr, None, Some, Ok, Err, subst, T}
 use Rattle.std.specs.Prelude.{nat_lt, int_le, ◌⊎◌, ◌&&◌, Option, Result, IfOk}
-use Rattle.std.specs.Result.{IsErrOf}
 use Rattle.std.specs.Int.Signed.{le_z_yes}
 use Rattle.std.proofs.lemmas.List.Elements.{All-nil, All-cons, All-head, All-tail}
 use Rattle.stream_model.specs.Numbers.{IsItem, AreItems, least_of, greatest_of}
@@ -12,9 +11,6 @@ use Rattle.stream_model.specs.Machine as machine
 use Rattle.stream_model.specs.Machine.{Reply, Capacities, Refused}
 use Rattle.items.specs.declared.stream_items.Items.{Items}
 use Rattle.items.specs.declared.marks.Mark.{Mark}
-use Rattle.items.specs.declared.fault.ItemFault.{ItemFault}
-use Rattle.items.specs.declared.fault.ItemFault.TheVariants as items_fault
-use Rattle.items.specs.Fault.{number_of as item_number}
 use Rattle.items.specs.Items.{numbers_of, type_of}
 use Rattle.executor.specs.declared.fault.PlantFault.{PlantFault}
 use Rattle.executor.specs.declared.fault.PlantFault.TheVariants.{NoSuchBlock, NotSource, NotSink, Closed, ItemRange, TagPlace, TapeFull, BeyondEnd, Memory}
@@ -24,17 +20,17 @@ use Rattle.executor.specs.Plant as plant
 use Rattle.executor.specs.Looks.{source_type_of}
 use Rattle.script_text.specs.Grammar as grammar
 use Rattle.script_text.specs.Commands.{marks_seen}
-use Rattle.script_text.specs.Replies.{reply_text, quiet_text, line_text}
-use Rattle.flow.specs.Session.{Graph, block_of, feed_numbers, reply_to, Tells, TellsAlways, Answers, refusal_line, no_memory, in_state, displaced, given_type, are_items, is_item}
+use Rattle.script_text.specs.Replies.{quiet_text, line_text}
+use Rattle.flow.specs.Session.{Graph, block_of, feed_numbers, call_of, Tells, Answers, refusal_line, reply_line, in_state, displaced, given_type, are_items}
 
 -- a call that answered tells its reply
 pub tells : {G : Type 0} (now : Reply × State) (old new : G × Capacities × State) (reply : Reply) (line : List ℕ) →
-    Answered now old new (Some reply) → line ≡ line_text (reply_text reply) → Tells now old.2 new.2 line
-tells now old new reply line h e = inl (e ∙ ap (λ (r : Reply). line_text (reply_text r)) h.0, ap (λ x. x.2) h.1)
+    Answered now old new (Some reply) → line ≡ reply_line reply → Tells now old.2 new.2 line
+tells now old new reply line h e = inl (e ∙ ap reply_line h.0, ap (λ x. x.2) h.1)
 
 -- a fault is a refusal by its number, or memory ran out
-refusal_or_memory : (fault : PlantFault) → (refusal_of fault ≡ Some (Refused (number_of fault))) ⊎ ((refusal_of fault ≡ None) × (number_of fault ≡ 32))
-refusal_or_memory Memory = inr (refl, refl)
+refusal_or_memory : (fault : PlantFault) → (refusal_of fault ≡ Some (Refused (number_of fault))) ⊎ (fault ≡ Memory)
+refusal_or_memory Memory = inr refl
 refusal_or_memory NoSuchBlock = inl refl
 refusal_or_memory NotSource = inl refl
 refusal_or_memory NotSink = inl refl
@@ -44,9 +40,8 @@ refusal_or_memory TagPlace = inl refl
 refusal_or_memory TapeFull = inl refl
 refusal_or_memory BeyondEnd = inl refl
 
--- the line that tells that memory ran out
-memory_line : (fault : PlantFault) (line : List ℕ) → number_of fault ≡ 32 → line ≡ refusal_line fault → line ≡ line_text no_memory
-memory_line fault line m e = e ∙ ap (λ (k : ℕ). line_text (reply_text (Refused k))) m
+pub refusal_unless_memory : (fault : PlantFault) → fault ≢ Memory → refusal_of fault ≡ Some (Refused (number_of fault))
+refusal_unless_memory fault other = elim (refusal_or_memory fault) [ inl s ↦ s | inr m ↦ absurd (other m) ]
 
 -- one that was refused tells the refusal, or that memory ran out
 pub tells_refused : {G : Type 0} (now : Reply × State) (old new : G × Capacities × State) (fault : PlantFault) (line : List ℕ) →
@@ -54,33 +49,18 @@ pub tells_refused : {G : Type 0} (now : Reply × State) (old new : G × Capaciti
 tells_refused now old new fault line h e =
     elim (refusal_or_memory fault) [
       | inl s ↦ tells now old new (Refused (number_of fault)) line (subst (Answered now old new) s h) e
-      | inr m ↦ inr (memory_line fault line m.1 e, ap (λ x. x.2) (subst (Answered now old new) m.0 h).1)
+      | inr m ↦ (let out = subst (λ (f : PlantFault). Answered now old new (refusal_of f)) m h in inr (out.0, e ∙ ap refusal_line m, ap (λ x. x.2) out.1))
     ]
 
--- the same where memory cannot run out
-pub tells_always : {G : Type 0} (now : Reply × State) (old new : G × Capacities × State) (reply : Reply) (line : List ℕ) →
-    AnsweredAlways now old new (Some reply) → line ≡ line_text (reply_text reply) → TellsAlways now new.2 line
-tells_always now old new reply line h e = (e ∙ ap told_line h.0, ap (λ x. x.2) h.1)
-  where
-    told_line : Option Reply → List ℕ
-    told_line None = line
-    told_line (Some r) = line_text (reply_text r)
-
-pub tells_always_refused : {G : Type 0} (now : Reply × State) (old new : G × Capacities × State) (fault : PlantFault) (line : List ℕ) →
-    AnsweredAlways now old new (refusal_of fault) → line ≡ refusal_line fault → TellsAlways now new.2 line
-tells_always_refused now old new fault line h e =
-    elim (refusal_or_memory fault) [
-      | inl s ↦ tells_always now old new (Refused (number_of fault)) line (subst (AnsweredAlways now old new) s h) e
-      | inr m ↦ (let none : None ≡ Some now.0 = sym m.0 ∙ h.0 in cc)
-    ]
+-- a call that memory cannot fail answers
+pub answered_always : {G : Type 0} (now : Reply × State) (old new : G × Capacities × State) (reply : Option Reply) → AnsweredAlways now old new reply → Answered now old new reply
+answered_always now old new None h = (let none : None ≡ Some now.0 = h.0 in cc)
+answered_always now old new (Some reply) h = (let is : Some reply ≡ Some now.0 = h.0 in cc, h.1)
 
 -- a call moves the state alone
 pub keeps : {G : Type 0} (now : Reply × State) (old new : G × Capacities × State) (r : Option Reply) → Answered now old new r → new ≡ in_state old new.2
 keeps now old new None h = h.1 ∙ ap (λ (st : State). in_state old st) (sym (ap (λ x. x.2) h.1))
 keeps now old new (Some r) h = h.1 ∙ ap (λ (st : State). in_state old st) (sym (ap (λ x. x.2) h.1))
-
-pub keeps_always : {G : Type 0} (now : Reply × State) (old new : G × Capacities × State) (r : Option Reply) → AnsweredAlways now old new r → new ≡ in_state old new.2
-keeps_always now old new r h = h.1 ∙ ap (λ (st : State). in_state old st) (sym (ap (λ x. x.2) h.1))
 
 -- a read leaves the state
 pub read_keeps : (net : Network) (st : State) (b from max : ℕ) → (machine.read_of net st b from max).1 ≡ st
@@ -93,38 +73,28 @@ read_keeps net st b from max = by_cases (not (nat_lt b (length net.nodes))) (not
     by_cases false false true p = refl
     by_cases false false false p = refl
 
-pub tells_read : (net : Network) (st : State) (b from max : ℕ) (reply : Reply) (line : List ℕ) →
-    reply ≡ (machine.read_of net st b from max).0 → line ≡ line_text (reply_text reply) → Tells (machine.read_of net st b from max) st st line
-tells_read net st b from max reply line h e = inl (e ∙ ap (λ (r : Reply). line_text (reply_text r)) h, sym (read_keeps net st b from max))
-
-pub tells_read_refused : (net : Network) (st : State) (b from max : ℕ) (fault : PlantFault) (line : List ℕ) →
-    AnsweredBy (machine.read_of net st b from max) (refusal_of fault) → line ≡ refusal_line fault → Tells (machine.read_of net st b from max) st st line
-tells_read_refused net st b from max fault line h e =
-    elim (refusal_or_memory fault) [
-      | inl s ↦ tells_read net st b from max (Refused (number_of fault)) line (subst (AnsweredBy (machine.read_of net st b from max)) s h) e
-      | inr m ↦ inr (memory_line fault line m.1 e, refl)
-    ]
+pub read_answered : {G : Type 0} (net : Network) (p : G × Capacities × State) (b from max : ℕ) (reply : Option Reply) →
+    AnsweredBy (machine.read_of net p.2 b from max) reply → Answered (machine.read_of net p.2 b from max) p p reply
+read_answered net p b from max None h = (h, refl)
+read_answered net p b from max (Some reply) h = (h, ap (in_state p) (sym (read_keeps net p.2 b from max)))
 
 -- what a call tells is what the command is answered
 module _ (g : Graph) (old new : State) (line : List ℕ) where
   pub answers_feed : (name : List ℕ) (xs : List ℤ) (ms : List model.Mark) (b : ℕ) → block_of g name ≡ Some b → Tells (feed_numbers g.net old b xs ms) old new line → Answers g (grammar.Feed name xs ms) old new line
-  unfolding reply_to
-  answers_feed name xs ms b e (inl h) = rw e (inl h)
-  answers_feed name xs ms b e (inr h) = inr (refl, h.0, h.1)
+  unfolding call_of
+  answers_feed name xs ms b e h = rw e h
 
-  pub answers_close : (name : List ℕ) (b : ℕ) → block_of g name ≡ Some b → TellsAlways (machine.close_of g.net old b) new line → Answers g (grammar.Close name) old new line
-  unfolding reply_to
-  answers_close name b e h = rw e (inl h)
+  pub answers_close : (name : List ℕ) (b : ℕ) → block_of g name ≡ Some b → Tells (machine.close_of g.net old b) old new line → Answers g (grammar.Close name) old new line
+  unfolding call_of
+  answers_close name b e h = rw e h
 
   pub answers_step : (name : List ℕ) (max b : ℕ) → block_of g name ≡ Some b → Tells (machine.step_of g.net g.caps old b max) old new line → Answers g (grammar.Step name max) old new line
-  unfolding reply_to
-  answers_step name max b e (inl h) = rw e (inl h)
-  answers_step name max b e (inr h) = inr (refl, h.0, h.1)
+  unfolding call_of
+  answers_step name max b e h = rw e h
 
   pub answers_read : (name : List ℕ) (from max b : ℕ) → block_of g name ≡ Some b → Tells (machine.read_of g.net old b from max) old new line → Answers g (grammar.Read name from max) old new line
-  unfolding reply_to
-  answers_read name from max b e (inl h) = rw e (inl h)
-  answers_read name from max b e (inr h) = inr (refl, h.0, h.1)
+  unfolding call_of
+  answers_read name from max b e h = rw e h
 
 -- a fact of what comes at `Ok`, from another
 pub if_ok : {A E : Type 0} (P Q : A → Type 0) (r : Result A E) → IfOk r P → ((x : A) → P x → Q x) → IfOk r Q
@@ -134,24 +104,24 @@ if_ok P Q (Err e) h f = tt
 -- no block has the name
 module _ (g : Graph) (st : State) (line : List ℕ) (name : List ℕ) (e : block_of g name ≡ None) (l : line ≡ refusal_line NoSuchBlock) where
   pub none_feed : (xs : List ℤ) (ms : List model.Mark) → Answers g (grammar.Feed name xs ms) st st line
-  unfolding reply_to
+  unfolding call_of
   none_feed xs ms = rw e (inl (l, refl))
 
   pub none_close : Answers g (grammar.Close name) st st line
-  unfolding reply_to
+  unfolding call_of
   none_close = rw e (inl (l, refl))
 
   pub none_step : (max : ℕ) → Answers g (grammar.Step name max) st st line
-  unfolding reply_to
+  unfolding call_of
   none_step max = rw e (inl (l, refl))
 
   pub none_read : (from max : ℕ) → Answers g (grammar.Read name from max) st st line
-  unfolding reply_to
+  unfolding call_of
   none_read from max = rw e (inl (l, refl))
 
 pub answers_quiet : (g : Graph) (st : State) (line : List ℕ) → line ≡ line_text (quiet_text (machine.is_quiet g.net g.caps st)) → Answers g grammar.Quiet st st line
-unfolding reply_to
-answers_quiet g st line e = inl (e, refl)
+unfolding call_of
+answers_quiet g st line e = (e, refl)
 
 module _ (net : Network) (st : State) (b : ℕ) (xs : List ℤ) (ms : List model.Mark) where
   feed_missing : nat_lt b (length net.nodes) ≡ false → feed_numbers net st b xs ms ≡ (Refused machine.no_such_block, st)
@@ -189,7 +159,7 @@ both true false e = cc
 both false y e = cc
 
 -- the test of the range passes exactly where each number lies in it
-are_items_pass : (t : ItemType) (xs : List ℤ) → AreItems t xs → are_items t xs ≡ true
+pub are_items_pass : (t : ItemType) (xs : List ℤ) → AreItems t xs → are_items t xs ≡ true
 are_items_pass t [] h = refl
 are_items_pass t (x ∷ xs) h =
     let first : IsItem t x = All-head (IsItem t) x xs h in
@@ -198,8 +168,8 @@ are_items_pass t (x ∷ xs) h =
 are_items_passed : (t : ItemType) (xs : List ℤ) → are_items t xs ≡ true → AreItems t xs
 are_items_passed t [] e = All-nil (IsItem t)
 are_items_passed t (x ∷ xs) e =
-    let parts : (is_item t x ≡ true) × (are_items t xs ≡ true) = both _ _ e in
-    let ends : (int_le (least_of t) x ≡ true) × (int_le x (greatest_of t) ≡ true) = both _ _ parts.0 in
+    let parts = both (int_le (least_of t) x && int_le x (greatest_of t)) (are_items t xs) e in
+    let ends = both (int_le (least_of t) x) (int_le x (greatest_of t)) parts.0 in
     All-cons (IsItem t) x xs (record { above = le_z_yes (subst T (sym ends.0) tt); below = le_z_yes (subst T (sym ends.1) tt) }) (are_items_passed t xs parts.1)
 
 are_items_fail : (t : ItemType) (xs : List ℤ) → (AreItems t xs → ⊥) → are_items t xs ≡ false
@@ -210,18 +180,18 @@ are_items_fail t xs h = by_test (are_items t xs) refl
     by_test true e = absurd (h (are_items_passed t xs e))
 
 -- marks come to the plant as they were seen
-marks_same : (end : ℕ) (ms : List Mark) → map (displaced end) (marks_seen ms) ≡ map (plant.displaced end) ms
+pub marks_same : (end : ℕ) (ms : List Mark) → map (displaced end) (marks_seen ms) ≡ map (plant.displaced end) ms
 marks_same end [] = refl
 marks_same end (m ∷ ms) = ap (λ (rest : List model.Mark). plant.displaced end m ∷ rest) (marks_same end ms)
 
 -- where a source's type is known, it is one, and gives items of that type
-record IsTyped (net : Network) (b : ℕ) (t : ItemType) : Type 0 where
+pub record IsTyped (net : Network) (b : ℕ) (t : ItemType) : Type 0 where
   pub member : nat_lt b (length net.nodes) ≡ true
   pub source : is_source (role_at net b) ≡ true
   pub typed : given_type net b ≡ t
 
 module _ (net : Network) (st : State) (b : ℕ) (t : ItemType) where
-  source_typed : source_type_of net b ≡ Ok t → IsTyped net b t
+  pub source_typed : source_type_of net b ≡ Ok t → IsTyped net b t
   source_typed e = by_tests (nat_lt b (length net.nodes)) (is_source (role_at net b)) refl refl
     where
       by_tests : (x y : Bool) → nat_lt b (length net.nodes) ≡ x → is_source (role_at net b) ≡ y → IsTyped net b t
@@ -238,7 +208,7 @@ module _ (net : Network) (st : State) (b : ℕ) (t : ItemType) where
         let r : are_items (given_type net b) xs ≡ false = ap (λ (u : ItemType). are_items u xs) is.typed ∙ out in
         rw (p, q, r) refl
 
-    feed_in_range : (ms : List model.Mark) → are_items t xs ≡ true →
+    pub feed_in_range : (ms : List model.Mark) → are_items t xs ≡ true →
         feed_numbers net st b xs ms ≡ machine.feed_of net st b (given_type net b) xs (map (displaced (length (handed_at st.handed b).tape + length xs)) ms)
     feed_in_range ms fit =
         let is = source_typed e in
@@ -255,14 +225,12 @@ module _ (net : Network) (st : State) (b : ℕ) (t : ItemType) where
         ∙ ap (λ (u : ItemType). machine.feed_of net st b u xs (map (plant.displaced (length (handed_at st.handed b).tape + length xs)) marks)) ((source_typed e).typed ∙ sym i)
         ∙ ap (λ (ys : List ℤ). machine.feed_of net st b (type_of items) ys (map (plant.displaced (length (handed_at st.handed b).tape + length ys)) marks)) (sym n)
 
-    pub tells_items_fault : (ms : List model.Mark) (r : Result Items ItemFault) (fault : ItemFault) (line : List ℕ) → r ≡ Err fault →
-        (IsErrOf r items_fault.ItemRange ↔ (AreItems t xs → ⊥)) → line ≡ line_text (reply_text (Refused (item_number fault))) → Tells (feed_numbers net st b xs ms) st st line
-    tells_items_fault ms r items_fault.ItemRange line f h l = rw (feed_out_of_range ms (are_items_fail t xs (h.0 f))) (inl (l, refl))
-    tells_items_fault ms r items_fault.Memory line f h l = inr (l, refl)
+    pub tells_out_of_range : (ms : List model.Mark) (line : List ℕ) → (AreItems t xs → ⊥) → line ≡ refusal_line ItemRange → Tells (feed_numbers net st b xs ms) st st line
+    tells_out_of_range ms line out l = rw (feed_out_of_range ms (are_items_fail t xs out)) (inl (l, refl))
 
 module _ (net : Network) (b : ℕ) (t : ItemType) {G : Type 0} (old new : G × Capacities × State) (xs : List ℤ) (items : Items) (marks : List Mark) (line : List ℕ)
     (e : source_type_of net b ≡ Ok t) (i : type_of items ≡ t) (n : numbers_of items ≡ xs) (fit : AreItems t xs) where
-  pub tells_fed : (total : ℕ) → Answered (plant.fed_by net old.2 b items marks) old new (Some (machine.Fed total)) → line ≡ line_text (reply_text (machine.Fed total)) → Tells (feed_numbers net old.2 b xs (marks_seen marks)) old.2 new.2 line
+  pub tells_fed : (total : ℕ) → Answered (plant.fed_by net old.2 b items marks) old new (Some (machine.Fed total)) → line ≡ reply_line (machine.Fed total) → Tells (feed_numbers net old.2 b xs (marks_seen marks)) old.2 new.2 line
   tells_fed total h l =
       let same = feed_same net old.2 b t xs e items marks i n fit in
       subst (λ (now : Reply × State). Tells now old.2 new.2 line) (sym same) (tells (plant.fed_by net old.2 b items marks) old new (machine.Fed total) line h l)

@@ -1,5 +1,5 @@
 -- What the commands of a script do to a plant, and what they are answered.
-use Rattle.std.specs.Prelude.{◌≡◌, ℕ, ◌+◌, ◌≤◌, ℤ, int_le, List, length, map, position, bytes_eq, Option, Some, None, Bool, true, false, ◌&&◌, not, nat_lt, if◌then◌else◌, ◌⊎◌}
+use Rattle.std.specs.Prelude.{◌≡◌, ℕ, ◌+◌, ◌≤◌, ℤ, int_le, List, length, map, position, bytes_eq, Option, Some, None, Bool, true, ◌&&◌, not, nat_lt, if◌then◌else◌, ◌⊎◌}
 use Rattle.std.specs.List.{list_all}
 use Rattle.stream_model.specs.declared.vocabulary.ItemType.{ItemType}
 use Rattle.stream_model.specs.Numbers.{least_of, greatest_of}
@@ -11,6 +11,7 @@ use Rattle.executor.specs.declared.chain.Entry.{Entry}
 use Rattle.executor.specs.Chain.{network_of}
 use Rattle.executor.specs.declared.fault.PlantFault.{PlantFault}
 use Rattle.executor.specs.Fault.{number_of}
+use Rattle.executor.specs.Answers.{takes_memory}
 use Rattle.script_text.specs.Grammar.{Command, Feed, Close, Step, Read, Quiet}
 use Rattle.script_text.specs.Replies.{reply_text, quiet_text, line_text}
 use Rattle.stream_model.specs.Meaning.{Meaning}
@@ -34,11 +35,8 @@ abbrev pub block_of : Graph → List ℕ → Option ℕ
 block_of g name = position (bytes_eq name) g.names
 
 -- each number lies in the range of the type
-abbrev pub is_item : ItemType → ℤ → Bool
-is_item t z = int_le (least_of t) z && int_le z (greatest_of t)
-
 abbrev pub are_items : ItemType → List ℤ → Bool
-are_items t xs = list_all (is_item t) xs
+are_items t xs = list_all (λ z. int_le (least_of t) z && int_le z (greatest_of t)) xs
 
 -- a mark as the plant takes it: until tags come, each counts as one that lies outside the items
 abbrev pub displaced : ℕ → Mark → Mark
@@ -60,44 +58,36 @@ abbrev pub call_on : Option ℕ → State → (ℕ → Reply × State) → Reply
 call_on None st call = (Refused machine.no_such_block, st)
 call_on (Some b) st call = call b
 
--- a reply as text
-abbrev pub told : Reply × State → List ℕ × State
-told now = (reply_text now.0, now.1)
+-- what the machine answers the call that a command makes, and the state that it leaves; the question whether the plant is quiet
+-- makes none
+unfoldable pub call_of : Graph → State → Command → Option (Reply × State)
+call_of g st (Feed name xs ms) = Some (call_on (block_of g name) st (λ b. feed_numbers g.net st b xs ms))
+call_of g st (Close name) = Some (call_on (block_of g name) st (λ b. machine.close_of g.net st b))
+call_of g st (Step name max) = Some (call_on (block_of g name) st (λ b. machine.step_of g.net g.caps st b max))
+call_of g st (Read name from max) = Some (call_on (block_of g name) st (λ b. machine.read_of g.net st b from max))
+call_of g st Quiet = None
 
--- what a command is answered, and the state that it leaves
-unfoldable pub reply_to : Graph → State → Command → List ℕ × State
-reply_to g st (Feed name xs ms) = told (call_on (block_of g name) st (λ b. feed_numbers g.net st b xs ms))
-reply_to g st (Close name) = told (call_on (block_of g name) st (λ b. machine.close_of g.net st b))
-reply_to g st (Step name max) = told (call_on (block_of g name) st (λ b. machine.step_of g.net g.caps st b max))
-reply_to g st (Read name from max) = told (call_on (block_of g name) st (λ b. machine.read_of g.net st b from max))
-reply_to g st Quiet = (quiet_text (machine.is_quiet g.net g.caps st), st)
+-- the line of a reply
+abbrev pub reply_line : Reply → List ℕ
+reply_line reply = line_text (reply_text reply)
 
 -- the reply where memory ran out
-abbrev pub no_memory : List ℕ
-no_memory = reply_text (Refused 32)
+abbrev pub no_memory : Reply
+no_memory = Refused 32
 
--- this was answered as the machine does now, or memory ran out and the state is as before
+-- a call was answered as the machine does now; or memory ran out in one that stores or gives items, and the state is as before
 abbrev pub Tells : Reply × State → State → State → List ℕ → Type 0
-Tells now old new line = ((line ≡ line_text (reply_text now.0)) × (new ≡ now.1)) ⊎ ((line ≡ line_text no_memory) × (new ≡ old))
+Tells now old new line =
+    ((line ≡ reply_line now.0) × (new ≡ now.1)) ⊎ ((takes_memory now.0 ≡ true) × (line ≡ reply_line no_memory) × (new ≡ old))
 
--- the same where memory cannot run out
-abbrev pub TellsAlways : Reply × State → State → List ℕ → Type 0
-TellsAlways now new line = (line ≡ line_text (reply_text now.0)) × (new ≡ now.1)
+-- a call was answered so, or it is asked whether the plant is quiet, and the answer says that
+abbrev pub TellsCall : Graph → Option (Reply × State) → State → State → List ℕ → Type 0
+TellsCall g (Some now) old new line = Tells now old new line
+TellsCall g None old new line = (line ≡ line_text (quiet_text (machine.is_quiet g.net g.caps old))) × (new ≡ old)
 
--- whether a command may be answered that memory ran out: all but a close, and the question whether the plant is quiet
-abbrev pub may_run_out : Command → Bool
-may_run_out (Feed name xs ms) = true
-may_run_out (Close name) = false
-may_run_out (Step name max) = true
-may_run_out (Read name from max) = true
-may_run_out Quiet = false
-
--- this was answered, and the plant went from one state to the next: as the machine does, or memory ran out and the state is as
--- before
+-- a command was answered, and the plant went from one state to the next
 abbrev pub Answers : Graph → Command → State → State → List ℕ → Type 0
-Answers g c old new text =
-    ((text ≡ line_text (reply_to g old c).0) × (new ≡ (reply_to g old c).1))
-    ⊎ ((may_run_out c ≡ true) × (text ≡ line_text no_memory) × (new ≡ old))
+Answers g c old new line = TellsCall g (call_of g old c) old new line
 
 -- a command that a line may say: a step has a most of 1 to 2^32 - 1 firings
 abbrev pub IsAskable : Command → Type 0
@@ -109,4 +99,4 @@ IsAskable Quiet = Unit {0}
 
 -- a refusal of the plant as a line
 abbrev pub refusal_line : PlantFault → List ℕ
-refusal_line fault = line_text (reply_text (Refused (number_of fault)))
+refusal_line fault = reply_line (Refused (number_of fault))

@@ -88,31 +88,3 @@ fn name_of(fault: PlantFault) -> &'static str
         PlantFault::Memory => "Memory",
     }
 }
-
-#[cfg(test)]
-mod tests {
-    use super::*;
-    use std::test::Fail;
-
-    #[test]
-    fn faults_have_texts_and_statuses(rt: HostRuntime) -> Result<(), Fail> {
-        for (fault, text, status) in [
-            (Fault::File(FileFault::Syntax), "40 Syntax", 1),
-            (Fault::File(FileFault::Memory), "32 Memory", 4),
-            (
-                Fault::Feed(1, PlantFault::TapeFull),
-                "26 TapeFull feed 1",
-                1,
-            ),
-            (Fault::Feed(0, PlantFault::Memory), "32 Memory", 4),
-            (Fault::Script(ScriptFault::BadLine(7)), "50 BadLine 7", 1),
-            (Fault::Script(ScriptFault::Read), "51 Read", 4),
-            (Fault::Script(ScriptFault::Write), "52 Write", 4),
-            (Fault::Script(ScriptFault::Memory), "32 Memory", 4),
-        ] {
-            assert_eq!(rt; fault.to_string(rt.alloc())?.as_str(), text);
-            assert_eq!(rt; fault.status(), status);
-        }
-        Ok(())
-    }
-}

@@ -108,6 +108,3 @@ fn line_of(alloc: Global, fault: Fault) -> Result<String, AllocError>
 {
     format!(in alloc; "flow: refused {fault}\n")
 }
-
-#[cfg(test)]
-mod tests;

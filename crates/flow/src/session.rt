@@ -1,17 +1,18 @@
 //! One command of a script, as a call of a plant.
 
-ghost use Rattle.std.specs.Prelude.{◌≡◌, ◌<◌, ◌≤◌, IfOk, IfSome};
+ghost use Rattle.std.specs.Prelude.{◌≡◌, ◌<◌, ◌≤◌, IfOk, IfSome, Ok};
 ghost use Rattle.std.specs.Option.{option_map};
 ghost use Rattle.stream_model.specs.Machine as machine;
+ghost use Rattle.stream_model.specs.Numbers.{AreItems};
 ghost use Rattle.executor.specs.Chain.{network_of};
+ghost use Rattle.executor.specs.Looks.{source_type_of};
 ghost use Rattle.script_text.specs.Commands.{command_seen, marks_seen};
-ghost use Rattle.script_text.specs.Printed.{printed};
-ghost use Rattle.script_text.specs.Replies.{line_text};
-ghost use Rattle.flow.specs.Session.{graph_of, in_state, block_of, feed_numbers, Tells, TellsAlways, Answers, IsAskable, refusal_line};
+ghost use Rattle.flow.specs.Session.{graph_of, in_state, block_of, feed_numbers, Tells, Answers, IsAskable, refusal_line};
 
 use block_kinds::Block;
+use executor::plant::LONGEST_TAPE;
 use executor::{BlockId, Closed, Fed, Need, Plant, PlantFault, Step};
-use items::{Items, Mark};
+use items::{ItemFault, ItemType, Items, Mark};
 use script_text::{Command, Name, Reply};
 use std::alloc::{AllocError, Global};
 
@@ -42,7 +43,7 @@ pub fn answer<B: Block>(
             Some(block) => read(alloc, plant, block, *from, *max),
             None => refused(alloc, PlantFault::NoSuchBlock),
         },
-        Command::Quiet => line_of(alloc, &Reply::Quiet(plant.quiet())),
+        Command::Quiet => Reply::Quiet(plant.quiet()).to_line(alloc),
     }
 }
 
@@ -70,11 +71,46 @@ fn feed<B: Block>(
     };
     let items = match Items::from_numbers(alloc, item, numbers) {
         Ok(items) => items,
-        Err(fault) => return line_of(alloc, &Reply::Refused(fault.number())),
+        Err(ItemFault::ItemRange) => return refused(alloc, PlantFault::ItemRange),
+        Err(ItemFault::Memory) => {
+            return feed_without_memory(alloc, plant, source, item, numbers, marks);
+        }
     };
     match plant.feed(source, items, marks) {
-        Ok(Fed(total)) => line_of(alloc, &Reply::Fed(total)),
+        Ok(Fed(total)) => Reply::Fed(total).to_line(alloc),
         Err(fault) => refused(alloc, fault),
+    }
+}
+
+// What a feed is answered where there is no memory for its items: what refuses it refuses it now, too, and a feed of no
+// items tells that and how long the tape is.
+fn feed_without_memory<B: Block>(
+    alloc: Global,
+    plant: &mut Plant<B>,
+    source: BlockId,
+    item: ItemType,
+    numbers: &[i64],
+    marks: &[Mark],
+) -> Result<Vec<u8>, AllocError>
+    requires typed { source_type_of (network_of B.meaning plant.old.0.1) source.0 ≡ Ok item }
+    requires items { AreItems item numbers.now }
+    ensures kept { plant.new ≡ in_state plant.old plant.new.2 }
+    ensures tells { IfOk result (λ line. Tells (feed_numbers (network_of B.meaning plant.old.0.1) plant.old.2 source.0 numbers.now (marks_seen marks.now)) plant.old.2 plant.new.2 line.items) }
+{
+    match plant.feed(source, Items::empty(alloc, item), marks) {
+        Ok(Fed(total)) => {
+            if total.saturating_add(numbers.len() as u64) > LONGEST_TAPE as u64 {
+                refused(alloc, PlantFault::TapeFull)
+            } else {
+                refused(alloc, PlantFault::Memory)
+            }
+        }
+        Err(fault) => {
+            if fault == PlantFault::Memory {
+                return Err(AllocError);
+            }
+            refused(alloc, fault)
+        }
     }
 }
 
@@ -84,10 +120,10 @@ fn close<B: Block>(
     source: BlockId,
 ) -> Result<Vec<u8>, AllocError>
     ensures kept { plant.new ≡ in_state plant.old plant.new.2 }
-    ensures tells { IfOk result (λ line. TellsAlways (machine.close_of (network_of B.meaning plant.old.0.1) plant.old.2 source.0) plant.new.2 line.items) }
+    ensures tells { IfOk result (λ line. Tells (machine.close_of (network_of B.meaning plant.old.0.1) plant.old.2 source.0) plant.old.2 plant.new.2 line.items) }
 {
     match plant.close(source) {
-        Ok(Closed(total)) => line_of(alloc, &Reply::Closed(total)),
+        Ok(Closed(total)) => Reply::Closed(total).to_line(alloc),
         Err(fault) => refused(alloc, fault),
     }
 }
@@ -109,7 +145,7 @@ fn step<B: Block>(
         Ok(Step::Waiting(Need::Room(port))) => Reply::WaitingRoom(port),
         Err(fault) => return refused(alloc, fault),
     };
-    line_of(alloc, &reply)
+    reply.to_line(alloc)
 }
 
 fn read<B: Block>(
@@ -128,7 +164,7 @@ fn read<B: Block>(
                 items: &piece.items,
                 tags: &[],
             };
-            line_of(alloc, &reply)
+            reply.to_line(alloc)
         }
         Err(fault) => refused(alloc, fault),
     }
@@ -138,13 +174,5 @@ fn read<B: Block>(
 fn refused(alloc: Global, fault: PlantFault) -> Result<Vec<u8>, AllocError>
     ensures { IfOk result (λ line. line.items ≡ refusal_line fault) }
 {
-    line_of(alloc, &Reply::Refused(fault.number()))
-}
-
-fn line_of(alloc: Global, reply: &Reply) -> Result<Vec<u8>, AllocError>
-    ensures { IfOk result (λ line. line.items ≡ line_text (printed reply.now)) }
-{
-    let mut line = Vec::new(alloc);
-    reply.push_reply(&mut line)?;
-    Ok(line)
+    Reply::Refused(fault.number()).to_line(alloc)
 }

@@ -5,7 +5,7 @@ mod bytes;
 pub mod command;
 pub mod ends;
 pub mod name;
-mod numbers;
+mod numerals;
 pub mod parse;
 mod print;
 pub mod reply;

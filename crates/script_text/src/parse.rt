@@ -7,7 +7,7 @@ ghost use Rattle.script_text.specs.Numbers.{max_of, integer_of};
 ghost use Rattle.script_text.specs.Commands.{line_seen, command_seen, marks_seen, mark_seen};
 
 use crate::bytes::{begins_with, cut_at, next_field};
-use crate::numbers::{parse_integer, parse_natural};
+use crate::numerals::{parse_integer, parse_natural};
 use crate::{Command, Line, Name};
 use items::{Mark, TagKey};
 use std::alloc::{AllocError, Global};

@@ -1,5 +1,5 @@
 //! Numbers, items and tags as text.
-ghost use Rattle.std.specs.Prelude.{◌≡◌, ◌++◌, OnOk};
+ghost use Rattle.std.specs.Prelude.{◌≡◌, ◌++◌, map, OnOk};
 ghost use Rattle.std.specs.List.{flat_map};
 ghost use Rattle.std.specs.Fmt.{decimal, signed_decimal};
 ghost use Rattle.items.specs.Items.{numbers_of};
@@ -7,6 +7,7 @@ ghost use Rattle.script_text.specs.Replies.{item_text, tag_text, tag_value_text}
 ghost use Rattle.script_text.specs.Printed.{tag_seen, tags_seen};
 
 use items::{Items, Tag};
+use numbers::Number;
 use std::alloc::AllocError;
 
 /// Writes the number's digits at the end.
@@ -39,9 +40,19 @@ pub fn push_integer(out: &mut Vec<u8>, number: i64) -> Result<(), AllocError>
 pub fn push_items(out: &mut Vec<u8>, items: &Items) -> Result<(), AllocError>
     ensures { OnOk result (out.new.items ≡ out.old.items ++ flat_map item_text (numbers_of items.now)) }
 {
-    for place in 0..items.len() {
+    match items {
+        Items::Byte(numbers) => push_numbers(out, numbers),
+        Items::Short(numbers) => push_numbers(out, numbers),
+        Items::Int(numbers) => push_numbers(out, numbers),
+    }
+}
+
+fn push_numbers<T: Number>(out: &mut Vec<u8>, numbers: &[T]) -> Result<(), AllocError>
+    ensures { OnOk result (out.new.items ≡ out.old.items ++ flat_map item_text (map T.number numbers.now)) }
+{
+    for number in numbers {
         out.push(b' ')?;
-        push_integer(out, items.number(place))?;
+        push_integer(out, number.widen())?;
     }
     Ok(())
 }

@@ -1,10 +1,10 @@
 //! Replies, and their text.
-ghost use Rattle.std.specs.Prelude.{◌≡◌, ◌++◌, OnOk, OnErr};
+ghost use Rattle.std.specs.Prelude.{◌≡◌, ◌++◌, IfOk, OnOk};
 ghost use Rattle.std.specs.Fmt.{decimal};
 
 use crate::print::{push_items, push_natural, push_tags};
 use items::{Items, Tag};
-use std::alloc::AllocError;
+use std::alloc::{AllocError, Global};
 
 /// What a command is answered.
 #[derive(Clone, Copy)]
@@ -41,15 +41,14 @@ impl Reply<'_> {
     ghost use Rattle.script_text.specs.Printed.{printed};
     ghost use Rattle.script_text.specs.Replies.{line_text};
 
-    /// Writes the reply at the end, as a line. An `Err` leaves what was there.
-    pub fn push_reply(&self, out: &mut Vec<u8>) -> Result<(), AllocError>
-        ensures ok { OnOk result (out.new.items ≡ out.old.items ++ line_text (printed self.now)) }
-        ensures err { OnErr result (out.new.items ≡ out.old.items) }
+    /// The reply as a line.
+    pub fn to_line(&self, alloc: Global) -> Result<Vec<u8>, AllocError>
+        ensures { IfOk result (λ line. line.items ≡ line_text (printed self.now)) }
     {
-        let mut line = Vec::new(*out.allocator());
+        let mut line = Vec::new(alloc);
         self.push_text(&mut line)?;
         line.push(b'\n')?;
-        out.extend_from_slice(line.as_slice())
+        Ok(line)
     }
 
     fn push_text(&self, out: &mut Vec<u8>) -> Result<(), AllocError>

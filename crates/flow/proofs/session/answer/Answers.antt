@@ -38,4 +38,4 @@ returns-in-None-find-3-clause-answers g c =
 
 pub returns-in-Quiet-clause-answers : goal.returns-in-Quiet-clause-answers
 returns-in-Quiet-clause-answers g c =
-    rw c.in-Quiet.is (if_ok _ _ c.line_of.result c.line_of.ensures (λ line e. answers_quiet (graph_of g.B.Block.meaning c.args.plant.now) _ _ (rw (← c.quiet.ensures) e)))
+    rw c.in-Quiet.is (if_ok _ _ c.to_line.result c.to_line.ensures (λ line e. answers_quiet (graph_of g.B.Block.meaning c.args.plant.now) _ _ (rw (← c.quiet.ensures) e)))

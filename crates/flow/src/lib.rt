@@ -1,0 +1,7 @@
+//! What the program `flow` does with a graph file and its standard streams, over any source and place of bytes.
+#![tactic(auto)]
+
+pub mod fault;
+pub mod script;
+pub mod serve;
+pub mod session;
