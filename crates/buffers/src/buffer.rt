@@ -6,7 +6,8 @@ ghost use Rattle.stream_model.specs.Tags.{tags_within};
 ghost use Rattle.items.specs.Items as typed;
 ghost use Rattle.items.specs.Items.{numbers_of, spare_of};
 ghost use Rattle.std.specs.Option.{option_map_or};
-ghost use Rattle.tags.specs.TagList.{tag_of, tags_from};
+ghost use Rattle.items.specs.Tags.{tag_of};
+ghost use Rattle.tags.specs.TagList.{tags_from};
 ghost use Rattle.ring_readers.specs.State.{IsLive, IsEndOf, reader_at, unread_of, past_of, room_of, empty_ring, with_reader, with_items, with_taken, without_reader};
 ghost use Rattle.buffers.specs.Buffer.{KeepsTagsOf, insert_tags, wanted_tags};
 
@@ -120,7 +121,8 @@ impl Buffer {
 
     /// How many more items may be written before the slowest live reader takes some.
     pub fn room(&self) -> usize
-        ensures { result ≡ room_of self.now.ring }
+        ensures value { result ≡ room_of self.now.ring }
+        ensures within { (result ≤ self.now.ring.capacity) × (self.now.ring.capacity < 2 ^ 32) }
     {
         self.rings.room()
     }
@@ -161,6 +163,7 @@ impl Buffer {
         ensures items { (stream : List ℤ) → IsEndOf self.now.ring stream →
             let place = (reader_at self.now.ring reader).place in
             numbers_of out.new ≡ numbers_of out.old ++ window stream (past_of self.now.ring reader) place (place + count) }
+        ensures spare { spare_of out.old ≤ spare_of out.new + past_of self.now.ring reader + count }
     {
         self.rings.window(reader, count, out)
     }

@@ -33,12 +33,12 @@ macro_rules! on_ring {
 }
 
 // A match on a ring and items of its type.
-macro_rules! on_ring_and_lanes {
-    ($rings:expr, $items:expr, ($ring:ident, $lanes:ident) => $body:expr) => {
+macro_rules! on_ring_and_items {
+    ($rings:expr, $items:expr, ($ring:ident, $values:ident) => $body:expr) => {
         match ($rings, $items) {
-            (Rings::Byte($ring), Items::Byte($lanes)) => $body,
-            (Rings::Short($ring), Items::Short($lanes)) => $body,
-            (Rings::Int($ring), Items::Int($lanes)) => $body,
+            (Rings::Byte($ring), Items::Byte($values)) => $body,
+            (Rings::Short($ring), Items::Short($values)) => $body,
+            (Rings::Int($ring), Items::Int($values)) => $body,
             _ => unreachable!(),
         }
     };
@@ -148,7 +148,7 @@ impl Rings {
         ensures value { ring_of self.new ≡ with_items (ring_of self.old) (numbers_of items.now) }
         ensures stream { (stream : List ℤ) → IsEndOf (ring_of self.old) stream → IsEndOf (ring_of self.new) (stream ++ numbers_of items.now) }
     {
-        on_ring_and_lanes!(self, items, (ring, lanes) => ring.push_slice(lanes))
+        on_ring_and_items!(self, items, (ring, values) => ring.push_slice(values))
     }
 
     pub fn window(&self, reader: Reader, count: usize, out: &mut Items)
@@ -160,8 +160,9 @@ impl Rings {
         ensures items { (stream : List ℤ) → IsEndOf (ring_of self.now) stream →
             let place = (reader_at (ring_of self.now) reader).place in
             numbers_of out.new ≡ numbers_of out.old ++ window stream (past_of (ring_of self.now) reader) place (place + count) }
+        ensures spare { spare_of out.old ≤ spare_of out.new + past_of (ring_of self.now) reader + count }
     {
-        on_ring_and_lanes!(self, out, (ring, lanes) => ring.window(reader, count, lanes))
+        on_ring_and_items!(self, out, (ring, values) => ring.window(reader, count, values))
     }
 
     pub fn advance(&mut self, reader: Reader, count: usize)

@@ -1,14 +1,13 @@
 -- The machine's answers, case by case, as the calls of a plant need them.
 use Rattle.std.proofs.Common.{◌≡◌, ℕ, zero, suc, ◌+◌, ◌-◌, ◌<◌, ◌≤◌, Bool, true, false, List, [], ◌∷◌, ◌++◌, ℤ, length, map, replicate, get_or, Option, Some, refl, arith, ap, sym, ◌∙◌, lt-ltb, le-ltb, eqb-true}
 use Rattle.std.specs.Prelude.{nat_le, ◌&&◌, ◌==◌}
+use Rattle.stream_model.specs.Numbers.{types_agree}
 use Rattle.stream_model.specs.Network.{Network, State, node_at, role_at, handed_at, is_source, nothing_handed}
 use Rattle.stream_model.specs.Machine as machine
 use Rattle.stream_model.specs.Machine.{Reply, Capacities, longest_tape}
 use Rattle.stream_model.proofs.Streams.{HandedMore, beginning_refl}
 use Rattle.items.specs.declared.stream_items.Items.{Items}
 use Rattle.items.specs.Items.{numbers_of, type_of}
-use Rattle.stream_model.specs.declared.vocabulary.ItemType.{ItemType}
-use Rattle.stream_model.specs.declared.vocabulary.ItemType.TheVariants.{Byte, Short, Int}
 use Rattle.items.specs.declared.marks.Mark.{Mark}
 use Rattle.std.specs.List.{list_all}
 use Rattle.std.proofs.lemmas.Bool.{and_left, and_right}
@@ -66,11 +65,11 @@ module _ (net : Network) (st : State) (b : ℕ) (items : Items) where
     feed-not_source ms e = let here = lt-ltb b (length net.nodes) in' in rw (here, e) refl
 
     module _ (source : is_source (role_at net b) ≡ true) where
-      pub feed-other_type : (ms : List Mark) → machine.types_agree (type_of items) (node_at net b).meaning.outputs.item ≡ false → fed_by net st b items ms ≡ (machine.Refused machine.item_range, st)
+      pub feed-other_type : (ms : List Mark) → types_agree (type_of items) (node_at net b).meaning.outputs.item ≡ false → fed_by net st b items ms ≡ (machine.Refused machine.item_range, st)
       unfolding machine.feed_of
       feed-other_type ms e = let here = lt-ltb b (length net.nodes) in' in rw (here, source, e) refl
 
-      module _ (typed : machine.types_agree (type_of items) (node_at net b).meaning.outputs.item ≡ true) where
+      module _ (typed : types_agree (type_of items) (node_at net b).meaning.outputs.item ≡ true) where
         pub feed-closed : (ms : List Mark) → (handed_at st.handed b).closed ≡ true → fed_by net st b items ms ≡ (machine.Refused machine.already_closed, st)
         unfolding machine.feed_of
         feed-closed ms e = let here = lt-ltb b (length net.nodes) in' in rw (here, source, typed, e) refl
@@ -133,23 +132,12 @@ pub first-source : (net : Network) → IsPlainChain net → (b : ℕ) → b < le
 first-source net chain zero in' e = refl
 first-source net chain (suc b) in' e = let bad : false ≡ true = sym (source-next net chain b in') ∙ e in cc
 
-pub types_agree-same : (a b : ItemType) → machine.types_agree a b ≡ true → a ≡ b
-types_agree-same Byte Byte e = refl
-types_agree-same Short Short e = refl
-types_agree-same Int Int e = refl
-types_agree-same Byte Short e = cc
-types_agree-same Byte Int e = cc
-types_agree-same Short Byte e = cc
-types_agree-same Short Int e = cc
-types_agree-same Int Byte e = cc
-types_agree-same Int Short e = cc
-
 -- marks that a test found, or did not
 pub empty-is : (ms : List Mark) → (length ms == 0) ≡ true → ms ≡ []
 empty-is [] e = refl
 empty-is (m ∷ ms) e = absurd (omega (arith, eqb-true (length (m ∷ ms)) 0 e))
 
-pub feed-any_marked : (net : Network) (st : State) (b : ℕ) (items : Items) → b < length net.nodes → is_source (role_at net b) ≡ true → machine.types_agree (type_of items) (node_at net b).meaning.outputs.item ≡ true → (handed_at st.handed b).closed ≡ false →
+pub feed-any_marked : (net : Network) (st : State) (b : ℕ) (items : Items) → b < length net.nodes → is_source (role_at net b) ≡ true → types_agree (type_of items) (node_at net b).meaning.outputs.item ≡ true → (handed_at st.handed b).closed ≡ false →
     (ms : List Mark) → (length ms == 0) ≡ false → fed_by net st b items ms ≡ (machine.Refused machine.tag_place, st)
 feed-any_marked net st b items in' source typed open' [] e = cc
 feed-any_marked net st b items in' source typed open' (m ∷ ms) e = feed-marked net st b items in' source typed open' m ms

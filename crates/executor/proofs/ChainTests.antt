@@ -3,12 +3,11 @@ use Rattle.std.proofs.Common.{◌≡◌, ℕ, zero, suc, ◌-◌, ◌<◌, ◌�
 use Rattle.std.specs.Prelude.{nat_le, nat_lt, ◌==◌, ◌||◌}
 use Rattle.std.proofs.lemmas.Bool.{and_parts, or_cases, cases_eq, eqb-true, leb-true, ltb-true, false_from_ne_true, lt-leb}
 use Rattle.std.proofs.lemmas.List.{length-map}
-use Rattle.stream_model.specs.declared.vocabulary.ItemType.{ItemType}
-use Rattle.stream_model.specs.declared.vocabulary.ItemType.TheVariants.{Byte, Short, Int}
 use Rattle.stream_model.specs.declared.vocabulary.Role.{Role}
 use Rattle.stream_model.specs.declared.vocabulary.Role.TheVariants.{Source, Work, Keep, Discard}
 use Rattle.stream_model.specs.declared.vocabulary.Signature.{Signature}
-use Rattle.stream_model.specs.Numbers.{bits_of}
+use Rattle.stream_model.specs.Numbers.{types_agree}
+use Rattle.stream_model.proofs.Types.{types_agree-same}
 use Rattle.stream_model.specs.Meaning.{Meaning, IsLawful}
 use Rattle.stream_model.specs.Network.{Network, Node, node_at, role_at, no_node}
 use Rattle.executor.specs.declared.chain.Entry.{Entry}
@@ -61,17 +60,6 @@ one_port s h =
     let parts = and_parts (nat_le s.least 1) (nat_le 1 s.most) h in
     (leb-true s.least 1 parts.0, leb-true 1 s.most parts.1)
 
-same_bits : (s t : ItemType) → bits_of s ≡ bits_of t → s ≡ t
-same_bits Byte Byte e = refl
-same_bits Byte Short e = absurd (omega arith)
-same_bits Byte Int e = absurd (omega arith)
-same_bits Short Byte e = absurd (omega arith)
-same_bits Short Short e = refl
-same_bits Short Int e = absurd (omega arith)
-same_bits Int Byte e = absurd (omega arith)
-same_bits Int Short e = absurd (omega arith)
-same_bits Int Int e = refl
-
 -- the test finds blocks in a row
 record IsRow (net : Network) : Type 0 where
   long : 2 ≤ length net.nodes
@@ -102,11 +90,11 @@ module _ (net : Network) (is : IsRow net) where
         | inr e ↦ e
       ]
 
-  ports_at : (b : ℕ) → suc b < length net.nodes → (takes_one (node_at net b).meaning.outputs ≡ true) × (takes_one (node_at net (suc b)).meaning.inputs ≡ true) × ((bits_of (node_at net b).meaning.outputs.item == bits_of (node_at net (suc b)).meaning.inputs.item) ≡ true)
+  ports_at : (b : ℕ) → suc b < length net.nodes → (takes_one (node_at net b).meaning.outputs ≡ true) × (takes_one (node_at net (suc b)).meaning.inputs ≡ true) × (types_agree (node_at net b).meaning.outputs.item (node_at net (suc b)).meaning.inputs.item ≡ true)
   ports_at b low =
       let out = (node_at net b).meaning.outputs in
       let ins = (node_at net (suc b)).meaning.inputs in
-      let outer = and_parts (takes_one out && takes_one ins) (bits_of out.item == bits_of ins.item) (joins_at b low) in
+      let outer = and_parts (takes_one out && takes_one ins) (types_agree out.item ins.item) (joins_at b low) in
       let inner = and_parts (takes_one out) (takes_one ins) outer.0 in
       (inner.0, inner.1, outer.1)
 
@@ -124,7 +112,7 @@ module _ (net : Network) (is : IsRow net) where
         plain = λ b low. plain_rate ((node_at net b).meaning.rate 0) (parts_at b low).1;
         one_input = λ b low. one_port (node_at net (suc b)).meaning.inputs (ports_at b low).1;
         one_output = λ b low. one_port (node_at net b).meaning.outputs (ports_at b low).0;
-        types = λ b low. let bits = eqb-true (bits_of (node_at net b).meaning.outputs.item) (bits_of (node_at net (suc b)).meaning.inputs.item) (ports_at b low).2 in same_bits (node_at net b).meaning.outputs.item (node_at net (suc b)).meaning.inputs.item bits;
+        types = λ b low. (types_agree-same (node_at net b).meaning.outputs.item (node_at net (suc b)).meaning.inputs.item).0 (ports_at b low).2;
       }
 
 module _ {B : Type 0} (meaning : B → Meaning) (lawful : (b : B) → IsLawful (meaning b)) where

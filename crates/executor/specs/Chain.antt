@@ -1,7 +1,7 @@
 -- The graphs that a plant takes so far: one chain of blocks in the order of their numbers, each at a rate of one item for one.
 use Rattle.std.specs.Prelude.{ℕ, zero, suc, ◌-◌, ◌<◌, ◌≤◌, ◌≡◌, List, [], ◌∷◌, map, length, Option, Some, None, Bool, true, false, ◌&&◌, ◌||◌, ◌==◌, nat_le, nat_lt}
 use Rattle.stream_model.specs.declared.vocabulary.Signature.{Signature}
-use Rattle.stream_model.specs.Numbers.{bits_of}
+use Rattle.stream_model.specs.Numbers.{types_agree}
 use Rattle.stream_model.specs.declared.vocabulary.Role.{Role}
 use Rattle.stream_model.specs.declared.vocabulary.Role.TheVariants.{Source, Work, Keep, Discard}
 use Rattle.stream_model.specs.declared.vocabulary.Policy.TheVariants as policy
@@ -62,9 +62,9 @@ is_plain_rate (Some r) = (r.0 == 1) && (r.1 == 1)
 abbrev pub takes_one : Signature → Bool
 takes_one s = nat_le s.least 1 && nat_le 1 s.most
 
--- the items of two ports are of one type: types differ in how many bits an item has
+-- the items of two ports are of one type
 abbrev pub joins : Signature → Signature → Bool
-joins s t = takes_one s && takes_one t && (bits_of s.item == bits_of t.item)
+joins s t = takes_one s && takes_one t && types_agree s.item t.item
 
 -- block b fits its place, and the block behind it
 abbrev pub fits_behind : Network → ℕ → Bool

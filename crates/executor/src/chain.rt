@@ -4,8 +4,8 @@ ghost use Rattle.std.specs.Prelude.{◌≡◌, ◌<◌, ◌≤◌, ◌+◌, ◌^
 ghost use Rattle.executor.specs.Chain.{network_of, has_place, is_plain_rate, takes_one, joins, fits_behind, fits_at, is_plain_chain, IsPlainChain};
 ghost use Rattle.stream_model.specs.Network.{node_at, role_at, is_source, is_keeper};
 
-use crate::name::BlockName;
 use block_kinds::Block;
+use items::BlockName;
 use std::marker::Model;
 use stream_model::{ItemType, Role, Signature};
 

@@ -7,6 +7,7 @@ mod read;
 
 ghost use Rattle.std.specs.Prelude.{◌≡◌, ◌<◌, ◌≤◌, ◌+◌, ◌^◌, ◌↔◌, length, IsTrue, IfOk, Ok, Err, Result};
 ghost use Rattle.stream_model.specs.Machine as machine;
+ghost use Rattle.stream_model.specs.Numbers.{types_agree};
 ghost use Rattle.stream_model.specs.Network.{node_at, role_at, progress_at};
 ghost use Rattle.executor.specs.Plant.{progress_of, fed_by};
 ghost use Rattle.executor.specs.Chain.{network_of};
@@ -30,14 +31,9 @@ pub const LONGEST_TAPE: usize = 4_294_967_296;
 
 // Whether two types of items are one.
 fn same_type(one: ItemType, other: ItemType) -> bool
-    ensures { result ≡ machine.types_agree one other }
+    ensures { result ≡ types_agree one other }
 {
-    match (one, other) {
-        (ItemType::Byte, ItemType::Byte)
-        | (ItemType::Short, ItemType::Short)
-        | (ItemType::Int, ItemType::Int) => true,
-        _ => false,
-    }
+    one == other
 }
 
 /// A flowgraph with what it was fed and how far it is.

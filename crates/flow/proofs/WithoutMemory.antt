@@ -7,9 +7,10 @@ use Rattle.std.proofs.lemmas.Bool.Decides.{nat_tests}
 use Rattle.std.proofs.lemmas.List.{set-get_or}
 use Rattle.stream_model.specs.Numbers.{AreItems}
 use Rattle.stream_model.specs.declared.vocabulary.ItemType.{ItemType}
-use Rattle.stream_model.specs.declared.vocabulary.ItemType.TheVariants.{Byte, Short, Int}
 use Rattle.stream_model.specs.Tags as model
 use Rattle.stream_model.specs.Network.{Network, State, Handed, handed_at, nothing_handed}
+use Rattle.stream_model.specs.Numbers.{types_agree}
+use Rattle.stream_model.proofs.Types.{types_agree-same}
 use Rattle.stream_model.specs.Machine as machine
 use Rattle.stream_model.specs.Machine.{Reply, Capacities, Refused}
 use Rattle.items.specs.declared.stream_items.Items.{Items}
@@ -40,11 +41,6 @@ marks_out tape xs (m ∷ ms) =
     let n = length tape + length xs in
     let out = le-ltb n n (omega arith) in
     rw out (and_left (nat_le (length tape) n && false) (list_all _ (map (plant.displaced n) ms)) (and_right (nat_le (length tape) n) false refl))
-
-agrees_with_itself : (t : ItemType) → machine.types_agree t t ≡ true
-agrees_with_itself Byte = refl
-agrees_with_itself Short = refl
-agrees_with_itself Int = refl
 
 -- what refuses a feed to a source, in this order: its tape is closed, there are marks, the tape would be too long
 abbrev judged : Bool → Bool → Bool → State → Reply × State → Reply × State
@@ -96,7 +92,7 @@ module _ (net : Network) (b : ℕ) (t : ItemType) (e : source_type_of net b ≡ 
       let is = source_typed net st b t e in
       let p = is.member in
       let q = is.source in
-      let r : machine.types_agree t (given_type net b) ≡ true = ap (machine.types_agree t) is.typed ∙ agrees_with_itself t in
+      let r : types_agree t (given_type net b) ≡ true = ap (types_agree t) is.typed ∙ (types_agree-same t t).1 refl in
       let m = marks_out (handed_at st.handed b).tape xs marks in
       rw (p, q, r, m) refl
 

@@ -12,8 +12,8 @@ ghost use Rattle.flow.specs.Session.{graph_of, in_state, block_of, feed_numbers,
 use block_kinds::Block;
 use executor::plant::LONGEST_TAPE;
 use executor::{BlockId, Closed, Fed, Need, Plant, PlantFault, Step};
-use items::{ItemFault, ItemType, Items, Mark};
-use script_text::{Command, Name, Reply};
+use items::{BlockName, ItemFault, ItemType, Items, Mark};
+use script_text::{Command, Reply};
 use std::alloc::{AllocError, Global};
 
 /// Makes the call that a command asks for, and gives its reply as a line.
@@ -48,7 +48,7 @@ pub fn answer<B: Block>(
 }
 
 // The number of the block of this name.
-fn find<B: Block>(plant: &Plant<B>, name: &Name) -> Option<BlockId>
+fn find<B: Block>(plant: &Plant<B>, name: &BlockName) -> Option<BlockId>
     ensures { option_map (λ block. block.0) result ≡ block_of (graph_of B.meaning plant.now) name.now }
 {
     let block = plant.graph().find(name.bytes())?;

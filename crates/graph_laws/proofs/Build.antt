@@ -9,7 +9,7 @@ use Rattle.std.proofs.lemmas.List.Elements.{All-nil, All-push, Contains-get_or}
 use Rattle.std.proofs.lemmas.List.Quantifiers.{all_pairs_push}
 use Rattle.std.proofs.lemmas.Slice.Eq.{bytes_eq-Decides}
 use Rattle.stream_model.specs.Network.{Node, Connection, Network, node_at, no_node, enters}
-use Rattle.stream_model.specs.Machine.{types_agree}
+use Rattle.stream_model.specs.Numbers.{types_agree}
 use Rattle.graph_model.specs.Graphs.{In, Out, has_port, signature_of, same_type, is_name, is_from_one, multiples, most_blocks, most_connections, most_capacity, IsGraph, GraphFault, DuplicateName, UnknownBlock, PortRange, InputTaken, TypeMismatch, TooLarge, BadName, BadMultiple, BadCapacity, unless, first_fault, add_fault, connect_fault}
 use Rattle.graph_laws.specs.Building.{empty, with_block, with_connection, BuildingKeeps}
 use Rattle.graph_laws.proofs.Members.{any_from}

@@ -8,7 +8,7 @@ use Rattle.stream_model.proofs.Streams.{elim-true, elim-false}
 use Rattle.stream_model.specs.Firings.{allowed}
 use Rattle.graph_model.specs.Rates.{least_of, greatest_of, count_by}
 use Rattle.graph_model.specs.Graphs.{interpolation, gain_by}
-use Rattle.stream_model.proofs.Streams.{map-agree}
+use Rattle.stream_model.proofs.Maps.{map-agree}
 use Rattle.graph_laws.specs.Tables.{to_block, AreCountsAt, AreGains, TablesCompute}
 use Rattle.graph_laws.proofs.Members.{from_filter, filter_test}
 

@@ -9,7 +9,8 @@ use Rattle.stream_model.specs.Network.{Network, Connection, node_at, role_at, is
 use Rattle.stream_model.specs.Firings.{allowed}
 use Rattle.stream_model.proofs.Firings.{allows}
 use Rattle.graph_model.specs.Rates.{least_of, count_by, count_after, AreCounts, Allow, CanCount, CountsAreGreatest}
-use Rattle.stream_model.proofs.Streams.{elim-true, elim-false, map-agree}
+use Rattle.stream_model.proofs.Maps.{map-agree}
+use Rattle.stream_model.proofs.Streams.{elim-true, elim-false}
 
 -- the least of a list
 fold_min-start : (start : ℕ) (xs : List ℕ) → fold min start xs ≤ start

@@ -14,7 +14,7 @@ use Rattle.stream_model.specs.Meaning.{HasCounts, IsShifted}
 use Rattle.stream_model.specs.Network.{Network, Connection, Node, IsSound, node_at, role_at, is_source, HasLevels, given_by}
 use Rattle.stream_model.specs.Firings.{takes, gives, taken_at, given_at, allowed_by, allowed}
 use Rattle.graph_model.specs.Rates.{takes_on, gives_on, least_of, count_after, CanCount, IsBalanced, is_past_skip, is_past_skips, CountsGrow}
-use Rattle.stream_model.proofs.Streams.{map-agree}
+use Rattle.stream_model.proofs.Maps.{map-agree}
 use Rattle.stream_model.proofs.Firings.{one_at}
 use Rattle.graph_model.proofs.FiringCounts.{to_block, Below, all_below, allowance, worker_unfolds, source_unfolds}
 

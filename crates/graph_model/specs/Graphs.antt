@@ -11,7 +11,7 @@ use Rattle.stream_model.specs.declared.vocabulary.Signature.{Signature}
 use Rattle.stream_model.specs.Lists.{below}
 use Rattle.stream_model.specs.Meaning.{Meaning}
 use Rattle.stream_model.specs.Network.{Node, Connection, Network, HasLevels, node_at, enters}
-use Rattle.stream_model.specs.Machine.{types_agree}
+use Rattle.stream_model.specs.Numbers.{types_agree}
 use Rattle.stream_model.specs.Firings.{given_at}
 use Rattle.graph_model.specs.Rates.{greatest_of}
 

@@ -24,7 +24,7 @@ pub(crate) fn read_blocks(
     let mut entries = Vec::new(alloc);
     for value in values {
         let table = table_of(value)?;
-        let name = read_name(alloc, table)?;
+        let name = read_name(table)?;
         if is_taken(&names, &name) {
             return Err(FileFault::Syntax);
         }
@@ -35,8 +35,8 @@ pub(crate) fn read_blocks(
     Ok((names, entries))
 }
 
-fn read_name(alloc: Global, table: &Table) -> Result<BlockName, FileFault> {
-    match BlockName::new(alloc, text_at(table, "name")?.as_bytes())? {
+fn read_name(table: &Table) -> Result<BlockName, FileFault> {
+    match BlockName::new(text_at(table, "name")?.as_bytes()) {
         Some(name) => Ok(name),
         None => Err(FileFault::Syntax),
     }

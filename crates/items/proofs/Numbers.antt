@@ -4,7 +4,7 @@ use Rattle.std.proofs.lemmas.List.{map-id, map-append}
 use Rattle.numbers.proofs.Mapped.{map_replicate}
 pub use Rattle.numbers.proofs.Mapped.{map_slice_range}
 
--- a signed lane is its number
+-- a signed number stands for itself
 pub map_same : (zs : List ℤ) → map (λ z. z) zs ≡ zs
 map_same zs = map-id zs
 

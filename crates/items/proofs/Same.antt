@@ -1,13 +1,12 @@
 -- What the test of equality says.
-use Rattle.std.proofs.Common.{◌≡◌, ℕ, Bool, true, false, ◌==◌, ◌&&◌, ◌↔◌, ◌∙◌, ap, sym, refl, List, [], ◌∷◌, map, IsTrue, nat_eq, pos, unsigned_abs, eq-eqb}
+use Rattle.std.proofs.Common.{◌≡◌, ℕ, Bool, true, false, ◌&&◌, ◌↔◌, ◌∙◌, ap, sym, refl, List, [], ◌∷◌, map, IsTrue, nat_eq, pos, unsigned_abs, eq-eqb}
 use Rattle.std.specs.Ordering.{int_eq}
 use Rattle.std.proofs.lemmas.Bool.Decides.{Decides-eqb}
 use Rattle.std.specs.Cmp.{first_so, second_so, signed_Decides}
 use Rattle.std.specs.Cmp.Lexicographic.{pointwise}
 use Rattle.std.specs.Cmp.Rules.{signed_items}
-use Rattle.stream_model.specs.Numbers.{bits_of}
-use Rattle.stream_model.specs.declared.vocabulary.ItemType.{ItemType}
-use Rattle.stream_model.specs.declared.vocabulary.ItemType.TheVariants.{Byte, Short, Int}
+use Rattle.stream_model.specs.Numbers.{types_agree}
+use Rattle.stream_model.proofs.Types.{types_agree-same}
 use Rattle.items.specs.declared.stream_items.Items.{Items}
 use Rattle.items.specs.Items.{type_of, numbers_of}
 use Rattle.items.specs.Equality.{items_eq}
@@ -31,34 +30,14 @@ bytes_eq_numbers [] (y ∷ ys) = refl
 bytes_eq_numbers (x ∷ xs) [] = refl
 bytes_eq_numbers (x ∷ xs) (y ∷ ys) = λ i. byte_eq_number x y i && bytes_eq_numbers xs ys i
 
--- a type is told by its bits
-type_from_bits : (s t : ItemType) → (bits_of s == bits_of t) ≡ true → s ≡ t
-type_from_bits Byte Byte e = refl
-type_from_bits Byte Short e = cc
-type_from_bits Byte Int e = cc
-type_from_bits Short Byte e = cc
-type_from_bits Short Short e = refl
-type_from_bits Short Int e = cc
-type_from_bits Int Byte e = cc
-type_from_bits Int Short e = cc
-type_from_bits Int Int e = refl
-
-bits_itself : (t : ItemType) → (bits_of t == bits_of t) ≡ true
-bits_itself Byte = refl
-bits_itself Short = refl
-bits_itself Int = refl
-
 both_so : (s t : Bool) → s ≡ true → t ≡ true → (s && t) ≡ true
 both_so s t p q i = p i && q i
 
 -- the test is true exactly where type and numbers are equal
 pub items_eq_decides : (a b : Items) (r : Bool) → r ≡ items_eq a b → IsTrue r ↔ ((type_of a ≡ type_of b) × (numbers_of a ≡ numbers_of b))
-items_eq_decides a b r e = (
-  (λ t. let s = sym e ∙ t in (
-    type_from_bits (type_of a) (type_of b) (first_so (bits_of (type_of a) == bits_of (type_of b)) (pointwise int_eq (numbers_of a) (numbers_of b)) s),
-    (signed_items (numbers_of a) (numbers_of b)).0 (second_so (bits_of (type_of a) == bits_of (type_of b)) (pointwise int_eq (numbers_of a) (numbers_of b)) s),
-  )),
-  (λ p. e ∙ both_so (bits_of (type_of a) == bits_of (type_of b)) (pointwise int_eq (numbers_of a) (numbers_of b))
-      (ap (λ t. bits_of (type_of a) == bits_of t) (sym p.0) ∙ bits_itself (type_of a))
-      ((signed_items (numbers_of a) (numbers_of b)).1 p.1)),
-)
+items_eq_decides a b r e =
+    let types : Bool = types_agree (type_of a) (type_of b) in
+    let numbers : Bool = pointwise int_eq (numbers_of a) (numbers_of b) in (
+      (λ t. let s = sym e ∙ t in ((types_agree-same (type_of a) (type_of b)).0 (first_so types numbers s), (signed_items (numbers_of a) (numbers_of b)).0 (second_so types numbers s))),
+      (λ p. e ∙ both_so types numbers ((types_agree-same (type_of a) (type_of b)).1 p.0) ((signed_items (numbers_of a) (numbers_of b)).1 p.1)),
+    )

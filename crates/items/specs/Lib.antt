@@ -3,3 +3,4 @@ pub mod Fault
 pub mod Items
 pub mod Name
 pub mod Padded
+pub mod Tags

@@ -1,11 +1,12 @@
 //! Items of one type, in order.
 ghost use Rattle.std.specs.Prelude.{◌≡◌, ◌+◌, ◌^◌, ◌<◌, ◌≤◌, ◌↔◌, ◌⊎◌, pos, [], ◌++◌, length, replicate, slice_range, slice_index_or, IsTrue, IsOk, IsErrOf, IfOk, OnOk, OnErr};
-ghost use Rattle.stream_model.specs.Numbers.{IsItem, AreItems, least_of, greatest_of};
+ghost use Rattle.stream_model.specs.Numbers.{IsItem, AreItems};
 ghost use Rattle.items.specs.Items.{type_of, numbers_of, spare_of};
 
 use crate::ItemFault;
 use numbers::Number;
-use numbers::vectors::{append, append_copies, are_in_range, narrowed};
+use numbers::range::is_item;
+use numbers::vectors::{append, append_copies, are_in_range, copied, narrowed};
 use std::alloc::{AllocError, Global};
 use stream_model::ItemType;
 
@@ -21,35 +22,35 @@ pub enum Items {
 }
 
 // A match on items, where each arm does the same with its own vector.
-macro_rules! on_lanes {
-    ($items:expr, $lanes:ident => $body:expr) => {
+macro_rules! on_type {
+    ($items:expr, $values:ident => $body:expr) => {
         match $items {
-            Items::Byte($lanes) => $body,
-            Items::Short($lanes) => $body,
-            Items::Int($lanes) => $body,
+            Items::Byte($values) => $body,
+            Items::Short($values) => $body,
+            Items::Int($values) => $body,
         }
     };
 }
 
 // A match on two values of one type, and what stands for it where the types differ.
-macro_rules! on_same_lanes {
-    ($items:expr, $other:expr, ($lanes:ident, $more:ident) => $body:expr, $differ:expr) => {
+macro_rules! on_same_type {
+    ($items:expr, $other:expr, ($values:ident, $more:ident) => $body:expr, $differ:expr) => {
         match ($items, $other) {
-            (Items::Byte($lanes), Items::Byte($more)) => $body,
-            (Items::Short($lanes), Items::Short($more)) => $body,
-            (Items::Int($lanes), Items::Int($more)) => $body,
+            (Items::Byte($values), Items::Byte($more)) => $body,
+            (Items::Short($values), Items::Short($more)) => $body,
+            (Items::Int($values), Items::Int($more)) => $body,
             _ => $differ,
         }
     };
 }
 
 // The same, where each arm makes items of the same type.
-macro_rules! like_lanes {
-    ($items:expr, $lanes:ident => $body:expr) => {
+macro_rules! like_type {
+    ($items:expr, $values:ident => $body:expr) => {
         match $items {
-            Items::Byte($lanes) => Items::Byte($body),
-            Items::Short($lanes) => Items::Short($body),
-            Items::Int($lanes) => Items::Int($body),
+            Items::Byte($values) => Items::Byte($body),
+            Items::Short($values) => Items::Short($body),
+            Items::Int($values) => Items::Int($body),
         }
     };
 }
@@ -84,6 +85,7 @@ impl Items {
         ensures range { IsErrOf result ItemFault.ItemRange ↔ (¬ AreItems t numbers.now) }
         ensures in_range { OnOk result (AreItems t numbers.now) }
         ensures memory { IsErrOf result ItemFault.Memory → AreItems t numbers.now }
+        ensures nothing { numbers.now ≡ [] → IsOk result }
     {
         if !fit(t, numbers) {
             return Err(ItemFault::ItemRange);
@@ -107,7 +109,7 @@ impl Items {
         ensures value { result ≡ length (numbers_of self.now) }
         ensures small { result < 2 ^ 63 }
     {
-        on_lanes!(self, lanes => lanes.len())
+        on_type!(self, values => values.len())
     }
 
     /// Whether there is no item.
@@ -122,7 +124,7 @@ impl Items {
         ensures value { result ≡ spare_of self.now }
         ensures small { length (numbers_of self.now) + result < 2 ^ 63 }
     {
-        on_lanes!(self, lanes => lanes.capacity() - lanes.len())
+        on_type!(self, values => values.capacity() - values.len())
     }
 
     /// The number at place `n`, where the first is 0.
@@ -131,14 +133,14 @@ impl Items {
         ensures value { result ≡ slice_index_or (numbers_of self.now) n (pos 0) }
         ensures in_range { IsItem (type_of self.now) result }
     {
-        on_lanes!(self, lanes => lanes[n].widen())
+        on_type!(self, values => values[n].widen())
     }
 
     /// Each number is in the range of the items' type. The call is there for what its contract says.
     pub fn in_range(&self)
         ensures { AreItems (type_of self.now) (numbers_of self.now) }
     {
-        on_lanes!(self, lanes => are_in_range(lanes))
+        on_type!(self, values => are_in_range(values))
     }
 
     /// Makes room for `n` more items. It fails only where the allocator refuses.
@@ -151,7 +153,7 @@ impl Items {
         ensures succeeds { n ≤ spare_of self.old → IsOk result }
         ensures err { OnErr result (spare_of self.new ≡ spare_of self.old) }
     {
-        on_lanes!(self, lanes => lanes.reserve(n))
+        on_type!(self, values => values.reserve(n))
     }
 
     /// Appends the items of `other`. It takes no memory.
@@ -160,9 +162,9 @@ impl Items {
         requires room { length (numbers_of other.now) ≤ spare_of self.old }
         ensures item_type { type_of self.new ≡ type_of self.old }
         ensures numbers { numbers_of self.new ≡ numbers_of self.old ++ numbers_of other.now }
-        ensures spare { spare_of self.new + length (numbers_of other.now) ≡ spare_of self.old }
+        ensures spare { spare_of self.old ≤ spare_of self.new + length (numbers_of other.now) }
     {
-        on_same_lanes!(self, other, (lanes, more) => append(lanes, more), unreachable!())
+        on_same_type!(self, other, (values, more) => append(values, more), unreachable!())
     }
 
     /// Appends the items of `other` from place `from` to below place `to`. It takes no memory.
@@ -174,20 +176,20 @@ impl Items {
         requires room { to ≤ spare_of self.old + from }
         ensures item_type { type_of self.new ≡ type_of self.old }
         ensures numbers { numbers_of self.new ≡ numbers_of self.old ++ slice_range (numbers_of other.now) from to }
-        ensures spare { spare_of self.new + to ≡ spare_of self.old + from }
+        ensures spare { spare_of self.old + from ≤ spare_of self.new + to }
     {
-        on_same_lanes!(self, other, (lanes, more) => append(lanes, &more[from..to]), unreachable!())
+        on_same_type!(self, other, (values, more) => append(values, &more[from..to]), unreachable!())
     }
 
-    /// Appends `n` zeros. It takes no memory.
+    /// Appends `n` zeros, which may be written over. It takes no memory.
     #[tactic(auto, using(crate::proofs::Numbers::map_push_copies))]
     pub fn push_zeros(&mut self, n: usize)
         requires { n ≤ spare_of self.old }
         ensures item_type { type_of self.new ≡ type_of self.old }
         ensures numbers { numbers_of self.new ≡ numbers_of self.old ++ replicate n (pos 0) }
-        ensures spare { spare_of self.new + n ≡ spare_of self.old }
+        ensures spare { spare_of self.old ≤ spare_of self.new + n }
     {
-        on_lanes!(self, lanes => append_copies(lanes, n, 0))
+        on_type!(self, values => append_copies(values, n, 0))
     }
 
     /// A copy of the items from place `from` to below place `to`. `ItemRange` comes before any memory
@@ -198,11 +200,12 @@ impl Items {
         ensures numbers { IfOk result (λ items. numbers_of items ≡ slice_range (numbers_of self.now) from to) }
         ensures range { IsErrOf result ItemFault.ItemRange ↔ ((to < from) ⊎ (length (numbers_of self.now) < to)) }
         ensures within { OnOk result ((from ≤ to) × (to ≤ length (numbers_of self.now))) }
+        ensures nothing { from ≡ to → to ≤ length (numbers_of self.now) → IsOk result }
     {
         if to < from || self.len() < to {
             return Err(ItemFault::ItemRange);
         }
-        Ok(like_lanes!(self, lanes => Vec::from_slice(alloc, &lanes[from..to])?))
+        Ok(like_type!(self, values => copied(alloc, &values[from..to])?))
     }
 
     /// Drops each item and keeps the memory.
@@ -211,19 +214,7 @@ impl Items {
         ensures numbers { numbers_of self.new ≡ [] }
         ensures spare { spare_of self.new ≡ spare_of self.old + length (numbers_of self.old) }
     {
-        on_lanes!(self, lanes => lanes.clear())
-    }
-}
-
-// The ends of the type's range.
-fn ends(t: ItemType) -> (i64, i64)
-    ensures least { result.0 ≡ least_of t }
-    ensures greatest { result.1 ≡ greatest_of t }
-{
-    match t {
-        ItemType::Byte => (0, 255),
-        ItemType::Short => (-32_768, 32_767),
-        ItemType::Int => (-2_147_483_648, 2_147_483_647),
+        on_type!(self, values => values.clear())
     }
 }
 
@@ -231,8 +222,7 @@ fn ends(t: ItemType) -> (i64, i64)
 fn fit(t: ItemType, numbers: &[i64]) -> bool
     ensures { IsTrue result ↔ AreItems t numbers.now }
 {
-    let (least, greatest) = ends(t);
-    numbers.iter().all(|n| least <= *n && *n <= greatest)
+    numbers.iter().all(|n| is_item(t, *n))
 }
 
 impl PartialEq for Items {
@@ -249,7 +239,7 @@ impl PartialEq for Items {
         ensures value { result ≡ items_eq self.now other.now }
         ensures exact { IsTrue result ↔ ((type_of self.now ≡ type_of other.now) × (numbers_of self.now ≡ numbers_of other.now)) }
     {
-        on_same_lanes!(self, other, (lanes, more) => lanes == more, false)
+        on_same_type!(self, other, (values, more) => values == more, false)
     }
 }
 

@@ -1,71 +1,54 @@
 //! Each kernel as the plain loop that its definition suggests: the measuring stick.
 ghost use Rattle.std.specs.Prelude.{◌≡◌, ◌+◌, ◌≤◌, length};
 
-use crate::item::{Item, Element};
-use numbers::Number;
-use num_traits::{PrimInt, WrappingAdd, WrappingMul};
+use crate::item::Item;
 
-pub fn add_wrap<T: WrappingAdd + Copy>(a: &[T], b: &[T], out: &mut [T])
+/// What a kernel makes of two numbers, before the low bits are kept.
+#[derive(Clone, Copy)]
+pub enum Operation {
+    First,
+    Sum,
+    Product,
+    And,
+    Or,
+    Xor,
+}
+
+/// The operation on each two items.
+#[inline(always)]
+pub fn zip<T: Item>(operation: Operation, a: &[T], b: &[T], out: &mut [T])
     requires b_length { length b.now ≡ length a.now }
     requires out_length { length out.old ≡ length a.now }
 {
     for i in 0..a.len() {
-        out[i] = a[i].wrapping_add(&b[i]);
+        out[i] = T::wrapped(apply(operation, a[i].widen(), b[i].widen()));
     }
 }
 
-pub fn add_const_wrap<T: WrappingAdd + Copy>(a: &[T], c: T, out: &mut [T])
+/// The operation on each item and `c`.
+#[inline(always)]
+pub fn map<T: Item, U: Item>(operation: Operation, a: &[T], c: i64, out: &mut [U])
     requires { length out.old ≡ length a.now }
 {
     for i in 0..a.len() {
-        out[i] = a[i].wrapping_add(&c);
+        out[i] = U::wrapped(apply(operation, a[i].widen(), c));
     }
 }
 
-pub fn mul_wrap<T: WrappingMul + Copy>(a: &[T], c: T, out: &mut [T])
-    requires { length out.old ≡ length a.now }
-{
-    for i in 0..a.len() {
-        out[i] = a[i].wrapping_mul(&c);
+// A caller names `operation`, so that no loop looks at it.
+#[inline(always)]
+fn apply(operation: Operation, a: i64, b: i64) -> i64 {
+    match operation {
+        Operation::First => a,
+        Operation::Sum => a.wrapping_add(b),
+        Operation::Product => a.wrapping_mul(b),
+        Operation::And => a & b,
+        Operation::Or => a | b,
+        Operation::Xor => a ^ b,
     }
 }
 
-pub fn and<T: PrimInt>(a: &[T], b: &[T], out: &mut [T])
-    requires b_length { length b.now ≡ length a.now }
-    requires out_length { length out.old ≡ length a.now }
-{
-    for i in 0..a.len() {
-        out[i] = a[i] & b[i];
-    }
-}
-
-pub fn or<T: PrimInt>(a: &[T], b: &[T], out: &mut [T])
-    requires b_length { length b.now ≡ length a.now }
-    requires out_length { length out.old ≡ length a.now }
-{
-    for i in 0..a.len() {
-        out[i] = a[i] | b[i];
-    }
-}
-
-pub fn xor<T: PrimInt>(a: &[T], b: &[T], out: &mut [T])
-    requires b_length { length b.now ≡ length a.now }
-    requires out_length { length out.old ≡ length a.now }
-{
-    for i in 0..a.len() {
-        out[i] = a[i] ^ b[i];
-    }
-}
-
-pub fn not<T: PrimInt>(a: &[T], out: &mut [T])
-    requires { length out.old ≡ length a.now }
-{
-    for i in 0..a.len() {
-        out[i] = !a[i];
-    }
-}
-
-pub fn scale_sat<T: Number + Item>(a: &[T], factor: i16, shift: u32, out: &mut [T])
+pub fn scale_sat<T: Item>(a: &[T], factor: i16, shift: u32, out: &mut [T])
     requires in_range { shift ≤ 31 }
     requires out_length { length out.old ≡ length a.now }
 {
@@ -75,15 +58,7 @@ pub fn scale_sat<T: Number + Item>(a: &[T], factor: i16, shift: u32, out: &mut [
     }
 }
 
-pub fn convert<T: Number, U: Element>(a: &[T], out: &mut [U])
-    requires { length out.old ≡ length a.now }
-{
-    for i in 0..a.len() {
-        out[i] = U::wrapped(a[i].widen());
-    }
-}
-
-pub fn dot<T: Number>(h: &[i16], x: &[T]) -> i64
+pub fn dot<T: Item>(h: &[i16], x: &[T]) -> i64
     requires { length h.now ≡ length x.now }
 {
     let mut sum: i64 = 0;
@@ -93,7 +68,7 @@ pub fn dot<T: Number>(h: &[i16], x: &[T]) -> i64
     sum
 }
 
-pub fn fir_row<T: Number + Item>(h: &[i16], x: &[T], shift: u32, out: &mut [T])
+pub fn fir_row<T: Item>(h: &[i16], x: &[T], shift: u32, out: &mut [T])
     requires taps { 1 ≤ length h.now }
     requires lengths { length x.now + 1 ≡ length out.old + length h.now }
     requires in_range { shift ≤ 31 }
@@ -108,10 +83,10 @@ pub fn fir_row<T: Number + Item>(h: &[i16], x: &[T], shift: u32, out: &mut [T])
     }
 }
 
-pub fn pack_bits(k: usize, x: &[u8], out: &mut [u8])
+pub fn pack_bits(k: u32, x: &[u8], out: &mut [u8])
     requires { 1 ≤ k }
 {
-    for (byte, bits) in out.iter_mut().zip(x.chunks_exact(k)) {
+    for (byte, bits) in out.iter_mut().zip(x.chunks_exact(k as usize)) {
         let mut packed = 0;
         for bit in bits {
             packed = packed << 1 | *bit & 1;
@@ -121,11 +96,12 @@ pub fn pack_bits(k: usize, x: &[u8], out: &mut [u8])
 }
 
 pub fn unpack_bits(k: u32, x: &[u8], out: &mut [u8])
-    requires least { 1 ≤ k }
-    requires most { k ≤ 8 }
+    requires { 1 ≤ k }
 {
     for (bits, byte) in out.chunks_exact_mut(k as usize).zip(x) {
-        for (place, bit) in (0..k).rev().zip(bits) {
+        let mut place = k;
+        for bit in bits {
+            place = place.wrapping_sub(1);
             *bit = byte.wrapping_shr(place) & 1;
         }
     }

@@ -1,244 +1,204 @@
 //! The table: a row for each kernel, type and length.
 ghost use Rattle.std.specs.Prelude.{◌≤◌, ◌<◌};
 
-use crate::contests::*;
-use crate::item::{Item, Element};
-use crate::measure::{SPARE, Times, best_times, noise};
+use crate::contest::{Row, noise, print_contest};
+use crate::contests::{Differences, Dot, Fir, Items, Kernel, Narrow, Pack, Unpack, Widen};
+use crate::item::Item;
 use lane_filters::FilterLane;
 use lane_kernels::{NarrowsTo, SimdLane, WidensTo};
 use std::io;
 
-const LENGTHS: [u32; 4] = [16, 64, 1024, 65536];
+const KERNELS: [(Kernel, &str); 8] = [
+    (Kernel::AddWrap, "add_wrap"),
+    (Kernel::AddConstWrap, "add_const_wrap"),
+    (Kernel::MulWrap, "mul_wrap"),
+    (Kernel::ScaleSat(-181, 7), "scale_sat"),
+    (Kernel::And, "and"),
+    (Kernel::Or, "or"),
+    (Kernel::Xor, "xor"),
+    (Kernel::Not, "not"),
+];
 
 /// Prints each row once it is measured.
 pub fn print_table(rt: &HostRuntime) -> io::Result<()> {
     println!(rt; "kernel         type             length   M items/s  plain loop   ratio")?;
-    for length in LENGTHS {
-        sample_rows::<u8>(rt, length)?;
-        sample_rows::<i16>(rt, length)?;
-        sample_rows::<i32>(rt, length)?;
-        conversion_rows(rt, length)?;
-        bit_rows(rt, length)?;
-        difference_rows(rt, length)?;
-    }
-    dot_rows(rt, 64)?;
-    dot_rows(rt, 256)?;
-    for length in LENGTHS {
-        fir_rows(rt, 64, length)?;
-        fir_rows(rt, 256, length)?;
+    print_rows(rt, 16)?;
+    print_rows(rt, 64)?;
+    print_rows(rt, 1024)?;
+    print_rows(rt, 65536)?;
+    print_dots(rt, 64)?;
+    print_dots(rt, 256)?;
+    print_firs(rt, 16)?;
+    print_firs(rt, 64)?;
+    print_firs(rt, 1024)?;
+    print_firs(rt, 65536)
+}
+
+fn print_rows(rt: &HostRuntime, length: u32) -> io::Result<()>
+    requires { 0 < length }
+{
+    print_items::<u8>(rt, "byte", length)?;
+    print_items::<i16>(rt, "short", length)?;
+    print_items::<i32>(rt, "int", length)?;
+    print_widened::<u8, i16>(rt, "byte short", length)?;
+    print_widened::<u8, i32>(rt, "byte int", length)?;
+    print_widened::<i16, i32>(rt, "short int", length)?;
+    print_narrowed::<i16, u8>(rt, "short byte", length)?;
+    print_narrowed::<i32, u8>(rt, "int byte", length)?;
+    print_narrowed::<i32, i16>(rt, "int short", length)?;
+    print_bytes(rt, length)
+}
+
+// The kernels of one type.
+fn print_items<T: SimdLane + Item + Default + PartialEq>(
+    rt: &HostRuntime,
+    item: &str,
+    length: u32,
+) -> io::Result<()>
+    requires { 0 < length }
+{
+    for (kernel, name) in KERNELS {
+        let row = Row {
+            kernel: name,
+            item,
+            length,
+        };
+        print_item::<T>(rt, row, kernel)?;
     }
     Ok(())
 }
 
-// The kernels of one type.
-fn sample_rows<T: Sample>(rt: &HostRuntime, length: u32) -> io::Result<()> {
-    let count = length as usize;
-    let other = noise::<T>(rt.alloc(), count)?;
-    let b = other.as_slice();
-    let c = T::wrapped(85);
-    let at = Case::new(T::NAME, length);
-    row(rt, "add_wrap", at, &AddWrap { b }, count, count)?;
-    row(rt, "add_const_wrap", at, &AddConst { c }, count, count)?;
-    row(rt, "mul_wrap", at, &Mul { c }, count, count)?;
-    row::<T, T, Scale>(rt, "scale_sat", at, &Scale::new(-181, 7), count, count)?;
-    row(rt, "and", at, &And { b }, count, count)?;
-    row(rt, "or", at, &Or { b }, count, count)?;
-    row(rt, "xor", at, &Xor { b }, count, count)?;
-    row::<T, T, Not>(rt, "not", at, &Not, count, count)
-}
-
-fn conversion_rows(rt: &HostRuntime, length: u32) -> io::Result<()> {
-    widen_row::<u8, i16>(rt, "byte short", length)?;
-    widen_row::<u8, i32>(rt, "byte int", length)?;
-    widen_row::<i16, i32>(rt, "short int", length)?;
-    narrow_row::<i16, u8>(rt, "short byte", length)?;
-    narrow_row::<i32, u8>(rt, "int byte", length)?;
-    narrow_row::<i32, i16>(rt, "int short", length)
-}
-
-fn widen_row<T: WidensTo<U> + Element, U: Sample>(
+fn print_item<T: SimdLane + Item + Default + PartialEq>(
     rt: &HostRuntime,
-    item: &str,
-    length: u32,
-) -> io::Result<()> {
-    let count = length as usize;
-    row::<T, U, Widen>(rt, "widen", Case::new(item, length), &Widen, count, count)
-}
-
-fn narrow_row<T: NarrowsTo<U> + Element, U: Sample>(
-    rt: &HostRuntime,
-    item: &str,
-    length: u32,
-) -> io::Result<()> {
-    let count = length as usize;
-    row::<T, U, Narrow>(rt, "narrow", Case::new(item, length), &Narrow, count, count)
-}
-
-fn bit_rows(rt: &HostRuntime, length: u32) -> io::Result<()> {
-    let count = length as usize;
-    row(
-        rt,
-        "pack_bits",
-        Case::new("byte k=8", length),
-        &Pack { k: 8 },
-        8 * count,
-        count,
-    )?;
-    row(
-        rt,
-        "pack_bits",
-        Case::new("byte k=2", length),
-        &Pack { k: 2 },
-        2 * count,
-        count,
-    )?;
-    row(
-        rt,
-        "unpack_bits",
-        Case::new("byte k=8", length),
-        &Unpack { k: 8 },
-        count,
-        8 * count,
-    )?;
-    row(
-        rt,
-        "unpack_bits",
-        Case::new("byte k=2", length),
-        &Unpack { k: 2 },
-        count,
-        2 * count,
-    )
-}
-
-fn difference_rows(rt: &HostRuntime, length: u32) -> io::Result<()> {
-    let count = length as usize;
-    row(
-        rt,
-        "diff_decode",
-        Case::new("byte m=4", length),
-        &Differences { m: 4 },
-        count,
-        count,
-    )?;
-    row(
-        rt,
-        "diff_decode",
-        Case::new("byte m=3", length),
-        &Differences { m: 3 },
-        count,
-        count,
-    )
-}
-
-fn dot_rows(rt: &HostRuntime, count: u32) -> io::Result<()>
-    requires { count ≤ 256 }
-{
-    let length = count;
-    let count = count as usize;
-    let h = noise::<i16>(rt.alloc(), count)?;
-    let taps = h.as_slice();
-    row(
-        rt,
-        "dot_i16",
-        Case::new("short", length),
-        &DotShort { taps },
-        count,
-        1,
-    )?;
-    row(
-        rt,
-        "dot_i32",
-        Case::new("int", length),
-        &DotInt { taps },
-        count,
-        1,
-    )
-}
-
-fn fir_rows(rt: &HostRuntime, taps: u32, length: u32) -> io::Result<()>
-    requires least { 1 ≤ taps }
-    requires most { taps ≤ 256 }
-{
-    fir_row::<i16>(rt, taps, length)?;
-    fir_row::<i32>(rt, taps, length)
-}
-
-fn fir_row<T: FilterLane + Item>(rt: &HostRuntime, taps: u32, length: u32) -> io::Result<()>
-    requires least { 1 ≤ taps }
-    requires most { taps ≤ 256 }
-{
-    let h = noise::<i16>(rt.alloc(), taps as usize)?;
-    let item = format!(in rt.alloc(); "{} {taps} taps", T::NAME)?;
-    let case = Case::new(item.as_str(), length);
-    let output = length as usize;
-    row::<T, T, FirRow>(
-        rt,
-        "fir_row",
-        case,
-        &FirRow { taps: h.as_slice() },
-        output + taps as usize - 1,
-        output,
-    )
-}
-
-// A row of a table.
-#[derive(Clone, Copy)]
-struct Case<'a> {
-    item: &'a str,
-    length: u32,
-}
-
-impl<'a> Case<'a> {
-    fn new(item: &'a str, length: u32) -> Case<'a> {
-        Case { item, length }
-    }
-}
-
-// Measures at an input and an output of so many items, and prints the row.
-fn row<T: Element, U: Element, C: Contest<T, U>>(
-    rt: &HostRuntime,
-    kernel: &str,
-    case: Case,
-    contest: &C,
-    input: usize,
-    output: usize,
+    row: Row,
+    kernel: Kernel,
 ) -> io::Result<()>
-    requires small { input < 68719476736 }
-    requires fits { C.fits contest.now input output }
+    requires { 0 < row.length }
 {
-    let items = noise::<T>(rt.alloc(), input + SPARE)?;
-    let mut kernel_out = noise::<U>(rt.alloc(), output)?;
-    let mut plain_out = noise::<U>(rt.alloc(), output)?;
-    let best = best_times(
-        rt,
-        contest,
-        items.as_slice(),
-        kernel_out.as_mut_slice(),
-        plain_out.as_mut_slice(),
-    )?;
-    let agree = kernel_out.as_slice() == plain_out.as_slice();
-    print_row(rt, kernel, case, best, agree)
+    let count = row.length as usize;
+    let y = noise::<T>(rt.alloc(), count)?;
+    let items = Items {
+        kernel,
+        y: y.as_slice(),
+    };
+    print_contest(rt, row, &items, count, count)
 }
 
-fn print_row(
-    rt: &impl Print,
-    kernel: &str,
-    case: Case,
-    best: Times,
-    agree: bool,
+fn print_widened<T: WidensTo<U> + Item, U: SimdLane + Item + Default + PartialEq>(
+    rt: &HostRuntime,
+    item: &str,
+    length: u32,
 ) -> io::Result<()> {
-    let Case { item, length } = case;
-    let items = u64::from(best.calls) * u64::from(length);
-    let kernel_rate = millions_per_second(items, best.kernel);
-    let plain_rate = millions_per_second(items, best.plain);
-    let percent = best.plain.saturating_mul(100) / best.kernel.max(1);
-    let (whole, part) = (percent / 100, percent % 100);
-    let remark = if agree { "" } else { " differs" };
-    println!(rt;
-        "{kernel:<14} {item:<16} {length:>8} {kernel_rate:>11} {plain_rate:>11} {whole:>4}.{part:02}{remark}"
-    )
+    let row = Row {
+        kernel: "widen",
+        item,
+        length,
+    };
+    print_contest::<T, U, Widen>(rt, row, &Widen, length as usize, length as usize)
 }
 
-fn millions_per_second(items: u64, nanoseconds: u64) -> u64 {
-    items.saturating_mul(1000) / nanoseconds.max(1)
+fn print_narrowed<T: NarrowsTo<U> + Item, U: SimdLane + Item + Default + PartialEq>(
+    rt: &HostRuntime,
+    item: &str,
+    length: u32,
+) -> io::Result<()> {
+    let row = Row {
+        kernel: "narrow",
+        item,
+        length,
+    };
+    print_contest::<T, U, Narrow>(rt, row, &Narrow, length as usize, length as usize)
+}
+
+fn print_bytes(rt: &HostRuntime, length: u32) -> io::Result<()> {
+    let count = length as usize;
+    let row = Row {
+        kernel: "pack_bits",
+        item: "byte k=8",
+        length,
+    };
+    print_contest(rt, row, &Pack { k: 8 }, 8 * count, count)?;
+    let row = Row {
+        kernel: "pack_bits",
+        item: "byte k=2",
+        length,
+    };
+    print_contest(rt, row, &Pack { k: 2 }, 2 * count, count)?;
+    let row = Row {
+        kernel: "unpack_bits",
+        item: "byte k=8",
+        length,
+    };
+    print_contest(rt, row, &Unpack { k: 8 }, count, 8 * count)?;
+    let row = Row {
+        kernel: "unpack_bits",
+        item: "byte k=2",
+        length,
+    };
+    print_contest(rt, row, &Unpack { k: 2 }, count, 2 * count)?;
+    let row = Row {
+        kernel: "diff_decode",
+        item: "byte m=4",
+        length,
+    };
+    print_contest(rt, row, &Differences { m: 4 }, count, count)?;
+    let row = Row {
+        kernel: "diff_decode",
+        item: "byte m=3",
+        length,
+    };
+    print_contest(rt, row, &Differences { m: 3 }, count, count)
+}
+
+fn print_dots(rt: &HostRuntime, length: u32) -> io::Result<()>
+    requires { length ≤ 256 }
+{
+    let taps = noise::<i16>(rt.alloc(), length as usize)?;
+    let dot = Dot {
+        taps: taps.as_slice(),
+    };
+    let row = Row {
+        kernel: "dot_i16",
+        item: "short",
+        length,
+    };
+    print_contest::<i16, i64, Dot>(rt, row, &dot, length as usize, 1)?;
+    let row = Row {
+        kernel: "dot_i32",
+        item: "int",
+        length,
+    };
+    print_contest::<i32, i64, Dot>(rt, row, &dot, length as usize, 1)
+}
+
+fn print_firs(rt: &HostRuntime, length: u32) -> io::Result<()> {
+    print_fir::<i16>(rt, "short 64 taps", length, 64)?;
+    print_fir::<i32>(rt, "int 64 taps", length, 64)?;
+    print_fir::<i16>(rt, "short 256 taps", length, 256)?;
+    print_fir::<i32>(rt, "int 256 taps", length, 256)
+}
+
+fn print_fir<T: FilterLane + Item + Default + PartialEq>(
+    rt: &HostRuntime,
+    item: &str,
+    length: u32,
+    taps: usize,
+) -> io::Result<()>
+    requires least { 1 ≤ taps }
+    requires most { taps ≤ 256 }
+{
+    let h = noise::<i16>(rt.alloc(), taps)?;
+    let row = Row {
+        kernel: "fir_row",
+        item,
+        length,
+    };
+    let count = length as usize;
+    print_contest::<T, T, Fir>(
+        rt,
+        row,
+        &Fir { taps: h.as_slice() },
+        count + taps - 1,
+        count,
+    )
 }

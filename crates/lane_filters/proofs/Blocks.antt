@@ -2,7 +2,7 @@
 use Rattle.std.proofs.Common.{◌≡◌, ℕ, ◌+◌, ◌-◌, ◌*◌, ◌<◌, ◌≤◌, ◌^◌, List, ◌++◌, map, take, drop, length, refl, ap, sym, subst, ◌∙◌, arith, ℤ, ◌+ℤ◌, ◌*ℤ◌, w16, w64}
 use lib.Lanes.{zip2, put_chunk}
 use mir.Val.{to_z, of_z}
-use Rattle.std.specs.List.{range_with_len, take-map, drop-map}
+use Rattle.std.specs.List.{range_with_len}
 use Rattle.std.proofs.lemmas.List.Elements.{All-take, All-drop}
 use Rattle.std.proofs.lemmas.List.{length-map, take_rest}
 use Rattle.std.proofs.lemmas.Simd.{take_more_put_chunk, length-zip2}
@@ -10,6 +10,7 @@ use Rattle.stream_model.specs.Kernels.{sum_below, listed}
 use Rattle.stream_model.specs.Numbers.{IsItem, AreItems, total, sat, rnd}
 use Rattle.stream_model.specs.declared.vocabulary.ItemType.{ItemType}
 use Rattle.stream_model.specs.declared.vocabulary.ItemType.TheVariants.{Short}
+use Rattle.numbers.proofs.Mapped.{map_part}
 use Rattle.lane_filters.specs.Words.{AreWithin, tap_sums, tap_product, output}
 use Rattle.lane_filters.proofs.Signed.{back, lanes_fit, nearer, sums_within}
 use Rattle.lane_filters.proofs.Products.{shorts_known}
@@ -44,7 +45,7 @@ module _ {X : Type 0} (number : X → ℤ) (h : List ℤ) (xs : List X) (i b : �
   taps = back w16 (take 8 (drop i h)) (shorts_known (take 8 (drop i h)) (part_known h i range)).own
 
   part : map number (take 8 (drop i xs)) ≡ take 8 (drop i (map number xs))
-  part = sym (ap (take 8) (drop-map number i xs) ∙ take-map number 8 (drop i xs))
+  part = map_part number i 8 xs
 
   -- eight more products are added to the sums
   pub dots_more : (sums prods res : List ℤ) → total sums ≡ sum_below i (tap_product h (map number xs)) → AreWithin (b * 2 ^ 46) sums → length sums ≡ 8

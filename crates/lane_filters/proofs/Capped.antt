@@ -8,11 +8,13 @@ use borrow.Table.Row.{s_int}
 use borrow.Rule.Simd.Lanes.{act2, act1, Asks1}
 use Rattle.std.proofs.lemmas.Int.{ints, to_z-of_z}
 use Rattle.std.proofs.lemmas.List.{map-id, length-map}
-use Rattle.std.proofs.lemmas.Simd.{tops_compared}
+use Rattle.std.proofs.lemmas.Simd.{map-map, tops_compared}
 use Rattle.stream_model.specs.Numbers.{sat}
 use Rattle.stream_model.specs.declared.vocabulary.ItemType.{ItemType}
 use Rattle.stream_model.specs.declared.vocabulary.ItemType.TheVariants.{Short, Int}
-use Rattle.lane_filters.proofs.Signed.{back, cast_asks, cast_is}
+use Rattle.numbers.proofs.Widths.{cast_asks}
+use Rattle.lane_filters.proofs.Signed.{back, cast_is}
+use Rattle.lane_filters.proofs.Lists.{map_same}
 
 picked : (b : Bool) (x y : ℤ) → cond b (of_z w64 x) (of_z w64 y) ≡ of_z w64 (cond b x y)
 picked true x y = refl
@@ -41,10 +43,6 @@ short_is z = grind (arith, ints)
 
 pub int_is : (z : ℤ) → lowered (pos 2147483647) (raised (negsuc 2147483647) z) ≡ sat Int z
 int_is z = grind (arith, ints)
-
-map_both : (f g k : ℤ → ℤ) → ((z : ℤ) → f (g z) ≡ k z) → (xs : List ℤ) → map f (map g xs) ≡ map k xs
-map_both f g k e [] = refl
-map_both f g k e (x ∷ xs) = rw (e x, map_both f g k e xs)
 
 raised_fits : (low : ℤ) (xs : List ℤ) → Each1 (SFits w64) xs → SFits w64 low → Each1 (SFits w64) (map (raised low) xs)
 raised_fits low [] h f = tt
@@ -91,7 +89,7 @@ module _ (t : ItemType) (v : Width) (low high : ℤ) (is : (z : ℤ) → lowered
       ap (λ ns. sel_l (map (top 63) (zip2 (act2 (mask (lt signed)) (s_int w64) (s_int w64) (s_int w64)) ns highs)) ns highs) up_is
       ∙ ap (λ ms. sel_l ms (map (of_z w64) (map (raised low) xs)) highs) (tops_compared w64 (λ a b. lt_z (to_z w64 a) (to_z w64 b)) (map (of_z w64) (map (raised low) xs)) highs)
       ∙ lower_to 8 high (map (raised low) xs) (length-map xs (raised low) ∙ long) (raised_fits low xs near f) g
-      ∙ ap (map (of_z w64)) (map_both (lowered high) (raised low) (sat t) is xs)
+      ∙ ap (map (of_z w64)) (map-map (lowered high) (raised low) xs ∙ map_same (λ z. lowered high (raised low z)) (sat t) is xs)
 
   pub capped_asks : Each1 (Asks1 (cast signed signed v) (s_int w64)) capped
   capped_asks = rw capped_is (cast_asks w64 v (map (sat t) xs) (sat_fits t w64 wide xs) (sat_fits t v fits xs))

@@ -8,11 +8,11 @@ use Rattle.std.proofs.lemmas.Int.{ints}
 use Rattle.std.proofs.lemmas.List.{map-append}
 use Rattle.stream_model.specs.Kernels.{sum_below, listed}
 use Rattle.stream_model.specs.Numbers.{total}
+use Rattle.stream_model.proofs.Maps.{map-agree}
 use Rattle.lane_filters.proofs.Signed.{abs_add}
 
 pub map_same : {X Y : Type 0} (f g : X → Y) → ((x : X) → f x ≡ g x) → (xs : List X) → map f xs ≡ map g xs
-map_same f g e [] = refl
-map_same f g e (x ∷ xs) = rw (e x, map_same f g e xs)
+map_same f g e xs = map-agree (λ x. Unit {0}) f g xs (λ k d lt. tt) (λ x h. e x)
 
 pub range_split : (a m k : ℕ) → range_with_len a (m + k) ≡ range_with_len a m ++ range_with_len (a + m) k
 range_split a zero k =

@@ -1,17 +1,17 @@
 -- Products of taps and items, lane by lane.
-use Rattle.std.proofs.Common.{◌≡◌, ℕ, ◌*◌, ◌<◌, ◌≤◌, ◌^◌, List, map, arith, w16, w32, w64, ℤ, pos, ◌*ℤ◌}
+use Rattle.std.proofs.Common.{◌≡◌, ℕ, ◌*◌, ◌<◌, ◌≤◌, ◌^◌, List, map, w16, w32, w64, ℤ, pos, ◌*ℤ◌}
 use lib.Lanes.{zip2, Each1, Each2}
 use mir.Syntax.{Width, mul, cast, signed}
 use mir.Val.{SFits, of_z, hbits}
 use borrow.Table.Row.{s_int}
 use borrow.Rule.Simd.Lanes.{act2, Asks2, act1, Asks1}
 use Rattle.std.specs.Int.RustNames.{unsigned_abs}
-use Rattle.std.proofs.lemmas.Int.{fits_signed_from_abs}
 use Rattle.std.proofs.lemmas.Simd.{Each1-weaker, Each1-zip2}
 use Rattle.stream_model.specs.Numbers.{IsItem, AreItems}
 use Rattle.stream_model.specs.declared.vocabulary.ItemType.TheVariants.{Short, Int}
+use Rattle.numbers.proofs.Widths.{short_near, short_fits, short_in_64, int_near, int_fits, int_in_64, cast_asks}
 use Rattle.lane_filters.specs.Words.{AreWithin}
-use Rattle.lane_filters.proofs.Signed.{each, short_fits, int_fits, short_near, int_near, fits_near, cast_asks, cast_is, mul_asks, mul_is, products_within, products_fit}
+use Rattle.lane_filters.proofs.Signed.{each, cast_is, mul_asks, mul_is, products_within, products_fit}
 
 -- what is known of lanes of one type, at its own width and at wider ones
 pub record Known (w v : Width) (most : ℕ) (xs : List ℤ) : Type 0 where
@@ -19,33 +19,21 @@ pub record Known (w v : Width) (most : ℕ) (xs : List ℤ) : Type 0 where
   pub wide : Each1 (SFits v) xs
   pub near : AreWithin most xs
 
-wide_32 : (z : ℤ) → unsigned_abs z ≤ 2 ^ 15 → SFits w32 z
-wide_32 z h = fits_signed_from_abs w32 z (omega arith)
-
-pub shorts_known : (xs : List ℤ) → AreItems Short xs → Known w16 w32 (2 ^ 15) xs
+pub shorts_known : (xs : List ℤ) → AreItems Short xs → Known w16 w64 (2 ^ 15) xs
 shorts_known xs h =
     let e = each (IsItem Short) (pos 0) xs h in
     record {
       own = Each1-weaker (IsItem Short) (SFits w16) short_fits xs e;
-      wide = Each1-weaker (IsItem Short) (SFits w32) (λ z k. wide_32 z (short_near z k)) xs e;
+      wide = Each1-weaker (IsItem Short) (SFits w64) short_in_64 xs e;
       near = Each1-weaker (IsItem Short) (λ z. unsigned_abs z ≤ 2 ^ 15) short_near xs e;
     }
 
-pub shorts_known_64 : (xs : List ℤ) → AreItems Short xs → Known w16 w64 (2 ^ 15) xs
-shorts_known_64 xs h =
-    let e = each (IsItem Short) (pos 0) xs h in
-    record {
-      own = Each1-weaker (IsItem Short) (SFits w16) short_fits xs e;
-      wide = Each1-weaker (IsItem Short) (SFits w64) (λ z k. let n : unsigned_abs z ≤ 2 ^ 15 = short_near z k in fits_near z (omega arith)) xs e;
-      near = Each1-weaker (IsItem Short) (λ z. unsigned_abs z ≤ 2 ^ 15) short_near xs e;
-    }
-
-pub ints_known_64 : (xs : List ℤ) → AreItems Int xs → Known w32 w64 (2 ^ 31) xs
-ints_known_64 xs h =
+pub ints_known : (xs : List ℤ) → AreItems Int xs → Known w32 w64 (2 ^ 31) xs
+ints_known xs h =
     let e = each (IsItem Int) (pos 0) xs h in
     record {
       own = Each1-weaker (IsItem Int) (SFits w32) int_fits xs e;
-      wide = Each1-weaker (IsItem Int) (SFits w64) (λ z k. let n : unsigned_abs z ≤ 2 ^ 31 = int_near z k in fits_near z (omega arith)) xs e;
+      wide = Each1-weaker (IsItem Int) (SFits w64) int_in_64 xs e;
       near = Each1-weaker (IsItem Int) (λ z. unsigned_abs z ≤ 2 ^ 31) int_near xs e;
     }
 

@@ -1,14 +1,14 @@
 -- Lanes that are divided by a power of two.
-use Rattle.std.proofs.Common.{◌≡◌, ℕ, zero, suc, ◌+◌, ◌-◌, ◌/◌, ◌≤◌, ◌^◌, ◌==◌, List, [], ◌∷◌, map, replicate, length, refl, ap, subst, sym, ◌∙◌, arith, Bool, true, false, cond, w64, ℤ, pos, negsuc, ◌+ℤ◌}
+use Rattle.std.proofs.Common.{◌≡◌, ℕ, zero, suc, ◌+◌, ◌/◌, ◌≤◌, ◌^◌, List, [], ◌∷◌, map, replicate, length, refl, ap, subst, sym, ◌∙◌, arith, w64, ℤ, pos, negsuc, ◌+ℤ◌}
 use lib.Lanes.{zip2, Each1, Each2}
 use lib.Signed.{shr_z, mag_shr}
 use mir.Syntax.{shr, add, signed}
 use mir.Val.{SFits, to_z, of_z}
 use borrow.Table.Row.{s_int}
 use borrow.Rule.Simd.Lanes.{act2, Asks2}
-use borrow.Author.Tests.{eqb-true}
-use Rattle.std.proofs.lemmas.Int.{ints, to_z-of_z}
-use Rattle.stream_model.specs.Numbers.{floor_div, rnd}
+use Rattle.std.proofs.lemmas.Int.{to_z-of_z}
+use Rattle.stream_model.specs.Numbers.{rnd}
+use Rattle.numbers.proofs.Rounding.{shifted_at_once}
 use Rattle.std.specs.Int.RustNames.{unsigned_abs}
 use Rattle.std.proofs.Math.Pow.{pow_mono}
 use Rattle.std.proofs.lemmas.List.{length-map}
@@ -26,36 +26,16 @@ pub shr_fits : (m : ℕ) (xs : List ℤ) → Each1 (SFits w64) xs → Each1 (SFi
 shr_fits m [] h = tt
 shr_fits m (x ∷ xs) h = (record { sfits = omega (arith, mag_shr x m, h.0) }, shr_fits m xs h.1)
 
-shr_floor : (z : ℤ) (m : ℕ) → shr_z z m ≡ floor_div z m
-shr_floor (pos n) m = refl
-shr_floor (negsuc n) m = refl
+pub rnd_is : (s : ℕ) (half z : ℤ) → half ≡ pos (2 ^ s / 2) → shr_z (z +ℤ half) (2 ^ s) ≡ rnd z s
+rnd_is s half z e = rw e (shifted_at_once z s (2 ^ s / 2) refl)
 
-one_down : (n : ℕ) → negsuc (n / 1) ≡ negsuc n
-one_down n = let e : n / 1 ≡ n = omega arith in ap negsuc e
-
-by_one : (z : ℤ) → floor_div z 1 ≡ z
-by_one (pos n) = let e : n / 1 ≡ n = omega arith in ap pos e
-by_one (negsuc n) = one_down n
-
-floor_one : (z : ℤ) → floor_div (z +ℤ pos 0) 1 ≡ z
-floor_one z = let e : z +ℤ pos 0 ≡ z = omega (arith, ints) in ap (λ y. floor_div y 1) e ∙ by_one z
-
-rnd_by : (b : Bool) (s : ℕ) (z : ℤ) → (s == 0) ≡ b → shr_z (z +ℤ cond b (pos 0) (pos (2 ^ (s - 1)))) (2 ^ s) ≡ cond b z (floor_div (z +ℤ pos (2 ^ (s - 1))) (2 ^ s))
-rnd_by true s z e =
-    let none : s ≡ 0 = omega (arith, eqb-true s 0 e) in
-    ap (λ k. shr_z (z +ℤ pos 0) (2 ^ k)) none ∙ shr_floor (z +ℤ pos 0) 1 ∙ floor_one z
-rnd_by false s z e = shr_floor (z +ℤ pos (2 ^ (s - 1))) (2 ^ s)
-
-pub rnd_is : (s : ℕ) (half z : ℤ) → half ≡ cond (s == 0) (pos 0) (pos (2 ^ (s - 1))) → shr_z (z +ℤ half) (2 ^ s) ≡ rnd z s
-rnd_is s half z e = rw e (rnd_by (s == 0) s z refl)
-
-pub rnds_are : (s : ℕ) (half : ℤ) → half ≡ cond (s == 0) (pos 0) (pos (2 ^ (s - 1))) → (xs : List ℤ)
+pub rnds_are : (s : ℕ) (half : ℤ) → half ≡ pos (2 ^ s / 2) → (xs : List ℤ)
     → map (λ z. shr_z z (2 ^ s)) (map (λ z. z +ℤ half) xs) ≡ map (λ z. rnd z s) xs
 rnds_are s half e [] = refl
 rnds_are s half e (x ∷ xs) = rw (rnd_is s half x e, rnds_are s half e xs)
 
-pub half_near : (s : ℕ) (half : ℤ) → s ≤ 31 → half ≡ cond (s == 0) (pos 0) (pos (2 ^ (s - 1))) → unsigned_abs half ≤ 2 ^ 60
-half_near s half le e = rw e (elim (s == 0) as (λ b. unsigned_abs (cond b (pos 0) (pos (2 ^ (s - 1)))) ≤ 2 ^ 60) [ true ↦ omega arith | false ↦ pow_mono {j = 60} (omega arith) ])
+pub half_near : (s : ℕ) (half : ℤ) → s ≤ 31 → half ≡ pos (2 ^ s / 2) → unsigned_abs half ≤ 2 ^ 60
+half_near s half le e = rw e (let p : 2 ^ s ≤ 2 ^ 60 = pow_mono {j = 60} (omega arith) in omega arith)
 
 abs_shr : (z : ℤ) (m : ℕ) → unsigned_abs (shr_z z m) ≤ unsigned_abs z
 abs_shr (pos n) m = mag_shr (pos n) m
@@ -65,7 +45,7 @@ shr_within : (k m : ℕ) (xs : List ℤ) → AreWithin k xs → AreWithin k (map
 shr_within k m [] h = tt
 shr_within k m (x ∷ xs) h = (omega (arith, abs_shr x m, h.0), shr_within k m xs h.1)
 
-module _ (s : ℕ) (half : ℤ) (xs : List ℤ) (le : s ≤ 31) (is : half ≡ cond (s == 0) (pos 0) (pos (2 ^ (s - 1)))) (long : length xs ≡ 8) (near : AreWithin (2 ^ 60) xs) where
+module _ (s : ℕ) (half : ℤ) (xs : List ℤ) (le : s ≤ 31) (is : half ≡ pos (2 ^ s / 2)) (long : length xs ≡ 8) (near : AreWithin (2 ^ 60) xs) where
   halves : AreWithin (2 ^ 60) (replicate 8 half)
   halves = Each1-replicate (λ z. unsigned_abs z ≤ 2 ^ 60) 8 half (half_near s half le is)
 

@@ -1,16 +1,15 @@
 -- Operations on vectors of signed numbers, as lists of the numbers.
-use Rattle.std.proofs.Common.{◌≡◌, ℕ, ◌+◌, ◌*◌, ◌<◌, ◌≤◌, ◌^◌, List, [], ◌∷◌, map, length, refl, ap, ◌∙◌, arith, w16, w32, w64, ℤ, pos, negsuc, ◌+ℤ◌, ◌*ℤ◌, All, true}
+use Rattle.std.proofs.Common.{◌≡◌, ℕ, ◌+◌, ◌*◌, ◌<◌, ◌≤◌, ◌^◌, List, [], ◌∷◌, map, length, refl, ap, ◌∙◌, arith, w16, w32, w64, ℤ, ◌+ℤ◌, ◌*ℤ◌, All, true}
 use lib.Lanes.{zip2, Each1, Each2, Steps, fold_l}
 use mir.Syntax.{Width, w8, w128, add, mul, cast, signed}
 use mir.Val.{SFits, to_z, of_z, hbits, eq_w}
 use borrow.Table.Row.{s_int}
-use borrow.Rule.Simd.Lanes.{act2, Asks2, act1, Asks1}
+use borrow.Rule.Simd.Lanes.{act2, Asks2, act1}
 use Rattle.std.specs.Int.RustNames.{unsigned_abs}
 use Rattle.std.proofs.lemmas.Int.{ints, to_z-of_z, fits_signed_from_abs, unsigned_abs-mul}
 use Rattle.std.proofs.lemmas.Simd.{Each1-from_get_or, Each1-weaker}
 use Rattle.std.proofs.Math.Nat.{mul-le-mul}
-use Rattle.stream_model.specs.Numbers.{IsItem, total}
-use Rattle.stream_model.specs.declared.vocabulary.ItemType.TheVariants.{Short, Int}
+use Rattle.stream_model.specs.Numbers.{total}
 use Rattle.lane_filters.specs.Words.{AreWithin}
 
 pub abs_add : (x y : ℤ) → unsigned_abs (x +ℤ y) ≤ unsigned_abs x + unsigned_abs y
@@ -30,30 +29,12 @@ nearer m n xs le h = Each1-weaker (λ z. unsigned_abs z ≤ m) (λ z. unsigned_a
 pub each : {X : Type 0} (P : X → Type 0) (d : X) (xs : List X) → All P xs → Each1 P xs
 each P d xs h = Each1-from_get_or P xs d (λ i lt. h i d lt)
 
-pub short_fits : (z : ℤ) → IsItem Short z → SFits w16 z
-short_fits (pos n) h = record { sfits = omega (arith, ints, h.above, h.below) }
-short_fits (negsuc n) h = record { sfits = omega (arith, ints, h.above, h.below) }
-
-pub int_fits : (z : ℤ) → IsItem Int z → SFits w32 z
-int_fits (pos n) h = record { sfits = omega (arith, ints, h.above, h.below) }
-int_fits (negsuc n) h = record { sfits = omega (arith, ints, h.above, h.below) }
-
-pub short_near : (z : ℤ) → IsItem Short z → unsigned_abs z ≤ 2 ^ 15
-short_near z h = omega (arith, ints, h.above, h.below)
-
-pub int_near : (z : ℤ) → IsItem Int z → unsigned_abs z ≤ 2 ^ 31
-int_near z h = omega (arith, ints, h.above, h.below)
-
 -- the numbers that bits stand for
 pub back : (w : Width) (xs : List ℤ) → Each1 (SFits w) xs → map (to_z w) (map (of_z w) xs) ≡ xs
 back w [] h = refl
 back w (x ∷ xs) h = let f = h.0 in rw (to_z-of_z w x f, back w xs h.1)
 
 -- a cast to a width that each number fits
-pub cast_asks : (w v : Width) (xs : List ℤ) → Each1 (SFits w) xs → Each1 (SFits v) xs → Each1 (Asks1 (cast signed signed v) (s_int w)) (map (of_z w) xs)
-cast_asks w v [] h k = tt
-cast_asks w v (x ∷ xs) h k = (rw (to_z-of_z w x h.0) k.0, cast_asks w v xs h.1 k.1)
-
 pub cast_is : (w v : Width) (xs : List ℤ) → Each1 (SFits w) xs → map (act1 (cast signed signed v) (s_int w) (s_int v)) (map (of_z w) xs) ≡ map (of_z v) xs
 cast_is w v [] h = refl
 cast_is w v (x ∷ xs) h = rw (to_z-of_z w x h.0, cast_is w v xs h.1)

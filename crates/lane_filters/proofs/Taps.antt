@@ -2,7 +2,7 @@
 use Rattle.std.proofs.Common.{◌≡◌, ℕ, zero, suc, ◌+◌, ◌-◌, ◌*◌, ◌<◌, ◌≤◌, ◌^◌, List, [], ◌∷◌, map, take, drop, replicate, get_or, length, ap, sym, subst, ◌∙◌, arith, ℤ, pos, negsuc, ◌+ℤ◌, ◌*ℤ◌, w16, w64}
 use lib.Lanes.{zip2}
 use Rattle.std.specs.Int.RustNames.{unsigned_abs}
-use Rattle.std.specs.List.{range_with_len, take-map, drop-map}
+use Rattle.std.specs.List.{range_with_len}
 use mir.Val.{to_z, of_z, SFits}
 use Rattle.std.proofs.lemmas.Int.{ints, unsigned_abs-mul, to_z-of_z}
 use Rattle.std.proofs.lemmas.List.{length-map, take_rest}
@@ -12,8 +12,10 @@ use Rattle.stream_model.specs.Kernels.{sum_below}
 use Rattle.stream_model.specs.Numbers.{IsItem, AreItems}
 use Rattle.stream_model.specs.declared.vocabulary.ItemType.{ItemType}
 use Rattle.stream_model.specs.declared.vocabulary.ItemType.TheVariants.{Byte, Short, Int}
+use Rattle.numbers.proofs.Mapped.{map_part}
+use Rattle.numbers.proofs.Widths.{short_fits}
 use Rattle.lane_filters.specs.Words.{AreWithin, tap_sum, tap_sums}
-use Rattle.lane_filters.proofs.Signed.{back, lanes_fit, nearer, short_fits, sums_within, fits_near, abs_add}
+use Rattle.lane_filters.proofs.Signed.{back, lanes_fit, nearer, sums_within, fits_near, abs_add}
 use Rattle.lane_filters.proofs.Lists.{map_same, sum_more, part_items, zip_number}
 
 pub item_near : (t : ItemType) (z : ℤ) → IsItem t z → unsigned_abs z ≤ 2 ^ 31
@@ -31,7 +33,7 @@ tap_more number h xs at j lt room =
     let vs = range_with_len at 8 in
     let tap = get_or h j (pos 0) in
     let long : at + c + 8 ≤ length x = omega (arith, length-map xs number) in
-    let part : map number (take 8 (drop (at + c) xs)) ≡ take 8 (drop (at + c) x) = sym (ap (take 8) (drop-map number (at + c) xs) ∙ take-map number 8 (drop (at + c) xs)) in
+    let part : map number (take 8 (drop (at + c) xs)) ≡ take 8 (drop (at + c) x) = map_part number (at + c) 8 xs in
     let lanes : zip2 (λ a b. a *ℤ number b) (replicate 8 tap) (take 8 (drop (at + c) xs)) ≡ map (λ n. tap *ℤ get_or x (n + c) (pos 0)) vs =
     zip_number number (replicate 8 tap) (take 8 (drop (at + c) xs)) ∙ ap (zip2 (λ a b. a *ℤ b) (replicate 8 tap)) part ∙ part_items tap x at c 8 long in
     let place : (n : ℕ) → n + c ≡ n + length h - 1 - j = λ n. omega arith in

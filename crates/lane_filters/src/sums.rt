@@ -1,5 +1,5 @@
 //! Sums in lanes.
-ghost use Rattle.std.specs.Prelude.{◌≡◌, ◌+◌, ◌-◌, ◌≤◌, ◌^◌, ◌+ℤ◌, ◌*ℤ◌, pos, ◌==◌, if◌then◌else◌, map};
+ghost use Rattle.std.specs.Prelude.{◌≡◌, ◌+◌, ◌/◌, ◌≤◌, ◌^◌, ◌+ℤ◌, ◌*ℤ◌, pos, map};
 ghost use Rattle.std.specs.Int.RustNames.{unsigned_abs};
 ghost use Rattle.std.specs.Simd.Lanes.{zip2};
 ghost use Rattle.stream_model.specs.Numbers.{rnd, total};
@@ -40,9 +40,9 @@ pub(crate) fn with_product<T: Number>(sum: i64, tap: i16, item: T) -> i64
 #[inline(always)]
 fn half_of(shift: u32) -> i64
     requires { shift ≤ 31 }
-    ensures { result ≡ (if shift == 0 then pos 0 else pos (2 ^ (shift - 1))) }
+    ensures { result ≡ pos (2 ^ shift / 2) }
 {
-    if shift == 0 { 0 } else { 1 << (shift - 1) }
+    i64::from((1u32 << shift) / 2)
 }
 
 /// The sum over `2 ^ shift`, a half upwards.

@@ -8,8 +8,9 @@ use Rattle.std.proofs.lemmas.Nat.{and_mask, and_le_r}
 use mir.Val.{bits, hbits}
 use Rattle.stream_model.specs.Numbers.{IsItem, wrap, residue}
 use Rattle.stream_model.specs.declared.vocabulary.ItemType.TheVariants.{Byte, Short, Int}
-use Rattle.lane_kernels.proofs.Products.{signed_back, short_in_int}
-use Rattle.lane_kernels.proofs.Wrapped.{short_lanes, int_lanes, byte_below, centred_short, read}
+use Rattle.numbers.proofs.Widths.{byte_below, short_in_32}
+use Rattle.lane_kernels.proofs.Products.{signed_back}
+use Rattle.lane_kernels.proofs.Wrapped.{short_lanes, int_lanes, centred_short, read}
 
 -- ---- to wider lanes
 
@@ -20,7 +21,7 @@ pub byte_to_int : (x : ℕ) → IsItem Byte (pos x) → to_z w32 x ≡ wrap Int 
 byte_to_int x p = read w32 Int int_lanes x (omega (arith, byte_below x p))
 
 pub short_to_int : (z : ℤ) → IsItem Short z → to_z w32 (of_z w32 (to_z w16 (of_z w16 z))) ≡ wrap Int z
-short_to_int z p = signed_back w16 w32 Short short_lanes.fits short_in_int z p ∙ sym (int_lanes.wraps z ∙ int_wrap_fits w32 z (short_in_int z p))
+short_to_int z p = signed_back w16 w32 Short short_lanes.fits short_in_32 z p ∙ sym (int_lanes.wraps z ∙ int_wrap_fits w32 z (short_in_32 z p))
 
 -- ---- to bytes
 

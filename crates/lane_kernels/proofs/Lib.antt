@@ -4,7 +4,6 @@ pub mod Lanes
 pub mod Listed
 pub mod Parts
 pub mod Products
-pub mod Rounding
 pub mod Scaled
 pub mod SignedLanes
 pub mod Wrapped

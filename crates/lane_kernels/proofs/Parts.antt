@@ -1,10 +1,11 @@
 -- What holds of a list of items, from what holds of its parts.
 use Rattle.std.proofs.Common.{◌≡◌, ℕ, zero, suc, ◌+◌, ◌≤◌, ◌∙◌, ap, sym, refl, arith, List, [], ◌∷◌, ◌++◌, length, map, take, drop, ℤ}
 use Rattle.std.specs.Simd.Lanes.{zip2}
-use Rattle.std.proofs.lemmas.List.{take-map, drop-map, take_all, take-take, length-map, length-take-le, length-drop, map-append, length-append}
+use Rattle.std.proofs.lemmas.List.{take-map, take_all, take-take, length-map, length-take-le, length-drop, map-append, length-append}
 use Rattle.std.proofs.lemmas.Slice.{take-put_mid}
 use Rattle.std.proofs.lemmas.Simd.{length-zip2}
 use borrow.Rule.Slice.PartMut.{put_mid}
+use Rattle.numbers.proofs.Mapped.{map_part}
 
 pub take-zip2 : {X Y Z : Type 0} (f : X → Y → Z) (n : ℕ) (xs : List X) (ys : List Y) → take n (zip2 f xs ys) ≡ zip2 f (take n xs) (take n ys)
 take-zip2 f zero xs ys = refl
@@ -42,16 +43,12 @@ cut_zip number f k longer a longer' b made new begins begins' is e =
 
 -- what is made of a part is the part of what is made
 pub part_map : {X : Type 0} (number : X → ℤ) (f : ℤ → ℤ) (at n : ℕ) (a : List X) → map f (map number (take n (drop at a))) ≡ take n (drop at (map f (map number a)))
-part_map number f at n a =
-    ap (map f) (sym (take-map number n (drop at a)) ∙ ap (take n) (sym (drop-map number at a)))
-    ∙ sym (take-map f n (drop at (map number a))) ∙ ap (take n) (sym (drop-map f at (map number a)))
+part_map number f at n a = ap (map f) (map_part number at n a) ∙ map_part f at n (map number a)
 
 pub part_zip : {X : Type 0} (number : X → ℤ) (f : ℤ → ℤ → ℤ) (at n : ℕ) (a b : List X) → length b ≡ length a
     → zip2 f (map number (take n (drop at a))) (map number (take n (drop at b))) ≡ take n (drop at (zip2 f (map number a) (map number b)))
-part_zip {X} number f at n a b e =
-    let part : (xs : List X) → map number (take n (drop at xs)) ≡ take n (drop at (map number xs)) =
-    λ xs. sym (take-map number n (drop at xs)) ∙ ap (take n) (sym (drop-map number at xs)) in
-    (λ i. zip2 f (part a i) (part b i)) ∙ sym (take-zip2 f n (drop at (map number a)) (drop at (map number b)))
+part_zip number f at n a b e =
+    (λ i. zip2 f (map_part number at n a i) (map_part number at n b i)) ∙ sym (take-zip2 f n (drop at (map number a)) (drop at (map number b)))
     ∙ ap (take n) (sym (drop-zip2 f at (map number a) (map number b) (length-map a number ∙ sym e ∙ sym (length-map b number))))
 
 take_two : {X : Type 0} (n m : ℕ) (xs : List X) → take (n + m) xs ≡ take n xs ++ take m (drop n xs)

@@ -8,14 +8,14 @@ use Rattle.std.proofs.lemmas.List.{length-map, take_all}
 use Rattle.std.proofs.lemmas.List.Elements.{All-head, All-tail, All-nil, All-cons}
 use Rattle.std.proofs.Math.Nat.{mul-le-mul_left, mul-le-mul_right}
 use Rattle.std.specs.Int.Signed.{mag, non_neg}
-use Rattle.std.proofs.lemmas.Simd.{put_chunk_whole, map-map}
+use Rattle.std.proofs.lemmas.Simd.{put_chunk_whole, map-map, Each1-from_get_or}
 use mir.Val.{bits, hbits}
 use Rattle.stream_model.specs.Numbers.{IsItem, sat, rnd, least_of, greatest_of}
 use Rattle.stream_model.specs.Kernels.{scaled}
 use Rattle.stream_model.specs.declared.vocabulary.ItemType.{ItemType}
 use Rattle.stream_model.specs.declared.vocabulary.ItemType.TheVariants.{Byte, Short, Int}
 use Rattle.lane_kernels.specs.Blocks.{IsBlock, IsWithin, clamped}
-use Rattle.lane_kernels.proofs.Wrapped.{short_lanes, int_lanes, byte_below}
+use Rattle.numbers.proofs.Widths.{byte_below, short_near, short_fits, short_in_32, int_near, int_fits, int_in_64, cast_asks}
 
 pub All-map : {X Y : Type 0} (R : X → Type 0) (Q : Y → Type 0) (f : X → Y) → ((x : X) → R x → Q (f x)) → (xs : List X) → All R xs → All Q (map f xs)
 All-map R Q f each [] p = All-nil Q
@@ -84,26 +84,30 @@ byte_wide = record {
 
 pub short_wide : Widened Short w32 (λ (z : ℤ). z) (λ z. of_z w32 (to_z w16 (of_z w16 z))) (2 ^ 15)
 short_wide = record {
-  is_cast = λ z p. ap (of_z w32) (to_z-of_z w16 z (short_lanes.fits z p));
-  within = λ z p. omega (arith, abs-le-mag z, (short_lanes.fits z p).sfits);
-  one = λ z p. record { sfits = omega (arith, (short_lanes.fits z p).sfits) };
+  is_cast = λ z p. ap (of_z w32) (to_z-of_z w16 z (short_fits z p));
+  within = short_near;
+  one = short_in_32;
   wide = omega arith;
   long = omega arith;
 }
 
 pub int_wide : Widened Int w64 (λ (z : ℤ). z) (λ z. of_z w64 (to_z w32 (of_z w32 z))) (2 ^ 31)
 int_wide = record {
-  is_cast = λ z p. ap (of_z w64) (to_z-of_z w32 z (int_lanes.fits z p));
-  within = λ z p. omega (arith, abs-le-mag z, (int_lanes.fits z p).sfits);
-  one = λ z p. record { sfits = omega (arith, (int_lanes.fits z p).sfits) };
+  is_cast = λ z p. ap (of_z w64) (to_z-of_z w32 z (int_fits z p));
+  within = int_near;
+  one = int_in_64;
   wide = omega arith;
   long = omega arith;
 }
 
+-- items, one by one
+items_each : (Q : ℤ → Type 0) (t : ItemType) → ((z : ℤ) → IsItem t z → Q z) → (zs : List ℤ) → All (IsItem t) zs → Each1 Q zs
+items_each Q t each zs p = Each1-from_get_or Q zs (pos 0) (λ i lt. each _ (p i (pos 0) lt))
+
 -- a cast between signed lanes is defined where both widths hold the numbers
 pub cast_signed_asks : (w w' : Width) (t : ItemType) → ((z : ℤ) → IsItem t z → SFits w z) → ((z : ℤ) → IsItem t z → SFits w' z)
     → (zs : List ℤ) → All (IsItem t) zs → Each1 (λ u. SFits w' (to_z w u)) (map (of_z w) zs)
-cast_signed_asks w w' t from to = Each1-map (IsItem t) (λ u. SFits w' (to_z w u)) (of_z w) (λ z p. subst (SFits w') (sym (to_z-of_z w z (from z p))) (to z p))
+cast_signed_asks w w' t from to zs p = cast_asks w w' zs (items_each (SFits w) t from zs p) (items_each (SFits w') t to zs p)
 
 byte_number : (z : ℤ) → IsItem Byte z → SFits w32 z × T (non_neg z) × Fits w8 (unsigned_abs z)
 byte_number (pos n) p = (record { sfits = omega (arith, byte_below n p) }, tt, record { fits = byte_below n p })
@@ -160,9 +164,3 @@ byte_back (negsuc n) p = absurd (omega (arith, ints, p.above))
 pub signed_back : (w w' : Width) (t : ItemType) → ((z : ℤ) → IsItem t z → SFits w z) → ((z : ℤ) → IsItem t z → SFits w' z)
     → (z : ℤ) → IsItem t z → to_z w' (of_z w' (to_z w (of_z w z))) ≡ z
 signed_back w w' t from to z p = ap (λ y. to_z w' (of_z w' y)) (to_z-of_z w z (from z p)) ∙ to_z-of_z w' z (to z p)
-
-pub short_in_int : (z : ℤ) → IsItem Short z → SFits w32 z
-short_in_int z p = short_wide.one z p
-
-pub int_in_wide : (z : ℤ) → IsItem Int z → SFits w64 z
-int_in_wide z p = int_wide.one z p

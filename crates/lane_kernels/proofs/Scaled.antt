@@ -1,20 +1,19 @@
 -- The lanes that are shifted, raised by a half, shifted again and clamped hold rounded and saturated quotients.
-use Rattle.std.proofs.Common.{◌≡◌, ℕ, zero, suc, ◌+◌, ◌-◌, ◌*◌, ◌/◌, ◌%◌, ◌^◌, ◌<◌, ◌≤◌, ◌∙◌, min, Bool, true, false, cond, ap, refl, subst, arith, List, [], ◌∷◌, map, length, replicate, ℤ, pos, negsuc, ◌+ℤ◌, ◌≤ℤ◌, of_z, to_z, SFits, mod-eq_of_lt, unsigned_abs, inl, inr}
+use Rattle.std.proofs.Common.{◌≡◌, ℕ, zero, suc, ◌+◌, ◌-◌, ◌/◌, ◌%◌, ◌^◌, ◌<◌, ◌≤◌, ◌∙◌, min, Bool, true, false, cond, ap, refl, subst, arith, List, [], ◌∷◌, map, length, replicate, ℤ, pos, negsuc, ◌+ℤ◌, ◌≤ℤ◌, of_z, to_z, SFits, unsigned_abs, inl, inr}
 use Rattle.std.specs.Int.{Width}
 use Rattle.std.specs.Int.Signed.{mag, shr_z, mag_shr, lt_z}
 use Rattle.std.specs.List.{All}
 use Rattle.std.proofs.lemmas.Int.{ints, to_z-of_z, wrapping_add_is, int_wrap_fits}
 use Rattle.std.proofs.lemmas.Bool.{cases_lt}
 use Rattle.std.proofs.lemmas.List.{length-map}
-use Rattle.std.proofs.Math.Pow.{pow-lt}
 use Rattle.std.proofs.lemmas.Simd.{map-map}
-use Rattle.std.proofs.lemmas.List.Elements.{All-head, All-tail}
 use lib.Lanes.{zip2, sel_l, top}
 use mir.Val.{bits, hbits}
 use Rattle.stream_model.specs.Numbers.{floor_div, rnd}
+use Rattle.stream_model.proofs.Maps.{map-agree}
 use Rattle.lane_kernels.specs.Blocks.{IsWithin, clamped}
 use Rattle.lane_kernels.proofs.Lanes.{map_of_bits}
-use Rattle.lane_kernels.proofs.Rounding.{shr_floors, rounds, rounds_at_once, below_zero, from_zero}
+use Rattle.numbers.proofs.Rounding.{shr_floors, rounds, shifted_at_once, below_zero, from_zero}
 
 module _ (w : Width) where
   abbrev pub shift : ℕ → ℕ → ℕ
@@ -89,10 +88,6 @@ chosen : {w : Width} (t : Bool) (x y : ℤ) → SFits w x → SFits w y → SFit
 chosen true x y p q = p
 chosen false x y p q = q
 
-mapped_where : {X Y : Type 0} (R : X → Type 0) (f g : X → Y) → ((x : X) → R x → f x ≡ g x) → (xs : List X) → All R xs → map f xs ≡ map g xs
-mapped_where R f g same [] p = refl
-mapped_where R f g same (x ∷ xs) p = λ i. same x (All-head R x xs p) i ∷ mapped_where R f g same xs (All-tail R x xs p) i
-
 -- the lane u of a number holds the quotient y
 pub record IsQuotient (w : Width) (u : ℕ) (y : ℤ) : Type 0 where
   pub is : u ≡ of_z w y
@@ -126,8 +121,7 @@ module _ (w : Width) (s : ℕ) (bound : ℕ) where
       let y = shr_z (z +ℤ pos half) (2 ^ s) in
       let fy : SFits w y = record { sfits = omega (arith, fs.sfits, mag_shr (z +ℤ pos half) (2 ^ s)) } in
       let sum : to_z w (raise w (of_z w z) half) ≡ z +ℤ pos half = wrapping_add_is w z (pos half) fz fh ∙ int_wrap_fits w (z +ℤ pos half) fs in
-      let rounded : y ≡ rnd z s =
-      shr_floors (z +ℤ pos half) (2 ^ s) ∙ ap (λ k. floor_div (z +ℤ pos k) (2 ^ s)) is_half ∙ rounds_at_once z s in
+      let rounded : y ≡ rnd z s = shifted_at_once z s half is_half in
       record { is = (λ i. of_z w (shr_z (sum i) (2 ^ s))) ∙ ap (of_z w) rounded; fits = subst (SFits w) rounded fy }
 
 module _ (w : Width) (tops : (t : Bool) → top (hbits w) (cond t (2 ^ bits w - 1) zero) ≡ t) (least greatest : ℤ)
@@ -167,7 +161,7 @@ module _ (w : Width) (tops : (t : Bool) → top (hbits w) (cond t (2 ^ bits w - 
       ∙ ap (map (to_z w)) (ended_lanes w lo hi n (map q us) (length-map us q ∙ long))
       ∙ ap (map (to_z w)) (map-map (λ v. at_most w lo hi (at_least w lo hi v)) q us)
       ∙ map_of_bits (of_z w) (to_z w) (λ u. at_most w lo hi (at_least w lo hi (q u))) zs
-      ∙ mapped_where R _ _ (λ z r. ended_lane (q (of_z w z)) (rnd z s) (lane z r)) zs p
+      ∙ map-agree R _ _ zs p (λ z r. ended_lane (q (of_z w z)) (rnd z s) (lane z r))
 
 pub tops_32 : (t : Bool) → top 31 (cond t (2 ^ 32 - 1) zero) ≡ t
 tops_32 true = refl
@@ -176,9 +170,3 @@ tops_32 false = refl
 pub tops_64 : (t : Bool) → top 63 (cond t (2 ^ 64 - 1) zero) ≡ t
 tops_64 true = refl
 tops_64 false = refl
-
-pub half_of : (s : ℕ) → s ≤ 31 → 1 * 2 ^ s % 2 ^ 32 / 2 ≡ 2 ^ s / 2
-half_of s le =
-    let small : 2 ^ s < 2 ^ 32 = (let lt : s < 32 = omega arith in pow-lt lt) in
-    let one : 1 * 2 ^ s ≡ 2 ^ s = omega arith in
-    ap (λ p. p % 2 ^ 32 / 2) one ∙ ap (λ p. p / 2) (mod-eq_of_lt small)

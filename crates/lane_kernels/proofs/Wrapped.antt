@@ -3,12 +3,13 @@ use Rattle.std.proofs.Common.{◌≡◌, ℕ, ◌+◌, ◌-◌, ◌*◌, ◌%◌
 use Rattle.std.specs.Int.{Width, int_wrap}
 use mir.Val.{bits}
 use Rattle.std.specs.Prelude.{bit_xor}
-use Rattle.std.proofs.lemmas.Int.{ints, wrapping_add_is, wrapping_mul_is}
+use Rattle.std.proofs.lemmas.Int.{wrapping_add_is, wrapping_mul_is}
 use Rattle.std.proofs.lemmas.Nat.{and_le_l, or_lt, xor_lt}
 use Rattle.stream_model.specs.Numbers.{IsItem, wrap, centred, numbers_in}
 use Rattle.stream_model.specs.Kernels.{bits_in, turned}
 use Rattle.stream_model.specs.declared.vocabulary.ItemType.{ItemType}
 use Rattle.stream_model.specs.declared.vocabulary.ItemType.TheVariants.{Byte, Short, Int}
+use Rattle.numbers.proofs.Widths.{byte_below, short_fits, int_fits}
 use Rattle.lane_kernels.specs.Blocks.{joined}
 
 -- op keeps numbers below 2 ^ k below it
@@ -58,14 +59,6 @@ unfolding int_wrap
 wrap_int (pos n) = centred_int (n % 4294967296)
 wrap_int (negsuc n) = centred_int (4294967296 - 1 - n % 4294967296)
 
-fits_short : (z : ℤ) → IsItem Short z → SFits w16 z
-fits_short (pos n) h = record { sfits = omega (arith, ints, h.above, h.below) }
-fits_short (negsuc n) h = record { sfits = omega (arith, ints, h.above, h.below) }
-
-fits_int : (z : ℤ) → IsItem Int z → SFits w32 z
-fits_int (pos n) h = record { sfits = omega (arith, ints, h.above, h.below) }
-fits_int (negsuc n) h = record { sfits = omega (arith, ints, h.above, h.below) }
-
 bits_short : (z : ℤ) → SFits w16 z → bits_in Short z ≡ of_z w16 z
 bits_short (pos n) h = omega (arith, h.sfits)
 bits_short (negsuc n) h = omega (arith, h.sfits)
@@ -83,10 +76,10 @@ below_int (pos n) h = omega (arith, h.sfits)
 below_int (negsuc n) h = omega (arith, h.sfits)
 
 pub short_lanes : Holds w16 Short
-short_lanes = record { wraps = wrap_short; fits = fits_short; is_bits = bits_short; below = below_short; numbers = refl }
+short_lanes = record { wraps = wrap_short; fits = short_fits; is_bits = bits_short; below = below_short; numbers = refl }
 
 pub int_lanes : Holds w32 Int
-int_lanes = record { wraps = wrap_int; fits = fits_int; is_bits = bits_int; below = below_int; numbers = refl }
+int_lanes = record { wraps = wrap_int; fits = int_fits; is_bits = bits_int; below = below_int; numbers = refl }
 
 module _ (w : Width) (t : ItemType) (h : Holds w t) where
   -- bits that are read as a number of the type
@@ -108,9 +101,6 @@ module _ (w : Width) (t : ItemType) (h : Holds w t) where
   turned_bits x p = read ((2 ^ bits w - 1) - of_z w x) (omega (arith, h.below x p)) ∙ sym (λ i. wrap t (pos (h.numbers i - 1 - h.is_bits x p i)))
 
 -- ---- bytes
-
-pub byte_below : (x : ℕ) → IsItem Byte (pos x) → x < 256
-byte_below x h = omega (arith, ints, h.above, h.below)
 
 pub joined_bytes : (op : ℕ → ℕ → ℕ) → Keeps op 8 → (x y : ℕ) → IsItem Byte (pos x) → IsItem Byte (pos y) → pos (op x y) ≡ joined op Byte (pos x) (pos y)
 joined_bytes op k x y p q =

@@ -10,7 +10,7 @@ use Rattle.stream_model.specs.Settings.{Value}
 use Rattle.stream_model.specs.Network.{Network, Connection, Handed, Progress, State, no_progress, node_at, handed_at, progress_at, role_at, is_source, is_keeper, writers_of, items_of, entering, fires, given_by}
 use Rattle.stream_model.specs.Claims.{Decision, IsDone, IsBusy, Ends, Fires, LacksItems, LacksRoom, decide}
 use Rattle.stream_model.specs.Machine.{Capacities, Call, Feed, Close, Set, Claim, Commit, Abandon, Read, Job, Reply, Claimed, Late, Taken, with_progress, with_handed, counts_of, claimed_by, claim_of, is_in_flight, commit_of, abandon_of, read_of, close_of, set_of, set_wanted, place_setting, is_wanted, floor_of, next, commit_claimed}
-use Rattle.stream_model.proofs.Streams.{map-agree}
+use Rattle.stream_model.proofs.Maps.{map-agree}
 use Rattle.stream_laws.specs.CanRun.{CanRun}
 use Rattle.stream_laws.proofs.Writers.{entering-source, entering-worker}
 use Rattle.stream_laws.proofs.Later.{items-length}

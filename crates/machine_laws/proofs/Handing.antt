@@ -15,7 +15,8 @@ use Rattle.stream_model.specs.Meaning.{IsWanted, AreWanted}
 use Rattle.stream_model.specs.Settings.{Value, Number, Taps, Held}
 use Rattle.stream_model.specs.Tags.{Tag, Mark}
 use Rattle.stream_model.specs.Network.{Network, Handed, State, nothing_handed, node_at, handed_at, role_at, is_source}
-use Rattle.stream_model.specs.Machine.{Capacities, Reply, with_handed, with_tape, tag_of, marks_fit, longest_tape, types_agree, feed_of, close_of, set_of, set_wanted, place_setting, is_wanted, floor_of}
+use Rattle.stream_model.specs.Numbers.{types_agree}
+use Rattle.stream_model.specs.Machine.{Capacities, Reply, with_handed, with_tape, tag_of, marks_fit, longest_tape, feed_of, close_of, set_of, set_wanted, place_setting, is_wanted, floor_of}
 use Rattle.stream_model.proofs.Streams.{beginning_refl}
 use Rattle.machine_laws.specs.Sound.{IsHandedWell, Sound}
 use Rattle.machine_laws.proofs.Choices.{if_both, not_false}

@@ -9,7 +9,8 @@ use Rattle.stream_model.specs.declared.vocabulary.Wanted.{Wanted}
 use Rattle.stream_model.specs.Settings.{Value, Held}
 use Rattle.stream_model.specs.Tags.{Tag, Mark}
 use Rattle.stream_model.specs.Network.{Network, Handed, State, node_at, handed_at, progress_at, role_at, is_source, taken_by}
-use Rattle.stream_model.specs.Machine.{Capacities, Reply, with_tape, tag_of, marks_fit, longest_tape, types_agree, close_of, feed_of, set_of, set_wanted, place_setting, is_wanted, floor_of}
+use Rattle.stream_model.specs.Numbers.{types_agree}
+use Rattle.stream_model.specs.Machine.{Capacities, Reply, with_tape, tag_of, marks_fit, longest_tape, close_of, feed_of, set_of, set_wanted, place_setting, is_wanted, floor_of}
 use Rattle.stream_laws.specs.Past.{HasLater}
 use Rattle.machine_laws.specs.Sound.{reached, Sound}
 use Rattle.machine_laws.proofs.Choices.{if_both, not_false}

@@ -1,6 +1,6 @@
 //! The block that adds a number to each item.
 ghost use Rattle.std.specs.Prelude.{◌≡◌, ◌+◌, ◌^◌, ◌<◌, ◌≤◌, ◌↔◌, ◌++◌, length, map, IsOk, IfOk, IfErr};
-ghost use Rattle.stream_model.specs.Numbers.{IsItem, least_of, greatest_of};
+ghost use Rattle.stream_model.specs.Numbers.{IsItem};
 ghost use Rattle.stream_model.specs.Kinds.Math.{add_const};
 ghost use Rattle.items.specs.Items.{type_of, numbers_of, spare_of};
 ghost use Rattle.settings.specs.Values.{held_of};
@@ -10,6 +10,7 @@ use crate::stretch::add_held;
 use crate::{ParamFault, Parameter};
 use block_kinds::{Block, Held, Role, Shift, Signature, Value, Wanted};
 use items::{ItemType, Items};
+use numbers::range::{greatest, is_item, least};
 use std::alloc::{AllocError, Global};
 
 /// A block that adds to each item the number in force at it, wrapped to the items' type. Its parameter is in force
@@ -30,23 +31,10 @@ impl AddConst {
         ensures range { IsOk result ↔ IsItem item value }
         ensures err { IfErr result (λ fault. fault ≡ ParamFault.BadParameter Parameter.Value) }
     {
-        let (least, greatest) = ends(item);
-        if value < least || greatest < value {
+        if !is_item(item, value) {
             return Err(ParamFault::BadParameter(Parameter::Value));
         }
         Ok(AddConst { item, value })
-    }
-}
-
-// The ends of the type's range.
-fn ends(item: ItemType) -> (i64, i64)
-    ensures least { result.0 ≡ least_of item }
-    ensures greatest { result.1 ≡ greatest_of item }
-{
-    match item {
-        ItemType::Byte => (0, 255),
-        ItemType::Short => (-32_768, 32_767),
-        ItemType::Int => (-2_147_483_648, 2_147_483_647),
     }
 }
 
@@ -123,8 +111,7 @@ impl Block for AddConst {
     }
 
     fn setting(&self) -> Option<Wanted> {
-        let (least, greatest) = ends(self.item);
-        Some(Wanted::Number(least, greatest))
+        Some(Wanted::Number(least(self.item), greatest(self.item)))
     }
 
     fn own(&self, _alloc: Global) -> Result<Option<Value>, AllocError> {

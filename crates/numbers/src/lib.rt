@@ -2,6 +2,7 @@
 #![tactic(auto)]
 
 pub mod number;
+pub mod range;
 pub mod vectors;
 
 pub use number::Number;

@@ -1,18 +1,7 @@
 //! Copies into vectors that have room for them.
 ghost use Rattle.std.specs.Prelude.{◌≡◌, ◌+◌, ◌-◌, ◌≤◌, ◌++◌, length, slice_range, vec_len, vec_capacity};
 
-/// Appends `more` where the capacity has room.
-pub fn append<T: Copy>(out: &mut Vec<T>, more: &[T])
-    requires { vec_len out.old + length more.now ≤ vec_capacity out.old }
-    ensures items { out.new.items ≡ out.old.items ++ more.now }
-    ensures len { vec_len out.new ≡ vec_len out.old + length more.now }
-    ensures capacity { vec_capacity out.old ≤ vec_capacity out.new }
-{
-    match out.extend_from_slice(more) {
-        Ok(()) => {}
-        Err(_refusal) => unreachable!(),
-    }
-}
+use numbers::vectors::append;
 
 /// Appends a range of the items that lie in two slices, one behind the other.
 pub fn append_range<T: Copy>(out: &mut Vec<T>, front: &[T], back: &[T], from: usize, to: usize)

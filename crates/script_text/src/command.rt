@@ -1,28 +1,27 @@
 //! What a line says.
-use crate::Name;
-use items::Mark;
+use items::{BlockName, Mark};
 
 /// A command, with the name of the block that it is for.
 #[derive(Drop)]
 pub enum Command {
     /// Put items, and marks on them, at the end of a source's tape.
     Feed {
-        name: Name,
+        name: BlockName,
         items: Vec<i64>,
         marks: Vec<Mark>,
     },
     /// End a source's tape.
     Close {
-        name: Name,
+        name: BlockName,
     },
     /// Let a block fire at most this often.
     Step {
-        name: Name,
+        name: BlockName,
         max: u64,
     },
     /// Show at most so many items of what a sink holds, from one on.
     Read {
-        name: Name,
+        name: BlockName,
         from: u64,
         max: u64,
     },

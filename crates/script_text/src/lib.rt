@@ -4,7 +4,7 @@
 mod bytes;
 pub mod command;
 pub mod ends;
-pub mod name;
+mod name;
 mod numerals;
 pub mod parse;
 mod print;
@@ -14,7 +14,6 @@ pub mod splitter;
 
 pub use command::{Command, Line};
 pub use ends::{Broken, ByteIn, ByteOut, ReadEnd, WriteEnd};
-pub use name::Name;
 pub use parse::parse_line;
 pub use reply::Reply;
 pub use script::{last_line, next_line};

@@ -7,8 +7,9 @@ ghost use Rattle.script_text.specs.Numbers.{max_of, integer_of};
 ghost use Rattle.script_text.specs.Commands.{line_seen, command_seen, marks_seen, mark_seen};
 
 use crate::bytes::{begins_with, cut_at, next_field};
+use crate::name::block_name;
 use crate::numerals::{parse_integer, parse_natural};
-use crate::{Command, Line, Name};
+use crate::{Command, Line};
 use items::{Mark, TagKey};
 use std::alloc::{AllocError, Global};
 
@@ -61,7 +62,7 @@ fn parse_feed(alloc: Global, fields: &[u8]) -> Result<Option<Command>, AllocErro
     let Some((name, given)) = next_field(fields) else {
         return Ok(None);
     };
-    let Some(name) = Name::new(name) else {
+    let Some(name) = block_name(name) else {
         return Ok(None);
     };
     let Some((items, marks)) = parse_items(alloc, given)? else {
@@ -80,7 +81,7 @@ fn parse_close(fields: &[u8]) -> Option<Command>
     if next_field(rest).is_some() {
         return None;
     }
-    let name = Name::new(name)?;
+    let name = block_name(name)?;
     Some(Command::Close { name })
 }
 
@@ -92,7 +93,7 @@ fn parse_step(fields: &[u8]) -> Option<Command>
     if next_field(rest).is_some() {
         return None;
     }
-    let name = Name::new(name)?;
+    let name = block_name(name)?;
     let max = parse_max(max)?;
     Some(Command::Step { name, max })
 }
@@ -106,7 +107,7 @@ fn parse_read(fields: &[u8]) -> Option<Command>
     if next_field(rest).is_some() {
         return None;
     }
-    let name = Name::new(name)?;
+    let name = block_name(name)?;
     let from = parse_natural(from, u64::MAX)?;
     let max = parse_max(max)?;
     Some(Command::Read { name, from, max })

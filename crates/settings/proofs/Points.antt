@@ -1,6 +1,6 @@
 -- The places that a search over settings finds.
 use Rattle.std.proofs.Common.{◌≡◌, ◌≢◌, ℕ, suc, ◌+◌, ◌-◌, ◌<◌, ◌≤◌, inl, inr, true, false, nat_le, List, ◌∷◌, ◌++◌, All, take, drop, length, get_or, map, sym, ap, ◌∙◌, subst, arith}
-use Rattle.std.specs.List.{insert}
+use Rattle.std.specs.List.{Any, insert}
 use Rattle.std.proofs.Math.ListN.{set}
 use Rattle.std.specs.List.Sorted.{IsNonDecreasingBy, IsPartitionPoint}
 use Rattle.std.proofs.lemmas.Bool.{leb-true, leb-false, cases_lt}
@@ -89,6 +89,27 @@ inserted_rises xs n x rising within made later new =
     let low : (get_or (take n ts) (n - 1) d).at ≤ x.at = made (n - 1) d (omega arith) in
     omega (arith, ap (λ h. h.at) is, ap (λ h. h.at) front, low, new some)) in
     subst IsRising (sym (map-insert xs n x)) (insert_rises ts n (held_of x) rising (all_earlier ts n x.at rising (omega arith) made last) later)
+
+-- where a setting is made at the item, it is the last of those up to it
+pub found_at : (xs : List Held) (n : ℕ) (x : Held) → IsRising (map held_of xs) → n ≤ length xs → All (λ h. h.at ≤ x.at) (take n (map held_of xs)) → All (λ h. x.at < h.at) (drop n (map held_of xs)) → Any (λ h. h.at ≡ x.at) (map held_of xs)
+    → (0 < n) × ((get_or xs (n - 1) x).at ≡ x.at)
+found_at xs n x rising within made later any =
+    let ts : List model.Held = map held_of xs in
+    let size : length ts ≡ length xs = length-map xs held_of in
+    let here : (get_or ts any.0 any.1).at ≡ x.at = ap (λ h. h.at) any.3 ∙ any.4 in
+    let stored : (get_or xs any.0 x).at ≡ (get_or ts any.0 any.1).at = ap (λ h. h.at) (sym (get_or-map held_of xs any.0 x any.1 (omega (arith, any.2)))) in
+    elim (cases_lt any.0 n) [
+      | inl below ↦
+          let last : get_or (take n ts) (n - 1) any.1 ≡ held_of (get_or xs (n - 1) x) = get_or-take n ts (n - 1) any.1 (omega arith) ∙ get_or-map held_of xs (n - 1) x any.1 (omega arith) in
+          let low = made (n - 1) any.1 (omega (arith, length-take-le n ts (omega arith))) in
+          let rises = non_decreasing xs rising any.0 (n - 1) x (omega arith) (omega arith) in
+          (omega arith, omega (arith, ap (λ h. h.at) last, low, rises, here, stored))
+      | inr above ↦
+          let place : n + (any.0 - n) ≡ any.0 = omega arith in
+          let behind = ap (λ h. h.at) (get_or-drop n ts (any.0 - n) any.1 ∙ ap (λ k. get_or ts k any.1) place) in
+          let high = later (any.0 - n) any.1 (omega (arith, length-drop n ts, any.2)) in
+          absurd (omega (arith, behind, high, here))
+    ]
 
 -- a setting in place of one of the same item
 map-replaced : (xs : List Held) (n : ℕ) (x : Held) → 0 < n → n ≤ length xs → map held_of (set xs (n - 1) x) ≡ take (n - 1) (map held_of xs) ++ held_of x ∷ drop n (map held_of xs)

@@ -1,5 +1,6 @@
 //! The settings of one block over its items.
-ghost use Rattle.std.specs.Prelude.{◌≡◌, ◌+◌, ◌≤◌, ◌<◌, ◌↔◌, ℕ, List, [], ◌∷◌, ◌++◌, All, take, drop, map, length, IsTrue, IfOk, OnOk, OnErr, IsErrOf, IsOkUnless};
+ghost use Rattle.std.specs.Prelude.{◌≡◌, ◌+◌, ◌≤◌, ◌<◌, ◌↔◌, ℕ, List, [], ◌∷◌, ◌++◌, All, take, drop, map, length, IsTrue, IsOk, IfOk, OnOk, OnErr, IsErrOf, IsOkUnless};
+ghost use Rattle.std.specs.List.{Any};
 ghost use Rattle.stream_model.specs.Settings as model;
 ghost use Rattle.settings.specs.Values.{value_of, held_of};
 ghost use Rattle.settings.specs.Timelines.{held_at, IsRising, ReadsAs, TakesIn};
@@ -78,7 +79,8 @@ impl Timeline {
     }
 
     /// Sets the value from item `at` on. Below the floor it is refused as `Late`, before any memory
-    /// is asked for. `Memory` comes only where the allocator refuses.
+    /// is asked for. `Memory` comes only where the allocator refuses, and not where it takes the place of a setting of the
+    /// same item.
     pub fn set(&mut self, at: u64, value: Value, floor: u64) -> Result<(), SettingFault>
         ensures own { self.new.own ≡ self.old.own }
         ensures ok { OnOk result (ReadsAs self.new 0 (self.old.settings ++ held_at at (value_of value) ∷ [])) }
@@ -88,6 +90,7 @@ impl Timeline {
 
         ensures late { IsErrOf result (SettingFault.Late floor) ↔ (at < floor) }
         ensures memory { floor ≤ at → IsOkUnless result SettingFault.Memory }
+        ensures replaces { floor ≤ at → Any (λ h. h.at ≡ at) self.old.settings → IsOk result }
     {
         if at < floor {
             return Err(SettingFault::Late { floor });
@@ -153,6 +156,7 @@ fn take_in(settings: &mut Vec<Held>, held: Held) -> Result<(), AllocError>
     ensures ok { OnOk result (
         TakesIn (map held_of settings.old.items) (map held_of settings.new.items) (held_of held)) }
     ensures err { OnErr result (settings.new.items ≡ settings.old.items) }
+    ensures replaces { Any (λ h. h.at ≡ held.at) (map held_of settings.old.items) → IsOk result }
 {
     let count = count_up_to(settings, held.at);
     if count > 0 && settings[count - 1].at == held.at {

@@ -2,7 +2,8 @@
 use Rattle.std.proofs.Common.{◌≡◌, ℕ, zero, suc, ◌<◌, Bool, true, false, List, map, length, refl, arith, ap, sym, ◌∙◌}
 use Rattle.stream_model.specs.Tags.{Tag, sorted_tags, tags_within}
 use Rattle.stream_model.specs.Network.{Network, Connection, Handed, HasLevels, node_at, role_at, handed_at, is_source, writers_of, items_of, tags_by, tags_of, chosen}
-use Rattle.stream_model.proofs.Streams.{Below, writers_below, map-agree, elim-true, elim-false}
+use Rattle.stream_model.proofs.Maps.{map-agree}
+use Rattle.stream_model.proofs.Streams.{Below, writers_below, elim-true, elim-false}
 use Rattle.stream_laws.specs.Tags.{TagsUnfold, tags_in}
 
 -- the tags that the writers give, and the tags that the policy makes of them

@@ -15,6 +15,7 @@ use Rattle.stream_model.specs.Network.{Network, Connection, Handed, Node, IsSoun
 use Rattle.stream_model.proofs.Greatest.{greatest-passes, greatest-reaches}
 use Rattle.stream_model.proofs.Counts.{given-rises, taken-rises, taken-zero, fires_near_taken}
 use Rattle.stream_model.proofs.Given.{given_items-more, given_items-same}
+use Rattle.stream_model.proofs.Maps.{map-agree}
 
 -- the inputs of one block, before and after they grew
 pub record HaveGrown (xs ys : List (List ℤ)) : Type 0 where
@@ -209,14 +210,6 @@ module _ (net : Network) (sound : IsSoundNetwork net) (hs hs' : List Handed) (mo
 pub All-flat_map : {A B : Type 0} (P : B → Type 0) (f : A → List B) (xs : List A) → ((x : A) → All P (f x)) → All P (flat_map f xs)
 All-flat_map P f [] each = All-nil P
 All-flat_map P f (x ∷ xs) each = rw flat_map-cons (All-append P (f x) (flat_map f xs) (each x) (All-flat_map P f xs each))
-
--- two functions that agree on the elements of a list
-pub map-agree : {A B : Type 0} (P : A → Type 0) (f g : A → B) (xs : List A) → All P xs → ((x : A) → P x → f x ≡ g x) → map f xs ≡ map g xs
-map-agree P f g [] all each = refl
-map-agree P f g (x ∷ xs) all each =
-    let head = each x (All-head P x xs all) in
-    let tail = map-agree P f g xs (All-tail P x xs all) each in
-    cc
 
 -- the writers of a block come from lower levels
 module _ (net : Network) (level : ℕ → ℕ) (levels : HasLevels net level) where

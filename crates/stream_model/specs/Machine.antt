@@ -4,10 +4,10 @@ use Rattle.std.specs.Prelude.{ℕ, ◌+◌, ◌*◌, ◌^◌, ◌≡◌, min, �
 use Rattle.std.specs.List.{list_all}
 use Rattle.std.specs.Ordering.{int_eq}
 use Rattle.stream_model.specs.declared.vocabulary.ItemType.{ItemType}
-use Rattle.stream_model.specs.declared.vocabulary.ItemType.TheVariants.{Byte, Short, Int}
 use Rattle.stream_model.specs.declared.vocabulary.Wanted.{Wanted}
 use Rattle.stream_model.specs.declared.vocabulary.Wanted.TheVariants as wanted
 use Rattle.stream_model.specs.Lists.{below}
+use Rattle.stream_model.specs.Numbers.{types_agree}
 use Rattle.stream_model.specs.Settings.{Value, Number, Taps, Held}
 use Rattle.stream_model.specs.Tags.{Tag, Mark, tags_within}
 use Rattle.stream_model.specs.Meaning.{windows_of, held_of, input}
@@ -232,17 +232,6 @@ abandon_of net st own job =
 -- feeding puts items at the end of the tape, and makes each mark a tag of the source
 abbrev pub tag_of : ℕ → Mark → Tag
 tag_of s m = record { offset = m.offset; key = m.key; value = m.value; source = s }
-
-abbrev pub types_agree : ItemType → ItemType → Bool
-types_agree Byte Byte = true
-types_agree Short Short = true
-types_agree Int Int = true
-types_agree Byte Short = false
-types_agree Byte Int = false
-types_agree Short Byte = false
-types_agree Short Int = false
-types_agree Int Byte = false
-types_agree Int Short = false
 
 abbrev pub with_tape : Handed → ℕ → List ℤ → List Mark → Handed
 with_tape s b xs ms = record s { tape = s.tape ++ xs; tags = s.tags ++ map (tag_of b) ms }

@@ -1,5 +1,5 @@
 -- Numbers of an item's type. An item is a whole number in its type's range.
-use Rattle.std.specs.Prelude.{ℕ, ◌-◌, ◌/◌, ◌%◌, ◌^◌, ℤ, pos, negsuc, ◌≤ℤ◌, ◌+ℤ◌, int_lt, nat_lt, ◌==◌, if◌then◌else◌, List, [], ◌∷◌, All}
+use Rattle.std.specs.Prelude.{ℕ, Bool, true, false, ◌-◌, ◌/◌, ◌%◌, ◌^◌, ℤ, pos, negsuc, ◌≤ℤ◌, ◌+ℤ◌, int_lt, nat_lt, ◌==◌, if◌then◌else◌, List, [], ◌∷◌, All}
 use Rattle.stream_model.specs.declared.vocabulary.ItemType.{ItemType}
 use Rattle.stream_model.specs.declared.vocabulary.ItemType.TheVariants.{Byte, Short, Int}
 
@@ -8,6 +8,10 @@ abbrev pub bits_of : ItemType → ℕ
 bits_of Byte = 8
 bits_of Short = 16
 bits_of Int = 32
+
+-- two types are one: types differ in how many bits an item has
+abbrev pub types_agree : ItemType → ItemType → Bool
+types_agree s t = bits_of s == bits_of t
 
 -- how many numbers the type has
 abbrev pub numbers_in : ItemType → ℕ

@@ -1,10 +1,14 @@
 -- Parts of lists of tags.
-use Rattle.std.proofs.Common.{◌≡◌, ℕ, zero, suc, ◌-◌, ◌<◌, ◌≤◌, ◌∙◌, ap, sym, refl, arith, Bool, true, false, List, [], ◌∷◌, length, take, drop, map, filter, nat_lt, nat_le, slice_index_or}
+use Rattle.std.proofs.Common.{◌≡◌, ℕ, zero, suc, ◌-◌, ◌<◌, ◌≤◌, ◌∙◌, ap, sym, refl, arith, true, false, List, [], ◌∷◌, length, take, drop, map, nat_lt, slice_index_or}
 use Rattle.std.specs.List.Sorted.{IsPartitionPoint}
 use Rattle.std.proofs.lemmas.Bool.{ltb-true, ltb-false, le-leb, lt-leb, lt-ltb, le-ltb}
 use Rattle.stream_model.specs.Tags.{tags_within}
 use Rattle.items.specs.declared.marks.Tag.{Tag}
-use Rattle.tags.specs.TagList.{tag_of, tags_from}
+use Rattle.stream_model.specs.Tags.{IsOrdered}
+use Rattle.tags.specs.TagList.{tags_from}
+use Rattle.tags.proofs.Order.{stored_offsets_rise}
+use Rattle.tags.proofs.Kept.{kept, dropped}
+use Rattle.items.specs.Tags.{tag_of}
 
 -- the first i of the tags are on items before n, and no later one is
 abbrev pub IsCut : ℕ → List Tag → ℕ → Type 0
@@ -62,19 +66,16 @@ between_cuts from to (x ∷ xs) (suc i) (suc j) c d p q =
     ∙ (between_cuts from to xs i j (rest_cut from x xs i c) (rest_cut to x xs j d) (omega (arith, p)) (omega (arith, q))
     ∙ sym (out_below from to x xs (first_before from x xs i c)))
 
-kept_or_not : (before : ℕ) (x : Tag) (xs : List Tag) (t : Bool) → nat_le before x.offset ≡ t → map tag_of (filter (λ t. nat_le before t.offset) xs) ≡ tags_from before (map tag_of xs)
-    → map tag_of (filter (λ t. nat_le before t.offset) (x ∷ xs)) ≡ tags_from before (map tag_of (x ∷ xs))
-kept_or_not before x xs true e rest = rw e (ap (λ ts. tag_of x ∷ ts) rest)
-kept_or_not before x xs false e rest = rw e rest
+-- the tags from an item on are those behind a cut
+pub from_cut : (n : ℕ) (xs : List Tag) (i : ℕ) → IsCut n xs i → i ≤ length xs → map tag_of (drop i xs) ≡ tags_from n (map tag_of xs)
+from_cut n [] zero c le = refl
+from_cut n [] (suc i) c le = absurd (omega (arith, le))
+from_cut n (x ∷ xs) zero c le =
+    ap (λ ts. tag_of x ∷ ts) (from_cut n xs 0 (rest_from n x xs c) (omega arith)) ∙ sym (kept n (tag_of x) (map tag_of xs) (first_from n x xs c))
+from_cut n (x ∷ xs) (suc i) c le =
+    from_cut n xs i (rest_cut n x xs i c) (omega (arith, le)) ∙ sym (dropped n (tag_of x) (map tag_of xs) (first_before n x xs i c))
 
--- a filter by offset of the tags as the code has them
-pub map-tags_from : (before : ℕ) (xs : List Tag) → map tag_of (filter (λ t. nat_le before t.offset) xs) ≡ tags_from before (map tag_of xs)
-map-tags_from before [] = refl
-map-tags_from before (x ∷ xs) = kept_or_not before x xs (nat_le before x.offset) refl (map-tags_from before xs)
-
--- where the first tag is on item `before` or a later one, all are
-pub none_before : (before : ℕ) (xs : List Tag) → ((k : ℕ) (d : Tag) → k < length xs → before ≤ (slice_index_or xs k d).offset) → map tag_of xs ≡ tags_from before (map tag_of xs)
-none_before before [] all = refl
-none_before before (x ∷ xs) all =
-    let e = le-leb before x.offset (all 0 x (omega arith)) in
-    rw e (ap (λ ts. tag_of x ∷ ts) (none_before before xs (λ k d h. all (suc k) d (omega (arith, h)))))
+-- where the first tag is on item `n` or a later one, none is before it
+pub no_cut : (n : ℕ) (xs : List Tag) → IsOrdered (map tag_of xs) → ((d : Tag) → n ≤ (slice_index_or xs 0 d).offset) → IsCut n xs 0
+no_cut n xs o first =
+    (λ k d low high. absurd (omega (arith, low, high)), λ k d low high. le-ltb (slice_index_or xs k d).offset n (omega (arith, first d, stored_offsets_rise xs o 0 k d (omega arith) high)))

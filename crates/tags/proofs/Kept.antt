@@ -6,10 +6,10 @@ use Rattle.stream_model.specs.Tags.{Tag, tag_cmp, insert_tag, tags_within}
 use Rattle.tags.specs.TagList.{tags_from}
 use Rattle.stream_model.proofs.TagOrder.{first_after, first_here, offset_upto}
 
-kept : (p : ℕ) (t : Tag) (ts : List Tag) → p ≤ t.offset → tags_from p (t ∷ ts) ≡ t ∷ tags_from p ts
+pub kept : (p : ℕ) (t : Tag) (ts : List Tag) → p ≤ t.offset → tags_from p (t ∷ ts) ≡ t ∷ tags_from p ts
 kept p t ts le = let e = le-leb p t.offset le in rw e refl
 
-dropped : (p : ℕ) (t : Tag) (ts : List Tag) → t.offset < p → tags_from p (t ∷ ts) ≡ tags_from p ts
+pub dropped : (p : ℕ) (t : Tag) (ts : List Tag) → t.offset < p → tags_from p (t ∷ ts) ≡ tags_from p ts
 dropped p t ts lt = let e = lt-leb p t.offset lt in rw e refl
 
 insert_after : (p : ℕ) (t u : Tag) (us : List Tag) → is_gt (tag_cmp t u) ≡ true → tags_from p (insert_tag t us) ≡ insert_tag t (tags_from p us)

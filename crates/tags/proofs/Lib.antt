@@ -2,3 +2,4 @@ pub mod Cuts
 pub mod Kept
 pub mod Order
 pub mod Rounding
+pub mod Rows

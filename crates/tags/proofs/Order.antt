@@ -10,7 +10,7 @@ use Rattle.std.specs.Ordering.{is_lt, is_gt}
 use Rattle.stream_model.specs.Tags.{Tag, IsOrdered, tag_cmp, insert_tag}
 use Rattle.items.specs.declared.marks.Tag as items
 use Rattle.stream_model.proofs.TagOrder.{less_is_greater, not_greater-trans, first_after, first_here, offset_upto}
-use Rattle.tags.specs.TagList.{tag_of}
+use Rattle.items.specs.Tags.{tag_of}
 
 -- a tag goes before the first that is not less
 pub insert_here : (t : Tag) (us : List Tag) (p : ℕ) → p ≤ length us → AllWithin (λ u. is_lt (tag_cmp u t) ≡ true) us 0 p

@@ -2,30 +2,39 @@
 ghost use Rattle.std.specs.Prelude.{◌≡◌, ◌+◌, ◌<◌, ◌≤◌, ◌↔◌, [], length, map, insert, nat_lt, true, false, IsTrue, IsOk, OnOk, OnErr};
 ghost use Rattle.std.specs.List.Sorted.{IsPartitionPoint};
 ghost use Rattle.stream_model.specs.Tags.{IsOrdered, insert_tag, tags_within};
-ghost use Rattle.tags.specs.TagList.{tag_of, tags_from};
+ghost use Rattle.items.specs.Tags.{tag_of};
+ghost use Rattle.tags.specs.TagList.{tags_from};
 
 use items::Tag;
 use std::alloc::{AllocError, Global};
 use std::marker::Model;
 
+// How many tags there may be at most, so that twice as many can be counted.
+const MOST: usize = usize::MAX / 2;
+
 /// The tags of a stream, ordered by offset, key, value and source. Doubles are kept. A contract sees the list, and how many
 /// more tags fit before memory is needed.
 #[derive(Debug, Drop)]
 pub struct Tags {
-    tags: Vec<Tag>,
+    // The tags, behind those that are gone. Half of the room is for these, so that they may wait until they are as many
+    // as the tags behind them: forgetting then costs as many steps as tags go, whatever stays.
+    row: Vec<Tag>,
+    gone: usize,
 }
 
 impl Model for Tags {
-    ghost use Rattle.std.specs.Prelude.{◌-◌, map};
+    ghost use Rattle.std.specs.Prelude.{◌-◌, ◌/◌};
     ghost use Rattle.std.specs.Vec.{vec_len, vec_capacity};
-    ghost use Rattle.stream_model.specs.Tags.{IsOrdered};
-    ghost use Rattle.tags.specs.TagList.{TagList, tag_of};
+    ghost use Rattle.tags.specs.TagList.{TagList, kept_of, IsRow};
 
     ghost Value = { TagList };
 
-    ghost view = { λ t. record { tags = map tag_of t.tags.items; spare = vec_capacity t.tags - vec_len t.tags } };
+    ghost view = { λ t. record {
+      tags = kept_of t.row.items t.gone;
+      spare = vec_capacity t.row / 2 - (vec_len t.row - t.gone);
+    } };
 
-    ghost invariant = { λ t. IsOrdered (map tag_of t.tags.items) };
+    ghost invariant = { λ t. IsRow t.row.items (vec_len t.row) (vec_capacity t.row) t.gone };
 }
 
 impl Tags {
@@ -35,7 +44,8 @@ impl Tags {
         ensures spare { result.spare ≡ 0 }
     {
         Tags {
-            tags: Vec::new(alloc),
+            row: Vec::new(alloc),
+            gone: 0,
         }
     }
 
@@ -43,14 +53,14 @@ impl Tags {
     pub fn len(&self) -> usize
         ensures { result ≡ length self.now.tags }
     {
-        self.tags.len()
+        self.row.len() - self.gone
     }
 
     /// Whether there is no tag.
     pub fn is_empty(&self) -> bool
         ensures { IsTrue result ↔ (self.now.tags ≡ []) }
     {
-        self.tags.is_empty()
+        self.len() == 0
     }
 
     /// All tags, in their order.
@@ -58,7 +68,7 @@ impl Tags {
         ensures tags { map tag_of result.now ≡ self.now.tags }
         ensures ordered { IsOrdered self.now.tags }
     {
-        self.tags.as_slice()
+        &self.row[self.gone..]
     }
 
     /// Makes room for `n` more tags. It fails only where the allocator refuses.
@@ -69,7 +79,14 @@ impl Tags {
         ensures succeeds { n ≤ self.old.spare → IsOk result }
         ensures err { OnErr result (self.new ≡ self.old) }
     {
-        self.tags.reserve(n)
+        let kept = self.row.len() - self.gone;
+        if n <= self.row.capacity() / 2 - kept {
+            return Ok(());
+        }
+        if n > MOST - kept {
+            return Err(AllocError);
+        }
+        self.row.reserve(2 * (kept + n) - self.row.len())
     }
 
     /// Adds a tag at its place, where there is room. It takes no memory. A tag behind all others, the common case, goes there
@@ -79,8 +96,8 @@ impl Tags {
         ensures tags { self.new.tags ≡ insert_tag (tag_of tag) self.old.tags }
         ensures spare { self.new.spare + 1 ≡ self.old.spare }
     {
-        let place = place_of(&self.tags, &tag);
-        if self.tags.insert(place, tag).is_err() {
+        let place = place_of(&self.row[self.gone..], &tag);
+        if self.row.insert(self.gone + place, tag).is_err() {
             unreachable!();
         }
     }
@@ -89,21 +106,24 @@ impl Tags {
     pub fn range(&self, from: u64, to: u64) -> &[Tag]
         ensures { map tag_of result.now ≡ tags_within from to self.now.tags }
     {
-        let first = count_before(&self.tags, from);
-        let end = count_before(&self.tags, to);
-        &self.tags[first..end.max(first)]
+        let tags = self.as_slice();
+        let first = count_before(tags, from);
+        let end = count_before(tags, to);
+        &tags[first..end.max(first)]
     }
 
-    /// Forgets the tags on items before `before`, and keeps the memory. It looks at one tag where there is none to forget.
+    /// Forgets the tags on items before `before`, and keeps the memory. It looks at one tag where there is none to forget,
+    /// and else takes as many steps as tags go, on the whole.
     pub fn prune(&mut self, before: u64)
         ensures tags { self.new.tags ≡ tags_from before self.old.tags }
         ensures spare { self.new.spare + length self.new.tags ≡ self.old.spare + length self.old.tags }
     {
-        let Some(first) = self.tags.first() else {
-            return;
-        };
-        if first.offset < before {
-            self.tags.retain(|tag| before <= tag.offset);
+        let gone = self.gone + count_before(&self.row[self.gone..], before);
+        if gone <= self.row.len() - gone {
+            self.gone = gone;
+        } else {
+            drop(self.row.drain(..gone));
+            self.gone = 0;
         }
     }
 
@@ -112,7 +132,8 @@ impl Tags {
         ensures tags { self.new.tags ≡ [] }
         ensures spare { self.new.spare ≡ self.old.spare + length self.old.tags }
     {
-        self.tags.clear();
+        self.row.clear();
+        self.gone = 0;
     }
 }
 
@@ -137,5 +158,8 @@ fn count_before(tags: &[Tag], offset: u64) -> usize
     ensures bound { result ≤ length tags.now }
     ensures point { IsPartitionPoint (λ t. nat_lt t.offset offset ≡ true) (λ t. nat_lt t.offset offset ≡ false) tags.now result }
 {
-    tags.partition_point(|tag| tag.offset < offset)
+    match tags.first() {
+        Some(first) if first.offset < offset => tags.partition_point(|tag| tag.offset < offset),
+        _ => 0,
+    }
 }

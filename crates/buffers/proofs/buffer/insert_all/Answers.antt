@@ -1,7 +1,7 @@
 use Rattle.std.proofs.Common.{◌≡◌, ◌+◌, ◌∙◌, ap, sym, arith, [], ◌∷◌, ◌++◌, length, map, take}
 use Rattle.std.proofs.lemmas.List.{length-map, length-take-le, map-append, take_more}
 use Rattle.stream_model.specs.Tags.{insert_tag}
-use Rattle.tags.specs.TagList.{tag_of}
+use Rattle.items.specs.Tags.{tag_of}
 use Rattle.buffers.specs.Buffer.{insert_tags}
 use Rattle.buffers.proofs.Wanted.{insert_tags-more, length-insert_tags}
 use Rattle.buffers.proofs.buffer.insert_all.Goals as goal

@@ -1,5 +1,5 @@
 use Rattle.std.proofs.Common.{◌≡◌, ◌+◌, ◌≤◌, length, map, take}
-use Rattle.tags.specs.TagList.{tag_of}
+use Rattle.items.specs.Tags.{tag_of}
 use Rattle.buffers.specs.Buffer.{insert_tags}
 use Rattle.buffers.proofs.buffer.insert_all.Given as goal
 

@@ -1,6 +1,7 @@
 use Rattle.std.proofs.Common.{◌≡◌, ◌*◌, ◌/◌, ◌%◌, ◌^◌, arith, w64}
 use Rattle.lane_kernels.specs.Blocks.{IsWithin}
-use Rattle.lane_kernels.proofs.Scaled.{shift, raise, wide, wide_lanes, wide_lane, scaled_lanes, tops_64, half_of}
+use Rattle.numbers.proofs.Rounding.{half_of}
+use Rattle.lane_kernels.proofs.Scaled.{shift, raise, wide, wide_lanes, wide_lane, scaled_lanes, tops_64}
 use Rattle.lane_kernels.proofs.scaling.scaled_wide.Goals as goal
 
 pub returns : goal.returns

@@ -3,6 +3,6 @@ use Rattle.numbers.proofs.vectors.narrowed.Given as goal
 
 abbrev pub invariant-loop-n : goal.invariant-loop-n
 invariant-loop-n g l =
-    (map g.T.Number.number l.lanes.items ≡ take l.n-index l.numbers)
-    × (vec_len l.lanes ≡ l.n-index)
-    × (length l.numbers ≤ vec_capacity l.lanes)
+    (map g.T.Number.number l.narrow.items ≡ take l.n-index l.numbers)
+    × (vec_len l.narrow ≡ l.n-index)
+    × (length l.numbers ≤ vec_capacity l.narrow)

@@ -1,7 +1,7 @@
 use Rattle.std.proofs.Common.{rules, ◌≡◌, subst, is_lt, true}
 use Rattle.std.proofs.lemmas.List.Sorted.{IsPartitionPoint-from_clause}
 use Rattle.stream_model.specs.Tags.{tag_cmp}
-use Rattle.tags.specs.TagList.{tag_of}
+use Rattle.items.specs.Tags.{tag_of}
 use Rattle.tags.proofs.Order.{less_come_first, stored_insert, stored_push}
 use Rattle.tags.proofs.tag_list.place_of.Goals as goal
 

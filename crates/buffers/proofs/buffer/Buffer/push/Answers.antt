@@ -2,7 +2,7 @@ use Rattle.std.proofs.Common.{◌≡◌, ◌≤◌, ◌∙◌, ap, sym, subst, L
 use Rattle.std.specs.Option.{option_map_or}
 use Rattle.std.proofs.lemmas.List.Elements.{All-map}
 use Rattle.stream_model.specs.Tags as model
-use Rattle.tags.specs.TagList.{tag_of}
+use Rattle.items.specs.Tags.{tag_of}
 use Rattle.ring_readers.specs.State.{slowest_of}
 use Rattle.buffers.specs.Buffer.{ring_of, insert_tags}
 use Rattle.buffers.proofs.Wanted.{from_place, from_place-same, pushed_tags}

@@ -1,12 +1,13 @@
 use Rattle.std.proofs.Common.{◌≡◌, refl, ◌<◌, length, arith, ap, sym, ◌∙◌, true, false, ◌++◌, length-append}
 use Rattle.std.proofs.lemmas.List.{length-map}
 use Rattle.std.proofs.lemmas.Result.{err_from_is_err_and}
+use Rattle.stream_model.proofs.Types.{types_agree-same}
 use Rattle.stream_model.specs.Network.{State, node_at}
 use Rattle.stream_model.specs.Machine.{Reply}
 use Rattle.executor.specs.Answers.{takes_memory}
 use Rattle.items.specs.Items.{numbers_of}
 use Rattle.executor.specs.Chain.{network_of}
-use Rattle.executor.proofs.Calls.{stays, moves, feed-missing, feed-not_source, feed-other_type, feed-closed, feed-full, feed-fits, keeps-fed, first-source, types_agree-same, feed-any_marked, empty-is}
+use Rattle.executor.proofs.Calls.{stays, moves, feed-missing, feed-not_source, feed-other_type, feed-closed, feed-full, feed-fits, keeps-fed, first-source, feed-any_marked, empty-is}
 use Rattle.executor.proofs.plant.Plant.feed.Goals as goal
 
 pub returns-then-len-block-clause-value : goal.returns-then-len-block-clause-value
@@ -56,7 +57,7 @@ pub push_slice-requires-clause-same_type : goal.push_slice-requires-clause-same_
 push_slice-requires-clause-same_type g c =
     let source = sym c.is_source.ensures ∙ c.if-not-is_source.false in
     let first = first-source (network_of g.B.Block.meaning c.self.inside.graph.1) c.self.invariant.1.shown.chain c.args.source.0 (rw length-map (omega arith)) source in
-    let agree = types_agree-same c.item_type.result c.item_out.result (sym c.same_type.ensures ∙ c.if-not-same_type.false) in
+    let agree = (types_agree-same c.item_type.result c.item_out.result).0 (sym c.same_type.ensures ∙ c.if-not-same_type.false) in
     c.in_ok-reserve.ensures.item_type ∙ c.self.invariant.1.tape_type
     ∙ ap (λ b. (node_at (network_of g.B.Block.meaning c.self.inside.graph.1) b).meaning.outputs.item) (sym first) ∙ sym c.item_out.ensures ∙ sym agree ∙ c.item_type.ensures
 

@@ -3,7 +3,7 @@ use Rattle.items.proofs.Same.{bytes_eq_numbers, items_eq_decides}
 use Rattle.items.proofs.stream_items.ItemsPartialEq.eq.Goals as goal
 
 pub returns-in-Byte-Byte-clause-value : goal.returns-in-Byte-Byte-clause-value
-returns-in-Byte-Byte-clause-value c = rw (c.in-Byte-Byte.is-0, c.in-Byte-Byte.is-1) (c.eq.ensures ∙ bytes_eq_numbers c.in-Byte-Byte.lanes.items c.in-Byte-Byte.more.items)
+returns-in-Byte-Byte-clause-value c = rw (c.in-Byte-Byte.is-0, c.in-Byte-Byte.is-1) (c.eq.ensures ∙ bytes_eq_numbers c.in-Byte-Byte.values.items c.in-Byte-Byte.more.items)
 
 pub returns-in-Byte-Byte-clause-exact : goal.returns-in-Byte-Byte-clause-exact
 returns-in-Byte-Byte-clause-exact c = items_eq_decides _ _ _ (returns-in-Byte-Byte-clause-value c)

@@ -3,15 +3,16 @@ use Rattle.std.proofs.lemmas.List.{take_all}
 use Rattle.std.proofs.lemmas.List.Elements.{All-same}
 use Rattle.stream_model.specs.Numbers.{IsItem, wrap}
 use Rattle.stream_model.specs.declared.vocabulary.ItemType.TheVariants.{Short, Int}
+use Rattle.numbers.proofs.Widths.{short_in_32}
 use Rattle.lane_kernels.proofs.Converted.{short_to_int}
 use Rattle.lane_kernels.proofs.Lanes.{stored_map, map_of_bits}
-use Rattle.lane_kernels.proofs.Products.{cast_signed_asks, short_in_int}
+use Rattle.lane_kernels.proofs.Products.{cast_signed_asks}
 use Rattle.lane_kernels.proofs.Wrapped.{short_lanes}
 use Rattle.lane_kernels.proofs.conversion.I16WidensToI32.widen_block.Goals as goal
 
 pub overflow_cast-out : goal.overflow_cast-out
 overflow_cast-out c =
-    cast_signed_asks w16 w32 Short short_lanes.fits short_in_int (take 16 c.args.a.now)
+    cast_signed_asks w16 w32 Short short_lanes.fits short_in_32 (take 16 c.args.a.now)
     (All-same (IsItem Short) (take 16 c.args.a.now) c.args.a.now (take_all 16 c.args.a.now (omega (arith, c.requires.a_block.whole))) c.requires.a_block.items)
 
 pub returns : goal.returns

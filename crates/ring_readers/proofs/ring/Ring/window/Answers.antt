@@ -12,5 +12,5 @@ returns-clause-items g c stream end =
     let from = c.saturating_sub-2.result - oldest in
     let to = c.place-place.result - oldest + c.args.count in
     window-made g.T.Number.number c.args.self.now stream c.args.reader c.args.count c.saturating_sub.result from to c.args.out.now.items c.self.inside.items.items
-    c.append_copies.new.lanes.items (c.as_slices.result.0.now ++ c.as_slices.result.1.now) c.append_range.new.out.items c.narrow.result is c.requires.live end shown c.narrow.ensures (omega arith) (omega (arith, written)) (omega (arith, written))
+    c.append_copies.new.out.items (c.as_slices.result.0.now ++ c.as_slices.result.1.now) c.append_range.new.out.items c.narrow.result is c.requires.live end shown c.narrow.ensures (omega arith) (omega (arith, written)) (omega (arith, written))
     c.append_copies.ensures.items c.as_slices.ensures c.append_range.ensures.items

@@ -1,20 +1,34 @@
-use Rattle.std.proofs.Common.{rules, ◌≡◌, ◌∙◌, ap, sym, subst, map, insert, true, is_ok, cond}
+use Rattle.std.proofs.Common.{rules, ◌≡◌, ◌+◌, ◌∙◌, ap, sym, subst, arith, map, insert, true, is_ok, cond}
 use Rattle.stream_model.specs.Tags.{IsOrdered, insert_tag}
 use Rattle.stream_model.proofs.TagOrder.{ordered_insert}
-use Rattle.tags.specs.TagList.{tag_of}
-use Rattle.tags.proofs.Order.{map_insert}
+use Rattle.items.specs.Tags.{tag_of}
+use Rattle.tags.specs.TagList.{kept_of}
+use Rattle.tags.proofs.Rows.{from_place, one_more}
 use Rattle.tags.proofs.tag_list.Tags.insert_reserved.Goals as goal
 
-inserted : (c : goal.Else-is_err) → map tag_of c.insert.new.self.items ≡ insert_tag (tag_of c.args.tag) (map tag_of c.self.inside.tags.items)
-inserted c =
+added : (c : goal.Else-is_err) → c.insert.new.self.items ≡ insert c.self.inside.row.items (c.self.inside.gone + c.place_of-place.result) c.args.tag
+added c =
     let ok : is_ok c.insert.result ≡ true = search rules in
-    let added : c.insert.new.self.items ≡ insert c.self.inside.tags.items c.place_of-place.result c.args.tag = c.insert.ensures.items ∙ ap (λ b. cond b (insert c.self.inside.tags.items c.place_of-place.result c.args.tag) c.self.inside.tags.items) ok in
-    ap (map tag_of) added
-    ∙ (map_insert c.self.inside.tags.items c.place_of-place.result c.args.tag
-    ∙ sym (subst (λ xs. insert_tag (tag_of c.args.tag) (map tag_of xs) ≡ insert (map tag_of xs) c.place_of-place.result (tag_of c.args.tag)) c.deref.ensures.value c.place_of-place.ensures.place))
+    let row = c.self.inside.row.items in
+    c.insert.ensures.items ∙ ap (λ b. cond b (insert row (c.self.inside.gone + c.place_of-place.result) c.args.tag) row) ok
+
+inserted : (c : goal.Else-is_err) → kept_of c.insert.new.self.items c.self.inside.gone ≡ insert_tag (tag_of c.args.tag) (kept_of c.self.inside.row.items c.self.inside.gone)
+inserted c =
+    let row = c.self.inside.row.items in
+    let gone = c.self.inside.gone in
+    let place = c.place_of-place.result in
+    let tag = tag_of c.args.tag in
+    ap (λ xs. kept_of xs gone) (added c)
+    ∙ (one_more row gone place c.args.tag (omega (arith, c.self.invariant.whole, c.self.invariant.few))
+    ∙ sym (subst (λ xs. insert_tag tag (map tag_of xs) ≡ insert (map tag_of xs) place tag) (from_place c.deref.result.now row gone c.deref.ensures.value) c.place_of-place.ensures.place))
 
 pub invariant_of-self : goal.invariant_of-self
-invariant_of-self c = subst IsOrdered (sym (inserted c)) (ordered_insert (tag_of c.args.tag) (map tag_of c.self.inside.tags.items) c.self.invariant)
+invariant_of-self c = record {
+  ordered = subst IsOrdered (sym (inserted c)) (ordered_insert (tag_of c.args.tag) (kept_of c.self.inside.row.items c.self.inside.gone) c.self.invariant.ordered);
+  whole = search rules;
+  few = search rules;
+  fits = search rules;
+}
 
 pub returns-clause-tags : goal.returns-clause-tags
 returns-clause-tags c = inserted c ∙ ap (λ v. insert_tag (tag_of c.args.tag) v.tags) c.self.view_is

@@ -1,32 +1,43 @@
-use Rattle.std.proofs.Common.{rules, ◌≡◌, ◌∙◌, ap, sym, subst, map, nat_le, false, arith, slice_index_or}
-use Rattle.std.specs.Ordering.{is_gt}
-use Rattle.std.proofs.lemmas.Fn.{filter_same}
-use Rattle.std.proofs.lemmas.List.Kept.{AllPairs-filter}
-use Rattle.stream_model.specs.Tags as model
+use Rattle.std.proofs.Common.{rules, ◌≡◌, ◌+◌, ◌∙◌, ap, sym, subst, arith, length, drop, length-drop, vec_len}
 use Rattle.stream_model.specs.Tags.{IsOrdered}
-use Rattle.tags.specs.TagList.{tag_of, tags_from}
-use Rattle.tags.proofs.Cuts.{none_before, map-tags_from}
-use Rattle.tags.proofs.Order.{stored_offsets_rise}
+use Rattle.tags.specs.TagList.{tags_from, kept_of}
+use Rattle.tags.proofs.Rows.{more_gone, ordered_from}
 use Rattle.tags.proofs.tag_list.Tags.prune.Goals as goal
 
-pruned : (c : goal.After-retain) → map tag_of c.retain.new.self.items ≡ tags_from c.args.before (map tag_of c.self.inside.tags.items)
-pruned c =
-    ap (map tag_of) (filter_same _ (λ t. nat_le c.args.before t.offset) _ (λ x b f called. search rules) c.self.inside.tags.items c.retain.new.self.items c.retain.ensures.filtered)
-    ∙ map-tags_from c.args.before c.self.inside.tags.items
+-- what is behind the tags that are gone then
+kept : (c : goal.After-self-1) → kept_of c.self.inside.row.items (c.self.inside.gone + c.count_before.result) ≡ tags_from c.args.before (kept_of c.self.inside.row.items c.self.inside.gone)
+kept c = more_gone c.args.before _ _ c.self.inside.gone c.count_before.result c.deref.ensures.value c.count_before.ensures.point c.count_before.ensures.bound
 
 pub invariant_of-self : goal.invariant_of-self
-invariant_of-self c =
-    subst IsOrdered (sym (pruned c)) (AllPairs-filter (λ t u. is_gt (model.tag_cmp t u) ≡ false) (λ t. nat_le c.args.before t.offset) (map tag_of c.self.inside.tags.items) c.self.invariant)
+invariant_of-self c = record {
+  ordered = subst IsOrdered (sym (kept c)) (ordered_from c.args.before c.self.inside.row.items c.self.inside.gone c.self.invariant.ordered);
+  whole = c.self.invariant.whole;
+  few = omega arith;
+  fits = omega arith;
+}
 
-pub returns-then-first-before-clause-tags : goal.returns-then-first-before-clause-tags
-returns-then-first-before-clause-tags c = pruned c ∙ ap (λ v. tags_from c.args.before v.tags) c.self.view_is
+pub returns-then-gone-len-clause-tags : goal.returns-then-gone-len-clause-tags
+returns-then-gone-len-clause-tags c = kept c ∙ ap (λ v. tags_from c.args.before v.tags) c.self.view_is
 
-pub returns-else-first-before-clause-tags : goal.returns-else-first-before-clause-tags
-returns-else-first-before-clause-tags c =
-    let items = c.self.inside.tags.items in
-    let at_first = c.in-Some.ensures.item.3.1 in
-    let kept : map tag_of items ≡ tags_from c.args.before (map tag_of items) = none_before c.args.before items (λ k d h.
-    let rise = stored_offsets_rise items c.self.invariant 0 k d (omega arith) h in
-    let first : c.in-Some.first.now.offset ≡ (slice_index_or items 0 d).offset = ap (λ t. t.offset) (at_first d ∙ ap (λ xs. slice_index_or xs 0 d) c.deref.ensures.value) in
-    omega (arith, c.if-first-before.false, rise, first)) in
-    sym (ap (λ v. v.tags) c.self.view_is) ∙ (kept ∙ ap (λ v. tags_from c.args.before v.tags) c.self.view_is)
+-- the same where those are dropped
+dropped : (c : goal.After-self-else-gone-len-1) → c.drop.new.self.0.items ≡ drop (c.self.inside.gone + c.count_before.result) c.self.inside.row.items
+dropped c = c.drop.ensures.items ∙ c.drain.ensures.kept
+
+left : (c : goal.After-self-else-gone-len-1) → kept_of c.drop.new.self.0.items 0 ≡ tags_from c.args.before (kept_of c.self.inside.row.items c.self.inside.gone)
+left c =
+    ap (λ row. kept_of row 0) (dropped c)
+    ∙ more_gone c.args.before _ _ c.self.inside.gone c.count_before.result c.deref.ensures.value c.count_before.ensures.point c.count_before.ensures.bound
+
+pub invariant_of-self-else-gone-len : goal.invariant_of-self-else-gone-len
+invariant_of-self-else-gone-len c =
+    let whole : vec_len c.drop.new.self.0 ≡ length c.drop.new.self.0.items = search rules in
+    let short = ap length (dropped c) ∙ length-drop (c.self.inside.gone + c.count_before.result) c.self.inside.row.items in
+    record {
+      ordered = subst IsOrdered (sym (left c)) (ordered_from c.args.before c.self.inside.row.items c.self.inside.gone c.self.invariant.ordered);
+      whole = whole;
+      few = omega arith;
+      fits = omega (arith, whole, short, c.drop.ensures.capacity, c.drain.ensures.capacity);
+    }
+
+pub returns-else-gone-len-clause-tags : goal.returns-else-gone-len-clause-tags
+returns-else-gone-len-clause-tags c = left c ∙ ap (λ v. tags_from c.args.before v.tags) c.self.view_is

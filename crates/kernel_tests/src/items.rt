@@ -1,0 +1,241 @@
+//! Kernels that give an item for each item.
+ghost use Rattle.std.specs.Prelude.{◌≡◌, ◌≤◌, length};
+
+use crate::in_turn::{MOST, in_turn};
+use lane_kernels::{SimdLane, add_const_wrap, add_wrap, and, mul_wrap, not, or, scale_sat, xor};
+use std::process::Abort;
+
+#[derive(Clone, Copy)]
+enum Kernel {
+    AddWrap,
+    AddConstWrap,
+    MulWrap,
+    /// By a factor and a shift.
+    ScaleSat(i16, u32),
+    And,
+    Or,
+    Xor,
+    Not,
+}
+
+use Kernel::*;
+
+// Two items in turn, two others for a kernel of two lists, or the constant twice, and the two of the output.
+type Case<T> = (&'static str, Kernel, [T; 2], [T; 2], [T; 2]);
+
+const BYTES: [Case<u8>; 9] = [
+    ("sums of bytes", AddWrap, [255, 0], [1, 255], [0, 255]),
+    (
+        "bytes plus 255",
+        AddConstWrap,
+        [255, 0],
+        [255; 2],
+        [254, 255],
+    ),
+    ("bytes times 3", MulWrap, [100, 255], [3; 2], [44, 253]),
+    (
+        "bytes times 3/2",
+        ScaleSat(3, 1),
+        [255, 1],
+        [0; 2],
+        [255, 2],
+    ),
+    (
+        "bytes below 0",
+        ScaleSat(-32768, 31),
+        [0, 255],
+        [0; 2],
+        [0, 0],
+    ),
+    ("bits of both bytes", And, [12, 255], [10, 0], [8, 0]),
+    ("bits of either byte", Or, [12, 0], [10, 255], [14, 255]),
+    ("bits of one byte", Xor, [12, 255], [10, 255], [6, 0]),
+    ("turned bytes", Not, [255, 12], [0; 2], [0, 243]),
+];
+
+const SHORTS: [Case<i16>; 10] = [
+    (
+        "sums of shorts",
+        AddWrap,
+        [32767, -32768],
+        [1, -1],
+        [-32768, 32767],
+    ),
+    (
+        "shorts less 32768",
+        AddConstWrap,
+        [32767, -32768],
+        [-32768; 2],
+        [-1, 0],
+    ),
+    (
+        "shorts times 3",
+        MulWrap,
+        [32767, -32768],
+        [3; 2],
+        [32765, -32768],
+    ),
+    ("shorts times 3/2", ScaleSat(3, 1), [1, -1], [0; 2], [2, -1]),
+    (
+        "shorts at both ends",
+        ScaleSat(3, 1),
+        [30000, -30000],
+        [0; 2],
+        [32767, -32768],
+    ),
+    (
+        "shorts over 2^16",
+        ScaleSat(-32768, 31),
+        [-32768, 32767],
+        [0; 2],
+        [1, 0],
+    ),
+    (
+        "bits of both shorts",
+        And,
+        [-32768, 32767],
+        [-1, 1],
+        [-32768, 1],
+    ),
+    (
+        "bits of either short",
+        Or,
+        [-32768, 32767],
+        [1, -32768],
+        [-32767, -1],
+    ),
+    (
+        "bits of one short",
+        Xor,
+        [-32768, 32767],
+        [-1, -1],
+        [32767, -32768],
+    ),
+    (
+        "turned shorts",
+        Not,
+        [-32768, 32767],
+        [0; 2],
+        [32767, -32768],
+    ),
+];
+
+const LEAST: i32 = -2147483648;
+
+const GREATEST: i32 = 2147483647;
+
+const INTS: [Case<i32>; 9] = [
+    (
+        "sums of ints",
+        AddWrap,
+        [LEAST, GREATEST],
+        [-1, 1],
+        [GREATEST, LEAST],
+    ),
+    (
+        "ints plus the greatest",
+        AddConstWrap,
+        [GREATEST, LEAST],
+        [GREATEST; 2],
+        [-2, -1],
+    ),
+    (
+        "ints times -1",
+        MulWrap,
+        [GREATEST, LEAST],
+        [-1; 2],
+        [-2147483647, LEAST],
+    ),
+    (
+        "ints over -2^16",
+        ScaleSat(-32768, 31),
+        [LEAST, GREATEST],
+        [0; 2],
+        [32768, -32768],
+    ),
+    (
+        "ints at both ends",
+        ScaleSat(-32768, 0),
+        [LEAST, GREATEST],
+        [0; 2],
+        [GREATEST, LEAST],
+    ),
+    (
+        "bits of both ints",
+        And,
+        [LEAST, GREATEST],
+        [-1, 1],
+        [LEAST, 1],
+    ),
+    (
+        "bits of either int",
+        Or,
+        [LEAST, GREATEST],
+        [1, LEAST],
+        [-2147483647, -1],
+    ),
+    (
+        "bits of one int",
+        Xor,
+        [LEAST, GREATEST],
+        [-1, -1],
+        [GREATEST, LEAST],
+    ),
+    (
+        "turned ints",
+        Not,
+        [LEAST, GREATEST],
+        [0; 2],
+        [GREATEST, LEAST],
+    ),
+];
+
+fn assert_cases<T: SimdLane + PartialEq>(rt: &impl Abort, cases: &[Case<T>]) {
+    for (name, kernel, a, b, out) in cases {
+        for n in 0..MOST + 1 {
+            let holds = gives(*kernel, *a, *b, *out, n);
+            assert!(rt; holds, "{name}, {n} items");
+        }
+    }
+}
+
+// The output is there from the first item to the last, since it begins with the expected items the other way round.
+fn gives<T: SimdLane + PartialEq>(
+    kernel: Kernel,
+    a: [T; 2],
+    b: [T; 2],
+    out: [T; 2],
+    n: usize,
+) -> bool
+    requires { n ≤ MOST }
+{
+    let expected = in_turn(out);
+    let mut found = in_turn([out[1], out[0]]);
+    let x = in_turn(a);
+    let y = in_turn(b);
+    call(kernel, &x[..n], &y[..n], b[0], &mut found[..n]);
+    found[..n] == expected[..n]
+}
+
+fn call<T: SimdLane>(kernel: Kernel, x: &[T], y: &[T], c: T, out: &mut [T])
+    requires y_length { length y.now ≡ length x.now }
+    requires out_length { length out.old ≡ length x.now }
+{
+    match kernel {
+        AddWrap => add_wrap(x, y, out),
+        AddConstWrap => add_const_wrap(x, c, out),
+        MulWrap => mul_wrap(x, c, out),
+        ScaleSat(factor, shift) => scale_sat(x, factor, shift % 32, out),
+        And => and(x, y, out),
+        Or => or(x, y, out),
+        Xor => xor(x, y, out),
+        Not => not(x, out),
+    }
+}
+
+#[test]
+fn an_item_for_each_item(rt: HostRuntime) {
+    assert_cases(&rt, &BYTES);
+    assert_cases(&rt, &SHORTS);
+    assert_cases(&rt, &INTS);
+}
