@@ -1,2 +1,6 @@
+pub mod Fault
+pub mod Fill
+pub mod SameItem
+pub mod Shape
 pub mod Work
 pub use Rattle.items.specs.Items

@@ -5,12 +5,15 @@ ghost use Rattle.std.specs.Option.{option_map};
 ghost use Rattle.stream_model.specs.Meaning.{Meaning, IsLawful};
 ghost use Rattle.stream_model.specs.Settings as model;
 ghost use Rattle.settings.specs.Values.{value_of};
+ghost use Rattle.block_kinds.specs.Shape.{IsShape};
 ghost use Rattle.block_kinds.specs.Work.{CanWork, HasWorked, IsWorkOf};
 
+use crate::shape::{Pace, Setting, Shape};
 use items::Items;
-use settings::{Held, Value};
+use settings::{Held, Taps, Value};
 use std::alloc::{AllocError, Global};
 use stream_model::{Role, Shift, Signature, Wanted};
+use tags::place;
 
 /// A block of a flowgraph.
 ///
@@ -21,60 +24,130 @@ pub trait Block: Eq + Drop {
     /// What the block means.
     ghost meaning: { Self → Meaning };
 
+    /// Everything of the block but its equation, with the pace of an input. The other answers are read from it.
+    fn shape(&self, input: usize) -> Shape<'_>
+        ensures { IsShape (meaning self.now) input result };
+
     /// What the block does with streams.
     fn role(&self) -> Role
-        ensures { result ≡ (meaning self.now).role };
+        ensures { result ≡ (meaning self.now).role }
+    {
+        self.shape(0).role
+    }
 
     /// How many inputs may be used, and the type of their items.
     fn inputs(&self) -> Signature
-        ensures { result ≡ (meaning self.now).inputs };
+        ensures { result ≡ (meaning self.now).inputs }
+    {
+        self.shape(0).inputs
+    }
 
     /// How many outputs may be used, and the type of their items.
     fn outputs(&self) -> Signature
-        ensures { result ≡ (meaning self.now).outputs };
+        ensures { result ≡ (meaning self.now).outputs }
+    {
+        self.shape(0).outputs
+    }
 
     /// How many items of an input a firing takes, and how many it gives on each output. A block that shifts its stream has no rate.
     fn rate(&self, input: usize) -> Option<(u64, u64)>
-        ensures { result ≡ (meaning self.now).rate input };
+        ensures { result ≡ (meaning self.now).rate input }
+    {
+        match self.shape(input).pace {
+            Pace::Rate(taken, given) => Some((taken, given)),
+            Pace::Skip(_) | Pace::Delay(_) => None,
+        }
+    }
 
     /// How a block without a rate moves its stream.
     fn shift(&self) -> Shift
-        ensures { result ≡ (meaning self.now).shift };
+        ensures { result ≡ (meaning self.now).shift }
+    {
+        match self.shape(0).pace {
+            Pace::Rate(_, _) => Shift::No,
+            Pace::Skip(count) => Shift::Skip(count),
+            Pace::Delay(count) => Shift::Delay(count),
+        }
+    }
 
     /// How many items of an input the first `firings` firings take.
     fn taken(&self, input: usize, firings: u64) -> u64
         requires { (meaning self.now).taken input firings < 2 ^ 63 }
-        ensures { result ≡ (meaning self.now).taken input firings };
+        ensures { result ≡ (meaning self.now).taken input firings }
+    {
+        match self.shape(input).pace {
+            Pace::Rate(taken, _) => taken * firings,
+            Pace::Skip(_) => firings,
+            Pace::Delay(count) => firings.saturating_sub(count),
+        }
+    }
 
     /// How many items the first `firings` firings give on each output.
     fn given(&self, firings: u64) -> u64
         requires { (meaning self.now).given firings < 2 ^ 63 }
-        ensures { result ≡ (meaning self.now).given firings };
+        ensures { result ≡ (meaning self.now).given firings }
+    {
+        match self.shape(0).pace {
+            Pace::Rate(_, given) => given * firings,
+            Pace::Skip(count) => firings.saturating_sub(count),
+            Pace::Delay(_) => firings,
+        }
+    }
 
     /// Where a tag on an item of an input goes.
     fn place(&self, input: usize, offset: u64) -> u64
         requires { (meaning self.now).place input offset < 2 ^ 63 }
-        ensures { result ≡ (meaning self.now).place input offset };
+        ensures { result ≡ (meaning self.now).place input offset }
+    {
+        match self.shape(input).pace {
+            Pace::Rate(taken, given) => place(taken, given, offset),
+            Pace::Skip(count) => offset.saturating_sub(count),
+            Pace::Delay(count) => offset + count,
+        }
+    }
 
     /// After how many firings the block ends by itself.
     fn limit(&self) -> Option<u64>
-        ensures { result ≡ (meaning self.now).limit };
+        ensures { result ≡ (meaning self.now).limit }
+    {
+        self.shape(0).limit
+    }
 
     /// How many items of the past a firing reads, the current one included.
     fn history(&self) -> u32
-        ensures { result ≡ (meaning self.now).history };
+        ensures { result ≡ (meaning self.now).history }
+    {
+        self.shape(0).history
+    }
 
     /// What the block's setting may be, where it has one.
     fn setting(&self) -> Option<Wanted>
-        ensures { result ≡ (meaning self.now).setting };
+        ensures { result ≡ (meaning self.now).setting }
+    {
+        match self.shape(0).setting {
+            Setting::Fixed => None,
+            Setting::Number(least, greatest, _) => Some(Wanted::Number(least, greatest)),
+            Setting::Taps(own) => Some(Wanted::Taps(own.len() as u32)),
+        }
+    }
 
     /// The value of the block's own parameter, in memory of its own. It fails only where the allocator refuses.
     fn own(&self, alloc: Global) -> Result<Option<Value>, AllocError>
-        ensures { IfOk result (λ own. option_map value_of own ≡ (meaning self.now).own) };
+        ensures { IfOk result (λ own. option_map value_of own ≡ (meaning self.now).own) }
+    {
+        Ok(match self.shape(0).setting {
+            Setting::Fixed => None,
+            Setting::Number(_, _, own) => Some(Value::Number(own)),
+            Setting::Taps(own) => Some(Value::Taps(Taps::new(Vec::from_slice(alloc, own)?))),
+        })
+    }
 
     /// The state word before the first firing.
     fn start(&self) -> u64
-        ensures { result ≡ (meaning self.now).start };
+        ensures { result ≡ (meaning self.now).start }
+    {
+        self.shape(0).start
+    }
 
     /// Does firings `first` to below `first + count`: writes what they give behind each output's place, and answers the
     /// state word after them. `state` is the word before them, `windows` has for each used input the items that they

@@ -2,7 +2,13 @@
 #![tactic(auto)]
 
 pub mod block;
+pub mod fault;
+pub mod shape;
+pub mod single;
 
 pub use block::Block;
+pub use fault::{ParamFault, Parameter};
 pub use settings::{Held, Taps, Value};
+pub use shape::{Pace, Setting, Shape, ports};
+pub use single::{Single, work_single};
 pub use stream_model::{Policy, Role, Shift, Signature, Wanted};

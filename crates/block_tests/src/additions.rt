@@ -3,9 +3,9 @@ ghost use Rattle.std.specs.Prelude.{◌≡◌, List, length, map};
 ghost use Rattle.stream_model.specs.Settings as model;
 ghost use Rattle.settings.specs.Values.{held_of};
 
-use block_kinds::{Block, Held, Value};
+use block_kinds::{Block, Held, ParamFault, Parameter, Value};
 use items::{ItemType, Items};
-use math_blocks::{AddConst, ParamFault, Parameter};
+use math_blocks::AddConst;
 use std::alloc::Global;
 use std::test::Fail;
 

@@ -33,7 +33,7 @@ register_of-cons bits b held =
         rw (here, back, pow-suc 2 j) (omega arith)
 
 -- a sum over a run of numbers, and one over the run that is longer by one
-sum-more : (f : ℕ → ℕ) (a count : ℕ) → sum (map f (numbers_from a (suc count))) ≡ sum (map f (numbers_from a count)) + f (a + count)
+pub sum-more : (f : ℕ → ℕ) (a count : ℕ) → sum (map f (numbers_from a (suc count))) ≡ sum (map f (numbers_from a count)) + f (a + count)
 sum-more f a zero = ap (λ z. 0 + f z) (omega arith)
 sum-more f a (suc count) =
     sum-cons (f a) (map f (numbers_from (a + 1) (suc count)))

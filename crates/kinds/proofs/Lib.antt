@@ -1,1 +1,1 @@
-pub mod SourceWork
+pub mod Taped

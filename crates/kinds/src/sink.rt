@@ -2,9 +2,8 @@
 ghost use Rattle.std.specs.Prelude.{◌≡◌};
 ghost use Rattle.stream_model.specs.Kinds.Ends.{vector_sink};
 
-use block_kinds::{Block, Held, Role, Shift, Signature, Value, Wanted};
+use block_kinds::{Block, Held, Role, Shape, ports};
 use items::{ItemType, Items};
-use std::alloc::{AllocError, Global};
 
 /// A block that keeps its input. What it keeps is the stream that enters it: `work` writes nothing.
 #[derive(Debug, Drop, PartialEq, Eq)]
@@ -26,69 +25,16 @@ impl VectorSink {
 impl Block for VectorSink {
     ghost use Rattle.kind_laws.specs.Ends.{vector_sink-lawful};
     ghost use Rattle.stream_model.specs.Kinds.Ends.{vector_sink};
+    ghost use Rattle.block_kinds.specs.SameItem.{same_item};
     ghost use Rattle.kinds.specs.Ends.{sink_meaning};
-    ghost use Rattle.math_blocks.specs.SameItem.{same_item};
 
     ghost meaning = { sink_meaning };
 
-    fn role(&self) -> Role {
-        Role::Keep
-    }
-
-    fn inputs(&self) -> Signature {
-        Signature {
-            least: 1,
-            most: 1,
-            item: self.item,
+    fn shape(&self, _input: usize) -> Shape<'_> {
+        Shape {
+            role: Role::Keep,
+            ..Shape::at_rate(ports(1, self.item), ports(0, self.item), 1, 1)
         }
-    }
-
-    fn outputs(&self) -> Signature {
-        Signature {
-            least: 0,
-            most: 0,
-            item: self.item,
-        }
-    }
-
-    fn rate(&self, _input: usize) -> Option<(u64, u64)> {
-        Some((1, 1))
-    }
-
-    fn shift(&self) -> Shift {
-        Shift::No
-    }
-
-    fn taken(&self, _input: usize, firings: u64) -> u64 {
-        firings
-    }
-
-    fn given(&self, firings: u64) -> u64 {
-        firings
-    }
-
-    fn place(&self, _input: usize, offset: u64) -> u64 {
-        offset
-    }
-
-    fn limit(&self) -> Option<u64> {
-        None
-    }
-
-    fn history(&self) -> u32 {
-        1
-    }
-
-    fn setting(&self) -> Option<Wanted> {
-        None
-    }
-
-    fn own(&self, _alloc: Global) -> Result<Option<Value>, AllocError> {
-        Ok(None)
-    }
-
-    fn start(&self) -> u64 {
-        0
     }
 
     fn work(

@@ -2,9 +2,8 @@
 ghost use Rattle.std.specs.Prelude.{◌≡◌};
 ghost use Rattle.stream_model.specs.Kinds.Ends.{vector_source};
 
-use block_kinds::{Block, Held, Role, Shift, Signature, Value, Wanted};
+use block_kinds::{Block, Held, Role, Shape, Single, ports, work_single};
 use items::{ItemType, Items};
-use std::alloc::{AllocError, Global};
 
 /// A block that gives the tape that it is fed, item for item.
 #[derive(Debug, Drop, PartialEq, Eq)]
@@ -23,85 +22,53 @@ impl VectorSource {
     }
 }
 
-impl Block for VectorSource {
-    ghost use Rattle.kind_laws.specs.Ends.{vector_source-lawful};
-    ghost use Rattle.stream_model.specs.Kinds.Ends.{vector_source};
+impl Single for VectorSource {
+    ghost use Rattle.std.specs.Prelude.{refl};
     ghost use Rattle.kinds.specs.Ends.{source_meaning};
-    ghost use Rattle.math_blocks.specs.SameItem.{same_item};
 
-    ghost meaning = { source_meaning };
+    ghost equation = { source_meaning };
 
-    fn role(&self) -> Role {
-        Role::Source
-    }
-
-    fn inputs(&self) -> Signature {
-        Signature {
-            least: 0,
-            most: 0,
-            item: self.item,
-        }
-    }
-
-    fn outputs(&self) -> Signature {
-        Signature {
-            least: 1,
-            most: 1,
-            item: self.item,
-        }
-    }
-
-    fn rate(&self, _input: usize) -> Option<(u64, u64)> {
-        Some((1, 1))
-    }
-
-    fn shift(&self) -> Shift {
-        Shift::No
-    }
-
-    fn taken(&self, _input: usize, firings: u64) -> u64 {
-        firings
-    }
-
-    fn given(&self, firings: u64) -> u64 {
-        firings
-    }
-
-    fn place(&self, _input: usize, offset: u64) -> u64 {
-        offset
-    }
-
-    fn limit(&self) -> Option<u64> {
-        None
-    }
-
-    fn history(&self) -> u32 {
-        1
-    }
-
-    fn setting(&self) -> Option<Wanted> {
-        None
-    }
-
-    fn own(&self, _alloc: Global) -> Result<Option<Value>, AllocError> {
-        Ok(None)
-    }
-
-    fn start(&self) -> u64 {
-        0
-    }
-
-    fn work(
+    fn fill(
         &self,
         _state: u64,
         _first: u64,
         _count: u64,
-        windows: &[Items],
+        window: &Items,
         _held: &[Held],
+        out: &mut Items,
+    ) -> u64 {
+        out.push_slice(window);
+        0
+    }
+
+    ghost single = { λ b. record { in_least = refl; in_most = refl; out_least = refl; out_most = refl } };
+}
+
+impl Block for VectorSource {
+    ghost use Rattle.kind_laws.specs.Ends.{vector_source-lawful};
+    ghost use Rattle.stream_model.specs.Kinds.Ends.{vector_source};
+    ghost use Rattle.block_kinds.specs.SameItem.{same_item};
+    ghost use Rattle.kinds.specs.Ends.{source_meaning};
+
+    ghost meaning = { source_meaning };
+
+    fn shape(&self, _input: usize) -> Shape<'_> {
+        Shape {
+            role: Role::Source,
+            ..Shape::at_rate(ports(0, self.item), ports(1, self.item), 1, 1)
+        }
+    }
+
+    fn work(
+        &self,
+        state: u64,
+        first: u64,
+        count: u64,
+        windows: &[Items],
+        held: &[Held],
         out: &mut [Items],
     ) -> u64 {
-        out[0].push_slice(&windows[0]);
-        0
+        work_single(self, state, first, count, windows, held, out)
     }
 
     ghost lawful = { λ b. vector_source-lawful b.item };

@@ -1,5 +1,4 @@
-pub mod AddConstWork
+pub mod Numbered
 pub mod Settings
-pub mod StretchLemmas
-pub mod Windows
+pub mod Stretches
 pub mod Wrapping

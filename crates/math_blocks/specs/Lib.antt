@@ -1,4 +1,2 @@
-pub mod AddConst
-pub mod Fault
-pub mod SameItem
+pub mod Kinds
 pub mod Stretch

@@ -1,8 +1,5 @@
 -- Stretches of items between two settings, where the settings are numbers.
-use Rattle.std.specs.Prelude.{◌≡◌, ℕ, ◌-◌, ◌<◌, ◌≤◌, ℤ, pos, ◌+ℤ◌, List, [], ◌∷◌, length, map}
-use Rattle.stream_model.specs.declared.vocabulary.ItemType.{ItemType}
-use Rattle.stream_model.specs.Numbers.{wrap}
-use Rattle.stream_model.specs.Lists.{item, numbers_from}
+use Rattle.std.specs.Prelude.{◌≡◌, ℕ, ◌<◌, ◌≤◌, ℤ, pos, List, [], ◌∷◌}
 use Rattle.stream_model.specs.Settings.{Held, latest}
 use Rattle.stream_model.specs.Kinds.Shapes.{number_set}
 
@@ -25,7 +22,3 @@ end_before (h ∷ hs) to = h.at
 abbrev pub number_among : List Held → ℕ → ℤ
 number_among [] a = pos 0
 number_among (h ∷ hs) a = number_set (latest h hs a).value
-
--- the items, the first of which is item `from` of its stream, each plus the number in force at it, wrapped
-abbrev pub added : ItemType → List Held → ℕ → List ℤ → List ℤ
-added t held from xs = map (λ a. wrap t (item xs (a - from) +ℤ number_among held a)) (numbers_from from (length xs))

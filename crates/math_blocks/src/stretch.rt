@@ -1,11 +1,32 @@
 //! Stretches of items between two settings.
-ghost use Rattle.std.specs.Prelude.{◌≡◌, ◌+◌, ◌^◌, ◌<◌, ◌≤◌, ◌++◌, length, map, drop, vec_len, vec_capacity};
+ghost use Rattle.std.specs.Prelude.{◌≡◌, ◌+◌, ◌-◌, ◌^◌, ◌<◌, ◌≤◌, ℤ, [], length, map, drop, vec_len, vec_capacity};
+ghost use Rattle.stream_model.specs.declared.vocabulary.ItemType.{ItemType};
+ghost use Rattle.stream_model.specs.Lists.{item};
+ghost use Rattle.stream_model.specs.Kernels.{listed};
 ghost use Rattle.stream_model.specs.Kinds.Shapes.{number_set};
+ghost use Rattle.items.specs.Items.{type_of, numbers_of, spare_of};
 ghost use Rattle.settings.specs.Values.{value_of, held_of};
-ghost use Rattle.math_blocks.specs.Stretch.{AreOver, added, end_before};
+ghost use Rattle.math_blocks.specs.Stretch.{AreOver, number_among, end_before};
 
-use crate::lane::{Lane, add_to_each};
 use block_kinds::{Held, Value};
+use items::Items;
+use lane_kernels::SimdLane;
+use numbers::vectors::append_copies;
+
+/// A block that makes each item of one item, by a number that may be set.
+pub(crate) trait EachItem {
+    /// The type of the items.
+    ghost takes: { Self → ItemType };
+
+    /// What is made of an item, where the first number is in force.
+    ghost gives: { Self → ℤ → ℤ → ℤ };
+
+    /// Writes what is made of each item, where `number` is in force at all of them.
+    fn run<T: SimdLane>(&self, number: i64, items: &[T], out: &mut [T])
+        requires same_type { takes self.now ≡ T.kind }
+        requires same_length { length out.old ≡ length items.now }
+        ensures { map T.number out.new ≡ listed (length items.now) (λ k. gives self.now number (item (map T.number items.now) k)) };
+}
 
 // The number that a value sets. Taps set none, which counts as 0.
 fn number_in(value: &Value) -> i64
@@ -28,23 +49,76 @@ fn end_of(held: &[Held], i: usize, to: u64) -> u64
     }
 }
 
-// Appends each item plus the number in force at it, wrapped, where the capacity has room. The items are those of their
+// Writes what the block makes of each item: one run for each setting that is in force. The items are those of their
 // stream from item `from` on.
-pub fn add_held<T: Lane>(items: &[T], held: &[Held], from: u64, out: &mut Vec<T>)
+fn run_stretches<T: SimdLane, B: EachItem>(
+    block: &B,
+    items: &[T],
+    held: &[Held],
+    from: u64,
+    out: &mut [T],
+)
+    requires same_type { B.takes block.now ≡ T.kind }
     requires over { AreOver from (from + length items.now) (map held_of held.now) }
     requires small { from + length items.now < 2 ^ 63 }
-    requires room { vec_len out.old + length items.now ≤ vec_capacity out.old }
-    ensures items { map T.number out.new.items
-        ≡ map T.number out.old.items ++ added T.kind (map held_of held.now) from (map T.number items.now) }
-    ensures len { vec_len out.new ≡ vec_len out.old + length items.now }
-    ensures capacity { vec_capacity out.new ≡ vec_capacity out.old }
+    requires same_length { length out.old ≡ length items.now }
+    ensures { map T.number out.new ≡ listed (length items.now)
+        (λ k. B.gives block.now (number_among (map held_of held.now) (from + k)) (item (map T.number items.now) k)) }
 {
     let to = from + items.len() as u64;
     let mut at = from;
     for (i, setting) in held.iter().enumerate() {
         let end = end_of(held, i, to);
-        let stretch = &items[(at - from) as usize..(end - from) as usize];
-        add_to_each(stretch, T::wrapped(number_in(&setting.value)), out);
+        let number = number_in(&setting.value);
+        let start = (at - from) as usize;
+        let stop = (end - from) as usize;
+        block.run(number, &items[start..stop], &mut out[start..stop]);
         at = end;
+    }
+}
+
+fn run_lanes<T: SimdLane, B: EachItem>(
+    block: &B,
+    items: &[T],
+    held: &[Held],
+    from: u64,
+    out: &mut Vec<T>,
+)
+    requires same_type { B.takes block.now ≡ T.kind }
+    requires over { AreOver from (from + length items.now) (map held_of held.now) }
+    requires small { from + length items.now < 2 ^ 63 }
+    requires empty { map T.number out.old.items ≡ [] }
+    requires room { length items.now ≤ vec_capacity out.old - vec_len out.old }
+    ensures { map T.number out.new.items ≡ listed (length items.now)
+        (λ k. B.gives block.now (number_among (map held_of held.now) (from + k)) (item (map T.number items.now) k)) }
+{
+    append_copies(out, items.len(), T::narrow(0));
+    run_stretches(block, items, held, from, out);
+}
+
+/// Writes what the block makes of each item into an empty `out` with room for it. The items are those of their stream
+/// from item `from` on, and the settings those over them.
+pub(crate) fn run_items<B: EachItem>(
+    block: &B,
+    items: &Items,
+    held: &[Held],
+    from: u64,
+    out: &mut Items,
+)
+    requires kind { B.takes block.now ≡ type_of items.now }
+    requires same_type { type_of items.now ≡ type_of out.old }
+    requires over { AreOver from (from + length (numbers_of items.now)) (map held_of held.now) }
+    requires small { from + length (numbers_of items.now) < 2 ^ 63 }
+    requires empty { numbers_of out.old ≡ [] }
+    requires room { length (numbers_of items.now) ≤ spare_of out.old }
+    ensures item_type { type_of out.new ≡ type_of out.old }
+    ensures numbers { numbers_of out.new ≡ listed (length (numbers_of items.now))
+        (λ k. B.gives block.now (number_among (map held_of held.now) (from + k)) (item (numbers_of items.now) k)) }
+{
+    match (items, out) {
+        (Items::Byte(items), Items::Byte(out)) => run_lanes(block, items, held, from, out),
+        (Items::Short(items), Items::Short(out)) => run_lanes(block, items, held, from, out),
+        (Items::Int(items), Items::Int(out)) => run_lanes(block, items, held, from, out),
+        _ => unreachable!(),
     }
 }

@@ -240,6 +240,7 @@ with_tape s b xs ms = record s { tape = s.tape ++ xs; tags = s.tags ++ map (tag_
 abbrev pub marks_fit : List ℤ → List ℤ → List Mark → Bool
 marks_fit tape xs ms = list_all (λ m. nat_le (length tape) m.offset && nat_lt m.offset (length tape + length xs)) ms
 
+-- the items lie in the range of the type that is fed: in code by their type, and here nothing asks for it
 unfoldable pub feed_of : Network → State → ℕ → ItemType → List ℤ → List Mark → Reply × State
 feed_of net st b t xs ms =
     let s = handed_at st.handed b in
@@ -259,7 +260,8 @@ close_of net st b =
     else (if s.closed then (Refused already_closed, st)
     else (Closed (length s.tape), with_handed st b (record s { closed = true }))))
 
--- a value of the sort, range and length that the block's setting has
+-- a value of the sort, range and length that the block's setting has. Taps are numbers of 16 bits by their type in code, which alone
+-- rules out others
 abbrev pub is_wanted : Wanted → Value → Bool
 is_wanted (wanted.Number least most) (Number z) = int_le least z && int_le z most
 is_wanted (wanted.Number least most) (Taps h) = false

@@ -1,14 +1,21 @@
-use Rattle.std.proofs.Common.{◌≡◌, ℕ, ◌+◌, ◌*◌, ◌<◌, ◌≤◌, ℤ, List, [], ◌∷◌, length, All, get_or, ap, sym, subst, ◌∙◌, arith}
+use Rattle.std.proofs.Common.{◌≡◌, ℕ, ◌+◌, ◌-◌, ◌*◌, ◌<◌, ◌≤◌, ℤ, List, [], ◌∷◌, length, All, take, drop, get_or, ap, sym, subst, ◌∙◌, arith}
 use Rattle.std.proofs.lemmas.List.{take_all}
+use Rattle.stream_model.specs.Lists.{window}
 use Rattle.stream_model.specs.Settings as model
 use Rattle.stream_model.specs.Meaning.{input}
 use Rattle.stream_model.specs.declared.vocabulary.Signature.{Signature}
 use Rattle.items.specs.declared.stream_items.Items.{Items}
 use Rattle.items.specs.Items.{type_of, numbers_of}
 use Rattle.block_kinds.specs.Work.{IsReady}
-use Rattle.math_blocks.specs.AddConst.{meaning_of}
-use Rattle.math_blocks.proofs.Windows.{window-now}
+use Rattle.math_blocks.specs.Kinds.{add_const_of}
 use Rattle.block_tests.proofs.additions.sums.Goals as goal
+
+-- without a past, the window is the items that the firings take
+window-now : (x : List ℤ) (first n : ℕ) → window x 0 (1 * first) (1 * (first + n)) ≡ take n (drop first x)
+window-now x first n =
+    let count : 0 + 1 * (first + n) - 1 * first ≡ n = omega arith in
+    let start : 1 * first ≡ first = omega arith in
+    λ i. take (count i) (drop (start i) x)
 
 -- a fact of the only element holds of each
 all_one : {X : Type 0} (P : X → Type 0) (x : X) → P x → All P (x ∷ [])
@@ -38,7 +45,7 @@ work-word-requires c =
       inputs_most = omega arith;
       outputs_least = omega arith;
       outputs_most = omega arith;
-      ready = all_one (IsReady (meaning_of c.args.block.now) 0 c.len-count.result) c.reserve.new.self (record {
+      ready = all_one (IsReady (add_const_of c.args.block.now) 0 c.len-count.result) c.reserve.new.self (record {
         item = c.in_ok-reserve.ensures.item_type ∙ c.empty.ensures.item_type ∙ ap (λ (s : Signature). s.item) c.outputs.ensures;
         empty = c.in_ok-reserve.ensures.numbers ∙ c.empty.ensures.numbers;
         room = omega (arith, count, ap length items_are, c.in_ok-reserve.ensures.ok);

@@ -1,7 +1,7 @@
-use Rattle.std.proofs.Common.{◌∙◌, sym}
+use Rattle.std.proofs.Common.{sym}
 use Rattle.std.proofs.lemmas.Bool.{ltb-true}
 use Rattle.settings.specs.Values.{held_of}
-use Rattle.math_blocks.proofs.StretchLemmas.{end_before-next}
+use Rattle.math_blocks.proofs.Stretches.{end_before-next}
 use Rattle.math_blocks.proofs.stretch.end_of.Goals as goal
 
 pub returns-in-Some : goal.returns-in-Some

@@ -1,4 +1,3 @@
-use Rattle.kinds.specs.Kind.{meaning_of}
 use Rattle.kinds.proofs.kind.KindBlock.work.Goals as goal
 
 pub returns-in-VectorSource-clause-word : goal.returns-in-VectorSource-clause-word
@@ -6,3 +5,51 @@ returns-in-VectorSource-clause-word c = rw c.in-VectorSource.is c.work.ensures.w
 
 pub returns-in-VectorSink-clause-word : goal.returns-in-VectorSink-clause-word
 returns-in-VectorSink-clause-word c = rw c.in-VectorSink.is c.work-in-VectorSink.ensures.word
+
+pub returns-in-NullSink-clause-word : goal.returns-in-NullSink-clause-word
+returns-in-NullSink-clause-word c = rw c.in-NullSink.is c.work-in-NullSink.ensures.word
+
+pub returns-in-Not-clause-word : goal.returns-in-Not-clause-word
+returns-in-Not-clause-word c = rw c.in-Not.is c.work-in-Not.ensures.word
+
+pub returns-in-Convert-clause-word : goal.returns-in-Convert-clause-word
+returns-in-Convert-clause-word c = rw c.in-Convert.is c.work-in-Convert.ensures.word
+
+pub returns-in-MapBb-clause-word : goal.returns-in-MapBb-clause-word
+returns-in-MapBb-clause-word c = rw c.in-MapBb.is c.work-in-MapBb.ensures.word
+
+pub returns-in-KeepOneInN-clause-word : goal.returns-in-KeepOneInN-clause-word
+returns-in-KeepOneInN-clause-word c = rw c.in-KeepOneInN.is c.work-in-KeepOneInN.ensures.word
+
+pub returns-in-Repeat-clause-word : goal.returns-in-Repeat-clause-word
+returns-in-Repeat-clause-word c = rw c.in-Repeat.is c.work-in-Repeat.ensures.word
+
+pub returns-in-Head-clause-word : goal.returns-in-Head-clause-word
+returns-in-Head-clause-word c = rw c.in-Head.is c.work-in-Head.ensures.word
+
+pub returns-in-SkipHead-clause-word : goal.returns-in-SkipHead-clause-word
+returns-in-SkipHead-clause-word c = rw c.in-SkipHead.is c.work-in-SkipHead.ensures.word
+
+pub returns-in-Delay-clause-word : goal.returns-in-Delay-clause-word
+returns-in-Delay-clause-word c = rw c.in-Delay.is c.work-in-Delay.ensures.word
+
+pub returns-in-PackKBits-clause-word : goal.returns-in-PackKBits-clause-word
+returns-in-PackKBits-clause-word c = rw c.in-PackKBits.is c.work-in-PackKBits.ensures.word
+
+pub returns-in-UnpackKBits-clause-word : goal.returns-in-UnpackKBits-clause-word
+returns-in-UnpackKBits-clause-word c = rw c.in-UnpackKBits.is c.work-in-UnpackKBits.ensures.word
+
+pub returns-in-DiffDecoder-clause-word : goal.returns-in-DiffDecoder-clause-word
+returns-in-DiffDecoder-clause-word c = rw c.in-DiffDecoder.is c.work-in-DiffDecoder.ensures.word
+
+pub returns-in-DiffEncoder-clause-word : goal.returns-in-DiffEncoder-clause-word
+returns-in-DiffEncoder-clause-word c = rw c.in-DiffEncoder.is c.work-in-DiffEncoder.ensures.word
+
+pub returns-in-Scrambler-clause-word : goal.returns-in-Scrambler-clause-word
+returns-in-Scrambler-clause-word c = rw c.in-Scrambler.is c.work-in-Scrambler.ensures.word
+
+pub returns-in-Descrambler-clause-word : goal.returns-in-Descrambler-clause-word
+returns-in-Descrambler-clause-word c = rw c.in-Descrambler.is c.work-in-Descrambler.ensures.word
+
+pub returns-in-AdditiveScrambler-clause-word : goal.returns-in-AdditiveScrambler-clause-word
+returns-in-AdditiveScrambler-clause-word c = rw c.in-AdditiveScrambler.is c.work-in-AdditiveScrambler.ensures.word

@@ -1,0 +1,65 @@
+-- Lemmas on codes that go on from byte to byte.
+use Rattle.std.proofs.Common.{◌≡◌, ℕ, suc, ◌+◌, ◌-◌, ◌<◌, ◌≤◌, ℤ, pos, List, [], ◌∷◌, ◌++◌, length, map, refl, arith, ap, ap₂, sym, ◌∙◌}
+use Rattle.stream_model.specs.Lists.{item, numbers_from}
+use Rattle.stream_model.specs.Settings.{Held}
+use Rattle.stream_model.specs.Meaning.{Meaning, IsFed, input, given_items}
+use Rattle.block_kinds.specs.Shape.{IsPaced}
+use Rattle.block_kinds.proofs.Fills.{there-fill, length-paced, item-paced}
+use Rattle.bit_blocks.specs.Codes.{coded, word_after}
+
+module _ (gives next : ℕ → ℤ → ℕ) where
+  -- one byte more
+  pub word_after-push : (word : ℕ) (zs : List ℤ) (z : ℤ) → word_after next word (zs ++ z ∷ []) ≡ next (word_after next word zs) z
+  word_after-push word [] z = refl
+  word_after-push word (y ∷ zs) z = word_after-push (next word y) zs z
+
+  pub coded-push : (word : ℕ) (zs : List ℤ) (z : ℤ) → coded gives next word (zs ++ z ∷ []) ≡ coded gives next word zs ++ pos (gives (word_after next word zs) z) ∷ []
+  coded-push word [] z = refl
+  coded-push word (y ∷ zs) z = ap (λ ys. pos (gives word y) ∷ ys) (coded-push (next word y) zs z)
+
+  -- where each step is that of a stream, so is the code
+  pub coded-stream :
+      (kept : ℕ → ℕ) (out x : ℕ → ℤ) (w : List ℤ) (a : ℕ) → ((k : ℕ) → k < length w → item w k ≡ x (a + k)) →
+      ((k : ℕ) → k < length w → out (a + k) ≡ pos (gives (kept (a + k)) (x (a + k)))) → ((k : ℕ) → k < length w → kept (a + k + 1) ≡ next (kept (a + k)) (x (a + k))) →
+      (coded gives next (kept a) w ≡ map out (numbers_from a (length w))) × (word_after next (kept a) w ≡ kept (a + length w))
+  coded-stream kept out x [] a items outs words = (refl, ap kept (omega arith))
+  coded-stream kept out x (z ∷ w) a items outs words =
+      let here : a + 0 ≡ a = omega arith in
+      let z_is : z ≡ x a = items 0 (omega arith) ∙ ap x here in
+      let out_is : out a ≡ pos (gives (kept a) (x a)) = rw here at (outs 0 (omega arith)) in
+      let next_is : kept (a + 1) ≡ next (kept a) (x a) = ap kept (omega arith) ∙ words 0 (omega arith) ∙ (λ i. next (kept (here i)) (x (here i))) in
+      let step : next (kept a) z ≡ kept (a + 1) = ap (next (kept a)) z_is ∙ sym next_is in
+      let rest = coded-stream kept out x w (a + 1)
+      (λ k h. items (suc k) (omega arith) ∙ ap x (omega arith))
+      (λ k h. let e : a + suc k ≡ a + 1 + k = omega arith in rw e at (outs (suc k) (omega arith)))
+      (λ k h. let e : a + suc k ≡ a + 1 + k = omega arith in rw e at (words (suc k) (omega arith))) in (
+        ap₂ ◌∷◌ (ap (λ y. pos (gives (kept a) y)) z_is ∙ sym out_is) (ap (λ v. coded gives next v w) step ∙ rest.0),
+        ap (λ v. word_after next v w) step ∙ rest.1 ∙ ap kept (omega arith),
+      )
+
+module _ (m : Meaning) (pace : IsPaced m 1 1) (one : m.history ≡ 1) (ts : List Held) (xs : List (List ℤ)) (first n state : ℕ) (w : List ℤ) (hs : List Held)
+    (fed : IsFed m ts xs first n state (w ∷ []) hs) (gives next : ℕ → ℤ → ℕ)
+    (outs : (a : ℕ) → a < length (input xs 0) → m.out ts xs 0 a ≡ pos (gives (m.word ts xs a) (item (input xs 0) a)))
+    (words : (a : ℕ) → a < length (input xs 0) → m.word ts xs (a + 1) ≡ next (m.word ts xs a) (item (input xs 0) a)) where
+  long : length w ≡ n
+  long = length-paced m 1 1 pace ts xs first n state w hs fed ∙ omega (arith, one)
+
+  within : first + n ≤ length (input xs 0)
+  within = omega (arith, there-fill m ts xs first n state w hs fed, pace.taken 0 (first + n))
+
+  stream : (coded gives next (m.word ts xs first) w ≡ map (m.out ts xs 0) (numbers_from first (length w))) × (word_after next (m.word ts xs first) w ≡ m.word ts xs (first + length w))
+  stream =
+      coded-stream gives next (m.word ts xs) (m.out ts xs 0) (item (input xs 0)) w first
+      (λ k h. item-paced m 1 1 pace ts xs first n state w hs fed one k (omega (arith, h, long)) ∙ ap (item (input xs 0)) (omega arith))
+      (λ k h. outs (first + k) (omega (arith, h, long, within)))
+      (λ k h. words (first + k) (omega (arith, h, long, within)))
+
+  -- the code of a block that gives a byte for a byte by its word is what the firings give
+  pub code-given : coded gives next state w ≡ given_items m ts xs first n 0
+  code-given =
+      let from : first ≡ m.given first = omega (arith, pace.given first) in
+      let more : length w ≡ m.given (first + n) - m.given first = omega (arith, long, pace.given first, pace.given (first + n)) in
+      ap (λ v. coded gives next v w) fed.state_is ∙ stream.0 ∙ (λ i. map (m.out ts xs 0) (numbers_from (from i) (more i)))
+
+  pub code-word : word_after next state w ≡ m.word ts xs (first + n)
+  code-word = ap (λ v. word_after next v w) fed.state_is ∙ stream.1 ∙ ap (λ l. m.word ts xs (first + l)) long

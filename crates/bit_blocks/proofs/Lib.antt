@@ -1,0 +1,5 @@
+pub mod Coded
+pub mod Codes
+pub mod Encoded
+pub mod Registers
+pub mod Scrambled

@@ -1,0 +1,59 @@
+//! Codes that go on from byte to byte.
+ghost use Rattle.std.specs.Prelude.{◌≡◌, ◌-◌, ◌≤◌, ℕ, ℤ, pos, [], map, length, vec_len, vec_capacity};
+ghost use Rattle.stream_model.specs.declared.vocabulary.ItemType.TheVariants.{Byte};
+ghost use Rattle.items.specs.Items.{type_of, numbers_of, spare_of};
+ghost use Rattle.bit_blocks.specs.Codes.{coded, word_after};
+
+use items::Items;
+
+/// A code that gives a byte for a byte by a word, which the byte then changes.
+pub(crate) trait Coder {
+    /// Whether the word can come up.
+    ghost is_word: { Self → ℕ → Type 0 };
+
+    /// What is given for a byte.
+    ghost gives: { Self → ℕ → ℤ → ℕ };
+
+    /// The word behind the byte.
+    ghost next: { Self → ℕ → ℤ → ℕ };
+
+    /// The byte that is given for a byte, and the word behind it.
+    fn step(&self, word: u64, byte: u8) -> (u8, u64)
+        requires { is_word self.now word }
+        ensures given { result.0 ≡ gives self.now word (pos byte) }
+        ensures next { result.1 ≡ next self.now word (pos byte) }
+        ensures word { is_word self.now result.1 };
+}
+
+fn code_bytes<C: Coder>(coder: &C, start: u64, items: &[u8], out: &mut Vec<u8>) -> u64
+    requires word { C.is_word coder.now start }
+    requires empty { map pos out.old.items ≡ [] }
+    requires room { length items.now ≤ vec_capacity out.old - vec_len out.old }
+    ensures items { map pos out.new.items ≡ coded (C.gives coder.now) (C.next coder.now) start (map pos items.now) }
+    ensures word { result ≡ word_after (C.next coder.now) start (map pos items.now) }
+{
+    let mut word = start;
+    for byte in items {
+        let (given, next) = coder.step(word, *byte);
+        out.push_reserved(given);
+        word = next;
+    }
+    word
+}
+
+/// Writes the code of the items into an empty `out` with room for it, and answers the word behind them.
+pub(crate) fn code<C: Coder>(coder: &C, start: u64, items: &Items, out: &mut Items) -> u64
+    requires word { C.is_word coder.now start }
+    requires from { type_of items.now ≡ Byte }
+    requires to { type_of out.old ≡ Byte }
+    requires empty { numbers_of out.old ≡ [] }
+    requires room { length (numbers_of items.now) ≤ spare_of out.old }
+    ensures item_type { type_of out.new ≡ Byte }
+    ensures items { numbers_of out.new ≡ coded (C.gives coder.now) (C.next coder.now) start (numbers_of items.now) }
+    ensures word { result ≡ word_after (C.next coder.now) start (numbers_of items.now) }
+{
+    match (items, out) {
+        (Items::Byte(items), Items::Byte(out)) => code_bytes(coder, start, items, out),
+        _ => unreachable!(),
+    }
+}

@@ -1,0 +1,94 @@
+//! The block that undoes a scrambler: each output is the input with earlier inputs.
+ghost use Rattle.std.specs.Prelude.{◌≡◌};
+ghost use Rattle.stream_model.specs.Kinds.Bits.{descrambler};
+
+use crate::code::{Coder, code};
+use crate::register::Register;
+use block_kinds::{Block, Held, Shape, Single, work_single};
+use items::{ItemType, Items};
+
+/// A block that undoes a scrambler: each output is the input with earlier inputs. Only the lowest bit of a byte counts.
+#[derive(Debug, Drop, PartialEq, Eq)]
+pub struct Descrambler {
+    register: Register,
+}
+
+impl Descrambler {
+    ghost use Rattle.bit_blocks.specs.Kinds.{descrambler_of};
+
+    /// The block with this register.
+    pub fn new(register: Register) -> Descrambler
+        ensures { descrambler_of result ≡ descrambler register.bits register.mask register.init }
+    {
+        Descrambler { register }
+    }
+}
+
+impl Coder for Descrambler {
+    ghost use Rattle.std.specs.Prelude.{◌<◌, ◌^◌, ◌+◌, ◌*◌, ◌%◌};
+    ghost use Rattle.stream_model.specs.Numbers.{residue};
+    ghost use Rattle.stream_model.specs.Kinds.Bits.{masked, places_of};
+
+    ghost is_word = { λ b word. word < 2 ^ b.register.bits };
+
+    ghost gives = { λ b word z. (residue z 2 + masked b.register.bits b.register.mask (places_of b.register.bits word)) % 2 };
+
+    ghost next = { λ b word z. (2 * word + residue z 2) % 2 ^ b.register.bits };
+
+    fn step(&self, word: u64, byte: u8) -> (u8, u64) {
+        let bit = (u64::from(byte) + self.register.sum(word)) % 2;
+        (bit as u8, self.register.push(word, u64::from(byte % 2)))
+    }
+}
+
+impl Single for Descrambler {
+    ghost use Rattle.std.specs.Prelude.{refl};
+    ghost use Rattle.bit_blocks.specs.Kinds.{descrambler_of};
+
+    ghost equation = { descrambler_of };
+
+    fn fill(
+        &self,
+        state: u64,
+        _first: u64,
+        _count: u64,
+        window: &Items,
+        _held: &[Held],
+        out: &mut Items,
+    ) -> u64 {
+        code(self, state, window, out)
+    }
+
+    ghost single = { λ b. record { in_least = refl; in_most = refl; out_least = refl; out_most = refl } };
+}
+
+impl Block for Descrambler {
+    ghost use Rattle.kind_laws.specs.Bits.{descrambler-lawful};
+    ghost use Rattle.bit_blocks.specs.Kinds.{descrambler_of, same_register};
+    ghost use Rattle.stream_model.specs.Kinds.Bits.{descrambler};
+
+    ghost meaning = { descrambler_of };
+
+    fn shape(&self, _input: usize) -> Shape<'_> {
+        Shape {
+            start: self.register.init,
+            ..Shape::sync(ItemType::Byte, ItemType::Byte)
+        }
+    }
+
+    fn work(
+        &self,
+        state: u64,
+        first: u64,
+        count: u64,
+        windows: &[Items],
+        held: &[Held],
+        out: &mut [Items],
+    ) -> u64 {
+        work_single(self, state, first, count, windows, held, out)
+    }
+
+    ghost lawful = { λ b. descrambler-lawful b.register.bits b.register.mask b.register.init b.register.is.init_most };
+
+    ghost same = { λ a b. same_register descrambler a.register b.register };
+}

@@ -1,0 +1,101 @@
+//! The block that gives the difference of each byte and the one before it, modulo `modulus`.
+ghost use Rattle.std.specs.Prelude.{◌≡◌, ◌≤◌, ◌↔◌, IsOk, IfOk, IfErr};
+ghost use Rattle.stream_model.specs.Kinds.Bits.{diff_decoder};
+
+use block_kinds::{Block, Held, ParamFault, Parameter, Shape, Single, work_single};
+use items::{ItemType, Items};
+use lane_filters::diff_decode;
+use lane_work::{ByteWork, make_bytes};
+
+/// A block that gives the difference of each byte and the one before it, modulo `modulus`.
+#[derive(Debug, Drop, PartialEq, Eq)]
+pub struct DiffDecoder {
+    modulus: u32,
+    ghost some: { 2 ≤ modulus },
+    ghost few: { modulus ≤ 256 },
+}
+
+impl DiffDecoder {
+    ghost use Rattle.bit_blocks.specs.Kinds.{diff_decoder_of};
+
+    /// The block with this parameter, from 2 to 256.
+    pub fn new(modulus: u32) -> Result<DiffDecoder, ParamFault>
+        ensures meaning { IfOk result (λ block. diff_decoder_of block ≡ diff_decoder modulus) }
+        ensures range { IsOk result ↔ ((2 ≤ modulus) × (modulus ≤ 256)) }
+        ensures err { IfErr result (λ fault. fault ≡ ParamFault.BadParameter Parameter.Modulus) }
+    {
+        if modulus < 2 || 256 < modulus {
+            return Err(ParamFault::BadParameter(Parameter::Modulus));
+        }
+        Ok(DiffDecoder { modulus })
+    }
+}
+
+impl ByteWork for DiffDecoder {
+    ghost use Rattle.std.specs.Prelude.{length, drop, ◌+◌};
+    ghost use Rattle.stream_model.specs.Lists.{item};
+    ghost use Rattle.stream_model.specs.Kernels as kernels;
+
+    ghost can_make = { λ b xs count. length xs ≡ 1 + count };
+
+    ghost makes = { λ b xs count. kernels.diff_decode b.modulus (item xs 0) (drop 1 xs) };
+
+    fn make(&self, items: &[u8], out: &mut [u8]) {
+        diff_decode(self.modulus, items[0], &items[1..], out);
+    }
+}
+
+impl Single for DiffDecoder {
+    ghost use Rattle.std.specs.Prelude.{refl};
+    ghost use Rattle.bit_blocks.specs.Kinds.{diff_decoder_of};
+
+    ghost equation = { diff_decoder_of };
+
+    fn fill(
+        &self,
+        _state: u64,
+        _first: u64,
+        count: u64,
+        window: &Items,
+        _held: &[Held],
+        out: &mut Items,
+    ) -> u64 {
+        make_bytes(self, window, count as usize, out);
+        0
+    }
+
+    ghost single = { λ b. record { in_least = refl; in_most = refl; out_least = refl; out_most = refl } };
+}
+
+impl Block for DiffDecoder {
+    ghost use Rattle.std.proofs.Common.{ap};
+    ghost use Rattle.kind_laws.specs.Bits.{diff_decoder-lawful};
+    ghost use Rattle.block_kinds.specs.SameItem.{same_number};
+    ghost use Rattle.bit_blocks.specs.Kinds.{diff_decoder_of, some_of};
+    ghost use Rattle.stream_model.specs.Kinds.Bits.{diff_decoder};
+
+    ghost meaning = { diff_decoder_of };
+
+    fn shape(&self, _input: usize) -> Shape<'_> {
+        Shape {
+            history: 2,
+            ..Shape::sync(ItemType::Byte, ItemType::Byte)
+        }
+    }
+
+    fn work(
+        &self,
+        state: u64,
+        first: u64,
+        count: u64,
+        windows: &[Items],
+        held: &[Held],
+        out: &mut [Items],
+    ) -> u64 {
+        work_single(self, state, first, count, windows, held, out)
+    }
+
+    ghost lawful = { λ b. diff_decoder-lawful b.modulus (some_of b) b.few };
+
+    ghost same = { λ a b e. ap diff_decoder (same_number a.modulus b.modulus e) };
+}

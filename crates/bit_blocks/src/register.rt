@@ -1,0 +1,61 @@
+//! Shift registers.
+ghost use Rattle.std.specs.Prelude.{◌≡◌, ◌^◌, ◌<◌, ◌≤◌, ◌+◌, ◌*◌, ◌%◌, ◌↔◌, ◌⊎◌, IsOk, IfOk, IsErrOf};
+ghost use Rattle.stream_model.specs.Kinds.Bits.{masked, places_of};
+ghost use Rattle.bit_blocks.specs.Registers.{IsRegister};
+
+use block_kinds::{ParamFault, Parameter};
+
+/// A shift register: how many bits it has, a mask of those that are summed, and what it holds at first.
+#[derive(Debug, Drop, PartialEq, Eq)]
+pub struct Register {
+    pub bits: u32,
+    pub mask: u64,
+    pub init: u64,
+    ghost is: { IsRegister bits mask init },
+}
+
+impl Register {
+    /// The register of 2 to 32 bits with a mask above 0, where mask and init have no more bits.
+    pub fn new(bits: u32, mask: u64, init: u64) -> Result<Register, ParamFault>
+        ensures bits { IfOk result (λ register. register.bits ≡ bits) }
+        ensures mask { IfOk result (λ register. register.mask ≡ mask) }
+        ensures init { IfOk result (λ register. register.init ≡ init) }
+        ensures range { IsOk result ↔ IsRegister bits mask init }
+        ensures bad_bits { IsErrOf result (ParamFault.BadParameter Parameter.Bits) ↔ ((bits < 2) ⊎ (32 < bits)) }
+        ensures bad_mask { IsErrOf result (ParamFault.BadParameter Parameter.Mask) ↔ ((2 ≤ bits) × (bits ≤ 32) × ((mask < 1) ⊎ (2 ^ bits ≤ mask))) }
+    {
+        if bits < 2 || 32 < bits {
+            return Err(ParamFault::BadParameter(Parameter::Bits));
+        }
+        let end = 1 << bits;
+        if mask < 1 || end <= mask {
+            return Err(ParamFault::BadParameter(Parameter::Mask));
+        }
+        if end <= init {
+            return Err(ParamFault::BadParameter(Parameter::Init));
+        }
+        Ok(Register { bits, mask, init })
+    }
+
+    /// The sum of the bits of a word that the mask has.
+    pub(crate) fn sum(&self, word: u64) -> u64
+        ensures value { result ≡ masked self.now.bits self.now.mask (places_of self.now.bits word) }
+        ensures small { result ≤ 32 }
+    {
+        let mut sum = 0;
+        for j in 0..self.bits {
+            sum += (self.mask >> j) % 2 * ((word >> j) % 2);
+        }
+        sum
+    }
+
+    /// The word with a new bit in front, without its oldest bit.
+    pub(crate) fn push(&self, word: u64, bit: u64) -> u64
+        requires word { word < 2 ^ self.now.bits }
+        requires bit { bit < 2 }
+        ensures value { result ≡ (2 * word + bit) % 2 ^ self.now.bits }
+        ensures word { result < 2 ^ self.now.bits }
+    {
+        (2 * word + bit) % (1 << self.bits)
+    }
+}

@@ -1,0 +1,115 @@
+//! Why a block could not be made.
+ghost use Rattle.std.specs.Prelude.{◌≡◌};
+ghost use Rattle.block_kinds.specs.Fault.{number_of};
+ghost use Rattle.block_kinds.specs.declared.fault.ParamFault.TheVariants.{Memory};
+
+use std::alloc::AllocError;
+use std::error::Error;
+use std::fmt;
+
+/// The parameters of blocks. A parameter prints as the name that a graph gives it.
+#[derive(Clone, Copy, Debug, PartialEq, Eq)]
+pub enum Parameter {
+    /// `type`
+    ItemType,
+    /// `value`
+    Value,
+    /// `factor`
+    Factor,
+    /// `shift`
+    Shift,
+    /// `map`
+    Map,
+    /// `to`
+    To,
+    /// `length`
+    Length,
+    /// `taps`
+    Taps,
+    /// `decimation`
+    Decimation,
+    /// `interpolation`
+    Interpolation,
+    /// `k`
+    K,
+    /// `modulus`
+    Modulus,
+    /// `bits`
+    Bits,
+    /// `mask`
+    Mask,
+    /// `init`
+    Init,
+    /// `n`
+    N,
+    /// `ports`
+    Ports,
+    /// `lengths`
+    Lengths,
+}
+
+impl fmt::Display for Parameter {
+    fn fmt<W: fmt::Write>(&self, f: &mut fmt::Formatter<W>) -> fmt::Result {
+        f.write_str(match self {
+            Parameter::ItemType => "type",
+            Parameter::Value => "value",
+            Parameter::Factor => "factor",
+            Parameter::Shift => "shift",
+            Parameter::Map => "map",
+            Parameter::To => "to",
+            Parameter::Length => "length",
+            Parameter::Taps => "taps",
+            Parameter::Decimation => "decimation",
+            Parameter::Interpolation => "interpolation",
+            Parameter::K => "k",
+            Parameter::Modulus => "modulus",
+            Parameter::Bits => "bits",
+            Parameter::Mask => "mask",
+            Parameter::Init => "init",
+            Parameter::N => "n",
+            Parameter::Ports => "ports",
+            Parameter::Lengths => "lengths",
+        })
+    }
+}
+
+/// Why a block could not be made.
+#[derive(Clone, Copy, Debug, PartialEq, Eq)]
+pub enum ParamFault {
+    /// The parameter has a value that a block of this kind may not have. Of several such, it is the first in the
+    /// order in which the kind lists its parameters.
+    BadParameter(Parameter),
+    /// Memory ran out.
+    Memory,
+}
+
+impl ParamFault {
+    /// The number by which the refusal is reported: 10 or 32.
+    pub fn number(&self) -> u32
+        ensures { result ≡ number_of self.now }
+    {
+        match self {
+            ParamFault::BadParameter(_) => 10,
+            ParamFault::Memory => 32,
+        }
+    }
+}
+
+impl fmt::Display for ParamFault {
+    fn fmt<W: fmt::Write>(&self, f: &mut fmt::Formatter<W>) -> fmt::Result {
+        match self {
+            ParamFault::BadParameter(parameter) => write!(f, "bad parameter {parameter}"),
+            ParamFault::Memory => write!(f, "out of memory"),
+        }
+    }
+}
+
+impl Error for ParamFault {}
+
+impl From<AllocError> for ParamFault {
+    ghost from_gives = { λ _ e. e ≡ Memory };
+
+    fn from(_refusal: AllocError) -> ParamFault {
+        ParamFault::Memory
+    }
+}

@@ -1,0 +1,55 @@
+//! Blocks with one input and one output.
+ghost use Rattle.std.specs.Prelude.{◌≡◌, ◌+◌, List, ℤ};
+ghost use Rattle.stream_model.specs.Meaning.{Meaning};
+ghost use Rattle.stream_model.specs.Settings as model;
+ghost use Rattle.items.specs.Items.{type_of};
+ghost use Rattle.block_kinds.specs.Fill.{IsSingle, IsFillOf, CanFill, HasFilled};
+ghost use Rattle.block_kinds.specs.Work.{CanWork, HasWorked, IsWorkOf};
+
+use items::Items;
+use settings::Held;
+
+/// A block with one input, or a source, and one output.
+pub trait Single {
+    /// What the block means.
+    ghost equation: { Self → Meaning };
+
+    /// Does firings `first` to below `first + count`: writes what they give into the empty `out`, and answers the state
+    /// word after them. `state` is the word before them, `window` has the items that they take behind the past that they
+    /// read, and `held` the settings in force over these items. It takes no memory.
+    fn fill(
+        &self,
+        state: u64,
+        first: u64,
+        count: u64,
+        window: &Items,
+        held: &[Held],
+        out: &mut Items,
+    ) -> u64
+        requires { CanFill (equation self.now) first count state window.now held.now out.old }
+        ensures items { HasFilled (equation self.now) first count state window.now held.now out.new }
+        ensures item_type { type_of out.new ≡ type_of out.old }
+        ensures word { (ts : List model.Held) (xs : List (List ℤ)) → IsFillOf (equation self.now) ts xs first count state window.now held.now
+            → result ≡ (equation self.now).word ts xs (first + count) };
+
+    /// The block has these ports.
+    ghost single: { (b : Self) → IsSingle (equation b) };
+}
+
+/// The `work` of a block with one input and one output.
+pub fn work_single<S: Single>(
+    block: &S,
+    state: u64,
+    first: u64,
+    count: u64,
+    windows: &[Items],
+    held: &[Held],
+    out: &mut [Items],
+) -> u64
+    requires { CanWork (S.equation block.now) first count state windows.now held.now out.old }
+    ensures items { HasWorked (S.equation block.now) first count state windows.now held.now out.old out.new }
+    ensures word { (ts : List model.Held) (xs : List (List ℤ)) → IsWorkOf (S.equation block.now) ts xs first count state windows.now held.now
+        → result ≡ (S.equation block.now).word ts xs (first + count) }
+{
+    block.fill(state, first, count, &windows[0], held, &mut out[0])
+}

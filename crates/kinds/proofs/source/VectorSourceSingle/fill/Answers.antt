@@ -1,0 +1,11 @@
+use Rattle.std.proofs.Common.{◌∙◌, ◌++◌, map}
+use Rattle.items.specs.Items.{numbers_of}
+use Rattle.settings.specs.Values.{held_of}
+use Rattle.kinds.proofs.Taped.{tape-given}
+use Rattle.kinds.proofs.source.VectorSourceSingle.fill.Goals as goal
+
+pub returns-clause-items : goal.returns-clause-items
+returns-clause-items c ts xs fed =
+    c.push_slice.ensures.numbers
+    ∙ (λ i. c.requires.ready.empty i ++ numbers_of c.args.window.now)
+    ∙ tape-given c.args.self.now.item ts xs c.args._first c.args._count c.args._state (numbers_of c.args.window.now) (map held_of c.args._held.now) fed

@@ -1,0 +1,58 @@
+-- What the blocks of arithmetic mean.
+use Rattle.std.specs.Prelude.{◌≡◌, pos, map, true, ◌&&◌}
+use Rattle.std.specs.Ordering.{int_eq}
+use Rattle.std.specs.Cmp.{first_so, second_so, signed_Decides}
+use denote.Enum.Bare.{sameb}
+use Rattle.std.specs.Cmp.Lexicographic.{pointwise}
+use Rattle.std.proofs.Common.{ap, sym, nat_eq}
+use Rattle.std.specs.Cmp.Lexicographic.{same_text}
+use Rattle.stream_model.specs.contracts.vocabulary.ItemType.{the_type}
+use Rattle.stream_model.specs.Meaning.{Meaning, IsLawful}
+use Rattle.stream_model.specs.Kinds.Math.{add_const, multiply_const, not_of, convert, map_bb}
+use Rattle.block_kinds.specs.SameItem.{same_item}
+use Rattle.math_blocks.specs.declared.add_const.AddConst.{AddConst}
+use Rattle.math_blocks.specs.declared.convert.Convert.{Convert}
+use Rattle.kind_laws.specs.Math.{map_bb-lawful}
+use Rattle.math_blocks.specs.declared.map_bb.MapBb.{MapBb}
+use Rattle.math_blocks.specs.declared.not.Not.{Not}
+use Rattle.math_blocks.specs.declared.multiply_const.MultiplyConst.{MultiplyConst}
+
+abbrev pub add_const_of : AddConst → Meaning
+add_const_of b = add_const b.item b.value
+
+abbrev pub multiply_const_of : MultiplyConst → Meaning
+multiply_const_of b = multiply_const b.item b.value
+
+abbrev pub not_block_of : Not → Meaning
+not_block_of b = not_of b.item
+
+abbrev pub convert_of : Convert → Meaning
+convert_of b = convert b.item b.to
+
+-- blocks that the derived test finds equal mean the same
+pub add_const-same : (a b : AddConst) → (sameb the_type a.item b.item && int_eq a.value b.value) ≡ true → add_const_of a ≡ add_const_of b
+add_const-same a b e =
+    let item_same = same_item a.item b.item (first_so (sameb the_type a.item b.item) (int_eq a.value b.value) e) in
+    let value_same = (signed_Decides a.value b.value).0 (second_so (sameb the_type a.item b.item) (int_eq a.value b.value) e) in
+    λ i. add_const (item_same i) (value_same i)
+
+pub multiply_const-same : (a b : MultiplyConst) → (sameb the_type a.item b.item && int_eq a.value b.value) ≡ true → multiply_const_of a ≡ multiply_const_of b
+multiply_const-same a b e =
+    let item_same = same_item a.item b.item (first_so (sameb the_type a.item b.item) (int_eq a.value b.value) e) in
+    let value_same = (signed_Decides a.value b.value).0 (second_so (sameb the_type a.item b.item) (int_eq a.value b.value) e) in
+    λ i. multiply_const (item_same i) (value_same i)
+
+pub convert-same : (a b : Convert) → (sameb the_type a.item b.item && sameb the_type a.to b.to) ≡ true → convert_of a ≡ convert_of b
+convert-same a b e =
+    let item_same = same_item a.item b.item (first_so (sameb the_type a.item b.item) (sameb the_type a.to b.to) e) in
+    let to_same = same_item a.to b.to (second_so (sameb the_type a.item b.item) (sameb the_type a.to b.to) e) in
+    λ i. convert (item_same i) (to_same i)
+
+abbrev pub map_bb_of : MapBb → Meaning
+map_bb_of b = map_bb (map pos b.table.items)
+
+pub map_bb_of-lawful : (b : MapBb) → IsLawful (map_bb_of b)
+map_bb_of-lawful b = map_bb-lawful (map pos b.table.items) b.bytes
+
+pub map_bb-same : (a b : MapBb) → pointwise nat_eq a.table.items b.table.items ≡ true → map_bb_of a ≡ map_bb_of b
+map_bb-same a b e = ap (λ t. map_bb (map pos t)) (same_text a.table.items b.table.items (sym e))

@@ -1,0 +1,113 @@
+//! The block that looks bytes up in a table.
+ghost use Rattle.std.specs.Prelude.{◌≡◌, ◌≤◌, ℤ, length, map, pos, IfOk, IsErrOf, OnOk, ◌↔◌};
+ghost use Rattle.stream_model.specs.Numbers.{AreItems};
+ghost use Rattle.stream_model.specs.declared.vocabulary.ItemType.TheVariants as types;
+ghost use Rattle.stream_model.specs.Kinds.Math.{map_bb};
+
+use block_kinds::{Block, Held, ParamFault, Parameter, Shape, Single, work_single};
+use items::{ItemType, Items};
+use lane_work::{ByteWork, make_bytes};
+use numbers::vectors::narrowed;
+use std::alloc::Global;
+
+/// A block that gives for each byte the table's number at it, and bytes past the table's end as they are.
+#[derive(Debug, Drop, PartialEq, Eq)]
+pub struct MapBb {
+    table: Vec<u8>,
+    ghost bytes: { AreItems types.Byte (map pos table.items) },
+}
+
+impl MapBb {
+    ghost use Rattle.math_blocks.specs.Kinds.{map_bb_of};
+
+    /// The block with a copy of this table of at most 256 bytes. `Memory` comes only where the allocator refuses.
+    pub fn new(alloc: Global, table: &[i64]) -> Result<MapBb, ParamFault>
+        ensures meaning { IfOk result (λ block. map_bb_of block ≡ map_bb table.now) }
+        ensures range { OnOk result ((length table.now ≤ 256) × AreItems types.Byte table.now) }
+        ensures bad { IsErrOf result (ParamFault.BadParameter Parameter.Map) ↔ (¬ ((length table.now ≤ 256) × AreItems types.Byte table.now)) }
+    {
+        if table.len() > 256 || !table.iter().all(|n| 0 <= *n && *n <= 255) {
+            return Err(ParamFault::BadParameter(Parameter::Map));
+        }
+        Ok(MapBb {
+            table: narrowed(alloc, table)?,
+        })
+    }
+}
+
+impl MapBb {
+    ghost use Rattle.stream_model.specs.Kinds.Math.{looked_up};
+
+    fn entry(&self, byte: u8) -> u8
+        ensures { pos result ≡ looked_up (map pos self.now.table.items) (pos byte) }
+    {
+        match self.table.get(byte as usize) {
+            Some(to) => *to,
+            None => byte,
+        }
+    }
+}
+
+impl ByteWork for MapBb {
+    ghost use Rattle.stream_model.specs.Lists.{item};
+    ghost use Rattle.stream_model.specs.Kernels.{listed};
+    ghost use Rattle.stream_model.specs.Kinds.Math.{looked_up};
+
+    ghost can_make = { λ b xs count. count ≡ length xs };
+
+    ghost makes = { λ b xs count. listed count (λ k. looked_up (map pos b.table.items) (item xs k)) };
+
+    fn make(&self, items: &[u8], out: &mut [u8]) {
+        for k in 0..out.len() {
+            out[k] = self.entry(items[k]);
+        }
+    }
+}
+
+impl Single for MapBb {
+    ghost use Rattle.std.specs.Prelude.{refl};
+    ghost use Rattle.math_blocks.specs.Kinds.{map_bb_of};
+
+    ghost equation = { map_bb_of };
+
+    fn fill(
+        &self,
+        _state: u64,
+        _first: u64,
+        count: u64,
+        window: &Items,
+        _held: &[Held],
+        out: &mut Items,
+    ) -> u64 {
+        make_bytes(self, window, count as usize, out);
+        0
+    }
+
+    ghost single = { λ b. record { in_least = refl; in_most = refl; out_least = refl; out_most = refl } };
+}
+
+impl Block for MapBb {
+    ghost use Rattle.math_blocks.specs.Kinds.{map_bb_of, map_bb_of-lawful, map_bb-same};
+
+    ghost meaning = { map_bb_of };
+
+    fn shape(&self, _input: usize) -> Shape<'_> {
+        Shape::sync(ItemType::Byte, ItemType::Byte)
+    }
+
+    fn work(
+        &self,
+        state: u64,
+        first: u64,
+        count: u64,
+        windows: &[Items],
+        held: &[Held],
+        out: &mut [Items],
+    ) -> u64 {
+        work_single(self, state, first, count, windows, held, out)
+    }
+
+    ghost lawful = { map_bb_of-lawful };
+
+    ghost same = { map_bb-same };
+}

@@ -1,0 +1,12 @@
+use Rattle.std.proofs.Common.{◌∙◌, ◌++◌, map}
+use Rattle.items.specs.Items.{numbers_of}
+use Rattle.settings.specs.Values.{held_of}
+use Rattle.rate_blocks.proofs.Moved.{head-given}
+use Rattle.rate_blocks.proofs.head.HeadSingle.fill.Goals as goal
+
+pub returns-clause-items : goal.returns-clause-items
+returns-clause-items c ts xs fed =
+    let b = c.args.self.now in
+    c.push_slice.ensures.numbers
+    ∙ (λ i. c.requires.ready.empty i ++ numbers_of c.args.window.now)
+    ∙ head-given b.item b.n ts xs c.args._first c.args._count c.args._state (numbers_of c.args.window.now) (map held_of c.args._held.now) fed
