@@ -15,7 +15,8 @@ pub struct Register {
 }
 
 impl Register {
-    /// The register of 2 to 32 bits with a mask above 0, where mask and init have no more bits.
+    /// The register of 2 to 32 bits with a mask above 0, where mask and init have no more bits. Of several bad
+    /// parameters the first in the order of bits, mask and init is refused.
     pub fn new(bits: u32, mask: u64, init: u64) -> Result<Register, ParamFault>
         ensures bits { IfOk result (λ register. register.bits ≡ bits) }
         ensures mask { IfOk result (λ register. register.mask ≡ mask) }
@@ -23,6 +24,8 @@ impl Register {
         ensures range { IsOk result ↔ IsRegister bits mask init }
         ensures bad_bits { IsErrOf result (ParamFault.BadParameter Parameter.Bits) ↔ ((bits < 2) ⊎ (32 < bits)) }
         ensures bad_mask { IsErrOf result (ParamFault.BadParameter Parameter.Mask) ↔ ((2 ≤ bits) × (bits ≤ 32) × ((mask < 1) ⊎ (2 ^ bits ≤ mask))) }
+        ensures bad_init { IsErrOf result (ParamFault.BadParameter Parameter.Init)
+            ↔ ((2 ≤ bits) × (bits ≤ 32) × (1 ≤ mask) × (mask < 2 ^ bits) × (2 ^ bits ≤ init)) }
     {
         if bits < 2 || 32 < bits {
             return Err(ParamFault::BadParameter(Parameter::Bits));

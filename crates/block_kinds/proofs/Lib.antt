@@ -1,1 +1,4 @@
 pub mod Fills
+pub mod InForce
+pub mod Inputs
+pub mod Outputs

@@ -1,7 +1,7 @@
 -- What the work of a block with one input and one output is given, and what it makes.
 use Rattle.std.specs.Prelude.{◌≡◌, ◌+◌, ◌<◌, ◌^◌, ℕ, ℤ, List, [], ◌∷◌, map}
 use Rattle.stream_model.specs.Settings as model
-use Rattle.stream_model.specs.Meaning.{Meaning, IsFed, given_items}
+use Rattle.stream_model.specs.Meaning.{Meaning, AreWanted, IsFed, given_items}
 use Rattle.items.specs.declared.stream_items.Items.{Items}
 use Rattle.items.specs.Items.{type_of, numbers_of}
 use Rattle.settings.specs.declared.value.Held.{Held}
@@ -19,11 +19,12 @@ pub record IsSingle (m : Meaning) : Type 0 where
 abbrev pub IsFillOf : Meaning → List model.Held → List (List ℤ) → ℕ → ℕ → ℕ → Items → List Held → Type 0
 IsFillOf m ts xs first n state window held = IsFed m ts xs first n state (numbers_of window ∷ []) (map held_of held)
 
--- what some streams and settings bring, over counts that fit a word
+-- what some streams and settings bring, where each value that was set is one that the block takes, over counts that fit a word
 pub record CanFill (m : Meaning) (first n state : ℕ) (window : Items) (held : List Held) (out : Items) : Type 0 where
   pub settings : List model.Held
   pub streams : List (List ℤ)
   pub fed : IsFillOf m settings streams first n state window held
+  pub wanted : AreWanted m settings
   pub item : type_of window ≡ m.inputs.item
   pub ready : IsReady m first n out
   pub firings : first + n < 2 ^ 63

@@ -1,5 +1,6 @@
 pub mod Fault
 pub mod Fill
+pub mod InForce
 pub mod SameItem
 pub mod Shape
 pub mod Work

@@ -1,5 +1,5 @@
 -- What a shape says of a block.
-use Rattle.std.specs.Prelude.{◌≡◌, ◌≤◌, ◌<◌, ◌^◌, ◌*◌, ◌+◌, ◌-◌, ℕ, Option, Some, None, length}
+use Rattle.std.specs.Prelude.{◌≡◌, ◌≤◌, ◌<◌, ◌^◌, ◌*◌, ◌/◌, ◌%◌, ◌+◌, ◌-◌, ℕ, Option, Some, None, length}
 use Rattle.stream_model.specs.declared.vocabulary.Shift.TheVariants as shifts
 use Rattle.stream_model.specs.declared.vocabulary.Wanted.{Wanted}
 use Rattle.stream_model.specs.declared.vocabulary.Wanted.TheVariants as wanted
@@ -7,7 +7,7 @@ use Rattle.stream_model.specs.Settings as model
 use Rattle.stream_model.specs.Tags.{place_at_rate}
 use Rattle.stream_model.specs.Meaning.{Meaning}
 use Rattle.block_kinds.specs.declared.shape.Pace.{Pace}
-use Rattle.block_kinds.specs.declared.shape.Pace.TheVariants.{Rate, Skip, Delay}
+use Rattle.block_kinds.specs.declared.shape.Pace.TheVariants.{Rate, Turns, Skip, Delay}
 use Rattle.block_kinds.specs.declared.shape.Setting.{Setting}
 use Rattle.block_kinds.specs.declared.shape.Setting.TheVariants.{Fixed, Number, Taps}
 use Rattle.block_kinds.specs.declared.shape.Shape.{Shape}
@@ -48,6 +48,15 @@ pub record IsPacedAt (m : Meaning) (p d i : ℕ) : Type 0 where
   pub given : (k : ℕ) → m.given k ≡ i * k
   pub place : (s : ℕ) → m.place p s ≡ place_at_rate d i s
 
+-- on input p, d items taken in a firing; of the i given, these are the next d behind b others, and a tag stays on its item
+pub record IsTakingTurns (m : Meaning) (p d i b : ℕ) : Type 0 where
+  pub some : 1 ≤ d
+  pub rate : m.rate p ≡ Some (d, i)
+  pub shift : m.shift ≡ shifts.No
+  pub taken : (k : ℕ) → m.taken p k ≡ d * k
+  pub given : (k : ℕ) → m.given k ≡ i * k
+  pub place : (s : ℕ) → m.place p s ≡ s / d * i + b + s % d
+
 -- without the first n items
 pub record IsSkipping (m : Meaning) (p n : ℕ) : Type 0 where
   pub rate : m.rate p ≡ None
@@ -66,6 +75,7 @@ pub record IsDelaying (m : Meaning) (p n : ℕ) : Type 0 where
 
 abbrev pub HasPace : Meaning → ℕ → Pace → Type 0
 HasPace m p (Rate d i) = IsPacedAt m p d i
+HasPace m p (Turns d i b) = IsTakingTurns m p d i b
 HasPace m p (Skip n) = IsSkipping m p n
 HasPace m p (Delay n) = IsDelaying m p n
 

@@ -4,7 +4,7 @@ use Rattle.stream_model.specs.declared.vocabulary.Role.{Role}
 use Rattle.stream_model.specs.declared.vocabulary.Role.TheVariants.{Source, Work, Keep, Discard}
 use Rattle.stream_model.specs.declared.vocabulary.Signature.{Signature}
 use Rattle.stream_model.specs.Settings as model
-use Rattle.stream_model.specs.Meaning.{Meaning, IsFed, given_outputs}
+use Rattle.stream_model.specs.Meaning.{Meaning, AreWanted, IsFed, given_outputs}
 use Rattle.items.specs.declared.stream_items.Items.{Items}
 use Rattle.items.specs.Items.{type_of, numbers_of, spare_of}
 use Rattle.settings.specs.declared.value.Held.{Held}
@@ -33,11 +33,13 @@ most_windows Work inputs = inputs.most
 most_windows Keep inputs = inputs.most
 most_windows Discard inputs = inputs.most
 
--- what `work` may be called with: what some streams and settings bring, over counts that fit a word
+-- what `work` may be called with: what some streams and settings bring, where each value that was set is one that the block takes,
+-- over counts that fit a word
 pub record CanWork (m : Meaning) (first n state : ℕ) (windows : List Items) (held : List Held) (out : List Items) : Type 0 where
   pub settings : List model.Held
   pub streams : List (List ℤ)
   pub fed : IsWorkOf m settings streams first n state windows held
+  pub wanted : AreWanted m settings
   pub types : All (λ w. type_of w ≡ m.inputs.item) windows
   pub inputs_least : least_windows m.role m.inputs ≤ length windows
   pub inputs_most : length windows ≤ most_windows m.role m.inputs

@@ -54,7 +54,7 @@ pub trait Block: Eq + Drop {
         ensures { result ≡ (meaning self.now).rate input }
     {
         match self.shape(input).pace {
-            Pace::Rate(taken, given) => Some((taken, given)),
+            Pace::Rate(taken, given) | Pace::Turns(taken, given, _) => Some((taken, given)),
             Pace::Skip(_) | Pace::Delay(_) => None,
         }
     }
@@ -64,7 +64,7 @@ pub trait Block: Eq + Drop {
         ensures { result ≡ (meaning self.now).shift }
     {
         match self.shape(0).pace {
-            Pace::Rate(_, _) => Shift::No,
+            Pace::Rate(_, _) | Pace::Turns(_, _, _) => Shift::No,
             Pace::Skip(count) => Shift::Skip(count),
             Pace::Delay(count) => Shift::Delay(count),
         }
@@ -76,7 +76,7 @@ pub trait Block: Eq + Drop {
         ensures { result ≡ (meaning self.now).taken input firings }
     {
         match self.shape(input).pace {
-            Pace::Rate(taken, _) => taken * firings,
+            Pace::Rate(taken, _) | Pace::Turns(taken, _, _) => taken * firings,
             Pace::Skip(_) => firings,
             Pace::Delay(count) => firings.saturating_sub(count),
         }
@@ -88,7 +88,7 @@ pub trait Block: Eq + Drop {
         ensures { result ≡ (meaning self.now).given firings }
     {
         match self.shape(0).pace {
-            Pace::Rate(_, given) => given * firings,
+            Pace::Rate(_, given) | Pace::Turns(_, given, _) => given * firings,
             Pace::Skip(count) => firings.saturating_sub(count),
             Pace::Delay(_) => firings,
         }
@@ -101,6 +101,7 @@ pub trait Block: Eq + Drop {
     {
         match self.shape(input).pace {
             Pace::Rate(taken, given) => place(taken, given, offset),
+            Pace::Turns(taken, given, before) => offset / taken * given + before + offset % taken,
             Pace::Skip(count) => offset.saturating_sub(count),
             Pace::Delay(count) => offset + count,
         }

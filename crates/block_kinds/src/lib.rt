@@ -9,6 +9,6 @@ pub mod single;
 pub use block::Block;
 pub use fault::{ParamFault, Parameter};
 pub use settings::{Held, Taps, Value};
-pub use shape::{Pace, Setting, Shape, ports};
+pub use shape::{Pace, Setting, Shape, any_ports, ports};
 pub use single::{Single, work_single};
 pub use stream_model::{Policy, Role, Shift, Signature, Wanted};

@@ -1,14 +1,16 @@
 //! What the ports, counts and setting of a block are, as plain data.
 ghost use Rattle.std.specs.Prelude.{◌≡◌};
-ghost use Rattle.stream_model.specs.Kinds.Shapes.{ports};
+ghost use Rattle.stream_model.specs.Kinds.Shapes.{ports, any_ports};
 
 use stream_model::{ItemType, Role, Signature};
 
-/// How the items that a block takes go with those that it gives. It is the same for each input.
+/// How the items that a block takes of an input go with those that it gives.
 #[derive(Clone, Copy, Debug, PartialEq, Eq)]
 pub enum Pace {
     /// So many items taken and so many given in a firing. A tag goes to the nearest item.
     Rate(u64, u64),
+    /// So many items taken, and so many given of which these are the next behind so many others. A tag stays on its item.
+    Turns(u64, u64, u64),
     /// The first items are left out, this many.
     Skip(u64),
     /// This many zeros come before the stream.
@@ -49,6 +51,17 @@ pub fn ports(count: u32, item: ItemType) -> Signature
     Signature {
         least: count,
         most: count,
+        item,
+    }
+}
+
+/// One port or more, up to 16.
+pub fn any_ports(item: ItemType) -> Signature
+    ensures { result ≡ any_ports item }
+{
+    Signature {
+        least: 1,
+        most: 16,
         item,
     }
 }

@@ -1,1 +1,2 @@
-pub mod TestWork
+pub mod Counts
+pub mod Steps

@@ -2,6 +2,16 @@
 #![tactic(auto)]
 
 #[cfg(test)]
-mod additions;
+mod arithmetic;
 #[cfg(test)]
-mod any_blocks;
+mod bits;
+#[cfg(test)]
+mod filters;
+#[cfg(test)]
+mod harness;
+#[cfg(test)]
+mod ports;
+#[cfg(test)]
+mod rates;
+#[cfg(test)]
+mod runs;

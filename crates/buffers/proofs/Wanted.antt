@@ -1,12 +1,11 @@
 -- The tags that are still wanted, after more tags and after readers have gone on.
-use Rattle.std.proofs.Common.{◌≡◌, ℕ, ◌+◌, ◌≤◌, ◌∙◌, ap, sym, refl, arith, List, [], ◌∷◌, ◌++◌, length, Option, Some, None, All, IfSome}
+use Rattle.std.proofs.Common.{◌≡◌, ℕ, ◌≤◌, ◌∙◌, ap, sym, refl, arith, List, [], ◌∷◌, Option, Some, None, All, IfSome}
 use Rattle.std.specs.Option.{option_map_or}
 use Rattle.std.proofs.lemmas.List.Elements.{All-head, All-tail, All-weaker}
 use Rattle.stream_model.specs.Tags.{Tag, insert_tag, tags_within}
-use Rattle.tags.specs.TagList.{tags_from}
-use Rattle.tags.proofs.Kept.{tags_from-insert, tags_from-twice, tags_within-from, length-insert_tag}
+use Rattle.tags.specs.TagList.{tags_from, insert_tags}
+use Rattle.tags.proofs.Kept.{tags_from-insert, tags_from-twice, tags_within-from}
 use Rattle.ring_readers.proofs.SlowestReader.{AtMost}
-use Rattle.buffers.specs.Buffer.{insert_tags}
 use Rattle.buffers.proofs.Readers.{NoLess}
 
 -- the tags from a place on, none where there is no place
@@ -27,15 +26,6 @@ pub tags_from-insert_tags : (p : ℕ) (more ts : List Tag) → All (λ t. p ≤ 
 tags_from-insert_tags p [] ts all = refl
 tags_from-insert_tags p (t ∷ more) ts all =
     tags_from-insert_tags p more (insert_tag t ts) (All-tail (λ t. p ≤ t.offset) t more all) ∙ ap (insert_tags more) (tags_from-insert p t ts (All-head (λ t. p ≤ t.offset) t more all))
-
--- one more tag goes in last
-pub insert_tags-more : (more : List Tag) (t : Tag) (ts : List Tag) → insert_tags (more ++ t ∷ []) ts ≡ insert_tag t (insert_tags more ts)
-insert_tags-more [] t ts = refl
-insert_tags-more (u ∷ more) t ts = insert_tags-more more t (insert_tag u ts)
-
-pub length-insert_tags : (more ts : List Tag) → length (insert_tags more ts) ≡ length more + length ts
-length-insert_tags [] ts = omega arith
-length-insert_tags (t ∷ more) ts = omega (arith, length-insert_tags more (insert_tag t ts), length-insert_tag t ts)
 
 -- tags that go in where a reader is left are those that are wanted of all
 pub pushed_tags : (slowest : Option ℕ) (written : ℕ) (more ts whole : List Tag) → IfSome slowest (λ place. place ≤ written) → All (λ t. written ≤ t.offset) more

@@ -1,9 +1,9 @@
 -- What a contract sees of a buffer: its type, the ring of its items, and the tags that are still wanted.
-use Rattle.std.specs.Prelude.{◌≡◌, ℕ, List, [], ◌∷◌}
+use Rattle.std.specs.Prelude.{◌≡◌, ℕ, List, []}
 use Rattle.std.specs.Option.{option_map_or}
 use Rattle.stream_model.specs.declared.vocabulary.ItemType.{ItemType}
 use Rattle.stream_model.specs.declared.vocabulary.ItemType.TheVariants as types
-use Rattle.stream_model.specs.Tags.{Tag, insert_tag}
+use Rattle.stream_model.specs.Tags.{Tag}
 use Rattle.tags.specs.TagList.{tags_from}
 use Rattle.ring_readers.specs.State.{RingState, slowest_of}
 use Rattle.buffers.specs.declared.rings.Rings.{Rings}
@@ -32,11 +32,6 @@ pub record BufferState : Type 0 where
 -- the tags at or behind the place of the slowest live reader: none where no reader is left
 abbrev pub wanted_tags : RingState → List Tag → List Tag
 wanted_tags ring ts = option_map_or (λ place. tags_from place ts) (slowest_of ring.readers) []
-
--- a sorted list of tags with more of them, doubles kept
-abbrev pub insert_tags : List Tag → List Tag → List Tag
-insert_tags [] ts = ts
-insert_tags (t ∷ more) ts = insert_tags more (insert_tag t ts)
 
 -- of all tags of an output's stream, the buffer keeps those that are still wanted
 abbrev pub KeepsTagsOf : BufferState → List Tag → Type 0

@@ -1,5 +1,5 @@
 //! One output's items and tags.
-ghost use Rattle.std.specs.Prelude.{◌≡◌, ◌≢◌, ℕ, ◌+◌, ◌^◌, ◌<◌, ◌≤◌, ℤ, List, [], ◌++◌, length, map, All, IfOk, IsOk, OnOk, OnErr};
+ghost use Rattle.std.specs.Prelude.{◌≡◌, ◌≢◌, ℕ, ◌+◌, ◌^◌, ◌<◌, ◌≤◌, ℤ, List, [], ◌++◌, length, map, All, ◌↔◌, IsTrue, IfOk, IsOk, OnOk, OnErr};
 ghost use Rattle.stream_model.specs.Lists.{window};
 ghost use Rattle.stream_model.specs.Tags as model;
 ghost use Rattle.stream_model.specs.Tags.{tags_within};
@@ -7,9 +7,9 @@ ghost use Rattle.items.specs.Items as typed;
 ghost use Rattle.items.specs.Items.{numbers_of, spare_of};
 ghost use Rattle.std.specs.Option.{option_map_or};
 ghost use Rattle.items.specs.Tags.{tag_of};
-ghost use Rattle.tags.specs.TagList.{tags_from};
+ghost use Rattle.tags.specs.TagList.{tags_from, insert_tags};
 ghost use Rattle.ring_readers.specs.State.{IsLive, IsEndOf, reader_at, unread_of, past_of, room_of, empty_ring, with_reader, with_items, with_taken, without_reader};
-ghost use Rattle.buffers.specs.Buffer.{KeepsTagsOf, insert_tags, wanted_tags};
+ghost use Rattle.buffers.specs.Buffer.{KeepsTagsOf, wanted_tags};
 
 use crate::rings::Rings;
 use items::{ItemType, Items};
@@ -168,6 +168,18 @@ impl Buffer {
         self.rings.window(reader, count, out)
     }
 
+    /// Whether the items are what `window` appends for the reader's next `count` items.
+    pub fn is_window(&self, reader: Reader, count: usize, items: &Items) -> bool
+        requires same_type { typed.type_of items.now ≡ self.now.item }
+        requires live { IsLive self.now.ring reader }
+        requires unread { count ≤ unread_of self.now.ring reader }
+        ensures { (stream : List ℤ) → IsEndOf self.now.ring stream →
+            let place = (reader_at self.now.ring reader).place in
+            IsTrue result ↔ (numbers_of items.now ≡ window stream (past_of self.now.ring reader) place (place + count)) }
+    {
+        self.rings.is_window(reader, count, items)
+    }
+
     /// The tags on the reader's next `count` items.
     pub fn tags(&self, reader: Reader, count: usize) -> &[Tag]
         requires live { IsLive self.now.ring reader }
@@ -210,17 +222,6 @@ impl Buffer {
     }
 }
 
-// Inserts tags, where there is room for them.
-fn insert_all(tags: &mut Tags, more: &[Tag])
-    requires { length more.now ≤ tags.old.spare }
-    ensures tags { tags.new.tags ≡ insert_tags (map tag_of more.now) tags.old.tags }
-    ensures spare { tags.new.spare + length tags.new.tags ≡ tags.old.spare + length tags.old.tags }
-{
-    for tag in more {
-        tags.insert_reserved(*tag);
-    }
-}
-
 // Inserts tags where a reader is left to take them.
 fn insert_wanted(tags: &mut Tags, slowest: Option<u64>, more: &[Tag])
     requires { length more.now ≤ tags.old.spare }
@@ -228,7 +229,7 @@ fn insert_wanted(tags: &mut Tags, slowest: Option<u64>, more: &[Tag])
     ensures spare { tags.new.spare + length tags.new.tags ≡ tags.old.spare + length tags.old.tags }
 {
     match slowest {
-        Some(_) => insert_all(tags, more),
+        Some(_) => tags.insert_all(more),
         None => {}
     }
 }

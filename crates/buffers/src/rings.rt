@@ -1,5 +1,5 @@
 //! Rings of each item type behind one type.
-ghost use Rattle.std.specs.Prelude.{◌≡◌, ◌≢◌, ℕ, ◌+◌, ◌^◌, ◌<◌, ◌≤◌, ℤ, List, ◌++◌, length, All, IsTrue, IfOk, IfSome, OnOk, OnErr};
+ghost use Rattle.std.specs.Prelude.{◌≡◌, ◌≢◌, ℕ, ◌+◌, ◌^◌, ◌<◌, ◌≤◌, ℤ, List, ◌++◌, length, All, ◌↔◌, IsTrue, IfOk, IfSome, OnOk, OnErr};
 ghost use Rattle.stream_model.specs.Lists.{window};
 ghost use Rattle.items.specs.Items as typed;
 ghost use Rattle.items.specs.Items.{numbers_of, spare_of};
@@ -163,6 +163,17 @@ impl Rings {
         ensures spare { spare_of out.old ≤ spare_of out.new + past_of (ring_of self.now) reader + count }
     {
         on_ring_and_items!(self, out, (ring, values) => ring.window(reader, count, values))
+    }
+
+    pub fn is_window(&self, reader: Reader, count: usize, items: &Items) -> bool
+        requires same_type { typed.type_of items.now ≡ type_of self.now }
+        requires live { IsLive (ring_of self.now) reader }
+        requires unread { count ≤ unread_of (ring_of self.now) reader }
+        ensures { (stream : List ℤ) → IsEndOf (ring_of self.now) stream →
+            let place = (reader_at (ring_of self.now) reader).place in
+            IsTrue result ↔ (numbers_of items.now ≡ window stream (past_of (ring_of self.now) reader) place (place + count)) }
+    {
+        on_ring_and_items!(self, items, (ring, values) => ring.is_window(reader, count, values))
     }
 
     pub fn advance(&mut self, reader: Reader, count: usize)

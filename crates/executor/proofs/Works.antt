@@ -1,5 +1,6 @@
 -- A call of `work` on a block in the middle of a chain.
-use Rattle.std.proofs.Common.{◌≡◌, ℕ, zero, suc, ◌+◌, ◌-◌, ◌^◌, ◌<◌, ◌≤◌, List, [], ◌∷◌, ℤ, length, map, get_or, Some, None, refl, arith, ap, sym, ◌∙◌, ne_eqb}
+use Rattle.std.proofs.Common.{◌≡◌, ℕ, zero, suc, ◌+◌, ◌-◌, ◌^◌, ◌<◌, ◌≤◌, List, [], ◌∷◌, ℤ, length, map, get_or, Option, Some, None, All, refl, arith, ap, sym, ◌∙◌, ne_eqb}
+use Rattle.std.specs.Prelude.{MatchOption, ⊤}
 use Rattle.std.specs.List.{filter_map, slice_range}
 use Rattle.std.proofs.lemmas.List.Elements.{All-nil, All-cons}
 use Rattle.std.proofs.lemmas.List.{length-take}
@@ -9,7 +10,8 @@ use Rattle.items.specs.Items.{type_of, numbers_of, spare_of}
 use Rattle.stream_model.specs.Lists.{window, numbers_from}
 use Rattle.stream_model.specs.Settings as model
 use Rattle.stream_model.specs.Settings.{between, made_at, setting_at}
-use Rattle.stream_model.specs.Meaning.{Meaning, IsFed, windows_of, given_items, given_outputs}
+use Rattle.stream_model.specs.declared.vocabulary.Wanted.{Wanted}
+use Rattle.stream_model.specs.Meaning.{Meaning, IsWanted, IsFed, windows_of, given_items, given_outputs}
 use Rattle.stream_model.specs.Meaning as meanings
 use Rattle.settings.specs.declared.value.Held.{Held}
 use Rattle.settings.specs.Values.{held_of}
@@ -31,6 +33,11 @@ own_setting-some m own first n e = rw e (own-alone own (m.taken 0 first) (m.take
 
 pub own_setting-none : (m : Meaning) (first n : ℕ) → m.own ≡ None → meanings.held_of m [] first n ≡ []
 own_setting-none m first n e = rw e refl
+
+-- no setting was made, so none is unwanted
+none-unwanted : (s : Option Wanted) → MatchOption s ⊤ (λ w. All (λ (h : model.Held). IsWanted w h.value) [])
+none-unwanted None = tt
+none-unwanted (Some w) = All-nil (λ (h : model.Held). IsWanted w h.value)
 
 -- a window on the beginning of a stream is that on the stream
 pub window-start : (items x : List ℤ) (past from to : ℕ) → IsStartOf items x → to ≤ length items → window items past from to ≡ window x past from to
@@ -67,6 +74,7 @@ module _ (m : Meaning) (plain : IsPlainBlock m) (up : List ℤ) (first n state :
         settings = [];
         streams = stated.stream ∷ [];
         fed = is-work m plain up first n state w held made own within stated.stream stated.start stated.word;
+        wanted = none-unwanted m.setting;
         types = All-cons (λ (v : Items). type_of v ≡ m.inputs.item) w [] typed (All-nil (λ (v : Items). type_of v ≡ m.inputs.item));
         inputs_least = rw plain.role plain.inputs.0;
         inputs_most = rw plain.role plain.inputs.1;

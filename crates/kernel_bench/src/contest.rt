@@ -119,6 +119,19 @@ fn time<T, U, C: Contest<T, U>>(
     requires fits { C.fits contest.now (length input.now - SPARE) (length out.old) }
 {
     let start = Instant::now(rt)?;
+    match side {
+        Side::Kernel => repeat(contest, Side::Kernel, rounds, input, out),
+        Side::Plain => repeat(contest, Side::Plain, rounds, input, out),
+    }
+    Ok(start.elapsed(rt)?.as_nanos())
+}
+
+// So many rounds. A caller names `side`, so that no call looks at it.
+#[inline(always)]
+fn repeat<T, U, C: Contest<T, U>>(contest: &C, side: Side, rounds: u128, input: &[T], out: &mut [U])
+    requires spare { SPARE ≤ length input.now }
+    requires fits { C.fits contest.now (length input.now - SPARE) (length out.old) }
+{
     let count = input.len() - SPARE;
     for _ in 0..rounds {
         for call in 0..4 {
@@ -126,7 +139,6 @@ fn time<T, U, C: Contest<T, U>>(
             contest.call(side, &input[at..at + count], out);
         }
     }
-    Ok(start.elapsed(rt)?.as_nanos())
 }
 
 fn print_row(

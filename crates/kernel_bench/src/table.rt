@@ -1,23 +1,18 @@
 //! The table: a row for each kernel, type and length.
-ghost use Rattle.std.specs.Prelude.{◌≤◌, ◌<◌};
+ghost use Rattle.std.specs.Prelude.{◌≤◌, ◌<◌, ◌≤ℤ◌, pos};
 
 use crate::contest::{Row, noise, print_contest};
-use crate::contests::{Differences, Dot, Fir, Items, Kernel, Narrow, Pack, Unpack, Widen};
+use crate::contests::{
+    AddConstWrap, AddWrap, And, Chosen, Differences, Dot, Fir, Items, MulWrap, Narrow, Not, Or,
+    Pack, Scale, Unpack, Widen, Xor,
+};
 use crate::item::Item;
 use lane_filters::FilterLane;
 use lane_kernels::{NarrowsTo, SimdLane, WidensTo};
 use std::io;
 
-const KERNELS: [(Kernel, &str); 8] = [
-    (Kernel::AddWrap, "add_wrap"),
-    (Kernel::AddConstWrap, "add_const_wrap"),
-    (Kernel::MulWrap, "mul_wrap"),
-    (Kernel::ScaleSat(-181, 7), "scale_sat"),
-    (Kernel::And, "and"),
-    (Kernel::Or, "or"),
-    (Kernel::Xor, "xor"),
-    (Kernel::Not, "not"),
-];
+// The distances from 0 of 256 taps over so much sum up to less than `2 ^ 16`.
+const LIGHT: i16 = 128;
 
 /// Prints each row once it is measured.
 pub fn print_table(rt: &HostRuntime) -> io::Result<()> {
@@ -57,31 +52,54 @@ fn print_items<T: SimdLane + Item + Default + PartialEq>(
 ) -> io::Result<()>
     requires { 0 < length }
 {
-    for (kernel, name) in KERNELS {
-        let row = Row {
-            kernel: name,
-            item,
-            length,
-        };
-        print_item::<T>(rt, row, kernel)?;
-    }
-    Ok(())
+    print_item::<T, AddWrap>(rt, "add_wrap", item, length, AddWrap)?;
+    print_item::<T, AddConstWrap>(rt, "add_const_wrap", item, length, AddConstWrap)?;
+    print_item::<T, MulWrap>(rt, "mul_wrap", item, length, MulWrap)?;
+    print_scaled::<T>(rt, item, length)?;
+    print_item::<T, And>(rt, "and", item, length, And)?;
+    print_item::<T, Or>(rt, "or", item, length, Or)?;
+    print_item::<T, Xor>(rt, "xor", item, length, Xor)?;
+    print_item::<T, Not>(rt, "not", item, length, Not)
 }
 
-fn print_item<T: SimdLane + Item + Default + PartialEq>(
+fn print_item<T: SimdLane + Item + Default + PartialEq, K: Chosen + Drop>(
     rt: &HostRuntime,
-    row: Row,
-    kernel: Kernel,
+    name: &str,
+    item: &str,
+    length: u32,
+    kernel: K,
 ) -> io::Result<()>
-    requires { 0 < row.length }
+    requires { 0 < length }
 {
-    let count = row.length as usize;
+    let row = Row {
+        kernel: name,
+        item,
+        length,
+    };
+    let count = length as usize;
     let y = noise::<T>(rt.alloc(), count)?;
     let items = Items {
-        kernel,
         y: y.as_slice(),
+        kernel,
     };
     print_contest(rt, row, &items, count, count)
+}
+
+fn print_scaled<T: SimdLane + Item + Default + PartialEq>(
+    rt: &HostRuntime,
+    item: &str,
+    length: u32,
+) -> io::Result<()> {
+    let row = Row {
+        kernel: "scale_sat",
+        item,
+        length,
+    };
+    let scale = Scale {
+        factor: -181,
+        shift: 7,
+    };
+    print_contest::<T, T, Scale>(rt, row, &scale, length as usize, length as usize)
 }
 
 fn print_widened<T: WidensTo<U> + Item, U: SimdLane + Item + Default + PartialEq>(
@@ -172,22 +190,30 @@ fn print_dots(rt: &HostRuntime, length: u32) -> io::Result<()>
 }
 
 fn print_firs(rt: &HostRuntime, length: u32) -> io::Result<()> {
-    print_fir::<i16>(rt, "short 64 taps", length, 64)?;
-    print_fir::<i32>(rt, "int 64 taps", length, 64)?;
-    print_fir::<i16>(rt, "short 256 taps", length, 256)?;
-    print_fir::<i32>(rt, "int 256 taps", length, 256)
+    print_fir::<i16>(rt, "short 64 taps", length, 64, 1)?;
+    print_fir::<i16>(rt, "short 64 light", length, 64, LIGHT)?;
+    print_fir::<i32>(rt, "int 64 taps", length, 64, 1)?;
+    print_fir::<i16>(rt, "short 256 taps", length, 256, 1)?;
+    print_fir::<i16>(rt, "short 256 light", length, 256, LIGHT)?;
+    print_fir::<i32>(rt, "int 256 taps", length, 256, 1)
 }
 
+// Taps over the type's whole range, or over a part of it.
 fn print_fir<T: FilterLane + Item + Default + PartialEq>(
     rt: &HostRuntime,
     item: &str,
     length: u32,
     taps: usize,
+    part: i16,
 ) -> io::Result<()>
     requires least { 1 ≤ taps }
     requires most { taps ≤ 256 }
+    requires part { pos 1 ≤ℤ part }
 {
-    let h = noise::<i16>(rt.alloc(), taps)?;
+    let mut h = noise::<i16>(rt.alloc(), taps)?;
+    for tap in h.as_mut_slice() {
+        *tap /= part;
+    }
     let row = Row {
         kernel: "fir_row",
         item,

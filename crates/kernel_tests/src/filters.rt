@@ -57,13 +57,29 @@ type Row<T> = (
     &'static [T],
 );
 
-const SHORT_ROWS: [Row<i16>; 1] = [(
-    "both ends of shorts",
-    &[32767],
-    &[2, -2],
-    0,
-    &[32767, -32768],
-)];
+const SHORT_ROWS: [Row<i16>; 3] = [
+    (
+        "both ends of shorts",
+        &[32767],
+        &[2, -2],
+        0,
+        &[32767, -32768],
+    ),
+    (
+        "taps that sum up to 65,535",
+        &[32767, 32767, 1],
+        &[-32768; 18],
+        16,
+        &[-32767; 16],
+    ),
+    (
+        "taps that sum up to 65,536",
+        &[32767, 32767, 2],
+        &[-32768; 18],
+        16,
+        &[-32768; 16],
+    ),
+];
 
 const INT_ROWS: [Row<i32>; 3] = [
     (

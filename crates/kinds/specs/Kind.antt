@@ -3,18 +3,22 @@ use Rattle.std.specs.Prelude.{◌≡◌, true}
 use Rattle.stream_model.specs.Meaning.{Meaning, IsLawful}
 use Rattle.kinds.specs.contracts.kind.KindPartialEq.TheImpl as equality
 use Rattle.kinds.specs.declared.kind.Kind.{Kind}
-use Rattle.kinds.specs.declared.kind.Kind.TheVariants.{VectorSource, VectorSink, NullSink, AddConst, MultiplyConst, Not, Convert, MapBb, KeepOneInN, Repeat, Head, SkipHead, Delay, PackKBits, UnpackKBits, DiffDecoder, DiffEncoder, Scrambler, Descrambler, AdditiveScrambler}
+use Rattle.kinds.specs.declared.kind.Kind.TheVariants.{VectorSource, VectorSink, NullSink, AddConst, MultiplyConst, Scale, Add, And, Or, Xor, Not, Convert, MapBb, MovingSum, Fir, InterpFir, KeepOneInN, Integrate, Repeat, Interleave, Deinterleave, StreamMux, Head, SkipHead, Delay, PackKBits, UnpackKBits, DiffDecoder, DiffEncoder, Scrambler, Descrambler, AdditiveScrambler}
 use Rattle.kinds.specs.Ends.{source_meaning, sink_meaning, null_meaning}
-use Rattle.math_blocks.specs.Kinds.{add_const_of, multiply_const_of, not_block_of, convert_of, map_bb_of, add_const-same, multiply_const-same, convert-same, map_bb_of-lawful, map_bb-same}
-use Rattle.rate_blocks.specs.Kinds.{keep_one_in_n_of, repeat_of, head_of, skiphead_of, delay_of}
+use Rattle.math_blocks.specs.Kinds.{add_const_of, multiply_const_of, scale_of, not_block_of, convert_of, map_bb_of, moving_sum_of, add_const-same, multiply_const-same, scale-same, convert-same, map_bb_of-lawful, map_bb-same}
+use Rattle.math_blocks.specs.Joined.{add_block_of, and_block_of, or_block_of, xor_block_of}
+use Rattle.fir_blocks.specs.Kinds.{fir_of, interp_fir_of, fir-same, interp_fir-same}
+use Rattle.rate_blocks.specs.Kinds.{keep_one_in_n_of, integrate_of, repeat_of, head_of, skiphead_of, delay_of}
+use Rattle.rate_blocks.specs.Mux.{interleave_of, deinterleave_of, stream_mux_of, interleave_of-lawful, deinterleave_of-lawful, stream_mux_of-lawful, stream_mux_of-same}
 use Rattle.bit_blocks.specs.Kinds.{pack_k_bits_of, unpack_k_bits_of, diff_decoder_of, diff_encoder_of, scrambler_of, descrambler_of, additive_scrambler_of, some_of, some_encoded, same_register}
 use Rattle.kind_laws.specs.Ends.{vector_source-lawful, vector_sink-lawful, null_sink-lawful}
-use Rattle.kind_laws.specs.Math.{add_const-lawful, multiply_const-lawful, not_of-lawful, convert-lawful}
-use Rattle.kind_laws.specs.Rates.{keep_one_in_n-lawful, repeat-lawful, head-lawful, skiphead-lawful, delay-lawful}
+use Rattle.kind_laws.specs.Math.{add_const-lawful, multiply_const-lawful, scale-lawful, add-lawful, and_of-lawful, or_of-lawful, xor_of-lawful, not_of-lawful, convert-lawful, moving_sum-lawful}
+use Rattle.kind_laws.specs.Filters.{fir-lawful, interp_fir-lawful}
+use Rattle.kind_laws.specs.Rates.{keep_one_in_n-lawful, integrate-lawful, repeat-lawful, head-lawful, skiphead-lawful, delay-lawful}
 use Rattle.kind_laws.specs.Bits.{pack_k_bits-lawful, unpack_k_bits-lawful, diff_decoder-lawful, diff_encoder-lawful, scrambler-lawful, descrambler-lawful, additive_scrambler-lawful}
 use Rattle.stream_model.specs.Kinds.Ends.{vector_source, vector_sink, null_sink}
-use Rattle.stream_model.specs.Kinds.Math.{not_of}
-use Rattle.stream_model.specs.Kinds.Rates.{keep_one_in_n, repeat, head, skiphead, delay}
+use Rattle.stream_model.specs.Kinds.Math.{add, and_of, or_of, xor_of, not_of, moving_sum}
+use Rattle.stream_model.specs.Kinds.Rates.{keep_one_in_n, integrate, repeat, interleave, deinterleave, head, skiphead, delay}
 use Rattle.stream_model.specs.Kinds.Bits.{pack_k_bits, unpack_k_bits, diff_decoder, diff_encoder, scrambler, descrambler, additive_scrambler}
 use Rattle.block_kinds.specs.SameItem.{same_item, same_number, same_sized}
 use Rattle.std.proofs.Common.{ap}
@@ -26,11 +30,23 @@ meaning_of (VectorSink b) = sink_meaning b
 meaning_of (NullSink b) = null_meaning b
 meaning_of (AddConst b) = add_const_of b
 meaning_of (MultiplyConst b) = multiply_const_of b
+meaning_of (Scale b) = scale_of b
+meaning_of (Add b) = add_block_of b
+meaning_of (And b) = and_block_of b
+meaning_of (Or b) = or_block_of b
+meaning_of (Xor b) = xor_block_of b
 meaning_of (Not b) = not_block_of b
 meaning_of (Convert b) = convert_of b
 meaning_of (MapBb b) = map_bb_of b
+meaning_of (MovingSum b) = moving_sum_of b
+meaning_of (Fir b) = fir_of b
+meaning_of (InterpFir b) = interp_fir_of b
 meaning_of (KeepOneInN b) = keep_one_in_n_of b
+meaning_of (Integrate b) = integrate_of b
 meaning_of (Repeat b) = repeat_of b
+meaning_of (Interleave b) = interleave_of b
+meaning_of (Deinterleave b) = deinterleave_of b
+meaning_of (StreamMux b) = stream_mux_of b
 meaning_of (Head b) = head_of b
 meaning_of (SkipHead b) = skiphead_of b
 meaning_of (Delay b) = delay_of b
@@ -48,11 +64,23 @@ meaning_of-lawful (VectorSink b) = vector_sink-lawful b.item
 meaning_of-lawful (NullSink b) = null_sink-lawful b.item
 meaning_of-lawful (AddConst b) = add_const-lawful b.item b.value b.in_range
 meaning_of-lawful (MultiplyConst b) = multiply_const-lawful b.item b.value b.in_range
+meaning_of-lawful (Scale b) = scale-lawful b.item b.factor b.shift b.in_range
+meaning_of-lawful (Add b) = add-lawful b.item
+meaning_of-lawful (And b) = and_of-lawful b.item
+meaning_of-lawful (Or b) = or_of-lawful b.item
+meaning_of-lawful (Xor b) = xor_of-lawful b.item
 meaning_of-lawful (Not b) = not_of-lawful b.item
 meaning_of-lawful (Convert b) = convert-lawful b.item b.to
 meaning_of-lawful (MapBb b) = map_bb_of-lawful b
+meaning_of-lawful (MovingSum b) = moving_sum-lawful b.item b.length b.some
+meaning_of-lawful (Fir b) = fir-lawful b.item b.taps.items b.decimation b.shift b.some_taps b.some b.few
+meaning_of-lawful (InterpFir b) = interp_fir-lawful b.item b.taps.items b.interpolation b.shift b.some_taps b.some b.few
 meaning_of-lawful (KeepOneInN b) = keep_one_in_n-lawful b.item b.n b.some b.few
+meaning_of-lawful (Integrate b) = integrate-lawful b.item b.n b.some b.few
 meaning_of-lawful (Repeat b) = repeat-lawful b.item b.n b.some b.few
+meaning_of-lawful (Interleave b) = interleave_of-lawful b
+meaning_of-lawful (Deinterleave b) = deinterleave_of-lawful b
+meaning_of-lawful (StreamMux b) = stream_mux_of-lawful b
 meaning_of-lawful (Head b) = head-lawful b.item b.n
 meaning_of-lawful (SkipHead b) = skiphead-lawful b.item b.n
 meaning_of-lawful (Delay b) = delay-lawful b.item b.n b.few
@@ -71,11 +99,23 @@ meaning_of-same (VectorSink a) (VectorSink b) e = λ i. vector_sink (same_item a
 meaning_of-same (NullSink a) (NullSink b) e = λ i. null_sink (same_item a.item b.item e i)
 meaning_of-same (AddConst a) (AddConst b) e = add_const-same a b e
 meaning_of-same (MultiplyConst a) (MultiplyConst b) e = multiply_const-same a b e
+meaning_of-same (Scale a) (Scale b) e = scale-same a b e
+meaning_of-same (Add a) (Add b) e = λ i. add (same_item a.item b.item e i)
+meaning_of-same (And a) (And b) e = λ i. and_of (same_item a.item b.item e i)
+meaning_of-same (Or a) (Or b) e = λ i. or_of (same_item a.item b.item e i)
+meaning_of-same (Xor a) (Xor b) e = λ i. xor_of (same_item a.item b.item e i)
 meaning_of-same (Not a) (Not b) e = λ i. not_of (same_item a.item b.item e i)
 meaning_of-same (Convert a) (Convert b) e = convert-same a b e
 meaning_of-same (MapBb a) (MapBb b) e = map_bb-same a b e
+meaning_of-same (MovingSum a) (MovingSum b) e = same_sized moving_sum a.item b.item a.length b.length e
+meaning_of-same (Fir a) (Fir b) e = fir-same a b e
+meaning_of-same (InterpFir a) (InterpFir b) e = interp_fir-same a b e
 meaning_of-same (KeepOneInN a) (KeepOneInN b) e = same_sized keep_one_in_n a.item b.item a.n b.n e
+meaning_of-same (Integrate a) (Integrate b) e = same_sized integrate a.item b.item a.n b.n e
 meaning_of-same (Repeat a) (Repeat b) e = same_sized repeat a.item b.item a.n b.n e
+meaning_of-same (Interleave a) (Interleave b) e = same_sized interleave a.item b.item a.ports b.ports e
+meaning_of-same (Deinterleave a) (Deinterleave b) e = same_sized deinterleave a.item b.item a.ports b.ports e
+meaning_of-same (StreamMux a) (StreamMux b) e = stream_mux_of-same a b e
 meaning_of-same (Head a) (Head b) e = same_sized head a.item b.item a.n b.n e
 meaning_of-same (SkipHead a) (SkipHead b) e = same_sized skiphead a.item b.item a.n b.n e
 meaning_of-same (Delay a) (Delay b) e = same_sized delay a.item b.item a.n b.n e

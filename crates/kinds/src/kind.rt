@@ -4,9 +4,14 @@ use bit_blocks::{
     AdditiveScrambler, Descrambler, DiffDecoder, DiffEncoder, PackKBits, Scrambler, UnpackKBits,
 };
 use block_kinds::{Block, Held, Shape};
+use fir_blocks::{Fir, InterpFir};
 use items::Items;
-use math_blocks::{AddConst, Convert, MapBb, MultiplyConst, Not};
-use rate_blocks::{Delay, Head, KeepOneInN, Repeat, SkipHead};
+use math_blocks::{
+    Add, AddConst, And, Convert, MapBb, MovingSum, MultiplyConst, Not, Or, Scale, Xor,
+};
+use rate_blocks::{
+    Deinterleave, Delay, Head, Integrate, Interleave, KeepOneInN, Repeat, SkipHead, StreamMux,
+};
 
 /// A block of any kind. It means what the block inside means.
 #[derive(Debug, Drop, PartialEq, Eq)]
@@ -21,16 +26,40 @@ pub enum Kind {
     AddConst(AddConst),
     /// Multiplies each item by a number.
     MultiplyConst(MultiplyConst),
+    /// Multiplies each item by a number and divides it by a power of two.
+    Scale(Scale),
+    /// Adds the items of its inputs.
+    Add(Add),
+    /// Gives the bits that all its inputs have.
+    And(And),
+    /// Gives the bits that any of its inputs has.
+    Or(Or),
+    /// Gives the bits that an odd number of its inputs have.
+    Xor(Xor),
     /// Turns all bits of each item.
     Not(Not),
     /// Gives items another type.
     Convert(Convert),
     /// Looks bytes up in a table.
     MapBb(MapBb),
+    /// Gives the sum of the last items.
+    MovingSum(MovingSum),
+    /// Filters items by taps, and keeps one in so many.
+    Fir(Fir),
+    /// Filters items by taps, and gives so many for each.
+    InterpFir(InterpFir),
     /// Keeps the last of each `n` items.
     KeepOneInN(KeepOneInN),
+    /// Gives the sum of each `n` items.
+    Integrate(Integrate),
     /// Gives each item `n` times.
     Repeat(Repeat),
+    /// Takes an item of each input in turn.
+    Interleave(Interleave),
+    /// Gives an item to each output in turn.
+    Deinterleave(Deinterleave),
+    /// Takes so many items of each input in turn.
+    StreamMux(StreamMux),
     /// Gives its first `n` items and ends.
     Head(Head),
     /// Leaves out its first `n` items.
@@ -62,11 +91,23 @@ macro_rules! on_block {
             Kind::NullSink($block) => $body,
             Kind::AddConst($block) => $body,
             Kind::MultiplyConst($block) => $body,
+            Kind::Scale($block) => $body,
+            Kind::Add($block) => $body,
+            Kind::And($block) => $body,
+            Kind::Or($block) => $body,
+            Kind::Xor($block) => $body,
             Kind::Not($block) => $body,
             Kind::Convert($block) => $body,
             Kind::MapBb($block) => $body,
+            Kind::MovingSum($block) => $body,
+            Kind::Fir($block) => $body,
+            Kind::InterpFir($block) => $body,
             Kind::KeepOneInN($block) => $body,
+            Kind::Integrate($block) => $body,
             Kind::Repeat($block) => $body,
+            Kind::Interleave($block) => $body,
+            Kind::Deinterleave($block) => $body,
+            Kind::StreamMux($block) => $body,
             Kind::Head($block) => $body,
             Kind::SkipHead($block) => $body,
             Kind::Delay($block) => $body,
@@ -105,224 +146,4 @@ impl Block for Kind {
     ghost lawful = { meaning_of-lawful };
 
     ghost same = { meaning_of-same };
-}
-
-impl From<VectorSource> for Kind {
-    ghost use Rattle.std.specs.Prelude.{◌≡◌};
-    ghost use Rattle.kinds.specs.declared.kind.Kind.TheVariants as kinds;
-
-    ghost from_gives = { λ block kind. kind ≡ kinds.VectorSource block };
-
-    fn from(block: VectorSource) -> Kind {
-        Kind::VectorSource(block)
-    }
-}
-
-impl From<VectorSink> for Kind {
-    ghost use Rattle.std.specs.Prelude.{◌≡◌};
-    ghost use Rattle.kinds.specs.declared.kind.Kind.TheVariants as kinds;
-
-    ghost from_gives = { λ block kind. kind ≡ kinds.VectorSink block };
-
-    fn from(block: VectorSink) -> Kind {
-        Kind::VectorSink(block)
-    }
-}
-
-impl From<NullSink> for Kind {
-    ghost use Rattle.std.specs.Prelude.{◌≡◌};
-    ghost use Rattle.kinds.specs.declared.kind.Kind.TheVariants as kinds;
-
-    ghost from_gives = { λ block kind. kind ≡ kinds.NullSink block };
-
-    fn from(block: NullSink) -> Kind {
-        Kind::NullSink(block)
-    }
-}
-
-impl From<AddConst> for Kind {
-    ghost use Rattle.std.specs.Prelude.{◌≡◌};
-    ghost use Rattle.kinds.specs.declared.kind.Kind.TheVariants as kinds;
-
-    ghost from_gives = { λ block kind. kind ≡ kinds.AddConst block };
-
-    fn from(block: AddConst) -> Kind {
-        Kind::AddConst(block)
-    }
-}
-
-impl From<MultiplyConst> for Kind {
-    ghost use Rattle.std.specs.Prelude.{◌≡◌};
-    ghost use Rattle.kinds.specs.declared.kind.Kind.TheVariants as kinds;
-
-    ghost from_gives = { λ block kind. kind ≡ kinds.MultiplyConst block };
-
-    fn from(block: MultiplyConst) -> Kind {
-        Kind::MultiplyConst(block)
-    }
-}
-
-impl From<Not> for Kind {
-    ghost use Rattle.std.specs.Prelude.{◌≡◌};
-    ghost use Rattle.kinds.specs.declared.kind.Kind.TheVariants as kinds;
-
-    ghost from_gives = { λ block kind. kind ≡ kinds.Not block };
-
-    fn from(block: Not) -> Kind {
-        Kind::Not(block)
-    }
-}
-
-impl From<Convert> for Kind {
-    ghost use Rattle.std.specs.Prelude.{◌≡◌};
-    ghost use Rattle.kinds.specs.declared.kind.Kind.TheVariants as kinds;
-
-    ghost from_gives = { λ block kind. kind ≡ kinds.Convert block };
-
-    fn from(block: Convert) -> Kind {
-        Kind::Convert(block)
-    }
-}
-
-impl From<MapBb> for Kind {
-    ghost use Rattle.std.specs.Prelude.{◌≡◌};
-    ghost use Rattle.kinds.specs.declared.kind.Kind.TheVariants as kinds;
-
-    ghost from_gives = { λ block kind. kind ≡ kinds.MapBb block };
-
-    fn from(block: MapBb) -> Kind {
-        Kind::MapBb(block)
-    }
-}
-
-impl From<KeepOneInN> for Kind {
-    ghost use Rattle.std.specs.Prelude.{◌≡◌};
-    ghost use Rattle.kinds.specs.declared.kind.Kind.TheVariants as kinds;
-
-    ghost from_gives = { λ block kind. kind ≡ kinds.KeepOneInN block };
-
-    fn from(block: KeepOneInN) -> Kind {
-        Kind::KeepOneInN(block)
-    }
-}
-
-impl From<Repeat> for Kind {
-    ghost use Rattle.std.specs.Prelude.{◌≡◌};
-    ghost use Rattle.kinds.specs.declared.kind.Kind.TheVariants as kinds;
-
-    ghost from_gives = { λ block kind. kind ≡ kinds.Repeat block };
-
-    fn from(block: Repeat) -> Kind {
-        Kind::Repeat(block)
-    }
-}
-
-impl From<Head> for Kind {
-    ghost use Rattle.std.specs.Prelude.{◌≡◌};
-    ghost use Rattle.kinds.specs.declared.kind.Kind.TheVariants as kinds;
-
-    ghost from_gives = { λ block kind. kind ≡ kinds.Head block };
-
-    fn from(block: Head) -> Kind {
-        Kind::Head(block)
-    }
-}
-
-impl From<SkipHead> for Kind {
-    ghost use Rattle.std.specs.Prelude.{◌≡◌};
-    ghost use Rattle.kinds.specs.declared.kind.Kind.TheVariants as kinds;
-
-    ghost from_gives = { λ block kind. kind ≡ kinds.SkipHead block };
-
-    fn from(block: SkipHead) -> Kind {
-        Kind::SkipHead(block)
-    }
-}
-
-impl From<Delay> for Kind {
-    ghost use Rattle.std.specs.Prelude.{◌≡◌};
-    ghost use Rattle.kinds.specs.declared.kind.Kind.TheVariants as kinds;
-
-    ghost from_gives = { λ block kind. kind ≡ kinds.Delay block };
-
-    fn from(block: Delay) -> Kind {
-        Kind::Delay(block)
-    }
-}
-
-impl From<PackKBits> for Kind {
-    ghost use Rattle.std.specs.Prelude.{◌≡◌};
-    ghost use Rattle.kinds.specs.declared.kind.Kind.TheVariants as kinds;
-
-    ghost from_gives = { λ block kind. kind ≡ kinds.PackKBits block };
-
-    fn from(block: PackKBits) -> Kind {
-        Kind::PackKBits(block)
-    }
-}
-
-impl From<UnpackKBits> for Kind {
-    ghost use Rattle.std.specs.Prelude.{◌≡◌};
-    ghost use Rattle.kinds.specs.declared.kind.Kind.TheVariants as kinds;
-
-    ghost from_gives = { λ block kind. kind ≡ kinds.UnpackKBits block };
-
-    fn from(block: UnpackKBits) -> Kind {
-        Kind::UnpackKBits(block)
-    }
-}
-
-impl From<DiffDecoder> for Kind {
-    ghost use Rattle.std.specs.Prelude.{◌≡◌};
-    ghost use Rattle.kinds.specs.declared.kind.Kind.TheVariants as kinds;
-
-    ghost from_gives = { λ block kind. kind ≡ kinds.DiffDecoder block };
-
-    fn from(block: DiffDecoder) -> Kind {
-        Kind::DiffDecoder(block)
-    }
-}
-
-impl From<DiffEncoder> for Kind {
-    ghost use Rattle.std.specs.Prelude.{◌≡◌};
-    ghost use Rattle.kinds.specs.declared.kind.Kind.TheVariants as kinds;
-
-    ghost from_gives = { λ block kind. kind ≡ kinds.DiffEncoder block };
-
-    fn from(block: DiffEncoder) -> Kind {
-        Kind::DiffEncoder(block)
-    }
-}
-
-impl From<Scrambler> for Kind {
-    ghost use Rattle.std.specs.Prelude.{◌≡◌};
-    ghost use Rattle.kinds.specs.declared.kind.Kind.TheVariants as kinds;
-
-    ghost from_gives = { λ block kind. kind ≡ kinds.Scrambler block };
-
-    fn from(block: Scrambler) -> Kind {
-        Kind::Scrambler(block)
-    }
-}
-
-impl From<Descrambler> for Kind {
-    ghost use Rattle.std.specs.Prelude.{◌≡◌};
-    ghost use Rattle.kinds.specs.declared.kind.Kind.TheVariants as kinds;
-
-    ghost from_gives = { λ block kind. kind ≡ kinds.Descrambler block };
-
-    fn from(block: Descrambler) -> Kind {
-        Kind::Descrambler(block)
-    }
-}
-
-impl From<AdditiveScrambler> for Kind {
-    ghost use Rattle.std.specs.Prelude.{◌≡◌};
-    ghost use Rattle.kinds.specs.declared.kind.Kind.TheVariants as kinds;
-
-    ghost from_gives = { λ block kind. kind ≡ kinds.AdditiveScrambler block };
-
-    fn from(block: AdditiveScrambler) -> Kind {
-        Kind::AdditiveScrambler(block)
-    }
 }

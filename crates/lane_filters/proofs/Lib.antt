@@ -3,6 +3,7 @@ pub mod Capped
 pub mod ByteDifferences
 pub mod Lists
 pub mod Neighbours
+pub mod NarrowSums
 pub mod PackedBits
 pub mod Products
 pub mod Rounded

@@ -68,7 +68,7 @@ module _ {X : Type 0} (number : X → ℤ) (h : List ℤ) (xs : List X) (at j : 
       let same = back w64 res fits in
       (same ∙ is, subst (AreWithin ((j + 1) * 2 ^ 46)) (sym same) (nearer (j * 2 ^ 46 + 2 ^ 46) ((j + 1) * 2 ^ 46) res (omega arith) both))
 
-abs_short : (z : ℤ) → SFits w16 z → unsigned_abs z ≤ 2 ^ 15
+pub abs_short : (z : ℤ) → SFits w16 z → unsigned_abs z ≤ 2 ^ 15
 abs_short (pos n) h = omega (arith, h.sfits)
 abs_short (negsuc n) h = omega (arith, h.sfits)
 

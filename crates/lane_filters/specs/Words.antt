@@ -1,5 +1,5 @@
 -- Words of the contracts on vectors.
-use Rattle.std.specs.Prelude.{ℕ, zero, suc, ◌+◌, ◌-◌, ◌*◌, ◌/◌, ◌%◌, ◌^◌, slice_index, ◌≤◌, ℤ, pos, ◌*ℤ◌, ◌-ℤ◌, List, length, map}
+use Rattle.std.specs.Prelude.{ℕ, zero, suc, [], ◌∷◌, sum_by, ◌+◌, ◌-◌, ◌*◌, ◌/◌, ◌%◌, ◌^◌, slice_index, ◌≤◌, ℤ, pos, ◌*ℤ◌, ◌+ℤ◌, ◌-ℤ◌, List, length, map}
 use Rattle.std.specs.Int.RustNames.{unsigned_abs}
 use Rattle.std.specs.Simd.Lanes.{Each1}
 use Rattle.stream_model.specs.Kernels.{sum_below, previous}
@@ -18,6 +18,18 @@ tap_sum h x count n = sum_below count (λ j. item h j *ℤ item x (n + length h 
 -- those sums at eight outputs, the first at output `at`
 abbrev pub tap_sums : List ℤ → List ℤ → ℕ → ℕ → List ℤ
 tap_sums h x count at = map (tap_sum h x count) (numbers_from at 8)
+
+-- those sums at every other output of eight
+abbrev pub spread_sums : List ℤ → List ℤ → ℕ → ℕ → List ℤ
+spread_sums h x count at = map (tap_sum h x count) (at ∷ (at + 1 + 1) ∷ (at + 1 + 1 + 1 + 1) ∷ (at + 1 + 1 + 1 + 1 + 1 + 1) ∷ [])
+
+-- the taps' distances from 0, summed
+abbrev pub weight : List ℤ → ℕ
+weight h = sum_by unsigned_abs h
+
+-- a times each other item of eight plus b times the one behind it
+abbrev pub paired : ℤ → ℤ → List ℤ → List ℤ
+paired a b x = map (λ k. (a *ℤ item x k) +ℤ (b *ℤ item x (k + 1))) (0 ∷ 2 ∷ 4 ∷ 6 ∷ [])
 
 -- the output that those sums of all taps give
 abbrev pub output : ItemType → List ℤ → List ℤ → ℕ → ℕ → ℤ

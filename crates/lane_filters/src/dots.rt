@@ -6,7 +6,7 @@ ghost use Rattle.stream_model.specs.Numbers.{IsItem, AreItems, total};
 ghost use Rattle.stream_model.specs.declared.vocabulary.ItemType.TheVariants.{Short};
 ghost use Rattle.lane_filters.specs.Words.{AreWithin, tap_product};
 
-use crate::FilterLane;
+use crate::ProductLane;
 use crate::sums::{added, lane_total, with_product};
 use numbers::vectors::are_in_range;
 use std::simd::prelude::*;
@@ -30,7 +30,7 @@ pub fn dot_i32(h: &[i16], x: &[i32]) -> i64
 }
 
 /// The same of each item type: eight products at a time, then the rest one by one.
-fn dot_lanes<T: FilterLane>(h: &[i16], x: &[T]) -> i64
+fn dot_lanes<T: ProductLane>(h: &[i16], x: &[T]) -> i64
     requires lengths { length h.now ≡ length x.now }
     requires most { length h.now ≤ 256 }
     ensures { result ≡ dot h.now (map T.number x.now) }
@@ -45,7 +45,7 @@ fn dot_lanes<T: FilterLane>(h: &[i16], x: &[T]) -> i64
 }
 
 /// The sum of the products of the full blocks of eight.
-fn dot_blocks<T: FilterLane>(h: &[i16], x: &[T]) -> i64
+fn dot_blocks<T: ProductLane>(h: &[i16], x: &[T]) -> i64
     requires lengths { length h.now ≡ length x.now }
     requires most { length h.now ≤ 256 }
     requires taps { AreItems Short h.now }

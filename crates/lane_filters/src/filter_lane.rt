@@ -1,15 +1,17 @@
 //! What a filter does by the item's type: products, and what it writes.
-ghost use Rattle.std.specs.Prelude.{◌≡◌, ◌+◌, ◌≤◌, ◌^◌, ◌*ℤ◌, length, map, take, All};
+ghost use Rattle.std.specs.Prelude.{◌≡◌, ◌+◌, ◌<◌, ◌≤◌, ◌^◌, ◌*ℤ◌, length, map, take, All, IsTrue};
 ghost use Rattle.std.specs.Simd.Lanes.{zip2, put_chunk};
 ghost use Rattle.stream_model.specs.Numbers.{sat, IsItem, AreItems};
 ghost use Rattle.stream_model.specs.declared.vocabulary.ItemType.TheVariants.{Short};
-ghost use Rattle.lane_filters.specs.Words.{AreWithin};
+ghost use Rattle.lane_filters.specs.Words.{AreWithin, tap_sums, weight};
 
+use crate::fir::wide_sums;
+use crate::pairs::eight_short_sums;
 use numbers::Number;
 use std::simd::prelude::*;
 
-/// An item type that has filters.
-pub trait FilterLane: Number {
+/// An item type whose products with taps fit lanes of 64 bits.
+pub trait ProductLane: Number {
     /// Lane by lane, a tap times an item: the first eight items.
     fn products(taps: i16x8, items: &[Self]) -> i64x8
         requires taps { AreItems Short taps }
@@ -29,7 +31,23 @@ pub trait FilterLane: Number {
         ensures { map Self.number out.new ≡ put_chunk at (map Self.number out.old) (map (sat Self.kind) numbers) };
 }
 
-impl FilterLane for i16 {
+/// An item type that has filters.
+pub trait FilterLane: ProductLane {
+    /// The sums at sixteen outputs. `light` says that the taps' distances from 0 sum up to less than `2 ^ 16`.
+    fn sixteen_sums(h: &[i16], x: &[Self], at: usize, light: bool) -> (i64x8, i64x8)
+        requires taps { 1 ≤ length h.now }
+        requires most { length h.now ≤ 256 }
+        requires light { IsTrue light → weight h.now < 2 ^ 16 }
+        requires room { at + 15 + length h.now ≤ length x.now }
+        requires taps_in_range { AreItems Short h.now }
+        requires items_in_range { All (λ x. IsItem Self.kind (Self.number x)) x.now }
+        ensures low { result.0 ≡ tap_sums h.now (map Self.number x.now) (length h.now) at }
+        ensures high { result.1 ≡ tap_sums h.now (map Self.number x.now) (length h.now) (at + 8) }
+        ensures low_within { AreWithin (2 ^ 60) result.0 }
+        ensures high_within { AreWithin (2 ^ 60) result.1 };
+}
+
+impl ProductLane for i16 {
     #[inline(always)]
     fn products(taps: i16x8, items: &[i16]) -> i64x8 {
         let items = i16x8::from_slice(items).cast::<i64>();
@@ -50,7 +68,7 @@ impl FilterLane for i16 {
     }
 }
 
-impl FilterLane for i32 {
+impl ProductLane for i32 {
     #[inline(always)]
     fn products(taps: i16x8, items: &[i32]) -> i64x8 {
         let items = i32x8::from_slice(items).cast::<i64>();
@@ -68,5 +86,23 @@ impl FilterLane for i32 {
             .simd_max(i64x8::splat(-2147483648))
             .simd_min(i64x8::splat(2147483647));
         capped.cast::<i32>().copy_to_slice(&mut out[at..]);
+    }
+}
+
+impl FilterLane for i16 {
+    #[inline(always)]
+    fn sixteen_sums(h: &[i16], x: &[i16], at: usize, light: bool) -> (i64x8, i64x8) {
+        if light {
+            (eight_short_sums(h, x, at), eight_short_sums(h, x, at + 8))
+        } else {
+            wide_sums(h, x, at)
+        }
+    }
+}
+
+impl FilterLane for i32 {
+    #[inline(always)]
+    fn sixteen_sums(h: &[i16], x: &[i32], at: usize, _light: bool) -> (i64x8, i64x8) {
+        wide_sums(h, x, at)
     }
 }

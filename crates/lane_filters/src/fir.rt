@@ -1,12 +1,12 @@
 //! Rows of outputs of a finite impulse response.
-ghost use Rattle.std.specs.Prelude.{◌≡◌, ◌+◌, ◌-◌, ◌*◌, ◌/◌, ◌<◌, ◌≤◌, ◌^◌, length, map, take, All};
+ghost use Rattle.std.specs.Prelude.{◌≡◌, ◌+◌, ◌-◌, ◌*◌, ◌/◌, ◌<◌, ◌≤◌, ◌^◌, ◌↔◌, length, map, take, All, IsTrue};
 ghost use Rattle.std.specs.Int.RustNames.{unsigned_abs};
 ghost use Rattle.stream_model.specs.Kernels.{fir_row, listed};
 ghost use Rattle.stream_model.specs.Numbers.{IsItem, AreItems, sat, rnd};
 ghost use Rattle.stream_model.specs.declared.vocabulary.ItemType.TheVariants.{Short};
-ghost use Rattle.lane_filters.specs.Words.{AreWithin, tap_sum, tap_sums, output};
+ghost use Rattle.lane_filters.specs.Words.{AreWithin, tap_sum, tap_sums, output, weight};
 
-use crate::FilterLane;
+use crate::filter_lane::{FilterLane, ProductLane};
 use crate::sums::{added, rounded, rounded_lanes, with_product};
 use numbers::vectors::are_in_range;
 use std::simd::prelude::*;
@@ -38,9 +38,10 @@ fn fir_blocks<T: FilterLane>(h: &[i16], x: &[T], shift: u32, out: &mut [T])
     requires items_in_range { All (λ x. IsItem T.kind (T.number x)) x.now }
     ensures { let done = 8 * (length out.old / 8) in take done (map T.number out.new) ≡ listed done (output T.kind h.now (map T.number x.now) shift) }
 {
+    let light = is_light(h);
     for pair in 0..out.len() / 16 {
         let at = 16 * pair;
-        let (low, high) = sixteen_sums(h, x, at);
+        let (low, high) = T::sixteen_sums(h, x, at, light);
         T::store(rounded_lanes(low, shift), out, at);
         T::store(rounded_lanes(high, shift), out, at + 8);
     }
@@ -51,8 +52,20 @@ fn fir_blocks<T: FilterLane>(h: &[i16], x: &[T], shift: u32, out: &mut [T])
     }
 }
 
-/// The sums at sixteen outputs: each tap is read once for them.
-fn sixteen_sums<T: FilterLane>(h: &[i16], x: &[T], at: usize) -> (i64x8, i64x8)
+/// Whether the taps' distances from 0 sum up to less than `2 ^ 16`.
+fn is_light(h: &[i16]) -> bool
+    requires { length h.now ≤ 256 }
+    ensures { IsTrue result ↔ (weight h.now < 2 ^ 16) }
+{
+    let mut weight: u32 = 0;
+    for tap in h {
+        weight += u32::from(tap.unsigned_abs());
+    }
+    weight < 65536
+}
+
+/// The sums at sixteen outputs in lanes of 64 bits: each tap is read once for them.
+pub(crate) fn wide_sums<T: ProductLane>(h: &[i16], x: &[T], at: usize) -> (i64x8, i64x8)
     requires taps { 1 ≤ length h.now }
     requires most { length h.now ≤ 256 }
     requires room { at + 15 + length h.now ≤ length x.now }
@@ -75,7 +88,7 @@ fn sixteen_sums<T: FilterLane>(h: &[i16], x: &[T], at: usize) -> (i64x8, i64x8)
 }
 
 /// The sums at eight outputs.
-fn eight_sums<T: FilterLane>(h: &[i16], x: &[T], at: usize) -> i64x8
+fn eight_sums<T: ProductLane>(h: &[i16], x: &[T], at: usize) -> i64x8
     requires taps { 1 ≤ length h.now }
     requires most { length h.now ≤ 256 }
     requires room { at + 7 + length h.now ≤ length x.now }
@@ -93,7 +106,7 @@ fn eight_sums<T: FilterLane>(h: &[i16], x: &[T], at: usize) -> i64x8
 }
 
 /// The sum at one output.
-fn one_sum<T: FilterLane>(h: &[i16], x: &[T], at: usize) -> i64
+fn one_sum<T: ProductLane>(h: &[i16], x: &[T], at: usize) -> i64
     requires taps { 1 ≤ length h.now }
     requires most { length h.now ≤ 256 }
     requires room { at + length h.now ≤ length x.now }

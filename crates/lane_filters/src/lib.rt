@@ -6,10 +6,11 @@ pub mod differences;
 pub mod dots;
 pub mod filter_lane;
 pub mod fir;
+mod pairs;
 mod sums;
 
 pub use bits::{pack_bits, unpack_bits};
 pub use differences::diff_decode;
 pub use dots::{dot_i16, dot_i32};
-pub use filter_lane::FilterLane;
+pub use filter_lane::{FilterLane, ProductLane};
 pub use fir::fir_row;

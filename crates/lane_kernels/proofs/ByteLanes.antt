@@ -7,9 +7,9 @@ use Rattle.stream_model.specs.declared.vocabulary.ItemType.TheVariants.{Byte}
 use Rattle.lane_kernels.specs.Blocks.{IsBlock}
 use Rattle.lane_kernels.proofs.Lanes.{stored_zip, stored_map}
 
-module _ (out a : List ℕ) (whole : length out ≡ 16) (p : IsBlock Byte pos a) where
+module _ (out a : List ℕ) (whole : length out ≡ 16) (p : IsBlock 16 Byte pos a) where
   pub byte_zip : (op : ℕ → ℕ → ℕ) (f : ℤ → ℤ → ℤ) → ((x y : ℕ) → IsItem Byte (pos x) → IsItem Byte (pos y) → pos (op x y) ≡ f (pos x) (pos y))
-      → (b : List ℕ) → IsBlock Byte pos b → map pos (put_chunk 0 out (zip2 op (take 16 a) (take 16 b))) ≡ zip2 f (map pos a) (map pos b)
+      → (b : List ℕ) → IsBlock 16 Byte pos b → map pos (put_chunk 0 out (zip2 op (take 16 a) (take 16 b))) ≡ zip2 f (map pos a) (map pos b)
   byte_zip op f lane b q = stored_zip pos pos (λ x. IsItem Byte (pos x)) 16 out whole (zip2 op) op f (λ xs ys e h. refl) lane a b p.whole q.whole p.items q.items
 
   -- with k beside each lane

@@ -35,8 +35,8 @@ module _ (w : Width) (room : 256 ≤ 2 ^ hbits w) where
   low_byte : (u : ℕ) → to_z w (bit_and u 255) ≡ pos (bit_and u 255)
   low_byte u = to_z_pos w (bit_and u 255) (omega (arith, and_le_r u 255))
 
-  pub byte_asks : (us : List ℕ) → Each1 (λ u. T (non_neg (to_z w u)) × Fits w8 (unsigned_abs (to_z w u))) (zip2 bit_and us (replicate 16 255))
-  byte_asks us = asks_splat (λ u. T (non_neg (to_z w u)) × Fits w8 (unsigned_abs (to_z w u))) bit_and 255 16 us
+  pub byte_asks : (n : ℕ) (us : List ℕ) → Each1 (λ u. T (non_neg (to_z w u)) × Fits w8 (unsigned_abs (to_z w u))) (zip2 bit_and us (replicate n 255))
+  byte_asks n us = asks_splat (λ u. T (non_neg (to_z w u)) × Fits w8 (unsigned_abs (to_z w u))) bit_and 255 n us
       (λ u. subst (λ y. T (non_neg y) × Fits w8 (unsigned_abs y)) (sym (low_byte u)) (tt, record { fits = omega (arith, and_le_r u 255) }))
 
   to_byte : (z : ℤ) → of_z w z % 256 ≡ residue z 256 → pos (unsigned_abs (to_z w (bit_and (of_z w z) 255))) ≡ wrap Byte z
@@ -102,8 +102,8 @@ halves Q n [] each = tt
 halves Q zero (u ∷ us) each = tt
 halves Q (suc n) (u ∷ us) each = (each u, halves Q n us each)
 
-pub short_asks : (us : List ℕ) → Each1 (λ u. SFits w16 (to_z w32 u)) (zip2 down (zip2 up us (replicate 16 16)) (replicate 16 16))
-short_asks us = halves (λ u. SFits w16 (to_z w32 u)) 16 us (λ u. subst (SFits w16) (sym (half_held u)) (half_fits u))
+pub short_asks : (n : ℕ) (us : List ℕ) → Each1 (λ u. SFits w16 (to_z w32 u)) (zip2 down (zip2 up us (replicate n 16)) (replicate n 16))
+short_asks n us = halves (λ u. SFits w16 (to_z w32 u)) n us (λ u. subst (SFits w16) (sym (half_held u)) (half_fits u))
 
 -- as lists of n lanes
 pub halved_lanes : {X : Type 0} (bits : X → ℕ) (n : ℕ) (xs : List X) → length xs ≡ n

@@ -1,7 +1,7 @@
 -- What holds of a list of items, from what holds of its parts.
 use Rattle.std.proofs.Common.{◌≡◌, ℕ, zero, suc, ◌+◌, ◌≤◌, ◌∙◌, ap, sym, refl, arith, List, [], ◌∷◌, ◌++◌, length, map, take, drop, ℤ}
 use Rattle.std.specs.Simd.Lanes.{zip2}
-use Rattle.std.proofs.lemmas.List.{take-map, take_all, take-take, length-map, length-take-le, length-drop, map-append, length-append}
+use Rattle.std.proofs.lemmas.List.{take-map, take_all, take-take, length-map, length-take-le, length-drop, map-append, length-append, take-append-le}
 use Rattle.std.proofs.lemmas.Slice.{take-put_mid}
 use Rattle.std.proofs.lemmas.Simd.{length-zip2}
 use borrow.Rule.Slice.PartMut.{put_mid}
@@ -20,23 +20,37 @@ drop-zip2 f (suc n) [] (y ∷ ys) e = absurd (omega arith)
 drop-zip2 f (suc n) (x ∷ xs) [] e = absurd (omega arith)
 drop-zip2 f (suc n) (x ∷ xs) (y ∷ ys) e = drop-zip2 f n xs ys (omega arith)
 
+pub length-zipped : {X : Type 0} (number : X → ℤ) (f : ℤ → ℤ → ℤ) (a b : List X) → length b ≡ length a → length (zip2 f (map number a) (map number b)) ≡ length a
+length-zipped number f a b e =
+    length-zip2 f (map number a) (map number b) (length-map a number ∙ sym e ∙ sym (length-map b number)) ∙ length-map a number
+
 -- ---- a beginning
 
--- what is made of a longer list, cut to the list
-pub cut_map : {X Y : Type 0} (number : X → ℤ) (number' : Y → ℤ) (f : ℤ → ℤ) (k : ℕ) (longer a : List X) (made new : List Y)
-    → take k longer ≡ a → map number' made ≡ map f (map number longer) → new ≡ take k made → map number' new ≡ map f (map number a)
-cut_map number number' f k longer a made new begins is e =
-    ap (map number') e ∙ sym (take-map number' k made) ∙ ap (take k) is ∙ take-map f k (map number longer)
-    ∙ ap (map f) (take-map number k longer ∙ ap (map number) begins)
+-- what is made of the first m of a longer list, cut to the list
+pub cut_map : {X Y : Type 0} (number : X → ℤ) (number' : Y → ℤ) (f : ℤ → ℤ) (k m : ℕ) (longer a : List X) (made rest new : List Y)
+    → k ≤ m → m ≤ length longer → take k longer ≡ a → map number' made ≡ map f (map number (take m longer)) → new ≡ take k (made ++ rest)
+    → map number' new ≡ map f (map number a)
+cut_map number number' f k m longer a made rest new le room begins is e =
+    let long : length made ≡ m =
+    sym (length-map made number') ∙ ap length is ∙ length-map (map number (take m longer)) f ∙ length-map (take m longer) number ∙ length-take-le m longer room in
+    let here : take k (take m longer) ≡ a = take-take k m longer le ∙ begins in
+    ap (map number') (e ∙ take-append-le k made rest (omega arith)) ∙ sym (take-map number' k made) ∙ ap (take k) is ∙ take-map f k (map number (take m longer))
+    ∙ ap (map f) (take-map number k (take m longer) ∙ ap (map number) here)
 
 -- the same of two lists
-pub cut_zip : {X : Type 0} (number : X → ℤ) (f : ℤ → ℤ → ℤ) (k : ℕ) (longer a longer' b : List X) (made new : List X)
-    → take k longer ≡ a → take k longer' ≡ b → map number made ≡ zip2 f (map number longer) (map number longer') → new ≡ take k made
+pub cut_zip : {X : Type 0} (number : X → ℤ) (f : ℤ → ℤ → ℤ) (k m : ℕ) (longer a longer' b : List X) (made rest new : List X)
+    → k ≤ m → m ≤ length longer → length longer' ≡ length longer → take k longer ≡ a → take k longer' ≡ b
+    → map number made ≡ zip2 f (map number (take m longer)) (map number (take m longer')) → new ≡ take k (made ++ rest)
     → map number new ≡ zip2 f (map number a) (map number b)
-cut_zip number f k longer a longer' b made new begins begins' is e =
-    let first : take k (map number longer) ≡ map number a = take-map number k longer ∙ ap (map number) begins in
-    let second : take k (map number longer') ≡ map number b = take-map number k longer' ∙ ap (map number) begins' in
-    ap (map number) e ∙ sym (take-map number k made) ∙ ap (take k) is ∙ take-zip2 f k (map number longer) (map number longer')
+cut_zip number f k m longer a longer' b made rest new le room same begins begins' is e =
+    let xs = take m longer in
+    let ys = take m longer' in
+    let xl : length xs ≡ m = length-take-le m longer room in
+    let yl : length ys ≡ m = length-take-le m longer' (omega arith) in
+    let long : length made ≡ m = sym (length-map made number) ∙ ap length is ∙ length-zipped number f xs ys (yl ∙ sym xl) ∙ xl in
+    let first : take k (map number xs) ≡ map number a = take-map number k xs ∙ ap (map number) (take-take k m longer le ∙ begins) in
+    let second : take k (map number ys) ≡ map number b = take-map number k ys ∙ ap (map number) (take-take k m longer' le ∙ begins') in
+    ap (map number) (e ∙ take-append-le k made rest (omega arith)) ∙ sym (take-map number k made) ∙ ap (take k) is ∙ take-zip2 f k (map number xs) (map number ys)
     ∙ (λ i. zip2 f (first i) (second i))
 
 -- ---- a part in the middle
@@ -74,10 +88,6 @@ ended number t at k n out new e all same before here =
     ap (map number) (sym (take_all (length t) (put_mid at k out new) whole)) ∙ stepped number t at (length t) k n out new e (omega arith) same before here
     ∙ take_all (length t) t (omega arith)
 
-pub length-zipped : {X : Type 0} (number : X → ℤ) (f : ℤ → ℤ → ℤ) (a b : List X) → length b ≡ length a → length (zip2 f (map number a) (map number b)) ≡ length a
-length-zipped number f a b e =
-    length-zip2 f (map number a) (map number b) (length-map a number ∙ sym e ∙ sym (length-map b number)) ∙ length-map a number
-
 -- where no item is left, these are the numbers
 pub all_there : {Y : Type 0} (number : Y → ℤ) (t : List ℤ) (at : ℕ) (out : List Y) → length out ≤ at → length t ≤ at
     → map number (take at out) ≡ take at t → map number out ≡ t
@@ -87,3 +97,8 @@ all_there number t at out e h before = ap (map number) (sym (take_all at out e))
 pub sooner : {Y : Type 0} (number : Y → ℤ) (t : List ℤ) (at m : ℕ) (out : List Y) → at ≤ m → map number (take m out) ≡ take m t → map number (take at out) ≡ take at t
 sooner number t at m out le there =
     ap (map number) (sym (take-take at m out le)) ∙ sym (take-map number at (take m out)) ∙ ap (take at) there ∙ take-take at m t le
+
+-- the numbers t are in `out` up to `at`, which is a place among so many items
+pub record Reached {Y : Type 0} (number : Y → ℤ) (t : List ℤ) (count at : ℕ) (out : List Y) : Type 0 where
+  pub within : at ≤ count
+  pub there : map number (take at out) ≡ take at t

@@ -119,9 +119,9 @@ cast_byte_asks = Each1-map (IsItem Byte) (λ u. T (non_neg (to_z w32 u)) × Fits
     (λ z p. subst (λ y. T (non_neg y) × Fits w8 (unsigned_abs y)) (sym (to_z-of_z w32 z (byte_number z p).0)) ((byte_number z p).1, (byte_number z p).2))
 
 -- a block that is scaled: `casts` are the lanes of a, cast to width w, and f is the factor
-module _ {X : Type 0} (t : ItemType) (w : Width) (number : X → ℤ) (cast : X → ℕ) (m : ℕ) (h : Widened t w number cast m)
+module _ {X : Type 0} (n : ℕ) (t : ItemType) (w : Width) (number : X → ℤ) (cast : X → ℕ) (m : ℕ) (h : Widened t w number cast m)
     (factor f : ℤ) (short : SFits w16 factor) (is_factor : f ≡ factor)
-    (casts : List ℕ) (a : List X) (is_casts : casts ≡ map cast (take 16 a)) (p : IsBlock t number a) where
+    (casts : List ℕ) (a : List X) (is_casts : casts ≡ map cast (take n a)) (p : IsBlock n t number a) where
   near : unsigned_abs factor ≤ 2 ^ 15
   near = omega (arith, abs-le-mag factor, short.sfits)
 
@@ -129,16 +129,16 @@ module _ {X : Type 0} (t : ItemType) (w : Width) (number : X → ℤ) (cast : X 
   fits = record { sfits = omega (arith, short.sfits, h.long) }
 
   abbrev input : List ℤ
-  input = map (to_z w) (zip2 (λ a b. (a * b) % 2 ^ bits w) casts (replicate 16 (of_z w f)))
+  input = map (to_z w) (zip2 (λ a b. (a * b) % 2 ^ bits w) casts (replicate n (of_z w f)))
 
   is_products : input ≡ map (λ x. number x *ℤ factor) a
   is_products =
-      let all : take 16 a ≡ a = take_all 16 a (omega (arith, p.whole)) in
+      let all : take n a ≡ a = take_all n a (omega (arith, p.whole)) in
       let lanes : casts ≡ map cast a = is_casts ∙ ap (map cast) all in
-      (λ i. map (to_z w) (zip2 (λ a b. (a * b) % 2 ^ bits w) (lanes i) (replicate 16 (of_z w (is_factor i)))))
-      ∙ products w number cast (λ x. IsItem t (number x)) h.is_cast m (2 ^ 15) h.within factor near h.wide h.one fits 16 a p.whole p.items
+      (λ i. map (to_z w) (zip2 (λ a b. (a * b) % 2 ^ bits w) (lanes i) (replicate n (of_z w (is_factor i)))))
+      ∙ products w number cast (λ x. IsItem t (number x)) h.is_cast m (2 ^ 15) h.within factor near h.wide h.one fits n a p.whole p.items
 
-  pub products_whole : length input ≡ 16
+  pub products_whole : length input ≡ n
   products_whole = ap length is_products ∙ length-map a (λ x. number x *ℤ factor) ∙ p.whole
 
   pub products_small : All (IsWithin (m * 2 ^ 15)) input
@@ -150,7 +150,7 @@ module _ {X : Type 0} (t : ItemType) (w : Width) (number : X → ℤ) (cast : X 
         made ∙ ap (map (λ z. clamped (least_of t) (greatest_of t) (rnd z s))) is_products ∙ map-map (λ z. clamped (least_of t) (greatest_of t) (rnd z s)) (λ x. number x *ℤ factor) a
         ∙ sym (map-map (scaled t factor s) number a)
 
-    pub scaled_whole : length zs ≡ 16
+    pub scaled_whole : length zs ≡ n
     scaled_whole = ap length numbers_scaled ∙ length-map (map number a) (scaled t factor s) ∙ length-map a number ∙ p.whole
 
     pub scaled_items : All (IsItem t) zs

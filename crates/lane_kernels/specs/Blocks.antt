@@ -3,11 +3,10 @@ use Rattle.std.specs.Prelude.{◌≡◌, ℕ, ◌≤◌, ℤ, pos, List, length,
 use Rattle.stream_model.specs.Numbers.{IsItem, wrap}
 use Rattle.stream_model.specs.Kernels.{bits_in}
 use Rattle.stream_model.specs.declared.vocabulary.ItemType.{ItemType}
-use Rattle.lane_kernels.specs.declared.simd_lane.TheConstants.{LANES}
 
--- as many items of the type as a block has
-pub record IsBlock {X : Type 0} (t : ItemType) (number : X → ℤ) (xs : List X) : Type 0 where
-  pub whole : length xs ≡ LANES
+-- so many items of the type
+pub record IsBlock {X : Type 0} (count : ℕ) (t : ItemType) (number : X → ℤ) (xs : List X) : Type 0 where
+  pub whole : length xs ≡ count
   pub items : All (λ x. IsItem t (number x)) xs
 
 -- the number whose bits are those of x and y, joined bit for bit by op

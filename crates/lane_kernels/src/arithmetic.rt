@@ -22,11 +22,19 @@ struct Offset<T> {
 }
 
 impl<T: SimdLane> MapBlock<T, T> for Offset<T> {
+    ghost LANES = { T.LANES };
+
+    const LANES: usize = T::LANES;
+
     ghost means = { λ s x. wrap T.kind (x +ℤ T.number s.by) };
 
     fn block(&self, a: &[T], out: &mut [T]) {
         T::add_const_block(a, self.by, out);
     }
+
+    ghost has_lane = { T.has_lane };
+
+    ghost has_few_lanes = { T.has_few_lanes };
 }
 
 #[derive(Drop)]
@@ -35,11 +43,19 @@ struct Multiple<T> {
 }
 
 impl<T: SimdLane> MapBlock<T, T> for Multiple<T> {
+    ghost LANES = { T.LANES };
+
+    const LANES: usize = T::LANES;
+
     ghost means = { λ s x. wrap T.kind (x *ℤ T.number s.by) };
 
     fn block(&self, a: &[T], out: &mut [T]) {
         T::mul_block(a, self.by, out);
     }
+
+    ghost has_lane = { T.has_lane };
+
+    ghost has_few_lanes = { T.has_few_lanes };
 }
 
 #[derive(Drop)]
@@ -50,15 +66,24 @@ struct Scaling {
 }
 
 impl<T: SimdLane> MapBlock<T, T> for Scaling {
+    ghost LANES = { T.SCALED_LANES };
+
+    const LANES: usize = T::SCALED_LANES;
+
     ghost means = { λ s x. Kernels.scaled T.kind s.factor s.shift x };
 
     fn block(&self, a: &[T], out: &mut [T]) {
         T::scale_block(a, self.factor, self.shift, out);
     }
+
+    ghost has_lane = { T.scales_some };
+
+    ghost has_few_lanes = { T.scales_few };
 }
 
 /// Adds the items of `a` and `b`, wrapping where a sum leaves the type's range.
 #[tactic(auto, using(crate::proofs::Listed::zipped_is_listed))]
+#[inline(always)]
 pub fn add_wrap<T: SimdLane>(a: &[T], b: &[T], out: &mut [T])
     requires same_length { length a.now ≡ length b.now }
     requires out_length { length out.old ≡ length a.now }
@@ -69,6 +94,7 @@ pub fn add_wrap<T: SimdLane>(a: &[T], b: &[T], out: &mut [T])
 
 /// Adds `c` to each item, wrapping where a sum leaves the type's range.
 #[tactic(auto, using(crate::proofs::Listed::mapped_is_listed))]
+#[inline(always)]
 pub fn add_const_wrap<T: SimdLane>(a: &[T], c: T, out: &mut [T])
     requires { length out.old ≡ length a.now }
     ensures { map T.number out.new ≡ Kernels.add_const_wrap T.kind (map T.number a.now) (T.number c) }
@@ -78,6 +104,7 @@ pub fn add_const_wrap<T: SimdLane>(a: &[T], c: T, out: &mut [T])
 
 /// Multiplies each item by `c`, wrapping where a product leaves the type's range.
 #[tactic(auto, using(crate::proofs::Listed::mapped_is_listed))]
+#[inline(always)]
 pub fn mul_wrap<T: SimdLane>(a: &[T], c: T, out: &mut [T])
     requires { length out.old ≡ length a.now }
     ensures { map T.number out.new ≡ Kernels.mul_wrap T.kind (map T.number a.now) (T.number c) }
@@ -88,6 +115,7 @@ pub fn mul_wrap<T: SimdLane>(a: &[T], c: T, out: &mut [T])
 /// Multiplies each item by `factor` and divides by two to the power of `shift`, to the nearest
 /// number of the type, a half upwards.
 #[tactic(auto, using(crate::proofs::Listed::mapped_is_listed))]
+#[inline(always)]
 pub fn scale_sat<T: SimdLane>(a: &[T], factor: i16, shift: u32, out: &mut [T])
     requires in_range { shift ≤ 31 }
     requires out_length { length out.old ≡ length a.now }

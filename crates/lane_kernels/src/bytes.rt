@@ -1,13 +1,21 @@
 //! Blocks of bytes.
 ghost use Rattle.std.proofs.Common.{rules};
 
+use crate::SimdLane;
 use crate::scaling::scaled;
-use crate::{LANES, SimdLane};
 use std::simd::prelude::*;
 
-type Block = Simd<u8, LANES>;
+type Block = Simd<u8, 16>;
 
 impl SimdLane for u8 {
+    ghost LANES = { 16 };
+
+    const LANES: usize = 16;
+
+    ghost SCALED_LANES = { 16 };
+
+    const SCALED_LANES: usize = 16;
+
     fn add_block(a: &[u8], b: &[u8], out: &mut [u8]) {
         (Block::from_slice(a) + Block::from_slice(b)).copy_to_slice(out);
     }
@@ -43,6 +51,14 @@ impl SimdLane for u8 {
             .cast::<u8>()
             .copy_to_slice(out);
     }
+
+    ghost has_lane = { Prim.search rules };
+
+    ghost has_few_lanes = { Prim.search rules };
+
+    ghost scales_some = { Prim.search rules };
+
+    ghost scales_few = { Prim.search rules };
 
     ghost is_small = { Prim.search rules };
 }

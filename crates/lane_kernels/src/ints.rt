@@ -1,13 +1,21 @@
 //! Blocks of ints.
 ghost use Rattle.std.proofs.Common.{rules};
 
+use crate::SimdLane;
 use crate::scaling::scaled_wide;
-use crate::{LANES, SimdLane};
 use std::simd::prelude::*;
 
-type Block = Simd<i32, LANES>;
+type Block = Simd<i32, 4>;
 
 impl SimdLane for i32 {
+    ghost LANES = { 4 };
+
+    const LANES: usize = 4;
+
+    ghost SCALED_LANES = { 4 };
+
+    const SCALED_LANES: usize = 4;
+
     fn add_block(a: &[i32], b: &[i32], out: &mut [i32]) {
         (Block::from_slice(a) + Block::from_slice(b)).copy_to_slice(out);
     }
@@ -43,6 +51,14 @@ impl SimdLane for i32 {
             .cast::<i32>()
             .copy_to_slice(out);
     }
+
+    ghost has_lane = { Prim.search rules };
+
+    ghost has_few_lanes = { Prim.search rules };
+
+    ghost scales_some = { Prim.search rules };
+
+    ghost scales_few = { Prim.search rules };
 
     ghost is_small = { Prim.search rules };
 }

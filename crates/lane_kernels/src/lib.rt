@@ -14,4 +14,4 @@ pub mod simd_lane;
 pub use arithmetic::{add_const_wrap, add_wrap, mul_wrap, scale_sat};
 pub use conversion::{NarrowsTo, WidensTo, narrow, widen};
 pub use logic::{and, not, or, xor};
-pub use simd_lane::{LANES, SimdLane};
+pub use simd_lane::{MOST_LANES, SimdLane};

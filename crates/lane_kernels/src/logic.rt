@@ -40,15 +40,24 @@ impl<T: SimdLane> ZipBlock<T> for OneAlone {
 struct Turn;
 
 impl<T: SimdLane> MapBlock<T, T> for Turn {
+    ghost LANES = { T.LANES };
+
+    const LANES: usize = T::LANES;
+
     ghost means = { λ s. turned T.kind };
 
     fn block(&self, a: &[T], out: &mut [T]) {
         T::not_block(a, out);
     }
+
+    ghost has_lane = { T.has_lane };
+
+    ghost has_few_lanes = { T.has_few_lanes };
 }
 
 /// The bits that both items have.
 #[tactic(auto, using(crate::proofs::Listed::zipped_is_listed))]
+#[inline(always)]
 pub fn and<T: SimdLane>(a: &[T], b: &[T], out: &mut [T])
     requires same_length { length a.now ≡ length b.now }
     requires out_length { length out.old ≡ length a.now }
@@ -59,6 +68,7 @@ pub fn and<T: SimdLane>(a: &[T], b: &[T], out: &mut [T])
 
 /// The bits that either item has.
 #[tactic(auto, using(crate::proofs::Listed::zipped_is_listed))]
+#[inline(always)]
 pub fn or<T: SimdLane>(a: &[T], b: &[T], out: &mut [T])
     requires same_length { length a.now ≡ length b.now }
     requires out_length { length out.old ≡ length a.now }
@@ -69,6 +79,7 @@ pub fn or<T: SimdLane>(a: &[T], b: &[T], out: &mut [T])
 
 /// The bits that one of two items has alone.
 #[tactic(auto, using(crate::proofs::Listed::zipped_is_listed))]
+#[inline(always)]
 pub fn xor<T: SimdLane>(a: &[T], b: &[T], out: &mut [T])
     requires same_length { length a.now ≡ length b.now }
     requires out_length { length out.old ≡ length a.now }
@@ -79,6 +90,7 @@ pub fn xor<T: SimdLane>(a: &[T], b: &[T], out: &mut [T])
 
 /// The bits that each item lacks.
 #[tactic(auto, using(crate::proofs::Listed::mapped_is_listed))]
+#[inline(always)]
 pub fn not<T: SimdLane>(a: &[T], out: &mut [T])
     requires { length out.old ≡ length a.now }
     ensures { map T.number out.new ≡ not_bits T.kind (map T.number a.now) }

@@ -4,7 +4,6 @@ ghost use Rattle.std.specs.Prelude.{◌≡◌, ◌^◌, ◌≤◌, ◌≤ℤ◌,
 ghost use Rattle.stream_model.specs.Numbers.{rnd};
 ghost use Rattle.lane_kernels.specs.Blocks.{IsWithin, clamped};
 
-use crate::LANES;
 use std::simd::prelude::*;
 
 /// Over 2 to the power of `shift`, a half upwards, and then the nearest number from `least` to
@@ -12,12 +11,12 @@ use std::simd::prelude::*;
 /// too large for a lane.
 #[inline(always)]
 pub(crate) fn scaled(
-    products: Simd<i32, LANES>,
+    products: Simd<i32, 16>,
     shift: u32,
     least: i32,
     greatest: i32,
-) -> Simd<i32, LANES>
-    requires whole { length products ≡ LANES }
+) -> Simd<i32, 16>
+    requires whole { length products ≡ 16 }
     requires small { All (IsWithin (2 ^ 30)) products }
     requires in_range { shift ≤ 31 }
     requires ordered { least ≤ℤ greatest }
@@ -33,13 +32,8 @@ pub(crate) fn scaled(
 
 /// The same of 64 bits, where the half is added at once.
 #[inline(always)]
-pub(crate) fn scaled_wide(
-    wide: Simd<i64, LANES>,
-    shift: u32,
-    least: i64,
-    greatest: i64,
-) -> Simd<i64, LANES>
-    requires whole { length wide ≡ LANES }
+pub(crate) fn scaled_wide(wide: Simd<i64, 4>, shift: u32, least: i64, greatest: i64) -> Simd<i64, 4>
+    requires whole { length wide ≡ 4 }
     requires small { All (IsWithin (2 ^ 46)) wide }
     requires in_range { shift ≤ 31 }
     requires ordered { least ≤ℤ greatest }

@@ -1,13 +1,21 @@
 //! Blocks of shorts.
 ghost use Rattle.std.proofs.Common.{rules};
 
+use crate::SimdLane;
 use crate::scaling::scaled;
-use crate::{LANES, SimdLane};
 use std::simd::prelude::*;
 
-type Block = Simd<i16, LANES>;
+type Block = Simd<i16, 8>;
 
 impl SimdLane for i16 {
+    ghost LANES = { 8 };
+
+    const LANES: usize = 8;
+
+    ghost SCALED_LANES = { 16 };
+
+    const SCALED_LANES: usize = 16;
+
     fn add_block(a: &[i16], b: &[i16], out: &mut [i16]) {
         (Block::from_slice(a) + Block::from_slice(b)).copy_to_slice(out);
     }
@@ -38,11 +46,20 @@ impl SimdLane for i16 {
 
     fn scale_block(a: &[i16], factor: i16, shift: u32, out: &mut [i16]) {
         let factors = Simd::splat(i32::from(factor));
-        let products = Block::from_slice(a).cast::<i32>() * factors;
+        let items: Simd<i16, 16> = Simd::from_slice(a);
+        let products = items.cast::<i32>() * factors;
         scaled(products, shift, -32768, 32767)
             .cast::<i16>()
             .copy_to_slice(out);
     }
+
+    ghost has_lane = { Prim.search rules };
+
+    ghost has_few_lanes = { Prim.search rules };
+
+    ghost scales_some = { Prim.search rules };
+
+    ghost scales_few = { Prim.search rules };
 
     ghost is_small = { Prim.search rules };
 }

@@ -1,1 +1,2 @@
+pub mod Totals
 pub mod Written

@@ -6,9 +6,14 @@ ghost use Rattle.stream_model.specs.declared.vocabulary.ItemType.{ItemType};
 ghost use Rattle.stream_model.specs.declared.vocabulary.ItemType.TheVariants.{Byte};
 ghost use Rattle.items.specs.Items.{type_of, numbers_of, spare_of};
 
+pub mod change;
+pub mod sums;
+
+pub use change::{LaneChange, change_items};
 use items::Items;
 use lane_kernels::SimdLane;
 use numbers::vectors::append_copies;
+pub use sums::sum_of;
 
 /// Work that makes items of some items of the same type.
 pub trait LaneWork {

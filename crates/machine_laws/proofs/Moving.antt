@@ -19,7 +19,7 @@ use Rattle.stream_model.specs.Machine.{Capacities, counts_in, counts_of, claimed
 use Rattle.stream_laws.specs.CanRun.{CanRun}
 use Rattle.stream_laws.proofs.Writers.{entering-source, entering-input, length-entering}
 use Rattle.stream_laws.proofs.Later.{items-length}
-use Rattle.machine_laws.specs.Sound.{fired, reached, MayBecome, AreAll, IsUnread, Fits, IsHandedWell, Sound, OpeningIsSound}
+use Rattle.machine_laws.specs.Sound.{fired, reached, MayBecome, AreAll, IsUnread, Fits, IsHandedWell, Sound, begun, BegunIsSound, OpeningIsSound}
 use Rattle.machine_laws.proofs.Deciding.{IsFree, Reason, decide-reason}
 use Rattle.machine_laws.proofs.Inputs.{input_at, Lacks, lacks-one}
 use Rattle.machine_laws.proofs.Frames.{sound-moved}
@@ -151,34 +151,26 @@ module _ (net : Network) (can : CanRun net) (caps : Capacities) (st : State) (so
         complete = λ d. absurd (in_flight-live some d);
       })
 
--- a run begins soundly
-pub opening_sound : OpeningIsSound
-opening_sound net caps can =
+-- a run begins soundly, whatever blocks were handed
+pub begun_sound : BegunIsSound
+begun_sound net caps hs can count well =
     record {
-      handed_count = length-map net.nodes (λ n. nothing_handed);
+      handed_count = count;
       progress_count = length-map net.nodes (λ n. no_progress);
-      fits = λ b in1. subst (λ (s : Progress). Fits net caps (opening net) b (s.firings + s.claimed)) (sym (no_progress-at b)) (first_fits b);
+      fits = λ b in1. subst (λ (s : Progress). Fits net caps (begun net hs) b (s.firings + s.claimed)) (sym (no_progress-at b)) (first_fits b);
       rests = λ b d. ap (λ (s : Progress). s.claimed) (no_progress-at b);
       complete = λ b in1 d. absurd (let live = ap (λ (s : Progress). s.done) (no_progress-at b) in cc);
-      handed = λ b in1. subst (IsHandedWell (node_at net b)) (sym (nothing-at b))
-          (record { tape = λ e. refl; short = zero-le; tags = All-nil (λ (t : Tag). t.offset < 0); settings = no_settings (node_at net b).meaning.setting });
+      handed = well;
     }
   where
-    nothing-at : (b : ℕ) → handed_at (opening net).handed b ≡ nothing_handed
-    nothing-at b = get_or-map (λ (n : Node). nothing_handed) net.nodes b no_node
-
-    no_progress-at : (b : ℕ) → progress_at (opening net).progress b ≡ no_progress
+    no_progress-at : (b : ℕ) → progress_at (begun net hs).progress b ≡ no_progress
     no_progress-at b = get_or-map (λ (n : Node). no_progress) net.nodes b no_node
-
-    no_settings : (o : Option Wanted) → MatchOption o ⊤ (λ w. All (λ (h : Held). IsWanted w h.value) [])
-    no_settings None = tt
-    no_settings (Some w) = All-nil (λ (h : Held). IsWanted w h.value)
 
     first_within : (limit : Option ℕ) → within_limit limit (0 + 0) ≡ true
     first_within None = refl
     first_within (Some n) = le-leb (0 + 0) n (omega arith)
 
-    first_fits : (b : ℕ) → Fits net caps (opening net) b (0 + 0)
+    first_fits : (b : ℕ) → Fits net caps (begun net hs) b (0 + 0)
     first_fits b =
         record {
           tape = λ e. omega arith;
@@ -189,3 +181,18 @@ opening_sound net caps can =
       where
         given_by-zero : (b : ℕ) → given_by (node_at net b) 0 ≡ 0
         given_by-zero b = rw (given_by, mul-zero) (given-zero (node_at net b).meaning (can.sound b).lawful)
+
+-- no settings are settings that any block can have
+pub no_settings : (o : Option Wanted) → MatchOption o ⊤ (λ w. All (λ (h : Held). IsWanted w h.value) [])
+no_settings None = tt
+no_settings (Some w) = All-nil (λ (h : Held). IsWanted w h.value)
+
+-- and so with nothing handed
+pub opening_sound : OpeningIsSound
+opening_sound net caps can =
+    begun_sound net caps (opening net).handed can (length-map net.nodes (λ n. nothing_handed))
+    (λ b in1. subst (IsHandedWell (node_at net b)) (sym (nothing-at b))
+    (record { tape = λ e. refl; short = zero-le; tags = All-nil (λ (t : Tag). t.offset < 0); settings = no_settings (node_at net b).meaning.setting }))
+  where
+    nothing-at : (b : ℕ) → handed_at (opening net).handed b ≡ nothing_handed
+    nothing-at b = get_or-map (λ (n : Node). nothing_handed) net.nodes b no_node

@@ -2,7 +2,7 @@
 use Rattle.std.specs.Prelude.{ℕ, ◌+◌, ◌<◌, ◌≤◌, ◌≡◌, List, length, map, true, false, All, ◌⊎◌}
 use Rattle.stream_model.specs.Lists.{IsBeginning}
 use Rattle.stream_model.specs.Meaning.{AreWanted}
-use Rattle.stream_model.specs.Network.{Network, Node, Handed, State, node_at, handed_at, progress_at, role_at, is_source, used_outputs, taken_by, given_by, within_limit, fires, entering, opening}
+use Rattle.stream_model.specs.Network.{Network, Node, Handed, State, node_at, handed_at, progress_at, role_at, is_source, used_outputs, taken_by, given_by, within_limit, fires, entering, no_progress, opening}
 use Rattle.stream_model.specs.Machine.{Capacities, Call, capacity_at, longest_tape, next}
 use Rattle.stream_laws.specs.CanRun.{CanRun}
 
@@ -54,7 +54,17 @@ pub record Sound (net : Network) (caps : Capacities) (st : State) : Type 0 where
   pub complete : (b : ℕ) → b < length net.nodes → (progress_at st.progress b).done ≡ true → AreAll net st.handed b (fired st b) ⊎ IsUnread net st b
   pub handed : (b : ℕ) → b < length net.nodes → IsHandedWell (node_at net b) (handed_at st.handed b)
 
--- a run begins so
+-- the state before the first firing, where the blocks were handed this
+abbrev pub begun : Network → List Handed → State
+begun net hs = record { handed = hs; progress = map (λ _. no_progress) net.nodes }
+
+-- a run may begin so, with whatever blocks may be handed
+abbrev pub BegunIsSound : Type 0
+BegunIsSound =
+    (net : Network) (caps : Capacities) (hs : List Handed) → CanRun net → length hs ≡ length net.nodes →
+    ((b : ℕ) → b < length net.nodes → IsHandedWell (node_at net b) (handed_at hs b)) → Sound net caps (begun net hs)
+
+-- and so with nothing
 abbrev pub OpeningIsSound : Type 0
 OpeningIsSound = (net : Network) (caps : Capacities) → CanRun net → Sound net caps (opening net)
 

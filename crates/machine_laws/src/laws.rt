@@ -2,11 +2,16 @@
 
 ghost use Rattle.machine_laws.specs.Bounds.{CountsAreSmall};
 ghost use Rattle.machine_laws.specs.Runs.{RunsAreRight};
-ghost use Rattle.machine_laws.specs.Sound.{OpeningIsSound, CallsKeepSound};
+ghost use Rattle.machine_laws.specs.Sound.{BegunIsSound, OpeningIsSound, CallsKeepSound};
 ghost use Rattle.machine_laws.specs.Stalls.{QuietIsDone, QuietIsWhole};
 ghost use Rattle.machine_laws.specs.Steps.{CallsComeToAnEnd, IdleStepsStay, StepsComeToAnEnd, StuckIsQuiet};
 ghost use Rattle.machine_laws.specs.Stays.{WhatIsShownStays, JobsAreFed, CommitsAddTheirTags, CommitsAddTheirWork};
 ghost use Rattle.machine_laws.specs.Whole.{AllDoneIsWhole, DonePieceIsWhole};
+
+/// A state before the first firing is sound, whatever blocks were handed that they may be handed.
+pub fn begun_is_sound()
+    ensures { BegunIsSound }
+{}
 
 /// A run begins in a sound state.
 pub fn opening_is_sound()

@@ -1,4 +1,7 @@
+pub mod Bitwise
+pub mod Joining
 pub mod Numbered
 pub mod Settings
 pub mod Stretches
+pub mod Summed
 pub mod Wrapping

@@ -1,15 +1,15 @@
 -- Lemmas on wrapped numbers.
-use Rattle.std.proofs.Common.{◌≡◌, ℕ, ◌<◌, ℤ, List, length, pos, negsuc, ◌+ℤ◌, ◌*ℤ◌, arith, ap, sym, ◌∙◌}
-use Rattle.std.specs.Int.{int_wrap, w8, w16, w32}
+use Rattle.std.proofs.Common.{◌≡◌, ◌<◌, ℤ, List, length, pos, negsuc, ◌+ℤ◌, arith, ap, sym, ◌∙◌}
+use Rattle.std.specs.Int.{int_wrap, w16, w32}
 use Rattle.std.proofs.lemmas.Bool.Decides.{nat_tests}
-use Rattle.std.proofs.lemmas.Int.{ints, int_wrap-add_right, int_wrap-mul_right}
+use Rattle.std.proofs.lemmas.Int.{ints, int_wrap-add_right}
 use Rattle.stream_model.specs.declared.vocabulary.ItemType.{ItemType}
 use Rattle.stream_model.specs.declared.vocabulary.ItemType.TheVariants.{Byte, Short, Int}
 use Rattle.std.proofs.lemmas.List.{ext_get_or}
 use Rattle.kind_laws.specs.Shared.{item-listed, length-listed}
 use Rattle.stream_model.specs.Numbers.{IsItem, AreItems, wrap}
 use Rattle.stream_model.specs.Lists.{item}
-use Rattle.stream_model.specs.Kernels.{listed, convert}
+use Rattle.stream_model.specs.Kernels.{convert}
 
 -- the signed types wrap as std has it
 pub wrap_short : (z : ℤ) → wrap Short z ≡ int_wrap w16 z
@@ -34,37 +34,8 @@ wrap-add_right Byte a b = wrap_byte-add_right a b
 wrap-add_right Short a b = wrap_short (a +ℤ wrap Short b) ∙ ap (λ (z : ℤ). int_wrap w16 (a +ℤ z)) (wrap_short b) ∙ int_wrap-add_right w16 a b ∙ sym (wrap_short (a +ℤ b))
 wrap-add_right Int a b = wrap_int (a +ℤ wrap Int b) ∙ ap (λ (z : ℤ). int_wrap w32 (a +ℤ z)) (wrap_int b) ∙ int_wrap-add_right w32 a b ∙ sym (wrap_int (a +ℤ b))
 
--- nor a factor
-wrap_byte : (z : ℤ) → wrap Byte z ≡ wrap Byte (int_wrap w8 z)
-unfolding int_wrap
-wrap_byte (pos n) = grind (arith, ints, nat_tests)
-wrap_byte (negsuc n) = grind (arith, ints, nat_tests)
-
-wrapped_byte : (z : ℤ) → int_wrap w8 (wrap Byte z) ≡ int_wrap w8 z
-unfolding int_wrap
-wrapped_byte (pos n) = grind (arith, ints, nat_tests)
-wrapped_byte (negsuc n) = grind (arith, ints, nat_tests)
-
-wrap_byte-mul_right : (a b : ℤ) → wrap Byte (a *ℤ wrap Byte b) ≡ wrap Byte (a *ℤ b)
-wrap_byte-mul_right a b =
-    wrap_byte (a *ℤ wrap Byte b)
-    ∙ ap (wrap Byte) (sym (int_wrap-mul_right w8 a (wrap Byte b)) ∙ ap (λ (z : ℤ). int_wrap w8 (a *ℤ z)) (wrapped_byte b) ∙ int_wrap-mul_right w8 a b)
-    ∙ sym (wrap_byte (a *ℤ b))
-
-pub wrap-mul_right : (t : ItemType) (a b : ℤ) → wrap t (a *ℤ wrap t b) ≡ wrap t (a *ℤ b)
-wrap-mul_right Byte a b = wrap_byte-mul_right a b
-wrap-mul_right Short a b = wrap_short (a *ℤ wrap Short b) ∙ ap (λ (z : ℤ). int_wrap w16 (a *ℤ z)) (wrap_short b) ∙ int_wrap-mul_right w16 a b ∙ sym (wrap_short (a *ℤ b))
-wrap-mul_right Int a b = wrap_int (a *ℤ wrap Int b) ∙ ap (λ (z : ℤ). int_wrap w32 (a *ℤ z)) (wrap_int b) ∙ int_wrap-mul_right w32 a b ∙ sym (wrap_int (a *ℤ b))
-
--- so sums and products may take a wrapped number
-pub listed_add : (t : ItemType) (xs : List ℤ) (c : ℤ) (count : ℕ) → listed count (λ k. wrap t (item xs k +ℤ wrap t c)) ≡ listed count (λ k. wrap t (item xs k +ℤ c))
-listed_add t xs c count i = listed count (λ k. wrap-add_right t (item xs k) c i)
-
-pub listed_mul : (t : ItemType) (xs : List ℤ) (c : ℤ) (count : ℕ) → listed count (λ k. wrap t (item xs k *ℤ wrap t c)) ≡ listed count (λ k. wrap t (item xs k *ℤ c))
-listed_mul t xs c count i = listed count (λ k. wrap-mul_right t (item xs k) c i)
-
 -- an item is in its type's range already
-wrap_own : (t : ItemType) (z : ℤ) → IsItem t z → wrap t z ≡ z
+pub wrap_own : (t : ItemType) (z : ℤ) → IsItem t z → wrap t z ≡ z
 wrap_own Byte (pos n) h = ap pos (omega (arith, ints, h.below))
 wrap_own Byte (negsuc n) h = absurd (omega (arith, ints, h.above))
 wrap_own Short (pos n) h = grind (arith, ints, nat_tests, h.below)

@@ -1,5 +1,5 @@
 -- What the blocks of arithmetic mean.
-use Rattle.std.specs.Prelude.{◌≡◌, pos, map, true, ◌&&◌}
+use Rattle.std.specs.Prelude.{◌≡◌, ◌≤◌, ℤ, pos, List, length, map, true, ◌&&◌}
 use Rattle.std.specs.Ordering.{int_eq}
 use Rattle.std.specs.Cmp.{first_so, second_so, signed_Decides}
 use denote.Enum.Bare.{sameb}
@@ -7,21 +7,31 @@ use Rattle.std.specs.Cmp.Lexicographic.{pointwise}
 use Rattle.std.proofs.Common.{ap, sym, nat_eq}
 use Rattle.std.specs.Cmp.Lexicographic.{same_text}
 use Rattle.stream_model.specs.contracts.vocabulary.ItemType.{the_type}
+use Rattle.stream_model.specs.declared.vocabulary.ItemType.TheVariants.{Byte}
+use Rattle.stream_model.specs.Numbers.{AreItems}
 use Rattle.stream_model.specs.Meaning.{Meaning, IsLawful}
-use Rattle.stream_model.specs.Kinds.Math.{add_const, multiply_const, not_of, convert, map_bb}
-use Rattle.block_kinds.specs.SameItem.{same_item}
+use Rattle.stream_model.specs.Kinds.Math.{add_const, multiply_const, scale, not_of, convert, map_bb, moving_sum}
+use Rattle.block_kinds.specs.SameItem.{same_item, same_number}
 use Rattle.math_blocks.specs.declared.add_const.AddConst.{AddConst}
 use Rattle.math_blocks.specs.declared.convert.Convert.{Convert}
 use Rattle.kind_laws.specs.Math.{map_bb-lawful}
 use Rattle.math_blocks.specs.declared.map_bb.MapBb.{MapBb}
+use Rattle.math_blocks.specs.declared.moving_sum.MovingSum.{MovingSum}
 use Rattle.math_blocks.specs.declared.not.Not.{Not}
 use Rattle.math_blocks.specs.declared.multiply_const.MultiplyConst.{MultiplyConst}
+use Rattle.math_blocks.specs.declared.scale.Scale.{Scale}
 
 abbrev pub add_const_of : AddConst → Meaning
 add_const_of b = add_const b.item b.value
 
 abbrev pub multiply_const_of : MultiplyConst → Meaning
 multiply_const_of b = multiply_const b.item b.value
+
+abbrev pub scale_of : Scale → Meaning
+scale_of b = scale b.item b.factor b.shift
+
+abbrev pub moving_sum_of : MovingSum → Meaning
+moving_sum_of b = moving_sum b.item b.length
 
 abbrev pub not_block_of : Not → Meaning
 not_block_of b = not_of b.item
@@ -42,11 +52,23 @@ multiply_const-same a b e =
     let value_same = (signed_Decides a.value b.value).0 (second_so (sameb the_type a.item b.item) (int_eq a.value b.value) e) in
     λ i. multiply_const (item_same i) (value_same i)
 
+pub scale-same : (a b : Scale) → (sameb the_type a.item b.item && (int_eq a.factor b.factor && nat_eq a.shift b.shift)) ≡ true → scale_of a ≡ scale_of b
+scale-same a b e =
+    let rest = second_so (sameb the_type a.item b.item) (int_eq a.factor b.factor && nat_eq a.shift b.shift) e in
+    let item_same = same_item a.item b.item (first_so (sameb the_type a.item b.item) (int_eq a.factor b.factor && nat_eq a.shift b.shift) e) in
+    let factor_same = (signed_Decides a.factor b.factor).0 (first_so (int_eq a.factor b.factor) (nat_eq a.shift b.shift) rest) in
+    let shift_same = same_number a.shift b.shift (second_so (int_eq a.factor b.factor) (nat_eq a.shift b.shift) rest) in
+    λ i. scale (item_same i) (factor_same i) (shift_same i)
+
 pub convert-same : (a b : Convert) → (sameb the_type a.item b.item && sameb the_type a.to b.to) ≡ true → convert_of a ≡ convert_of b
 convert-same a b e =
     let item_same = same_item a.item b.item (first_so (sameb the_type a.item b.item) (sameb the_type a.to b.to) e) in
     let to_same = same_item a.to b.to (second_so (sameb the_type a.item b.item) (sameb the_type a.to b.to) e) in
     λ i. convert (item_same i) (to_same i)
+
+-- at most 256 numbers, each a byte
+abbrev pub IsTable : List ℤ → Type 0
+IsTable table = (length table ≤ 256) × AreItems Byte table
 
 abbrev pub map_bb_of : MapBb → Meaning
 map_bb_of b = map_bb (map pos b.table.items)

@@ -1,17 +1,13 @@
 -- Stretches of items between two settings, where the settings are numbers.
-use Rattle.std.specs.Prelude.{◌≡◌, ℕ, ◌<◌, ◌≤◌, ℤ, pos, List, [], ◌∷◌}
+use Rattle.std.specs.Prelude.{◌≡◌, ℕ, ◌<◌, ◌≤◌, ℤ, pos, List, [], ◌∷◌, All}
+use Rattle.stream_model.specs.declared.vocabulary.ItemType.{ItemType}
+use Rattle.stream_model.specs.Numbers.{IsItem}
 use Rattle.stream_model.specs.Settings.{Held, latest}
 use Rattle.stream_model.specs.Kinds.Shapes.{number_set}
 
--- settings in rising order of their places, all of them above low and below high
-abbrev pub AreRising : ℕ → ℕ → List Held → Type 0
-AreRising low high [] = Unit {0}
-AreRising low high (h ∷ hs) = (low < h.at) × (h.at < high) × AreRising h.at high hs
-
--- settings over the items from `from` to below `to`: the first is in force at the first item, the others are made later
-abbrev pub AreOver : ℕ → ℕ → List Held → Type 0
-AreOver from to [] = from ≡ to
-AreOver from to (h ∷ hs) = (h.at ≤ from) × (from ≤ to) × AreRising from to hs
+-- each of these settings sets a number in the type's range
+abbrev pub SetItems : ItemType → List Held → Type 0
+SetItems t hs = All (λ (h : Held). IsItem t (number_set h.value)) hs
 
 -- where the stretch of a setting ends: where the next of the settings behind it is made, or else at `to`
 abbrev pub end_before : List Held → ℕ → ℕ

@@ -3,11 +3,11 @@ ghost use Rattle.std.specs.Prelude.{◌≡◌, ◌↔◌, IsOk, IfOk, IfErr};
 ghost use Rattle.stream_model.specs.Numbers.{IsItem};
 ghost use Rattle.stream_model.specs.Kinds.Math.{add_const};
 
-use crate::range::wrapped;
 use crate::stretch::{EachItem, run_items};
 use block_kinds::{Block, Held, ParamFault, Parameter, Setting, Shape, Single, work_single};
 use items::{ItemType, Items};
 use lane_kernels::{SimdLane, add_const_wrap};
+use numbers::Number;
 use numbers::range::{greatest, is_item, least};
 
 /// A block that adds to each item the number in force at it, wrapped to the items' type. Its parameter is in force
@@ -41,10 +41,12 @@ impl EachItem for AddConst {
 
     ghost takes = { λ b. b.item };
 
+    ghost number_type = { λ b. b.item };
+
     ghost gives = { λ b value z. wrap b.item (z +ℤ value) };
 
     fn run<T: SimdLane>(&self, number: i64, items: &[T], out: &mut [T]) {
-        add_const_wrap(items, wrapped(self.item, number), out);
+        add_const_wrap(items, T::narrow(number), out);
     }
 }
 

@@ -1,5 +1,5 @@
 //! The block that looks bytes up in a table.
-ghost use Rattle.std.specs.Prelude.{◌≡◌, ◌≤◌, ℤ, length, map, pos, IfOk, IsErrOf, OnOk, ◌↔◌};
+ghost use Rattle.std.specs.Prelude.{◌≡◌, ℤ, [], length, map, pos, IsOk, IfOk, IfErr, IsErrOf, OnOk, ◌↔◌, ◌⊎◌};
 ghost use Rattle.stream_model.specs.Numbers.{AreItems};
 ghost use Rattle.stream_model.specs.declared.vocabulary.ItemType.TheVariants as types;
 ghost use Rattle.stream_model.specs.Kinds.Math.{map_bb};
@@ -18,13 +18,16 @@ pub struct MapBb {
 }
 
 impl MapBb {
-    ghost use Rattle.math_blocks.specs.Kinds.{map_bb_of};
+    ghost use Rattle.math_blocks.specs.Kinds.{IsTable, map_bb_of};
 
     /// The block with a copy of this table of at most 256 bytes. `Memory` comes only where the allocator refuses.
     pub fn new(alloc: Global, table: &[i64]) -> Result<MapBb, ParamFault>
         ensures meaning { IfOk result (λ block. map_bb_of block ≡ map_bb table.now) }
-        ensures range { OnOk result ((length table.now ≤ 256) × AreItems types.Byte table.now) }
-        ensures bad { IsErrOf result (ParamFault.BadParameter Parameter.Map) ↔ (¬ ((length table.now ≤ 256) × AreItems types.Byte table.now)) }
+        ensures range { OnOk result (IsTable table.now) }
+        ensures bad { IsErrOf result (ParamFault.BadParameter Parameter.Map) ↔ (¬ IsTable table.now) }
+        ensures nothing { table.now ≡ [] → IsOk result }
+        ensures memory { IsErrOf result ParamFault.Memory → IsTable table.now }
+        ensures err { IfErr result (λ fault. (fault ≡ ParamFault.BadParameter Parameter.Map) ⊎ (fault ≡ ParamFault.Memory)) }
     {
         if table.len() > 256 || !table.iter().all(|n| 0 <= *n && *n <= 255) {
             return Err(ParamFault::BadParameter(Parameter::Map));

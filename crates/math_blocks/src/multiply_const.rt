@@ -3,11 +3,11 @@ ghost use Rattle.std.specs.Prelude.{◌≡◌, ◌↔◌, IsOk, IfOk, IfErr};
 ghost use Rattle.stream_model.specs.Numbers.{IsItem};
 ghost use Rattle.stream_model.specs.Kinds.Math.{multiply_const};
 
-use crate::range::wrapped;
 use crate::stretch::{EachItem, run_items};
 use block_kinds::{Block, Held, ParamFault, Parameter, Setting, Shape, Single, work_single};
 use items::{ItemType, Items};
 use lane_kernels::{SimdLane, mul_wrap};
+use numbers::Number;
 use numbers::range::{greatest, is_item, least};
 
 /// A block that multiplies each item by the number in force at it, wrapped to the items' type. Its parameter is in force
@@ -41,10 +41,12 @@ impl EachItem for MultiplyConst {
 
     ghost takes = { λ b. b.item };
 
+    ghost number_type = { λ b. b.item };
+
     ghost gives = { λ b value z. wrap b.item (z *ℤ value) };
 
     fn run<T: SimdLane>(&self, number: i64, items: &[T], out: &mut [T]) {
-        mul_wrap(items, wrapped(self.item, number), out);
+        mul_wrap(items, T::narrow(number), out);
     }
 }
 

@@ -1,12 +1,14 @@
 //! Stretches of items between two settings.
 ghost use Rattle.std.specs.Prelude.{◌≡◌, ◌+◌, ◌-◌, ◌^◌, ◌<◌, ◌≤◌, ℤ, [], length, map, drop, vec_len, vec_capacity};
 ghost use Rattle.stream_model.specs.declared.vocabulary.ItemType.{ItemType};
+ghost use Rattle.stream_model.specs.Numbers.{IsItem};
 ghost use Rattle.stream_model.specs.Lists.{item};
 ghost use Rattle.stream_model.specs.Kernels.{listed};
 ghost use Rattle.stream_model.specs.Kinds.Shapes.{number_set};
 ghost use Rattle.items.specs.Items.{type_of, numbers_of, spare_of};
 ghost use Rattle.settings.specs.Values.{value_of, held_of};
-ghost use Rattle.math_blocks.specs.Stretch.{AreOver, number_among, end_before};
+ghost use Rattle.block_kinds.specs.InForce.{AreOver};
+ghost use Rattle.math_blocks.specs.Stretch.{SetItems, number_among, end_before};
 
 use block_kinds::{Held, Value};
 use items::Items;
@@ -18,12 +20,16 @@ pub(crate) trait EachItem {
     /// The type of the items.
     ghost takes: { Self → ItemType };
 
+    /// The type in whose range the number lies.
+    ghost number_type: { Self → ItemType };
+
     /// What is made of an item, where the first number is in force.
     ghost gives: { Self → ℤ → ℤ → ℤ };
 
     /// Writes what is made of each item, where `number` is in force at all of them.
     fn run<T: SimdLane>(&self, number: i64, items: &[T], out: &mut [T])
         requires same_type { takes self.now ≡ T.kind }
+        requires in_range { IsItem (number_type self.now) number }
         requires same_length { length out.old ≡ length items.now }
         ensures { map T.number out.new ≡ listed (length items.now) (λ k. gives self.now number (item (map T.number items.now) k)) };
 }
@@ -60,6 +66,7 @@ fn run_stretches<T: SimdLane, B: EachItem>(
 )
     requires same_type { B.takes block.now ≡ T.kind }
     requires over { AreOver from (from + length items.now) (map held_of held.now) }
+    requires in_range { SetItems (B.number_type block.now) (map held_of held.now) }
     requires small { from + length items.now < 2 ^ 63 }
     requires same_length { length out.old ≡ length items.now }
     ensures { map T.number out.new ≡ listed (length items.now)
@@ -86,6 +93,7 @@ fn run_lanes<T: SimdLane, B: EachItem>(
 )
     requires same_type { B.takes block.now ≡ T.kind }
     requires over { AreOver from (from + length items.now) (map held_of held.now) }
+    requires in_range { SetItems (B.number_type block.now) (map held_of held.now) }
     requires small { from + length items.now < 2 ^ 63 }
     requires empty { map T.number out.old.items ≡ [] }
     requires room { length items.now ≤ vec_capacity out.old - vec_len out.old }
@@ -108,6 +116,7 @@ pub(crate) fn run_items<B: EachItem>(
     requires kind { B.takes block.now ≡ type_of items.now }
     requires same_type { type_of items.now ≡ type_of out.old }
     requires over { AreOver from (from + length (numbers_of items.now)) (map held_of held.now) }
+    requires in_range { SetItems (B.number_type block.now) (map held_of held.now) }
     requires small { from + length (numbers_of items.now) < 2 ^ 63 }
     requires empty { numbers_of out.old ≡ [] }
     requires room { length (numbers_of items.now) ≤ spare_of out.old }

@@ -1,3 +1,4 @@
 pub mod Mapped
 pub mod Rounding
+pub mod Same
 pub mod Widths

@@ -1,6 +1,6 @@
 //! One number of an item's type.
-ghost use Rattle.std.specs.Prelude.{◌≡◌, ℤ, pos};
-ghost use Rattle.stream_model.specs.Numbers.{IsItem};
+ghost use Rattle.std.specs.Prelude.{◌≡◌, ◌↔◌, IsTrue, ℤ, pos, map};
+ghost use Rattle.stream_model.specs.Numbers.{IsItem, wrap};
 ghost use Rattle.stream_model.specs.declared.vocabulary.ItemType.{ItemType};
 ghost use Rattle.stream_model.specs.declared.vocabulary.ItemType.TheVariants.{Byte, Short, Int};
 
@@ -21,6 +21,14 @@ pub trait Number: Copy {
     fn narrow(n: i64) -> Self
         requires { IsItem kind n }
         ensures { number result ≡ n };
+
+    /// The value that equals this number modulo the number of values of the type.
+    fn wrap(n: i64) -> Self
+        ensures { number result ≡ wrap kind n };
+
+    /// Whether the numbers are the same, one by one.
+    fn are_same(one: &[Self], other: &[Self]) -> bool
+        ensures { IsTrue result ↔ (map number one.now ≡ map number other.now) };
 }
 
 impl Number for u8 {
@@ -34,6 +42,14 @@ impl Number for u8 {
 
     fn narrow(n: i64) -> u8 {
         n as u8
+    }
+
+    fn wrap(n: i64) -> u8 {
+        n.rem_euclid(256) as u8
+    }
+
+    fn are_same(one: &[u8], other: &[u8]) -> bool {
+        one == other
     }
 }
 
@@ -49,6 +65,14 @@ impl Number for i16 {
     fn narrow(n: i64) -> i16 {
         n as i16
     }
+
+    fn wrap(n: i64) -> i16 {
+        (n.rem_euclid(65_536) as u16).cast_signed()
+    }
+
+    fn are_same(one: &[i16], other: &[i16]) -> bool {
+        one == other
+    }
 }
 
 impl Number for i32 {
@@ -62,5 +86,13 @@ impl Number for i32 {
 
     fn narrow(n: i64) -> i32 {
         n as i32
+    }
+
+    fn wrap(n: i64) -> i32 {
+        (n.rem_euclid(4_294_967_296) as u32).cast_signed()
+    }
+
+    fn are_same(one: &[i32], other: &[i32]) -> bool {
+        one == other
     }
 }

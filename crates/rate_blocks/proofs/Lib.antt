@@ -1,2 +1,5 @@
+pub mod Interleaved
 pub mod Moved
+pub mod Muxed
 pub mod Paced
+pub mod Rounds

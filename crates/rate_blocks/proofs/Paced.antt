@@ -3,11 +3,13 @@ use Rattle.std.proofs.Common.{◌≡◌, ℕ, ◌+◌, ◌-◌, ◌*◌, ◌/◌
 use Rattle.std.proofs.lemmas.Nat.{div_below}
 use Rattle.std.proofs.Math.Nat.{mul-add-div}
 use Rattle.stream_model.specs.declared.vocabulary.ItemType.{ItemType}
+use Rattle.stream_model.specs.Numbers.{wrap}
 use Rattle.stream_model.specs.Lists.{item}
-use Rattle.stream_model.specs.Kernels.{listed}
+use Rattle.stream_model.specs.Kernels.{listed, sum_below}
 use Rattle.stream_model.specs.Settings.{Held}
 use Rattle.stream_model.specs.Meaning.{IsFed, input, given_items}
-use Rattle.stream_model.specs.Kinds.Rates.{keep_one_in_n, repeat}
+use Rattle.stream_model.specs.Kinds.Rates.{keep_one_in_n, integrate, repeat}
+use Rattle.kind_laws.specs.Shared.{sum_below-same}
 use Rattle.kind_laws.specs.Rates.{item_of_firing}
 use Rattle.block_kinds.specs.Shape.{IsPaced}
 use Rattle.block_kinds.proofs.Fills.{paced, item-paced, given-paced}
@@ -25,8 +27,20 @@ keep-given t n ts xs first count state w hs some fed =
     pace : IsPaced (keep_one_in_n t n) n 1
     pace = paced _ _ n 1 1 _ _ 0 _ (keep_one_in_n t n).out some
 
+pub integrate-given :
+    (t : ItemType) (n : ℕ) (ts : List Held) (xs : List (List ℤ)) (first count state : ℕ) (w : List ℤ) (hs : List Held) → 1 ≤ n → IsFed (integrate t n) ts xs first count state (w ∷ []) hs →
+    listed count (λ k. wrap t (sum_below n (λ j. item w (k * n + j)))) ≡ given_items (integrate t n) ts xs first count 0
+integrate-given t n ts xs first count state w hs some fed =
+    given-paced (integrate t n) n 1 pace ts xs first count state w hs fed 0 count (λ k. wrap t (sum_below n (λ j. item w (k * n + j)))) (omega arith)
+    (λ k h. ap (wrap t)
+    (sum_below-same n (λ j. item w (k * n + j)) (λ j. item (input xs 0) ((1 * first + k) * n + j))
+    (λ j l. item-paced (integrate t n) n 1 pace ts xs first count state w hs fed refl (k * n + j) (item_of_firing n count k j l h) ∙ ap (item (input xs 0)) (omega arith))))
+  where
+    pace : IsPaced (integrate t n) n 1
+    pace = paced _ _ n 1 1 _ _ 0 _ (integrate t n).out some
+
 -- item n * first + k is given for item first + k / n
-add-mul-div : (n first k : ℕ) → 1 ≤ n → (n * first + k) / n ≡ 1 * first + k / n
+pub add-mul-div : (n first k : ℕ) → 1 ≤ n → (n * first + k) / n ≡ 1 * first + k / n
 add-mul-div n first k some = mul-add-div some first k ∙ omega arith
 
 pub repeat-given :
@@ -45,6 +59,10 @@ repeat-given t n ts xs first count state w hs some fed =
 -- the last item of firing k is among those that are taken
 pub last_read : (n count k l : ℕ) → 1 ≤ n → k < count → l ≡ n * count → k * n + n - 1 < l
 last_read n count k l some h e = let there : k * n + (n - 1) < n * count = item_of_firing n count k (n - 1) (omega arith) h in omega arith
+
+-- and so are all of them
+pub firing_read : (n count k l : ℕ) → k < count → l ≡ n * count → k * n + n ≤ l
+firing_read n count k l h e = grind arith
 
 -- and what an item is given for
 pub first_read : (n k l : ℕ) {m o : ℕ} → 1 ≤ n → k < o → m ≡ l → o ≡ n * m → k / n < l

@@ -1,7 +1,8 @@
 -- What the blocks of rates mean.
 use Rattle.stream_model.specs.Meaning.{Meaning}
-use Rattle.stream_model.specs.Kinds.Rates.{keep_one_in_n, repeat, head, skiphead, delay}
+use Rattle.stream_model.specs.Kinds.Rates.{keep_one_in_n, integrate, repeat, head, skiphead, delay}
 use Rattle.rate_blocks.specs.declared.keep_one_in_n.KeepOneInN.{KeepOneInN}
+use Rattle.rate_blocks.specs.declared.integrate.Integrate.{Integrate}
 use Rattle.rate_blocks.specs.declared.repeat.Repeat.{Repeat}
 use Rattle.rate_blocks.specs.declared.head.Head.{Head}
 use Rattle.rate_blocks.specs.declared.skiphead.SkipHead.{SkipHead}
@@ -9,6 +10,9 @@ use Rattle.rate_blocks.specs.declared.delay.Delay.{Delay}
 
 abbrev pub keep_one_in_n_of : KeepOneInN → Meaning
 keep_one_in_n_of b = keep_one_in_n b.item b.n
+
+abbrev pub integrate_of : Integrate → Meaning
+integrate_of b = integrate b.item b.n
 
 abbrev pub repeat_of : Repeat → Meaning
 repeat_of b = repeat b.item b.n

@@ -1,1 +1,4 @@
 pub mod Kinds
+pub mod Lengths
+pub mod Mux
+pub mod Turns

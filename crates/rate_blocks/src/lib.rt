@@ -1,14 +1,23 @@
 //! Blocks that change a rate, take turns or move a stream.
 #![tactic(auto)]
 
+pub mod deinterleave;
 pub mod delay;
 pub mod head;
+pub mod integrate;
+pub mod interleave;
 pub mod keep_one_in_n;
 pub mod repeat;
 pub mod skiphead;
+pub mod stream_mux;
+mod turns;
 
+pub use deinterleave::Deinterleave;
 pub use delay::Delay;
 pub use head::Head;
+pub use integrate::Integrate;
+pub use interleave::Interleave;
 pub use keep_one_in_n::KeepOneInN;
 pub use repeat::Repeat;
 pub use skiphead::SkipHead;
+pub use stream_mux::StreamMux;

@@ -1,8 +1,8 @@
 -- Parts of two lists, one behind the other.
 use Rattle.std.proofs.Common.{◌≡◌, ℕ, ◌+◌, ◌-◌, ◌≤◌, min, ◌∙◌, ap, sym, inl, inr, List, ◌++◌, length, map, take, drop, slice_range, arith, length-drop}
 use Rattle.std.proofs.lemmas.Bool.{cases_lt}
-use Rattle.std.proofs.lemmas.List.{append-nil, append_assoc, drop-append-le, take-append-le, drop_all, take_all, take_min, drop_min, map-append, drop-map, length-map}
-use Rattle.std.proofs.Math.Seq.{drop-append-add, take-append-add}
+use Rattle.std.proofs.lemmas.List.{append-nil, drop-append-le, take-append-le, drop_all, take_all, take_min, drop_min, take-append-drop, map-append, take-map, drop-map, length-map}
+use Rattle.std.proofs.Math.Seq.{drop-append-add, take-append-add, take-append_seam, drop-append_seam}
 use Rattle.circular_buffer.specs.Buffer.{keep_last}
 
 pub drop-append : {X : Type 0} (n : ℕ) (xs ys : List X) → drop n (xs ++ ys) ≡ drop n xs ++ drop (n - length xs) ys
@@ -44,13 +44,16 @@ map-keep_last f n xs ys =
     sym (drop-map f (length (xs ++ ys) - n) (xs ++ ys))
     ∙ (λ i. drop ((ap (λ l. l - n) (sym (length-map (xs ++ ys) f)) ∙ ap (λ l. length l - n) (map-append f xs ys)) i) (map-append f xs ys i))
 
--- a list to which the range of the first was appended, and then that of the second
-pub ranges-appended : {X : Type 0} (out xs ys one both : List X) (i j first_i first_j second_i second_j : ℕ) → i ≤ j
-    → first_i ≡ min i (length xs) → first_j ≡ min j (length xs) → second_i ≡ i - length xs → second_j ≡ j - length xs
-    → one ≡ out ++ slice_range xs first_i first_j → both ≡ one ++ slice_range ys second_i second_j
-    → both ≡ out ++ slice_range (xs ++ ys) i j
-ranges-appended out xs ys one both i j first_i first_j second_i second_j ordered fi fj si sj is_one is_both =
-    is_both
-    ∙ (λ k. (is_one ∙ (λ m. out ++ slice_range xs (fi m) (fj m))) k ++ slice_range ys (si k) (sj k))
-    ∙ append_assoc out (slice_range xs (min i (length xs)) (min j (length xs))) (slice_range ys (i - length xs) (j - length xs))
-    ∙ ap (λ l. out ++ l) (sym (slice_range-append xs ys i j ordered))
+-- a list has the same numbers as one behind another where its parts do
+pub same_parts : {X Y : Type 0} (f : X → Y) (items xs ys whole start rest : List X) → xs ++ ys ≡ whole → length items ≡ length xs + length ys → start ≡ take (length xs) items → rest ≡ drop (length xs) items
+    → (map f items ≡ map f whole → (map f start ≡ map f xs) × (map f rest ≡ map f ys)) × (map f start ≡ map f xs → map f rest ≡ map f ys → map f items ≡ map f whole)
+same_parts f items xs ys whole start rest is_whole long is_start is_rest =
+    let split : map f whole ≡ map f xs ++ map f ys = ap (map f) (sym is_whole) ∙ map-append f xs ys in
+    let size : length (map f xs) ≡ length xs = length-map xs f in (
+      λ same. (
+        ap (map f) is_start ∙ sym (take-map f (length xs) items) ∙ ap (take (length xs)) (same ∙ split) ∙ ap (λ n. take n (map f xs ++ map f ys)) (sym size) ∙ take-append_seam (map f xs) (map f ys),
+        ap (map f) is_rest ∙ sym (drop-map f (length xs) items) ∙ ap (drop (length xs)) (same ∙ split) ∙ ap (λ n. drop n (map f xs ++ map f ys)) (sym size) ∙ drop-append_seam (map f xs) (map f ys),
+      ),
+      λ first second.
+          ap (map f) (sym (take-append-drop (length xs) items) ∙ (λ i. sym is_start i ++ sym is_rest i)) ∙ map-append f start rest ∙ (λ i. first i ++ second i) ∙ sym split,
+    )

@@ -47,6 +47,22 @@ kept-reaches_back ring reader is live =
     let near = within.near live.live in
     omega (arith, is.kept, is.some_history, near, within.some, within.short)
 
+-- the zeros and the kept items that are a live reader's window of the stream
+pub window-parts : {X : Type 0} (f : X → ℤ) (ring : RingState) (stream : List ℤ) (reader count n i j : ℕ) (items : List X)
+    → IsRing ring → IsLive ring reader → IsEndOf ring stream → ring.kept ≡ map f items
+    → n ≡ past_of ring reader - (reader_at ring reader).place
+    → i ≡ (reader_at ring reader).place - past_of ring reader - (ring.written - length items)
+    → j ≡ (reader_at ring reader).place - (ring.written - length items) + count
+    → replicate n (pos 0) ++ slice_range (map f items) i j ≡ window stream (past_of ring reader) (reader_at ring reader).place ((reader_at ring reader).place + count)
+window-parts f ring stream reader count n i j items is live end shown zeros from to =
+    let p = reader_at ring reader in
+    let past : ℕ = past_of ring reader in
+    let oldest : ℕ = ring.written - length items in
+    let whole : length ring.kept ≡ length items = ap length shown ∙ length-map items f in
+    let old : oldest ≤ p.place - past = omega (arith, whole, kept-reaches_back ring reader is live) in
+    let same : map f items ≡ drop oldest stream = sym shown ∙ end.end ∙ ap (λ k. drop (ring.written - k) stream) whole in
+    (λ k. replicate (zeros k) (pos 0) ++ slice_range (map f items) (from k) (to k)) ∙ window-from_end stream (map f items) oldest past p.place count same old
+
 -- what a live reader of a ring gets is its window of the stream
 pub window-made : {X : Type 0} (f : X → ℤ) (ring : RingState) (stream : List ℤ) (reader count n i j : ℕ) (out items zeroed parts new : List X) (z : X)
     → IsRing ring → IsLive ring reader → IsEndOf ring stream → ring.kept ≡ map f items → f z ≡ pos 0
@@ -56,13 +72,6 @@ pub window-made : {X : Type 0} (f : X → ℤ) (ring : RingState) (stream : List
     → zeroed ≡ out ++ replicate n z → parts ≡ items → new ≡ zeroed ++ slice_range parts i j
     → map f new ≡ map f out ++ window stream (past_of ring reader) (reader_at ring reader).place ((reader_at ring reader).place + count)
 window-made f ring stream reader count n i j out items zeroed parts new z is live end shown zero zeros from to is_zeroed is_parts is_new =
-    let p = reader_at ring reader in
-    let past : ℕ = past_of ring reader in
-    let oldest : ℕ = ring.written - length items in
-    let whole : length ring.kept ≡ length items = ap length shown ∙ length-map items f in
-    let old : oldest ≤ p.place - past = omega (arith, whole, kept-reaches_back ring reader is live) in
-    let same : map f items ≡ drop oldest stream = sym shown ∙ end.end ∙ ap (λ k. drop (ring.written - k) stream) whole in
     ap (map f) (is_new ∙ (λ k. is_zeroed k ++ slice_range (is_parts k) i j))
     ∙ map-zeros_and_range f out items n i j z zero
-    ∙ ap (λ l. map f out ++ l) ((λ k. replicate (zeros k) (pos 0) ++ slice_range (map f items) (from k) (to k))
-    ∙ window-from_end stream (map f items) oldest past p.place count same old)
+    ∙ ap (λ l. map f out ++ l) (window-parts f ring stream reader count n i j items is live end shown zeros from to)

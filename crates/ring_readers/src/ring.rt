@@ -1,10 +1,10 @@
 //! A ring that one writer fills and several readers take from.
-ghost use Rattle.std.specs.Prelude.{◌≡◌, ◌≢◌, ℕ, ◌+◌, ◌^◌, ◌<◌, ◌≤◌, ℤ, List, ◌++◌, length, map, All, IsTrue, IfSome, IfOk, OnOk, OnErr, vec_len, vec_capacity};
+ghost use Rattle.std.specs.Prelude.{◌≡◌, ◌≢◌, ℕ, ◌+◌, ◌^◌, ◌<◌, ◌≤◌, ℤ, List, ◌++◌, length, map, All, ◌↔◌, IsTrue, IfSome, IfOk, OnOk, OnErr, vec_len, vec_capacity};
 ghost use Rattle.stream_model.specs.Lists.{window};
 ghost use Rattle.ring_readers.specs.State.{IsRing, IsLive, IsEndOf, reader_at, unread_of, past_of, slowest_of, room_of, empty_ring, with_reader, with_items, with_taken, without_reader};
 
 use crate::RingFault;
-use crate::copies::append_range;
+use crate::copies::{append_range, are_zeros, is_range};
 use crate::reader::{Place, Reader};
 use circular_buffer::HeapCircularBuffer;
 use numbers::Number;
@@ -183,6 +183,28 @@ impl<T: Number> Ring<T> {
         let to = (place - oldest) as usize + count;
         let (front, back) = self.items.as_slices();
         append_range(out, front, back, from, to);
+    }
+
+    /// Whether the items are what `window` appends for the reader's next `count` items.
+    pub fn is_window(&self, reader: Reader, count: usize, items: &[T]) -> bool
+        requires live { IsLive self.now reader }
+        requires unread { count ≤ unread_of self.now reader }
+        ensures { (stream : List ℤ) → IsEndOf self.now stream →
+            let place = (reader_at self.now reader).place in
+            IsTrue result ↔ (map T.number items.now ≡ window stream (past_of self.now reader) place (place + count)) }
+    {
+        let place = self.place(reader);
+        let past = u64::from(self.history(reader) - 1);
+        let zeros = past.saturating_sub(place) as usize;
+        if items.len() < zeros {
+            return false;
+        }
+        let oldest = self.written - self.items.len() as u64;
+        let from = (place.saturating_sub(past) - oldest) as usize;
+        let to = (place - oldest) as usize + count;
+        let (front, back) = self.items.as_slices();
+        let (start, rest) = items.split_at(zeros);
+        are_zeros(start) && is_range(rest, front, back, from, to)
     }
 
     /// The reader takes its next `count` items.

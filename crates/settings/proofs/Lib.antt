@@ -3,3 +3,4 @@ pub mod Made
 pub mod Places
 pub mod Points
 pub mod Rising
+mod Sames

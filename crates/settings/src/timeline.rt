@@ -1,5 +1,5 @@
 //! The settings of one block over its items.
-ghost use Rattle.std.specs.Prelude.{◌≡◌, ◌+◌, ◌≤◌, ◌<◌, ◌↔◌, ℕ, List, [], ◌∷◌, ◌++◌, All, take, drop, map, length, IsTrue, IsOk, IfOk, OnOk, OnErr, IsErrOf, IsOkUnless};
+ghost use Rattle.std.specs.Prelude.{◌≡◌, ◌+◌, ◌≤◌, ◌<◌, ◌↔◌, ℕ, List, [], ◌∷◌, ◌++◌, All, take, drop, map, length, max, IsTrue, IsOk, IfOk, OnOk, OnErr, IsErrOf, IsOkUnless};
 ghost use Rattle.std.specs.List.{Any};
 ghost use Rattle.stream_model.specs.Settings as model;
 ghost use Rattle.settings.specs.Values.{value_of, held_of};
@@ -76,6 +76,39 @@ impl Timeline {
         ensures memory { IsOkUnless result SettingFault.Memory }
     {
         Ok(copies(alloc, self.setting_at(from), self.made_between(from, to))?)
+    }
+
+    /// Makes `held` what is in force from item `from` on to below item `to`, as `between` has it, in the memory that it has where that is
+    /// enough. It fails only where the allocator refuses, and what `held` has is then left open.
+    pub fn copy_between(
+        &self,
+        alloc: Global,
+        from: u64,
+        to: u64,
+        held: &mut Vec<Held>,
+    ) -> Result<(), SettingFault>
+        ensures value { OnOk result (
+            map held_of held.new.items ≡ model.between self.now.own self.now.settings from to) }
+        ensures reads { (ts : List model.Held) → ReadsAs self.now from ts → OnOk result (
+            map held_of held.new.items ≡ model.between self.now.own ts from to) }
+        ensures memory { IsOkUnless result SettingFault.Memory }
+    {
+        copy_over(
+            alloc,
+            self.setting_at(from),
+            self.made_between(from, to),
+            held,
+        )?;
+        Ok(())
+    }
+
+    /// Whether `held` is what is in force from item `from` on to below item `to`.
+    pub fn is_between(&self, from: u64, to: u64, held: &[Held]) -> bool
+        ensures value { IsTrue result ↔ (map held_of held.now ≡ model.between self.now.own self.now.settings from to) }
+        ensures reads { (ts : List model.Held) → ReadsAs self.now from ts →
+            IsTrue result ↔ (map held_of held.now ≡ model.between self.now.own ts from to) }
+    {
+        are_same(held, self.setting_at(from), self.made_between(from, to))
     }
 
     /// Sets the value from item `at` on. Below the floor it is refused as `Late`, before any memory
@@ -178,6 +211,53 @@ fn copies(alloc: Global, first: &Held, others: &[Held]) -> Result<Vec<Held>, All
         copies.push_reserved(copied(alloc, held)?);
     }
     Ok(copies)
+}
+
+// Makes `held` the same settings, the first before the others.
+fn copy_over(
+    alloc: Global,
+    first: &Held,
+    others: &[Held],
+    held: &mut Vec<Held>,
+) -> Result<(), AllocError>
+    ensures { OnOk result (map held_of held.new.items ≡ held_of first.now ∷ map held_of others.now) }
+{
+    held.truncate(others.len() + 1);
+    put(alloc, held, 0, first)?;
+    for (i, other) in others.iter().enumerate() {
+        put(alloc, held, i + 1, other)?;
+    }
+    Ok(())
+}
+
+// Makes setting `at`, which is there or comes next, the same as the other.
+fn put(alloc: Global, held: &mut Vec<Held>, at: usize, other: &Held) -> Result<(), AllocError>
+    requires { at ≤ length held.old.items }
+    ensures value { OnOk result (
+        take (at + 1) (map held_of held.new.items) ≡ take at (map held_of held.old.items) ++ held_of other.now ∷ []) }
+    ensures length { OnOk result (length held.new.items ≡ max (at + 1) (length held.old.items)) }
+{
+    if at < held.len() {
+        held[at].copy_from(alloc, other)?;
+    } else {
+        held.push(copied(alloc, other)?)?;
+    }
+    Ok(())
+}
+
+// Whether `held` are the same settings, the first before the others.
+fn are_same(held: &[Held], first: &Held, others: &[Held]) -> bool
+    ensures { IsTrue result ↔ (map held_of held.now ≡ held_of first.now ∷ map held_of others.now) }
+{
+    if held.len() != others.len() + 1 || !held[0].is_same(first) {
+        return false;
+    }
+    for (i, other) in others.iter().enumerate() {
+        if !held[i + 1].is_same(other) {
+            return false;
+        }
+    }
+    true
 }
 
 // The same setting in memory of its own.

@@ -1,7 +1,7 @@
 //! Values of settings.
 
-ghost use Rattle.std.specs.Prelude.{◌≡◌, IfOk, is_ok, true};
-ghost use Rattle.settings.specs.Values.{value_of, is_number};
+ghost use Rattle.std.specs.Prelude.{◌≡◌, ◌↔◌, IsTrue, IfOk, OnOk, is_ok, true};
+ghost use Rattle.settings.specs.Values.{value_of, held_of, is_number};
 
 use std::alloc::{AllocError, Global};
 use std::marker::Model;
@@ -33,6 +33,22 @@ impl Taps {
         &self.taps
     }
 
+    /// Whether the taps are the same.
+    pub fn is_same(&self, other: &Taps) -> bool
+        ensures { IsTrue result ↔ (self.now ≡ other.now) }
+    {
+        self.taps == other.taps
+    }
+
+    /// Makes these taps the same as the others, in the memory that they have where that is enough.
+    pub fn copy_from(&mut self, other: &Taps) -> Result<(), AllocError>
+        ensures { OnOk result (self.new ≡ other.now) }
+    {
+        self.taps.clear();
+        self.taps.reserve(other.taps.len())?;
+        self.taps.extend_from_slice(&other.taps)
+    }
+
     /// The same taps in memory of their own.
     pub fn copy(&self, alloc: Global) -> Result<Taps, AllocError>
         ensures { IfOk result (λ taps. taps ≡ self.now) }
@@ -51,6 +67,28 @@ pub enum Value {
 }
 
 impl Value {
+    /// Whether the values are the same.
+    pub fn is_same(&self, other: &Value) -> bool
+        ensures { IsTrue result ↔ (value_of self.now ≡ value_of other.now) }
+    {
+        match (self, other) {
+            (Value::Number(number), Value::Number(other)) => number == other,
+            (Value::Taps(taps), Value::Taps(other)) => taps.is_same(other),
+            _ => false,
+        }
+    }
+
+    /// Makes this value the same as the other, in the memory that it has where that is enough.
+    pub fn copy_from(&mut self, alloc: Global, other: &Value) -> Result<(), AllocError>
+        ensures { OnOk result (value_of self.new ≡ value_of other.now) }
+    {
+        if let (Value::Taps(taps), Value::Taps(other)) = (&mut *self, other) {
+            return taps.copy_from(other);
+        }
+        *self = other.copy(alloc)?;
+        Ok(())
+    }
+
     /// The same value in memory of its own. A number takes none.
     pub fn copy(&self, alloc: Global) -> Result<Value, AllocError>
         ensures same { IfOk result (λ value. value_of value ≡ value_of self.now) }
@@ -68,4 +106,21 @@ impl Value {
 pub struct Held {
     pub at: u64,
     pub value: Value,
+}
+
+impl Held {
+    /// Whether the same is in force from the same item on.
+    pub fn is_same(&self, other: &Held) -> bool
+        ensures { IsTrue result ↔ (held_of self.now ≡ held_of other.now) }
+    {
+        self.at == other.at && self.value.is_same(&other.value)
+    }
+
+    /// Makes this setting the same as the other, in the memory that it has where that is enough.
+    pub fn copy_from(&mut self, alloc: Global, other: &Held) -> Result<(), AllocError>
+        ensures { OnOk result (held_of self.new ≡ held_of other.now) }
+    {
+        self.at = other.at;
+        self.value.copy_from(alloc, &other.value)
+    }
 }

@@ -1,5 +1,5 @@
 -- A list of tags in order, with spare room for more.
-use Rattle.std.specs.Prelude.{◌≡◌, ℕ, ◌-◌, ◌*◌, ◌≤◌, List, length, map, drop, filter, nat_le}
+use Rattle.std.specs.Prelude.{◌≡◌, ℕ, ◌-◌, ◌*◌, ◌≤◌, List, [], ◌∷◌, length, map, drop, filter, nat_le}
 use Rattle.stream_model.specs.Tags as model
 use Rattle.stream_model.specs.Tags.{IsOrdered}
 use Rattle.items.specs.declared.marks.Tag.{Tag}
@@ -24,3 +24,8 @@ pub record IsRow (row : List Tag) (len capacity gone : ℕ) : Type 0 where
   pub whole : len ≡ length row
   pub few : gone ≤ len - gone
   pub fits : 2 * (len - gone) ≤ capacity
+
+-- a list of tags in order with more of them, doubles kept
+abbrev pub insert_tags : List model.Tag → List model.Tag → List model.Tag
+insert_tags [] ts = ts
+insert_tags (t ∷ more) ts = insert_tags more (model.insert_tag t ts)

@@ -3,7 +3,7 @@ ghost use Rattle.std.specs.Prelude.{◌≡◌, ◌+◌, ◌<◌, ◌≤◌, ◌�
 ghost use Rattle.std.specs.List.Sorted.{IsPartitionPoint};
 ghost use Rattle.stream_model.specs.Tags.{IsOrdered, insert_tag, tags_within};
 ghost use Rattle.items.specs.Tags.{tag_of};
-ghost use Rattle.tags.specs.TagList.{tags_from};
+ghost use Rattle.tags.specs.TagList.{tags_from, insert_tags};
 
 use items::Tag;
 use std::alloc::{AllocError, Global};
@@ -99,6 +99,18 @@ impl Tags {
         let place = place_of(&self.row[self.gone..], &tag);
         if self.row.insert(self.gone + place, tag).is_err() {
             unreachable!();
+        }
+    }
+
+    /// Adds tags at their places, where there is room. It takes no memory.
+    pub fn insert_all(&mut self, more: &[Tag])
+        requires { length more.now ≤ self.old.spare }
+        ensures tags { self.new.tags ≡ insert_tags (map tag_of more.now) self.old.tags }
+        ensures spare { self.new.spare + length more.now ≡ self.old.spare }
+        ensures room { self.new.spare + length self.new.tags ≡ self.old.spare + length self.old.tags }
+    {
+        for tag in more {
+            self.insert_reserved(*tag);
         }
     }
 

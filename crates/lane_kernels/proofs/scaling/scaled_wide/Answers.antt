@@ -11,4 +11,4 @@ returns c =
     let is_half : half ≡ 2 ^ s / 2 = half_of s c.requires.in_range in
     scaled_lanes w64 tops_64 c.args.least c.args.greatest c.ranges.least c.ranges.greatest c.requires.ordered s (IsWithin (2 ^ 46))
     (λ u. shift w64 (raise w64 u half) s) (wide_lane w64 s (2 ^ 46) half is_half (omega arith))
-    16 (wide w64 half s 16) (wide_lanes w64 half s 16) c.args.wide c.requires.whole c.requires.small
+    4 (wide w64 half s 4) (wide_lanes w64 half s 4) c.args.wide c.requires.whole c.requires.small

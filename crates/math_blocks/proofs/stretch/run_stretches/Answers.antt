@@ -6,7 +6,7 @@ use Rattle.settings.specs.Values.{held_of}
 use Rattle.lane_kernels.proofs.Parts.{stepped, all_there}
 use Rattle.kind_laws.specs.Shared.{length-listed}
 use Rattle.math_blocks.specs.Stretch.{number_among}
-use Rattle.math_blocks.proofs.Stretches.{next_stretch, stretch_written, over_none}
+use Rattle.math_blocks.proofs.Stretches.{next_stretch, stretch_written, set_item, over_none}
 use Rattle.math_blocks.proofs.stretch.run_stretches.Goals as goal
 
 pub overflow_sub-stop : goal.overflow_sub-stop
@@ -50,6 +50,13 @@ slice_bounds-run-start-in-loop-i g c =
     let low = next.0 in
     let high = next.1 in
     search rules
+
+pub run-requires-clause-in_range : goal.run-requires-clause-in_range
+run-requires-clause-in_range g c =
+    let fits : FitsSigned w64 c.number_in-number.result = search rules in
+    let t = g.B.EachItem.number_type c.args.block.now in
+    rw (to_z-of_z w64 c.number_in-number.result fits, c.number_in-number.ensures)
+    (set_item held_of c.args.held.now c.loop-i.i c.index-held-i.result t c.loop-i-test.true c.index-held-i.is c.requires.in_range)
 
 pub loop-i-preserved : goal.loop-i-preserved
 loop-i-preserved g c =

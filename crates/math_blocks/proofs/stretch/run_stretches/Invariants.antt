@@ -2,7 +2,8 @@ use Rattle.std.proofs.Common.{◌≡◌, ℕ, ◌+◌, ◌-◌, ◌<◌, ◌≤�
 use Rattle.stream_model.specs.Lists.{item}
 use Rattle.stream_model.specs.Kernels.{listed}
 use Rattle.settings.specs.Values.{held_of}
-use Rattle.math_blocks.specs.Stretch.{AreOver, number_among}
+use Rattle.block_kinds.specs.InForce.{AreOver}
+use Rattle.math_blocks.specs.Stretch.{number_among}
 use Rattle.math_blocks.proofs.stretch.run_stretches.Given as goal
 
 abbrev pub invariant-loop-i : goal.invariant-loop-i

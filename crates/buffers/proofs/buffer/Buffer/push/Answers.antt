@@ -4,7 +4,8 @@ use Rattle.std.proofs.lemmas.List.Elements.{All-map}
 use Rattle.stream_model.specs.Tags as model
 use Rattle.items.specs.Tags.{tag_of}
 use Rattle.ring_readers.specs.State.{slowest_of}
-use Rattle.buffers.specs.Buffer.{ring_of, insert_tags}
+use Rattle.tags.specs.TagList.{insert_tags}
+use Rattle.buffers.specs.Buffer.{ring_of}
 use Rattle.buffers.proofs.Wanted.{from_place, from_place-same, pushed_tags}
 use Rattle.buffers.proofs.buffer.Buffer.push.Goals as goal
 

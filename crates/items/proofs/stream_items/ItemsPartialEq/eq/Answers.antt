@@ -1,5 +1,6 @@
 use Rattle.std.proofs.Common.{◌∙◌}
-use Rattle.items.proofs.Same.{bytes_eq_numbers, items_eq_decides}
+use Rattle.numbers.proofs.Same.{bytes_eq_numbers}
+use Rattle.items.proofs.Same.{items_eq_decides}
 use Rattle.items.proofs.stream_items.ItemsPartialEq.eq.Goals as goal
 
 pub returns-in-Byte-Byte-clause-value : goal.returns-in-Byte-Byte-clause-value

@@ -9,6 +9,21 @@ returns-in-VectorSink-clause-word c = rw c.in-VectorSink.is c.work-in-VectorSink
 pub returns-in-NullSink-clause-word : goal.returns-in-NullSink-clause-word
 returns-in-NullSink-clause-word c = rw c.in-NullSink.is c.work-in-NullSink.ensures.word
 
+pub returns-in-Scale-clause-word : goal.returns-in-Scale-clause-word
+returns-in-Scale-clause-word c = rw c.in-Scale.is c.work-in-Scale.ensures.word
+
+pub returns-in-Add-clause-word : goal.returns-in-Add-clause-word
+returns-in-Add-clause-word c = rw c.in-Add.is c.work-in-Add.ensures.word
+
+pub returns-in-And-clause-word : goal.returns-in-And-clause-word
+returns-in-And-clause-word c = rw c.in-And.is c.work-in-And.ensures.word
+
+pub returns-in-Or-clause-word : goal.returns-in-Or-clause-word
+returns-in-Or-clause-word c = rw c.in-Or.is c.work-in-Or.ensures.word
+
+pub returns-in-Xor-clause-word : goal.returns-in-Xor-clause-word
+returns-in-Xor-clause-word c = rw c.in-Xor.is c.work-in-Xor.ensures.word
+
 pub returns-in-Not-clause-word : goal.returns-in-Not-clause-word
 returns-in-Not-clause-word c = rw c.in-Not.is c.work-in-Not.ensures.word
 
@@ -18,11 +33,32 @@ returns-in-Convert-clause-word c = rw c.in-Convert.is c.work-in-Convert.ensures.
 pub returns-in-MapBb-clause-word : goal.returns-in-MapBb-clause-word
 returns-in-MapBb-clause-word c = rw c.in-MapBb.is c.work-in-MapBb.ensures.word
 
+pub returns-in-MovingSum-clause-word : goal.returns-in-MovingSum-clause-word
+returns-in-MovingSum-clause-word c = rw c.in-MovingSum.is c.work-in-MovingSum.ensures.word
+
+pub returns-in-Fir-clause-word : goal.returns-in-Fir-clause-word
+returns-in-Fir-clause-word c = rw c.in-Fir.is c.work-in-Fir.ensures.word
+
+pub returns-in-InterpFir-clause-word : goal.returns-in-InterpFir-clause-word
+returns-in-InterpFir-clause-word c = rw c.in-InterpFir.is c.work-in-InterpFir.ensures.word
+
 pub returns-in-KeepOneInN-clause-word : goal.returns-in-KeepOneInN-clause-word
 returns-in-KeepOneInN-clause-word c = rw c.in-KeepOneInN.is c.work-in-KeepOneInN.ensures.word
 
+pub returns-in-Integrate-clause-word : goal.returns-in-Integrate-clause-word
+returns-in-Integrate-clause-word c = rw c.in-Integrate.is c.work-in-Integrate.ensures.word
+
 pub returns-in-Repeat-clause-word : goal.returns-in-Repeat-clause-word
 returns-in-Repeat-clause-word c = rw c.in-Repeat.is c.work-in-Repeat.ensures.word
+
+pub returns-in-Interleave-clause-word : goal.returns-in-Interleave-clause-word
+returns-in-Interleave-clause-word c = rw c.in-Interleave.is c.work-in-Interleave.ensures.word
+
+pub returns-in-Deinterleave-clause-word : goal.returns-in-Deinterleave-clause-word
+returns-in-Deinterleave-clause-word c = rw c.in-Deinterleave.is c.work-in-Deinterleave.ensures.word
+
+pub returns-in-StreamMux-clause-word : goal.returns-in-StreamMux-clause-word
+returns-in-StreamMux-clause-word c = rw c.in-StreamMux.is c.work-in-StreamMux.ensures.word
 
 pub returns-in-Head-clause-word : goal.returns-in-Head-clause-word
 returns-in-Head-clause-word c = rw c.in-Head.is c.work-in-Head.ensures.word

@@ -8,7 +8,7 @@ use Rattle.lane_kernels.proofs.conversion.I16NarrowsToU8.narrow_block.Goals as g
 
 pub overflow_cast-out : goal.overflow_cast-out
 overflow_cast-out c =
-    byte_asks w16 (omega arith) (map (of_z w16) (take 16 c.args.a.now))
+    byte_asks w16 (omega arith) 16 (map (of_z w16) (take 16 c.args.a.now))
 
 pub returns : goal.returns
 returns c =

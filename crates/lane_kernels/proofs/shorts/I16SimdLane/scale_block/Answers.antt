@@ -19,26 +19,26 @@ overflow_cast-products c =
 
 pub scaled-requires-clause-whole : goal.scaled-requires-clause-whole
 scaled-requires-clause-whole c =
-    products_whole Short w32 (λ (z : ℤ). z) (λ z. of_z w32 (to_z w16 (of_z w16 z))) (2 ^ 15) short_wide c.args.factor c.from-factors.result c.ranges.factor (c.from-factors.ensures ∙ to_z-of_z w16 c.args.factor c.ranges.factor)
+    products_whole 16 Short w32 (λ (z : ℤ). z) (λ z. of_z w32 (to_z w16 (of_z w16 z))) (2 ^ 15) short_wide c.args.factor c.from-factors.result c.ranges.factor (c.from-factors.ensures ∙ to_z-of_z w16 c.args.factor c.ranges.factor)
     _ c.args.a.now (map-map (λ u. of_z w32 (to_z w16 u)) (of_z w16) (take 16 c.args.a.now)) c.requires.a_block
 
 pub scaled-requires-clause-small : goal.scaled-requires-clause-small
 scaled-requires-clause-small c =
-    products_small Short w32 (λ (z : ℤ). z) (λ z. of_z w32 (to_z w16 (of_z w16 z))) (2 ^ 15) short_wide c.args.factor c.from-factors.result c.ranges.factor (c.from-factors.ensures ∙ to_z-of_z w16 c.args.factor c.ranges.factor)
+    products_small 16 Short w32 (λ (z : ℤ). z) (λ z. of_z w32 (to_z w16 (of_z w16 z))) (2 ^ 15) short_wide c.args.factor c.from-factors.result c.ranges.factor (c.from-factors.ensures ∙ to_z-of_z w16 c.args.factor c.ranges.factor)
     _ c.args.a.now (map-map (λ u. of_z w32 (to_z w16 u)) (of_z w16) (take 16 c.args.a.now)) c.requires.a_block
 
 pub overflow_cast-out : goal.overflow_cast-out
 overflow_cast-out c =
-    cast_signed_asks w32 w16 Short short_in_32 short_lanes.fits c.scaled.result (scaled_items Short w32 (λ (z : ℤ). z) (λ z. of_z w32 (to_z w16 (of_z w16 z))) (2 ^ 15) short_wide c.args.factor c.from-factors.result c.ranges.factor (c.from-factors.ensures ∙ to_z-of_z w16 c.args.factor c.ranges.factor)
+    cast_signed_asks w32 w16 Short short_in_32 short_lanes.fits c.scaled.result (scaled_items 16 Short w32 (λ (z : ℤ). z) (λ z. of_z w32 (to_z w16 (of_z w16 z))) (2 ^ 15) short_wide c.args.factor c.from-factors.result c.ranges.factor (c.from-factors.ensures ∙ to_z-of_z w16 c.args.factor c.ranges.factor)
     _ c.args.a.now (map-map (λ u. of_z w32 (to_z w16 u)) (of_z w16) (take 16 c.args.a.now)) c.requires.a_block c.args.shift c.scaled.result c.scaled.ensures)
 
 pub returns : goal.returns
 returns c =
     ap (λ ys. map (λ (z : ℤ). z) (put_chunk 0 c.args.out.now ys)) (map_of_bits (of_z w32) (to_z w16) (λ u. of_z w16 (to_z w32 u)) c.scaled.result)
     ∙ restored (λ (z : ℤ). z) (λ z. to_z w16 (of_z w16 (to_z w32 (of_z w32 z)))) Short (signed_back w32 w16 Short short_in_32 short_lanes.fits) 16 c.args.out.now c.requires.out_block c.scaled.result
-    (scaled_whole Short w32 (λ (z : ℤ). z) (λ z. of_z w32 (to_z w16 (of_z w16 z))) (2 ^ 15) short_wide c.args.factor c.from-factors.result c.ranges.factor (c.from-factors.ensures ∙ to_z-of_z w16 c.args.factor c.ranges.factor)
+    (scaled_whole 16 Short w32 (λ (z : ℤ). z) (λ z. of_z w32 (to_z w16 (of_z w16 z))) (2 ^ 15) short_wide c.args.factor c.from-factors.result c.ranges.factor (c.from-factors.ensures ∙ to_z-of_z w16 c.args.factor c.ranges.factor)
     _ c.args.a.now (map-map (λ u. of_z w32 (to_z w16 u)) (of_z w16) (take 16 c.args.a.now)) c.requires.a_block c.args.shift c.scaled.result c.scaled.ensures)
-    (scaled_items Short w32 (λ (z : ℤ). z) (λ z. of_z w32 (to_z w16 (of_z w16 z))) (2 ^ 15) short_wide c.args.factor c.from-factors.result c.ranges.factor (c.from-factors.ensures ∙ to_z-of_z w16 c.args.factor c.ranges.factor)
+    (scaled_items 16 Short w32 (λ (z : ℤ). z) (λ z. of_z w32 (to_z w16 (of_z w16 z))) (2 ^ 15) short_wide c.args.factor c.from-factors.result c.ranges.factor (c.from-factors.ensures ∙ to_z-of_z w16 c.args.factor c.ranges.factor)
     _ c.args.a.now (map-map (λ u. of_z w32 (to_z w16 u)) (of_z w16) (take 16 c.args.a.now)) c.requires.a_block c.args.shift c.scaled.result c.scaled.ensures)
-    ∙ numbers_scaled Short w32 (λ (z : ℤ). z) (λ z. of_z w32 (to_z w16 (of_z w16 z))) (2 ^ 15) short_wide c.args.factor c.from-factors.result c.ranges.factor (c.from-factors.ensures ∙ to_z-of_z w16 c.args.factor c.ranges.factor)
+    ∙ numbers_scaled 16 Short w32 (λ (z : ℤ). z) (λ z. of_z w32 (to_z w16 (of_z w16 z))) (2 ^ 15) short_wide c.args.factor c.from-factors.result c.ranges.factor (c.from-factors.ensures ∙ to_z-of_z w16 c.args.factor c.ranges.factor)
     _ c.args.a.now (map-map (λ u. of_z w32 (to_z w16 u)) (of_z w16) (take 16 c.args.a.now)) c.requires.a_block c.args.shift c.scaled.result c.scaled.ensures

@@ -1,0 +1,12 @@
+//! Blocks that filter with taps.
+#![tactic(auto)]
+
+pub mod fir;
+pub mod interp_fir;
+mod parameters;
+mod polyphase;
+mod stretch;
+mod tap_lane;
+
+pub use fir::Fir;
+pub use interp_fir::InterpFir;

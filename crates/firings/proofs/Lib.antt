@@ -1,0 +1,5 @@
+pub mod Loops
+pub mod Looks
+pub mod Decides
+pub mod Running
+pub mod Counters

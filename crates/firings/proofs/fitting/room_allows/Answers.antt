@@ -1,0 +1,32 @@
+use Rattle.std.proofs.Common.{ℕ, ◌<◌, ◌≤◌, List, length, arith, ap, sym, ◌∙◌}
+use Rattle.stream_model.specs.Network.{used_outputs, node_at}
+use Rattle.stream_model.specs.Claims as claims
+use Rattle.stream_model.specs.Machine as machine
+use Rattle.flowgraph.specs.Flowgraph.{net_of}
+use Rattle.firings.specs.State.{lent, rows_of}
+use Rattle.firings.specs.Counts.{readers_in}
+use Rattle.firings.proofs.Loops as loops
+use Rattle.firings.proofs.Looks as looks
+use Rattle.firings.proofs.fitting.room_allows.Goals as goal
+use Rattle.stream_laws.specs.Firings.{room_allows}
+
+pub readers_allow-least-requires-clause-known : goal.readers_allow-least-requires-clause-known
+readers_allow-least-requires-clause-known g c =
+    looks.readers_known (net_of g.B.Block.meaning c.args.graph.now) c.requires.small.runs c.args.block.0 c.loop-port.port c.readers-readers.result.now c.readers-readers.ensures
+
+pub loop-port-preserved : goal.loop-port-preserved
+loop-port-preserved g c =
+    let used : c.loop-port.port < used_outputs (net_of g.B.Block.meaning c.args.graph.now) c.args.block.0 = omega (arith, c.outputs-port-end.ensures.value, c.loop-port-test.true) in
+    let in' : c.loop-port.port < length (machine.counts_out (net_of g.B.Block.meaning c.args.graph.now) (rows_of (λ row. row.items) c.args.capacities.now) (lent c.args.tapes.now c.args.progress.now) c.args.block.0) = rw (looks.outputs_long (net_of g.B.Block.meaning c.args.graph.now) (rows_of (λ row. row.items) c.args.capacities.now) (lent c.args.tapes.now c.args.progress.now) c.args.block.0) used in
+    let is = ap (λ (k : ℕ). let o : claims.OutputCounts = record { capacity = k; readers = readers_in (net_of g.B.Block.meaning c.args.graph.now) (lent c.args.tapes.now c.args.progress.now) c.readers-readers.result.now } in o) c.capacity_at-capacity.ensures
+    ∙ looks.output_is (net_of g.B.Block.meaning c.args.graph.now) (rows_of (λ row. row.items) c.args.capacities.now) (lent c.args.tapes.now c.args.progress.now) c.args.block.0 c.loop-port.port c.readers-readers.result.now c.readers-readers.ensures
+    ∙ looks.output_at (net_of g.B.Block.meaning c.args.graph.now) (rows_of (λ row. row.items) c.args.capacities.now) (lent c.args.tapes.now c.args.progress.now) c.args.block.0 c.loop-port.port looks.no_output used in
+    record {
+      within = omega (arith, c.readers_allow-least.ensures.within, c.loop-port.invariant.within);
+      left = rw c.readers_allow-least.ensures.value (loops.room-turn (node_at (net_of g.B.Block.meaning c.args.graph.now) c.args.block.0) (machine.counts_out (net_of g.B.Block.meaning c.args.graph.now) (rows_of (λ row. row.items) c.args.capacities.now) (lent c.args.tapes.now c.args.progress.now) c.args.block.0) c.loop-port.port looks.no_output (record { capacity = c.capacity_at-capacity.result; readers = readers_in (net_of g.B.Block.meaning c.args.graph.now) (lent c.args.tapes.now c.args.progress.now) c.readers-readers.result.now }) in' is c.loop-port.least ∙ c.loop-port.invariant.left);
+    }
+
+pub returns-clause-value : goal.returns-clause-value
+returns-clause-value g c =
+    let long : length (machine.counts_out (net_of g.B.Block.meaning c.args.graph.now) (rows_of (λ row. row.items) c.args.capacities.now) (lent c.args.tapes.now c.args.progress.now) c.args.block.0) ≤ c.loop-port.port = rw (looks.outputs_long (net_of g.B.Block.meaning c.args.graph.now) (rows_of (λ row. row.items) c.args.capacities.now) (lent c.args.tapes.now c.args.progress.now) c.args.block.0) (omega (arith, c.outputs-port-end.ensures.value, c.loop-port-test.false)) in
+    sym (loops.past_end (λ (os : List claims.OutputCounts). room_allows (node_at (net_of g.B.Block.meaning c.args.graph.now) c.args.block.0) os c.loop-port.least) (machine.counts_out (net_of g.B.Block.meaning c.args.graph.now) (rows_of (λ row. row.items) c.args.capacities.now) (lent c.args.tapes.now c.args.progress.now) c.args.block.0) c.loop-port.port long) ∙ c.loop-port.invariant.left

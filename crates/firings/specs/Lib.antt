@@ -1,0 +1,5 @@
+pub mod State
+pub mod Small
+pub mod Counts
+pub mod Decision
+pub mod Firings

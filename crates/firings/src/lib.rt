@@ -1,0 +1,15 @@
+//! What a claim decides, from counts alone: firings, items that have come, capacities and what readers have taken.
+#![tactic(auto)]
+
+mod counts;
+mod decide;
+pub mod decision;
+pub mod firings;
+mod fitting;
+mod lacking;
+mod paces;
+pub mod progress;
+
+pub use decision::{Decision, Need};
+pub use firings::Firings;
+pub use progress::{Progress, Tape};

@@ -1,0 +1,12 @@
+pub mod RowLemmas
+pub mod RowsByPort
+pub mod Wires
+pub mod Places
+pub mod Nets
+pub mod Names
+pub mod PortLemmas
+pub mod PortTests
+pub mod TurnLemmas
+pub mod GainLemmas
+pub mod WireLemmas
+pub mod Assembly

@@ -1,0 +1,52 @@
+use Rattle.std.proofs.Common.{◌∷◌, [], ap, sym, ◌∙◌}
+use Rattle.flowgraph.specs.declared.fault.Limit.TheVariants.{Blocks}
+use Rattle.flowgraph.specs.Fault.{told}
+use Rattle.flowgraph.specs.Tests.{port_faults}
+use Rattle.flowgraph.proofs.Places.{none_of}
+use Rattle.flowgraph.proofs.Assembly.{stop, go, alone, tests, looped, steep, net}
+use Rattle.flowgraph.proofs.graph.tested.Goals as goal
+
+pub returns : goal.returns
+returns g c =
+    let m = g.B.Block.meaning in
+    let es = c.args.blocks.now in
+    let cs = c.args.connections.now in
+    record {
+      passed = tests m es cs ∙ go (port_faults (net m es cs)) (looped m es cs ∷ steep m es cs ∷ []) (sym c.in_ok-fault.ensures ∙ c.in_default.is)
+          ∙ go (looped m es cs ∷ []) (steep m es cs ∷ []) (ap (told Blocks) (alone (looped m es cs)) ∙ sym c.in_ok-fault-2.ensures ∙ c.in_default-2.is)
+          ∙ alone (steep m es cs) ∙ none_of _ _ _ c.in_ok-fault-3.ensures c.in_default-3.not-Some;
+      tables = c.in_ok-tables.ensures;
+      refused = tt;
+    }
+
+pub returns-in-Some : goal.returns-in-Some
+returns-in-Some g c =
+    let m = g.B.Block.meaning in
+    let es = c.args.blocks.now in
+    let cs = c.args.connections.now in
+    record { passed = tt; tables = tt; refused = λ _. ap (told Blocks) (tests m es cs) ∙ stop (port_faults (net m es cs)) (looped m es cs ∷ steep m es cs ∷ []) _ (sym c.in_ok-fault.ensures ∙ c.in-Some.is) }
+
+pub returns-in-Some-2 : goal.returns-in-Some-2
+returns-in-Some-2 g c =
+    let m = g.B.Block.meaning in
+    let es = c.args.blocks.now in
+    let cs = c.args.connections.now in
+    record {
+      passed = tt;
+      tables = tt;
+      refused = λ _. ap (told Blocks) (tests m es cs ∙ go (port_faults (net m es cs)) (looped m es cs ∷ steep m es cs ∷ []) (sym c.in_ok-fault.ensures ∙ c.in_default.is))
+          ∙ stop (looped m es cs ∷ []) (steep m es cs ∷ []) _ (ap (told Blocks) (alone (looped m es cs)) ∙ sym c.in_ok-fault-2.ensures ∙ c.in-Some-2.is);
+    }
+
+pub returns-in-Some-3 : goal.returns-in-Some-3
+returns-in-Some-3 g c =
+    let m = g.B.Block.meaning in
+    let es = c.args.blocks.now in
+    let cs = c.args.connections.now in
+    record {
+      passed = tt;
+      tables = tt;
+      refused = λ _. ap (told Blocks) (tests m es cs ∙ go (port_faults (net m es cs)) (looped m es cs ∷ steep m es cs ∷ []) (sym c.in_ok-fault.ensures ∙ c.in_default.is)
+          ∙ go (looped m es cs ∷ []) (steep m es cs ∷ []) (ap (told Blocks) (alone (looped m es cs)) ∙ sym c.in_ok-fault-2.ensures ∙ c.in_default-2.is) ∙ alone (steep m es cs))
+          ∙ sym c.in_ok-fault-3.ensures ∙ c.in-Some-3.is;
+    }

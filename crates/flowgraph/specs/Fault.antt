@@ -1,0 +1,55 @@
+-- Refusals of graphs, as they are reported.
+use Rattle.std.specs.Prelude.{ℕ, Option, Some, None, option_map}
+use Rattle.graph_model.specs.Graphs as model
+use Rattle.flowgraph.specs.declared.parts.BlockId.{BlockId}
+use Rattle.flowgraph.specs.declared.fault.Side.{Side}
+use Rattle.flowgraph.specs.declared.fault.Side.TheVariants.{In, Out}
+use Rattle.flowgraph.specs.declared.fault.BlockOption.TheVariants.{Name, Multiple, Capacity}
+use Rattle.flowgraph.specs.declared.fault.Limit.{Limit}
+use Rattle.flowgraph.specs.declared.fault.GraphFault.{GraphFault}
+use Rattle.flowgraph.specs.declared.fault.GraphFault.TheVariants.{DuplicateName, UnknownBlock, PortRange, InputTaken, PortGap, TypeMismatch, Loop, TooFewPorts, TooLarge, BadParameter, OneToOne, Gain, Memory}
+
+-- the number by which a refusal is reported
+abbrev pub number_of : GraphFault → ℕ
+number_of DuplicateName = 1
+number_of UnknownBlock = 2
+number_of (PortRange b s p) = 3
+number_of (InputTaken b p) = 4
+number_of (PortGap b s p) = 5
+number_of (TypeMismatch b p) = 6
+number_of (Loop b) = 7
+number_of (TooFewPorts b) = 8
+number_of (TooLarge l) = 9
+number_of (BadParameter o) = 10
+number_of (OneToOne b) = 11
+number_of (Gain b) = 12
+number_of Memory = 32
+
+abbrev pub side_of : model.Side → Side
+side_of model.In = In
+side_of model.Out = Out
+
+abbrev pub id : ℕ → BlockId
+id b = record { 0 = b }
+
+-- a refusal of the model, where this is what there are too many of. Where there is none, nothing but memory can be wanting
+abbrev pub reported : Limit → Option model.GraphFault → GraphFault
+reported l None = Memory
+reported l (Some model.DuplicateName) = DuplicateName
+reported l (Some model.UnknownBlock) = UnknownBlock
+reported l (Some (model.PortRange b s p)) = PortRange (id b) (side_of s) p
+reported l (Some (model.InputTaken b p)) = InputTaken (id b) p
+reported l (Some (model.PortGap b s p)) = PortGap (id b) (side_of s) p
+reported l (Some (model.TypeMismatch b p)) = TypeMismatch (id b) p
+reported l (Some (model.Loop b)) = Loop (id b)
+reported l (Some (model.TooFewPorts b)) = TooFewPorts (id b)
+reported l (Some model.TooLarge) = TooLarge l
+reported l (Some model.BadName) = BadParameter Name
+reported l (Some model.BadMultiple) = BadParameter Multiple
+reported l (Some model.BadCapacity) = BadParameter Capacity
+reported l (Some (model.OneToOne b)) = OneToOne (id b)
+reported l (Some (model.Gain b)) = Gain (id b)
+
+-- the same, and nothing where there is none
+abbrev pub told : Limit → Option model.GraphFault → Option GraphFault
+told l o = option_map (λ fault. reported l (Some fault)) o

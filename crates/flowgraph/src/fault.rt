@@ -1,0 +1,168 @@
+//! Why a graph is refused.
+ghost use Rattle.std.specs.Prelude.{◌≡◌};
+ghost use Rattle.flowgraph.specs.Fault.{number_of};
+ghost use Rattle.flowgraph.specs.declared.fault.GraphFault.TheVariants.{Memory};
+
+use crate::parts::BlockId;
+use std::alloc::AllocError;
+use std::error::Error;
+use std::fmt;
+
+/// The sides of a block.
+#[derive(Clone, Copy, Debug, PartialEq, Eq)]
+pub enum Side {
+    In,
+    Out,
+}
+
+/// What may be wrong with a block that is added. It prints as the name that a graph gives it.
+#[derive(Clone, Copy, Debug, PartialEq, Eq)]
+pub enum BlockOption {
+    /// It is no name of 1 to 32 letters, digits, `_`, `.` and `-`.
+    Name,
+    Multiple,
+    Capacity,
+}
+
+/// What a graph has too many of.
+#[derive(Clone, Copy, Debug, PartialEq, Eq)]
+pub enum Limit {
+    /// More than 256.
+    Blocks,
+    /// More than 1,024.
+    Connections,
+}
+
+/// Why a graph is refused, or a block or a connection of it.
+#[derive(Clone, Copy, Debug, PartialEq, Eq)]
+pub enum GraphFault {
+    /// A block has this name.
+    DuplicateName,
+    /// An end of the connection is no block of the graph.
+    UnknownBlock,
+    /// The block may have no port of this number on this side.
+    PortRange {
+        block: BlockId,
+        side: Side,
+        port: usize,
+    },
+    /// The input has a connection.
+    InputTaken {
+        block: BlockId,
+        port: usize,
+    },
+    /// The port is unused, and a higher one of its side is used.
+    PortGap {
+        block: BlockId,
+        side: Side,
+        port: usize,
+    },
+    /// The output gives items of another type than the input takes.
+    TypeMismatch {
+        block: BlockId,
+        port: usize,
+    },
+    /// The block reaches itself.
+    Loop {
+        block: BlockId,
+    },
+    /// On one side the block has fewer connected ports than it asks for.
+    TooFewPorts {
+        block: BlockId,
+    },
+    /// The graph would have too many.
+    TooLarge(Limit),
+    /// The block may not have this name, this multiple or this capacity.
+    BadParameter(BlockOption),
+    /// Tags are to go from each input to the output of its number, and used inputs and outputs are not equally many.
+    OneToOne {
+        block: BlockId,
+    },
+    /// Along a path that ends at the block the interpolations have a product above 16,777,216.
+    Gain {
+        block: BlockId,
+    },
+    /// Memory ran out.
+    Memory,
+}
+
+impl GraphFault {
+    /// The number by which the refusal is reported: 1 to 12, or 32.
+    pub fn number(&self) -> u32
+        ensures { result ≡ number_of self.now }
+    {
+        match self {
+            GraphFault::DuplicateName => 1,
+            GraphFault::UnknownBlock => 2,
+            GraphFault::PortRange { .. } => 3,
+            GraphFault::InputTaken { .. } => 4,
+            GraphFault::PortGap { .. } => 5,
+            GraphFault::TypeMismatch { .. } => 6,
+            GraphFault::Loop { .. } => 7,
+            GraphFault::TooFewPorts { .. } => 8,
+            GraphFault::TooLarge(_) => 9,
+            GraphFault::BadParameter(_) => 10,
+            GraphFault::OneToOne { .. } => 11,
+            GraphFault::Gain { .. } => 12,
+            GraphFault::Memory => 32,
+        }
+    }
+}
+
+impl fmt::Display for Side {
+    fn fmt<W: fmt::Write>(&self, f: &mut fmt::Formatter<W>) -> fmt::Result {
+        f.write_str(match self {
+            Side::In => "in",
+            Side::Out => "out",
+        })
+    }
+}
+
+impl fmt::Display for BlockOption {
+    fn fmt<W: fmt::Write>(&self, f: &mut fmt::Formatter<W>) -> fmt::Result {
+        f.write_str(match self {
+            BlockOption::Name => "name",
+            BlockOption::Multiple => "multiple",
+            BlockOption::Capacity => "capacity",
+        })
+    }
+}
+
+impl fmt::Display for Limit {
+    fn fmt<W: fmt::Write>(&self, f: &mut fmt::Formatter<W>) -> fmt::Result {
+        f.write_str(match self {
+            Limit::Blocks => "blocks",
+            Limit::Connections => "connections",
+        })
+    }
+}
+
+impl fmt::Display for GraphFault {
+    fn fmt<W: fmt::Write>(&self, f: &mut fmt::Formatter<W>) -> fmt::Result {
+        f.write_str(match self {
+            GraphFault::DuplicateName => "duplicate name",
+            GraphFault::UnknownBlock => "unknown block",
+            GraphFault::PortRange { .. } => "port out of range",
+            GraphFault::InputTaken { .. } => "input taken",
+            GraphFault::PortGap { .. } => "port gap",
+            GraphFault::TypeMismatch { .. } => "type mismatch",
+            GraphFault::Loop { .. } => "loop",
+            GraphFault::TooFewPorts { .. } => "too few ports",
+            GraphFault::TooLarge(_) => "too large",
+            GraphFault::BadParameter(_) => "bad parameter",
+            GraphFault::OneToOne { .. } => "not one to one",
+            GraphFault::Gain { .. } => "gain too high",
+            GraphFault::Memory => "out of memory",
+        })
+    }
+}
+
+impl Error for GraphFault {}
+
+impl From<AllocError> for GraphFault {
+    ghost from_gives = { λ _ e. e ≡ Memory };
+
+    fn from(_refusal: AllocError) -> GraphFault {
+        GraphFault::Memory
+    }
+}

@@ -1,0 +1,21 @@
+//! Graphs of any shape: building them block by block and connection by connection, and testing them.
+#![tactic(auto)]
+
+mod by_port;
+pub mod fault;
+mod gains;
+pub mod graph;
+mod loops;
+pub mod parts;
+mod port_tests;
+mod ports;
+mod rows;
+pub mod valid;
+mod wiring;
+
+pub use block_kinds::Block;
+pub use fault::{BlockOption, GraphFault, Limit, Side};
+pub use graph::Graph;
+pub use parts::{BlockId, Connection, Input, Options};
+pub use stream_model::Policy;
+pub use valid::Valid;

@@ -1,0 +1,134 @@
+//! The test for loops.
+ghost use Rattle.std.specs.Prelude.{◌≡◌, ◌<◌, ◌≤◌, ◌||◌, ◌&&◌, ◌==◌, ℕ, true, false, length, replicate, slice_index, slice_index_or, All, IfOk};
+ghost use Rattle.std.specs.List.{find, list_any};
+ghost use Rattle.std.specs.Option.{option_map};
+ghost use Rattle.stream_model.specs.Lists.{below};
+ghost use Rattle.graph_model.specs.Graphs.{reaches_by};
+ghost use Rattle.graph_model.specs.Graphs as model;
+ghost use Rattle.flowgraph.specs.Fault.{told};
+ghost use Rattle.flowgraph.specs.Ports.{AreWithin, net_from};
+ghost use Rattle.flowgraph.specs.Turns.{leads};
+
+use crate::fault::{GraphFault, Limit};
+use crate::parts::{BlockId, Connection};
+use std::alloc::{AllocError, Global};
+use std::mem::swap;
+
+/// The lowest block that reaches itself. Where ranks are found that rise along each connection there is none.
+pub fn loop_fault(
+    alloc: Global,
+    blocks: usize,
+    connections: &[Connection],
+) -> Result<Option<GraphFault>, AllocError>
+    requires few { blocks ≤ 256 }
+    requires within { AreWithin blocks connections.now }
+    ensures { IfOk result (λ fault. fault
+        ≡ told Limit.Blocks (option_map model.Loop (find (λ b. reaches_by blocks (net_from connections.now) b b) (below blocks)))) }
+{
+    let ranks = ranks(alloc, blocks, connections)?;
+    if rise(connections, &ranks) {
+        return Ok(None);
+    }
+    for block in 0..blocks {
+        let looped = reaches_itself(alloc, blocks, connections, block)?;
+        if looped {
+            return Ok(Some(GraphFault::Loop {
+                block: BlockId(block as u32),
+            }));
+        }
+    }
+    Ok(None)
+}
+
+// Ranks of the blocks. They rise along each connection, unless connections form a loop: each pass raises the blocks behind others.
+fn ranks(alloc: Global, blocks: usize, connections: &[Connection]) -> Result<Vec<usize>, AllocError>
+    requires { AreWithin blocks connections.now }
+    ensures { IfOk result (λ ranks. length ranks.items ≡ blocks) }
+{
+    let mut ranks = vec![in alloc; 0; blocks]?;
+    for _ in 0..blocks {
+        if !raise(&mut ranks, connections) {
+            break;
+        }
+    }
+    Ok(ranks)
+}
+
+// Raises each block above those that lead to it. Answers whether one was raised.
+fn raise(ranks: &mut [usize], connections: &[Connection]) -> bool
+    requires { AreWithin (length ranks.old) connections.now }
+{
+    let mut raised = false;
+    for connection in connections {
+        let least = ranks[connection.from.0 as usize].saturating_add(1);
+        let to = connection.to.0 as usize;
+        if ranks[to] < least {
+            ranks[to] = least;
+            raised = true;
+        }
+    }
+    raised
+}
+
+// Whether ranks rise along each connection.
+fn rise(connections: &[Connection], ranks: &[usize]) -> bool
+    requires { AreWithin (length ranks.now) connections.now }
+    ensures { result ≡ true → All (λ c. slice_index ranks.now c.from.0 < slice_index ranks.now c.to.0) connections.now }
+{
+    for connection in connections {
+        if ranks[connection.to.0 as usize] <= ranks[connection.from.0 as usize] {
+            return false;
+        }
+    }
+    true
+}
+
+// Whether a block reaches itself by as many connections as there are blocks, or fewer.
+fn reaches_itself(
+    alloc: Global,
+    blocks: usize,
+    connections: &[Connection],
+    target: usize,
+) -> Result<bool, AllocError>
+    requires target { target < blocks }
+    requires within { AreWithin blocks connections.now }
+    ensures { IfOk result (λ reaches. reaches ≡ reaches_by blocks (net_from connections.now) target target) }
+{
+    let mut reaching = cleared(alloc, blocks)?;
+    let mut next = cleared(alloc, blocks)?;
+    'turns: for _ in 0..blocks {
+        lead(connections, target, &reaching, &mut next);
+        swap(&mut reaching, &mut next);
+    }
+    Ok(reaching[target])
+}
+
+fn cleared(alloc: Global, count: usize) -> Result<Vec<bool>, AllocError>
+    ensures { IfOk result (λ marks. marks.items ≡ replicate count false) }
+{
+    vec![in alloc; false; count]
+}
+
+// Marks the blocks with a connection to the target or to a block that reaches it.
+fn lead(connections: &[Connection], target: usize, reaching: &[bool], next: &mut [bool])
+    requires within { AreWithin (length next.old) connections.now }
+    requires same { length reaching.now ≡ length next.old }
+    ensures { (a : ℕ) → a < length next.old → slice_index_or next.new a false ≡ list_any (leads a target reaching.now) connections.now }
+{
+    for mark in next.iter_mut() {
+        *mark = false;
+    }
+    for connection in connections {
+        if leads_on(connection, target, reaching) {
+            next[connection.from.0 as usize] = true;
+        }
+    }
+}
+
+// Whether the connection leads to the target, or to a block that reaches it.
+fn leads_on(connection: &Connection, target: usize, reaching: &[bool]) -> bool
+    requires { connection.now.to.0 < length reaching.now }
+    ensures { result ≡ (connection.now.to.0 == target || slice_index_or reaching.now connection.now.to.0 false) }
+{
+    connection.to.0 as usize == target || reaching[connection.to.0 as usize]
+}

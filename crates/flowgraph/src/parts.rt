@@ -1,0 +1,43 @@
+//! What a graph is made of.
+
+use stream_model::Policy;
+
+/// A block of a graph, by its number: blocks are numbered from 0 in the order in which they were added.
+#[derive(Clone, Copy, Debug, PartialEq, Eq)]
+pub struct BlockId(pub u32);
+
+/// How a block stands in a graph.
+#[derive(Clone, Copy, Debug, PartialEq, Eq)]
+pub struct Options {
+    /// Which tags go from its inputs to its outputs.
+    pub policy: Policy,
+    /// How many base firings one firing is, from 1 to 64. It is 1 for sources and sinks, and for blocks with a limit or without a rate.
+    pub multiple: u32,
+    /// How many unread items the buffer of each output holds at least, from 1 to 65,536.
+    pub capacity: u32,
+}
+
+/// A connection from an output port to an input port. Ports of each side are numbered from 0.
+#[derive(Clone, Copy, Debug, PartialEq, Eq)]
+pub struct Connection {
+    pub from: BlockId,
+    pub out_port: usize,
+    pub to: BlockId,
+    pub in_port: usize,
+}
+
+/// An input of a block in a valid graph.
+#[derive(Clone, Copy, Debug, PartialEq, Eq)]
+pub struct Input {
+    /// The connection that enters it.
+    pub connection: Connection,
+    /// Which of the readers of its writer's output it is, counted from 0 in the order of connecting.
+    pub reader: usize,
+}
+
+/// A block with its options.
+#[derive(Debug, Drop)]
+pub struct Entry<B> {
+    pub block: B,
+    pub options: Options,
+}

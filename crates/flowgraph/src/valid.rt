@@ -1,0 +1,161 @@
+//! Graphs that were tested.
+ghost use Rattle.std.specs.Prelude.{◌≡◌, ◌<◌, ◌≤◌, ◌==◌, length, map, All, Some, slice_get, position, bytes_eq};
+ghost use Rattle.std.specs.Option.{option_map};
+ghost use Rattle.stream_model.specs.Network.{node_at, writers_of, readers_of, used_outputs};
+ghost use Rattle.stream_laws.specs.CanRun.{CanRun};
+ghost use Rattle.graph_model.specs.Graphs.{IsValidGraph};
+ghost use Rattle.graph_model.specs.Rates.{CanCount};
+ghost use Rattle.graph_laws.specs.Running.{AreLawful};
+ghost use Rattle.flowgraph.specs.Fault.{id};
+ghost use Rattle.flowgraph.specs.Flowgraph.{net_of, graph_of, connection_of, HasOptions};
+ghost use Rattle.flowgraph.specs.Wiring.{writers_in, IsItsReader, IsWired};
+
+use crate::parts::{BlockId, Connection, Entry, Input, Options};
+use crate::ports::MOST_PORTS;
+use crate::wiring::Wiring;
+use block_kinds::Block;
+use indexmap::IndexSet;
+use std::marker::Model;
+
+/// A valid graph, with the tables that tell how its blocks are wired. A contract sees the blocks with their names, and the connections.
+#[derive(Drop)]
+pub struct Valid<B: Block> {
+    names: IndexSet<Vec<u8>>,
+    blocks: Vec<Entry<B>>,
+    connections: Vec<Connection>,
+    wiring: Wiring,
+}
+
+impl<B: Block> Model for Valid<B> {
+    ghost use Rattle.std.specs.Prelude.{map};
+    ghost use Rattle.flowgraph.specs.Flowgraph.{Flowgraph};
+
+    ghost Value = { Flowgraph B };
+
+    ghost use Rattle.graph_model.specs.Graphs.{IsValidGraph};
+    ghost use Rattle.flowgraph.specs.Flowgraph.{net_of, graph_of};
+    ghost use Rattle.flowgraph.specs.Wiring.{IsWired};
+
+    ghost view = { λ g. graph_of (map (λ name. name.items) g.names.keys) g.blocks.items g.connections.items };
+
+    ghost invariant = { λ g. let graph = graph_of (map (λ name. name.items) g.names.keys) g.blocks.items g.connections.items in
+        IsValidGraph graph.names (net_of B.meaning graph) × IsWired (net_of B.meaning graph) g.wiring.inputs g.wiring.outputs.items g.wiring.readers };
+}
+
+impl<B: Block> Valid<B> {
+    /// A graph that passes all tests, with its tables.
+    pub(crate) fn with_tables(
+        names: IndexSet<Vec<u8>>,
+        blocks: Vec<Entry<B>>,
+        connections: Vec<Connection>,
+        wiring: Wiring,
+    ) -> Valid<B>
+        requires valid { IsValidGraph (map (λ n. n.items) names.keys) (net_of B.meaning (graph_of (map (λ n. n.items) names.keys) blocks.items connections.items)) }
+        requires wired { IsWired (net_of B.meaning (graph_of (map (λ n. n.items) names.keys) blocks.items connections.items)) wiring.inputs wiring.outputs.items wiring.readers }
+        ensures { result ≡ graph_of (map (λ n. n.items) names.keys) blocks.items connections.items }
+    {
+        Valid {
+            names,
+            blocks,
+            connections,
+            wiring,
+        }
+    }
+
+    /// How many blocks there are.
+    pub fn len(&self) -> usize
+        ensures blocks { result ≡ length self.now.blocks }
+        ensures nodes { result ≡ length (net_of B.meaning self.now).nodes }
+        ensures few { result ≤ 256 }
+    {
+        self.blocks.len()
+    }
+
+    pub fn is_empty(&self) -> bool
+        ensures { result ≡ (length self.now.blocks == 0) }
+    {
+        self.blocks.is_empty()
+    }
+
+    /// The connections, in the order of connecting.
+    pub fn connections(&self) -> &[Connection]
+        ensures { result.now ≡ self.now.connections }
+    {
+        &self.connections
+    }
+
+    /// The name of a block.
+    pub fn name(&self, block: BlockId) -> &[u8]
+        requires { block.0 < length self.now.blocks }
+        ensures { slice_get self.now.names block.0 ≡ Some result.now }
+    {
+        &self.names[block.0 as usize]
+    }
+
+    /// A block.
+    pub fn block(&self, block: BlockId) -> &B
+        requires { block.0 < length self.now.blocks }
+        ensures value { option_map (λ e. e.block) (slice_get self.now.blocks block.0) ≡ Some result.now }
+        ensures meaning { B.meaning result.now ≡ (node_at (net_of B.meaning self.now) block.0).meaning }
+    {
+        &self.blocks[block.0 as usize].block
+    }
+
+    /// The options of a block.
+    pub fn options(&self, block: BlockId) -> Options
+        requires { block.0 < length self.now.blocks }
+        ensures value { option_map (λ e. e.options) (slice_get self.now.blocks block.0) ≡ Some result }
+        ensures node { HasOptions (node_at (net_of B.meaning self.now) block.0) result }
+    {
+        self.blocks[block.0 as usize].options
+    }
+
+    /// The block of a name. It takes one look-up by hash.
+    pub fn find(&self, name: &[u8]) -> Option<BlockId>
+        ensures { result ≡ option_map id (position (bytes_eq name.now) self.now.names) }
+    {
+        match self.names.get_index_of(name) {
+            Some(at) => Some(BlockId(at as u32)),
+            None => None,
+        }
+    }
+
+    /// The inputs of a block, by their ports.
+    pub fn inputs(&self, block: BlockId) -> &[Input]
+        requires { block.0 < length self.now.blocks }
+        ensures writers { writers_in result.now ≡ writers_of (net_of B.meaning self.now) block.0 }
+        ensures readers { All (IsItsReader (net_of B.meaning self.now)) result.now }
+    {
+        self.wiring.inputs.row(block.0 as usize)
+    }
+
+    /// How many outputs of a block are connected. They are numbered from 0 without a gap.
+    pub fn outputs(&self, block: BlockId) -> usize
+        requires { block.0 < length self.now.blocks }
+        ensures value { result ≡ used_outputs (net_of B.meaning self.now) block.0 }
+        ensures few { result ≤ 16 }
+    {
+        self.wiring.outputs[block.0 as usize]
+    }
+
+    /// The connections from an output, in the order of connecting.
+    pub fn readers(&self, block: BlockId, port: usize) -> &[Connection]
+        requires block { block.0 < length self.now.blocks }
+        requires port { port < used_outputs (net_of B.meaning self.now) block.0 }
+        ensures { map connection_of result.now ≡ readers_of (net_of B.meaning self.now) block.0 port }
+    {
+        self.wiring
+            .readers
+            .row(MOST_PORTS * block.0 as usize + port)
+    }
+
+    /// The graph is valid, its blocks keep the laws, and so it runs. The call is there for what its contract says.
+    pub fn in_order(&self)
+        ensures valid { IsValidGraph self.now.names (net_of B.meaning self.now) }
+        ensures lawful { AreLawful (net_of B.meaning self.now) }
+        ensures runs { CanRun (net_of B.meaning self.now) }
+        ensures counts { CanCount (net_of B.meaning self.now) }
+    {
+        let _ = &self.blocks;
+    }
+}

@@ -1,0 +1,55 @@
+-- Blocks that make each item of one item of each input.
+use Rattle.std.specs.Prelude.{◌≡◌, ℕ, ◌-◌, ℤ, pos, ◌+ℤ◌, List, [], ◌∷◌, ◌++◌}
+use Rattle.stream_model.specs.declared.vocabulary.ItemType.{ItemType}
+use Rattle.stream_model.specs.Numbers.{IsItem, numbers_in, wrap, total}
+use Rattle.stream_model.specs.Kernels.{bits_in}
+use Rattle.stream_model.specs.Meaning.{Meaning}
+use Rattle.stream_model.specs.Kinds.Shapes.{ports, any_ports, at_rate}
+use Rattle.stream_model.specs.Kinds.Math.{items_at, all_bits, add, and_of, or_of, xor_of}
+use Rattle.math_blocks.specs.declared.add.Add.{Add}
+use Rattle.math_blocks.specs.declared.logic.And.{And}
+use Rattle.math_blocks.specs.declared.logic.Or.{Or}
+use Rattle.math_blocks.specs.declared.logic.Xor.{Xor}
+
+-- one input or more, and one output, whose items are what `joins` makes of the inputs' items
+abbrev pub joined_of : (ItemType → List ℤ → ℤ) → ItemType → Meaning
+joined_of joins t = record (at_rate (any_ports t) (ports 1 t) 1 1) { out = λ ts xs p n. joins t (items_at xs n) }
+
+-- what is made of one number is the number, and of one more is made by `pair` of it and what was made of the others
+pub record AreJoined (joins : ItemType → List ℤ → ℤ) (pair : ItemType → ℤ → ℤ → ℤ) : Type 0 where
+  pub alone : (t : ItemType) (z : ℤ) → IsItem t z → joins t (z ∷ []) ≡ z
+  pub one_more : (t : ItemType) (zs : List ℤ) (z : ℤ) → joins t (zs ++ z ∷ []) ≡ pair t (joins t zs) z
+
+-- the wrapped sum of numbers, and of two
+abbrev pub sum_of : ItemType → List ℤ → ℤ
+sum_of t zs = wrap t (total zs)
+
+abbrev pub sum_of_two : ItemType → ℤ → ℤ → ℤ
+sum_of_two t y z = wrap t (y +ℤ z)
+
+-- the number with the bits of all numbers, joined bit for bit by op, where `none` joins to nothing new; and of two
+abbrev pub bits_of_all : (ℕ → ℕ → ℕ) → (ItemType → ℕ) → ItemType → List ℤ → ℤ
+bits_of_all op none t zs = wrap t (pos (all_bits op (none t) t zs))
+
+abbrev pub bits_of_two : (ℕ → ℕ → ℕ) → ItemType → ℤ → ℤ → ℤ
+bits_of_two op t y z = wrap t (pos (op (bits_in t y) (bits_in t z)))
+
+-- the number with all bits of the type, and that with none
+abbrev pub all_set : ItemType → ℕ
+all_set t = numbers_in t - 1
+
+abbrev pub none_set : ItemType → ℕ
+none_set t = 0
+
+-- what the blocks mean
+abbrev pub add_block_of : Add → Meaning
+add_block_of b = add b.item
+
+abbrev pub and_block_of : And → Meaning
+and_block_of b = and_of b.item
+
+abbrev pub or_block_of : Or → Meaning
+or_block_of b = or_of b.item
+
+abbrev pub xor_block_of : Xor → Meaning
+xor_block_of b = xor_of b.item

@@ -1,0 +1,108 @@
+//! Blocks that make each item of one item of each input.
+ghost use Rattle.std.specs.Prelude.{◌≡◌, ◌≤◌, ℤ, List, [], All, length, map};
+ghost use Rattle.stream_model.specs.declared.vocabulary.ItemType.{ItemType};
+ghost use Rattle.stream_model.specs.Lists.{item};
+ghost use Rattle.stream_model.specs.Kernels.{listed};
+ghost use Rattle.stream_model.specs.Settings as model;
+ghost use Rattle.stream_model.specs.Kinds.Math.{items_at};
+ghost use Rattle.items.specs.Items.{type_of, numbers_of, spare_of};
+ghost use Rattle.block_kinds.specs.Work.{CanWork, HasWorked, IsWorkOf};
+ghost use Rattle.math_blocks.specs.Joined.{AreJoined, joined_of};
+
+use block_kinds::Held;
+use items::Items;
+use lane_kernels::SimdLane;
+use numbers::Number;
+
+/// A block that joins the items at one place of its inputs in one.
+pub(crate) trait Joins {
+    /// The type of the items.
+    ghost takes: { Self → ItemType };
+
+    /// What it makes of one item of each input.
+    ghost joins: { ItemType → List ℤ → ℤ };
+
+    /// What it makes of two items.
+    ghost pair: { ItemType → ℤ → ℤ → ℤ };
+
+    /// Writes what it makes of each two items at one place.
+    fn join<T: SimdLane>(a: &[T], b: &[T], out: &mut [T])
+        requires same_length { length a.now ≡ length b.now }
+        requires out_length { length out.old ≡ length a.now }
+        ensures { map T.number out.new ≡ listed (length a.now)
+            (λ k. pair T.kind (item (map T.number a.now) k) (item (map T.number b.now) k)) };
+}
+
+/// How many items are joined at once, from a copy of those that are written over.
+const CHUNK: usize = 256;
+
+/// Joins each item of `out` with the item of `items` at its place.
+fn join_into<T: SimdLane, J: Joins>(items: &[T], out: &mut [T])
+    requires { length items.now ≡ length out.old }
+    ensures { map T.number out.new ≡ listed (length items.now)
+        (λ k. J.pair T.kind (item (map T.number out.old) k) (item (map T.number items.now) k)) }
+{
+    let mut before = [T::narrow(0); CHUNK];
+    let mut at = 0;
+    while at < out.len() {
+        let end = at + CHUNK.min(out.len() - at);
+        let chunk = &mut before[..end - at];
+        chunk.copy_from_slice(&out[at..end]);
+        J::join(chunk, &items[at..end], &mut out[at..end]);
+        at = end;
+    }
+}
+
+/// The same of items of any type.
+fn join_items_into<J: Joins>(items: &Items, out: &mut Items)
+    requires same_type { type_of items.now ≡ type_of out.old }
+    requires same_length { length (numbers_of items.now) ≡ length (numbers_of out.old) }
+    ensures item_type { type_of out.new ≡ type_of out.old }
+    ensures numbers { numbers_of out.new ≡ listed (length (numbers_of items.now))
+        (λ k. J.pair (type_of items.now) (item (numbers_of out.old) k) (item (numbers_of items.now) k)) }
+{
+    match (items, out) {
+        (Items::Byte(items), Items::Byte(out)) => join_into::<u8, J>(items, out),
+        (Items::Short(items), Items::Short(out)) => join_into::<i16, J>(items, out),
+        (Items::Int(items), Items::Int(out)) => join_into::<i32, J>(items, out),
+        _ => unreachable!(),
+    }
+}
+
+/// Writes what is made of the items of all windows into an empty `out` with room for it.
+fn join_windows<J: Joins>(windows: &[Items], count: usize, out: &mut Items)
+    requires joins { AreJoined J.joins J.pair }
+    requires some { 1 ≤ length windows.now }
+    requires same_type { All (λ w. type_of w ≡ type_of out.old) windows.now }
+    requires same_length { All (λ w. length (numbers_of w) ≡ count) windows.now }
+    requires empty { numbers_of out.old ≡ [] }
+    requires room { count ≤ spare_of out.old }
+    ensures item_type { type_of out.new ≡ type_of out.old }
+    ensures numbers { numbers_of out.new ≡ listed count (λ k. J.joins (type_of out.old) (items_at (map numbers_of windows.now) k)) }
+{
+    let window = &windows[0];
+    window.in_range();
+    out.push_slice(window);
+    for p in 1..windows.len() {
+        join_items_into::<J>(&windows[p], out);
+    }
+}
+
+/// The `work` of a block that joins its inputs.
+pub(crate) fn work_joins<J: Joins>(
+    block: &J,
+    state: u64,
+    first: u64,
+    count: u64,
+    windows: &[Items],
+    held: &[Held],
+    out: &mut [Items],
+) -> u64
+    requires joins { AreJoined J.joins J.pair }
+    requires can { CanWork (joined_of J.joins (J.takes block.now)) first count state windows.now held.now out.old }
+    ensures items { HasWorked (joined_of J.joins (J.takes block.now)) first count state windows.now held.now out.old out.new }
+    ensures word { result ≡ 0 }
+{
+    join_windows::<J>(windows, count as usize, &mut out[0]);
+    0
+}

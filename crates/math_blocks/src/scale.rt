@@ -1,0 +1,117 @@
+//! The block that scales each item.
+ghost use Rattle.std.specs.Prelude.{◌≡◌, ◌<◌, ◌≤◌, ◌↔◌, IsOk, IfOk, IsErrOf};
+ghost use Rattle.stream_model.specs.declared.vocabulary.ItemType.TheVariants as types;
+ghost use Rattle.stream_model.specs.Numbers.{IsItem};
+ghost use Rattle.stream_model.specs.Kinds.Math.{scale};
+
+use crate::stretch::{EachItem, run_items};
+use block_kinds::{Block, Held, ParamFault, Parameter, Setting, Shape, Single, work_single};
+use items::{ItemType, Items};
+use lane_kernels::{SimdLane, scale_sat};
+use numbers::Number;
+use numbers::range::{greatest, is_item, least};
+
+/// A block that multiplies each item by the factor in force at it and divides by two to the power of `shift`, to the
+/// nearest number of the items' type, a half upwards. Its parameter `factor` is in force until a setting replaces it.
+#[derive(Debug, Drop, PartialEq, Eq)]
+pub struct Scale {
+    item: ItemType,
+    factor: i64,
+    shift: u32,
+    ghost in_range: { IsItem types.Short factor },
+    ghost few: { shift ≤ 31 },
+}
+
+impl Scale {
+    ghost use Rattle.math_blocks.specs.Kinds.{scale_of};
+
+    /// The block with these parameters: a factor in the range of shorts, and a shift up to 31.
+    pub fn new(item: ItemType, factor: i64, shift: u32) -> Result<Scale, ParamFault>
+        ensures meaning { IfOk result (λ block. scale_of block ≡ scale item factor shift) }
+        ensures range { IsOk result ↔ (IsItem types.Short factor × (shift ≤ 31)) }
+        ensures bad_factor { IsErrOf result (ParamFault.BadParameter Parameter.Factor) ↔ (¬ IsItem types.Short factor) }
+        ensures bad_shift { IsErrOf result (ParamFault.BadParameter Parameter.Shift) ↔ (IsItem types.Short factor × (31 < shift)) }
+    {
+        if !is_item(ItemType::Short, factor) {
+            return Err(ParamFault::BadParameter(Parameter::Factor));
+        }
+        if 31 < shift {
+            return Err(ParamFault::BadParameter(Parameter::Shift));
+        }
+        Ok(Scale {
+            item,
+            factor,
+            shift,
+        })
+    }
+}
+
+impl EachItem for Scale {
+    ghost use Rattle.stream_model.specs.Kernels.{scaled};
+
+    ghost takes = { λ b. b.item };
+
+    ghost number_type = { λ b. types.Short };
+
+    ghost gives = { λ b factor z. scaled b.item factor b.shift z };
+
+    fn run<T: SimdLane>(&self, number: i64, items: &[T], out: &mut [T]) {
+        scale_sat(items, i16::narrow(number), self.shift, out);
+    }
+}
+
+impl Single for Scale {
+    ghost use Rattle.std.specs.Prelude.{refl};
+    ghost use Rattle.math_blocks.specs.Kinds.{scale_of};
+
+    ghost equation = { scale_of };
+
+    fn fill(
+        &self,
+        _state: u64,
+        first: u64,
+        _count: u64,
+        window: &Items,
+        held: &[Held],
+        out: &mut Items,
+    ) -> u64 {
+        run_items(self, window, held, first, out);
+        0
+    }
+
+    ghost single = { λ b. record { in_least = refl; in_most = refl; out_least = refl; out_most = refl } };
+}
+
+impl Block for Scale {
+    ghost use Rattle.kind_laws.specs.Math.{scale-lawful};
+    ghost use Rattle.math_blocks.specs.Kinds.{scale_of, scale-same};
+
+    ghost meaning = { scale_of };
+
+    fn shape(&self, _input: usize) -> Shape<'_> {
+        Shape {
+            setting: Setting::Number(
+                least(ItemType::Short),
+                greatest(ItemType::Short),
+                self.factor,
+            ),
+            ..Shape::sync(self.item, self.item)
+        }
+    }
+
+    fn work(
+        &self,
+        state: u64,
+        first: u64,
+        count: u64,
+        windows: &[Items],
+        held: &[Held],
+        out: &mut [Items],
+    ) -> u64 {
+        work_single(self, state, first, count, windows, held, out)
+    }
+
+    ghost lawful = { λ b. scale-lawful b.item b.factor b.shift b.in_range };
+
+    ghost same = { scale-same };
+}

@@ -1,0 +1,67 @@
+-- What a plant stores, in plain lists.
+use Rattle.std.specs.Prelude.{ℕ, ℤ, List, [], Option, None, Bool, false, slice_index_or}
+use Rattle.stream_model.specs.declared.vocabulary.ItemType.{ItemType}
+use Rattle.stream_model.specs.declared.vocabulary.ItemType.TheVariants.{Byte}
+use Rattle.stream_model.specs.Tags.{Tag}
+use Rattle.settings.specs.Timelines.{Settings}
+use Rattle.ring_readers.specs.State.{RingState, empty_ring}
+
+-- a source's tape: its items with their type, its tags in order, and whether it is closed
+pub record Tape : Type 0 where
+  pub item : ItemType
+  pub items : List ℤ
+  pub tags : List Tag
+  pub closed : Bool
+
+-- an output's buffer: the type of its items, the ring that has them, with a place for each reader, and its tags in order
+pub record OutputBuffer : Type 0 where
+  pub item : ItemType
+  pub ring : RingState
+  pub tags : List Tag
+
+-- what a sink has collected: items with their type, and their tags in order
+pub record Collected : Type 0 where
+  pub item : ItemType
+  pub items : List ℤ
+  pub tags : List Tag
+
+-- block by block: tapes, which are those of sources, settings where the block has one, state words, a buffer for each used output,
+-- and what the sinks that keep their items have collected
+pub record Stored : Type 0 where
+  pub tapes : List Tape
+  pub timelines : List (Option Settings)
+  pub words : List ℕ
+  pub buffers : List (List OutputBuffer)
+  pub sinks : List Collected
+
+-- what a place where nothing is stored reads as
+abbrev pub no_tape : Tape
+no_tape = record { item = Byte; items = []; tags = []; closed = false }
+
+abbrev pub no_buffer : OutputBuffer
+no_buffer = record { item = Byte; ring = empty_ring 0 0; tags = [] }
+
+abbrev pub nothing_collected : Collected
+nothing_collected = record { item = Byte; items = []; tags = [] }
+
+abbrev pub tape_at : Stored → ℕ → Tape
+tape_at stored b = slice_index_or stored.tapes b no_tape
+
+abbrev pub timeline_at : Stored → ℕ → Option Settings
+timeline_at stored b = slice_index_or stored.timelines b None
+
+abbrev pub word_at : Stored → ℕ → ℕ
+word_at stored b = slice_index_or stored.words b 0
+
+-- the buffers of block b, and the buffer of its output p, among all and in what is stored
+abbrev pub buffers_in : List (List OutputBuffer) → ℕ → List OutputBuffer
+buffers_in buffers b = slice_index_or buffers b []
+
+abbrev pub buffer_in : List (List OutputBuffer) → ℕ → ℕ → OutputBuffer
+buffer_in buffers b p = slice_index_or (buffers_in buffers b) p no_buffer
+
+abbrev pub buffer_at : Stored → ℕ → ℕ → OutputBuffer
+buffer_at stored b p = buffer_in stored.buffers b p
+
+abbrev pub sink_at : Stored → ℕ → Collected
+sink_at stored b = slice_index_or stored.sinks b nothing_collected

@@ -1,0 +1,94 @@
+//! The block that gives an item to each output in turn.
+ghost use Rattle.std.specs.Prelude.{◌≡◌, ◌≤◌, ◌<◌, ◌^◌, ◌↔◌, All, [], length, map, IsOk, IfOk, IfErr};
+ghost use Rattle.stream_model.specs.Kinds.Rates.{deinterleave};
+
+use block_kinds::{Block, Held, ParamFault, Parameter, Shape, ports};
+use items::{ItemType, Items};
+use lane_kernels::SimdLane;
+use lane_work::{LaneWork, make_items};
+
+/// A block that gives an item to each of its outputs in turn.
+#[derive(Debug, Drop, PartialEq, Eq)]
+pub struct Deinterleave {
+    item: ItemType,
+    ports: u64,
+    ghost some: { 1 ≤ ports },
+    ghost few: { ports ≤ 16 },
+}
+
+impl Deinterleave {
+    ghost use Rattle.rate_blocks.specs.Mux.{deinterleave_of};
+
+    /// The block with this number of outputs, 1 to 16.
+    pub fn new(item: ItemType, ports: u64) -> Result<Deinterleave, ParamFault>
+        ensures meaning { IfOk result (λ block. deinterleave_of block ≡ deinterleave item ports) }
+        ensures range { IsOk result ↔ ((1 ≤ ports) × (ports ≤ 16)) }
+        ensures err { IfErr result (λ fault. fault ≡ ParamFault.BadParameter Parameter.Ports) }
+    {
+        if ports < 1 || 16 < ports {
+            return Err(ParamFault::BadParameter(Parameter::Ports));
+        }
+        Ok(Deinterleave { item, ports })
+    }
+}
+
+// One item of each `step`, the one at place `at`.
+#[derive(Drop)]
+struct EachOf {
+    step: usize,
+    at: usize,
+}
+
+impl LaneWork for EachOf {
+    ghost use Rattle.std.specs.Prelude.{◌+◌, ◌*◌, ◌<◌, length};
+    ghost use Rattle.stream_model.specs.Lists.{item};
+    ghost use Rattle.stream_model.specs.Kernels.{listed};
+
+    ghost can_make = { λ b t xs count. (length xs ≡ b.step * count) × (b.at < b.step) };
+
+    ghost makes = { λ b t xs count. listed count (λ k. item xs (k * b.step + b.at)) };
+
+    fn make<T: SimdLane>(&self, items: &[T], out: &mut [T]) {
+        for k in 0..out.len() {
+            out[k] = items[k * self.step + self.at];
+        }
+    }
+}
+
+impl Block for Deinterleave {
+    ghost use Rattle.block_kinds.specs.SameItem.{same_sized};
+    ghost use Rattle.rate_blocks.specs.Mux.{deinterleave_of, deinterleave_of-lawful};
+    ghost use Rattle.stream_model.specs.Kinds.Rates.{deinterleave};
+
+    ghost meaning = { deinterleave_of };
+
+    fn shape(&self, _input: usize) -> Shape<'_> {
+        let outputs = ports(self.ports as u32, self.item);
+        Shape::at_rate(ports(1, self.item), outputs, self.ports, 1)
+    }
+
+    fn work(
+        &self,
+        _state: u64,
+        _first: u64,
+        count: u64,
+        windows: &[Items],
+        _held: &[Held],
+        out: &mut [Items],
+    ) -> u64 {
+        let step = self.ports as usize;
+        for at in 0..out.len() {
+            make_items(
+                &EachOf { step, at },
+                &windows[0],
+                count as usize,
+                &mut out[at],
+            );
+        }
+        0
+    }
+
+    ghost lawful = { deinterleave_of-lawful };
+
+    ghost same = { λ a b. same_sized deinterleave a.item b.item a.ports b.ports };
+}

@@ -1,0 +1,78 @@
+//! The block that gives an item of each input in turn.
+ghost use Rattle.std.specs.Prelude.{◌≡◌, ◌≤◌, ◌^◌, ◌↔◌, IsOk, IfOk, IfErr};
+ghost use Rattle.stream_model.specs.Kinds.Rates.{interleave};
+
+use crate::turns::{TakesTurns, Turn, merge_turns};
+use block_kinds::{Block, Held, ParamFault, Parameter, Shape, ports};
+use items::{ItemType, Items};
+
+/// A block that gives an item of each of its inputs in turn.
+#[derive(Debug, Drop, PartialEq, Eq)]
+pub struct Interleave {
+    item: ItemType,
+    ports: u64,
+    ghost some: { 1 ≤ ports },
+    ghost few: { ports ≤ 16 },
+}
+
+impl Interleave {
+    ghost use Rattle.rate_blocks.specs.Mux.{interleave_of};
+
+    /// The block with this number of inputs, 1 to 16.
+    pub fn new(item: ItemType, ports: u64) -> Result<Interleave, ParamFault>
+        ensures meaning { IfOk result (λ block. interleave_of block ≡ interleave item ports) }
+        ensures range { IsOk result ↔ ((1 ≤ ports) × (ports ≤ 16)) }
+        ensures err { IfErr result (λ fault. fault ≡ ParamFault.BadParameter Parameter.Ports) }
+    {
+        if ports < 1 || 16 < ports {
+            return Err(ParamFault::BadParameter(Parameter::Ports));
+        }
+        Ok(Interleave { item, ports })
+    }
+}
+
+impl TakesTurns for Interleave {
+    ghost use Rattle.rate_blocks.specs.Mux.{ones};
+
+    ghost lengths = { λ b. ones b.ports };
+
+    fn turn(&self, rounds: usize, port: usize) -> Turn {
+        Turn {
+            rounds,
+            length: 1,
+            before: port,
+            all: self.ports as usize,
+        }
+    }
+}
+
+impl Block for Interleave {
+    ghost use Rattle.block_kinds.specs.SameItem.{same_sized};
+    ghost use Rattle.rate_blocks.specs.Mux.{interleave_of, interleave_of-lawful};
+    ghost use Rattle.stream_model.specs.Kinds.Rates.{interleave};
+
+    ghost meaning = { interleave_of };
+
+    fn shape(&self, _input: usize) -> Shape<'_> {
+        let inputs = ports(self.ports as u32, self.item);
+        Shape::at_rate(inputs, ports(1, self.item), 1, self.ports)
+    }
+
+    fn work(
+        &self,
+        _state: u64,
+        _first: u64,
+        count: u64,
+        windows: &[Items],
+        _held: &[Held],
+        out: &mut [Items],
+    ) -> u64 {
+        let total = self.ports * count;
+        merge_turns(self, count as usize, total as usize, windows, &mut out[0]);
+        0
+    }
+
+    ghost lawful = { interleave_of-lawful };
+
+    ghost same = { λ a b. same_sized interleave a.item b.item a.ports b.ports };
+}

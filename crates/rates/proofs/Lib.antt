@@ -1,0 +1,13 @@
+pub mod Euclid
+pub mod Facts
+pub mod Telling
+pub mod Turning
+pub mod Wholes
+pub mod Passing
+pub mod Following
+pub mod Steps
+pub mod Ordering
+pub mod Solving
+pub mod Listed
+pub mod Largest
+pub mod Valid

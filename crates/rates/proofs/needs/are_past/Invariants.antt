@@ -1,0 +1,7 @@
+use Rattle.std.proofs.Common.{◌≡◌, ℕ, ◌<◌, true, get_or}
+use Rattle.stream_model.specs.Network.{node_at}
+use Rattle.graph_model.specs.Rates.{is_past_skip}
+use Rattle.rates.proofs.needs.are_past.Given as goal
+
+abbrev pub invariant-loop-block : goal.invariant-loop-block
+invariant-loop-block g l = (b : ℕ) → b < l.block → is_past_skip (node_at g.net b).meaning.shift (get_or l.counts b 0) ≡ true

@@ -1,0 +1,112 @@
+//! The rates of a graph.
+
+ghost use Rattle.std.specs.Prelude.{◌≡◌, IfOk};
+ghost use Rattle.stream_model.specs.Network.{Network};
+ghost use Rattle.flowgraph.specs.Flowgraph.{net_of};
+ghost use Rattle.rates.specs.Answer.{AreRates, IsNamed, AreTables, HaveSolved, HaveFirings};
+
+use crate::firings::{all_hold, firings};
+use crate::fraction::Fraction;
+use crate::needs::needs;
+use crate::ratios::ratios;
+use crate::tables::{Link, Pace, links, paces};
+use block_kinds::Block;
+use flowgraph::Valid;
+use std::alloc::{AllocError, Global};
+
+/// How often each block of a graph fires in an iteration.
+#[derive(Drop)]
+pub struct Repetitions {
+    // Of each block.
+    pub(crate) firings: Vec<u32>,
+    // The capacity that each connection needs.
+    pub(crate) needed: Vec<u64>,
+}
+
+impl Repetitions {
+    /// The firings of each block in an iteration, in the order of the blocks.
+    pub fn firings(&self) -> &[u32]
+        ensures { result.now ≡ self.now.firings.items }
+    {
+        &self.firings
+    }
+}
+
+/// The rates of a graph.
+#[derive(Drop)]
+pub enum Rates {
+    /// The least firings of each block that leave every connection as it was.
+    Balanced(Repetitions),
+    /// There are none.
+    Uneven,
+    /// A ratio, a count of firings, of items or of iterations, or a capacity needed is above the limit.
+    TooLarge,
+}
+
+/// The answer where each block's firings are known, and few: a balance, if no buffer for it is too large.
+fn sized(
+    alloc: Global,
+    paces: &[Pace],
+    links: &[Link],
+    firings: Vec<u32>,
+) -> Result<Rates, AllocError>
+    ghost net: { Network }
+    requires { HaveFirings net paces.now links.now firings.items }
+    ensures { IfOk result (AreRates net) }
+{
+    match needs(alloc, paces, links, &firings)? {
+        Some(needed) => Ok(Rates::Balanced(Repetitions { firings, needed })),
+        None => Ok(Rates::TooLarge),
+    }
+}
+
+/// The answer where each block has a ratio.
+fn solved(
+    alloc: Global,
+    paces: &[Pace],
+    links: &[Link],
+    ratios: &[Fraction],
+) -> Result<Rates, AllocError>
+    ghost net: { Network }
+    requires { HaveSolved net paces.now links.now ratios.now }
+    ensures { IfOk result (AreRates net) }
+{
+    if !all_hold(links, ratios) {
+        return Ok(Rates::Uneven);
+    }
+    match firings(alloc, paces, ratios)? {
+        Some(firings) => sized(alloc, paces, links, firings),
+        None => Ok(Rates::TooLarge),
+    }
+}
+
+/// The answer on a network, read from its tables.
+fn answer(alloc: Global, paces: &[Pace], links: &[Link]) -> Result<Rates, AllocError>
+    ghost net: { Network }
+    requires { AreTables net paces.now links.now }
+    ensures { IfOk result (AreRates net) }
+{
+    match ratios(alloc, links, paces.len())? {
+        Some(ratios) => solved(alloc, paces, links, &ratios),
+        None => Ok(Rates::TooLarge),
+    }
+}
+
+/// The answer on a graph, from tables that are made of it.
+fn rates_of<B: Block>(alloc: Global, graph: &Valid<B>) -> Result<Rates, AllocError>
+    ghost net: { Network }
+    requires { IsNamed net (net_of B.meaning graph.now) }
+    ensures { IfOk result (AreRates net) }
+{
+    let paces = paces(alloc, graph)?;
+    let links = links(alloc, graph)?;
+    answer(alloc, &paces, &links)
+}
+
+/// The rates of a graph: the least balance, that there is none, or that it would pass the limits. It fails only where the allocator refuses.
+pub fn balance<B: Block>(alloc: Global, graph: &Valid<B>) -> Result<Rates, AllocError>
+    ensures { IfOk result (AreRates (net_of B.meaning graph.now)) }
+{
+    graph.in_order();
+    rates_of(alloc, graph)
+}

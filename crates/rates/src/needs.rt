@@ -1,0 +1,99 @@
+//! The capacities that connections need, found by running the counts of firings until no first item is left out any more.
+
+ghost use Rattle.std.specs.Prelude.{◌≡◌, length, false, slice_index, IfOk, IsTrue};
+ghost use Rattle.std.specs.List.{list_all};
+ghost use Rattle.stream_model.specs.Lists.{below};
+ghost use Rattle.stream_model.specs.Network.{Network, node_at};
+ghost use Rattle.graph_model.specs.Rates.{is_past_skip, past_skips, fits_limit};
+ghost use Rattle.rates.specs.Counts.{AreCounted, CanRun, CanNeed, AreNeeded, AreMet};
+
+use crate::LIMIT;
+use crate::counts::{pass, start};
+use crate::order::order;
+use crate::tables::{Link, Pace};
+use std::alloc::{AllocError, Global};
+use stream_model::Shift;
+
+/// Whether a block that leaves out its first items has left them out.
+fn is_past(shift: Shift, firings: u64) -> bool
+    ensures { result ≡ is_past_skip shift firings }
+{
+    match shift {
+        Shift::No => true,
+        Shift::Skip(count) => count <= firings,
+        Shift::Delay(_) => true,
+    }
+}
+
+/// Whether each such block has.
+fn are_past(paces: &[Pace], counts: &[u64]) -> bool
+    ghost net: { Network }
+    requires { AreCounted net paces.now counts.now }
+    ensures { result ≡ list_all (λ b. is_past_skip (node_at net b).meaning.shift (slice_index counts.now b)) (below (length net.nodes)) }
+{
+    for (block, pace) in paces.iter().enumerate() {
+        if !is_past(pace.shift, counts[block]) {
+            return false;
+        }
+    }
+    true
+}
+
+/// Steps until all first items that are left out are past, and one more. It ends early where a writer is too far ahead of a reader.
+pub fn run(
+    paces: &[Pace],
+    links: &[Link],
+    order: &[usize],
+    firings: &[u32],
+    before: &mut [u64],
+    after: &mut [u64],
+    needed: &mut [u64],
+) -> bool
+    ghost net: { Network }
+    requires { CanRun net paces.now links.now order.now firings.now before.old after.old needed.old }
+    ensures found { IsTrue result → AreNeeded net firings.now needed.new }
+    ensures far { result ≡ false → fits_limit net firings.now (past_skips net firings.now) ≡ false }
+{
+    for step in 0..LIMIT + 2 {
+        let past = step > 0 && are_past(paces, before);
+        start(paces, firings, step, after);
+        if !pass(paces, links, order, firings, step, before, after, needed) {
+            return false;
+        }
+        if past {
+            return true;
+        }
+        before.copy_from_slice(after);
+    }
+    false
+}
+
+/// What each connection needs, or nothing where it or the iterations until the skips are past are too many.
+pub fn needs(
+    alloc: Global,
+    paces: &[Pace],
+    links: &[Link],
+    firings: &[u32],
+) -> Result<Option<Vec<u64>>, AllocError>
+    ghost net: { Network }
+    requires { CanNeed net paces.now links.now firings.now }
+    ensures { IfOk result (AreMet net firings.now) }
+{
+    let order = order(alloc, links, paces.len())?;
+    let mut before: Vec<u64> = vec![in alloc; 0; paces.len()]?;
+    let mut after: Vec<u64> = vec![in alloc; 0; paces.len()]?;
+    let mut needed: Vec<u64> = vec![in alloc; 0; links.len()]?;
+    if run(
+        paces,
+        links,
+        &order,
+        firings,
+        &mut before,
+        &mut after,
+        &mut needed,
+    ) {
+        Ok(Some(needed))
+    } else {
+        Ok(None)
+    }
+}
