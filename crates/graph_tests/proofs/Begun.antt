@@ -1,15 +1,15 @@
 -- A play begins soundly.
-use Rattle.std.proofs.Common.{◌≡◌, ℕ, ◌<◌, ◌≤◌, true, false, List, map, length, replicate, refl, ap, sym, ◌∙◌, subst, zero-le, pos}
+use Rattle.std.proofs.Common.{◌≡◌, ℕ, ◌<◌, ◌≤◌, false, List, map, length, replicate, refl, ap, sym, ◌∙◌, subst, zero-le, pos}
 use Rattle.std.proofs.lemmas.List.{length-map, length-replicate, get_or-map}
 use Rattle.std.proofs.lemmas.List.Elements.{All-nil}
 use Rattle.std.proofs.lemmas.Simd.{splat_is_map}
 use Rattle.stream_model.specs.declared.vocabulary.Role.{Role}
 use Rattle.stream_model.specs.declared.vocabulary.Role.TheVariants.{Source, Work, Keep, Discard}
 use Rattle.stream_model.specs.Tags.{Tag}
-use Rattle.stream_model.specs.Network.{Network, Node, Handed, Progress, node_at, handed_at, no_node, no_progress, nothing_handed, is_source}
+use Rattle.stream_model.specs.Network.{Network, Node, Progress, node_at, handed_at, no_node, no_progress, nothing_handed, is_source}
 use Rattle.stream_model.specs.Machine.{Capacities, longest_tape}
 use Rattle.stream_laws.specs.CanRun.{CanRun}
-use Rattle.machine_laws.specs.Sound.{IsHandedWell, Sound, begun}
+use Rattle.machine_laws.specs.Sound.{IsHandedWell, Sound}
 use Rattle.machine_laws.proofs.Moving.{begun_sound, no_settings}
 use Rattle.firings.specs.declared.progress.Tape.{Tape}
 use Rattle.firings.specs.State.{IsRunning, state_of, zeros}

@@ -285,7 +285,7 @@ fn connections_and_graphs_are_refused(rt: HostRuntime) -> Result<(), Fail> {
 // 256 blocks: a source, 52 that add, and 203 sinks, the first 52 of them behind those.
 fn names_of(number: u32) -> [u8; 3] {
     [
-        b'0' + (number / 100) as u8 % 10,
+        b'0' + (number / 100 % 10) as u8,
         b'0' + (number / 10 % 10) as u8,
         b'0' + (number % 10) as u8,
     ]

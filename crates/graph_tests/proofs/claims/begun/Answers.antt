@@ -1,4 +1,4 @@
-use Rattle.std.proofs.Common.{List, length, map, replicate, ap, sym, ◌∙◌, subst, ℕ}
+use Rattle.std.proofs.Common.{List, map, replicate, ap, sym, ◌∙◌, subst, ℕ}
 use Rattle.stream_model.specs.Network as model
 use Rattle.stream_model.specs.Network.{Node, no_progress}
 use Rattle.flowgraph.specs.Flowgraph.{net_of}

@@ -1,5 +1,4 @@
-use Rattle.std.proofs.Common.{List, sym, subst}
-use Rattle.stream_model.specs.Network as model
+use Rattle.std.proofs.Common.{sym, subst}
 use Rattle.flowgraph.specs.Flowgraph.{net_of}
 use Rattle.firings.specs.State.{rows_of, IsRunning}
 use Rattle.graph_tests.proofs.claims.commit.Goals as goal
