@@ -1,6 +1,6 @@
 //! The blocks with several inputs or outputs, and those that sum.
 use crate::runs::{check, is_bad, number_set, ramp};
-use block_kinds::{Held, ParamFault, Parameter};
+use block_kinds::{ParamFault, Parameter};
 use items::ItemType::{Byte, Int, Short};
 use kinds::Kind;
 use math_blocks::{Add, And, MovingSum, Or, Scale, Xor};
@@ -16,149 +16,182 @@ where
 }
 
 #[test]
-fn ports_and_sums(rt: HostRuntime) -> Result<(), Fail> {
+fn sums(rt: HostRuntime) -> Result<(), Fail> {
     let a = rt.alloc();
     let negative = [number_set(1, -1)];
-    let unset: [Held; 0] = [];
-    let full = [[4_096].as_slice(); 16];
-    for (case, block, inputs, settings, expected) in [
-        (
-            "a scale",
-            any(Scale::new(Short, 3, 1)),
-            [[1, -1, 30_000].as_slice()].as_slice(),
-            unset.as_slice(),
-            [[2, -1, 32_767].as_slice()].as_slice(),
-        ),
-        (
-            "the greatest shift",
-            any(Scale::new(Int, -32_768, 31)),
-            &[&[-2_147_483_648]],
-            &unset,
-            &[&[32_768]],
-        ),
-        (
-            "below the range",
-            any(Scale::new(Int, -32_768, 0)),
-            &[&[2_147_483_647]],
-            &unset,
-            &[&[-2_147_483_648]],
-        ),
-        (
-            "another factor",
-            any(Scale::new(Short, 3, 0)),
-            &[&[5, 5]],
-            &negative,
-            &[&[15, -5]],
-        ),
-        (
-            "the last three",
-            any(MovingSum::new(Byte, 3)),
-            &[&[1, 2, 3, 4, 200, 100]],
-            &unset,
-            &[&[1, 3, 6, 9, 207, 48]],
-        ),
-        (
-            "each two",
-            any(Integrate::new(Byte, 2)),
-            &[&[200, 100, 5, 6, 7]],
-            &unset,
-            &[&[44, 11]],
-        ),
-        (
-            "two inputs",
-            Ok(Kind::Add(Add::new(Byte))),
-            &[&[1, 2, 250, 4], &[10, 20, 10, 40]],
-            &unset,
-            &[&[11, 22, 4, 44]],
-        ),
-        (
-            "one input",
-            Ok(Kind::Add(Add::new(Short))),
-            &[&[-7]],
-            &unset,
-            &[&[-7]],
-        ),
-        (
-            "16 inputs",
-            Ok(Kind::Add(Add::new(Short))),
-            &full,
-            &unset,
-            &[&[0]],
-        ),
-        (
-            "bits of both",
-            Ok(Kind::And(And::new(Byte))),
-            &[&[12], &[10]],
-            &unset,
-            &[&[8]],
-        ),
-        (
-            "bits of either",
-            Ok(Kind::Or(Or::new(Byte))),
-            &[&[12], &[10]],
-            &unset,
-            &[&[14]],
-        ),
-        (
-            "bits of one",
-            Ok(Kind::Xor(Xor::new(Byte))),
-            &[&[12], &[10]],
-            &unset,
-            &[&[6]],
-        ),
-        (
-            "in turn",
-            any(Interleave::new(Byte, 2)),
-            &[&[1, 2, 3], &[10, 20]],
-            &unset,
-            &[&[1, 10, 2, 20]],
-        ),
-        (
-            "to three in turn",
-            any(Deinterleave::new(Byte, 3)),
-            &[&[1, 2, 3, 4, 5, 6, 7]],
-            &unset,
-            &[&[1, 4], &[2, 5], &[3, 6]],
-        ),
-        (
-            "two and one",
-            any(StreamMux::new(Byte, &[2, 1])),
-            &[&[1, 2, 3, 4, 5], &[10, 20, 30]],
-            &unset,
-            &[&[1, 2, 10, 3, 4, 20]],
-        ),
-    ] {
-        check(&rt, case, block, inputs, settings, expected, a)?;
-    }
+    check(
+        &rt,
+        "a scale",
+        Scale::new(Short, 3, 1),
+        &[&[1, -1, 30_000]],
+        &[],
+        &[&[2, -1, 32_767]],
+        a,
+    )?;
+    check(
+        &rt,
+        "the greatest shift",
+        Scale::new(Int, -32_768, 31),
+        &[&[-2_147_483_648]],
+        &[],
+        &[&[32_768]],
+        a,
+    )?;
+    check(
+        &rt,
+        "below the range",
+        Scale::new(Int, -32_768, 0),
+        &[&[2_147_483_647]],
+        &[],
+        &[&[-2_147_483_648]],
+        a,
+    )?;
+    check(
+        &rt,
+        "another factor",
+        Scale::new(Short, 3, 0),
+        &[&[5, 5]],
+        &negative,
+        &[&[15, -5]],
+        a,
+    )?;
+    check(
+        &rt,
+        "the last three",
+        MovingSum::new(Byte, 3),
+        &[&[1, 2, 3, 4, 200, 100]],
+        &[],
+        &[&[1, 3, 6, 9, 207, 48]],
+        a,
+    )?;
+    check(
+        &rt,
+        "each two",
+        Integrate::new(Byte, 2),
+        &[&[200, 100, 5, 6, 7]],
+        &[],
+        &[&[44, 11]],
+        a,
+    )?;
     for count in [15, 16, 17, 33, 64, 65] {
-        let (ones, up, high, twice) = (
+        let (ones, counted, twice, pairs) = (
             ramp(a, count, 1, 0)?,
-            ramp(a, count, 0, 1)?,
-            ramp(a, count, 10, 1)?,
-            ramp(a, 2 * count, 1, 0)?,
-        );
-        let (tens, counted, pairs) = (
-            ramp(a, count, 10, 0)?,
             ramp(a, count, 1, 1)?,
+            ramp(a, 2 * count, 1, 0)?,
             ramp(a, count, 2, 0)?,
         );
-        for (case, block, inputs, expected) in [
-            (
-                "many sums",
-                Ok(Kind::Add(Add::new(Int))),
-                [up.as_slice(), tens.as_slice()].as_slice(),
-                high.as_slice(),
-            ),
-            (
-                "all so far",
-                any(MovingSum::new(Int, 1_024)),
-                &[&ones],
-                &counted,
-            ),
-            ("many pairs", any(Integrate::new(Int, 2)), &[&twice], &pairs),
-        ] {
-            check(&rt, case, block, inputs, &[], &[expected], a)?;
-        }
+        check(
+            &rt,
+            "all so far",
+            MovingSum::new(Int, 1_024),
+            &[&ones],
+            &[],
+            &[&counted],
+            a,
+        )?;
+        check(
+            &rt,
+            "many pairs",
+            Integrate::new(Int, 2),
+            &[&twice],
+            &[],
+            &[&pairs],
+            a,
+        )?;
+    }
+    Ok(())
+}
+
+#[test]
+fn several_ports(rt: HostRuntime) -> Result<(), Fail> {
+    let a = rt.alloc();
+    check(
+        &rt,
+        "two inputs",
+        Ok(Add::new(Byte)),
+        &[&[1, 2, 250, 4], &[10, 20, 10, 40]],
+        &[],
+        &[&[11, 22, 4, 44]],
+        a,
+    )?;
+    check(
+        &rt,
+        "one input",
+        Ok(Add::new(Short)),
+        &[&[-7]],
+        &[],
+        &[&[-7]],
+        a,
+    )?;
+    check(
+        &rt,
+        "bits of both",
+        Ok(And::new(Byte)),
+        &[&[12], &[10]],
+        &[],
+        &[&[8]],
+        a,
+    )?;
+    check(
+        &rt,
+        "bits of either",
+        Ok(Or::new(Byte)),
+        &[&[12], &[10]],
+        &[],
+        &[&[14]],
+        a,
+    )?;
+    check(
+        &rt,
+        "bits of one",
+        Ok(Xor::new(Byte)),
+        &[&[12], &[10]],
+        &[],
+        &[&[6]],
+        a,
+    )?;
+    check(
+        &rt,
+        "in turn",
+        Interleave::new(Byte, 2),
+        &[&[1, 2, 3], &[10, 20]],
+        &[],
+        &[&[1, 10, 2, 20]],
+        a,
+    )?;
+    check(
+        &rt,
+        "to three in turn",
+        Deinterleave::new(Byte, 3),
+        &[&[1, 2, 3, 4, 5, 6, 7]],
+        &[],
+        &[&[1, 4], &[2, 5], &[3, 6]],
+        a,
+    )?;
+    check(
+        &rt,
+        "two and one",
+        StreamMux::new(Byte, &[2, 1]),
+        &[&[1, 2, 3, 4, 5], &[10, 20, 30]],
+        &[],
+        &[&[1, 2, 10, 3, 4, 20]],
+        a,
+    )?;
+    for count in [15, 16, 17, 33, 64, 65] {
+        let (up, tens, high) = (
+            ramp(a, count, 0, 1)?,
+            ramp(a, count, 10, 0)?,
+            ramp(a, count, 10, 1)?,
+        );
+        check(
+            &rt,
+            "many sums",
+            Ok(Add::new(Int)),
+            &[&up, &tens],
+            &[],
+            &[&high],
+            a,
+        )?;
     }
     Ok(())
 }
