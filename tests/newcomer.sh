@@ -251,7 +251,7 @@ interrupted_build_leaves_no_room() {
     wait "$stopped" || status=$?
     ((SECONDS - began < 30)) || wrong "a ./build that was stopped waits for rt"
     [[ $status == 143 ]] || wrong "a ./build that was stopped ends in $status"
-    [[ -z $(find "$tree" -name room) ]] || wrong "a ./build that was stopped leaves a room"
+    [[ -z $(find "$tree" -path "*/out/room") ]] || wrong "a ./build that was stopped leaves a room"
     ! kill -0 "$(cat "$room/bin/hanging")" 2>/dev/null || wrong "a ./build that was stopped leaves rt running"
     rm "$room/bin/hangs"
     calls 0 ./build_by_link

@@ -28,7 +28,7 @@ pub record CanFill (m : Meaning) (first n state : ℕ) (window : Items) (held : 
   pub item : type_of window ≡ m.inputs.item
   pub ready : IsReady m first n out
   pub firings : first + n < 2 ^ 63
-  pub takes : (p : ℕ) → m.taken p (first + n) < 2 ^ 63
+  pub takes : m.taken 0 (first + n) < 2 ^ 63
   pub gives : m.given (first + n) < 2 ^ 63
 
 -- exactly what the firings give

@@ -47,7 +47,7 @@ pub record CanWork (m : Meaning) (first n state : ℕ) (windows : List Items) (h
   pub outputs_most : length out ≤ m.outputs.most
   pub ready : All (IsReady m first n) out
   pub firings : first + n < 2 ^ 63
-  pub takes : (p : ℕ) → m.taken p (first + n) < 2 ^ 63
+  pub takes : (p : ℕ) → p < length windows → m.taken p (first + n) < 2 ^ 63
   pub gives : m.given (first + n) < 2 ^ 63
 
 -- what `work` has written: on each output exactly what the firings give

@@ -1,5 +1,5 @@
 //! One output's items and tags.
-ghost use Rattle.std.specs.Prelude.{◌≡◌, ◌≢◌, ℕ, ◌+◌, ◌^◌, ◌<◌, ◌≤◌, ℤ, List, [], ◌++◌, length, map, All, ◌↔◌, IsTrue, IfOk, IsOk, OnOk, OnErr};
+ghost use Rattle.std.specs.Prelude.{◌≡◌, ◌≢◌, ℕ, ◌+◌, ◌^◌, ◌<◌, ◌≤◌, ℤ, List, [], ◌++◌, length, map, All, ◌↔◌, IsTrue, IfOk, IsOk, OnOk, OnErr, is_some, None, IfSome, min};
 ghost use Rattle.stream_model.specs.Lists.{window};
 ghost use Rattle.stream_model.specs.Tags as model;
 ghost use Rattle.stream_model.specs.Tags.{tags_within};
@@ -8,7 +8,7 @@ ghost use Rattle.items.specs.Items.{numbers_of, spare_of};
 ghost use Rattle.std.specs.Option.{option_map_or};
 ghost use Rattle.items.specs.Tags.{tag_of};
 ghost use Rattle.tags.specs.TagList.{tags_from, insert_tags};
-ghost use Rattle.ring_readers.specs.State.{IsLive, IsEndOf, reader_at, unread_of, past_of, room_of, empty_ring, with_reader, with_items, with_taken, without_reader};
+ghost use Rattle.ring_readers.specs.State.{IsLive, IsEndOf, reader_at, unread_of, past_of, room_of, slowest_of, most_kept, empty_ring, with_reader, with_items, with_taken, without_reader};
 ghost use Rattle.buffers.specs.Buffer.{KeepsTagsOf, wanted_tags};
 
 use crate::rings::Rings;
@@ -127,10 +127,21 @@ impl Buffer {
         self.rings.room()
     }
 
+    /// Whether a reader is left.
+    pub fn is_read(&self) -> bool
+        ensures { result ≡ is_some (slowest_of self.now.ring.readers) }
+    {
+        self.rings.slowest().is_some()
+    }
+
     /// How many items are kept.
     pub fn items(&self) -> usize
-        ensures { result ≡ length self.now.ring.kept }
+        ensures value { result ≡ length self.now.ring.kept }
+        ensures all { result ≡ min self.now.ring.written (most_kept self.now.ring.capacity self.now.ring.greatest) }
+        ensures near { IfSome (slowest_of self.now.ring.readers) (λ place. self.now.ring.written ≤ place + self.now.ring.capacity) }
     {
+        let _ = self.rings.written();
+        let _ = self.rings.slowest();
         self.rings.kept()
     }
 
@@ -190,6 +201,14 @@ impl Buffer {
     {
         let place = self.rings.place(reader);
         self.tags.range(place, place + count as u64)
+    }
+
+    /// How many tags lie on items that were written, from the slowest live reader's place on; none where no reader is left.
+    pub fn tags_kept(&self) -> usize
+        ensures value { result ≡ length (tags_within 0 self.now.ring.written self.now.tags) }
+        ensures none { slowest_of self.now.ring.readers ≡ None → result ≡ 0 }
+    {
+        self.tags.range(0, self.rings.written()).len()
     }
 
     /// The reader takes its next `count` items. Tags before the slowest live reader are forgotten.

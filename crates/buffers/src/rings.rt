@@ -3,7 +3,7 @@ ghost use Rattle.std.specs.Prelude.{◌≡◌, ◌≢◌, ℕ, ◌+◌, ◌^◌,
 ghost use Rattle.stream_model.specs.Lists.{window};
 ghost use Rattle.items.specs.Items as typed;
 ghost use Rattle.items.specs.Items.{numbers_of, spare_of};
-ghost use Rattle.ring_readers.specs.State.{IsLive, IsEndOf, reader_at, unread_of, past_of, slowest_of, room_of, empty_ring, with_reader, with_items, with_taken, without_reader};
+ghost use Rattle.ring_readers.specs.State.{IsRing, IsLive, IsEndOf, reader_at, unread_of, past_of, slowest_of, room_of, empty_ring, with_reader, with_items, with_taken, without_reader};
 ghost use Rattle.buffers.specs.Buffer.{type_of, ring_of};
 
 use items::{ItemType, Items};
@@ -89,6 +89,7 @@ impl Rings {
 
     pub fn written(&self) -> u64
         ensures value { result ≡ (ring_of self.now).written }
+        ensures ring { IsRing (ring_of self.now) }
     {
         on_ring!(self, ring => ring.written())
     }
@@ -129,6 +130,7 @@ impl Rings {
         ensures value { result ≡ slowest_of (ring_of self.now).readers }
         ensures least { IfSome result (λ place. All (λ p. IsTrue p.live → place ≤ p.place) (ring_of self.now).readers) }
         ensures reached { IfSome result (λ place. place ≤ (ring_of self.now).written) }
+        ensures near { IfSome result (λ place. (ring_of self.now).written ≤ place + (ring_of self.now).capacity) }
     {
         on_ring!(self, ring => ring.slowest())
     }

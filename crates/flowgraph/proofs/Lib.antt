@@ -1,4 +1,6 @@
 pub mod RowLemmas
+pub mod CountLemmas
+pub mod InputRows
 pub mod RowsByPort
 pub mod Wires
 pub mod Places

@@ -2,8 +2,7 @@
 use Rattle.std.proofs.Common.{◌≡◌, ℕ, zero, suc, ◌+◌, ◌<◌, max, Bool, true, false, List, [], ◌∷◌, ◌++◌, map, take, length, get_or, refl, arith, ap, sym, ◌∙◌, add-one, append_assoc, append-nil, zero-add}
 use Rattle.std.specs.Prelude.{◌==◌, ◌&&◌, cond, if◌then◌else◌, Some, slice_get, option_map}
 use Rattle.std.specs.List.{filter, flat_map}
-use Rattle.std.proofs.lemmas.List.{take_more, take_all, map-append, length-map}
-use Rattle.std.proofs.lemmas.List.Elements.{filter_more}
+use Rattle.std.proofs.lemmas.List.{take_more, map-append, length-map}
 use Rattle.std.proofs.lemmas.List.FromFn.{map-range_with_len_more}
 use Rattle.std.proofs.lemmas.List.Concat.{flat_map-cons}
 use Rattle.std.proofs.lemmas.Grind.{flat_map-append}
@@ -15,9 +14,8 @@ use Rattle.stream_model.specs.Network.{greatest_port, readers_of, writers_of, us
 use Rattle.flowgraph.specs.declared.parts.Connection.{Connection}
 use Rattle.flowgraph.specs.Flowgraph.{connection_of}
 use Rattle.flowgraph.specs.Ports.{net_from}
-use Rattle.flowgraph.specs.declared.parts.Input.{Input}
 use Rattle.flowgraph.specs.Tables.{readers_to}
-use Rattle.flowgraph.specs.Wiring.{writers_in, IsItsReader}
+use Rattle.flowgraph.specs.Wiring.{IsItsReader}
 
 -- a filter of what a function gives
 pub filter-map : {A B : Type 0} (f : A → B) (test : B → Bool) (xs : List A) → filter test (map f xs) ≡ map f (filter (λ x. test (f x)) xs)
@@ -84,40 +82,9 @@ module _ (b : ℕ) (cs : List Connection) where
   abbrev pub writers_below : ℕ → List model.Connection
   writers_below n = flat_map (λ p. filter (enters b p) (map connection_of cs)) (below n)
 
-  abbrev pub entering_to : ℕ → ℕ → List model.Connection
-  entering_to p i = map connection_of (filter (λ (c : Connection). c.to.0 == b && c.in_port == p) (take i cs))
-
-  -- all of one port more
-  pub writers_more : (p : ℕ) → writers_below p ++ entering_to p (length cs) ≡ writers_below (p + 1)
-  writers_more p =
-      ap (λ l. writers_below p ++ l) (ap (λ ds. map connection_of (filter (λ (c : Connection). c.to.0 == b && c.in_port == p) ds)) (take_all (length cs) cs (omega arith))
-      ∙ sym (filter-map connection_of (enters b p) cs))
-      ∙ sym (flat_map-below (λ p. filter (enters b p) (map connection_of cs)) p)
-
   pub writers_whole : writers_below (length (filter (λ (c : Connection). c.to.0 == b) cs)) ≡ writers_of (net_from cs) b
   writers_whole =
       ap writers_below (sym (length-map (filter (λ (c : Connection). c.to.0 == b) cs) connection_of) ∙ ap length (sym (filter-map connection_of (λ c. c.to == b) cs)))
-
-  pub entering_more : (p i : ℕ) (d : Connection) → i < length cs → (t : Bool) → ((get_or cs i d).to.0 == b && (get_or cs i d).in_port == p) ≡ t → entering_to p (i + 1) ≡ entering_to p i ++ cond t (connection_of (get_or cs i d) ∷ []) []
-  entering_more p i d low t e =
-      ap (map connection_of) (filter_more (λ (c : Connection). c.to.0 == b && c.in_port == p) cs i d low)
-      ∙ map-append connection_of (filter (λ (c : Connection). c.to.0 == b && c.in_port == p) (take i cs)) _
-      ∙ ap (λ l. entering_to p i ++ l) (ap (λ u. map connection_of (cond u (get_or cs i d ∷ []) [])) e ∙ last t)
-    where
-      last : (t : Bool) → map connection_of (cond t (get_or cs i d ∷ []) []) ≡ cond t (connection_of (get_or cs i d) ∷ []) []
-      last true = refl
-      last false = refl
-
-  -- a row with one input more, and with none
-  pub row_more : (p i : ℕ) (d : Connection) → i < length cs → ((get_or cs i d).to.0 == b && (get_or cs i d).in_port == p) ≡ true → (is : List Input) (reader : ℕ) → writers_in is ≡ writers_below p ++ entering_to p i →
-      writers_in (is ++ record { connection = get_or cs i d; reader = reader } ∷ []) ≡ writers_below p ++ entering_to p (i + 1)
-  row_more p i d low e is reader so_far =
-      map-append (λ (x : Input). connection_of x.connection) is _ ∙ ap (λ l. l ++ connection_of (get_or cs i d) ∷ []) so_far
-      ∙ append_assoc (writers_below p) (entering_to p i) (connection_of (get_or cs i d) ∷ []) ∙ ap (λ l. writers_below p ++ l) (sym (entering_more p i d low true e))
-
-  pub row_same : (p i : ℕ) (d : Connection) → i < length cs → ((get_or cs i d).to.0 == b && (get_or cs i d).in_port == p) ≡ false → (is : List Input) → writers_in is ≡ writers_below p ++ entering_to p i →
-      writers_in is ≡ writers_below p ++ entering_to p (i + 1)
-  row_same p i d low e is so_far = so_far ∙ ap (λ l. writers_below p ++ l) (sym (entering_more p i d low false e ∙ append-nil (entering_to p i)))
 
 -- an input's number among its readers
 pub its_reader : (cs : List Connection) (i : ℕ) (d : Connection) → i < length cs → (reader : ℕ) →

@@ -1,5 +1,5 @@
 //! Building a graph.
-ghost use Rattle.std.specs.Prelude.{◌≡◌, ◌≢◌, ◌<◌, ◌≤◌, false, [], ◌∷◌, ◌++◌, length, map, min, nat_lt, bytes_eq, None, Some, IfOk, IfErr, OnOk, OnErr};
+ghost use Rattle.std.specs.Prelude.{◌≡◌, ◌≢◌, ◌<◌, ◌≤◌, false, [], ◌∷◌, ◌++◌, length, map, min, nat_lt, bytes_eq, slice_get, None, Some, IfOk, IfErr, OnOk, OnErr};
 ghost use Rattle.std.specs.Option.{option_map};
 ghost use Rattle.std.specs.List.{list_any};
 ghost use Rattle.stream_model.specs.Network.{enters};
@@ -16,6 +16,7 @@ use crate::gains::gain_fault;
 use crate::loops::loop_fault;
 use crate::parts::{BlockId, Connection, Entry, Options};
 use crate::port_tests::port_fault;
+use crate::ports::MOST_PORTS;
 use crate::valid::Valid;
 use crate::wiring::{Wiring, tables};
 use block_kinds::Block;
@@ -25,12 +26,10 @@ use std::alloc::Global;
 use std::marker::Model;
 use stream_model::{Role, Signature};
 
-/// How many blocks a graph may have, connections, ports on a side of a block, bytes of a name, base firings in one, items of a capacity.
+/// How many blocks a graph may have, connections, bytes of a name, base firings in one, items of a capacity.
 const MOST_BLOCKS: usize = 256;
 
 const MOST_CONNECTIONS: usize = 1024;
-
-const MOST_PORTS: usize = 16;
 
 const MOST_NAME: usize = 32;
 
@@ -71,6 +70,14 @@ impl<B: Block> Graph<B> {
             blocks: Vec::new(alloc),
             connections: Vec::new(alloc),
         }
+    }
+
+    /// The name of a block.
+    pub fn name(&self, block: BlockId) -> &[u8]
+        requires { block.0 < length self.now.blocks }
+        ensures { slice_get self.now.names block.0 ≡ Some result.now }
+    {
+        &self.names[block.0 as usize]
     }
 
     /// Adds a block, and answers its number. Refused are, in this order, a name that is none, a multiple and a capacity out of range, a name

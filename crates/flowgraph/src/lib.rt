@@ -2,6 +2,7 @@
 #![tactic(auto)]
 
 mod by_port;
+mod counts;
 pub mod fault;
 mod gains;
 pub mod graph;
@@ -17,5 +18,6 @@ pub use block_kinds::Block;
 pub use fault::{BlockOption, GraphFault, Limit, Side};
 pub use graph::Graph;
 pub use parts::{BlockId, Connection, Input, Options};
+pub use ports::MOST_PORTS;
 pub use stream_model::Policy;
 pub use valid::Valid;

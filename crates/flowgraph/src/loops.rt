@@ -1,5 +1,5 @@
 //! The test for loops.
-ghost use Rattle.std.specs.Prelude.{◌≡◌, ◌<◌, ◌≤◌, ◌||◌, ◌&&◌, ◌==◌, ℕ, true, false, length, replicate, slice_index, slice_index_or, All, IfOk};
+ghost use Rattle.std.specs.Prelude.{◌≡◌, ◌<◌, ◌≤◌, ◌||◌, ◌&&◌, ◌==◌, ℕ, true, false, length, map, slice_index, slice_index_or, All, IfOk, OnOk};
 ghost use Rattle.std.specs.List.{find, list_any};
 ghost use Rattle.std.specs.Option.{option_map};
 ghost use Rattle.stream_model.specs.Lists.{below};
@@ -9,8 +9,11 @@ ghost use Rattle.flowgraph.specs.Fault.{told};
 ghost use Rattle.flowgraph.specs.Ports.{AreWithin, net_from};
 ghost use Rattle.flowgraph.specs.Turns.{leads};
 
+use crate::by_port::{empty_rows, push_at};
+use crate::counts::entering;
 use crate::fault::{GraphFault, Limit};
 use crate::parts::{BlockId, Connection};
+use crate::ports::cleared;
 use std::alloc::{AllocError, Global};
 use std::mem::swap;
 
@@ -40,34 +43,78 @@ pub fn loop_fault(
     Ok(None)
 }
 
-// Ranks of the blocks. They rise along each connection, unless connections form a loop: each pass raises the blocks behind others.
+// Ranks of the blocks: each block's place in an order in which it comes behind all that lead to it. Blocks of a loop, and those behind
+// them, come into no such order and have rank 0.
 fn ranks(alloc: Global, blocks: usize, connections: &[Connection]) -> Result<Vec<usize>, AllocError>
     requires { AreWithin blocks connections.now }
     ensures { IfOk result (λ ranks. length ranks.items ≡ blocks) }
 {
-    let mut ranks = vec![in alloc; 0; blocks]?;
-    for _ in 0..blocks {
-        if !raise(&mut ranks, connections) {
+    let behind = behind(alloc, blocks, connections)?;
+    let mut waiting = entering(alloc, blocks, connections)?;
+    let mut ranks: Vec<usize> = vec![in alloc; 0; blocks]?;
+    let mut queue = free(alloc, &waiting)?;
+    for rank in 0..blocks {
+        if queue.len() <= rank {
             break;
         }
+        let block = queue[rank];
+        ranks[block] = rank;
+        release(&behind[block], &mut waiting, &mut queue)?;
     }
     Ok(ranks)
 }
 
-// Raises each block above those that lead to it. Answers whether one was raised.
-fn raise(ranks: &mut [usize], connections: &[Connection]) -> bool
-    requires { AreWithin (length ranks.old) connections.now }
+// For each block those to which its connections lead.
+fn behind(
+    alloc: Global,
+    blocks: usize,
+    connections: &[Connection],
+) -> Result<Vec<Vec<usize>>, AllocError>
+    requires { AreWithin blocks connections.now }
+    ensures len { IfOk result (λ rows. length rows.items ≡ blocks) }
+    ensures within { IfOk result (λ rows. All (All (λ b. b < blocks)) (map (λ row. row.items) rows.items)) }
 {
-    let mut raised = false;
+    let mut rows: Vec<Vec<usize>> = empty_rows(alloc, blocks)?;
     for connection in connections {
-        let least = ranks[connection.from.0 as usize].saturating_add(1);
-        let to = connection.to.0 as usize;
-        if ranks[to] < least {
-            ranks[to] = least;
-            raised = true;
+        push_at(
+            &mut rows,
+            connection.from.0 as usize,
+            connection.to.0 as usize,
+        )?;
+    }
+    Ok(rows)
+}
+
+// The blocks that wait for none.
+fn free(alloc: Global, waiting: &[usize]) -> Result<Vec<usize>, AllocError>
+    ensures { IfOk result (λ queue. All (λ b. b < length waiting.now) queue.items) }
+{
+    let mut queue = Vec::with_capacity(alloc, waiting.len())?;
+    for (block, count) in waiting.iter().enumerate() {
+        if *count == 0 {
+            queue.push(block)?;
         }
     }
-    raised
+    Ok(queue)
+}
+
+// Each of these blocks waits for one connection fewer. Those that wait for none any more join the queue.
+fn release(
+    behind: &[usize],
+    waiting: &mut [usize],
+    queue: &mut Vec<usize>,
+) -> Result<(), AllocError>
+    requires behind { All (λ b. b < length waiting.old) behind.now }
+    requires queue { All (λ b. b < length waiting.old) queue.old.items }
+    ensures { OnOk result (All (λ b. b < length waiting.old) queue.new.items) }
+{
+    for block in behind {
+        waiting[*block] = waiting[*block].saturating_sub(1);
+        if waiting[*block] == 0 {
+            queue.push(*block)?;
+        }
+    }
+    Ok(())
 }
 
 // Whether ranks rise along each connection.
@@ -101,12 +148,6 @@ fn reaches_itself(
         swap(&mut reaching, &mut next);
     }
     Ok(reaching[target])
-}
-
-fn cleared(alloc: Global, count: usize) -> Result<Vec<bool>, AllocError>
-    ensures { IfOk result (λ marks. marks.items ≡ replicate count false) }
-{
-    vec![in alloc; false; count]
 }
 
 // Marks the blocks with a connection to the target or to a block that reaches it.

@@ -10,7 +10,7 @@ use crate::parts::Connection;
 use std::alloc::{AllocError, Global};
 
 /// The ports that a side of a block may have.
-pub(crate) const MOST_PORTS: usize = 16;
+pub const MOST_PORTS: usize = 16;
 
 /// The ports of a side of a block.
 #[derive(Clone, Copy, Debug, PartialEq, Eq)]
@@ -63,8 +63,8 @@ fn marked(
     Ok(marks)
 }
 
-// So many marks that are not set.
-fn cleared(alloc: Global, count: usize) -> Result<Vec<bool>, AllocError>
+/// So many marks that are not set.
+pub(crate) fn cleared(alloc: Global, count: usize) -> Result<Vec<bool>, AllocError>
     ensures { IfOk result (λ marks. marks.items ≡ replicate count false) }
 {
     vec![in alloc; false; count]

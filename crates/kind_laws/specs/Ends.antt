@@ -9,7 +9,7 @@ use Rattle.kind_laws.specs.Shared.{IsItem-zero, IsItem-item, AreItems-input, ite
 pub vector_source-lawful : (t : ItemType) → IsLawful (vector_source t)
 vector_source-lawful t =
     record {
-      role = record { ports = (refl, refl, refl); rate = refl; plain = (refl, refl, refl); same = λ ts x n. refl };
+      role = record { ports = (refl, refl, refl); type = refl; rate = refl; plain = (refl, refl, refl); same = λ ts x n. refl };
       counts = λ p. (refl, IsAtRate-at_rate (vector_source t) p 1 1 (omega arith) (omega arith) (omega arith) (omega arith) (λ k. refl) (λ k. refl) (λ s. refl));
       reads_now = omega arith;
       own = refl;

@@ -106,7 +106,7 @@ module _ (net : Network) (can : CanRun net) (caps : Capacities) (st after : Stat
       let none = taken_by-zero n (can.sound b) q in
       rw (port, none, at st.handed q used, at after.handed q used) (input_tags-stay b q k in' used le)))
 
-  source_tags : (b p k : ℕ) → b < length net.nodes → is_source (role_at net b) ≡ true → p < (node_at net b).meaning.outputs.most → k ≤ reached st b →
+  pub source_tags : (b p k : ℕ) → b < length net.nodes → is_source (role_at net b) ≡ true → p < (node_at net b).meaning.outputs.most → k ≤ reached st b →
       tags_within 0 k (sorted_tags (handed_at st.handed b).tags) ≡ tags_within 0 k (sorted_tags (handed_at after.handed b).tags)
   source_tags b p k in' e port le =
       let past = (stays b in').past.outputs p port in

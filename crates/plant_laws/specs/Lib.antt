@@ -6,3 +6,4 @@ pub mod Claims
 pub mod Calls
 pub mod Buffers
 pub mod Turns
+pub mod Flights

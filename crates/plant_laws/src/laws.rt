@@ -3,6 +3,7 @@
 ghost use Rattle.plant_laws.specs.Buffers.{BuffersKeepNoMore, ReadersFindTheirItems};
 ghost use Rattle.plant_laws.specs.Calls.{AbandoningHolds, ClaimingHolds, ClosingHolds, CommittingHolds, DoneBlocksStayDone, EndingHolds, FeedingHolds, OthersStay, OtherwiseNothingChanges, ReadsAreCutOut, SettingHolds};
 ghost use Rattle.plant_laws.specs.Claims.{ClaimsMayFire, FiringsAreServed, FlightsMayFire};
+ghost use Rattle.plant_laws.specs.Flights.{FlightsKeepTags};
 ghost use Rattle.plant_laws.specs.Opening.{OpeningHolds};
 ghost use Rattle.plant_laws.specs.Turns.{ReadersLeaveInTurn, ReadersTakeInTurn};
 
@@ -59,6 +60,11 @@ pub fn claims_may_fire()
 /// Those of a claim in flight fit until it is given back.
 pub fn flights_may_fire()
     ensures { FlightsMayFire }
+{}
+
+/// The tags that a claim in flight takes and brings are the same after a call that leaves it in flight.
+pub fn flights_keep_tags()
+    ensures { FlightsKeepTags }
 {}
 
 /// Where a claim ends a block, the buffers at its inputs no longer wait for it, and nothing else changes.

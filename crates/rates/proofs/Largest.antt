@@ -68,34 +68,31 @@ module _ (net : Network) (bal : Balance) (b p : ℕ) where
     pub configured : (node_at net b).capacity ≤ most
     pub given : gives (node_at net b) ≤ most
     pub within : most ≤ whole
-    pub small : most < 4294967296
     pub each : (k : ℕ) → k < count → (connection_at net k).from ≡ b → (connection_at net k).out_port ≡ p → (takes_on net (connection_at net k) ≤ most) × (needed_of net bal (connection_at net k) ≤ most)
 
-  pub most_start : (most : ℕ) → most ≡ max (node_at net b).capacity (gives (node_at net b)) → most < 4294967296 → IsMost 0 most
-  most_start most e small =
+  pub most_start : (most : ℕ) → most ≡ max (node_at net b).capacity (gives (node_at net b)) → IsMost 0 most
+  most_start most e =
       let first : (node_at net b).capacity ≤ whole = all 0 0 (omega arith) in
       let second : gives (node_at net b) ≤ whole = all 1 0 (omega arith) in
-      record { configured = omega arith; given = omega arith; within = omega arith; small = small; each = λ k h. absurd (omega arith) }
+      record { configured = omega arith; given = omega arith; within = omega arith; each = λ k h. absurd (omega arith) }
 
   pub most_skip : (k most : ℕ) → ((connection_at net k).from ≡ b → (connection_at net k).out_port ≡ p → ⊥) → IsMost k most → IsMost (k + 1) most
   most_skip k most not_here before =
-      record { configured = before.configured; given = before.given; within = before.within; small = before.small; each = below_more _ _ before.each (λ from port. absurd (not_here from port)) }
+      record { configured = before.configured; given = before.given; within = before.within; each = below_more _ _ before.each (λ from port. absurd (not_here from port)) }
 
   pub most_next : (k most x y next : ℕ) → k < length net.connections → (connection_at net k).from ≡ b → (connection_at net k).out_port ≡ p → x ≡ takes_on net (connection_at net k) → y ≡ needed_of net bal (connection_at net k) →
-      x < 4294967296 → y < 4294967296 → next ≡ max (max most x) y → IsMost k most → IsMost (k + 1) next
-  most_next k most x y next lt from port ex ey few_x few_y e before =
+      next ≡ max (max most x) y → IsMost k most → IsMost (k + 1) next
+  most_next k most x y next lt from port ex ey e before =
       let test = and_from ((connection_at net k).from == b) ((connection_at net k).out_port == p) (eq-eqb (connection_at net k).from b from) (eq-eqb (connection_at net k).out_port p port) in
       let takes = each_takes k no_connection lt test in
       let needs = each_needs k no_connection lt test in
       let w = before.within in
       let c = before.configured in
       let g = before.given in
-      let s = before.small in
       record {
         configured = omega arith;
         given = omega arith;
         within = omega arith;
-        small = omega arith;
         each = below_more _ _ (λ j h f o. let old = before.each j h f o in let t = old.0 in let n = old.1 in (omega arith, omega arith)) (λ _ _. (omega arith, omega arith));
       }
 

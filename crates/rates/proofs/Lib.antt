@@ -10,4 +10,5 @@ pub mod Ordering
 pub mod Solving
 pub mod Listed
 pub mod Largest
+pub mod Asked
 pub mod Valid

@@ -1,7 +1,9 @@
 -- What a contract sees of the rates of a graph.
-use Rattle.std.specs.Prelude.{◌≡◌, ℕ, ◌≤◌, List, map, Some, All, ⊤, if◌then◌else◌, Vec, slice_index}
-use Rattle.stream_model.specs.Network.{Network}
-use Rattle.graph_model.specs.Rates.{Balance, Balanced, Uneven, TooLarge, IsBalanced, ratios_of, count_limit, fits_limit, past_skips, balance_of}
+use Rattle.std.specs.Prelude.{◌≡◌, ℕ, ◌+◌, ◌*◌, ◌<◌, ◌≤◌, max, List, length, map, Some, All, ⊤, if◌then◌else◌, Vec, slice_index}
+use Rattle.stream_model.specs.Firings.{gives}
+use Rattle.stream_model.specs.Network.{Network, node_at}
+use Rattle.graph_model.specs.Graphs.{most_ports}
+use Rattle.graph_model.specs.Rates.{Balance, Balanced, Uneven, TooLarge, IsBalanced, ratios_of, count_limit, fits_limit, past_skips, balance_of, capacity_of}
 use Rattle.rates.specs.declared.answers.Rates.{Rates}
 use Rattle.rates.specs.declared.sizes.BufferCapacities.{BufferCapacities}
 use Rattle.std.specs.Global.{Global}
@@ -64,6 +66,14 @@ pub record CanHold (net : Network) (r : Rates) (links : List Link) : Type 0 wher
   pub rates : HasRates net
   pub table : links ≡ links_of net
   pub answer : AreRates net r
+
+-- what is asked of the buffer of each output, by port: with what its block asks it makes the capacities
+pub record AreAsked (net : Network) (bal : Balance) (asked : List ℕ) : Type 0 where
+  pub count : length asked ≡ most_ports * length net.nodes
+  pub few : All (λ x. x ≤ count_limit) asked
+  pub are :
+      (b p : ℕ) → b < length net.nodes → p < most_ports →
+      max (max (node_at net b).capacity (gives (node_at net b))) (slice_index asked (most_ports * b + p)) ≡ capacity_of net bal b p
 
 -- capacities as the lists that they are
 abbrev pub sizes_of : BufferCapacities → List (List ℕ)

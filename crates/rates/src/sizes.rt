@@ -1,16 +1,17 @@
 //! How large the buffers of a graph are.
 
-ghost use Rattle.std.specs.Prelude.{◌≡◌, ◌<◌, length, map, IfOk};
+ghost use Rattle.std.specs.Prelude.{◌≡◌, ◌<◌, length, map, All, IfOk};
 ghost use Rattle.stream_model.specs.Lists.{below};
 ghost use Rattle.stream_model.specs.Network.{used_outputs};
-ghost use Rattle.graph_model.specs.Rates.{capacity_of, capacities_of};
+ghost use Rattle.graph_model.specs.Rates.{balance_of, capacity_of, capacities_of};
 ghost use Rattle.flowgraph.specs.Flowgraph.{net_of};
-ghost use Rattle.rates.specs.Answer.{answer_of, needed_at, AreRates, CanHold, sizes_of};
+ghost use Rattle.rates.specs.Answer.{answer_of, needed_at, AreRates, AreAsked, CanHold, sizes_of};
+ghost use Rattle.rates.specs.Tables.{HasRates};
 
 use crate::answers::Rates;
 use crate::tables::{Link, gives, links};
 use block_kinds::Block;
-use flowgraph::{BlockId, Valid};
+use flowgraph::{BlockId, MOST_PORTS, Valid};
 use std::alloc::{AllocError, Global};
 
 /// The capacities of buffers, by block and used output, in items.
@@ -40,45 +41,46 @@ fn needed(rates: &Rates, number: usize) -> u64
     }
 }
 
-/// The capacity of an output: the greatest of the configured one, of what a firing of its block gives, and of what a firing of each
-/// reader takes and its connection needs.
-fn capacity<B: Block>(
-    graph: &Valid<B>,
-    links: &[Link],
-    rates: &Rates,
-    block: BlockId,
-    port: usize,
-) -> u32
-    requires there { block.0 < length graph.now.blocks }
-    requires rates { CanHold (net_of B.meaning graph.now) rates.now links.now }
-    ensures { result ≡ capacity_of (net_of B.meaning graph.now) (answer_of rates.now) block.0 port }
-{
-    let connections = graph.connections();
-    let mut most = u64::from(graph.options(block).capacity).max(gives(graph, block));
-    for (number, connection) in connections.iter().enumerate() {
-        if connection.from.0 == block.0 && connection.out_port == port {
-            most = most.max(links[number].takes).max(needed(rates, number));
-        }
-    }
-    most as u32
-}
-
-/// The capacities of the used outputs of a block.
-fn row<B: Block>(
+/// What is asked of the buffer of each output, 16 numbers for each block: the most that a firing of a reader takes or its connection needs.
+fn asked<B: Block>(
     alloc: Global,
     graph: &Valid<B>,
     links: &[Link],
     rates: &Rates,
+) -> Result<Vec<u64>, AllocError>
+    requires rates { CanHold (net_of B.meaning graph.now) rates.now links.now }
+    requires ports { All (λ c. c.out_port < 16) graph.now.connections }
+    ensures { IfOk result (λ asked. AreAsked (net_of B.meaning graph.now) (answer_of rates.now) asked.items) }
+{
+    let connections = graph.connections();
+    let mut asked: Vec<u64> = vec![in alloc; 0; MOST_PORTS * graph.len()]?;
+    for (number, connection) in connections.iter().enumerate() {
+        let output = MOST_PORTS * connection.from.0 as usize + connection.out_port;
+        let most = links[number].takes.max(needed(rates, number));
+        asked[output] = asked[output].max(most);
+    }
+    Ok(asked)
+}
+
+/// The capacities of the used outputs of a block: of each the greatest of the configured one, of what a firing of the block gives, and of
+/// what is asked of it.
+fn row<B: Block>(
+    alloc: Global,
+    graph: &Valid<B>,
+    asked: &[u64],
     block: BlockId,
 ) -> Result<Vec<u32>, AllocError>
     requires there { block.0 < length graph.now.blocks }
-    requires rates { CanHold (net_of B.meaning graph.now) rates.now links.now }
-    ensures { IfOk result (λ row. row.items ≡ map (capacity_of (net_of B.meaning graph.now) (answer_of rates.now) block.0) (below (used_outputs (net_of B.meaning graph.now) block.0))) }
+    requires rates { HasRates (net_of B.meaning graph.now) }
+    requires asked { AreAsked (net_of B.meaning graph.now) (balance_of (net_of B.meaning graph.now)) asked.now }
+    ensures { IfOk result (λ row. row.items ≡ map (capacity_of (net_of B.meaning graph.now) (balance_of (net_of B.meaning graph.now)) block.0) (below (used_outputs (net_of B.meaning graph.now) block.0))) }
 {
+    let own = u64::from(graph.options(block).capacity).max(gives(graph, block));
     let outputs = graph.outputs(block);
     let mut row = Vec::with_capacity(alloc, outputs)?;
     for port in 0..outputs {
-        row.push(capacity(graph, links, rates, block, port))?;
+        let capacity = own.max(asked[MOST_PORTS * block.0 as usize + port]);
+        row.push(capacity as u32)?;
     }
     Ok(row)
 }
@@ -94,10 +96,11 @@ pub fn capacities<B: Block>(
 {
     graph.in_order();
     let links = links(alloc, graph)?;
+    let asked = asked(alloc, graph, &links, rates)?;
     let blocks = graph.len();
     let mut rows = Vec::with_capacity(alloc, blocks)?;
     for block in 0..blocks {
-        rows.push(row(alloc, graph, &links, rates, BlockId(block as u32))?)?;
+        rows.push(row(alloc, graph, &asked, BlockId(block as u32))?)?;
     }
     Ok(BufferCapacities { rows })
 }

@@ -18,7 +18,8 @@ impl Model for Reader {
 }
 
 impl Reader {
-    pub(crate) fn numbered(number: usize) -> Reader
+    /// The reader of a number.
+    pub fn numbered(number: usize) -> Reader
         ensures { result ≡ number }
     {
         Reader(number)

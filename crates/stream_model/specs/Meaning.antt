@@ -84,6 +84,7 @@ HasCounts m p (Some r) = (m.shift ≡ No) × IsAtRate m p r.0 r.1
 -- what its role asks of a block
 pub record GivesItsTape (m : Meaning) : Type 0 where
   pub ports : (m.inputs.most ≡ 0) × (m.outputs.least ≡ 1) × (m.outputs.most ≡ 1)
+  pub type : m.inputs.item ≡ m.outputs.item
   pub rate : m.rate 0 ≡ Some (1, 1)
   pub plain : (m.history ≡ 1) × (m.limit ≡ None) × (m.setting ≡ None)
   pub same : (ts : List Held) (x : List ℤ) (n : ℕ) → m.out ts (x ∷ []) 0 n ≡ item x n

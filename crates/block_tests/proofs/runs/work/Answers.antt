@@ -38,7 +38,7 @@ work-word-requires g c =
       outputs_most = omega (arith, c.in_ok-out.ensures.length);
       ready = c.in_ok-out.ensures.ready;
       firings = omega arith;
-      takes = λ p. taken_small m p (c.args.first + c.args.count) lawful few;
+      takes = λ p inside. taken_small m p (c.args.first + c.args.count) lawful few;
       gives = given_small m (c.args.first + c.args.count) lawful few;
     } in
     subst (λ (ws : List Items). CanWork m c.args.first c.args.count c.args.word ws c.deref-2.result.now c.deref_mut.result.now) (sym c.deref.ensures.value)

@@ -1,10 +1,18 @@
-use Rattle.std.proofs.Common.{◌≡◌, ℕ, ◌<◌, ◌+◌, ◌*◌, [], map, length, take, get_or, Vec, Global}
-use Rattle.std.specs.List.{filter}
+use Rattle.std.proofs.Common.{map, take, Vec, Global}
+use Rattle.std.specs.List.{All}
+use Rattle.flowgraph.specs.declared.fault.Side.TheVariants.{In, Out}
 use Rattle.flowgraph.specs.declared.parts.Connection.{Connection}
-use Rattle.flowgraph.proofs.PortLemmas.{ends_at}
+use Rattle.flowgraph.specs.declared.parts.Input.{Input}
+use Rattle.flowgraph.specs.Ports.{net_from}
+use Rattle.flowgraph.specs.Tables.{AreByPort}
+use Rattle.flowgraph.specs.Wiring.{IsItsReader}
+use Rattle.flowgraph.proofs.InputRows.{source}
 use Rattle.flowgraph.proofs.by_port.by_port.Given as goal
 
 abbrev pub invariant-loop-connection : goal.invariant-loop-connection
 invariant-loop-connection l =
-    (length l.rows.items ≡ 16 * l.blocks)
-    × ((b p : ℕ) → b < l.blocks → p < 16 → get_or (map (λ (row : Vec Connection Global). row.items) l.rows.items) (16 * b + p) [] ≡ filter (ends_at l.side b p) (take l.connection-index l.connections))
+    record {
+      readers : AreByPort l.blocks Out (take l.connection-index l.connections) (map (λ (row : Vec Connection Global). row.items) l.readers.items);
+      inputs : AreByPort l.blocks In (take l.connection-index l.connections) (map (map source) (map (λ (row : Vec Input Global). row.items) l.inputs.items));
+      known : All (All (IsItsReader (net_from l.connections))) (map (λ (row : Vec Input Global). row.items) l.inputs.items);
+    }

@@ -1,0 +1,4 @@
+pub mod Agreeing
+pub mod Sights
+pub mod Claiming
+pub mod Multiples

@@ -1,0 +1,101 @@
+//! Windows and settings, compared with what is stored without a copy.
+
+ghost use Rattle.std.specs.Prelude.{◌≡◌, ◌∷◌, [], ◌+◌, ◌-◌, ◌<◌, ◌≤◌, ◌^◌, ◌↔◌, ℕ, ℤ, List, length, map, slice_range, slice_index_or, All, IsTrue};
+ghost use Rattle.items.specs.Items.{type_of, numbers_of};
+ghost use Rattle.settings.specs.Values.{held_of};
+ghost use Rattle.ring_readers.specs.State.{IsEndOf};
+ghost use Rattle.plant_laws.specs.Claims.{held_over};
+ghost use Rattle.flights.specs.Seen.{CanSee, CanSeeAll, AreEnds, AreSeen, ring_behind, seen_of};
+
+use block_kinds::Block;
+use buffers::{Buffer, Reader};
+use flowgraph::Input;
+use items::Items;
+use numbers::Number;
+use recordings::Recording;
+use settings::{Held, Timeline};
+
+// Whether the items are those of `whole` from place `from` to below place `to`.
+#[tactic(auto, using(items::proofs::Numbers::map_same, numbers::proofs::Mapped::map_slice_range))]
+fn is_range(items: &Items, whole: &Items, from: usize, to: usize) -> bool
+    requires same_type { type_of items.now ≡ type_of whole.now }
+    requires ordered { from ≤ to }
+    requires within { to ≤ length (numbers_of whole.now) }
+    ensures { IsTrue result ↔ (numbers_of items.now ≡ slice_range (numbers_of whole.now) from to) }
+{
+    match (items, whole) {
+        (Items::Byte(values), Items::Byte(more)) => u8::are_same(values, &more[from..to]),
+        (Items::Short(values), Items::Short(more)) => i16::are_same(values, &more[from..to]),
+        (Items::Int(values), Items::Int(more)) => i32::are_same(values, &more[from..to]),
+        _ => unreachable!(),
+    }
+}
+
+/// Whether the only window is cut out of a tape, from item `first` to below item `next`.
+pub(crate) fn is_cut(tape: &Recording, first: u64, next: u64, windows: &[Items]) -> bool
+    requires ordered { first ≤ next }
+    requires within { next ≤ length tape.now.items }
+    requires types { All (λ w. type_of w ≡ tape.now.item) windows.now }
+    ensures { IsTrue result ↔ (map numbers_of windows.now ≡ slice_range tape.now.items first next ∷ []) }
+{
+    windows.len() == 1 && is_range(&windows[0], tape.items(), first as usize, next as usize)
+}
+
+/// Whether the settings are those in force over items `from` to below `to`: none without a timeline.
+pub(crate) fn are_held(timeline: &Option<Timeline>, from: u64, to: u64, held: &[Held]) -> bool
+    ensures { IsTrue result ↔ (map held_of held.now ≡ held_over timeline.now from to) }
+{
+    match timeline {
+        Some(timeline) => timeline.is_between(from, to, held),
+        None => held.is_empty(),
+    }
+}
+
+// Whether the window on an input is what its reader sees with the items of these firings.
+fn is_seen<B: Block>(
+    buffers: &[Vec<Buffer>],
+    block: &B,
+    input: &Input,
+    port: usize,
+    first: u64,
+    next: u64,
+    window: &Items,
+) -> bool
+    requires input { CanSee (map (λ row. row.items) buffers.now) (B.meaning block.now) first next port input.now }
+    requires same_type { type_of window.now ≡ (B.meaning block.now).inputs.item }
+    ensures { (stream : List ℤ) → IsEndOf (ring_behind (map (λ row. row.items) buffers.now) input.now) stream →
+        IsTrue result ↔ (numbers_of window.now ≡ seen_of (map (λ row. row.items) buffers.now) (B.meaning block.now) first next port input.now stream) }
+{
+    let count = block.taken(port, next) - block.taken(port, first);
+    let writer = input.connection;
+    buffers[writer.from.0 as usize][writer.out_port].is_window(
+        Reader::numbered(input.reader),
+        count as usize,
+        window,
+    )
+}
+
+/// Whether the windows are what the readers at a block's inputs see with the items of base firings `first` to below `next`.
+pub(crate) fn are_seen<B: Block>(
+    buffers: &[Vec<Buffer>],
+    block: &B,
+    inputs: &[Input],
+    first: u64,
+    next: u64,
+    windows: &[Items],
+) -> bool
+    requires inputs { CanSeeAll (map (λ row. row.items) buffers.now) (B.meaning block.now) first next inputs.now }
+    requires types { All (λ w. type_of w ≡ (B.meaning block.now).inputs.item) windows.now }
+    ensures { (streams : ℕ → List ℤ) → AreEnds (map (λ row. row.items) buffers.now) inputs.now streams →
+        IsTrue result ↔ AreSeen (map (λ row. row.items) buffers.now) (B.meaning block.now) first next inputs.now streams (map numbers_of windows.now) }
+{
+    if windows.len() != inputs.len() {
+        return false;
+    }
+    for (port, input) in inputs.iter().enumerate() {
+        if !is_seen(buffers, block, input, port, first, next, &windows[port]) {
+            return false;
+        }
+    }
+    true
+}

@@ -1,0 +1,8 @@
+pub mod Refusals
+pub mod Texts
+pub mod Steps
+pub mod Blocks
+pub mod Connections
+pub mod Names
+pub mod Feeds
+pub mod File

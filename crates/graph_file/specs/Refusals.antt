@@ -1,0 +1,61 @@
+-- Why a graph file is refused.
+use Rattle.std.specs.Prelude.{◌≡◌, ℕ, ℤ, List, Option, Some, None, Result, Err, string_bytes}
+use Rattle.flowgraph.specs.declared.fault.GraphFault as graph_fault
+use Rattle.flowgraph.specs.Fault as graph_faults
+use Rattle.flowgraph.specs.declared.fault.Side.{Side}
+use Rattle.kind_keys.specs.declared.fault.KeyFault.{KeyFault}
+use Rattle.kind_keys.specs.declared.fault.KeyFault.TheVariants as key
+use Rattle.graph_file.specs.declared.fault.Place.{Place}
+use Rattle.graph_file.specs.declared.fault.FileFault.{FileFault}
+use Rattle.graph_file.specs.declared.fault.FileFault.TheVariants as file
+
+-- a refusal: the text is no TOML, a table at a place is wrong, a block or a connection does not go into the graph, where a block of
+-- this name is named, or a port of the block of this name is negative
+pub data Refusal : Type 0 where
+  syntax : Refusal
+  at_table : Place → KeyFault → Refusal
+  of_graph : Place → graph_fault.GraphFault → List ℕ → Refusal
+  negative_port : List ℕ → Side → ℤ → Refusal
+
+-- the refusal that a fault reports; none for want of memory
+abbrev pub told : FileFault → Option Refusal
+told file.Syntax = Some syntax
+told (file.Table place fault) = Some (at_table place fault)
+told (file.Graph place fault name) = Some (of_graph place fault (string_bytes name))
+told (file.NegativePort name side port) = Some (negative_port (string_bytes name) side port)
+told file.Memory = None
+
+-- the refusal is the one to be reported, where one is reported
+abbrev pub IsTold : {A : Type 0} → Result A Refusal → Option Refusal → Type 0
+IsTold r None = Unit {0}
+IsTold r (Some refusal) = r ≡ Err refusal
+
+-- the fault reports the refusal, or want of memory
+abbrev pub IsRefused : {A : Type 0} → Result A Refusal → FileFault → Type 0
+IsRefused r fault = IsTold r (told fault)
+
+-- what is told of a fault of a table and of one of the graph; nothing for want of memory
+abbrev pub told_table : Place → KeyFault → Option Refusal
+told_table place key.UnknownKey = Some (at_table place key.UnknownKey)
+told_table place (key.MissingKey k) = Some (at_table place (key.MissingKey k))
+told_table place (key.WrongType k) = Some (at_table place (key.WrongType k))
+told_table place key.UnknownKind = Some (at_table place key.UnknownKind)
+told_table place (key.BadParameter p) = Some (at_table place (key.BadParameter p))
+told_table place key.Memory = None
+
+-- the number by which a fault is reported
+abbrev pub table_number : KeyFault → ℕ
+table_number key.UnknownKey = 41
+table_number (key.MissingKey k) = 42
+table_number (key.WrongType k) = 43
+table_number key.UnknownKind = 44
+table_number (key.BadParameter p) = 10
+table_number key.Memory = 32
+
+-- the same, of any fault
+abbrev pub number_of : FileFault → ℕ
+number_of file.Syntax = 40
+number_of (file.Table place fault) = table_number fault
+number_of (file.Graph place fault name) = graph_faults.number_of fault
+number_of (file.NegativePort name side port) = 3
+number_of file.Memory = 32

@@ -1,0 +1,27 @@
+-- Going over the tables of an array, one after the other.
+use Rattle.std.specs.Prelude.{ℕ, suc, Option, Some, None, Result, Ok, Err}
+use Rattle.toml.specs.Data.{Items, no_items, item, Members, as_table}
+use Rattle.kind_keys.specs.declared.fault.KeyFault.{KeyFault}
+use Rattle.graph_file.specs.declared.fault.Place.{Place}
+use Rattle.graph_file.specs.Refusals.{Refusal, at_table}
+
+-- what follows what was read
+abbrev pub then : {A B : Type 0} → Result A Refusal → (A → Result B Refusal) → Result B Refusal
+then (Ok a) next = next a
+then (Err refusal) next = Err refusal
+
+-- what follows, where nothing is wrong with the table of a place
+abbrev pub unless : {A : Type 0} → Place → Option KeyFault → Result A Refusal → Result A Refusal
+unless place None rest = rest
+unless place (Some fault) rest = Err (at_table place fault)
+
+module _ {A : Type 0} (step : ℕ → A → Members → Result A Refusal) where
+  -- one step more; what is no table was refused before
+  abbrev pub step_in : ℕ → A → Option Members → Result A Refusal
+  step_in n a None = Ok a
+  step_in n a (Some ms) = step n a ms
+
+  -- a step for each table, counted from n
+  abbrev pub steps : ℕ → A → Items → Result A Refusal
+  steps n a no_items = Ok a
+  steps n a (item d ds) = then (step_in n a (as_table d)) (λ b. steps (suc n) b ds)

@@ -1,0 +1,71 @@
+-- How refusals print: their number, their name, and what the name alone does not say.
+use Rattle.std.specs.Prelude.{ℕ, List, ◌++◌, codes, string_bytes}
+use Rattle.std.specs.Fmt.{decimal, signed_decimal}
+use Rattle.flowgraph.specs.declared.fault.GraphFault.{GraphFault}
+use Rattle.flowgraph.specs.declared.fault.GraphFault.TheVariants as graph
+use Rattle.flowgraph.specs.declared.fault.Side.{Side}
+use Rattle.flowgraph.specs.declared.fault.Side.TheVariants.{In, Out}
+use Rattle.flowgraph.specs.declared.fault.Limit.{Limit}
+use Rattle.flowgraph.specs.declared.fault.Limit.TheVariants.{Blocks, Connections}
+use Rattle.flowgraph.specs.declared.fault.BlockOption.{BlockOption}
+use Rattle.flowgraph.specs.declared.fault.BlockOption.TheVariants.{Name, Multiple, Capacity}
+use Rattle.kind_keys.specs.declared.fault.KeyFault.{KeyFault}
+use Rattle.kind_keys.specs.declared.fault.KeyFault.TheVariants as key
+use Rattle.kind_keys.specs.Keys.{text_of, parameter_text}
+use Rattle.graph_file.specs.declared.fault.Place.{Place}
+use Rattle.graph_file.specs.declared.fault.Place.TheVariants.{Top, Block, Connect, Feed}
+use Rattle.graph_file.specs.declared.fault.FileFault.{FileFault}
+use Rattle.graph_file.specs.declared.fault.FileFault.TheVariants as file
+
+-- the words for places, sides, limits and options
+abbrev pub place_text : Place → List ℕ
+place_text Top = codes "top"
+place_text (Block n) = codes "block " ++ decimal n
+place_text (Connect n) = codes "connect " ++ decimal n
+place_text (Feed n) = codes "feed " ++ decimal n
+
+abbrev pub side_text : Side → List ℕ
+side_text In = codes "in"
+side_text Out = codes "out"
+
+abbrev pub limit_text : Limit → List ℕ
+limit_text Blocks = codes "blocks"
+limit_text Connections = codes "connections"
+
+abbrev pub option_text : BlockOption → List ℕ
+option_text Name = codes "name"
+option_text Multiple = codes "multiple"
+option_text Capacity = codes "capacity"
+
+-- what is wrong with the table of a place
+abbrev pub table_text : Place → KeyFault → List ℕ
+table_text place key.UnknownKey = codes "41 UnknownKey " ++ place_text place
+table_text place (key.MissingKey k) = codes "42 MissingKey " ++ place_text place ++ codes " " ++ text_of k
+table_text place (key.WrongType k) = codes "43 WrongType " ++ place_text place ++ codes " " ++ text_of k
+table_text place key.UnknownKind = codes "44 UnknownKind " ++ place_text place
+table_text place (key.BadParameter p) = codes "10 BadParameter " ++ place_text place ++ codes " " ++ parameter_text p
+table_text place key.Memory = codes "32 Memory"
+
+-- why the graph is refused at a place, where a block of this name is named
+abbrev pub graph_text : Place → GraphFault → List ℕ → List ℕ
+graph_text place graph.DuplicateName name = codes "1 DuplicateName " ++ name
+graph_text place graph.UnknownBlock name = codes "2 UnknownBlock " ++ place_text place
+graph_text place (graph.PortRange b side p) name = codes "3 PortRange " ++ name ++ codes " " ++ side_text side ++ codes " " ++ decimal p
+graph_text place (graph.InputTaken b p) name = codes "4 InputTaken " ++ name ++ codes " " ++ decimal p
+graph_text place (graph.PortGap b side p) name = codes "5 PortGap " ++ name ++ codes " " ++ side_text side ++ codes " " ++ decimal p
+graph_text place (graph.TypeMismatch b p) name = codes "6 TypeMismatch " ++ name ++ codes " " ++ decimal p
+graph_text place (graph.Loop b) name = codes "7 Loop " ++ name
+graph_text place (graph.TooFewPorts b) name = codes "8 TooFewPorts " ++ name
+graph_text place (graph.TooLarge limit) name = codes "9 TooLarge " ++ limit_text limit
+graph_text place (graph.BadParameter option) name = codes "10 BadParameter " ++ place_text place ++ codes " " ++ option_text option
+graph_text place (graph.OneToOne b) name = codes "11 OneToOne " ++ name
+graph_text place (graph.Gain b) name = codes "12 Gain " ++ name
+graph_text place graph.Memory name = codes "32 Memory"
+
+-- what a fault prints
+abbrev pub fault_text : FileFault → List ℕ
+fault_text file.Syntax = codes "40 Syntax"
+fault_text (file.Table place fault) = table_text place fault
+fault_text (file.Graph place fault name) = graph_text place fault (string_bytes name)
+fault_text (file.NegativePort name side port) = codes "3 PortRange " ++ string_bytes name ++ codes " " ++ side_text side ++ codes " " ++ signed_decimal port
+fault_text file.Memory = codes "32 Memory"

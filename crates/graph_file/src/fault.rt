@@ -1,0 +1,221 @@
+//! Why a graph file is refused.
+ghost use Rattle.std.specs.Prelude.{◌≡◌, ◌⊎◌, None, Some};
+ghost use Rattle.graph_file.specs.declared.fault.FileFault.TheVariants.{Memory};
+ghost use Rattle.graph_file.specs.Refusals.{told, told_table, of_graph, negative_port};
+ghost use Rattle.graph_file.specs.Texts as texts;
+
+use flowgraph::{BlockOption, GraphFault, Limit, Side};
+use kind_keys::KeyFault;
+use kind_keys::key::parameter_text;
+use std::alloc::{AllocError, AllocFailed, Global};
+use std::fmt;
+use thiserror::Error;
+
+/// A table of a graph file: the document itself, or one of its blocks, connections or feeds, counted from 0.
+#[derive(Clone, Copy, Debug, PartialEq, Eq)]
+pub enum Place {
+    Top,
+    Block(usize),
+    Connect(usize),
+    Feed(usize),
+}
+
+/// Why a graph file is refused. Its text is the number of the refusal, its name, and what the name alone does not say.
+#[derive(Debug, Drop, Error)]
+pub enum FileFault {
+    /// The text is not TOML in UTF-8.
+    Syntax,
+    /// Something is wrong with a table.
+    Table {
+        place: Place,
+        fault: KeyFault,
+    },
+    /// A block, a connection or the whole graph is refused. `name` is that of the block that the refusal names.
+    Graph {
+        place: Place,
+        fault: GraphFault,
+        name: String,
+    },
+    /// A port of a connection is negative.
+    NegativePort {
+        name: String,
+        side: Side,
+        port: i64,
+    },
+    /// Memory ran out.
+    Memory,
+}
+
+impl FileFault {
+    ghost use Rattle.graph_file.specs.Refusals.{number_of};
+
+    /// The number by which the refusal is reported: 1 to 12, 32, or 40 to 44.
+    pub fn number(&self) -> u32
+        ensures { result ≡ number_of self.now }
+    {
+        match self {
+            FileFault::Syntax => 40,
+            FileFault::Table { fault, .. } => match fault {
+                KeyFault::UnknownKey => 41,
+                KeyFault::MissingKey(_) => 42,
+                KeyFault::WrongType(_) => 43,
+                KeyFault::UnknownKind => 44,
+                KeyFault::BadParameter(_) => 10,
+                KeyFault::Memory => 32,
+            },
+            FileFault::Graph { fault, .. } => fault.number(),
+            FileFault::NegativePort { .. } => 3,
+            FileFault::Memory => 32,
+        }
+    }
+}
+
+impl From<AllocError> for FileFault {
+    ghost from_gives = { λ _ e. e ≡ Memory };
+
+    fn from(_refusal: AllocError) -> FileFault {
+        FileFault::Memory
+    }
+}
+
+impl<T: Drop> From<AllocFailed<T>> for FileFault {
+    ghost from_gives = { λ _ e. e ≡ Memory };
+
+    fn from(_refusal: AllocFailed<T>) -> FileFault {
+        FileFault::Memory
+    }
+}
+
+/// What a fault of a table is reported as.
+pub(crate) fn table_fault(place: Place, fault: KeyFault) -> FileFault
+    ensures { told result ≡ told_table place fault }
+{
+    match fault {
+        KeyFault::Memory => FileFault::Memory,
+        fault => FileFault::Table { place, fault },
+    }
+}
+
+/// What a fault of the graph is reported as, where it names a block of this name.
+pub(crate) fn graph_fault(alloc: Global, place: Place, fault: GraphFault, name: &str) -> FileFault
+    ensures memory { fault ≡ GraphFault.Memory → told result ≡ None }
+    ensures named { (told result ≡ None) ⊎ (told result ≡ Some (of_graph place fault name.now)) }
+{
+    if let GraphFault::Memory = fault {
+        return FileFault::Memory;
+    }
+    match String::from_str(alloc, name) {
+        Ok(name) => FileFault::Graph { place, fault, name },
+        Err(_) => FileFault::Memory,
+    }
+}
+
+/// The refusal of a negative port of the block of this name.
+pub(crate) fn port_fault(alloc: Global, name: &str, side: Side, port: i64) -> FileFault
+    ensures { (told result ≡ None) ⊎ (told result ≡ Some (negative_port name.now side port)) }
+{
+    match String::from_str(alloc, name) {
+        Ok(name) => FileFault::NegativePort { name, side, port },
+        Err(_) => FileFault::Memory,
+    }
+}
+
+impl fmt::Display for Place {
+    ghost output = { λ place. Some (texts.place_text place) };
+
+    fn fmt<W: fmt::Write>(&self, f: &mut fmt::Formatter<W>) -> fmt::Result {
+        match self {
+            Place::Top => write!(f, "top"),
+            Place::Block(number) => write!(f, "block {number}"),
+            Place::Connect(number) => write!(f, "connect {number}"),
+            Place::Feed(number) => write!(f, "feed {number}"),
+        }
+    }
+}
+
+impl fmt::Display for FileFault {
+    ghost output = { λ fault. Some (texts.fault_text fault) };
+
+    fn fmt<W: fmt::Write>(&self, f: &mut fmt::Formatter<W>) -> fmt::Result {
+        match self {
+            FileFault::Syntax => write!(f, "40 Syntax"),
+            FileFault::Table { place, fault } => match fault {
+                KeyFault::UnknownKey => write!(f, "41 UnknownKey {place}"),
+                KeyFault::MissingKey(key) => {
+                    let key = key.text();
+                    write!(f, "42 MissingKey {place} {key}")
+                }
+                KeyFault::WrongType(key) => {
+                    let key = key.text();
+                    write!(f, "43 WrongType {place} {key}")
+                }
+                KeyFault::UnknownKind => write!(f, "44 UnknownKind {place}"),
+                KeyFault::BadParameter(parameter) => {
+                    let parameter = parameter_text(*parameter);
+                    write!(f, "10 BadParameter {place} {parameter}")
+                }
+                KeyFault::Memory => write!(f, "32 Memory"),
+            },
+            FileFault::Graph { place, fault, name } => match fault {
+                GraphFault::DuplicateName => write!(f, "1 DuplicateName {name}"),
+                GraphFault::UnknownBlock => write!(f, "2 UnknownBlock {place}"),
+                GraphFault::PortRange { side, port, .. } => {
+                    let side = side_text(*side);
+                    write!(f, "3 PortRange {name} {side} {port}")
+                }
+                GraphFault::InputTaken { port, .. } => write!(f, "4 InputTaken {name} {port}"),
+                GraphFault::PortGap { side, port, .. } => {
+                    let side = side_text(*side);
+                    write!(f, "5 PortGap {name} {side} {port}")
+                }
+                GraphFault::TypeMismatch { port, .. } => write!(f, "6 TypeMismatch {name} {port}"),
+                GraphFault::Loop { .. } => write!(f, "7 Loop {name}"),
+                GraphFault::TooFewPorts { .. } => write!(f, "8 TooFewPorts {name}"),
+                GraphFault::TooLarge(limit) => {
+                    let limit = limit_text(*limit);
+                    write!(f, "9 TooLarge {limit}")
+                }
+                GraphFault::BadParameter(option) => {
+                    let option = option_text(*option);
+                    write!(f, "10 BadParameter {place} {option}")
+                }
+                GraphFault::OneToOne { .. } => write!(f, "11 OneToOne {name}"),
+                GraphFault::Gain { .. } => write!(f, "12 Gain {name}"),
+                GraphFault::Memory => write!(f, "32 Memory"),
+            },
+            FileFault::NegativePort { name, side, port } => {
+                let side = side_text(*side);
+                write!(f, "3 PortRange {name} {side} {port}")
+            }
+            FileFault::Memory => write!(f, "32 Memory"),
+        }
+    }
+}
+
+fn side_text(side: Side) -> &'static str
+    ensures { result.now ≡ texts.side_text side }
+{
+    match side {
+        Side::In => "in",
+        Side::Out => "out",
+    }
+}
+
+fn limit_text(limit: Limit) -> &'static str
+    ensures { result.now ≡ texts.limit_text limit }
+{
+    match limit {
+        Limit::Blocks => "blocks",
+        Limit::Connections => "connections",
+    }
+}
+
+fn option_text(option: BlockOption) -> &'static str
+    ensures { result.now ≡ texts.option_text option }
+{
+    match option {
+        BlockOption::Name => "name",
+        BlockOption::Multiple => "multiple",
+        BlockOption::Capacity => "capacity",
+    }
+}

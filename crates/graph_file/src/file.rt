@@ -1,0 +1,79 @@
+//! A graph file, read.
+ghost use Rattle.std.specs.Prelude.{◌≡◌, Ok, Some, IfOk, OnOk, IfErr, IsUtf8, IsErrOf};
+ghost use Rattle.toml.specs.Parse.{parse_document};
+ghost use Rattle.toml.specs.View.{table_view};
+ghost use Rattle.graph_file.specs.Refusals.{IsRefused};
+ghost use Rattle.graph_file.specs.Blocks.{drafted};
+ghost use Rattle.graph_file.specs.File.{file_of, file_in, graph_in, seen};
+
+use crate::blocks::add_blocks;
+use crate::connections::add_connections;
+use crate::fault::{FileFault, Place, table_fault};
+use crate::feed::Feed;
+use crate::feeds::read_feeds;
+use crate::only::only_fault;
+use flowgraph::Graph;
+use kind_keys::Key;
+use kind_keys::table::values_at;
+use kinds::Kind;
+use std::alloc::Global;
+use toml::Table;
+
+/// A graph, and what its sources are fed, in the order of the file.
+#[derive(Drop)]
+pub struct File {
+    pub graph: Graph<Kind>,
+    pub feeds: Vec<Feed>,
+}
+
+/// The graph and the feeds of a graph file, or the first reason why it is refused: the text, the keys of the document,
+/// then each block, each connection and each feed in turn.
+pub fn read_graph(alloc: Global, text: &[u8]) -> Result<File, FileFault>
+    ensures ok { IfOk result (λ file. IsUtf8 text.now × (file_of (parse_document text.now) ≡ Ok (seen file))) }
+    ensures refused { IsUtf8 text.now → IfErr result (IsRefused (file_of (parse_document text.now))) }
+    ensures encoding { ¬ (IsUtf8 text.now) → IsErrOf result FileFault.Syntax }
+{
+    let Ok(text) = std::str::from_utf8(text) else {
+        return Err(FileFault::Syntax);
+    };
+    match toml::table_from_str(alloc, text) {
+        Ok(table) => file_of(alloc, &table),
+        Err(error) if error.is_memory() => Err(FileFault::Memory),
+        Err(_) => Err(FileFault::Syntax),
+    }
+}
+
+// What a document says.
+fn file_of(alloc: Global, table: &Table) -> Result<File, FileFault>
+    ensures ok { IfOk result (λ file. file_in (table_view table.now) ≡ Ok (seen file)) }
+    ensures refused { IfErr result (IsRefused (file_in (table_view table.now))) }
+{
+    let keys = [Key::Block, Key::Connect, Key::Feed];
+    if let Some(fault) = only_fault(table, &keys, &keys) {
+        return Err(table_fault(Place::Top, fault));
+    }
+    let graph = match graph_of(alloc, table) {
+        Ok(graph) => graph,
+        Err(fault) => return Err(fault),
+    };
+    match read_feeds(alloc, values_at(table, Key::Feed)) {
+        Ok(feeds) => Ok(File { graph, feeds }),
+        Err(fault) => Err(fault),
+    }
+}
+
+// The graph of a document.
+fn graph_of(alloc: Global, table: &Table) -> Result<Graph<Kind>, FileFault>
+    ensures ok { IfOk result (λ graph. graph_in (table_view table.now) ≡ Ok (drafted graph)) }
+    ensures refused { IfErr result (IsRefused (graph_in (table_view table.now))) }
+{
+    let blocks = values_at(table, Key::Block);
+    let mut graph = Graph::new(alloc);
+    if let Err(fault) = add_blocks(alloc, &mut graph, blocks) {
+        return Err(fault);
+    }
+    match add_connections(alloc, &mut graph, blocks, values_at(table, Key::Connect)) {
+        Ok(()) => Ok(graph),
+        Err(fault) => Err(fault),
+    }
+}

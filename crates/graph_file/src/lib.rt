@@ -1,0 +1,14 @@
+//! The reading of graph files.
+#![tactic(auto)]
+
+mod blocks;
+mod connections;
+pub mod fault;
+pub mod feed;
+mod feeds;
+pub mod file;
+mod only;
+
+pub use fault::{FileFault, Place};
+pub use feed::{Feed, FileMark};
+pub use file::{File, read_graph};

@@ -1,0 +1,72 @@
+-- What the makers answer, by the tests of parameters.
+use Rattle.std.proofs.Common.{◌≡◌, ◌≢◌, ◌⊎◌, inl, inr, ℕ, ℤ, Bool, true, false, List, Result, Ok, Err, Decides, refl, ap, sym, ◌∙◌, subst}
+use Rattle.std.specs.Prelude.{nat_le}
+use Rattle.std.proofs.lemmas.Bool.{false≢true}
+use Rattle.stream_model.specs.declared.vocabulary.ItemType.{ItemType}
+use Rattle.stream_model.specs.declared.vocabulary.ItemType.TheVariants.{Byte, Short, Int}
+use Rattle.stream_model.specs.Meaning.{Meaning}
+use Rattle.block_kinds.specs.declared.fault.Parameter.{Parameter}
+use Rattle.block_kinds.specs.declared.fault.Parameter.TheVariants as parameters
+use Rattle.block_kinds.specs.declared.fault.ParamFault.{ParamFault}
+use Rattle.block_kinds.specs.declared.fault.ParamFault.TheVariants.{BadParameter, Memory}
+use Rattle.math_blocks.specs.Kinds.{IsTable}
+use Rattle.rate_blocks.specs.Lengths.{AreLengths}
+use Rattle.fir_blocks.specs.Parameters.{AreParameters, IsRefusal, IsFirstBad}
+use Rattle.kind_keys.specs.Kinds.{needs, filtered, is_filter_type, are_taps, are_bytes, are_lengths, is_within}
+use Rattle.kind_keys.specs.Reading.{IsBad}
+use Rattle.kind_keys.proofs.Tests.{le-decides, within-decides, taps-decides, table-decides, lengths-decides}
+
+-- a test that decides P: what follows where P holds, and the fault where it does not
+pub goes : {P : Type 0} (test : Bool) (p : Parameter) (rest : Result Meaning Parameter) → Decides test P → P → needs test p rest ≡ rest
+goes test p rest d h = ap (λ b. needs b p rest) (d.1 h)
+
+is_false : {P : Type 0} (test : Bool) → Decides test P → (P → ⊥) → test ≡ false
+is_false true d bad = absurd (bad (d.0 refl))
+is_false false d bad = refl
+
+pub stops : {P : Type 0} (test : Bool) (p : Parameter) (rest : Result Meaning Parameter) → Decides test P → (P → ⊥) → needs test p rest ≡ Err p
+stops test p rest d bad = ap (λ b. needs b p rest) (is_false test d bad)
+
+filter_type-decides : (t : ItemType) → Decides (is_filter_type t) (t ≢ Byte)
+filter_type-decides Byte = (λ e. absurd (false≢true e), λ other. absurd (other refl))
+filter_type-decides Short = (λ _. λ e. cc, λ _. refl)
+filter_type-decides Int = (λ _. λ e. cc, λ _. refl)
+
+module _ (meant : ItemType → List ℤ → ℕ → ℕ → Meaning) (named : Parameter) (t : ItemType) (taps : List ℤ) (rate shift : ℕ) where
+  pub filter_good : AreParameters t taps rate shift → filtered meant named t taps rate shift ≡ Ok (meant t taps rate shift)
+  filter_good h =
+      goes (is_filter_type t) parameters.ItemType _ (filter_type-decides t) h.item_type ∙ goes (are_taps taps) parameters.Taps _ (taps-decides taps) h.taps_are
+      ∙ goes (is_within 1 1024 rate) named _ (within-decides 1 1024 rate) h.rate_is ∙ goes (nat_le shift 31) parameters.Shift _ (le-decides shift 31) h.shift_is
+
+  first_bad : (bad : Parameter) → IsFirstBad named t taps rate shift bad → filtered meant named t taps rate shift ≡ Err bad
+  first_bad bad (inl h) = stops (is_filter_type t) parameters.ItemType _ (filter_type-decides t) (λ other. other h.1) ∙ ap Err (sym h.0)
+  first_bad bad (inr (inl h)) = goes (is_filter_type t) parameters.ItemType _ (filter_type-decides t) h.1 ∙ stops (are_taps taps) parameters.Taps _ (taps-decides taps) h.2 ∙ ap Err (sym h.0)
+  first_bad bad (inr (inr (inl h))) =
+      goes (is_filter_type t) parameters.ItemType _ (filter_type-decides t) h.1 ∙ goes (are_taps taps) parameters.Taps _ (taps-decides taps) h.2
+      ∙ stops (is_within 1 1024 rate) named _ (within-decides 1 1024 rate) h.3 ∙ ap Err (sym h.0)
+  first_bad bad (inr (inr (inr h))) =
+      goes (is_filter_type t) parameters.ItemType _ (filter_type-decides t) h.1 ∙ goes (are_taps taps) parameters.Taps _ (taps-decides taps) h.2
+      ∙ goes (is_within 1 1024 rate) named _ (within-decides 1 1024 rate) h.3 ∙ stops (nat_le shift 31) parameters.Shift _ (le-decides shift 31) h.4 ∙ ap Err (sym h.0)
+
+  pub filter_bad : (fault : ParamFault) → IsRefusal named t taps rate shift fault → IsBad (filtered meant named t taps rate shift) fault
+  filter_bad (BadParameter bad) h = first_bad bad h
+  filter_bad Memory h = tt
+
+-- what a maker was given is what stands in the table
+pub given : (P : List ℤ → ℕ → ℕ → Type 0) {taps taps' : List ℤ} {rate rate' shift shift' : ℕ} → taps ≡ taps' → rate ≡ rate' → shift ≡ shift' → P taps rate shift → P taps' rate' shift'
+given P {taps} {taps'} {rate} {rate'} {shift} {shift'} t r s h = subst (λ ts. P ts rate' shift') t (subst (λ n. P taps n shift') r (subst (λ n. P taps rate n) s h))
+
+pub table_good : (zs : List ℤ) (m : Meaning) → IsTable zs → needs (are_bytes zs) parameters.Map (Ok m) ≡ Ok m
+table_good zs m h = goes (are_bytes zs) parameters.Map (Ok m) (table-decides zs) h
+
+pub table_bad :
+    (zs : List ℤ) (m : Meaning) (fault : ParamFault) → (fault ≡ BadParameter parameters.Map → IsTable zs → ⊥) → (fault ≡ BadParameter parameters.Map) ⊎ (fault ≡ Memory)
+    → IsBad (needs (are_bytes zs) parameters.Map (Ok m)) fault
+table_bad zs m fault bad (inl e) = subst (IsBad (needs (are_bytes zs) parameters.Map (Ok m))) (sym e) (stops (are_bytes zs) parameters.Map (Ok m) (table-decides zs) (bad e))
+table_bad zs m fault bad (inr e) = subst (IsBad (needs (are_bytes zs) parameters.Map (Ok m))) (sym e) tt
+
+pub lengths_good : (zs : List ℤ) (m : Meaning) → AreLengths zs → needs (are_lengths zs) parameters.Lengths (Ok m) ≡ Ok m
+lengths_good zs m h = goes (are_lengths zs) parameters.Lengths (Ok m) (lengths-decides zs) h
+
+pub lengths_bad : (zs : List ℤ) (m : Meaning) (fault : ParamFault) → (AreLengths zs → ⊥) → fault ≡ BadParameter parameters.Lengths → IsBad (needs (are_lengths zs) parameters.Lengths (Ok m)) fault
+lengths_bad zs m fault bad e = subst (IsBad (needs (are_lengths zs) parameters.Lengths (Ok m))) (sym e) (stops (are_lengths zs) parameters.Lengths (Ok m) (lengths-decides zs) bad)

@@ -1,0 +1,124 @@
+-- The keys of graph files: their texts, what may stand at them, and what stands for a missing one.
+use Rattle.std.specs.Prelude.{ℕ, ℤ, pos, List, Bool, true, false, codes}
+use Rattle.block_kinds.specs.declared.fault.Parameter.{Parameter}
+use Rattle.block_kinds.specs.declared.fault.Parameter.TheVariants as parameters
+use Rattle.kind_keys.specs.declared.key.Key.{Key}
+use Rattle.kind_keys.specs.declared.key.Key.TheVariants as keys
+use Rattle.kind_keys.specs.declared.key.Shape.{Shape}
+use Rattle.kind_keys.specs.declared.key.Shape.TheVariants.{Text, Number, Numbers, Tables, Choice}
+
+-- the text of the key of a parameter
+abbrev pub parameter_text : Parameter → List ℕ
+parameter_text parameters.ItemType = codes "type"
+parameter_text parameters.Value = codes "value"
+parameter_text parameters.Factor = codes "factor"
+parameter_text parameters.Shift = codes "shift"
+parameter_text parameters.Map = codes "map"
+parameter_text parameters.To = codes "to"
+parameter_text parameters.Length = codes "length"
+parameter_text parameters.Taps = codes "taps"
+parameter_text parameters.Decimation = codes "decimation"
+parameter_text parameters.Interpolation = codes "interpolation"
+parameter_text parameters.K = codes "k"
+parameter_text parameters.Modulus = codes "modulus"
+parameter_text parameters.Bits = codes "bits"
+parameter_text parameters.Mask = codes "mask"
+parameter_text parameters.Init = codes "init"
+parameter_text parameters.N = codes "n"
+parameter_text parameters.Ports = codes "ports"
+parameter_text parameters.Lengths = codes "lengths"
+
+-- the text of a key
+abbrev pub text_of : Key → List ℕ
+text_of keys.Block = codes "block"
+text_of keys.Connect = codes "connect"
+text_of keys.Feed = codes "feed"
+text_of keys.Name = codes "name"
+text_of keys.Kind = codes "kind"
+text_of (keys.Parameter p) = parameter_text p
+text_of keys.Tags = codes "tags"
+text_of keys.Multiple = codes "multiple"
+text_of keys.Capacity = codes "capacity"
+text_of keys.From = codes "from"
+text_of keys.To = codes "to"
+text_of keys.FromPort = codes "from_port"
+text_of keys.ToPort = codes "to_port"
+text_of keys.Source = codes "source"
+text_of keys.Items = codes "items"
+text_of keys.Marks = codes "tags"
+text_of keys.MarkAt = codes "at"
+text_of keys.MarkKey = codes "key"
+text_of keys.MarkValue = codes "value"
+
+-- what may stand at a parameter
+abbrev pub parameter_shape : Parameter → Shape
+parameter_shape parameters.ItemType = Text
+parameter_shape parameters.To = Text
+parameter_shape parameters.Map = Numbers
+parameter_shape parameters.Taps = Numbers
+parameter_shape parameters.Lengths = Numbers
+parameter_shape _ = Number
+
+-- what may stand at a key
+abbrev pub shape_of : Key → Shape
+shape_of keys.Block = Tables
+shape_of keys.Connect = Tables
+shape_of keys.Feed = Tables
+shape_of keys.Name = Text
+shape_of keys.Kind = Text
+shape_of (keys.Parameter p) = parameter_shape p
+shape_of keys.Tags = Choice
+shape_of keys.Multiple = Number
+shape_of keys.Capacity = Number
+shape_of keys.From = Text
+shape_of keys.To = Text
+shape_of keys.FromPort = Number
+shape_of keys.ToPort = Number
+shape_of keys.Source = Text
+shape_of keys.Items = Numbers
+shape_of keys.Marks = Tables
+shape_of keys.MarkAt = Number
+shape_of keys.MarkKey = Text
+shape_of keys.MarkValue = Number
+
+-- whether a block must have the parameter
+abbrev pub is_needed_parameter : Parameter → Bool
+is_needed_parameter parameters.Shift = false
+is_needed_parameter parameters.Decimation = false
+is_needed_parameter parameters.Interpolation = false
+is_needed_parameter _ = true
+
+-- whether a table must have the key
+abbrev pub is_needed : Key → Bool
+is_needed keys.Block = false
+is_needed keys.Connect = false
+is_needed keys.Feed = false
+is_needed keys.Name = true
+is_needed keys.Kind = true
+is_needed (keys.Parameter p) = is_needed_parameter p
+is_needed keys.Tags = false
+is_needed keys.Multiple = false
+is_needed keys.Capacity = false
+is_needed keys.From = true
+is_needed keys.To = true
+is_needed keys.FromPort = false
+is_needed keys.ToPort = false
+is_needed keys.Source = true
+is_needed keys.Items = false
+is_needed keys.Marks = false
+is_needed keys.MarkAt = true
+is_needed keys.MarkKey = true
+is_needed keys.MarkValue = true
+
+-- the number that stands for a missing one
+abbrev pub missing_parameter : Parameter → ℤ
+missing_parameter parameters.Decimation = pos 1
+missing_parameter parameters.Interpolation = pos 1
+missing_parameter _ = pos 0
+
+-- the same, of any key
+abbrev pub missing : Key → ℤ
+missing (keys.Parameter p) = missing_parameter p
+missing keys.Multiple = pos 1
+missing keys.Capacity = pos 4096
+missing _ = pos 0

@@ -1,0 +1,52 @@
+//! What may be wrong with a table of a graph file.
+ghost use Rattle.std.specs.Prelude.{◌≡◌};
+ghost use Rattle.kind_keys.specs.declared.fault.KeyFault.TheVariants.{BadParameter, Memory};
+
+use crate::key::Key;
+use block_kinds::{ParamFault, Parameter};
+use std::alloc::{AllocError, AllocFailed};
+
+/// What is wrong with a table.
+#[derive(Clone, Copy, Debug, PartialEq, Eq)]
+pub enum KeyFault {
+    /// It has a key that such tables do not have.
+    UnknownKey,
+    MissingKey(Key),
+    /// At the key stands what may not stand there.
+    WrongType(Key),
+    /// No kind of blocks has the name.
+    UnknownKind,
+    /// A block of the kind may not have this parameter.
+    BadParameter(Parameter),
+    /// Memory ran out.
+    Memory,
+}
+
+impl From<ParamFault> for KeyFault {
+    ghost use Rattle.kind_keys.specs.Reading.{carried};
+
+    ghost from_gives = { λ fault e. e ≡ carried fault };
+
+    fn from(fault: ParamFault) -> KeyFault {
+        match fault {
+            ParamFault::BadParameter(parameter) => KeyFault::BadParameter(parameter),
+            ParamFault::Memory => KeyFault::Memory,
+        }
+    }
+}
+
+impl From<AllocError> for KeyFault {
+    ghost from_gives = { λ _ e. e ≡ Memory };
+
+    fn from(_refusal: AllocError) -> KeyFault {
+        KeyFault::Memory
+    }
+}
+
+impl<T: Drop> From<AllocFailed<T>> for KeyFault {
+    ghost from_gives = { λ _ e. e ≡ Memory };
+
+    fn from(_refusal: AllocFailed<T>) -> KeyFault {
+        KeyFault::Memory
+    }
+}

@@ -1,0 +1,49 @@
+//! The block that a table of a graph file means.
+ghost use Rattle.std.specs.Prelude.{◌≡◌, Ok, IfOk, IfErr};
+ghost use Rattle.toml.specs.View.{table_view};
+ghost use Rattle.kinds.specs.Kind.{meaning_of};
+ghost use Rattle.kind_keys.specs.Reading.{block_in, tested, IsRefused};
+
+use crate::fault::KeyFault;
+use crate::key::Key;
+use crate::kind_name::KindName;
+use crate::make::make;
+use crate::table::{has_only, key_fault, keys_fault, text_at};
+use kinds::Kind;
+use std::alloc::Global;
+use toml::Table;
+
+/// The block that a table means, or the first thing that is wrong with the table: its name and its kind, then keys that
+/// the kind does not have, then each key in the kind's order, then the values of its parameters.
+pub fn read_kind(alloc: Global, table: &Table) -> Result<Kind, KeyFault>
+    ensures ok { IfOk result (λ block. block_in (table_view table.now) ≡ Ok (meaning_of block)) }
+    ensures refused { IfErr result (IsRefused (block_in (table_view table.now))) }
+{
+    let kind = tested(table)?;
+    match make(alloc, kind, table) {
+        Ok(block) => Ok(block),
+        Err(fault) => Err(KeyFault::from(fault)),
+    }
+}
+
+// The kind of a block whose keys are all right.
+fn tested(table: &Table) -> Result<KindName, KeyFault>
+    ensures { result ≡ tested (table_view table.now) }
+{
+    if let Some(fault) = key_fault(table, Key::Name) {
+        return Err(fault);
+    }
+    if let Some(fault) = key_fault(table, Key::Kind) {
+        return Err(fault);
+    }
+    let Some(kind) = KindName::named(text_at(table, Key::Kind)) else {
+        return Err(KeyFault::UnknownKind);
+    };
+    if !has_only(table, kind.keys()) {
+        return Err(KeyFault::UnknownKey);
+    }
+    match keys_fault(table, kind.keys()) {
+        Some(fault) => Err(fault),
+        None => Ok(kind),
+    }
+}

@@ -1,0 +1,5 @@
+pub mod ReadBuffers
+pub mod TagCounts
+pub mod WordCounts
+pub mod Rooms
+pub mod WindowLists

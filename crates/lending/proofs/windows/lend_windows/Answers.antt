@@ -1,0 +1,26 @@
+use Rattle.std.proofs.Common.{◌≡◌, ◌∙◌, List, ap, sym, subst, arith, length, map}
+use Rattle.std.specs.Prelude.{OnOk}
+use Rattle.std.proofs.lemmas.List.{with_items_is}
+use Rattle.items.specs.declared.stream_items.Items.{Items}
+use Rattle.items.specs.Items.{numbers_of}
+use Rattle.stores.specs.Lending.{AreWindows}
+use Rattle.std.proofs.lemmas.Result.{on_ok_weaker}
+use Rattle.std.proofs.lemmas.List.{length-map}
+use Rattle.stream_model.specs.Network.{writers_of}
+use Rattle.flowgraph.specs.declared.parts.Input.{Input}
+use Rattle.flowgraph.specs.Flowgraph.{net_of, connection_of}
+use Rattle.stores.specs.Stores.{stored_in}
+use Rattle.lending.proofs.WindowLists.{windows_read}
+use Rattle.lending.proofs.windows.lend_windows.Goals as goal
+
+pub returns-clause-windows : goal.returns-clause-windows
+returns-clause-windows g c =
+    let net = net_of g.B.Block.meaning c.args.graph.now in
+    let read = c.read_inputs.new.windows in
+    let back = with_items_is c.resize-2.new.places read (c.read_inputs.auto.windows ∙ c.deref_mut.ensures.len) in
+    let table : length c.inputs.result.now ≡ length (writers_of net c.args.block.0) =
+    sym (length-map c.inputs.result.now (λ (i : Input). connection_of i.connection)) ∙ ap length c.inputs.ensures.writers in
+    let many : length read ≡ length (writers_of net c.args.block.0) = omega (arith, table, c.read_inputs.auto.windows, c.deref_mut.ensures.len, c.resize-2.new.places.ok.0, c.in_ok-resize-2.ensures) in
+    subst (λ (ws : List Items). OnOk c.read_inputs.result (AreWindows net (stored_in c.args.stores.now) c.args.block.0 c.args.first c.args.count (map numbers_of ws))) (sym back)
+    (on_ok_weaker c.read_inputs.result
+    (windows_read net (stored_in c.args.stores.now) c.args.block.0 c.args.first c.args.count read (sym c.is_source.ensures ∙ c.if-is_source.false) many) c.read_inputs.ensures)

@@ -1,0 +1,4 @@
+pub mod Places
+pub mod Tags
+pub mod Windows
+pub mod Spare

@@ -1,0 +1,6 @@
+pub mod Fault
+pub mod Plant
+pub mod Answers
+pub mod Opening
+pub mod Keeping
+pub mod Setting

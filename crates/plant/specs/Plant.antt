@@ -1,0 +1,89 @@
+-- What a contract sees of a plant, and what its parts keep.
+use Rattle.std.specs.Prelude.{ℕ, ◌≡◌, ◌<◌, ◌+◌, List, length, map, All, true}
+use Rattle.std.specs.Arc.{arc_value}
+use Rattle.stream_model.specs.Meaning.{Meaning}
+use Rattle.stream_model.specs.Network.{Network, Progress, State, node_at, progress_at}
+use Rattle.stream_model.specs.Machine.{Capacities, with_progress, is_all_done, IsWhole}
+use Rattle.graph_model.specs.Rates.{Balanced, balance_of, capacities_of}
+use Rattle.machine_laws.specs.Sound.{Sound}
+use Rattle.machine_laws.specs.Stays.{in_flight}
+use Rattle.machine_laws.specs.Stalls.{AreClosed}
+use Rattle.items.specs.declared.stream_items.Items.{Items}
+use Rattle.items.specs.Items.{type_of, numbers_of}
+use Rattle.flowgraph.specs.Flowgraph.{Flowgraph, net_of}
+use Rattle.rates.specs.Answer.{AreRates, answer_of, sizes_of}
+use Rattle.firings.specs.declared.progress.Tape.{Tape}
+use Rattle.firings.specs.State.{HasTapes}
+use Rattle.plant_laws.specs.Holds.{Holds}
+use Rattle.plant_laws.specs.Calls.{IsWorked}
+use Rattle.stores.specs.declared.stores.Stores.{Stores}
+use Rattle.stores.specs.Stores.{handed_of, state_of, stored_in}
+use Rattle.stores.specs.Lending.{HasRoom}
+use Rattle.plant.specs.declared.parts.Parts.{Parts}
+
+-- the graph, the capacity of each output of each block, and the machine's state
+pub record PlantState (B : Type 0) : Type 0 where
+  pub graph : Flowgraph B
+  pub capacities : Capacities
+  pub state : State
+
+-- the state is one that calls lead to, what is stored is what its streams say, firings look at the lengths and marks of its tapes, and for each
+-- claim in flight there is room for its commit
+pub record Keeps (net : Network) (caps : Capacities) (tapes : List Tape) (s : Stores) (progress : List Progress) : Type 0 where
+  pub sound : Sound net caps (state_of s.handed.items progress)
+  pub stored : Holds net caps (state_of s.handed.items progress) (stored_in s)
+  pub tapes_are : HasTapes tapes (map handed_of s.handed.items)
+  pub room : (b : ℕ) → b < length net.nodes → 0 < (progress_at progress b).claimed →
+      HasRoom net s b (progress_at progress b).firings (progress_at progress b).claimed
+
+-- the same, but for the room of block b
+pub record KeepsBut (net : Network) (caps : Capacities) (tapes : List Tape) (s : Stores) (progress : List Progress) (b : ℕ) : Type 0 where
+  pub sound : Sound net caps (state_of s.handed.items progress)
+  pub stored : Holds net caps (state_of s.handed.items progress) (stored_in s)
+  pub tapes_are : HasTapes tapes (map handed_of s.handed.items)
+  pub room : (a : ℕ) → a < length net.nodes → (a ≡ b → ⊥) → 0 < (progress_at progress a).claimed →
+      HasRoom net s a (progress_at progress a).firings (progress_at progress a).claimed
+
+-- what the parts of a plant stand for
+abbrev pub plant_of : {B : Type 0} → Parts B → PlantState B
+plant_of p = record { graph = arc_value p.graph; capacities = sizes_of p.capacities; state = state_of p.stores.handed.items p.firings }
+
+-- what never changes: the rates and the capacities are the graph's, and each block has a place for what its jobs are lent
+pub record IsBuilt {B : Type 0} (meaning : B → Meaning) (p : Parts B) : Type 0 where
+  pub rates : AreRates (net_of meaning (arc_value p.graph)) p.rates
+  pub capacities : sizes_of p.capacities ≡ capacities_of (net_of meaning (arc_value p.graph)) (answer_of p.rates)
+  pub places : length p.lent.items ≡ length (net_of meaning (arc_value p.graph)).nodes
+
+-- what the parts of a plant keep, and what they keep while block b has no room for its commit yet
+pub record IsRight {B : Type 0} (meaning : B → Meaning) (p : Parts B) : Type 0 where
+  pub keeps : Keeps (net_of meaning (arc_value p.graph)) (sizes_of p.capacities) p.tapes.items p.stores p.firings
+  pub built : IsBuilt meaning p
+
+pub record IsRightBut {B : Type 0} (meaning : B → Meaning) (p : Parts B) (b : ℕ) : Type 0 where
+  pub keeps : KeepsBut (net_of meaning (arc_value p.graph)) (sizes_of p.capacities) p.tapes.items p.stores p.firings b
+  pub built : IsBuilt meaning p
+
+-- the claim of block b that is in flight has these firings
+pub record IsFlight (net : Network) (st : State) (b first count : ℕ) : Type 0 where
+  pub inside : b < length net.nodes
+  pub some : 0 < count
+  pub first_is : first ≡ (progress_at st.progress b).firings
+  pub count_is : count ≡ (progress_at st.progress b).claimed
+
+-- what came of its work: windows are the job's, outputs and word those of its firings, all of the block's types
+pub record IsItsWork (net : Network) (st : State) (b : ℕ) (windows outputs : List Items) (word : ℕ) : Type 0 where
+  pub taken : map numbers_of windows ≡ (in_flight net st b).windows
+  pub taken_types : All (λ w. type_of w ≡ (node_at net b).meaning.inputs.item) windows
+  pub worked : IsWorked net st b (map numbers_of outputs) word
+  pub given_types : All (λ o. type_of o ≡ (node_at net b).meaning.outputs.item) outputs
+
+-- the state once the claim in flight of block b is committed, or given up
+abbrev pub with_claim_done : State → ℕ → State
+with_claim_done st b = let s = progress_at st.progress b in with_progress st b (record s { firings = s.firings + s.claimed; claimed = 0 })
+
+abbrev pub without_claim : State → ℕ → State
+without_claim st b = with_progress st b (record (progress_at st.progress b) { claimed = 0 })
+
+-- a network at rest, where the rates are balanced and each tape is closed: each block is done, and each sink holds its whole stream
+abbrev pub IsSettled : Network → State → Type 0
+IsSettled net st = (q : List ℕ) → balance_of net ≡ Balanced q → AreClosed net st → (is_all_done st ≡ true) × IsWhole net st

@@ -1,0 +1,71 @@
+//! What the calls of a plant answer.
+
+use firings::Need;
+use flowgraph::Block;
+use items::Items;
+use jobs::Job;
+use tags::Tag;
+
+/// How many items a source's tape holds after a `feed`.
+#[derive(Clone, Copy, Debug, PartialEq, Eq)]
+pub struct Fed(pub u64);
+
+/// How many items a source's tape holds as it is closed.
+#[derive(Clone, Copy, Debug, PartialEq, Eq)]
+pub struct Closed(pub u64);
+
+/// From which input item on a setting is in force.
+#[derive(Clone, Copy, Debug, PartialEq, Eq)]
+pub struct Taken(pub u64);
+
+/// What a claim answers.
+#[derive(Drop)]
+pub enum Claim<B: Block> {
+    /// The firings that were claimed.
+    Claimed(Job<B>),
+    /// The block is done, be it from now on.
+    Done,
+    /// A claim of the block is in flight.
+    Busy,
+    /// No firing fits as yet.
+    Waiting(Need),
+}
+
+/// What a step answers.
+#[derive(Clone, Copy, Debug, PartialEq, Eq)]
+pub enum Step {
+    /// So many firings were done.
+    Did(u32),
+    /// The block is done, be it from now on.
+    Done,
+    /// A claim of the block is in flight.
+    Busy,
+    /// No firing fits as yet.
+    Waiting(Need),
+}
+
+/// How many firings a commit was of.
+#[derive(Clone, Copy, Debug, PartialEq, Eq)]
+pub struct Did(pub u32);
+
+/// What the buffer of an output keeps.
+#[derive(Clone, Copy, Debug, PartialEq, Eq)]
+pub struct Stored {
+    pub items: usize,
+    /// The tags on items that were given and that a reader may still take.
+    pub tags: usize,
+}
+
+/// What a sink shows.
+#[derive(Debug, Drop)]
+pub struct Piece {
+    /// The number of the first item shown.
+    pub from: u64,
+    /// How many items the sink holds in all.
+    pub held: u64,
+    pub items: Items,
+    /// The tags on these items.
+    pub tags: Vec<Tag>,
+    /// Whether the sink is done, so that it holds its whole stream.
+    pub done: bool,
+}

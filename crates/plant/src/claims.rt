@@ -1,0 +1,226 @@
+//! Claims, and steps: a claim with its work and its commit in one.
+
+ghost use Rattle.std.specs.Prelude.{◌≡◌, ◌<◌, ◌≤◌, false, length, IfOk, OnOk, OnErr};
+ghost use Rattle.std.specs.Arc.{arc_value};
+ghost use Rattle.stream_model.specs.Network.{node_at};
+ghost use Rattle.stream_model.specs.Claims as claims;
+ghost use Rattle.stream_model.specs.Machine as machine;
+ghost use Rattle.stream_model.specs.Machine.{counts_of, claim_of, next, step_of};
+ghost use Rattle.machine_laws.specs.Stays.{in_flight};
+ghost use Rattle.flowgraph.specs.Flowgraph.{net_of};
+ghost use Rattle.firings.specs.Decision.{answer_of};
+ghost use Rattle.stores.specs.Stores.{stored_in};
+ghost use Rattle.stores.specs.Lending.{IsLent};
+ghost use Rattle.plant.specs.Plant.{IsRight, IsRightBut, IsFlight, IsItsWork, plant_of, with_claim_done, without_claim};
+ghost use Rattle.plant.specs.Answers.{Answered, IsOf, is_claimed, claim_reply, reply_of, step_reply};
+
+use crate::answers::{Claim, Step};
+use crate::fault::PlantFault;
+use crate::parts::Parts;
+use delivery::release;
+use firings::Decision;
+use flowgraph::{Block, BlockId};
+use jobs::{Job, Lent};
+use lending::{lend, make_room};
+use std::alloc::{AllocError, Global};
+use std::mem::replace;
+use std::sync::Arc;
+
+impl<B: Block> Parts<B> {
+    /// Claims at most `max` firings of a block, and makes room for their commit.
+    pub fn claim(&mut self, alloc: Global, block: BlockId, max: u32) -> Result<Claim<B>, PlantFault>
+        requires right { IsRight B.meaning self.old }
+        requires some { 1 ≤ max }
+        ensures right { IsRight B.meaning self.new }
+        ensures answered { let old = plant_of self.old in Answered (next (net_of B.meaning old.graph) old.capacities old.state (machine.Claim block.0 max)) old (plant_of self.new) (reply_of claim_reply result) }
+        ensures of_graph { IfOk result (IsOf (plant_of self.old).graph) }
+    {
+        self.graph.in_order();
+        if self.graph.len() <= block.0 as usize {
+            return Err(PlantFault::NoSuchBlock);
+        }
+        match self.decide(block, max) {
+            Decision::Claimed { first, count } => {
+                let job = self.job(alloc, block, first, count)?;
+                Ok(Claim::Claimed(job))
+            }
+            Decision::Done | Decision::Ended => Ok(Claim::Done),
+            Decision::Busy => Ok(Claim::Busy),
+            Decision::Waiting(need) => Ok(Claim::Waiting(need)),
+        }
+    }
+
+    /// Claims at most `max` firings of a block, does their work and commits it.
+    pub fn step(&mut self, alloc: Global, block: BlockId, max: u32) -> Result<Step, PlantFault>
+        requires right { IsRight B.meaning self.old }
+        requires some { 1 ≤ max }
+        ensures right { IsRight B.meaning self.new }
+        ensures answered { let old = plant_of self.old in Answered (step_of (net_of B.meaning old.graph) old.capacities old.state block.0 max) old (plant_of self.new) (reply_of step_reply result) }
+    {
+        self.graph.in_order();
+        if self.graph.len() <= block.0 as usize {
+            return Err(PlantFault::NoSuchBlock);
+        }
+        match self.decide(block, max) {
+            Decision::Claimed { first, count } => {
+                self.fire(alloc, block, first, count)?;
+                Ok(Step::Did(count))
+            }
+            Decision::Done | Decision::Ended => Ok(Step::Done),
+            Decision::Busy => Ok(Step::Busy),
+            Decision::Waiting(need) => Ok(Step::Waiting(need)),
+        }
+    }
+
+    // Decides a claim, and makes it but for what its job needs. Where the block ends, no buffer waits for it any longer.
+    fn decide(&mut self, block: BlockId, max: u32) -> Decision
+        requires right { IsRight B.meaning self.old }
+        requires block { block.0 < length (arc_value self.old.graph).blocks }
+        ensures decision { let old = plant_of self.old in
+            let net = net_of B.meaning old.graph in
+            let counts = counts_of net old.capacities old.state block.0 in
+            result ≡ answer_of counts.firings (claims.decide (node_at net block.0) counts max) }
+        ensures state { let old = plant_of self.old in plant_of self.new ≡ record old { state = (claim_of (net_of B.meaning old.graph) old.capacities old.state block.0 max).1 } }
+        ensures right { IsRightBut B.meaning self.new block.0 }
+        ensures rest { is_claimed result ≡ false → IsRight B.meaning self.new }
+    {
+        self.graph.in_order();
+        let decision = self.firings.claim(
+            &self.graph,
+            self.capacities.rows(),
+            &self.tapes,
+            block,
+            max,
+        );
+        if let Decision::Ended = decision {
+            release(&mut self.stores, &self.graph, block);
+        }
+        decision
+    }
+
+    // The job of the claim in flight of a block. Without memory for it the claim is given up.
+    fn job(
+        &mut self,
+        alloc: Global,
+        block: BlockId,
+        first: u64,
+        count: u32,
+    ) -> Result<Job<B>, AllocError>
+        requires right { IsRightBut B.meaning self.old block.0 }
+        requires flight { let old = plant_of self.old in IsFlight (net_of B.meaning old.graph) old.state block.0 first count }
+        ensures right { IsRight B.meaning self.new }
+        ensures graph { IfOk result (λ job. job.graph ≡ (plant_of self.old).graph) }
+        ensures job { let old = plant_of self.old in IfOk result (λ job. job.job ≡ in_flight (net_of B.meaning old.graph) old.state block.0) }
+        ensures same { OnOk result (plant_of self.new ≡ plant_of self.old) }
+        ensures given_up { let old = plant_of self.old in OnErr result (plant_of self.new ≡ record old { state = without_claim old.state block.0 }) }
+    {
+        self.graph.in_order();
+        match self.made_job(alloc, block, first, count) {
+            Ok(job) => Ok(job),
+            Err(refusal) => {
+                self.firings.abandon(block);
+                Err(refusal)
+            }
+        }
+    }
+
+    fn made_job(
+        &mut self,
+        alloc: Global,
+        block: BlockId,
+        first: u64,
+        count: u32,
+    ) -> Result<Job<B>, AllocError>
+        requires right { IsRightBut B.meaning self.old block.0 }
+        requires flight { let old = plant_of self.old in IsFlight (net_of B.meaning old.graph) old.state block.0 first count }
+        ensures same { plant_of self.new ≡ plant_of self.old }
+        ensures right { IsRightBut B.meaning self.new block.0 }
+        ensures room { OnOk result (IsRight B.meaning self.new) }
+        ensures graph { IfOk result (λ job. job.graph ≡ (plant_of self.old).graph) }
+        ensures job { let old = plant_of self.old in IfOk result (λ job. job.job ≡ in_flight (net_of B.meaning old.graph) old.state block.0) }
+    {
+        self.graph.in_order();
+        let graph = Arc::try_clone(&self.graph)?;
+        let lent = self.lend(alloc, block, first, count)?;
+        let word = self.stores.words[block.0 as usize];
+        Ok(Job::new(graph, block, first, count, word, lent))
+    }
+
+    // Does the firings of the claim in flight of a block and commits them. Without memory for it the claim is given up.
+    fn fire(
+        &mut self,
+        alloc: Global,
+        block: BlockId,
+        first: u64,
+        count: u32,
+    ) -> Result<(), AllocError>
+        requires right { IsRightBut B.meaning self.old block.0 }
+        requires flight { let old = plant_of self.old in IsFlight (net_of B.meaning old.graph) old.state block.0 first count }
+        ensures right { IsRight B.meaning self.new }
+        ensures fired { let old = plant_of self.old in OnOk result (plant_of self.new ≡ record old { state = with_claim_done old.state block.0 }) }
+        ensures given_up { let old = plant_of self.old in OnErr result (plant_of self.new ≡ record old { state = without_claim old.state block.0 }) }
+    {
+        self.graph.in_order();
+        match self.lend(alloc, block, first, count) {
+            Ok(mut lent) => {
+                let word = self.work(block, first, count, &mut lent);
+                self.store(block, first, count, &lent.windows, &lent.outputs, word);
+                self.lent[block.0 as usize] = lent;
+                Ok(())
+            }
+            Err(refusal) => {
+                self.firings.abandon(block);
+                Err(refusal)
+            }
+        }
+    }
+
+    // Does the work of the claim in flight of a block, and answers the state word after it.
+    fn work(&self, block: BlockId, first: u64, count: u32, lent: &mut Lent) -> u64
+        requires right { IsRight B.meaning self.now }
+        requires flight { let plant = plant_of self.now in IsFlight (net_of B.meaning plant.graph) plant.state block.0 first count }
+        requires lent { IsLent (net_of B.meaning (plant_of self.now).graph) (stored_in self.now.stores) block.0 first count lent.old.windows.items lent.old.held.items lent.old.outputs.items }
+        ensures work { let plant = plant_of self.now in IsItsWork (net_of B.meaning plant.graph) plant.state block.0 lent.new.windows.items lent.new.outputs.items result }
+    {
+        self.graph.in_order();
+        let multiple = u64::from(self.graph.options(block).multiple);
+        self.graph.block(block).work(
+            self.stores.words[block.0 as usize],
+            multiple * first,
+            multiple * u64::from(count),
+            &lent.windows,
+            &lent.held,
+            &mut lent.outputs,
+        )
+    }
+
+    // Lends what a job of the claim in flight needs, in the memory of the block's last job, and makes room for its commit.
+    fn lend(
+        &mut self,
+        alloc: Global,
+        block: BlockId,
+        first: u64,
+        count: u32,
+    ) -> Result<Lent, AllocError>
+        requires right { IsRightBut B.meaning self.old block.0 }
+        requires flight { let old = plant_of self.old in IsFlight (net_of B.meaning old.graph) old.state block.0 first count }
+        ensures same { plant_of self.new ≡ plant_of self.old }
+        ensures right { IsRightBut B.meaning self.new block.0 }
+        ensures room { OnOk result (IsRight B.meaning self.new) }
+        ensures lent { IfOk result (λ lent. IsLent (net_of B.meaning (plant_of self.old).graph) (stored_in self.new.stores) block.0 first count lent.windows.items lent.held.items lent.outputs.items) }
+    {
+        self.graph.in_order();
+        make_room(&mut self.stores, &self.graph, block, first, count)?;
+        let mut lent = replace(&mut self.lent[block.0 as usize], Lent::new(alloc));
+        lend(
+            alloc,
+            &self.stores,
+            &self.graph,
+            block,
+            first,
+            count,
+            &mut lent,
+        )?;
+        Ok(lent)
+    }
+}

@@ -1,0 +1,102 @@
+//! Jobs that are brought back: done, or given up.
+
+ghost use Rattle.std.specs.Prelude.{◌≡◌};
+ghost use Rattle.stream_model.specs.Machine as machine;
+ghost use Rattle.stream_model.specs.Machine.{commit_of, abandon_of};
+ghost use Rattle.flowgraph.specs.Flowgraph.{net_of};
+ghost use Rattle.flights.specs.Flight.{is_own};
+ghost use Rattle.plant.specs.Plant.{IsRight, IsFlight, IsItsWork, plant_of, with_claim_done};
+ghost use Rattle.plant.specs.Answers.{IsTaken};
+
+use crate::answers::Did;
+use crate::parts::Parts;
+use delivery::deliver;
+use flights::{Brought, is_in_flight};
+use flowgraph::{Block, BlockId};
+use items::Items;
+use jobs::{Job, Worked};
+
+impl<B: Block> Parts<B> {
+    /// Commits the work of the claim in flight of a block. Any other work comes back.
+    pub fn commit(&mut self, worked: Worked<B>) -> Result<Did, Worked<B>>
+        requires { IsRight B.meaning self.old }
+        ensures right { IsRight B.meaning self.new }
+        ensures taken { let old = plant_of self.old in
+            IsTaken (λ d. machine.Did d.0) (commit_of (net_of B.meaning old.graph) old.state (is_own B.eq old.graph worked.graph worked.job.block) worked.job) old (plant_of self.new) worked result }
+    {
+        self.graph.in_order();
+        if !is_in_flight(
+            &self.stores,
+            &self.firings,
+            &self.graph,
+            &Brought::worked(&worked),
+        ) {
+            return Err(worked);
+        }
+        worked.graph().in_order();
+        worked.in_order();
+        let (block, count) = (worked.block(), worked.count());
+        self.store(
+            block,
+            worked.first(),
+            count,
+            worked.windows(),
+            worked.outputs(),
+            worked.next_word(),
+        );
+        self.lent[block.0 as usize] = worked.into_lent();
+        Ok(Did(count))
+    }
+
+    /// Gives up the claim in flight of a block. Any other job comes back.
+    pub fn abandon(&mut self, job: Job<B>) -> Result<(), Job<B>>
+        requires { IsRight B.meaning self.old }
+        ensures right { IsRight B.meaning self.new }
+        ensures taken { let old = plant_of self.old in
+            IsTaken (λ u. machine.Abandoned) (abandon_of (net_of B.meaning old.graph) old.state (is_own B.eq old.graph job.graph job.job.block) job.job) old (plant_of self.new) job result }
+    {
+        self.graph.in_order();
+        if !is_in_flight(
+            &self.stores,
+            &self.firings,
+            &self.graph,
+            &Brought::job(&job),
+        ) {
+            return Err(job);
+        }
+        let block = job.block();
+        self.firings.abandon(block);
+        self.lent[block.0 as usize] = job.into_lent();
+        Ok(())
+    }
+
+    /// Commits the claim in flight of a block, with what came of its work.
+    pub fn store(
+        &mut self,
+        block: BlockId,
+        first: u64,
+        count: u32,
+        windows: &[Items],
+        outputs: &[Items],
+        word: u64,
+    )
+        requires right { IsRight B.meaning self.old }
+        requires flight { let old = plant_of self.old in IsFlight (net_of B.meaning old.graph) old.state block.0 first count }
+        requires work { let old = plant_of self.old in IsItsWork (net_of B.meaning old.graph) old.state block.0 windows.now outputs.now word }
+        ensures right { IsRight B.meaning self.new }
+        ensures state { let old = plant_of self.old in plant_of self.new ≡ record old { state = with_claim_done old.state block.0 } }
+    {
+        self.graph.in_order();
+        deliver(
+            &mut self.stores,
+            &self.graph,
+            block,
+            first,
+            count,
+            windows,
+            outputs,
+            word,
+        );
+        self.firings.commit(block);
+    }
+}

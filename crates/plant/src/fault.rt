@@ -1,0 +1,93 @@
+//! The refusals of a plant.
+
+ghost use Rattle.std.specs.Prelude.{◌≡◌};
+ghost use Rattle.plant.specs.Fault.{number_of};
+ghost use Rattle.plant.specs.declared.fault.PlantFault.TheVariants.{Memory};
+
+use std::alloc::AllocError;
+use std::error::Error;
+use std::fmt;
+
+/// Why a call of a plant was refused. The plant is as before.
+#[derive(Clone, Copy, Debug, PartialEq, Eq)]
+pub enum PlantFault {
+    /// No block of the graph has this number.
+    NoSuchBlock,
+    /// The block is no source.
+    NotSource,
+    /// The block keeps no items.
+    NotSink,
+    /// The source's tape was closed before.
+    Closed,
+    /// The items are of another type than the source's.
+    ItemRange,
+    /// A mark lies outside the items that it was fed with.
+    TagPlace,
+    /// The tape would be longer than 2^32 items.
+    TapeFull,
+    /// The setting would begin before the first item that is still open, which is the floor.
+    Late { floor: u64 },
+    /// The block has no setting.
+    NoSetting,
+    /// The block's setting is of another sort, range or length.
+    WrongSetting,
+    /// The sink holds fewer items than are skipped.
+    BeyondEnd,
+    /// The block has no used output of this number.
+    NoSuchPort,
+    /// Memory ran out.
+    Memory,
+}
+
+impl PlantFault {
+    /// The number by which the refusal is reported.
+    pub fn number(&self) -> u32
+        ensures { result ≡ number_of self.now }
+    {
+        match self {
+            PlantFault::NoSuchBlock => 20,
+            PlantFault::NotSource => 21,
+            PlantFault::NotSink => 22,
+            PlantFault::Closed => 23,
+            PlantFault::ItemRange => 24,
+            PlantFault::TagPlace => 25,
+            PlantFault::TapeFull => 26,
+            PlantFault::Late { .. } => 27,
+            PlantFault::NoSetting => 28,
+            PlantFault::WrongSetting => 29,
+            PlantFault::BeyondEnd => 31,
+            PlantFault::Memory => 32,
+            PlantFault::NoSuchPort => 33,
+        }
+    }
+}
+
+impl fmt::Display for PlantFault {
+    fn fmt<W: fmt::Write>(&self, f: &mut fmt::Formatter<W>) -> fmt::Result {
+        match self {
+            PlantFault::NoSuchBlock => f.write_str("no such block"),
+            PlantFault::NotSource => f.write_str("the block is no source"),
+            PlantFault::NotSink => f.write_str("the block is no sink"),
+            PlantFault::Closed => f.write_str("the source is closed"),
+            PlantFault::ItemRange => f.write_str("the items are of another type"),
+            PlantFault::TagPlace => f.write_str("a mark lies outside its items"),
+            PlantFault::TapeFull => f.write_str("the tape is full"),
+            PlantFault::Late { floor } => write!(f, "set below item {floor}"),
+            PlantFault::NoSetting => f.write_str("the block has no setting"),
+            PlantFault::WrongSetting => f.write_str("the block takes no such setting"),
+            PlantFault::BeyondEnd => f.write_str("the sink does not hold so many items"),
+            PlantFault::NoSuchPort => f.write_str("the block has no such output"),
+            PlantFault::Memory => f.write_str("out of memory"),
+        }
+    }
+}
+
+impl Error for PlantFault {}
+
+impl From<AllocError> for PlantFault {
+    ghost from_gives = { λ _ e. e ≡ Memory };
+
+    fn from(_refusal: AllocError) -> PlantFault {
+        PlantFault::Memory
+    }
+}

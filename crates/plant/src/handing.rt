@@ -1,0 +1,118 @@
+//! The calls that hand something to a block: items, the end of them, and settings.
+
+ghost use Rattle.std.specs.Prelude.{◌≡◌, ◌<◌, length, map};
+ghost use Rattle.std.specs.Arc.{arc_value};
+ghost use Rattle.stream_model.specs.Network.{writers_of};
+ghost use Rattle.stream_model.specs.Machine as machine;
+ghost use Rattle.stream_model.specs.Machine.{feed_of, close_of, set_of, floor_of};
+ghost use Rattle.items.specs.Items.{type_of, numbers_of};
+ghost use Rattle.settings.specs.Values.{value_of};
+ghost use Rattle.flowgraph.specs.Flowgraph.{net_of};
+ghost use Rattle.stores.specs.Stores.{mark_of};
+ghost use Rattle.plant.specs.Plant.{IsRight, plant_of};
+ghost use Rattle.plant.specs.Answers.{Answered, AnsweredAlways, reply_of};
+
+use crate::answers::{Closed, Fed, Taken};
+use crate::fault::PlantFault;
+use crate::looks::{fit, same_type, source_type, wanted};
+use crate::parts::Parts;
+use firings::Tape;
+use flowgraph::{Block, BlockId};
+use items::{Items, Mark};
+use settings::Value;
+use std::alloc::Global;
+
+/// The greatest number of items on a source's tape.
+pub const LONGEST_TAPE: u64 = 4_294_967_296;
+
+impl<B: Block> Parts<B> {
+    /// Closes a source's tape.
+    pub fn close(&mut self, source: BlockId) -> Result<Closed, PlantFault>
+        requires { IsRight B.meaning self.old }
+        ensures right { IsRight B.meaning self.new }
+        ensures answered { let old = plant_of self.old in AnsweredAlways (close_of (net_of B.meaning old.graph) old.state source.0) old (plant_of self.new) (reply_of (λ c. machine.Closed c.0) result) }
+    {
+        self.graph.in_order();
+        source_type(&self.graph, source)?;
+        let at = source.0 as usize;
+        let tape = self.tapes[at];
+        if tape.closed {
+            return Err(PlantFault::Closed);
+        }
+        self.tapes[at] = Tape {
+            closed: true,
+            ..tape
+        };
+        self.stores.handed[at].closed = true;
+        Ok(Closed(tape.length))
+    }
+
+    /// Appends items to a source's tape, with marks on them.
+    pub fn feed(&mut self, source: BlockId, items: Items, marks: &[Mark]) -> Result<Fed, PlantFault>
+        requires { IsRight B.meaning self.old }
+        ensures right { IsRight B.meaning self.new }
+        ensures answered { let old = plant_of self.old in Answered (feed_of (net_of B.meaning old.graph) old.state source.0 (type_of items) (numbers_of items) (map mark_of marks.now)) old (plant_of self.new) (reply_of (λ f. machine.Fed f.0) result) }
+    {
+        self.graph.in_order();
+        let item = source_type(&self.graph, source)?;
+        if !same_type(items.item_type(), item) {
+            return Err(PlantFault::ItemRange);
+        }
+        let at = source.0 as usize;
+        let tape = self.tapes[at];
+        if tape.closed {
+            return Err(PlantFault::Closed);
+        }
+        let total = tape.length + items.len() as u64;
+        if !fit(marks, tape.length, total) {
+            return Err(PlantFault::TagPlace);
+        }
+        if LONGEST_TAPE < total {
+            return Err(PlantFault::TapeFull);
+        }
+        self.stores.handed[at].feed(source.0, &items, marks)?;
+        self.tapes[at] = Tape {
+            length: total,
+            ..tape
+        };
+        Ok(Fed(total))
+    }
+
+    /// Sets the value of a block's setting from item `at` of its first input on, or from the first that is still open.
+    pub fn set(
+        &mut self,
+        alloc: Global,
+        block: BlockId,
+        at: Option<u64>,
+        value: Value,
+    ) -> Result<Taken, PlantFault>
+        requires { IsRight B.meaning self.old }
+        ensures right { IsRight B.meaning self.new }
+        ensures answered { let old = plant_of self.old in Answered (set_of (net_of B.meaning old.graph) old.state block.0 at (value_of value)) old (plant_of self.new) (reply_of (λ t. machine.Taken t.0) result) }
+    {
+        self.graph.in_order();
+        wanted(&self.graph, block, &value)?;
+        let floor = self.floor(block);
+        let place = at.unwrap_or(floor);
+        if place < floor {
+            return Err(PlantFault::Late { floor });
+        }
+        self.stores.handed[block.0 as usize].set(alloc, place, value)?;
+        Ok(Taken(place))
+    }
+
+    // The first item of a block's first input at which a setting may still begin.
+    fn floor(&self, block: BlockId) -> u64
+        requires right { IsRight B.meaning self.now }
+        requires block { block.0 < length (arc_value self.now.graph).blocks }
+        requires input { 0 < length (writers_of (net_of B.meaning (arc_value self.now.graph)) block.0) }
+        ensures { let plant = plant_of self.now in result ≡ floor_of (net_of B.meaning plant.graph) plant.state block.0 }
+    {
+        self.graph.in_order();
+        let own = self.firings.progress(block);
+        let multiple = u64::from(self.graph.options(block).multiple);
+        self.graph
+            .block(block)
+            .taken(0, multiple * (own.firings + u64::from(own.claimed)))
+    }
+}

@@ -1,0 +1,20 @@
+//! The plant of any graph: what it stores of a run, and the calls that move it.
+#![tactic(auto)]
+
+pub mod answers;
+mod claims;
+mod commits;
+pub mod fault;
+mod handing;
+mod looks;
+mod opening;
+mod parts;
+pub mod plant;
+mod reading;
+
+pub use answers::{Claim, Closed, Did, Fed, Piece, Step, Stored, Taken};
+pub use fault::PlantFault;
+pub use firings::Need;
+pub use flowgraph::{Block, BlockId, Valid};
+pub use jobs::{Job, Worked};
+pub use plant::Plant;

@@ -1,0 +1,23 @@
+//! What a plant is made of.
+
+use firings::{Firings, Tape};
+use flowgraph::{Block, Valid};
+use jobs::Lent;
+use rates::{BufferCapacities, Rates};
+use std::alloc::Global;
+use std::sync::Arc;
+use stores::Stores;
+
+/// The parts of a plant. Contracts speak of them by `plant_of` and `Keeps`.
+#[derive(Drop)]
+pub struct Parts<B: Block> {
+    pub graph: Arc<Valid<B>, Global>,
+    pub rates: Rates,
+    pub capacities: BufferCapacities,
+    pub firings: Firings,
+    /// The lengths and marks of the tapes, as firings look at them.
+    pub tapes: Vec<Tape>,
+    pub stores: Stores,
+    /// For each block the memory of its windows and outputs, while no job has it.
+    pub lent: Vec<Lent>,
+}

@@ -1,0 +1,201 @@
+//! The plant.
+
+ghost use Rattle.std.specs.Prelude.{◌≡◌, ◌≤◌, map, true, IfOk, IfErr};
+ghost use Rattle.stream_model.specs.Machine as machine;
+ghost use Rattle.stream_model.specs.Machine.{next, step_of, commit_of, abandon_of, feed_of, close_of, set_of, read_of, is_idle, is_all_done, is_quiet, IsWhole, HoldsAll};
+ghost use Rattle.rates.specs.Answer.{AreRates};
+ghost use Rattle.plant.specs.Plant.{IsSettled};
+ghost use Rattle.items.specs.Items.{type_of, numbers_of};
+ghost use Rattle.settings.specs.Values.{value_of};
+ghost use Rattle.flowgraph.specs.Flowgraph.{net_of};
+ghost use Rattle.flights.specs.Flight.{is_own};
+ghost use Rattle.stream_laws.specs.CanRun.{CanRun};
+ghost use Rattle.machine_laws.specs.Sound.{Sound};
+ghost use Rattle.stores.specs.Stores.{mark_of};
+ghost use Rattle.plant.specs.Answers.{Answered, AnsweredAlways, AnsweredBy, IsOf, IsTaken, claim_reply, piece_reply, reply_of, source_type_of, step_reply};
+ghost use Rattle.plant.specs.Keeping.{IsKeptOf, kept_refusal};
+ghost use Rattle.plant.specs.Opening.{opening_plant};
+
+use crate::answers::{Claim, Closed, Did, Fed, Piece, Step, Stored, Taken};
+use crate::fault::PlantFault;
+use crate::looks::source_type;
+use crate::parts::Parts;
+use flowgraph::{Block, BlockId, Valid};
+use items::{ItemType, Items, Mark};
+use jobs::{Job, Worked};
+use rates::Rates;
+use settings::Value;
+use std::alloc::{AllocError, Global};
+use std::marker::Model;
+
+/// A flowgraph with what it was handed and how far it is. A contract sees the graph, the capacities, and the machine's state.
+#[derive(Drop)]
+pub struct Plant<B: Block> {
+    parts: Parts<B>,
+}
+
+impl<B: Block> Model for Plant<B> {
+    ghost use Rattle.plant.specs.Plant.{PlantState, plant_of, IsRight};
+
+    ghost Value = { PlantState B };
+
+    ghost view = { λ p. plant_of p.parts };
+
+    ghost invariant = { λ p. IsRight B.meaning p.parts };
+}
+
+impl<B: Block> Plant<B> {
+    /// The plant of a graph of which nothing is fed and nothing fired. Without memory for it the graph comes back.
+    pub fn open(alloc: Global, graph: Valid<B>) -> Result<Plant<B>, (Valid<B>, AllocError)>
+        ensures opens { IfOk result (λ plant. plant ≡ opening_plant B.meaning graph) }
+        ensures back { IfErr result (λ refusal. refusal.0 ≡ graph) }
+    {
+        match Parts::open(alloc, graph) {
+            Ok(parts) => Ok(Plant { parts }),
+            Err(refusal) => Err(refusal),
+        }
+    }
+
+    /// The graph.
+    pub fn graph(&self) -> &Valid<B>
+        ensures { result.now ≡ self.now.graph }
+    {
+        &self.parts.graph
+    }
+
+    /// The type of the items that a source takes.
+    pub fn source_type(&self, block: BlockId) -> Result<ItemType, PlantFault>
+        ensures { result ≡ source_type_of (net_of B.meaning self.now.graph) block.0 }
+    {
+        source_type(&self.parts.graph, block)
+    }
+
+    /// Whether no claim is in flight.
+    pub fn idle(&self) -> bool
+        ensures { result ≡ is_idle self.now.state }
+    {
+        self.parts.firings.idle()
+    }
+
+    /// The rates of the graph.
+    pub fn rates(&self) -> &Rates
+        ensures { AreRates (net_of B.meaning self.now.graph) result.now }
+    {
+        &self.parts.rates
+    }
+
+    /// Whether each block is done. Then each sink holds its whole stream.
+    pub fn all_done(&self) -> bool
+        ensures value { result ≡ is_all_done self.now.state }
+        ensures whole { result ≡ true → IsWhole (net_of B.meaning self.now.graph) self.now.state }
+    {
+        self.parts.graph.in_order();
+        self.parts.firings.all_done()
+    }
+
+    /// Whether no claim is in flight and each block is done or would wait. It looks at each block. Where the rates are balanced and each
+    /// tape is closed, each block is then done, and each sink holds its whole stream.
+    pub fn quiet(&self) -> bool
+        ensures value { result ≡ is_quiet (net_of B.meaning self.now.graph) self.now.capacities self.now.state }
+        ensures whole { result ≡ true → IsSettled (net_of B.meaning self.now.graph) self.now.state }
+    {
+        let parts = &self.parts;
+        parts.graph.in_order();
+        parts
+            .firings
+            .quiet(&parts.graph, parts.capacities.rows(), &parts.tapes)
+    }
+
+    /// Closes a source's tape: nothing more comes. It takes no memory.
+    pub fn close(&mut self, source: BlockId) -> Result<Closed, PlantFault>
+        ensures { AnsweredAlways (close_of (net_of B.meaning self.old.graph) self.old.state source.0) self.old self.new (reply_of (λ c. machine.Closed c.0) result) }
+    {
+        self.parts.close(source)
+    }
+
+    /// Appends items to a source's tape, with marks on them. The refusals come in the order of the machine; an `Err` changes nothing.
+    pub fn feed(&mut self, source: BlockId, items: Items, marks: &[Mark]) -> Result<Fed, PlantFault>
+        ensures { Answered (feed_of (net_of B.meaning self.old.graph) self.old.state source.0 (type_of items) (numbers_of items) (map mark_of marks.now)) self.old self.new (reply_of (λ f. machine.Fed f.0) result) }
+    {
+        self.parts.feed(source, items, marks)
+    }
+
+    /// Sets the value of a block's setting from item `at` of its first input on, or from the first that is still open. The refusals come in
+    /// the order of the machine; an `Err` changes nothing.
+    pub fn set(
+        &mut self,
+        alloc: Global,
+        block: BlockId,
+        at: Option<u64>,
+        value: Value,
+    ) -> Result<Taken, PlantFault>
+        ensures { Answered (set_of (net_of B.meaning self.old.graph) self.old.state block.0 at (value_of value)) self.old self.new (reply_of (λ t. machine.Taken t.0) result) }
+    {
+        self.parts.set(alloc, block, at, value)
+    }
+
+    /// What a sink holds from item `from` on, at most `max` items of it, with the tags on them. A piece that says done is of a whole stream.
+    pub fn read(
+        &self,
+        alloc: Global,
+        sink: BlockId,
+        from: u64,
+        max: u64,
+    ) -> Result<Piece, PlantFault>
+        ensures answered { AnsweredBy (read_of (net_of B.meaning self.now.graph) self.now.state sink.0 from max) (reply_of piece_reply result) }
+        ensures whole { IfOk result (λ piece. piece.done ≡ true → HoldsAll (net_of B.meaning self.now.graph) self.now.state sink.0) }
+    {
+        self.parts.read(alloc, sink, from, max)
+    }
+
+    /// How much the buffer of an output keeps: no more than its capacity and the greatest past of its readers ask.
+    pub fn stored(&self, block: BlockId, port: usize) -> Result<Stored, PlantFault>
+        ensures refused { kept_refusal (net_of B.meaning self.now.graph) block.0 port result }
+        ensures kept { IfOk result (IsKeptOf (net_of B.meaning self.now.graph) self.now.capacities self.now.state block.0 port) }
+    {
+        self.parts.stored(block, port)
+    }
+
+    /// Claims at most `max` firings of a block: as many as there are items for, room for, and left of its limit. All memory that their work
+    /// and their commit need is had from now on. An `Err` changes nothing.
+    pub fn claim(&mut self, alloc: Global, block: BlockId, max: u32) -> Result<Claim<B>, PlantFault>
+        requires { 1 ≤ max }
+        ensures answered { Answered (next (net_of B.meaning self.old.graph) self.old.capacities self.old.state (machine.Claim block.0 max)) self.old self.new (reply_of claim_reply result) }
+        ensures of_graph { IfOk result (IsOf self.old.graph) }
+    {
+        self.parts.claim(alloc, block, max)
+    }
+
+    /// Claims at most `max` firings of a block, does their work and commits it. An `Err` changes nothing.
+    pub fn step(&mut self, alloc: Global, block: BlockId, max: u32) -> Result<Step, PlantFault>
+        requires { 1 ≤ max }
+        ensures { Answered (step_of (net_of B.meaning self.old.graph) self.old.capacities self.old.state block.0 max) self.old self.new (reply_of step_reply result) }
+    {
+        self.parts.step(alloc, block, max)
+    }
+
+    /// Commits a job that was done, and tells of how many firings it was. Work that is not that of the claim in flight of its block comes back,
+    /// and nothing changes: it has to agree with it in the block (by number, by the number of its used outputs, and as a block), first firing,
+    /// count, windows, settings and opening state word. It takes no memory.
+    pub fn commit(&mut self, worked: Worked<B>) -> Result<Did, Worked<B>>
+        ensures { IsTaken (λ d. machine.Did d.0) (commit_of (net_of B.meaning self.old.graph) self.old.state (is_own B.eq self.old.graph worked.graph worked.job.block) worked.job) self.old self.new worked result }
+    {
+        self.parts.commit(worked)
+    }
+
+    /// Gives up a job: its firings are as if never claimed. A job that is not the claim in flight of its block comes back, as from `commit`. It
+    /// takes no memory.
+    pub fn abandon(&mut self, job: Job<B>) -> Result<(), Job<B>>
+        ensures { IsTaken (λ u. machine.Abandoned) (abandon_of (net_of B.meaning self.old.graph) self.old.state (is_own B.eq self.old.graph job.graph job.job.block) job.job) self.old self.new job result }
+    {
+        self.parts.abandon(job)
+    }
+
+    /// The graph runs, and the state is one that calls lead to. The call is there for what its contract says.
+    pub fn in_order(&self)
+        ensures runs { CanRun (net_of B.meaning self.now.graph) }
+        ensures sound { Sound (net_of B.meaning self.now.graph) self.now.capacities self.now.state }
+    {
+        self.parts.graph.in_order();
+    }
+}

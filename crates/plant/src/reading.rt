@@ -1,0 +1,69 @@
+//! What a plant shows.
+
+ghost use Rattle.std.specs.Prelude.{◌≡◌, true, IfOk};
+ghost use Rattle.stream_model.specs.Machine.{read_of, HoldsAll};
+ghost use Rattle.flowgraph.specs.Flowgraph.{net_of};
+ghost use Rattle.plant.specs.Plant.{IsRight, plant_of};
+ghost use Rattle.plant.specs.Answers.{AnsweredBy, reply_of, piece_reply};
+ghost use Rattle.plant.specs.Keeping.{IsKeptOf, kept_refusal};
+
+use crate::answers::{Piece, Stored};
+use crate::fault::PlantFault;
+use crate::looks::is_keeper;
+use crate::parts::Parts;
+use flowgraph::{Block, BlockId};
+use std::alloc::Global;
+use stores::{Kept, Segment};
+
+impl<B: Block> Parts<B> {
+    /// What a sink holds from item `from` on, at most `max` items of it, with the tags on them.
+    pub fn read(
+        &self,
+        alloc: Global,
+        sink: BlockId,
+        from: u64,
+        max: u64,
+    ) -> Result<Piece, PlantFault>
+        requires { IsRight B.meaning self.now }
+        ensures answered { let plant = plant_of self.now in AnsweredBy (read_of (net_of B.meaning plant.graph) plant.state sink.0 from max) (reply_of piece_reply result) }
+        ensures whole { let plant = plant_of self.now in IfOk result (λ piece. piece.done ≡ true → HoldsAll (net_of B.meaning plant.graph) plant.state sink.0) }
+    {
+        self.graph.in_order();
+        if self.graph.len() <= sink.0 as usize {
+            return Err(PlantFault::NoSuchBlock);
+        }
+        if !is_keeper(&self.graph, sink) {
+            return Err(PlantFault::NotSink);
+        }
+        let own = self.firings.progress(sink);
+        if own.firings < from {
+            return Err(PlantFault::BeyondEnd);
+        }
+        let to = from + max.min(own.firings - from);
+        let Segment { items, tags } = self.stores.piece(alloc, sink, from, to)?;
+        Ok(Piece {
+            from,
+            held: own.firings,
+            items,
+            tags,
+            done: own.done,
+        })
+    }
+
+    /// How much the buffer of an output keeps.
+    pub fn stored(&self, block: BlockId, port: usize) -> Result<Stored, PlantFault>
+        requires { IsRight B.meaning self.now }
+        ensures refused { let plant = plant_of self.now in kept_refusal (net_of B.meaning plant.graph) block.0 port result }
+        ensures kept { let plant = plant_of self.now in IfOk result (IsKeptOf (net_of B.meaning plant.graph) plant.capacities plant.state block.0 port) }
+    {
+        self.graph.in_order();
+        if self.graph.len() <= block.0 as usize {
+            return Err(PlantFault::NoSuchBlock);
+        }
+        if self.graph.outputs(block) <= port {
+            return Err(PlantFault::NoSuchPort);
+        }
+        let Kept { items, tags } = self.stores.kept(block, port);
+        Ok(Stored { items, tags })
+    }
+}

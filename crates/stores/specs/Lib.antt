@@ -1,0 +1,4 @@
+pub mod Stores
+pub mod Opening
+pub mod Lending
+pub mod Delivery

@@ -1,0 +1,97 @@
+//! All that is stored, block by block.
+
+ghost use Rattle.std.specs.Prelude.{◌≡◌, ◌<◌, ◌≤◌, [], length, map, min, slice_range, IfOk, IfSome, None, ◌+◌};
+ghost use Rattle.ring_readers.specs.State.{most_kept, slowest_of};
+ghost use Rattle.stream_model.specs.Tags.{tags_within};
+ghost use Rattle.stream_model.specs.Network.{nothing_handed};
+ghost use Rattle.items.specs.Items.{type_of, numbers_of};
+ghost use Rattle.items.specs.Tags.{tag_of};
+ghost use Rattle.flowgraph.specs.Flowgraph.{net_of};
+ghost use Rattle.plant_laws.specs.Stored.{buffers_in, buffer_at, sink_at};
+ghost use Rattle.plant_laws.specs.Opening.{stored_opening};
+
+use crate::handed::Handed;
+use crate::kept::Kept;
+use crate::opening::{all_handed, buffers, sinks, words};
+use crate::segment::{Segment, cut};
+use block_kinds::Block;
+use buffers::Buffer;
+use flowgraph::{BlockId, Valid};
+use recordings::Recording;
+use std::alloc::{AllocError, Global};
+use tags::Tag;
+
+/// What a plant stores, block by block.
+#[derive(Drop)]
+pub struct Stores {
+    /// Tapes and settings.
+    pub handed: Vec<Handed>,
+    /// The state words behind the committed firings.
+    pub words: Vec<u64>,
+    /// The buffer of each used output.
+    pub buffers: Vec<Vec<Buffer>>,
+    /// What the sinks that keep their items have collected.
+    pub sinks: Vec<Recording>,
+    /// A place for the tags that a commit brings to one output.
+    pub brought: Vec<Tag>,
+}
+
+impl Stores {
+    ghost use Rattle.stores.specs.Stores.{stored_in, handed_of};
+    ghost use Rattle.stores.specs.Opening.{HaveCapacities};
+
+    /// What is stored before anything happens. The capacities are those of the used outputs of each block, in items. It fails only where the
+    /// allocator refuses.
+    pub fn open<B: Block>(
+        alloc: Global,
+        graph: &Valid<B>,
+        capacities: &[Vec<u32>],
+    ) -> Result<Stores, AllocError>
+        requires { HaveCapacities (net_of B.meaning graph.now) (map (λ row. row.items) capacities.now) }
+        ensures stored { IfOk result (λ s. stored_in s ≡ stored_opening (net_of B.meaning graph.now) (map (λ row. row.items) capacities.now)) }
+        ensures handed { IfOk result (λ s. map handed_of s.handed.items ≡ map (λ _. nothing_handed) (net_of B.meaning graph.now).nodes) }
+        ensures brought { IfOk result (λ s. s.brought.items ≡ []) }
+    {
+        Ok(Stores {
+            handed: all_handed(alloc, graph)?,
+            words: words(alloc, graph)?,
+            buffers: buffers(alloc, graph, capacities)?,
+            sinks: sinks(alloc, graph)?,
+            brought: Vec::new(alloc),
+        })
+    }
+    /// A copy of items `from` to below `to` of what a sink has collected, with the tags on them. It fails only where the allocator refuses.
+    pub fn piece(
+        &self,
+        alloc: Global,
+        sink: BlockId,
+        from: u64,
+        to: u64,
+    ) -> Result<Segment, AllocError>
+        requires sink { sink.0 < length (stored_in self.now).sinks }
+        requires ordered { from ≤ to }
+        requires within { to ≤ length (sink_at (stored_in self.now) sink.0).items }
+        ensures item { IfOk result (λ segment. type_of segment.items ≡ (sink_at (stored_in self.now) sink.0).item) }
+        ensures items { IfOk result (λ segment. numbers_of segment.items ≡ slice_range (sink_at (stored_in self.now) sink.0).items from to) }
+        ensures tags { IfOk result (λ segment. map tag_of segment.tags.items ≡ tags_within from to (sink_at (stored_in self.now) sink.0).tags) }
+    {
+        cut(alloc, &self.sinks[sink.0 as usize], from, to)
+    }
+
+    /// How much the buffer of an output keeps.
+    pub fn kept(&self, block: BlockId, port: usize) -> Kept
+        requires { port < length (buffers_in (stored_in self.now).buffers block.0) }
+        ensures items { result.items ≡ length (buffer_at (stored_in self.now) block.0 port).ring.kept }
+        ensures tags { let buffer = buffer_at (stored_in self.now) block.0 port in
+            result.tags ≡ length (tags_within 0 buffer.ring.written buffer.tags) }
+        ensures all { let ring = (buffer_at (stored_in self.now) block.0 port).ring in result.items ≡ min ring.written (most_kept ring.capacity ring.greatest) }
+        ensures near { let ring = (buffer_at (stored_in self.now) block.0 port).ring in IfSome (slowest_of ring.readers) (λ place. ring.written ≤ place + ring.capacity) }
+        ensures none { slowest_of (buffer_at (stored_in self.now) block.0 port).ring.readers ≡ None → result.tags ≡ 0 }
+    {
+        let buffer = &self.buffers[block.0 as usize][port];
+        Kept {
+            items: buffer.items(),
+            tags: buffer.tags_kept(),
+        }
+    }
+}
