@@ -43,7 +43,7 @@ link_tools() {
 calls() {
     local wanted=$1 status=0
     shift
-    (cd "$elsewhere" && exec timeout 120 "$@") >"$room/output" 2>"$room/errors" || status=$?
+    (cd "$elsewhere" && exec timeout 600 "$@") >"$room/output" 2>"$room/errors" || status=$?
     [[ $status == "$wanted" ]] || wrong "$*: status $status in place of $wanted"
 }
 
@@ -226,7 +226,7 @@ waits_for() {
     exec {lock}<"$1"
     flock "$lock"
     : >"$room/errors"
-    (cd "$elsewhere" && exec timeout 60 ./build_by_link {lock}<&-) >"$room/output" 2>"$room/errors" &
+    (cd "$elsewhere" && exec timeout 600 ./build_by_link {lock}<&-) >"$room/output" 2>"$room/errors" &
     waits=$!
     wait_for grep -q waiting "$room/errors"
     writes errors "$2"

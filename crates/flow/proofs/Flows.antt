@@ -3,13 +3,13 @@ use Rattle.std.proofs.Common.{inl, inr, ◌≡◌, ℕ, suc, ◌+◌, List, [], 
 use Rattle.std.specs.Prelude.{Option, Result, Ok, Err, IfErr}
 use Rattle.std.specs.Io.KnownBytes.{Appends, Consumes, Keeps, IsAtEnd}
 use Rattle.std.proofs.KnownBytes.{Consumes-nil, Consumes-trans, Consumes-kept}
-use Rattle.stream_model.specs.Network.{State}
 use Rattle.script_text.specs.Lines.{lines_of}
 use Rattle.script_text.specs.Splits.{Split, IsUnfinished}
 use Rattle.script_text.specs.Scripts.{said_of, GoesOn}
 use Rattle.script_text.specs.Grammar.{Command, Parsed, Nothing, Bad, Says, parsed_from}
-use Rattle.flow.specs.Session.{Graph}
-use Rattle.flow.specs.Script.{Replies, Answered, Begins, Stops, Went, Unwritten, Flows, Ends, Breaks, script_after, script_of}
+use Rattle.plant.specs.Plant.{PlantState}
+use Rattle.flow.specs.Session.{Graph, Standing, SessionState, standing, standing_of, in_state, in_standing, none_kept}
+use Rattle.flow.specs.Script.{Replies, Answered, Begins, Stops, Went, Unwritten, Flows, Ends, EndsIn, Breaks, script_after, script_of}
 use Rattle.flow.specs.declared.script.ScriptFault.{ScriptFault}
 use Rattle.flow.specs.declared.script.ScriptFault.TheVariants.{BadLine, Read, Write, Memory}
 
@@ -23,8 +23,8 @@ appends_both (Some x) None c xs ys p q = absurd p
 appends_both (Some x) (Some y) None xs ys p q = absurd q
 appends_both (Some x) (Some y) (Some z) xs ys p q = q ∙ ap (λ (l : List ℕ). l ++ ys) p ∙ append_assoc x xs ys
 
-replies_both : (g : Graph) (xs ys : List Parsed) (a b c : State) (s t : List ℕ) → Replies g xs a b s → Replies g ys b c t → Replies g (xs ++ ys) a c (s ++ t)
-replies_both g [] ys a b c s t p q = let is : s ++ t ≡ t = ap (λ (l : List ℕ). l ++ t) p.0 in subst (λ (l : List ℕ). Replies g ys a c l) (sym is) (subst (λ (x : State). Replies g ys x c t) p.1 q)
+replies_both : (g : Graph) (xs ys : List Parsed) (a b c : Standing) (s t : List ℕ) → Replies g xs a b s → Replies g ys b c t → Replies g (xs ++ ys) a c (s ++ t)
+replies_both g [] ys a b c s t p q = let is : s ++ t ≡ t = ap (λ (l : List ℕ). l ++ t) p.0 in subst (λ (l : List ℕ). Replies g ys a c l) (sym is) (subst (λ (x : Standing). Replies g ys x c t) p.1 q)
 replies_both g (Nothing ∷ xs) ys a b c s t p q = replies_both g xs ys a b c s t p q
 replies_both g (Bad ∷ xs) ys a b c s t p q = absurd p
 replies_both g (Says c' ∷ xs) ys a b c s t p q =
@@ -37,12 +37,19 @@ said_last s lines e = ap (λ (bytes : List ℕ). parsed_from (suc s.taken) (line
 pub kept_count : (a b c : ℕ) → a ≡ b + 0 → b ≡ c → a ≡ c
 kept_count a b c p q = omega (arith, p, q)
 
+-- the plant of a session stays the same plant
+pub begun_same : {B : Type 0} (p : PlantState B) (s : SessionState B) → s ≡ record { plant = p; kept = none_kept p } → s.plant ≡ in_state p s.plant.state
+begun_same {B} p s e = ap (λ (x : SessionState B). x.plant) e ∙ sym (ap (λ (x : SessionState B). in_state p x.plant.state) e)
+
+pub kept_same : {B : Type 0} (p : PlantState B) (s t : SessionState B) → s.plant ≡ in_state p s.plant.state → t ≡ in_standing s (standing t) → t.plant ≡ in_state p t.plant.state
+kept_same {B} p s t e h = ap (λ (x : SessionState B). x.plant) h ∙ ap (λ (x : PlantState B). in_state x t.plant.state) e
+
 module _ (g : Graph) where
   -- no line was answered
-  pub none_answered : (st : State) (out : Option (List ℕ)) → Answered g st st out out []
+  pub none_answered : (st : Standing) (out : Option (List ℕ)) → Answered g st st out out []
   none_answered st out = record { text = []; replies = (refl, refl); written = appends_nothing out }
 
-  pub both_answered : (a b c : State) (o p q : Option (List ℕ)) (xs ys : List Parsed) → Answered g a b o p xs → Answered g b c p q ys → Answered g a c o q (xs ++ ys)
+  pub both_answered : (a b c : Standing) (o p q : Option (List ℕ)) (xs ys : List Parsed) → Answered g a b o p xs → Answered g b c p q ys → Answered g a c o q (xs ++ ys)
   both_answered a b c o p q xs ys h k =
       record {
         text = h.text ++ k.text;
@@ -58,7 +65,7 @@ module _ (g : Graph) where
   begins_more all rest xs ys zs e h = subst (Begins all) (sym (append_assoc xs ys zs)) (begins_behind all rest xs (ys ++ zs) e h)
 
   -- a stop behind lines that were answered
-  pub stops_behind : (all rest : List ℕ → List Parsed) (xs : List Parsed) (st mid : State) (o p q : Option (List ℕ)) (count later : ℕ) (fault : ScriptFault) →
+  pub stops_behind : (all rest : List ℕ → List Parsed) (xs : List Parsed) (st mid : Standing) (o p q : Option (List ℕ)) (count later : ℕ) (fault : ScriptFault) →
       ((more : List ℕ) → all more ≡ xs ++ rest more) → Answered g st mid o p xs → later ≡ count + length xs → Stops g mid p q rest later fault → Stops g st o q all count fault
   stops_behind all rest xs st mid o p q count later (BadLine n) e h l s =
       record {
@@ -87,7 +94,7 @@ module _ (g : Graph) where
       }
 
   -- one line more
-  pub went_on : (a b c : State) (o p q : Option (List ℕ)) (r s t : Split) (line : Parsed) → Went g a b o p r s → GoesOn line s t → Answered g b c p q (line ∷ []) → Went g a c o q r t
+  pub went_on : (a b c : Standing) (o p q : Option (List ℕ)) (r s t : Split) (line : Parsed) → Went g a b o p r s → GoesOn line s t → Answered g b c p q (line ∷ []) → Went g a c o q r t
   went_on a b c o p q r s t line h k w =
       record {
         before = h.before ++ line ∷ [];
@@ -98,7 +105,7 @@ module _ (g : Graph) where
       }
 
   -- no reply to the first line was written, or only a beginning of it
-  pub stops_at : (said : List ℕ → List Parsed) (c : Command) (old new : State) (out out' : Option (List ℕ)) (count : ℕ) (fault : ScriptFault) →
+  pub stops_at : (said : List ℕ → List Parsed) (c : Command) (old new : Standing) (out out' : Option (List ℕ)) (count : ℕ) (fault : ScriptFault) →
       Begins said (Says c ∷ []) → Unwritten g c old new out out' fault → Stops g old out out' said count fault
   stops_at said c old new out out' count (BadLine n) b u = absurd u
   stops_at said c old new out out' count Read b u = absurd u
@@ -108,13 +115,13 @@ module _ (g : Graph) where
       record { before = []; last = old; answered = record { text = []; replies = (refl, refl); written = subst (λ (o : Option (List ℕ)). Appends out o []) (sym u) (appends_nothing out) }; next = λ more. (said more, refl) }
 
   -- the same of a result, which may be no fault
-  pub stops_if : (said : List ℕ → List Parsed) (c : Command) (old new : State) (out out' : Option (List ℕ)) (count : ℕ) (result : Result (Unit {0}) ScriptFault) →
+  pub stops_if : (said : List ℕ → List Parsed) (c : Command) (old new : Standing) (out out' : Option (List ℕ)) (count : ℕ) (result : Result (Unit {0}) ScriptFault) →
       Begins said (Says c ∷ []) → IfErr result (λ fault. Unwritten g c old new out out' fault) → IfErr result (λ fault. Stops g old out out' said count fault)
   stops_if said c old new out out' count (Ok x) b u = tt
   stops_if said c old new out out' count (Err fault) b u = stops_at said c old new out out' count fault b u
 
   -- the last line, where only a bad one is left
-  pub stops_bad_last : (st : State) (out : Option (List ℕ)) (s : Split) (n : ℕ) → Bad ∷ [] ≡ parsed_from (suc s.taken) (lines_of s.rest) → n ≡ suc s.taken → Stops g st out out (λ more. said_of s []) s.taken (BadLine n)
+  pub stops_bad_last : (st : Standing) (out : Option (List ℕ)) (s : Split) (n : ℕ) → Bad ∷ [] ≡ parsed_from (suc s.taken) (lines_of s.rest) → n ≡ suc s.taken → Stops g st out out (λ more. said_of s []) s.taken (BadLine n)
   stops_bad_last st out s n e i =
       record { before = []; last = st; answered = none_answered st out; next = λ more. ([], said_last s (Bad ∷ []) e); number = omega arith }
 
@@ -135,7 +142,7 @@ module _ (g : Graph) where
   consumes_none a b c xs p q = subst (Consumes a c) (append-nil xs) (Consumes-trans a b c xs [] p q)
 
   -- a script begins
-  pub flows_start : (st : State) (input out : Option (List ℕ)) (s : Split) → s ≡ record { rest = []; line = []; taken = 0 } → Flows g st st input input out out s
+  pub flows_start : (st : Standing) (input out : Option (List ℕ)) (s : Split) → s ≡ record { rest = []; line = []; taken = 0 } → Flows g st st input input out out s
   flows_start st input out s e = subst (λ (t : Split). Flows g st st input input out out t) (sym e) start
     where
       start : Flows g st st input input out out (record { rest = []; line = []; taken = 0 })
@@ -151,7 +158,7 @@ module _ (g : Graph) where
       }
 
   -- a piece was read and pushed, and its lines were answered
-  pub flows_on : (st mid last : State) (i j k o p q : Option (List ℕ)) (s t u : Split) (piece : List ℕ) → Flows g st mid i j o p s → Consumes j k piece →
+  pub flows_on : (st mid last : Standing) (i j k o p q : Option (List ℕ)) (s t u : Split) (piece : List ℕ) → Flows g st mid i j o p s → Consumes j k piece →
       t.rest ≡ s.rest ++ piece → t.taken ≡ s.taken → Went g mid last p q t u → IsUnfinished u.rest → Flows g st last i k o q u
   flows_on st mid last i j k o p q s t u piece f c r n w h =
       record {
@@ -166,7 +173,7 @@ module _ (g : Graph) where
       }
 
   -- a piece was read and pushed, and the script stops in its lines
-  pub breaks_in : (st mid : State) (i j k o p q : Option (List ℕ)) (s t : Split) (piece : List ℕ) (fault : ScriptFault) → Flows g st mid i j o p s → Consumes j k piece →
+  pub breaks_in : (st mid : Standing) (i j k o p q : Option (List ℕ)) (s t : Split) (piece : List ℕ) (fault : ScriptFault) → Flows g st mid i j o p s → Consumes j k piece →
       t.rest ≡ s.rest ++ piece → t.taken ≡ s.taken → Stops g mid p q (said_of t) t.taken fault → Breaks g st i k o q fault
   breaks_in st mid i j k o p q s t piece fault f c r n h =
       record {
@@ -178,7 +185,7 @@ module _ (g : Graph) where
       }
 
   -- the reader is at its end, and the script stops in the last line
-  pub breaks_last : (st mid : State) (i j k o p q : Option (List ℕ)) (s : Split) (fault : ScriptFault) → Flows g st mid i j o p s → Consumes j k [] → IsAtEnd k →
+  pub breaks_last : (st mid : Standing) (i j k o p q : Option (List ℕ)) (s : Split) (fault : ScriptFault) → Flows g st mid i j o p s → Consumes j k [] → IsAtEnd k →
       Stops g mid p q (λ more. said_of s []) s.taken fault → Breaks g st i k o q fault
   breaks_last st mid i j k o p q s fault f c e h =
       record {
@@ -188,7 +195,7 @@ module _ (g : Graph) where
       }
 
   -- the reader is at its end, and the last line was answered
-  pub ends_last : (st mid last : State) (i j k o p q : Option (List ℕ)) (s : Split) → Flows g st mid i j o p s → Consumes j k [] → IsAtEnd k →
+  pub ends_last : (st mid last : Standing) (i j k o p q : Option (List ℕ)) (s : Split) → Flows g st mid i j o p s → Consumes j k [] → IsAtEnd k →
       Answered g mid last p q (said_of s []) → Ends g st last i k o q
   ends_last st mid last i j k o p q s f c e h =
       record {
@@ -199,7 +206,7 @@ module _ (g : Graph) where
       }
 
   -- nothing of a piece was answered, since memory ran out
-  pub breaks_memory : (st mid : State) (i j k o p : Option (List ℕ)) (s : Split) (piece : List ℕ) → Flows g st mid i j o p s → Consumes j k piece → Breaks g st i k o p Memory
+  pub breaks_memory : (st mid : Standing) (i j k o p : Option (List ℕ)) (s : Split) (piece : List ℕ) → Flows g st mid i j o p s → Consumes j k piece → Breaks g st i k o p Memory
   breaks_memory st mid i j k o p s piece f c =
       record {
         given = f.given ++ piece;
@@ -208,7 +215,7 @@ module _ (g : Graph) where
       }
 
   -- the script stops between pieces
-  pub breaks_between : (st mid : State) (i j o p : Option (List ℕ)) (s : Split) → Flows g st mid i j o p s → Breaks g st i j o p Memory
+  pub breaks_between : (st mid : Standing) (i j o p : Option (List ℕ)) (s : Split) → Flows g st mid i j o p s → Breaks g st i j o p Memory
   breaks_between st mid i j o p s f =
       record {
         given = f.given;
@@ -217,10 +224,26 @@ module _ (g : Graph) where
       }
 
   -- a read failed
-  pub breaks_read : (st mid : State) (i j k o p : Option (List ℕ)) (s : Split) → Flows g st mid i j o p s → Keeps j k → Breaks g st i k o p Read
+  pub breaks_read : (st mid : Standing) (i j k o p : Option (List ℕ)) (s : Split) → Flows g st mid i j o p s → Keeps j k → Breaks g st i k o p Read
   breaks_read st mid i j k o p s f c =
       record {
         given = f.given;
         read = Consumes-kept i j k f.given f.read c;
         stops = inl (record { before = f.before; last = mid; answered = f.answered; next = λ more. (said_of s more, f.says more) });
       }
+
+  -- a script of a plant begins
+  pub flows_begin : {B : Type 0} (p : PlantState B) (session : SessionState B) (input out : Option (List ℕ)) (s : Split) → session ≡ record { plant = p; kept = none_kept p } →
+      s ≡ record { rest = []; line = []; taken = 0 } → Flows g (standing_of p (none_kept p)) (standing session) input input out out s
+  flows_begin {B} p session input out s e h =
+      subst (λ (x : SessionState B). Flows g (standing_of p (none_kept p)) (standing x) input input out out s) (sym e) (flows_start (standing_of p (none_kept p)) input out s h)
+
+  -- nothing was read
+  pub breaks_first : (st : Standing) (input out : Option (List ℕ)) → Breaks g st input input out out Memory
+  breaks_first st input out =
+      record { given = []; read = Consumes-nil input; stops = inl (record { before = []; last = st; answered = none_answered st out; next = λ more. (script_after [] more, refl) }) }
+
+  -- the plant that a script leaves
+  pub ends_in : {B : Type 0} (p : PlantState B) (session : SessionState B) (st : Standing) (i k o q : Option (List ℕ)) → p ≡ session.plant → Ends g st (standing session) i k o q → EndsIn g st p.state i k o q
+  ends_in {B} p session st i k o q e h =
+      record { kept = session.kept; ends = subst (λ (x : PlantState B). Ends g st (record { state = x.state; kept = session.kept }) i k o q) (sym e) h }

@@ -1,5 +1,11 @@
-pub mod Sessions
-pub mod WithoutMemory
-pub mod Askable
 pub mod Flows
-pub mod Serves
+pub mod Flying
+pub mod Sessions
+pub mod Settings
+pub mod Leaving
+pub mod Naming
+pub mod Askable
+pub mod Claiming
+pub mod Reporting
+pub mod Serving
+pub mod Outcomes

@@ -1,4 +1,5 @@
 pub mod Session
 pub mod Script
 pub mod Faults
+pub mod Reports
 pub mod Serve

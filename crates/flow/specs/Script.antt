@@ -7,20 +7,20 @@ use Rattle.script_text.specs.Splits.{Split, IsUnfinished, KeepsBytes}
 use Rattle.script_text.specs.Scripts.{said_of, GoesOn}
 use Rattle.script_text.specs.Grammar.{Command, Parsed, Nothing, Bad, Says, parsed_from}
 use Rattle.script_text.specs.Ends.{AppendsBeginning}
-use Rattle.flow.specs.Session.{Graph, Answers}
+use Rattle.flow.specs.Session.{Graph, Standing, Answers}
 use Rattle.flow.specs.declared.script.ScriptFault.{ScriptFault}
 use Rattle.flow.specs.declared.script.ScriptFault.TheVariants.{BadLine, Read, Write, Memory}
 
--- the replies to lines of which none is bad, one after another, and the state that they leave
-abbrev pub Replies : Graph → List Parsed → State → State → List ℕ → Type 0
+-- the replies to lines of which none is bad, one after another, and the standing that they leave
+abbrev pub Replies : Graph → List Parsed → Standing → Standing → List ℕ → Type 0
 Replies g [] old new text = (text ≡ []) × (new ≡ old)
 Replies g (Nothing ∷ lines) old new text = Replies g lines old new text
 Replies g (Bad ∷ lines) old new text = ⊥
 Replies g (Says c ∷ lines) old new text =
-    (mid : State) × (first : List ℕ) × (later : List ℕ) × (text ≡ first ++ later) × Answers g c old mid first × Replies g lines mid new later
+    (mid : Standing) × (first : List ℕ) × (later : List ℕ) × (text ≡ first ++ later) × Answers g c old mid first × Replies g lines mid new later
 
 -- the lines were answered, in this order: their replies were written, and nothing else
-pub record Answered (g : Graph) (old new : State) (out out' : Option (List ℕ)) (lines : List Parsed) : Type 0 where
+pub record Answered (g : Graph) (old new : Standing) (out out' : Option (List ℕ)) (lines : List Parsed) : Type 0 where
   pub text : List ℕ
   pub replies : Replies g lines old new text
   pub written : Appends out out' text
@@ -30,35 +30,35 @@ abbrev pub Begins : (List ℕ → List Parsed) → List Parsed → Type 0
 Begins said lines = (more : List ℕ) → (later : List Parsed) × (said more ≡ lines ++ later)
 
 -- the first bad line, where so many lines came before what is said; the lines before it were answered
-pub record StopsAtBad (g : Graph) (st : State) (out out' : Option (List ℕ)) (said : List ℕ → List Parsed) (count n : ℕ) : Type 0 where
+pub record StopsAtBad (g : Graph) (st : Standing) (out out' : Option (List ℕ)) (said : List ℕ → List Parsed) (count n : ℕ) : Type 0 where
   pub before : List Parsed
-  pub last : State
+  pub last : Standing
   pub answered : Answered g st last out out' before
   pub next : Begins said (before ++ Bad ∷ [])
   pub number : n ≡ suc (count + length before)
 
 -- some of the lines were answered, and nothing of those behind them was written
-pub record StopsBefore (g : Graph) (st : State) (out out' : Option (List ℕ)) (said : List ℕ → List Parsed) : Type 0 where
+pub record StopsBefore (g : Graph) (st : Standing) (out out' : Option (List ℕ)) (said : List ℕ → List Parsed) : Type 0 where
   pub before : List Parsed
-  pub last : State
+  pub last : Standing
   pub answered : Answered g st last out out' before
   pub next : Begins said before
 
 -- a line was answered, and only a beginning of its reply was written
-pub record StopsWriting (g : Graph) (st : State) (out out' : Option (List ℕ)) (said : List ℕ → List Parsed) : Type 0 where
+pub record StopsWriting (g : Graph) (st : Standing) (out out' : Option (List ℕ)) (said : List ℕ → List Parsed) : Type 0 where
   pub before : List Parsed
-  pub last : State
+  pub last : Standing
   pub between : Option (List ℕ)
   pub answered : Answered g st last out between before
   pub command : Command
-  pub after : State
+  pub after : Standing
   pub text : List ℕ
   pub reply : Answers g command last after text
   pub cut : AppendsBeginning between out' text
   pub next : Begins said (before ++ Says command ∷ [])
 
 -- where a script stops by a fault
-abbrev pub Stops : Graph → State → Option (List ℕ) → Option (List ℕ) → (List ℕ → List Parsed) → ℕ → ScriptFault → Type 0
+abbrev pub Stops : Graph → Standing → Option (List ℕ) → Option (List ℕ) → (List ℕ → List Parsed) → ℕ → ScriptFault → Type 0
 Stops g st out out' said count (BadLine n) = StopsAtBad g st out out' said count n
 Stops g st out out' said count Read = StopsBefore g st out out' said
 Stops g st out out' said count Write = StopsWriting g st out out' said
@@ -73,14 +73,19 @@ abbrev pub script_of : List ℕ → List ℕ → List Parsed
 script_of given more = script_after given []
 
 -- a script ends: its reader is at its end, and all lines of what it gave were answered
-pub record Ends (g : Graph) (st last : State) (input input' out out' : Option (List ℕ)) : Type 0 where
+pub record Ends (g : Graph) (st last : Standing) (input input' out out' : Option (List ℕ)) : Type 0 where
   pub given : List ℕ
   pub read : Consumes input input' given
   pub at_end : IsAtEnd input'
   pub answered : Answered g st last out out' (script_after given [])
 
+-- a script ends in this state of the machine, whatever claims are kept then
+pub record EndsIn (g : Graph) (st : Standing) (state : State) (input input' out out' : Option (List ℕ)) : Type 0 where
+  pub kept : List Bool
+  pub ends : Ends g st (record { state = state; kept = kept }) input input' out out'
+
 -- a script stops by a fault, after the reader gave some bytes: whatever comes behind them, or since it is at its end
-pub record Breaks (g : Graph) (st : State) (input input' out out' : Option (List ℕ)) (fault : ScriptFault) : Type 0 where
+pub record Breaks (g : Graph) (st : Standing) (input input' out out' : Option (List ℕ)) (fault : ScriptFault) : Type 0 where
   pub given : List ℕ
   pub read : Consumes input input' given
   pub stops : Stops g st out out' (script_after given) 0 fault ⊎ (IsAtEnd input' × Stops g st out out' (script_of given) 0 fault)
@@ -101,19 +106,19 @@ failed_writes (Err Write) = 1
 failed_writes (Err Memory) = 0
 
 -- why no reply was written: memory ran out, or the write stopped in it
-abbrev pub Unwritten : Graph → Command → State → State → Option (List ℕ) → Option (List ℕ) → ScriptFault → Type 0
+abbrev pub Unwritten : Graph → Command → Standing → Standing → Option (List ℕ) → Option (List ℕ) → ScriptFault → Type 0
 Unwritten g c old new out out' (BadLine n) = ⊥
 Unwritten g c old new out out' Read = ⊥
 Unwritten g c old new out out' Write = (line : List ℕ) × Answers g c old new line × AppendsBeginning out out' line
 Unwritten g c old new out out' Memory = out' ≡ out
 
 -- a line was taken and answered, or none was, since its end has not come
-abbrev pub Proceeds : Graph → State → State → Option (List ℕ) → Option (List ℕ) → Split → Split → Bool → Type 0
+abbrev pub Proceeds : Graph → Standing → Standing → Option (List ℕ) → Option (List ℕ) → Split → Split → Bool → Type 0
 Proceeds g st last out out' old new true = (line : Parsed) × GoesOn line old new × Answered g st last out out' (line ∷ [])
 Proceeds g st last out out' old new false = IsUnfinished new.rest × KeepsBytes old new × (last ≡ st) × (out' ≡ out)
 
 -- lines were taken and answered
-pub record Went (g : Graph) (st last : State) (out out' : Option (List ℕ)) (old new : Split) : Type 0 where
+pub record Went (g : Graph) (st last : Standing) (out out' : Option (List ℕ)) (old new : Split) : Type 0 where
   pub before : List Parsed
   pub answered : Answered g st last out out' before
   pub says : (more : List ℕ) → said_of old more ≡ before ++ said_of new more
@@ -121,7 +126,7 @@ pub record Went (g : Graph) (st last : State) (out out' : Option (List ℕ)) (ol
   pub low : new.taken ≤ most_lines
 
 -- what a script did so far, between its pieces
-pub record Flows (g : Graph) (st last : State) (input input' out out' : Option (List ℕ)) (lines : Split) : Type 0 where
+pub record Flows (g : Graph) (st last : Standing) (input input' out out' : Option (List ℕ)) (lines : Split) : Type 0 where
   pub given : List ℕ
   pub before : List Parsed
   pub read : Consumes input input' given

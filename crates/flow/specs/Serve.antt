@@ -1,100 +1,159 @@
 -- What the program does with a graph file and its streams.
-use Rattle.std.specs.Prelude.{ℕ, ◌+◌, ◌≡◌, ◌⊎◌, List, [], ◌∷◌, length, map, Option, All}
+use Rattle.std.specs.Prelude.{ℕ, zero, suc, ◌+◌, ◌≡◌, ◌⊎◌, List, length, Option, true, false, Result, Ok, Err, if◌then◌else◌}
+use Rattle.std.specs.Str.{is_utf8}
 use Rattle.std.specs.Io.KnownBytes.{Appends}
-use Rattle.stream_model.specs.Network.{Network, State, opening}
-use Rattle.stream_model.specs.Machine as machine
-use Rattle.stream_model.specs.Machine.{Reply, Capacities}
-use Rattle.items.specs.Items.{type_of, numbers_of}
-use Rattle.executor.specs.declared.chain.Entry.{Entry}
-use Rattle.executor.specs.declared.fault.PlantFault.{PlantFault}
-use Rattle.executor.specs.Answers.{AnsweredBy, refusal_of}
-use Rattle.executor.specs.Chain.{network_of}
-use Rattle.executor.specs.Plant.{capacities_of}
+use Rattle.toml.specs.Parse.{parse_document}
+use Rattle.stream_model.specs.Network.{Network, State}
+use Rattle.stream_model.specs.Machine.{Capacities, close_of, is_all_done, is_quiet, IsWhole}
 use Rattle.kinds.specs.declared.kind.Kind.{Kind}
 use Rattle.kinds.specs.Kind.{meaning_of}
-use Rattle.graph_text.specs.declared.feeds.Feed.{Feed}
-use Rattle.graph_text.specs.File.{IsDocument, IsNamedChain, FeedsSource}
+use Rattle.plant.specs.Plant.{PlantState}
+use Rattle.plant.specs.Settling.{StepsLead}
+use Rattle.graph_file.specs.Refusals.{Refusal, IsRefused, syntax}
+use Rattle.graph_file.specs.Steps.{then}
+use Rattle.graph_file.specs.Blocks.{Draft}
+use Rattle.graph_file.specs.File.{Content, file_of}
+use Rattle.graph_file.specs.Opening.{Opened, opened, opened_of, validated}
 use Rattle.script_text.specs.Ends.{AppendsBeginning}
-use Rattle.flow.specs.Session.{graph_of, in_state}
-use Rattle.flow.specs.Script.{Ends, Breaks}
+use Rattle.flow.specs.Session.{graph_of, standing_of, none_kept}
+use Rattle.flow.specs.Script.{EndsIn, Breaks, failed_reads, failed_writes}
 use Rattle.flow.specs.Faults.{fault_line, no_memory_line, status_of}
+use Rattle.flow.specs.Reports.{check_text, run_text}
 use Rattle.flow.specs.declared.fault.Fault.{Fault}
-use Rattle.flow.specs.declared.fault.Fault.TheVariants as fault
+use Rattle.flow.specs.declared.fault.Fault.TheVariants.{File, Script}
+use Rattle.flow.specs.declared.script.ScriptFault.TheVariants.{BadLine, Read, Write, Memory}
+use Rattle.flow.specs.declared.serve.Command.{Command}
+use Rattle.flow.specs.declared.serve.Command.TheVariants as command
 
--- a plant as contracts see it: the names of its blocks and the blocks, their capacities, and the state
-abbrev pub Shown : Type 0
-Shown = (List (List ℕ) × List (Entry Kind)) × Capacities × State
+-- the bytes of a stream, of an input those that are left, and how many reads or writes of it failed
+pub record Stream : Type 0 where
+  pub bytes : Option (List ℕ)
+  pub failed : ℕ
 
-abbrev pub network_in : Shown → Network
-network_in p = network_of meaning_of p.0.1
+abbrev pub stream : Option (List ℕ) → ℕ → Stream
+stream bytes failed = record { bytes = bytes; failed = failed }
 
--- what a feed of a file is answered, and the state that it leaves
-abbrev pub feed_now : Network → State → Feed → Reply × State
-feed_now net st feed = machine.feed_of net st feed.source.0 (type_of feed.items) (numbers_of feed.items) []
+-- what the bytes of a graph file say, or why they are refused
+abbrev pub content_in : List ℕ → Result Content Refusal
+content_in text = if is_utf8 text then file_of (parse_document text) else Err syntax
 
--- the feeds were taken, one after another
-abbrev pub Takes : Network → State → List Feed → State → Type 0
-Takes net old [] new = new ≡ old
-Takes net old (feed ∷ feeds) new = (total : ℕ) × ((feed_now net old feed).0 ≡ machine.Fed total) × Takes net (feed_now net old feed).1 feeds new
+-- its valid graph, and the plant that it opens
+abbrev pub graph_in : List ℕ → Result Draft Refusal
+graph_in text = (then) (content_in text) (λ c. validated c.graph)
 
--- a plant as it opens, with nothing fed: a chain with good names, read from a text that is a TOML document
-pub record Opens (text : List ℕ) (p : Shown) : Type 0 where
-  pub document : IsDocument text
-  pub graph : IsNamedChain p.0
-  pub capacities : p.1 ≡ capacities_of (map (λ e. e.capacity) p.0.1)
-  pub unfed : p.2 ≡ opening (network_in p)
+abbrev pub plant_in : List ℕ → Result Opened Refusal
+plant_in text = (then) (content_in text) opened
 
--- a plant took feeds, and is the same in all else
-pub record Took (p q : Shown) (feeds : List Feed) : Type 0 where
-  pub same : q ≡ in_state p q.2
-  pub taken : Takes (network_in p) p.2 feeds q.2
+-- the tapes of the sources below n are closed, one after the other, and those of all sources
+abbrev pub closed_below : Network → State → ℕ → State
+closed_below net st zero = st
+closed_below net st (suc n) = (close_of net (closed_below net st n) n).1
 
--- a plant took so many feeds, and refused the next, or memory ran out in it
-pub record Refuses (p : Shown) (n : ℕ) (refusal : PlantFault) : Type 0 where
-  pub before : List Feed
-  pub count : n ≡ length before
-  pub state : State
-  pub taken : Takes (network_in p) p.2 before state
-  pub feed : Feed
-  pub refused : AnsweredBy (feed_now (network_in p) state feed) (refusal_of refusal)
+abbrev pub closed : Network → State → State
+closed net st = closed_below net st (length net.nodes)
 
--- a plant as a script finds it: opened so, and once it took feeds, which are all items for its source
-pub record IsReady (text : List ℕ) (q : Shown) : Type 0 where
-  pub plant : Shown
-  pub feeds : List Feed
-  pub opened : Opens text plant
-  pub to : All (FeedsSource plant.0) feeds
-  pub took : Took plant q feeds
+-- a file is refused, or memory ran out
+abbrev pub Refuses : {A : Type 0} → Result A Refusal → Fault → Type 0
+Refuses r (File fault) = IsRefused r fault
+Refuses r (Script (BadLine n)) = ⊥
+Refuses r (Script Read) = ⊥
+Refuses r (Script Write) = ⊥
+Refuses r (Script Memory) = Unit {0}
 
--- why there is no such plant: the file was refused, or a feed of it
-abbrev pub IsOpeningFault : List ℕ → Fault → Type 0
-IsOpeningFault text (fault.File refusal) = Unit {0}
-IsOpeningFault text (fault.Feed n refusal) = (plant : Shown) × Opens text plant × Refuses plant n refusal
-IsOpeningFault text (fault.Script refusal) = ⊥
+-- a check of a file: what is told of its graph
+pub record IsCheck (file text : List ℕ) (status : ℕ) : Type 0 where
+  pub graph : Draft
+  pub valid : graph_in file ≡ Ok graph
+  pub told : text ≡ check_text graph
+  pub well : status ≡ 0
 
--- a script ran on such a plant to the end of its input
-pub record Runs (text : List ℕ) (input input' out out' : Option (List ℕ)) : Type 0 where
-  pub plant : Shown
+-- no block can act: each is done, and each sink holds its whole stream, or some block is not done
+pub record IsAtRest (net : Network) (caps : Capacities) (st : State) : Type 0 where
+  pub whole : is_all_done st ≡ true → IsWhole net st
+  pub quiet : is_all_done st ≡ false → is_quiet net caps st ≡ true
+
+-- how many firings of a block are stepped at once, at most
+abbrev pub turn : ℕ
+turn = 1024
+
+-- a run of a file: its plant with all sources closed went on, block by block, until it came to rest, and what is told of it then
+pub record IsRun (file text : List ℕ) (status : ℕ) : Type 0 where
+  pub plant : Opened
+  pub opens : plant_in file ≡ Ok plant
   pub last : State
-  pub ready : IsReady text plant
-  pub ends : Ends (graph_of meaning_of plant) plant.2 last input input' out out'
+  pub steps : StepsLead plant.draft.net plant.capacities turn (closed plant.draft.net plant.state) last
+  pub rests : IsAtRest plant.draft.net plant.capacities last
+  pub told : text ≡ run_text plant.draft last
+  pub well : status ≡ (if is_all_done last then 0 else 3)
 
--- why it did not: the file or a feed of it was refused, before anything was read or written, or the script stopped
-abbrev pub Stopped : List ℕ → Option (List ℕ) → Option (List ℕ) → Option (List ℕ) → Option (List ℕ) → Fault → Type 0
-Stopped text input input' out out' (fault.File refusal) = (input' ≡ input) × (out' ≡ out)
-Stopped text input input' out out' (fault.Feed n refusal) = (input' ≡ input) × (out' ≡ out) × IsOpeningFault text (fault.Feed n refusal)
-Stopped text input input' out out' (fault.Script refusal) =
-    (plant : Shown) × IsReady text plant × Breaks (graph_of meaning_of plant) plant.2 input input' out out' refusal
+-- a text was written, with a status
+abbrev pub Writes : (List ℕ → ℕ → Type 0) → Option (List ℕ) → Option (List ℕ) → ℕ → Type 0
+Writes IsDone out out' status = (text : List ℕ) × IsDone text status × Appends out out' text
+
+-- nothing was written, or the write of such a text failed and left a beginning of it
+abbrev pub WritesNot : {A : Type 0} → (List ℕ → ℕ → Type 0) → Result A Refusal → Option (List ℕ) → Option (List ℕ) → Fault → Type 0
+WritesNot IsDone r out out' (File fault) = IsRefused r fault × (out' ≡ out)
+WritesNot IsDone r out out' (Script (BadLine n)) = ⊥
+WritesNot IsDone r out out' (Script Read) = ⊥
+WritesNot IsDone r out out' (Script Write) = (text : List ℕ) × (status : ℕ) × IsDone text status × AppendsBeginning out out' text
+WritesNot IsDone r out out' (Script Memory) = out' ≡ out
+
+-- a script ran on the plant of a file to the end of its input
+pub record IsScript (file : List ℕ) (input input' out out' : Option (List ℕ)) : Type 0 where
+  pub plant : PlantState Kind
+  pub opens : plant_in file ≡ Ok (opened_of plant)
+  pub last : State
+  pub ends : EndsIn (graph_of meaning_of plant) (standing_of plant (none_kept plant)) last input input' out out'
+
+-- it did not: the file was refused, before anything was read or written, or the script stopped
+abbrev pub StopsScript : List ℕ → Option (List ℕ) → Option (List ℕ) → Option (List ℕ) → Option (List ℕ) → Fault → Type 0
+StopsScript file input input' out out' (File fault) = IsRefused (plant_in file) fault × (input' ≡ input) × (out' ≡ out)
+StopsScript file input input' out out' (Script fault) =
+    (plant : PlantState Kind) × (plant_in file ≡ Ok (opened_of plant))
+    × Breaks (graph_of meaning_of plant) (standing_of plant (none_kept plant)) input input' out out' fault
+
+-- a command was done, with a status; only a script reads its input
+abbrev pub Does : Command → List ℕ → Option (List ℕ) → Option (List ℕ) → Option (List ℕ) → Option (List ℕ) → ℕ → Type 0
+Does command.Check file input input' out out' status = (input' ≡ input) × Writes (IsCheck file) out out' status
+Does command.Run file input input' out out' status = (input' ≡ input) × Writes (IsRun file) out out' status
+Does command.Script file input input' out out' status = IsScript file input input' out out' × (status ≡ 0)
+
+-- a command was not done, for a fault
+abbrev pub DoesNot : Command → List ℕ → Option (List ℕ) → Option (List ℕ) → Option (List ℕ) → Option (List ℕ) → Fault → Type 0
+DoesNot command.Check file input input' out out' fault = (input' ≡ input) × WritesNot (IsCheck file) (graph_in file) out out' fault
+DoesNot command.Run file input input' out out' fault = (input' ≡ input) × WritesNot (IsRun file) (plant_in file) out out' fault
+DoesNot command.Script file input input' out out' fault = StopsScript file input input' out out' fault
+
+-- how many reads failed by a fault, and how many writes
+abbrev pub reads_failed : Fault → ℕ
+reads_failed (File fault) = 0
+reads_failed (Script fault) = failed_reads {X = Unit {0}} (Err fault)
+
+abbrev pub writes_failed : Fault → ℕ
+writes_failed (File fault) = 0
+writes_failed (Script fault) = failed_writes {X = Unit {0}} (Err fault)
+
+-- the same of a result
+abbrev pub reads_in : {X : Type 0} → Result X Fault → ℕ
+reads_in (Ok x) = 0
+reads_in (Err fault) = reads_failed fault
+
+abbrev pub writes_in : {X : Type 0} → Result X Fault → ℕ
+writes_in (Ok x) = 0
+writes_in (Err fault) = writes_failed fault
 
 -- a line was written, or a beginning of it where the write failed
-abbrev pub Tries : Option (List ℕ) → Option (List ℕ) → ℕ → ℕ → List ℕ → Type 0
-Tries out out' failed failed' line = (Appends out out' line × (failed' ≡ failed)) ⊎ (AppendsBeginning out out' line × (failed' ≡ failed + 1))
+abbrev pub Tries : Stream → Stream → List ℕ → Type 0
+Tries old new line = (Appends old.bytes new.bytes line × (new.failed ≡ old.failed)) ⊎ (AppendsBeginning old.bytes new.bytes line × (new.failed ≡ old.failed + 1))
 
 -- the fault is told by one line, or that memory ran out where there is none for that line
-abbrev pub Told : Option (List ℕ) → Option (List ℕ) → ℕ → ℕ → Fault → Type 0
-Told errors errors' failed failed' refusal = Tries errors errors' failed failed' (fault_line refusal) ⊎ Tries errors errors' failed failed' no_memory_line
+abbrev pub Tells : Stream → Stream → Fault → Type 0
+Tells old new fault = Tries old new (fault_line fault) ⊎ Tries old new no_memory_line
 
--- the script ran to its end, with status 0 and nothing to tell; or it stopped by a fault, which is told, with the status that it brings
-pub data Serves (text : List ℕ) (input input' out out' errors errors' : Option (List ℕ)) (failed failed' : ℕ) : ℕ → Type 0 where
-  Well : Runs text input input' out out' → errors' ≡ errors → failed' ≡ failed → Serves text input input' out out' errors errors' failed failed' 0
-  Badly : (refusal : Fault) → Stopped text input input' out out' refusal → Told errors errors' failed failed' refusal → Serves text input input' out out' errors errors' failed failed' (status_of refusal)
+-- a command was done, and nothing is told of a fault; or it was not, the fault is told, and the status is the one that it brings
+pub data Serves (c : Command) (file : List ℕ) (input input' output output' errors errors' : Stream) : ℕ → Type 0 where
+  Well : (status : ℕ) → Does c file input.bytes input'.bytes output.bytes output'.bytes status →
+      input'.failed ≡ input.failed → output'.failed ≡ output.failed → errors' ≡ errors → Serves c file input input' output output' errors errors' status
+  Badly : (fault : Fault) → DoesNot c file input.bytes input'.bytes output.bytes output'.bytes fault →
+      input'.failed ≡ input.failed + reads_failed fault → output'.failed ≡ output.failed + writes_failed fault → Tells errors errors' fault →
+      Serves c file input input' output output' errors errors' (status_of fault)

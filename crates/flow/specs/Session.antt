@@ -1,20 +1,26 @@
--- What the commands of a script do to a plant, and what they are answered.
-use Rattle.std.specs.Prelude.{◌≡◌, ℕ, ◌+◌, ◌≤◌, ℤ, int_le, List, length, map, position, bytes_eq, Option, Some, None, Bool, true, ◌&&◌, not, nat_lt, if◌then◌else◌, ◌⊎◌}
-use Rattle.std.specs.List.{list_all}
-use Rattle.stream_model.specs.declared.vocabulary.ItemType.{ItemType}
-use Rattle.stream_model.specs.Numbers.{least_of, greatest_of}
-use Rattle.stream_model.specs.Tags.{Mark}
-use Rattle.stream_model.specs.Network.{Network, State, node_at, role_at, handed_at, is_source}
-use Rattle.stream_model.specs.Machine as machine
-use Rattle.stream_model.specs.Machine.{Capacities, Reply, Refused}
-use Rattle.executor.specs.declared.chain.Entry.{Entry}
-use Rattle.executor.specs.Chain.{network_of}
-use Rattle.executor.specs.declared.fault.PlantFault.{PlantFault}
-use Rattle.executor.specs.Fault.{number_of}
-use Rattle.executor.specs.Answers.{takes_memory}
-use Rattle.script_text.specs.Grammar.{Command, Feed, Close, Step, Read, Quiet}
-use Rattle.script_text.specs.Replies.{reply_text, quiet_text, line_text}
+-- What the commands of a script do, and what they are answered.
+use Rattle.std.specs.Prelude.{◌≡◌, ℕ, ◌<◌, ℤ, List, [], ◌∷◌, length, map, position, bytes_eq, Option, Some, None, Bool, true, false, ◌||◌, if◌then◌else◌, ◌⊎◌, slice_set, slice_index_or, Result, Ok, Err}
+use Rattle.stream_model.specs.declared.vocabulary.ItemType.TheVariants.{Short}
+use Rattle.stream_model.specs.declared.vocabulary.Wanted.{Wanted}
+use Rattle.stream_model.specs.declared.vocabulary.Wanted.TheVariants as wanted
+use Rattle.stream_model.specs.Settings.{Value, Number, Taps}
 use Rattle.stream_model.specs.Meaning.{Meaning}
+use Rattle.stream_model.specs.Network.{Network, State, node_at, progress_at}
+use Rattle.stream_model.specs.Machine as machine
+use Rattle.stream_model.specs.Machine.{Capacities, Reply, Refused, is_wanted}
+use Rattle.machine_laws.specs.Stays.{in_flight}
+use Rattle.settings.specs.declared.value.Value as settings
+use Rattle.settings.specs.Values.{value_of}
+use Rattle.flowgraph.specs.Flowgraph.{Flowgraph, net_of}
+use Rattle.jobs.specs.Jobs.{JobState}
+use Rattle.plant.specs.declared.fault.PlantFault.{PlantFault}
+use Rattle.plant.specs.declared.fault.PlantFault.TheVariants as fault
+use Rattle.plant.specs.Fault.{number_of}
+use Rattle.plant.specs.Answers.{takes_memory}
+use Rattle.plant.specs.Feeding.{are_items, feed_numbers}
+use Rattle.plant.specs.Plant.{PlantState}
+use Rattle.script_text.specs.Grammar.{Command, Feed, Close, Set, Claim, Commit, Abandon, Step, Read, Quiet}
+use Rattle.script_text.specs.Replies.{reply_text, quiet_text, line_text}
 
 -- what a script speaks to: the names of the blocks, their network and its capacities
 pub record Graph : Type 0 where
@@ -22,50 +28,162 @@ pub record Graph : Type 0 where
   pub net : Network
   pub caps : Capacities
 
+-- how far a script is: the machine's state, and for each block whether a claim is kept that a line made
+pub record Standing : Type 0 where
+  pub state : State
+  pub kept : List Bool
+
 -- a plant's graph
-abbrev pub graph_of : {B : Type 0} → (B → Meaning) → (List (List ℕ) × List (Entry B)) × Capacities × State → Graph
-graph_of meaning p = record { names = p.0.0; net = network_of meaning p.0.1; caps = p.1 }
+abbrev pub graph_of : {B : Type 0} → (B → Meaning) → PlantState B → Graph
+graph_of meaning p = record { names = p.graph.names; net = net_of meaning p.graph; caps = p.capacities }
+
+-- a plant, and for each block whether a claim of it is kept
+pub record SessionState (B : Type 0) : Type 0 where
+  pub plant : PlantState B
+  pub kept : List Bool
+
+abbrev pub standing_of : {B : Type 0} → PlantState B → List Bool → Standing
+standing_of p kept = record { state = p.state; kept = kept }
+
+abbrev pub standing : {B : Type 0} → SessionState B → Standing
+standing s = standing_of s.plant s.kept
 
 -- the same plant in another state
-abbrev pub in_state : {G : Type 0} → G × Capacities × State → State → G × Capacities × State
-in_state p st = (p.0, p.1, st)
+abbrev pub in_state : {B : Type 0} → PlantState B → State → PlantState B
+in_state p st = record p { state = st }
+
+-- the same session elsewhere
+abbrev pub in_standing : {B : Type 0} → SessionState B → Standing → SessionState B
+in_standing s x = record { plant = in_state s.plant x.state; kept = x.kept }
+
+-- no claim is kept
+abbrev pub none_kept : {B : Type 0} → PlantState B → List Bool
+none_kept p = map (λ _. false) p.graph.blocks
+
+-- whether there is a job
+abbrev pub is_there : {J : Type 0} → Option J → Bool
+is_there None = false
+is_there (Some job) = true
+
+abbrev pub kept_in : {J : Type 0} → List (Option J) → List Bool
+kept_in jobs = map is_there jobs
+
+-- a job is the claim of its block that is in flight
+pub record IsFlying {B : Type 0} (net : Network) (graph : Flowgraph B) (st : State) (b : ℕ) (job : JobState B) : Type 0 where
+  pub graph_is : job.graph ≡ graph
+  pub some : 0 < (progress_at st.progress b).claimed
+  pub flight : job.job ≡ in_flight net st b
+
+-- each kept job is, and there is a place for each block
+pub record KeepsJobs {B : Type 0} (net : Network) (graph : Flowgraph B) (st : State) (jobs : List (Option (JobState B))) : Type 0 where
+  pub places : length jobs ≡ length net.nodes
+  pub flying : (b : ℕ) → b < length net.nodes → (job : JobState B) → slice_index_or jobs b None ≡ Some job → IsFlying net graph st b job
 
 -- the number of the block of this name
 abbrev pub block_of : Graph → List ℕ → Option ℕ
 block_of g name = position (bytes_eq name) g.names
 
--- each number lies in the range of the type
-abbrev pub are_items : ItemType → List ℤ → Bool
-are_items t xs = list_all (λ z. int_le (least_of t) z && int_le z (greatest_of t)) xs
+-- the value that numbers are, where a setting is wanted: a number alone, or taps of 16 bits each
+abbrev pub value_for : Wanted → List ℤ → Option Value
+value_for (wanted.Number least greatest) [] = None
+value_for (wanted.Number least greatest) (z ∷ []) = Some (Number z)
+value_for (wanted.Number least greatest) (z ∷ w ∷ zs) = None
+value_for (wanted.Taps count) zs = if are_items Short zs then Some (Taps zs) else None
 
--- a mark as the plant takes it: until tags come, each counts as one that lies outside the items
-abbrev pub displaced : ℕ → Mark → Mark
-displaced end m = record m { offset = end }
+abbrev pub set_value : Network → State → ℕ → Option ℕ → Option Value → Reply × State
+set_value net st b at None = (Refused machine.wrong_setting, st)
+set_value net st b at (Some v) = machine.set_of net st b at v
 
--- the items that a block gives
-abbrev pub given_type : Network → ℕ → ItemType
-given_type net b = (node_at net b).meaning.outputs.item
+abbrev pub set_wanted : Network → State → ℕ → Option ℕ → List ℤ → Option Wanted → Reply × State
+set_wanted net st b at zs None = (Refused machine.no_setting, st)
+set_wanted net st b at zs (Some w) = set_value net st b at (value_for w zs)
 
--- numbers are fed as items of the source's type; where one is outside its range they are refused, before anything else that a
--- source refuses
-abbrev pub feed_numbers : Network → State → ℕ → List ℤ → List Mark → Reply × State
-feed_numbers net st b xs ms =
-    if nat_lt b (length net.nodes) && (is_source (role_at net b) && not (are_items (given_type net b) xs)) then (Refused machine.item_range, st)
-    else machine.feed_of net st b (given_type net b) xs (map (displaced (length (handed_at st.handed b).tape + length xs)) ms)
+-- a block's setting is set to numbers; it is refused where it has none, where they are no value of it, and where it comes too late
+abbrev pub set_numbers : Network → State → ℕ → Option ℕ → List ℤ → Reply × State
+set_numbers net st b at zs = set_wanted net st b at zs (node_at net b).meaning.setting
 
--- a call of the block of a name; none has the name, and it is refused as a number that no block has
-abbrev pub call_on : Option ℕ → State → (ℕ → Reply × State) → Reply × State
-call_on None st call = (Refused machine.no_such_block, st)
-call_on (Some b) st call = call b
+-- what a command is answered: its reply, whether memory may run out before it, and how far the script is then
+pub record Answer : Type 0 where
+  pub text : List ℕ
+  pub wants_memory : Bool
+  pub after : Standing
 
--- what the machine answers the call that a command makes, and the state that it leaves; the question whether the plant is quiet
--- makes none
-unfoldable pub call_of : Graph → State → Command → Option (Reply × State)
-call_of g st (Feed name xs ms) = Some (call_on (block_of g name) st (λ b. feed_numbers g.net st b xs ms))
-call_of g st (Close name) = Some (call_on (block_of g name) st (λ b. machine.close_of g.net st b))
-call_of g st (Step name max) = Some (call_on (block_of g name) st (λ b. machine.step_of g.net g.caps st b max))
-call_of g st (Read name from max) = Some (call_on (block_of g name) st (λ b. machine.read_of g.net st b from max))
-call_of g st Quiet = None
+abbrev pub told : Bool → List Bool → Reply × State → Answer
+told wants kept now = record { text = reply_text now.0; wants_memory = wants; after = record { state = now.1; kept = kept } }
+
+-- a call that leaves the kept claims
+abbrev pub called : List Bool → Reply × State → Answer
+called kept now = told (takes_memory now.0) kept now
+
+-- taps need memory of their own before it is known whether they come too late
+abbrev pub taps_wanted : Option Wanted → Reply → Bool
+taps_wanted (Some (wanted.Taps count)) (machine.Late floor) = true
+taps_wanted _ _ = false
+
+abbrev pub set_answer : Network → Standing → ℕ → Reply × State → Answer
+set_answer net s b now = told (takes_memory now.0 || taps_wanted (node_at net b).meaning.setting now.0) s.kept now
+
+-- a claim that is made is kept
+abbrev pub kept_by : ℕ → List Bool → Reply → List Bool
+kept_by b kept (machine.Claimed job) = slice_set kept b true
+kept_by b kept _ = kept
+
+abbrev pub claim_answer : Network → Capacities → Standing → ℕ → ℕ → Answer
+claim_answer net caps s b max =
+    let now = machine.next net caps s.state (machine.Claim b max) in
+    told (takes_memory now.0) (kept_by b s.kept now.0) now
+
+-- a kept claim is given back, and no longer kept; where none is, that is refused
+abbrev pub give_back : Standing → ℕ → Reply × State → Answer
+give_back s b now =
+    if slice_index_or s.kept b false then told false (slice_set s.kept b false) now
+    else told false s.kept (Refused machine.foreign, s.state)
+
+abbrev pub commit_answer : Network → Standing → ℕ → Answer
+commit_answer net s b = give_back s b (machine.commit_of net s.state true (in_flight net s.state b))
+
+abbrev pub abandon_answer : Network → Standing → ℕ → Answer
+abandon_answer net s b = give_back s b (machine.abandon_of net s.state true (in_flight net s.state b))
+
+abbrev pub quiet_answer : Graph → Standing → Answer
+quiet_answer g s = record { text = quiet_text (machine.is_quiet g.net g.caps s.state); wants_memory = false; after = s }
+
+-- what a command is answered, where block b has the name in it
+unfoldable pub answer_on : Graph → Standing → ℕ → Command → Answer
+answer_on g s b (Feed name xs ms) = called s.kept (feed_numbers g.net s.state b xs ms)
+answer_on g s b (Close name) = called s.kept (machine.close_of g.net s.state b)
+answer_on g s b (Set name at zs) = set_answer g.net s b (set_numbers g.net s.state b at zs)
+answer_on g s b (Claim name max) = claim_answer g.net g.caps s b max
+answer_on g s b (Commit name) = commit_answer g.net s b
+answer_on g s b (Abandon name) = abandon_answer g.net s b
+answer_on g s b (Step name max) = called s.kept (machine.step_of g.net g.caps s.state b max)
+answer_on g s b (Read name from max) = called s.kept (machine.read_of g.net s.state b from max)
+answer_on g s b Quiet = quiet_answer g s
+
+-- the name in a command; the question whether the plant is quiet has none
+abbrev pub name_in : Command → Option (List ℕ)
+name_in (Feed name xs ms) = Some name
+name_in (Close name) = Some name
+name_in (Set name at zs) = Some name
+name_in (Claim name max) = Some name
+name_in (Commit name) = Some name
+name_in (Abandon name) = Some name
+name_in (Step name max) = Some name
+name_in (Read name from max) = Some name
+name_in Quiet = None
+
+-- the answer on a block, or that there is none
+abbrev pub answer_found : Graph → Standing → Command → Option ℕ → Answer
+answer_found g s c None = told false s.kept (Refused machine.no_such_block, s.state)
+answer_found g s c (Some b) = answer_on g s b c
+
+abbrev pub answer_named : Graph → Standing → Command → Option (List ℕ) → Answer
+answer_named g s c None = quiet_answer g s
+answer_named g s c (Some name) = answer_found g s c (block_of g name)
+
+-- what a command is answered, and how far the script is then
+abbrev pub next_of : Graph → Standing → Command → Answer
+next_of g s c = answer_named g s c (name_in c)
 
 -- the line of a reply
 abbrev pub reply_line : Reply → List ℕ
@@ -75,28 +193,43 @@ reply_line reply = line_text (reply_text reply)
 abbrev pub no_memory : Reply
 no_memory = Refused 32
 
--- a call was answered as the machine does now; or memory ran out in one that stores or gives items, and the state is as before
-abbrev pub Tells : Reply × State → State → State → List ℕ → Type 0
-Tells now old new line =
-    ((line ≡ reply_line now.0) × (new ≡ now.1)) ⊎ ((takes_memory now.0 ≡ true) × (line ≡ reply_line no_memory) × (new ≡ old))
+-- an answer was given; or memory ran out where it may, and all is as before
+abbrev pub Gives : Answer → Standing → Standing → List ℕ → Type 0
+Gives a old new line = ((line ≡ line_text a.text) × (new ≡ a.after)) ⊎ ((a.wants_memory ≡ true) × (line ≡ reply_line no_memory) × (new ≡ old))
 
--- a call was answered so, or it is asked whether the plant is quiet, and the answer says that
-abbrev pub TellsCall : Graph → Option (Reply × State) → State → State → List ℕ → Type 0
-TellsCall g (Some now) old new line = Tells now old new line
-TellsCall g None old new line = (line ≡ line_text (quiet_text (machine.is_quiet g.net g.caps old))) × (new ≡ old)
-
--- a command was answered, and the plant went from one state to the next
-abbrev pub Answers : Graph → Command → State → State → List ℕ → Type 0
-Answers g c old new line = TellsCall g (call_of g old c) old new line
-
--- a command that a line may say: a step has a most of 1 to 2^32 - 1 firings
-abbrev pub IsAskable : Command → Type 0
-IsAskable (Step name max) = (1 ≤ max) × (max ≤ 4294967295)
-IsAskable (Feed name xs ms) = Unit {0}
-IsAskable (Close name) = Unit {0}
-IsAskable (Read name from max) = Unit {0}
-IsAskable Quiet = Unit {0}
+-- a command was answered, and the script went from one standing to the next
+abbrev pub Answers : Graph → Command → Standing → Standing → List ℕ → Type 0
+Answers g c old new line = Gives (next_of g old c) old new line
 
 -- a refusal of the plant as a line
+abbrev pub refusal_reply : PlantFault → Reply
+refusal_reply (fault.Late floor) = machine.Late floor
+refusal_reply fault = Refused (number_of fault)
+
 abbrev pub refusal_line : PlantFault → List ℕ
-refusal_line fault = reply_line (Refused (number_of fault))
+refusal_line fault = reply_line (refusal_reply fault)
+
+-- a call on a plant alone was answered: as the machine does now, or memory ran out where it may
+abbrev pub Tells : Bool → Reply × State → State → State → List ℕ → Type 0
+Tells wants now old new line =
+    ((line ≡ reply_line now.0) × (new ≡ now.1)) ⊎ ((wants ≡ true) × (line ≡ reply_line no_memory) × (new ≡ old))
+
+-- the plant went where the call leads, or stayed
+abbrev pub Moves : {B : Type 0} → Reply × State → PlantState B → PlantState B → Type 0
+Moves now old new = (new ≡ old) ⊎ (new ≡ in_state old now.1)
+
+-- numbers are a value that the setting may have
+abbrev pub is_fit : Wanted → Option Value → Bool
+is_fit w None = false
+is_fit w (Some v) = is_wanted w v
+
+abbrev pub are_taps : Wanted → Bool
+are_taps (wanted.Number least greatest) = false
+are_taps (wanted.Taps count) = true
+
+-- numbers are this value; or they are none that the setting may have, or no memory was there for the taps that they are
+abbrev pub IsValueFor : Wanted → List ℤ → Result settings.Value PlantFault → Type 0
+IsValueFor w zs (Ok v) = value_for w zs ≡ Some (value_of v)
+IsValueFor w zs (Err fault.WrongSetting) = is_fit w (value_for w zs) ≡ false
+IsValueFor w zs (Err fault.Memory) = (are_taps w ≡ true) × (is_fit w (value_for w zs) ≡ true)
+IsValueFor w zs (Err _) = ⊥

@@ -1,34 +1,36 @@
 //! Why the program stops, and how it says so.
 
 ghost use Rattle.std.specs.Prelude.{◌≡◌};
-ghost use Rattle.flow.specs.Faults.{name_of};
 ghost use Rattle.flow.specs.declared.fault.Fault.TheVariants.{File, Script};
+ghost use Rattle.flow.specs.declared.script.ScriptFault.TheVariants.{Memory};
 
 use crate::script::ScriptFault;
-use executor::PlantFault;
-use graph_text::FileFault;
+use graph_file::FileFault;
+use std::alloc::AllocError;
 use std::fmt;
 
+// The number by which a file reports want of memory.
+const NO_MEMORY: u32 = 32;
+
 /// Why a command stopped. Its text is the number of the refusal, its name, and what the name alone does not say.
-#[derive(Clone, Copy, Debug, PartialEq, Eq)]
+#[derive(Debug, Drop)]
 pub enum Fault {
+    /// The graph file is refused.
     File(FileFault),
-    /// A feed of the file, counted from 0.
-    Feed(usize, PlantFault),
+    /// A line is refused, or a device or memory failed.
     Script(ScriptFault),
 }
 
 impl Fault {
     ghost use Rattle.flow.specs.Faults.{status_of};
 
-    /// The exit status that the fault brings: 1 for a file or a line, 4 for memory and devices.
+    /// The exit status that the fault brings: 4 for memory and devices, 1 for every other refusal.
     pub fn status(&self) -> u8
         ensures { result ≡ status_of self.now }
     {
         match self {
-            Fault::File(FileFault::Syntax) | Fault::Script(ScriptFault::BadLine(_)) => 1,
-            Fault::File(FileFault::Memory) | Fault::Feed(_, PlantFault::Memory) => 4,
-            Fault::Feed(_, _) => 1,
+            Fault::File(fault) if fault.number() == NO_MEMORY => 4,
+            Fault::File(_) | Fault::Script(ScriptFault::BadLine(_)) => 1,
             Fault::Script(ScriptFault::Read | ScriptFault::Write | ScriptFault::Memory) => 4,
         }
     }
@@ -50,6 +52,14 @@ impl From<ScriptFault> for Fault {
     }
 }
 
+impl From<AllocError> for Fault {
+    ghost from_gives = { λ _ e. e ≡ Script Memory };
+
+    fn from(_refusal: AllocError) -> Fault {
+        Fault::Script(ScriptFault::Memory)
+    }
+}
+
 impl fmt::Display for Fault {
     ghost use Rattle.std.specs.Prelude.{Some};
     ghost use Rattle.flow.specs.Faults.{fault_text};
@@ -58,33 +68,8 @@ impl fmt::Display for Fault {
 
     fn fmt<W: fmt::Write>(&self, f: &mut fmt::Formatter<W>) -> fmt::Result {
         match self {
-            Fault::File(FileFault::Syntax) => f.write_str("40 Syntax"),
-            Fault::File(FileFault::Memory) | Fault::Feed(_, PlantFault::Memory) => {
-                f.write_str("32 Memory")
-            }
-            Fault::Feed(number, fault) => {
-                let code = fault.number();
-                let name = name_of(*fault);
-                write!(f, "{code} {name} feed {number}")
-            }
+            Fault::File(fault) => write!(f, "{fault}"),
             Fault::Script(fault) => write!(f, "{fault}"),
         }
-    }
-}
-
-// The name of a refusal.
-fn name_of(fault: PlantFault) -> &'static str
-    ensures { result.now ≡ name_of fault }
-{
-    match fault {
-        PlantFault::NoSuchBlock => "NoSuchBlock",
-        PlantFault::NotSource => "NotSource",
-        PlantFault::NotSink => "NotSink",
-        PlantFault::Closed => "Closed",
-        PlantFault::ItemRange => "ItemRange",
-        PlantFault::TagPlace => "TagPlace",
-        PlantFault::TapeFull => "TapeFull",
-        PlantFault::BeyondEnd => "BeyondEnd",
-        PlantFault::Memory => "Memory",
     }
 }

@@ -1,7 +1,10 @@
 //! What the program `flow` does with a graph file and its standard streams, over any source and place of bytes.
 #![tactic(auto)]
 
+mod calls;
+mod claims;
 pub mod fault;
+mod reports;
 pub mod script;
 pub mod serve;
 pub mod session;

@@ -4,15 +4,15 @@ ghost use Rattle.std.specs.Prelude.{◌≡◌, ◌+◌, ◌-◌, ◌^◌, ◌<�
 ghost use Rattle.script_text.specs.Lines.{most_lines};
 ghost use Rattle.script_text.specs.Splits.{IsUnfinished};
 ghost use Rattle.script_text.specs.Scripts.{said_of};
-ghost use Rattle.script_text.specs.Grammar.{Says};
+ghost use Rattle.script_text.specs.Grammar.{Says, IsAskable};
 ghost use Rattle.script_text.specs.Commands.{command_seen};
-ghost use Rattle.flow.specs.Session.{graph_of, in_state, IsAskable};
-ghost use Rattle.flow.specs.Script.{Answered, Stops, Unwritten, Proceeds, Went, Ends, Breaks, failed_reads, failed_writes};
+ghost use Rattle.flow.specs.Session.{graph_of, standing, standing_of, in_standing, in_state, none_kept};
+ghost use Rattle.flow.specs.Script.{Answered, Stops, Unwritten, Proceeds, Went, EndsIn, Breaks, failed_reads, failed_writes};
 ghost use Rattle.flow.specs.declared.script.ScriptFault.TheVariants.{Memory};
 
-use crate::session::answer;
+use crate::session::Session;
 use block_kinds::Block;
-use executor::Plant;
+use plant::Plant;
 use script_text::{ByteIn, ByteOut, Command, Line, LineSplitter, last_line, next_line};
 use std::alloc::{AllocError, Global};
 use std::fmt;
@@ -65,13 +65,13 @@ pub fn script<B: Block, I: ByteIn, O: ByteOut>(
 ) -> Result<Plant<B>, ScriptFault>
     requires reads { I.failed input.old < 2 ^ 64 - 1 }
     requires writes { O.failed output.old < 2 ^ 64 - 1 }
-    ensures ends { IfOk result (λ p. Ends (graph_of B.meaning plant) plant.2 p.2 (I.remaining input.old) (I.remaining input.new) (O.contents output.old) (O.contents output.new)) }
-    ensures kept { IfOk result (λ p. p ≡ in_state plant p.2) }
-    ensures breaks { IfErr result (λ fault. Breaks (graph_of B.meaning plant) plant.2 (I.remaining input.old) (I.remaining input.new) (O.contents output.old) (O.contents output.new) fault) }
+    ensures ends { IfOk result (λ p. EndsIn (graph_of B.meaning plant) (standing_of plant (none_kept plant)) p.state (I.remaining input.old) (I.remaining input.new) (O.contents output.old) (O.contents output.new)) }
+    ensures same { IfOk result (λ p. p ≡ in_state plant p.state) }
+    ensures breaks { IfErr result (λ fault. Breaks (graph_of B.meaning plant) (standing_of plant (none_kept plant)) (I.remaining input.old) (I.remaining input.new) (O.contents output.old) (O.contents output.new) fault) }
     ensures failed_reads { I.failed input.new ≡ I.failed input.old + failed_reads result }
     ensures failed_writes { O.failed output.new ≡ O.failed output.old + failed_writes result }
 {
-    let mut plant = plant;
+    let mut session = Session::new(alloc, plant)?;
     let mut lines = LineSplitter::new(alloc);
     let mut buffer = [0; PIECE];
     for _ in 0..u64::MAX {
@@ -79,11 +79,11 @@ pub fn script<B: Block, I: ByteIn, O: ByteOut>(
             return Err(ScriptFault::Read);
         };
         if read == 0 {
-            answer_last(alloc, &mut plant, &lines, output)?;
-            return Ok(plant);
+            answer_last(alloc, &mut session, &lines, output)?;
+            return Ok(session.into_plant());
         }
         lines.push(&buffer[..read])?;
-        answer_lines(alloc, &mut plant, &mut lines, output)?;
+        answer_lines(alloc, &mut session, &mut lines, output)?;
     }
     // So many pieces have a bad line among them, since there may be only so many lines and none may be long.
     Err(ScriptFault::Memory)
@@ -92,21 +92,21 @@ pub fn script<B: Block, I: ByteIn, O: ByteOut>(
 // Answers each line whose end has come.
 fn answer_lines<B: Block, O: ByteOut>(
     alloc: Global,
-    plant: &mut Plant<B>,
+    session: &mut Session<B>,
     lines: &mut LineSplitter,
     output: &mut O,
 ) -> Result<(), ScriptFault>
     requires low { lines.old.taken ≤ most_lines }
     requires writes { O.failed output.old < 2 ^ 64 - 1 }
-    ensures kept { plant.new ≡ in_state plant.old plant.new.2 }
-    ensures went { OnOk result (Went (graph_of B.meaning plant.old) plant.old.2 plant.new.2 (O.contents output.old) (O.contents output.new) lines.old lines.new) }
+    ensures same { session.new ≡ in_standing session.old (standing session.new) }
+    ensures went { OnOk result (Went (graph_of B.meaning session.old.plant) (standing session.old) (standing session.new) (O.contents output.old) (O.contents output.new) lines.old lines.new) }
     ensures unfinished { OnOk result (IsUnfinished lines.new.rest) }
-    ensures stops { IfErr result (λ fault. Stops (graph_of B.meaning plant.old) plant.old.2 (O.contents output.old) (O.contents output.new) (said_of lines.old) lines.old.taken fault) }
+    ensures stops { IfErr result (λ fault. Stops (graph_of B.meaning session.old.plant) (standing session.old) (O.contents output.old) (O.contents output.new) (said_of lines.old) lines.old.taken fault) }
     ensures failed_reads { failed_reads result ≡ 0 }
     ensures failed_writes { O.failed output.new ≡ O.failed output.old + failed_writes result }
 {
     loop {
-        match answer_next(alloc, plant, lines, output) {
+        match answer_next(alloc, session, lines, output) {
             Ok(true) => {}
             Ok(false) => return Ok(()),
             Err(fault) => return Err(fault),
@@ -117,15 +117,15 @@ fn answer_lines<B: Block, O: ByteOut>(
 // Answers the next line, if its end has come, and tells whether it has.
 fn answer_next<B: Block, O: ByteOut>(
     alloc: Global,
-    plant: &mut Plant<B>,
+    session: &mut Session<B>,
     lines: &mut LineSplitter,
     output: &mut O,
 ) -> Result<bool, ScriptFault>
     requires low { lines.old.taken ≤ most_lines }
     requires writes { O.failed output.old < 2 ^ 64 - 1 }
-    ensures kept { plant.new ≡ in_state plant.old plant.new.2 }
-    ensures proceeds { IfOk result (λ came. Proceeds (graph_of B.meaning plant.old) plant.old.2 plant.new.2 (O.contents output.old) (O.contents output.new) lines.old lines.new came) }
-    ensures stops { IfErr result (λ fault. Stops (graph_of B.meaning plant.old) plant.old.2 (O.contents output.old) (O.contents output.new) (said_of lines.old) lines.old.taken fault) }
+    ensures same { session.new ≡ in_standing session.old (standing session.new) }
+    ensures proceeds { IfOk result (λ came. Proceeds (graph_of B.meaning session.old.plant) (standing session.old) (standing session.new) (O.contents output.old) (O.contents output.new) lines.old lines.new came) }
+    ensures stops { IfErr result (λ fault. Stops (graph_of B.meaning session.old.plant) (standing session.old) (O.contents output.old) (O.contents output.new) (said_of lines.old) lines.old.taken fault) }
     ensures failed_reads { failed_reads result ≡ 0 }
     ensures failed_writes { O.failed output.new ≡ O.failed output.old + failed_writes result }
 {
@@ -134,7 +134,7 @@ fn answer_next<B: Block, O: ByteOut>(
         None => Ok(false),
         Some(Line::Nothing) => Ok(true),
         Some(Line::Bad) => Err(ScriptFault::BadLine(number)),
-        Some(Line::Command(command)) => match answer_command(alloc, plant, &command, output) {
+        Some(Line::Command(command)) => match answer_command(alloc, session, &command, output) {
             Ok(()) => Ok(true),
             Err(fault) => Err(fault),
         },
@@ -144,42 +144,42 @@ fn answer_next<B: Block, O: ByteOut>(
 // Answers the line that the end of the bytes ends, if there is one.
 fn answer_last<B: Block, O: ByteOut>(
     alloc: Global,
-    plant: &mut Plant<B>,
+    session: &mut Session<B>,
     lines: &LineSplitter,
     output: &mut O,
 ) -> Result<(), ScriptFault>
     requires low { lines.now.taken ≤ most_lines }
     requires unfinished { IsUnfinished lines.now.rest }
     requires writes { O.failed output.old < 2 ^ 64 - 1 }
-    ensures kept { plant.new ≡ in_state plant.old plant.new.2 }
-    ensures answered { OnOk result (Answered (graph_of B.meaning plant.old) plant.old.2 plant.new.2 (O.contents output.old) (O.contents output.new) (said_of lines.now [])) }
-    ensures stops { IfErr result (λ fault. Stops (graph_of B.meaning plant.old) plant.old.2 (O.contents output.old) (O.contents output.new) (λ more. said_of lines.now []) lines.now.taken fault) }
+    ensures same { session.new ≡ in_standing session.old (standing session.new) }
+    ensures answered { OnOk result (Answered (graph_of B.meaning session.old.plant) (standing session.old) (standing session.new) (O.contents output.old) (O.contents output.new) (said_of lines.now [])) }
+    ensures stops { IfErr result (λ fault. Stops (graph_of B.meaning session.old.plant) (standing session.old) (O.contents output.old) (O.contents output.new) (λ more. said_of lines.now []) lines.now.taken fault) }
     ensures failed_reads { failed_reads result ≡ 0 }
     ensures failed_writes { O.failed output.new ≡ O.failed output.old + failed_writes result }
 {
     match last_line(alloc, lines)? {
         None | Some(Line::Nothing) => Ok(()),
         Some(Line::Bad) => Err(ScriptFault::BadLine(lines.taken() + 1)),
-        Some(Line::Command(command)) => answer_command(alloc, plant, &command, output),
+        Some(Line::Command(command)) => answer_command(alloc, session, &command, output),
     }
 }
 
 // Does what a command asks, and writes its reply.
 fn answer_command<B: Block, O: ByteOut>(
     alloc: Global,
-    plant: &mut Plant<B>,
+    session: &mut Session<B>,
     command: &Command,
     output: &mut O,
 ) -> Result<(), ScriptFault>
     requires askable { IsAskable (command_seen command.now) }
     requires writes { O.failed output.old < 2 ^ 64 - 1 }
-    ensures kept { plant.new ≡ in_state plant.old plant.new.2 }
-    ensures answered { OnOk result (Answered (graph_of B.meaning plant.old) plant.old.2 plant.new.2 (O.contents output.old) (O.contents output.new) (Says (command_seen command.now) ∷ [])) }
-    ensures unwritten { IfErr result (λ fault. Unwritten (graph_of B.meaning plant.old) (command_seen command.now) plant.old.2 plant.new.2 (O.contents output.old) (O.contents output.new) fault) }
+    ensures same { session.new ≡ in_standing session.old (standing session.new) }
+    ensures answered { OnOk result (Answered (graph_of B.meaning session.old.plant) (standing session.old) (standing session.new) (O.contents output.old) (O.contents output.new) (Says (command_seen command.now) ∷ [])) }
+    ensures unwritten { IfErr result (λ fault. Unwritten (graph_of B.meaning session.old.plant) (command_seen command.now) (standing session.old) (standing session.new) (O.contents output.old) (O.contents output.new) fault) }
     ensures failed_reads { failed_reads result ≡ 0 }
     ensures failed_writes { O.failed output.new ≡ O.failed output.old + failed_writes result }
 {
-    let line = answer(alloc, plant, command)?;
+    let line = session.answer(alloc, command)?;
     match output.write(&line) {
         Ok(()) => Ok(()),
         Err(_) => Err(ScriptFault::Write),

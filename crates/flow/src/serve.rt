@@ -1,27 +1,56 @@
 //! What the program does with a graph file and its standard streams, over any source and place of bytes.
 
-ghost use Rattle.std.specs.Prelude.{◌≡◌, ◌<◌, ◌-◌, ◌^◌, IfOk, IfErr, OnOk, string_bytes};
-ghost use Rattle.flow.specs.Serve.{Serves, IsReady, Took, Refuses, Runs, Stopped, Told, IsOpeningFault};
+ghost use Rattle.std.specs.Prelude.{◌≡◌, ◌+◌, ◌<◌, ◌-◌, ◌^◌, true, IfOk, IfErr, string_bytes, if◌then◌else◌};
+ghost use Rattle.std.specs.Io.KnownBytes.{Appends};
+ghost use Rattle.stream_model.specs.Machine.{is_idle};
+ghost use Rattle.kinds.specs.Kind.{meaning_of};
+ghost use Rattle.flowgraph.specs.Flowgraph.{net_of};
+ghost use Rattle.graph_file.specs.Refusals.{IsRefused};
+ghost use Rattle.graph_file.specs.Blocks.{drafted};
+ghost use Rattle.graph_file.specs.Opening.{opened_of};
+ghost use Rattle.script_text.specs.Ends.{AppendsBeginning};
+ghost use Rattle.flow.specs.Session.{in_state};
 ghost use Rattle.flow.specs.Faults.{fault_line};
+ghost use Rattle.flow.specs.Serve.{Serves, Tells, stream, Does, DoesNot, IsCheck, IsRun, Refuses, Writes, WritesNot, IsScript, StopsScript, graph_in, plant_in, closed, reads_in, writes_in};
+ghost use Rattle.flow.specs.declared.fault.Fault.TheVariants.{Script};
+ghost use Rattle.flow.specs.declared.script.ScriptFault.TheVariants.{Write};
 
 use crate::fault::Fault;
-use crate::script::script;
-use executor::{Plant, PlantFault};
-use graph_text::{Feed, File, FileFault, read_chain};
+use crate::reports::{checked, ended};
+use crate::script::{ScriptFault, script};
+use flowgraph::{BlockId, Valid};
+use graph_file::{FileFault, read_graph};
 use kinds::Kind;
+use plant::{Plant, Settled};
+use rates::balance;
 use script_text::{ByteIn, ByteOut};
 use std::alloc::{AllocError, Global};
+
+// How many firings of a block a run steps at once, at most.
+const TURN: u32 = 1024;
+// The exit status of a run that came to rest before all blocks were done.
+const STALLED: u8 = 3;
 
 /// What the program is asked to do with a graph file.
 #[derive(Clone, Copy, Debug, PartialEq, Eq)]
 pub enum Command {
+    /// To tell of its graph.
+    Check,
+    /// To feed it, let it run to its end, and tell what its sinks hold.
+    Run,
     /// To feed it and do the commands of standard input.
     Script,
 }
 
-/// Does a command: reads the graph file, feeds its graph and does what the lines of `input` say. The status is 0 where
-/// the input came to its end, 1 for a refused file or line, and 4 for memory and devices; then one line on `errors`
-/// says why, and whether that write succeeds changes nothing.
+// What is written where a command is done, and its status.
+#[derive(Drop)]
+struct Outcome {
+    text: Vec<u8>,
+    status: u8,
+}
+
+/// Does a command. The status is 0 where all went well, 3 for a run that stalled, 1 for a refused file or line, and 4 for memory and devices; with
+/// 1 and 4 one line on `errors` says why, and whether that write succeeds changes nothing.
 pub fn serve<I: ByteIn, O: ByteOut, E: ByteOut>(
     alloc: Global,
     command: Command,
@@ -33,17 +62,61 @@ pub fn serve<I: ByteIn, O: ByteOut, E: ByteOut>(
     requires reads { I.failed input.old < 2 ^ 64 - 1 }
     requires writes { O.failed output.old < 2 ^ 64 - 1 }
     requires reports { E.failed errors.old < 2 ^ 64 - 1 }
-    ensures { Serves file.now (I.remaining input.old) (I.remaining input.new) (O.contents output.old) (O.contents output.new) (E.contents errors.old) (E.contents errors.new) (E.failed errors.old) (E.failed errors.new) result }
+    ensures { Serves command file.now (stream (I.remaining input.old) (I.failed input.old)) (stream (I.remaining input.new) (I.failed input.new)) (stream (O.contents output.old) (O.failed output.old)) (stream (O.contents output.new) (O.failed output.new)) (stream (E.contents errors.old) (E.failed errors.old)) (stream (E.contents errors.new) (E.failed errors.new)) result }
 {
-    let outcome = match command {
-        Command::Script => run_script(alloc, file, input, output),
-    };
-    match outcome {
-        Ok(()) => 0,
+    match obey(alloc, command, file, input, output) {
+        Ok(status) => status,
         Err(fault) => {
+            let status = fault.status();
             report(alloc, fault, errors);
-            fault.status()
+            status
         }
+    }
+}
+
+// Does a command, and gives its status.
+fn obey<I: ByteIn, O: ByteOut>(
+    alloc: Global,
+    command: Command,
+    file: &[u8],
+    input: &mut I,
+    output: &mut O,
+) -> Result<u8, Fault>
+    requires reads { I.failed input.old < 2 ^ 64 - 1 }
+    requires writes { O.failed output.old < 2 ^ 64 - 1 }
+    ensures does { IfOk result (Does command file.now (I.remaining input.old) (I.remaining input.new) (O.contents output.old) (O.contents output.new)) }
+    ensures does_not { IfErr result (DoesNot command file.now (I.remaining input.old) (I.remaining input.new) (O.contents output.old) (O.contents output.new)) }
+    ensures failed_reads { I.failed input.new ≡ I.failed input.old + reads_in result }
+    ensures failed_writes { O.failed output.new ≡ O.failed output.old + writes_in result }
+{
+    match command {
+        Command::Check => check(alloc, file, output),
+        Command::Run => run(alloc, file, output),
+        Command::Script => run_script(alloc, file, input, output),
+    }
+}
+
+fn check<O: ByteOut>(alloc: Global, file: &[u8], output: &mut O) -> Result<u8, Fault>
+    requires writes { O.failed output.old < 2 ^ 64 - 1 }
+    ensures does { IfOk result (Writes (IsCheck file.now) (O.contents output.old) (O.contents output.new)) }
+    ensures does_not { IfErr result (WritesNot (IsCheck file.now) (graph_in file.now) (O.contents output.old) (O.contents output.new)) }
+    ensures failed_writes { O.failed output.new ≡ O.failed output.old + writes_in result }
+{
+    match check_file(alloc, file) {
+        Ok(outcome) => written(output, &outcome),
+        Err(fault) => Err(fault),
+    }
+}
+
+fn run<O: ByteOut>(alloc: Global, file: &[u8], output: &mut O) -> Result<u8, Fault>
+    requires writes { O.failed output.old < 2 ^ 64 - 1 }
+    ensures does { IfOk result (Writes (IsRun file.now) (O.contents output.old) (O.contents output.new)) }
+    ensures does_not { IfErr result (WritesNot (IsRun file.now) (plant_in file.now) (O.contents output.old) (O.contents output.new)) }
+    ensures failed_writes { O.failed output.new ≡ O.failed output.old + writes_in result }
+{
+    match run_file(alloc, file) {
+        Ok(outcome) => written(output, &outcome),
+        Err(fault) => Err(fault),
     }
 }
 
@@ -52,50 +125,107 @@ fn run_script<I: ByteIn, O: ByteOut>(
     file: &[u8],
     input: &mut I,
     output: &mut O,
-) -> Result<(), Fault>
+) -> Result<u8, Fault>
     requires reads { I.failed input.old < 2 ^ 64 - 1 }
     requires writes { O.failed output.old < 2 ^ 64 - 1 }
-    ensures runs { OnOk result (Runs file.now (I.remaining input.old) (I.remaining input.new) (O.contents output.old) (O.contents output.new)) }
-    ensures stopped { IfErr result (λ fault. Stopped file.now (I.remaining input.old) (I.remaining input.new) (O.contents output.old) (O.contents output.new) fault) }
+    ensures does { IfOk result (λ status. IsScript file.now (I.remaining input.old) (I.remaining input.new) (O.contents output.old) (O.contents output.new) × (status ≡ 0)) }
+    ensures does_not { IfErr result (StopsScript file.now (I.remaining input.old) (I.remaining input.new) (O.contents output.old) (O.contents output.new)) }
+    ensures failed_reads { I.failed input.new ≡ I.failed input.old + reads_in result }
+    ensures failed_writes { O.failed output.new ≡ O.failed output.old + writes_in result }
 {
-    let plant = fed_plant(alloc, file)?;
-    let _done = script(alloc, plant, input, output)?;
-    Ok(())
-}
-
-// The plant of a graph file, with the file's feeds on the tapes.
-fn fed_plant(alloc: Global, file: &[u8]) -> Result<Plant<Kind>, Fault>
-    ensures ready { IfOk result (λ plant. IsReady file.now plant) }
-    ensures refused { IfErr result (λ fault. IsOpeningFault file.now fault) }
-{
-    let File { graph, feeds } = read_chain(alloc, file)?;
-    let mut plant = match Plant::open(alloc, graph) {
+    let plant = match open_plant(alloc, file) {
         Ok(plant) => plant,
-        Err(_) => return Err(Fault::File(FileFault::Memory)),
+        Err(fault) => return Err(Fault::File(fault)),
     };
-    match take_feeds(&mut plant, feeds) {
-        Ok(()) => Ok(plant),
-        Err((number, fault)) => Err(Fault::Feed(number, fault)),
+    match script(alloc, plant, input, output) {
+        Ok(_done) => Ok(0),
+        Err(fault) => Err(Fault::Script(fault)),
     }
 }
 
-// Feeds a plant, in order. At a refusal it answers which feed it was, counted from 0.
-fn take_feeds(plant: &mut Plant<Kind>, feeds: Vec<Feed>) -> Result<(), (usize, PlantFault)>
-    ensures took { OnOk result (Took plant.old plant.new feeds.items) }
-    ensures refuses { IfErr result (λ refusal. Refuses plant.old refusal.0 refusal.1) }
+// What is told of the graph of a file.
+fn check_file(alloc: Global, file: &[u8]) -> Result<Outcome, Fault>
+    ensures ok { IfOk result (λ outcome. IsCheck file.now outcome.text.items outcome.status) }
+    ensures refused { IfErr result (Refuses (graph_in file.now)) }
 {
-    for (number, feed) in feeds.into_iter().enumerate() {
-        if let Err(fault) = plant.feed(feed.source, feed.items, &[]) {
-            return Err((number, fault));
-        }
+    let graph = valid_graph(alloc, file)?;
+    let rates = balance(alloc, &graph)?;
+    let text = checked(alloc, &graph, &rates)?;
+    Ok(Outcome { text, status: 0 })
+}
+
+// Lets the plant of a file go on until it comes to rest, where its sources give no more, and tells what it holds then.
+fn run_file(alloc: Global, file: &[u8]) -> Result<Outcome, Fault>
+    ensures ok { IfOk result (λ outcome. IsRun file.now outcome.text.items outcome.status) }
+    ensures refused { IfErr result (Refuses (plant_in file.now)) }
+{
+    let mut plant = open_plant(alloc, file)?;
+    close_all(&mut plant);
+    let settled = plant.settle(alloc, TURN)?;
+    let text = ended(alloc, &plant, settled)?;
+    let status = status_of(plant.all_done());
+    Ok(Outcome { text, status })
+}
+
+// The status of a run that came to rest.
+fn status_of(done: bool) -> u8
+    ensures { result ≡ (if done then 0 else 3) }
+{
+    if done { 0 } else { STALLED }
+}
+
+// Closes each tape that is open.
+fn close_all(plant: &mut Plant<Kind>)
+    ensures { plant.new ≡ in_state plant.old (closed (net_of meaning_of plant.old.graph) plant.old.state) }
+{
+    for block in 0..plant.graph().len() {
+        let _ = plant.close(BlockId(block as u32));
     }
-    Ok(())
+}
+
+// The valid graph of a file.
+fn valid_graph(alloc: Global, file: &[u8]) -> Result<Valid<Kind>, FileFault>
+    ensures ok { IfOk result (λ graph. graph_in file.now ≡ Ok (drafted graph)) }
+    ensures refused { IfErr result (IsRefused (graph_in file.now)) }
+{
+    match read_graph(alloc, file) {
+        Ok(content) => match content.validate(alloc) {
+            Ok((graph, _)) => Ok(graph),
+            Err(fault) => Err(fault),
+        },
+        Err(fault) => Err(fault),
+    }
+}
+
+// The plant of a file, with its feeds on the tapes.
+fn open_plant(alloc: Global, file: &[u8]) -> Result<Plant<Kind>, FileFault>
+    ensures ok { IfOk result (λ plant. plant_in file.now ≡ Ok (opened_of plant)) }
+    ensures idle { IfOk result (λ plant. is_idle plant.state ≡ true) }
+    ensures refused { IfErr result (IsRefused (plant_in file.now)) }
+{
+    match read_graph(alloc, file) {
+        Ok(content) => content.open(alloc),
+        Err(fault) => Err(fault),
+    }
+}
+
+// Writes what a command tells, and gives its status.
+fn written<O: ByteOut>(output: &mut O, outcome: &Outcome) -> Result<u8, Fault>
+    requires { O.failed output.old < 2 ^ 64 - 1 }
+    ensures ok { IfOk result (λ status. (status ≡ outcome.now.status) × Appends (O.contents output.old) (O.contents output.new) outcome.now.text.items) }
+    ensures err { IfErr result (λ fault. (fault ≡ Script Write) × AppendsBeginning (O.contents output.old) (O.contents output.new) outcome.now.text.items) }
+    ensures failed_writes { O.failed output.new ≡ O.failed output.old + writes_in result }
+{
+    match output.write(&outcome.text) {
+        Ok(()) => Ok(outcome.status),
+        Err(_) => Err(Fault::Script(ScriptFault::Write)),
+    }
 }
 
 // Writes the line that says why the command stopped. Without memory for its text it says that.
 fn report<E: ByteOut>(alloc: Global, fault: Fault, errors: &mut E)
     requires { E.failed errors.old < 2 ^ 64 - 1 }
-    ensures { Told (E.contents errors.old) (E.contents errors.new) (E.failed errors.old) (E.failed errors.new) fault }
+    ensures { Tells (stream (E.contents errors.old) (E.failed errors.old)) (stream (E.contents errors.new) (E.failed errors.new)) fault }
 {
     let _ = match line_of(alloc, fault) {
         Ok(line) => errors.write(line.as_bytes()),

@@ -1,178 +1,138 @@
-//! One command of a script, as a call of a plant.
+//! A plant with the claims that the lines of a script made.
 
-ghost use Rattle.std.specs.Prelude.{◌≡◌, ◌<◌, ◌≤◌, IfOk, IfSome, Ok};
+ghost use Rattle.std.specs.Prelude.{◌≡◌, ◌<◌, length, map, false, replicate, None, IfOk, IfSome};
 ghost use Rattle.std.specs.Option.{option_map};
-ghost use Rattle.stream_model.specs.Machine as machine;
-ghost use Rattle.stream_model.specs.Numbers.{AreItems};
-ghost use Rattle.executor.specs.Chain.{network_of};
-ghost use Rattle.executor.specs.Looks.{source_type_of};
-ghost use Rattle.script_text.specs.Commands.{command_seen, marks_seen};
-ghost use Rattle.flow.specs.Session.{graph_of, in_state, block_of, feed_numbers, Tells, Answers, IsAskable, refusal_line};
+ghost use Rattle.flowgraph.specs.Flowgraph.{net_of};
+ghost use Rattle.flowgraph.specs.Fault.{id};
+ghost use Rattle.script_text.specs.Grammar.{IsAskable};
+ghost use Rattle.script_text.specs.Commands.{command_seen};
+ghost use Rattle.flow.specs.Session.{graph_of, standing, standing_of, in_state, in_standing, none_kept, kept_in, block_of, name_in, answer_on, KeepsJobs, Gives, Answers};
 
+use crate::calls::{close, feed, read, refused, set, step};
+use crate::claims::{abandon, claim, commit};
 use block_kinds::Block;
-use executor::plant::LONGEST_TAPE;
-use executor::{BlockId, Closed, Fed, Need, Plant, PlantFault, Step};
-use items::{BlockName, ItemFault, ItemType, Items, Mark};
+use items::BlockName;
+use plant::{BlockId, Job, Plant, PlantFault};
 use script_text::{Command, Reply};
 use std::alloc::{AllocError, Global};
+use std::marker::Model;
 
-/// Makes the call that a command asks for, and gives its reply as a line.
-pub fn answer<B: Block>(
-    alloc: Global,
-    plant: &mut Plant<B>,
-    command: &Command,
-) -> Result<Vec<u8>, AllocError>
-    requires { IsAskable (command_seen command.now) }
-    ensures kept { plant.new ≡ in_state plant.old plant.new.2 }
-    ensures answers { IfOk result (λ line. Answers (graph_of B.meaning plant.old) (command_seen command.now) plant.old.2 plant.new.2 line.items) }
+/// A plant, and for each block the job that a line claimed, until one gives it back. A contract sees the plant, and of which blocks a job is
+/// kept.
+#[derive(Drop)]
+pub struct Session<B: Block> {
+    plant: Plant<B>,
+    jobs: Vec<Option<Job<B>>>,
+}
+
+impl<B: Block> Model for Session<B> {
+    ghost use Rattle.flowgraph.specs.Flowgraph.{net_of};
+    ghost use Rattle.flow.specs.Session.{SessionState, KeepsJobs, kept_in};
+
+    ghost Value = { SessionState B };
+
+    ghost view = { λ s. record { plant = s.plant; kept = kept_in s.jobs.items } };
+
+    ghost invariant = { λ s. KeepsJobs (net_of B.meaning s.plant.graph) s.plant.graph s.plant.state s.jobs.items };
+}
+
+impl<B: Block> Session<B> {
+    /// A script that begins. What is in flight on the plant was claimed by others.
+    pub fn new(alloc: Global, plant: Plant<B>) -> Result<Session<B>, AllocError>
+        ensures { IfOk result (λ session. session ≡ record { plant = plant; kept = none_kept plant }) }
+    {
+        let count = plant.graph().len();
+        let jobs = no_jobs(alloc, count)?;
+        Ok(Session { plant, jobs })
+    }
+
+    /// The plant. What lines claimed and did not give back stays in flight.
+    pub fn into_plant(self) -> Plant<B>
+        ensures { result ≡ self.plant }
+    {
+        self.plant
+    }
+
+    /// Makes the call that a command asks for, and gives its reply as a line.
+    pub fn answer(&mut self, alloc: Global, command: &Command) -> Result<Vec<u8>, AllocError>
+        requires { IsAskable (command_seen command.now) }
+        ensures same { self.new ≡ in_standing self.old (standing self.new) }
+        ensures answers { IfOk result (λ line. Answers (graph_of B.meaning self.old.plant) (command_seen command.now) (standing self.old) (standing self.new) line.items) }
+    {
+        let Some(name) = name_of(command) else {
+            return Reply::Quiet(self.plant.quiet()).to_line(alloc);
+        };
+        match find(&self.plant, name) {
+            Some(block) => answer_on(alloc, &mut self.plant, &mut self.jobs, block, command),
+            None => refused(alloc, PlantFault::NoSuchBlock),
+        }
+    }
+}
+
+// Places for so many jobs.
+fn no_jobs<B: Block>(alloc: Global, count: usize) -> Result<Vec<Option<Job<B>>>, AllocError>
+    ensures { IfOk result (λ jobs. jobs.items ≡ replicate count None) }
+{
+    let mut jobs = Vec::new(alloc);
+    for _ in 0..count {
+        jobs.push(None)?;
+    }
+    Ok(jobs)
+}
+
+// The name in a command.
+fn name_of(command: &Command) -> Option<&BlockName>
+    ensures { option_map (λ name. name.now) result ≡ name_in (command_seen command.now) }
 {
     match command {
-        Command::Feed { name, items, marks } => match find(plant, name) {
-            Some(block) => feed(alloc, plant, block, items, marks),
-            None => refused(alloc, PlantFault::NoSuchBlock),
-        },
-        Command::Close { name } => match find(plant, name) {
-            Some(block) => close(alloc, plant, block),
-            None => refused(alloc, PlantFault::NoSuchBlock),
-        },
-        Command::Step { name, max } => match find(plant, name) {
-            Some(block) => step(alloc, plant, block, *max as u32),
-            None => refused(alloc, PlantFault::NoSuchBlock),
-        },
-        Command::Read { name, from, max } => match find(plant, name) {
-            Some(block) => read(alloc, plant, block, *from, *max),
-            None => refused(alloc, PlantFault::NoSuchBlock),
-        },
-        Command::Quiet => Reply::Quiet(plant.quiet()).to_line(alloc),
+        Command::Feed { name, .. }
+        | Command::Close { name }
+        | Command::Set { name, .. }
+        | Command::Claim { name, .. }
+        | Command::Commit { name }
+        | Command::Abandon { name }
+        | Command::Step { name, .. }
+        | Command::Read { name, .. } => Some(name),
+        Command::Quiet => None,
     }
 }
 
 // The number of the block of this name.
 fn find<B: Block>(plant: &Plant<B>, name: &BlockName) -> Option<BlockId>
-    ensures { option_map (λ block. block.0) result ≡ block_of (graph_of B.meaning plant.now) name.now }
+    ensures named { option_map (λ block. block.0) result ≡ block_of (graph_of B.meaning plant.now) name.now }
+    ensures inside { IfSome result (λ block. block.0 < length plant.now.graph.blocks) }
 {
-    let block = plant.graph().find(name.bytes())?;
-    Some(BlockId(block as u32))
+    let graph = plant.graph();
+    graph.in_order();
+    graph.find(name.bytes())
 }
 
-fn feed<B: Block>(
+// Makes the call that a command asks for on a block.
+fn answer_on<B: Block>(
     alloc: Global,
     plant: &mut Plant<B>,
-    source: BlockId,
-    numbers: &[i64],
-    marks: &[Mark],
-) -> Result<Vec<u8>, AllocError>
-    ensures kept { plant.new ≡ in_state plant.old plant.new.2 }
-    ensures tells { IfOk result (λ line. Tells (feed_numbers (network_of B.meaning plant.old.0.1) plant.old.2 source.0 numbers.now (marks_seen marks.now)) plant.old.2 plant.new.2 line.items) }
-{
-    let item = match plant.source_type(source) {
-        Ok(item) => item,
-        Err(fault) => return refused(alloc, fault),
-    };
-    let items = match Items::from_numbers(alloc, item, numbers) {
-        Ok(items) => items,
-        Err(ItemFault::ItemRange) => return refused(alloc, PlantFault::ItemRange),
-        Err(ItemFault::Memory) => {
-            return feed_without_memory(alloc, plant, source, item, numbers, marks);
-        }
-    };
-    match plant.feed(source, items, marks) {
-        Ok(Fed(total)) => Reply::Fed(total).to_line(alloc),
-        Err(fault) => refused(alloc, fault),
-    }
-}
-
-// What a feed is answered where there is no memory for its items: what refuses it refuses it now, too, and a feed of no
-// items tells that and how long the tape is.
-fn feed_without_memory<B: Block>(
-    alloc: Global,
-    plant: &mut Plant<B>,
-    source: BlockId,
-    item: ItemType,
-    numbers: &[i64],
-    marks: &[Mark],
-) -> Result<Vec<u8>, AllocError>
-    requires typed { source_type_of (network_of B.meaning plant.old.0.1) source.0 ≡ Ok item }
-    requires items { AreItems item numbers.now }
-    ensures kept { plant.new ≡ in_state plant.old plant.new.2 }
-    ensures tells { IfOk result (λ line. Tells (feed_numbers (network_of B.meaning plant.old.0.1) plant.old.2 source.0 numbers.now (marks_seen marks.now)) plant.old.2 plant.new.2 line.items) }
-{
-    match plant.feed(source, Items::empty(alloc, item), marks) {
-        Ok(Fed(total)) => {
-            if total.saturating_add(numbers.len() as u64) > LONGEST_TAPE as u64 {
-                refused(alloc, PlantFault::TapeFull)
-            } else {
-                refused(alloc, PlantFault::Memory)
-            }
-        }
-        Err(fault) => {
-            if fault == PlantFault::Memory {
-                return Err(AllocError);
-            }
-            refused(alloc, fault)
-        }
-    }
-}
-
-fn close<B: Block>(
-    alloc: Global,
-    plant: &mut Plant<B>,
-    source: BlockId,
-) -> Result<Vec<u8>, AllocError>
-    ensures kept { plant.new ≡ in_state plant.old plant.new.2 }
-    ensures tells { IfOk result (λ line. Tells (machine.close_of (network_of B.meaning plant.old.0.1) plant.old.2 source.0) plant.old.2 plant.new.2 line.items) }
-{
-    match plant.close(source) {
-        Ok(Closed(total)) => Reply::Closed(total).to_line(alloc),
-        Err(fault) => refused(alloc, fault),
-    }
-}
-
-fn step<B: Block>(
-    alloc: Global,
-    plant: &mut Plant<B>,
+    jobs: &mut [Option<Job<B>>],
     block: BlockId,
-    max: u32,
+    command: &Command,
 ) -> Result<Vec<u8>, AllocError>
-    requires { 1 ≤ max }
-    ensures kept { plant.new ≡ in_state plant.old plant.new.2 }
-    ensures tells { IfOk result (λ line. Tells (machine.step_of (network_of B.meaning plant.old.0.1) plant.old.1 plant.old.2 block.0 max) plant.old.2 plant.new.2 line.items) }
+    requires askable { IsAskable (command_seen command.now) }
+    requires inside { block.0 < length plant.old.graph.blocks }
+    requires jobs { KeepsJobs (net_of B.meaning plant.old.graph) plant.old.graph plant.old.state jobs.old }
+    ensures same { plant.new ≡ in_state plant.old plant.new.state }
+    ensures jobs { KeepsJobs (net_of B.meaning plant.new.graph) plant.new.graph plant.new.state jobs.new }
+    ensures gives { let old = standing_of plant.old (kept_in jobs.old) in
+        IfOk result (λ line. Gives (answer_on (graph_of B.meaning plant.old) old block.0 (command_seen command.now)) old (standing_of plant.new (kept_in jobs.new)) line.items) }
 {
-    let reply = match plant.step(alloc, block, max) {
-        Ok(Step::Did(count)) => Reply::Did(count),
-        Ok(Step::Done) => Reply::Done,
-        Ok(Step::Waiting(Need::Items(port))) => Reply::WaitingItems(port),
-        Ok(Step::Waiting(Need::Room(port))) => Reply::WaitingRoom(port),
-        Err(fault) => return refused(alloc, fault),
-    };
-    reply.to_line(alloc)
-}
-
-fn read<B: Block>(
-    alloc: Global,
-    plant: &Plant<B>,
-    sink: BlockId,
-    from: u64,
-    max: u64,
-) -> Result<Vec<u8>, AllocError>
-    ensures { IfOk result (λ line. Tells (machine.read_of (network_of B.meaning plant.now.0.1) plant.now.2 sink.0 from max) plant.now.2 plant.now.2 line.items) }
-{
-    match plant.read(alloc, sink, from, max) {
-        Ok(piece) => {
-            let reply = Reply::Piece {
-                held: piece.held,
-                items: &piece.items,
-                tags: &[],
-            };
-            reply.to_line(alloc)
-        }
-        Err(fault) => refused(alloc, fault),
+    plant.in_order();
+    match command {
+        Command::Feed { items, marks, .. } => feed(alloc, plant, block, items, marks),
+        Command::Close { .. } => close(alloc, plant, block),
+        Command::Set { at, numbers, .. } => set(alloc, plant, block, *at, numbers),
+        Command::Claim { max, .. } => claim(alloc, plant, jobs, block, *max),
+        Command::Commit { .. } => commit(alloc, plant, jobs, block),
+        Command::Abandon { .. } => abandon(alloc, plant, jobs, block),
+        Command::Step { max, .. } => step(alloc, plant, block, *max),
+        Command::Read { from, max, .. } => read(alloc, plant, block, *from, u64::from(*max)),
+        Command::Quiet => Reply::Quiet(plant.quiet()).to_line(alloc),
     }
-}
-
-// A refusal as a line.
-fn refused(alloc: Global, fault: PlantFault) -> Result<Vec<u8>, AllocError>
-    ensures { IfOk result (λ line. line.items ≡ refusal_line fault) }
-{
-    Reply::Refused(fault.number()).to_line(alloc)
 }

@@ -5,7 +5,7 @@ use clap::error::ErrorKind;
 use clap::{Arg, ArgAction};
 use flow::serve::{Command, serve};
 use script_text::{ReadEnd, WriteEnd};
-use std::alloc::Global;
+use std::alloc::{AllocError, Global};
 use std::process::ExitCode;
 use std::{env, fs, io};
 
@@ -30,8 +30,8 @@ fn status(rt: &HostRuntime) -> u8 {
     let Ok(words) = arguments.collect::<Vec<String>>(rt.alloc()) else {
         return out_of_memory(rt);
     };
-    match path_of(rt.alloc(), &words) {
-        Ok(path) => run(rt, path),
+    match words_of(rt.alloc(), &words) {
+        Ok((command, path)) => run(rt, command, path),
         Err(error) if error.kind() == ErrorKind::OutOfMemory => out_of_memory(rt),
         Err(error) => {
             let _ = eprintln!(rt; "{error}");
@@ -45,26 +45,47 @@ fn out_of_memory(rt: &HostRuntime) -> u8 {
     FAILED
 }
 
-// The path that follows the word `script`.
-fn path_of<'a>(alloc: Global, words: &'a [String]) -> Result<&'a str, clap::Error> {
-    let file = Arg::new(alloc, "FILE")
-        .required(true)
-        .action(ArgAction::Set);
-    let script = clap::Command::new(alloc, "script").arg(file)?;
+// The subcommand, and the path that follows it.
+fn words_of<'a>(alloc: Global, words: &'a [String]) -> Result<(Command, &'a str), clap::Error> {
     // The name of the built file is another.
     let flow = clap::Command::new(alloc, "flow")
         .bin_name("flow")?
         .subcommand_required(true)
-        .subcommand(script)?;
+        .subcommand(subcommand(alloc, "check", "Reads the graph and tells of it")?)?
+        .subcommand(subcommand(alloc, "run", "Runs the graph and tells what its sinks hold")?)?
+        .subcommand(subcommand(
+            alloc,
+            "script",
+            "Runs the commands of standard input on the graph",
+        )?)?;
     let matches = flow.try_get_matches_from(words)?;
-    let path = match matches.subcommand() {
-        Some((_, inner)) => inner.get_str("FILE"),
-        None => None,
+    let Some((name, inner)) = matches.subcommand() else {
+        return Err(clap::Error::from(AllocError));
     };
-    path.ok_or(clap::Error::from(std::alloc::AllocError))
+    let command = match name {
+        "check" => Command::Check,
+        "run" => Command::Run,
+        _ => Command::Script,
+    };
+    match inner.get_str("FILE") {
+        Some(path) => Ok((command, path)),
+        None => Err(clap::Error::from(AllocError)),
+    }
 }
 
-fn run(rt: &HostRuntime, path: &str) -> u8 {
+// A subcommand that takes a graph file, with its line of help.
+fn subcommand<'a>(
+    alloc: Global,
+    name: &'a str,
+    help: &'a str,
+) -> Result<clap::Command<'a>, clap::Error> {
+    let file = Arg::new(alloc, "FILE")
+        .required(true)
+        .action(ArgAction::Set);
+    Ok(clap::Command::new(alloc, name).about(help).arg(file)?)
+}
+
+fn run(rt: &HostRuntime, command: Command, path: &str) -> u8 {
     let Ok(file) = fs::read(rt, path) else {
         let _ = eprintln!(rt; "flow: refused 51 Read");
         return FAILED;
@@ -74,7 +95,7 @@ fn run(rt: &HostRuntime, path: &str) -> u8 {
     let mut errors = WriteEnd::new(rt.stderr());
     serve(
         rt.alloc(),
-        Command::Script,
+        command,
         &file,
         &mut input,
         &mut output,

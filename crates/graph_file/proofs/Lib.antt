@@ -1,1 +1,3 @@
 pub mod TagKeys
+pub mod Feeding
+pub mod Validity

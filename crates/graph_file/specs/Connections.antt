@@ -18,7 +18,7 @@ use Rattle.kind_keys.specs.Tables.{text_at, number_at, count_at, keys_fault, has
 use Rattle.graph_file.specs.declared.fault.Place.TheVariants as places
 use Rattle.graph_file.specs.Refusals.{Refusal, of_graph, negative_port}
 use Rattle.graph_file.specs.Blocks.{Draft}
-use Rattle.graph_file.specs.Steps.{then, unless}
+use Rattle.graph_file.specs.Steps.{unless}
 use Rattle.std.specs.Prelude.{Bool, true, false}
 
 -- the name in the table of a block

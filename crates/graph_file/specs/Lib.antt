@@ -6,3 +6,4 @@ pub mod Connections
 pub mod Names
 pub mod Feeds
 pub mod File
+pub mod Opening

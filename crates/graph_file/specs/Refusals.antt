@@ -5,17 +5,21 @@ use Rattle.flowgraph.specs.Fault as graph_faults
 use Rattle.flowgraph.specs.declared.fault.Side.{Side}
 use Rattle.kind_keys.specs.declared.fault.KeyFault.{KeyFault}
 use Rattle.kind_keys.specs.declared.fault.KeyFault.TheVariants as key
+use Rattle.plant.specs.declared.fault.PlantFault.{PlantFault}
+use Rattle.plant.specs.declared.fault.PlantFault.TheVariants as plant
+use Rattle.plant.specs.Fault.{number_of as feed_number}
 use Rattle.graph_file.specs.declared.fault.Place.{Place}
 use Rattle.graph_file.specs.declared.fault.FileFault.{FileFault}
 use Rattle.graph_file.specs.declared.fault.FileFault.TheVariants as file
 
 -- a refusal: the text is no TOML, a table at a place is wrong, a block or a connection does not go into the graph, where a block of
--- this name is named, or a port of the block of this name is negative
+-- this name is named, a port of the block of this name is negative, or the feed of this number is refused by a number
 pub data Refusal : Type 0 where
   syntax : Refusal
   at_table : Place → KeyFault → Refusal
   of_graph : Place → graph_fault.GraphFault → List ℕ → Refusal
   negative_port : List ℕ → Side → ℤ → Refusal
+  of_feed : ℕ → ℕ → Refusal
 
 -- the refusal that a fault reports; none for want of memory
 abbrev pub told : FileFault → Option Refusal
@@ -23,6 +27,7 @@ told file.Syntax = Some syntax
 told (file.Table place fault) = Some (at_table place fault)
 told (file.Graph place fault name) = Some (of_graph place fault (string_bytes name))
 told (file.NegativePort name side port) = Some (negative_port (string_bytes name) side port)
+told (file.Feed n fault) = Some (of_feed n (feed_number fault))
 told file.Memory = None
 
 -- the refusal is the one to be reported, where one is reported
@@ -34,7 +39,7 @@ IsTold r (Some refusal) = r ≡ Err refusal
 abbrev pub IsRefused : {A : Type 0} → Result A Refusal → FileFault → Type 0
 IsRefused r fault = IsTold r (told fault)
 
--- what is told of a fault of a table and of one of the graph; nothing for want of memory
+-- what is told of a fault of a table, and of a refusal of a feed; nothing for want of memory
 abbrev pub told_table : Place → KeyFault → Option Refusal
 told_table place key.UnknownKey = Some (at_table place key.UnknownKey)
 told_table place (key.MissingKey k) = Some (at_table place (key.MissingKey k))
@@ -42,6 +47,10 @@ told_table place (key.WrongType k) = Some (at_table place (key.WrongType k))
 told_table place key.UnknownKind = Some (at_table place key.UnknownKind)
 told_table place (key.BadParameter p) = Some (at_table place (key.BadParameter p))
 told_table place key.Memory = None
+
+abbrev pub told_feed : ℕ → PlantFault → Option Refusal
+told_feed n plant.Memory = None
+told_feed n fault = Some (of_feed n (feed_number fault))
 
 -- the number by which a fault is reported
 abbrev pub table_number : KeyFault → ℕ
@@ -58,4 +67,5 @@ number_of file.Syntax = 40
 number_of (file.Table place fault) = table_number fault
 number_of (file.Graph place fault name) = graph_faults.number_of fault
 number_of (file.NegativePort name side port) = 3
+number_of (file.Feed n fault) = feed_number fault
 number_of file.Memory = 32

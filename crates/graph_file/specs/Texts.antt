@@ -12,6 +12,9 @@ use Rattle.flowgraph.specs.declared.fault.BlockOption.TheVariants.{Name, Multipl
 use Rattle.kind_keys.specs.declared.fault.KeyFault.{KeyFault}
 use Rattle.kind_keys.specs.declared.fault.KeyFault.TheVariants as key
 use Rattle.kind_keys.specs.Keys.{text_of, parameter_text}
+use Rattle.plant.specs.declared.fault.PlantFault.{PlantFault}
+use Rattle.plant.specs.declared.fault.PlantFault.TheVariants as plant
+use Rattle.plant.specs.Fault.{number_of as feed_number}
 use Rattle.graph_file.specs.declared.fault.Place.{Place}
 use Rattle.graph_file.specs.declared.fault.Place.TheVariants.{Top, Block, Connect, Feed}
 use Rattle.graph_file.specs.declared.fault.FileFault.{FileFault}
@@ -62,10 +65,27 @@ graph_text place (graph.OneToOne b) name = codes "11 OneToOne " ++ name
 graph_text place (graph.Gain b) name = codes "12 Gain " ++ name
 graph_text place graph.Memory name = codes "32 Memory"
 
+-- the name of a refusal of a feed
+abbrev pub feed_fault_text : PlantFault → List ℕ
+feed_fault_text plant.NoSuchBlock = codes "NoSuchBlock"
+feed_fault_text plant.NotSource = codes "NotSource"
+feed_fault_text plant.NotSink = codes "NotSink"
+feed_fault_text plant.Closed = codes "Closed"
+feed_fault_text plant.ItemRange = codes "ItemRange"
+feed_fault_text plant.TagPlace = codes "TagPlace"
+feed_fault_text plant.TapeFull = codes "TapeFull"
+feed_fault_text (plant.Late floor) = codes "Late"
+feed_fault_text plant.NoSetting = codes "NoSetting"
+feed_fault_text plant.WrongSetting = codes "WrongSetting"
+feed_fault_text plant.BeyondEnd = codes "BeyondEnd"
+feed_fault_text plant.NoSuchPort = codes "NoSuchPort"
+feed_fault_text plant.Memory = codes "Memory"
+
 -- what a fault prints
 abbrev pub fault_text : FileFault → List ℕ
 fault_text file.Syntax = codes "40 Syntax"
 fault_text (file.Table place fault) = table_text place fault
 fault_text (file.Graph place fault name) = graph_text place fault (string_bytes name)
 fault_text (file.NegativePort name side port) = codes "3 PortRange " ++ string_bytes name ++ codes " " ++ side_text side ++ codes " " ++ signed_decimal port
+fault_text (file.Feed n fault) = decimal (feed_number fault) ++ codes " " ++ feed_fault_text fault ++ codes " feed " ++ decimal n
 fault_text file.Memory = codes "32 Memory"

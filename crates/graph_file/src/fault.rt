@@ -1,12 +1,13 @@
 //! Why a graph file is refused.
 ghost use Rattle.std.specs.Prelude.{◌≡◌, ◌⊎◌, None, Some};
 ghost use Rattle.graph_file.specs.declared.fault.FileFault.TheVariants.{Memory};
-ghost use Rattle.graph_file.specs.Refusals.{told, told_table, of_graph, negative_port};
+ghost use Rattle.graph_file.specs.Refusals.{told, told_table, told_feed, of_graph, negative_port};
 ghost use Rattle.graph_file.specs.Texts as texts;
 
 use flowgraph::{BlockOption, GraphFault, Limit, Side};
 use kind_keys::KeyFault;
 use kind_keys::key::parameter_text;
+use plant::PlantFault;
 use std::alloc::{AllocError, AllocFailed, Global};
 use std::fmt;
 use thiserror::Error;
@@ -42,6 +43,11 @@ pub enum FileFault {
         side: Side,
         port: i64,
     },
+    /// A feed, counted from 0, is refused as its source would be fed.
+    Feed {
+        feed: usize,
+        fault: PlantFault,
+    },
     /// Memory ran out.
     Memory,
 }
@@ -49,7 +55,7 @@ pub enum FileFault {
 impl FileFault {
     ghost use Rattle.graph_file.specs.Refusals.{number_of};
 
-    /// The number by which the refusal is reported: 1 to 12, 32, or 40 to 44.
+    /// The number by which the refusal is reported: 1 to 12, 20 to 26, 32, or 40 to 44.
     pub fn number(&self) -> u32
         ensures { result ≡ number_of self.now }
     {
@@ -65,6 +71,7 @@ impl FileFault {
             },
             FileFault::Graph { fault, .. } => fault.number(),
             FileFault::NegativePort { .. } => 3,
+            FileFault::Feed { fault, .. } => fault.number(),
             FileFault::Memory => 32,
         }
     }
@@ -93,6 +100,16 @@ pub(crate) fn table_fault(place: Place, fault: KeyFault) -> FileFault
     match fault {
         KeyFault::Memory => FileFault::Memory,
         fault => FileFault::Table { place, fault },
+    }
+}
+
+/// What a refusal of a feed, counted from 0, is reported as.
+pub(crate) fn feed_fault(feed: usize, fault: PlantFault) -> FileFault
+    ensures { told result ≡ told_feed feed fault }
+{
+    match fault {
+        PlantFault::Memory => FileFault::Memory,
+        fault => FileFault::Feed { feed, fault },
     }
 }
 
@@ -187,8 +204,34 @@ impl fmt::Display for FileFault {
                 let side = side_text(*side);
                 write!(f, "3 PortRange {name} {side} {port}")
             }
+            FileFault::Feed { feed, fault } => {
+                let number = fault.number();
+                let name = feed_fault_text(*fault);
+                write!(f, "{number} {name} feed {feed}")
+            }
             FileFault::Memory => write!(f, "32 Memory"),
         }
+    }
+}
+
+// The name of a refusal of a feed. No feed is refused by one of the others.
+fn feed_fault_text(fault: PlantFault) -> &'static str
+    ensures { result.now ≡ texts.feed_fault_text fault }
+{
+    match fault {
+        PlantFault::NoSuchBlock => "NoSuchBlock",
+        PlantFault::NotSource => "NotSource",
+        PlantFault::NotSink => "NotSink",
+        PlantFault::Closed => "Closed",
+        PlantFault::ItemRange => "ItemRange",
+        PlantFault::TagPlace => "TagPlace",
+        PlantFault::TapeFull => "TapeFull",
+        PlantFault::Late { .. } => "Late",
+        PlantFault::NoSetting => "NoSetting",
+        PlantFault::WrongSetting => "WrongSetting",
+        PlantFault::BeyondEnd => "BeyondEnd",
+        PlantFault::NoSuchPort => "NoSuchPort",
+        PlantFault::Memory => "Memory",
     }
 }
 

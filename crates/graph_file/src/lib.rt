@@ -8,6 +8,7 @@ pub mod feed;
 mod feeds;
 pub mod file;
 mod only;
+mod opening;
 
 pub use fault::{FileFault, Place};
 pub use feed::{Feed, FileMark};

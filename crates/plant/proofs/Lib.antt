@@ -1,4 +1,5 @@
 pub mod Refusals
+pub mod Feeding
 pub mod Moves
 pub mod Resting
 pub mod Opened
@@ -17,3 +18,6 @@ pub mod Roomy
 pub mod Deciding
 pub mod Working
 pub mod Answering
+pub mod Rounds
+pub mod Steps
+pub mod Settles

@@ -1,5 +1,5 @@
 -- What a plant keeps stays true as a block is handed something.
-use Rattle.std.proofs.Common.{◌≡◌, ℕ, ℤ, zero, suc, ◌<◌, ◌≤◌, ◌+◌, List, length-append, ◌++◌, ◌&&◌, nat_lt, [], ◌∷◌, map, length, get_or, set, refl, arith, ap, sym, ◌∙◌, subst, true, false, Option, Some}
+use Rattle.std.proofs.Common.{◌≡◌, ℕ, ℤ, zero, suc, ◌<◌, ◌≤◌, ◌+◌, List, length-append, ◌++◌, [], ◌∷◌, map, length, get_or, set, refl, arith, ap, sym, ◌∙◌, subst, true, false, Option, Some, Ok, Err}
 use Rattle.std.proofs.lemmas.List.{map-set, length-map}
 use Rattle.std.proofs.Math.Seq.{map-set_same}
 use Rattle.stream_model.specs.Network as model
@@ -18,8 +18,6 @@ use Rattle.firings.specs.State as firings
 use Rattle.plant_laws.specs.Stored as stored
 use Rattle.plant_laws.specs.Stored.{Stored}
 use Rattle.tags.specs.TagList.{insert_tags}
-use Rattle.std.specs.List.{list_all}
-use Rattle.std.specs.Prelude.{nat_le}
 use Rattle.plant_laws.specs.Holds.{Holds}
 use Rattle.stores.specs.declared.handed.Handed.{Handed}
 use Rattle.stores.specs.Stores.{handed_of, tape_of, state_of, stored_in, rows_in, IsFed, IsAsBefore}
@@ -31,7 +29,10 @@ use Rattle.stores.specs.Lending.{HasRoom, KeepsAllRoom, sink_state}
 use Rattle.stores.proofs.Rooms.{room_stays}
 use Rattle.plant_laws.proofs.Flying.{flights_keep_tags}
 use Rattle.plant.specs.Plant.{PlantState, Keeps}
-use Rattle.plant.proofs.Refusals.{IsSource, close-again, close-open, feed-closed, feed-misplaced, feed-full, feed-fits}
+use Rattle.plant.specs.Answers.{refusal_of}
+use Rattle.plant.specs.Feeding.{length_with}
+use Rattle.plant.specs.declared.fault.PlantFault.{PlantFault}
+use Rattle.plant.proofs.Refusals.{IsSource, close-again, close-open, feed-stopped, feed-fits, length_with-ok}
 
 -- of all that is stored, only what block b was handed is another
 pub record IsHanded (s s' : Stores) (b : ℕ) (h : Handed) : Type 0 where
@@ -141,48 +142,39 @@ module _ (net : Network) (caps : Capacities) (can : CanRun net) (tapes : List Ta
         close_again closed = close-again net (state_of s.handed.items ps) b item source (closed_is ∙ closed)
 
         module _ (ty : ItemType) (xs : List ℤ) (ms : List Mark) (typed : types_agree ty item ≡ true) where
-          pub feed_closed : t.closed ≡ true → feed_of net (state_of s.handed.items ps) b ty xs ms ≡ (machine.Refused machine.already_closed, state_of s.handed.items ps)
-          feed_closed closed = feed-closed net (state_of s.handed.items ps) b item source ty xs ms typed (closed_is ∙ closed)
+          asked : length_with (firings.tape_of (handed_at (map handed_of s.handed.items) b)) (length xs) ms ≡ length_with t (length xs) ms
+          asked = ap (λ x. length_with x (length xs) ms) (sym (t_is ∙ tape_here t))
 
-          module _ (open' : t.closed ≡ false) (total : ℕ) (total_is : total ≡ t.length + length xs) where
-            fitting : marks_fit (handed_at (map handed_of s.handed.items) b).tape xs ms ≡ list_all (λ m. nat_le t.length m.offset && nat_lt m.offset total) ms
-            fitting = rw (length_is, total_is) refl
+          pub feed_stopped : (e : PlantFault) → length_with t (length xs) ms ≡ Err e →
+              (refusal_of e ≡ Some (feed_of net (state_of s.handed.items ps) b ty xs ms).0) × ((feed_of net (state_of s.handed.items ps) b ty xs ms).1 ≡ state_of s.handed.items ps)
+          feed_stopped e h = feed-stopped net (state_of s.handed.items ps) b item source ty xs ms typed e (asked ∙ h)
 
-            pub feed_misplaced : list_all (λ m. nat_le t.length m.offset && nat_lt m.offset total) ms ≡ false → feed_of net (state_of s.handed.items ps) b ty xs ms ≡ (machine.Refused machine.tag_place, state_of s.handed.items ps)
-            feed_misplaced e = feed-misplaced net (state_of s.handed.items ps) b item source ty xs ms typed (closed_is ∙ open') (fitting ∙ e)
+          module _ (total : ℕ) (fits : length_with t (length xs) ms ≡ Ok total) where
+            pub feed_now : feed_of net (state_of s.handed.items ps) b ty xs ms ≡ (machine.Fed total, with_handed (state_of s.handed.items ps) b (with_tape (handed_at (map handed_of s.handed.items) b) b xs ms))
+            feed_now = feed-fits net (state_of s.handed.items ps) b item source ty xs ms typed total (asked ∙ fits)
 
-            module _ (placed : list_all (λ m. nat_le t.length m.offset && nat_lt m.offset total) ms ≡ true) where
-              pub feed_full : longest_tape < total → feed_of net (state_of s.handed.items ps) b ty xs ms ≡ (machine.Refused machine.tape_full, state_of s.handed.items ps)
-              feed_full h = feed-full net (state_of s.handed.items ps) b item source ty xs ms typed (closed_is ∙ open') (fitting ∙ placed) (rw (length_is, ← total_is) h)
+            module _ (h h' : Handed) (h_is : h ≡ get_or s.handed.items b h) (fed : IsFed b xs ms h h') where
+              moves : with_tape (handed_at (map handed_of s.handed.items) b) b xs ms ≡ handed_of h'
+              moves = ap (λ x. with_tape x b xs ms) (handed_here h ∙ ap handed_of (sym h_is)) ∙ sym fed.handed
 
-              module _ (short : total ≤ longest_tape) where
-                pub feed_now : feed_of net (state_of s.handed.items ps) b ty xs ms ≡ (machine.Fed total, with_handed (state_of s.handed.items ps) b (with_tape (handed_at (map handed_of s.handed.items) b) b xs ms))
-                feed_now =
-                    feed-fits net (state_of s.handed.items ps) b item source ty xs ms typed (closed_is ∙ open') (fitting ∙ placed) (rw (length_is, ← total_is) short)
-                    ∙ ap (λ n. (machine.Fed n, with_handed (state_of s.handed.items ps) b (with_tape (handed_at (map handed_of s.handed.items) b) b xs ms))) (ap (λ n. n + length xs) length_is ∙ sym total_is)
+              pub feeds : feed_of net (state_of s.handed.items ps) b ty xs ms ≡ (machine.Fed total, state_of (set s.handed.items b h') ps)
+              feeds = feed_now ∙ ap (λ x. (machine.Fed total, with_handed (state_of s.handed.items ps) b x)) moves ∙ ap (λ x. (machine.Fed total, x)) (sym (state_with h'))
 
-                module _ (h h' : Handed) (h_is : h ≡ get_or s.handed.items b h) (fed : IsFed b xs ms h h') where
-                  moves : with_tape (handed_at (map handed_of s.handed.items) b) b xs ms ≡ handed_of h'
-                  moves = ap (λ x. with_tape x b xs ms) (handed_here h ∙ ap handed_of (sym h_is)) ∙ sym fed.handed
+              tape_grown : firings.tape_of (handed_of h') ≡ record t { length = total }
+              tape_grown =
+                  ap firings.tape_of (sym moves)
+                  ∙ ap (λ n. (let y : Tape = record { length = n; closed = (handed_at (map handed_of s.handed.items) b).closed } in y))
+                  (length-append (handed_at (map handed_of s.handed.items) b).tape xs ∙ ap (λ n. n + length xs) length_is ∙ sym (length_with-ok t (length xs) ms total fits))
+                  ∙ ap (λ c. (let y : Tape = record { length = total; closed = c } in y)) closed_is
 
-                  pub feeds : feed_of net (state_of s.handed.items ps) b ty xs ms ≡ (machine.Fed total, state_of (set s.handed.items b h') ps)
-                  feeds = feed_now ∙ ap (λ x. (machine.Fed total, with_handed (state_of s.handed.items ps) b x)) moves ∙ ap (λ x. (machine.Fed total, x)) (sym (state_with h'))
-
-                  tape_grown : firings.tape_of (handed_of h') ≡ record t { length = total }
-                  tape_grown =
-                      ap firings.tape_of (sym moves)
-                      ∙ ap (λ n. (let y : Tape = record { length = n; closed = (handed_at (map handed_of s.handed.items) b).closed } in y))
-                      (length-append (handed_at (map handed_of s.handed.items) b).tape xs ∙ ap (λ n. n + length xs) length_is ∙ sym total_is)
-                      ∙ ap (λ c. (let y : Tape = record { length = total; closed = c } in y)) closed_is
-
-                  pub keeps_fed : (s' : Stores) → IsHanded s s' b h' → Keeps net caps (set tapes b (record t { length = total })) s' ps
-                  keeps_fed s' handed =
-                      keeps_moved (machine.Feed b ty xs ms) h' (record t { length = total }) s' _ (ap (λ (now : Reply × State). now.1) feeds ∙ state_with h')
-                      (feeding_holds net caps (state_of s.handed.items ps) (stored_in s) can keeps.sound keeps.stored b ty xs ms total (ap (λ (now : Reply × State). now.0) feeds))
-                      (sym (stored_with h' h (fed.timeline ∙ ap (λ (x : Handed). x.timeline) h_is)
-                      ∙ ap (λ x. record (stored_in s) { tapes = set (map tape_of s.handed.items) b x })
-                      (fed.tape ∙ ap (λ (x : stored.Tape). record x { items = x.items ++ xs; tags = insert_tags (map (machine.tag_of b) ms) x.tags }) (stored_here h h_is))))
-                      handed (sym tape_grown)
+              pub keeps_fed : (s' : Stores) → IsHanded s s' b h' → Keeps net caps (set tapes b (record t { length = total })) s' ps
+              keeps_fed s' handed =
+                  keeps_moved (machine.Feed b ty xs ms) h' (record t { length = total }) s' _ (ap (λ (now : Reply × State). now.1) feeds ∙ state_with h')
+                  (feeding_holds net caps (state_of s.handed.items ps) (stored_in s) can keeps.sound keeps.stored b ty xs ms total (ap (λ (now : Reply × State). now.0) feeds))
+                  (sym (stored_with h' h (fed.timeline ∙ ap (λ (x : Handed). x.timeline) h_is)
+                  ∙ ap (λ x. record (stored_in s) { tapes = set (map tape_of s.handed.items) b x })
+                  (fed.tape ∙ ap (λ (x : stored.Tape). record x { items = x.items ++ xs; tags = insert_tags (map (machine.tag_of b) ms) x.tags }) (stored_here h h_is))))
+                  handed (sym tape_grown)
 
         module _ (h : Handed) (h_is : h ≡ get_or s.handed.items b h) (open' : t.closed ≡ false) where
           here : handed_at (map handed_of s.handed.items) b ≡ handed_of h

@@ -1,5 +1,6 @@
 -- The machine's refusals of calls to a source, and that they change nothing.
-use Rattle.std.proofs.Common.{◌≡◌, ℕ, ◌<◌, ◌≤◌, ◌+◌, Bool, true, false, List, ℤ, length, Some, Result, Ok, Err, refl, lt-ltb, le-ltb, ltb-true, not, nat_lt, if◌then◌else◌}
+use Rattle.std.proofs.Common.{◌≡◌, ℕ, ◌<◌, ◌+◌, Bool, true, false, List, ℤ, length, Some, Result, Ok, Err, refl, sym, lt-ltb, ltb-true, not, nat_le, nat_lt, ◌&&◌, if◌then◌else◌}
+use Rattle.std.specs.List.{list_all}
 use Rattle.stream_model.specs.declared.vocabulary.ItemType.{ItemType}
 use Rattle.stream_model.specs.Numbers.{types_agree}
 use Rattle.stream_model.specs.Tags.{Mark}
@@ -7,9 +8,12 @@ use Rattle.stream_model.specs.Network.{Network, State, node_at, role_at, handed_
 use Rattle.stream_model.specs.Machine as machine
 use Rattle.stream_model.specs.Machine.{Reply, Refused, longest_tape, marks_fit, close_of, feed_of, with_handed, with_tape}
 use Rattle.plant.specs.declared.fault.PlantFault.{PlantFault}
-use Rattle.plant.specs.declared.fault.PlantFault.TheVariants.{NoSuchBlock, NotSource}
+use Rattle.plant.specs.declared.fault.PlantFault.TheVariants.{NoSuchBlock, NotSource, Closed, TagPlace, TapeFull}
+use Rattle.firings.specs.declared.progress.Tape.{Tape}
+use Rattle.firings.specs.State.{tape_of}
 use Rattle.plant.specs.Plant.{PlantState}
 use Rattle.plant.specs.Answers.{Answered, refusal_of, source_type_of}
+use Rattle.plant.specs.Feeding.{length_with}
 
 refused : (in' source : Bool) (t : ItemType) (e : PlantFault) (st : State) (rest : Reply × State) →
     ◌≡◌ {A = Result ItemType PlantFault} (if not in' then Err NoSuchBlock else (if not source then Err NotSource else Ok t)) (Err e) →
@@ -25,6 +29,35 @@ accepted : (in' source : Bool) (t u : ItemType) →
 accepted false source t u h = absurd (cc)
 accepted true false t u h = absurd (cc)
 accepted true true t u h = (refl, refl, cc)
+
+stopped : (closed placed full : Bool) (n : ℕ) (e : PlantFault) (st : State) (rest : Reply × State) →
+    ◌≡◌ {A = Result ℕ PlantFault} (if closed then Err Closed else (if not placed then Err TagPlace else (if full then Err TapeFull else Ok n))) (Err e) →
+    let now = if closed then (Refused machine.already_closed, st) else (if not placed then (Refused machine.tag_place, st) else (if full then (Refused machine.tape_full, st) else rest)) in
+    (refusal_of e ≡ Some now.0) × (now.1 ≡ st)
+stopped true placed full n e st rest h = let is : Closed ≡ e = cc in rw (← is) (refl, refl)
+stopped false false full n e st rest h = let is : TagPlace ≡ e = cc in rw (← is) (refl, refl)
+stopped false true true n e st rest h = let is : TapeFull ≡ e = cc in rw (← is) (refl, refl)
+stopped false true false n e st rest h = absurd (cc)
+
+fits : (closed placed full : Bool) (n total : ℕ) (st st' : State) →
+    ◌≡◌ {A = Result ℕ PlantFault} (if closed then Err Closed else (if not placed then Err TagPlace else (if full then Err TapeFull else Ok n))) (Ok total) →
+    ◌≡◌ {A = Reply × State} (if closed then (Refused machine.already_closed, st) else (if not placed then (Refused machine.tag_place, st) else (if full then (Refused machine.tape_full, st) else (machine.Fed n, st')))) (machine.Fed total, st')
+fits true placed full n total st st' h = absurd (cc)
+fits false false full n total st st' h = absurd (cc)
+fits false true true n total st st' h = absurd (cc)
+fits false true false n total st st' h = let is : n ≡ total = cc in rw is refl
+
+long : (closed placed full : Bool) (n total : ℕ) →
+    ◌≡◌ {A = Result ℕ PlantFault} (if closed then Err Closed else (if not placed then Err TagPlace else (if full then Err TapeFull else Ok n))) (Ok total) → total ≡ n
+long true placed full n total h = absurd (cc)
+long false false full n total h = absurd (cc)
+long false true true n total h = absurd (cc)
+long false true false n total h = let is : n ≡ total = cc in sym is
+
+-- a tape that takes the items has so many more
+pub length_with-ok : (tape : Tape) (count : ℕ) (ms : List Mark) (total : ℕ) → length_with tape count ms ≡ Ok total → total ≡ tape.length + count
+length_with-ok tape count ms total h =
+    long tape.closed (list_all (λ m. nat_le tape.length m.offset && nat_lt m.offset (tape.length + count)) ms) (nat_lt longest_tape (tape.length + count)) _ total h
 
 -- a refusal that changes nothing is an answer
 pub answered : {B : Type 0} (e : PlantFault) (now : Reply × State) (x : PlantState B) → refusal_of e ≡ Some now.0 → now.1 ≡ x.state → Answered now x x (refusal_of e)
@@ -65,27 +98,15 @@ module _ (net : Network) (st : State) (b : ℕ) where
       feed-other_type e = let in' = lt-ltb b (length net.nodes) is.inside in rw (in', is.source, is.type, e) refl
 
       module _ (typed : types_agree t u ≡ true) where
-        pub feed-closed : (handed_at st.handed b).closed ≡ true → feed_of net st b t xs ms ≡ (Refused machine.already_closed, st)
+        -- what feeding answers is what the length of the tape with the items says
+        pub feed-stopped : (e : PlantFault) → length_with (tape_of (handed_at st.handed b)) (length xs) ms ≡ Err e → (refusal_of e ≡ Some (feed_of net st b t xs ms).0) × ((feed_of net st b t xs ms).1 ≡ st)
         unfolding feed_of
-        feed-closed e = let in' = lt-ltb b (length net.nodes) is.inside in rw (in', is.source, is.type, typed, e) refl
+        feed-stopped e h =
+            let in' = lt-ltb b (length net.nodes) is.inside in
+            rw (in', is.source, is.type, typed) (stopped (handed_at st.handed b).closed (marks_fit (handed_at st.handed b).tape xs ms) (nat_lt longest_tape (length (handed_at st.handed b).tape + length xs)) _ e st _ h)
 
-        module _ (open' : (handed_at st.handed b).closed ≡ false) where
-          pub feed-misplaced : marks_fit (handed_at st.handed b).tape xs ms ≡ false → feed_of net st b t xs ms ≡ (Refused machine.tag_place, st)
-          unfolding feed_of
-          feed-misplaced e = let in' = lt-ltb b (length net.nodes) is.inside in rw (in', is.source, is.type, typed, open', e) refl
-
-          module _ (placed : marks_fit (handed_at st.handed b).tape xs ms ≡ true) where
-            pub feed-full : longest_tape < length (handed_at st.handed b).tape + length xs → feed_of net st b t xs ms ≡ (Refused machine.tape_full, st)
-            unfolding feed_of
-            feed-full h =
-                let in' = lt-ltb b (length net.nodes) is.inside in
-                let full = lt-ltb longest_tape (length (handed_at st.handed b).tape + length xs) h in
-                rw (in', is.source, is.type, typed, open', placed, full) refl
-
-            pub feed-fits : length (handed_at st.handed b).tape + length xs ≤ longest_tape →
-                feed_of net st b t xs ms ≡ (machine.Fed (length (handed_at st.handed b).tape + length xs), with_handed st b (with_tape (handed_at st.handed b) b xs ms))
-            unfolding feed_of
-            feed-fits h =
-                let in' = lt-ltb b (length net.nodes) is.inside in
-                let fits = le-ltb longest_tape (length (handed_at st.handed b).tape + length xs) h in
-                rw (in', is.source, is.type, typed, open', placed, fits) refl
+        pub feed-fits : (total : ℕ) → length_with (tape_of (handed_at st.handed b)) (length xs) ms ≡ Ok total → feed_of net st b t xs ms ≡ (machine.Fed total, with_handed st b (with_tape (handed_at st.handed b) b xs ms))
+        unfolding feed_of
+        feed-fits total h =
+            let in' = lt-ltb b (length net.nodes) is.inside in
+            rw (in', is.source, is.type, typed) (fits (handed_at st.handed b).closed (marks_fit (handed_at st.handed b).tape xs ms) (nat_lt longest_tape (length (handed_at st.handed b).tape + length xs)) _ total st _ h)

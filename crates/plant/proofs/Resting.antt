@@ -14,6 +14,8 @@ use Rattle.graph_laws.proofs.Answering.{answers_are_right}
 use Rattle.machine_laws.specs.Sound.{Sound}
 use Rattle.machine_laws.proofs.Stalling.{quiet_is_done, quiet_is_whole}
 use Rattle.plant.specs.Plant.{IsSettled}
+use Rattle.plant.specs.declared.answers.Settled.TheVariants.{Quiet}
+use Rattle.plant.specs.Settling.{HasSettled, HoldsSettled}
 
 -- with the capacities of the balance that there is
 pub quiet_settles : (names : List (List ℕ)) (net : Network) (bal : Balance) (caps : Capacities) (st : State) → IsValidGraph names net → AreLawful net → CanRun net → CanCount net →
@@ -31,3 +33,11 @@ quiet_settles names net bal caps st valid lawful can counts is sizes sound quiet
     let quiet' = subst (λ c. is_quiet net c st ≡ true) here quiet in
     let enough = capacities_suffice net q can.level counts can.levels right.0.balanced _ first in
     (quiet_is_done net q _ st can enough sound' closed quiet', quiet_is_whole net q _ st can right.0.balanced first sound' closed quiet')
+
+-- so where a block is not done, the rates have no balance or a tape is open
+pub quiet_misses : (names : List (List ℕ)) (net : Network) (bal : Balance) (caps : Capacities) (st : State) → IsValidGraph names net → AreLawful net → CanRun net → CanCount net →
+    bal ≡ balance_of net → caps ≡ capacities_of net bal → Sound net caps st → HasSettled net caps st Quiet → HoldsSettled net st Quiet
+quiet_misses names net bal caps st valid lawful can counts is sizes sound rests q balanced closed =
+    let done = (quiet_settles names net bal caps st valid lawful can counts is sizes sound rests.1 q balanced closed).0 in
+    let left = rests.0 in
+    absurd (cc)

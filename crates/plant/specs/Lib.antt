@@ -1,6 +1,9 @@
 pub mod Fault
+pub mod Texts
 pub mod Plant
 pub mod Answers
 pub mod Opening
 pub mod Keeping
 pub mod Setting
+pub mod Feeding
+pub mod Settling

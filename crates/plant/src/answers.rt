@@ -69,3 +69,12 @@ pub struct Piece {
     /// Whether the sink is done, so that it holds its whole stream.
     pub done: bool,
 }
+
+/// How a plant came to rest.
+#[derive(Clone, Copy, Debug, PartialEq, Eq)]
+pub enum Settled {
+    /// Each block is done.
+    Done,
+    /// Some block is not done, and none can act.
+    Quiet,
+}

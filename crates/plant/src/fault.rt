@@ -1,7 +1,8 @@
 //! The refusals of a plant.
 
-ghost use Rattle.std.specs.Prelude.{◌≡◌};
+ghost use Rattle.std.specs.Prelude.{◌≡◌, Some};
 ghost use Rattle.plant.specs.Fault.{number_of};
+ghost use Rattle.plant.specs.Texts.{text_of};
 ghost use Rattle.plant.specs.declared.fault.PlantFault.TheVariants.{Memory};
 
 use std::alloc::AllocError;
@@ -63,6 +64,8 @@ impl PlantFault {
 }
 
 impl fmt::Display for PlantFault {
+    ghost output = { λ fault. Some (text_of fault) };
+
     fn fmt<W: fmt::Write>(&self, f: &mut fmt::Formatter<W>) -> fmt::Result {
         match self {
             PlantFault::NoSuchBlock => f.write_str("no such block"),

@@ -1,6 +1,6 @@
 //! The calls that hand something to a block: items, the end of them, and settings.
 
-ghost use Rattle.std.specs.Prelude.{◌≡◌, ◌<◌, length, map};
+ghost use Rattle.std.specs.Prelude.{◌≡◌, ◌+◌, ◌^◌, ◌<◌, length, map};
 ghost use Rattle.std.specs.Arc.{arc_value};
 ghost use Rattle.stream_model.specs.Network.{writers_of};
 ghost use Rattle.stream_model.specs.Machine as machine;
@@ -11,6 +11,7 @@ ghost use Rattle.flowgraph.specs.Flowgraph.{net_of};
 ghost use Rattle.stores.specs.Stores.{mark_of};
 ghost use Rattle.plant.specs.Plant.{IsRight, plant_of};
 ghost use Rattle.plant.specs.Answers.{Answered, AnsweredAlways, reply_of};
+ghost use Rattle.plant.specs.Feeding.{feed_numbers, length_with};
 
 use crate::answers::{Closed, Fed, Taken};
 use crate::fault::PlantFault;
@@ -18,7 +19,7 @@ use crate::looks::{fit, same_type, source_type, wanted};
 use crate::parts::Parts;
 use firings::Tape;
 use flowgraph::{Block, BlockId};
-use items::{Items, Mark};
+use items::{ItemFault, Items, Mark};
 use settings::Value;
 use std::alloc::Global;
 
@@ -60,22 +61,37 @@ impl<B: Block> Parts<B> {
         }
         let at = source.0 as usize;
         let tape = self.tapes[at];
-        if tape.closed {
-            return Err(PlantFault::Closed);
-        }
-        let total = tape.length + items.len() as u64;
-        if !fit(marks, tape.length, total) {
-            return Err(PlantFault::TagPlace);
-        }
-        if LONGEST_TAPE < total {
-            return Err(PlantFault::TapeFull);
-        }
+        let total = length_with(tape, items.len() as u64, marks)?;
         self.stores.handed[at].feed(source.0, &items, marks)?;
         self.tapes[at] = Tape {
             length: total,
             ..tape
         };
         Ok(Fed(total))
+    }
+
+    /// Appends numbers to a source's tape, as items of its type, with marks on them.
+    pub fn feed_numbers(
+        &mut self,
+        alloc: Global,
+        source: BlockId,
+        numbers: &[i64],
+        marks: &[Mark],
+    ) -> Result<Fed, PlantFault>
+        requires { IsRight B.meaning self.old }
+        ensures right { IsRight B.meaning self.new }
+        ensures answered { let old = plant_of self.old in Answered (feed_numbers (net_of B.meaning old.graph) old.state source.0 numbers.now (map mark_of marks.now)) old (plant_of self.new) (reply_of (λ f. machine.Fed f.0) result) }
+    {
+        self.graph.in_order();
+        let item = source_type(&self.graph, source)?;
+        match Items::from_numbers(alloc, item, numbers) {
+            Ok(items) => self.feed(source, items, marks),
+            Err(ItemFault::ItemRange) => Err(PlantFault::ItemRange),
+            Err(ItemFault::Memory) => {
+                length_with(self.tapes[source.0 as usize], numbers.len() as u64, marks)?;
+                Err(PlantFault::Memory)
+            }
+        }
     }
 
     /// Sets the value of a block's setting from item `at` of its first input on, or from the first that is still open.
@@ -115,4 +131,22 @@ impl<B: Block> Parts<B> {
             .block(block)
             .taken(0, multiple * (own.firings + u64::from(own.claimed)))
     }
+}
+
+// How long a tape is with so many items more, or why they and their marks cannot be put on it.
+fn length_with(tape: Tape, count: u64, marks: &[Mark]) -> Result<u64, PlantFault>
+    requires { tape.length + count < 2 ^ 64 }
+    ensures { result ≡ length_with tape count (map mark_of marks.now) }
+{
+    if tape.closed {
+        return Err(PlantFault::Closed);
+    }
+    let total = tape.length + count;
+    if !fit(marks, tape.length, total) {
+        return Err(PlantFault::TagPlace);
+    }
+    if LONGEST_TAPE < total {
+        return Err(PlantFault::TapeFull);
+    }
+    Ok(total)
 }

@@ -11,8 +11,9 @@ mod opening;
 mod parts;
 pub mod plant;
 mod reading;
+mod settle;
 
-pub use answers::{Claim, Closed, Did, Fed, Piece, Step, Stored, Taken};
+pub use answers::{Claim, Closed, Did, Fed, Piece, Settled, Step, Stored, Taken};
 pub use fault::PlantFault;
 pub use firings::Need;
 pub use flowgraph::{Block, BlockId, Valid};

@@ -15,8 +15,10 @@ ghost use Rattle.stores.specs.Stores.{mark_of};
 ghost use Rattle.plant.specs.Answers.{Answered, AnsweredAlways, AnsweredBy, IsOf, IsTaken, claim_reply, piece_reply, reply_of, source_type_of, step_reply};
 ghost use Rattle.plant.specs.Keeping.{IsKeptOf, kept_refusal};
 ghost use Rattle.plant.specs.Opening.{opening_plant};
+ghost use Rattle.plant.specs.Feeding.{feed_numbers};
+ghost use Rattle.plant.specs.Settling.{StepsLead, HasSettled, HoldsSettled};
 
-use crate::answers::{Claim, Closed, Did, Fed, Piece, Step, Stored, Taken};
+use crate::answers::{Claim, Closed, Did, Fed, Piece, Settled, Step, Stored, Taken};
 use crate::fault::PlantFault;
 use crate::looks::source_type;
 use crate::parts::Parts;
@@ -120,6 +122,20 @@ impl<B: Block> Plant<B> {
         self.parts.feed(source, items, marks)
     }
 
+    /// Appends whole numbers to a source's tape, as items of its type, with marks on them. A number that the type does not hold is refused as
+    /// items of another type are, before all that `feed` refuses else; an `Err` changes nothing.
+    pub fn feed_numbers(
+        &mut self,
+        alloc: Global,
+        source: BlockId,
+        numbers: &[i64],
+        marks: &[Mark],
+    ) -> Result<Fed, PlantFault>
+        ensures { Answered (feed_numbers (net_of B.meaning self.old.graph) self.old.state source.0 numbers.now (map mark_of marks.now)) self.old self.new (reply_of (λ f. machine.Fed f.0) result) }
+    {
+        self.parts.feed_numbers(alloc, source, numbers, marks)
+    }
+
     /// Sets the value of a block's setting from item `at` of its first input on, or from the first that is still open. The refusals come in
     /// the order of the machine; an `Err` changes nothing.
     pub fn set(
@@ -172,6 +188,21 @@ impl<B: Block> Plant<B> {
         ensures { Answered (step_of (net_of B.meaning self.old.graph) self.old.capacities self.old.state block.0 max) self.old self.new (reply_of step_reply result) }
     {
         self.parts.step(alloc, block, max)
+    }
+
+    /// Steps all blocks in their order, at most `max` firings each, again and again, until all are done, or a whole round did nothing: the plant
+    /// is then quiet. Once all are done each sink holds its whole stream, and so it ends where the rates are balanced and each tape is closed.
+    /// Want of memory stops it where it is.
+    pub fn settle(&mut self, alloc: Global, max: u32) -> Result<Settled, AllocError>
+        requires idle { is_idle self.old.state ≡ true }
+        requires some { 1 ≤ max }
+        ensures same { self.new ≡ record self.old { state = self.new.state } }
+        ensures steps { StepsLead (net_of B.meaning self.old.graph) self.old.capacities max self.old.state self.new.state }
+        ensures idle { is_idle self.new.state ≡ true }
+        ensures settled { IfOk result (HasSettled (net_of B.meaning self.new.graph) self.new.capacities self.new.state) }
+        ensures whole { IfOk result (HoldsSettled (net_of B.meaning self.new.graph) self.new.state) }
+    {
+        self.parts.settle(alloc, max)
     }
 
     /// Commits a job that was done, and tells of how many firings it was. Work that is not that of the claim in flight of its block comes back,

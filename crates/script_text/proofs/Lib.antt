@@ -4,3 +4,4 @@ pub mod FieldLemmas
 pub mod NumberLemmas
 pub mod NameLemmas
 pub mod ScriptLemmas
+pub mod AskableLemmas

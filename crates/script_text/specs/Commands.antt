@@ -5,7 +5,7 @@ use Rattle.items.specs.declared.marks.Mark.{Mark}
 use Rattle.script_text.specs.Grammar.{Parsed, Says}
 use Rattle.script_text.specs.Grammar as grammar
 use Rattle.script_text.specs.declared.command.Command.{Command}
-use Rattle.script_text.specs.declared.command.Command.TheVariants.{Feed, Close, Step, Read, Quiet}
+use Rattle.script_text.specs.declared.command.Command.TheVariants.{Feed, Close, Set, Claim, Commit, Abandon, Step, Read, Quiet}
 use Rattle.script_text.specs.declared.command.Line.{Line}
 use Rattle.script_text.specs.declared.command.Line.TheVariants as line
 
@@ -19,6 +19,10 @@ marks_seen ms = map mark_seen ms
 abbrev pub command_seen : Command → grammar.Command
 command_seen (Feed name items marks) = grammar.Feed name items.items (marks_seen marks.items)
 command_seen (Close name) = grammar.Close name
+command_seen (Set name at numbers) = grammar.Set name at numbers.items
+command_seen (Claim name max) = grammar.Claim name max
+command_seen (Commit name) = grammar.Commit name
+command_seen (Abandon name) = grammar.Abandon name
 command_seen (Step name max) = grammar.Step name max
 command_seen (Read name from max) = grammar.Read name from max
 command_seen Quiet = grammar.Quiet

@@ -1,6 +1,7 @@
 -- What a line of a script says.
-use Rattle.std.specs.Prelude.{ℕ, suc, ℤ, List, [], ◌∷◌, Bool, ◌&&◌, ◌==◌, nat_lt, nat_le, length, if◌then◌else◌, codes, Option, Some, None}
+use Rattle.std.specs.Prelude.{ℕ, suc, ◌≤◌, ℤ, List, [], ◌∷◌, Bool, ◌&&◌, ◌==◌, nat_lt, nat_le, length, if◌then◌else◌, codes, Option, Some, None}
 use Rattle.std.specs.List.{list_all}
+use Rattle.std.specs.Option.{option_map}
 use Rattle.std.specs.Str.{bytes_eq}
 use Rattle.stream_model.specs.Tags.{Mark}
 use Rattle.items.specs.Name.{is_name_byte}
@@ -8,10 +9,14 @@ use Rattle.script_text.specs.Lines.{begins_with, longest_line, most_lines}
 use Rattle.script_text.specs.Numbers.{offset_of, max_of, integer_of}
 use Rattle.script_text.specs.Fields.{fields_of, cut_at}
 
--- a command, with the name of the block that it is for
+-- a command, with the name of the block that it is for. A setting holds from an item on; where none is given, from the first that is open
 pub data Command : Type 0 where
   Feed : (name : List ℕ) → (items : List ℤ) → (marks : List Mark) → Command
   Close : (name : List ℕ) → Command
+  Set : (name : List ℕ) → (at : Option ℕ) → (numbers : List ℤ) → Command
+  Claim : (name : List ℕ) → (max : ℕ) → Command
+  Commit : (name : List ℕ) → Command
+  Abandon : (name : List ℕ) → Command
   Step : (name : List ℕ) → (max : ℕ) → Command
   Read : (name : List ℕ) → (from max : ℕ) → Command
   Quiet : Command
@@ -21,6 +26,24 @@ pub data Parsed : Type 0 where
   Nothing : Parsed
   Bad : Parsed
   Says : Command → Parsed
+
+-- a command that a plant can be asked: a claim and a step are of one firing or more, and of no more than 32 bits count
+abbrev pub IsAskable : Command → Type 0
+IsAskable (Feed name items marks) = Unit {0}
+IsAskable (Close name) = Unit {0}
+IsAskable (Set name at numbers) = Unit {0}
+IsAskable (Claim name max) = (1 ≤ max) × (max ≤ 4294967295)
+IsAskable (Commit name) = Unit {0}
+IsAskable (Abandon name) = Unit {0}
+IsAskable (Step name max) = (1 ≤ max) × (max ≤ 4294967295)
+IsAskable (Read name from max) = Unit {0}
+IsAskable Quiet = Unit {0}
+
+-- the command, if there is one, can be asked
+abbrev pub SaysAskable : Parsed → Type 0
+SaysAskable Nothing = Unit {0}
+SaysAskable Bad = Unit {0}
+SaysAskable (Says c) = IsAskable c
 
 infixl 10 ◌>>=◌
 abbrev pub ◌>>=◌ : {A B : Type 0} → Option A → (A → Option B) → Option B
@@ -90,7 +113,35 @@ given_of (field ∷ fields) =
     if begins_with at_sign field then with_items [] (marks_of (field ∷ fields))
     else integer_of field >>= (λ x. given_of fields >>= (λ rest. Some (x ∷ rest.0, rest.1)))
 
--- what the fields behind the first say
+-- a name and nothing more
+abbrev pub name_alone : List (List ℕ) → Option (List ℕ)
+name_alone [] = None
+name_alone (name ∷ []) = block_of name
+name_alone (name ∷ other ∷ fields) = None
+
+-- a name, how many at most, and nothing more
+abbrev pub name_and_max : List (List ℕ) → Option (List ℕ × ℕ)
+name_and_max [] = None
+name_and_max (name ∷ []) = None
+name_and_max (name ∷ max ∷ []) = do
+  b ← block_of name
+  n ← max_of max
+  Some (b, n)
+name_and_max (name ∷ max ∷ other ∷ fields) = None
+
+-- where a setting begins to hold: `now`, or the number of an item
+abbrev pub place_of : List ℕ → Option (Option ℕ)
+place_of field = if bytes_eq field (codes "now") then Some None else option_map Some (offset_of field)
+
+-- fields that are signed numbers, all of them
+abbrev pub integers_of : List (List ℕ) → Option (List ℤ)
+integers_of [] = Some []
+integers_of (field ∷ fields) = do
+  x ← integer_of field
+  xs ← integers_of fields
+  Some (x ∷ xs)
+
+-- what the fields behind the first say. A setting has one number or more
 abbrev pub feed_of : List (List ℕ) → Option Command
 feed_of [] = None
 feed_of (name ∷ fields) = do
@@ -99,20 +150,29 @@ feed_of (name ∷ fields) = do
   Some (Feed b given.0 given.1)
 
 abbrev pub close_of : List (List ℕ) → Option Command
-close_of [] = None
-close_of (name ∷ []) = do
+close_of fields = option_map Close (name_alone fields)
+
+abbrev pub set_of : List (List ℕ) → Option Command
+set_of [] = None
+set_of (name ∷ []) = None
+set_of (name ∷ place ∷ []) = None
+set_of (name ∷ place ∷ number ∷ fields) = do
   b ← block_of name
-  Some (Close b)
-close_of (name ∷ other ∷ fields) = None
+  at ← place_of place
+  numbers ← integers_of (number ∷ fields)
+  Some (Set b at numbers)
+
+abbrev pub claim_of : List (List ℕ) → Option Command
+claim_of fields = option_map (λ pair. Claim pair.0 pair.1) (name_and_max fields)
+
+abbrev pub commit_of : List (List ℕ) → Option Command
+commit_of fields = option_map Commit (name_alone fields)
+
+abbrev pub abandon_of : List (List ℕ) → Option Command
+abandon_of fields = option_map Abandon (name_alone fields)
 
 abbrev pub step_of : List (List ℕ) → Option Command
-step_of [] = None
-step_of (name ∷ []) = None
-step_of (name ∷ max ∷ []) = do
-  b ← block_of name
-  n ← max_of max
-  Some (Step b n)
-step_of (name ∷ max ∷ other ∷ fields) = None
+step_of fields = option_map (λ pair. Step pair.0 pair.1) (name_and_max fields)
 
 abbrev pub read_of : List (List ℕ) → Option Command
 read_of [] = None
@@ -134,10 +194,14 @@ abbrev pub command_of : List ℕ → List (List ℕ) → Option Command
 command_of word fields =
     if bytes_eq word (codes "feed") then feed_of fields
     else (if bytes_eq word (codes "close") then close_of fields
+    else (if bytes_eq word (codes "set") then set_of fields
+    else (if bytes_eq word (codes "claim") then claim_of fields
+    else (if bytes_eq word (codes "commit") then commit_of fields
+    else (if bytes_eq word (codes "abandon") then abandon_of fields
     else (if bytes_eq word (codes "step") then step_of fields
     else (if bytes_eq word (codes "read") then read_of fields
     else (if bytes_eq word (codes "quiet") then quiet_of fields
-    else None))))
+    else None))))))))
 
 abbrev pub says : Option Command → Parsed
 says None = Bad

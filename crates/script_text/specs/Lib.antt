@@ -6,5 +6,6 @@ pub mod Fields
 pub mod Grammar
 pub mod Commands
 pub mod Replies
+pub mod Reports
 pub mod Printed
 pub mod Scripts

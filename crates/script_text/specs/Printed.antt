@@ -1,12 +1,15 @@
--- The text of replies in memory.
+-- The text of replies and reports in memory.
 use Rattle.std.specs.Prelude.{ℕ, List, map}
 use Rattle.stream_model.specs.Tags as model
 use Rattle.stream_model.specs.Machine as machine
 use Rattle.items.specs.Items.{numbers_of}
 use Rattle.items.specs.declared.marks.Tag.{Tag}
-use Rattle.script_text.specs.Replies.{reply_text, piece_text, quiet_text}
+use Rattle.script_text.specs.Replies.{reply_text, claimed_text, piece_text, quiet_text}
+use Rattle.script_text.specs.Reports.{blocks_text, connections_text, balanced_text, uneven_text, too_large_text, firings_text, sink_text, done_text, stalled_text}
 use Rattle.script_text.specs.declared.reply.Reply.{Reply}
-use Rattle.script_text.specs.declared.reply.Reply.TheVariants.{Fed, Closed, Done, Busy, WaitingItems, WaitingRoom, Did, Piece, Refused, Late, Quiet}
+use Rattle.script_text.specs.declared.reply.Reply.TheVariants.{Fed, Closed, Taken, Claimed, Done, Busy, WaitingItems, WaitingRoom, Did, Abandoned, Piece, Refused, Late, Quiet}
+use Rattle.script_text.specs.declared.report.Report.{Report}
+use Rattle.script_text.specs.declared.report.Report.TheVariants as report
 
 -- a tag, without where it lies in memory
 abbrev pub tag_seen : Tag → model.Tag
@@ -18,12 +21,26 @@ tags_seen ts = map tag_seen ts
 abbrev pub printed : Reply → List ℕ
 printed (Fed total) = reply_text (machine.Fed total)
 printed (Closed total) = reply_text (machine.Closed total)
+printed (Taken at) = reply_text (machine.Taken at)
+printed (Claimed first count) = claimed_text first count
 printed Done = reply_text machine.Done
 printed Busy = reply_text machine.Busy
 printed (WaitingItems port) = reply_text (machine.WaitingItems port)
 printed (WaitingRoom port) = reply_text (machine.WaitingRoom port)
 printed (Did count) = reply_text (machine.Did count)
+printed Abandoned = reply_text machine.Abandoned
 printed (Piece held items tags) = piece_text held (numbers_of items.now) (tags_seen tags.now)
 printed (Refused code) = reply_text (machine.Refused code)
 printed (Late floor) = reply_text (machine.Late floor)
 printed (Quiet quiet) = quiet_text quiet
+
+abbrev pub reported : Report → List ℕ
+reported (report.Blocks count) = blocks_text count
+reported (report.Connections count) = connections_text count
+reported report.Balanced = balanced_text
+reported report.Uneven = uneven_text
+reported report.TooLarge = too_large_text
+reported (report.Firings name count) = firings_text name.now count
+reported (report.Sink name held items tags) = sink_text name.now held (numbers_of items.now) (tags_seen tags.now)
+reported report.Done = done_text
+reported report.Stalled = stalled_text

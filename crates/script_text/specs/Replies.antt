@@ -23,8 +23,11 @@ abbrev pub tag_text : Tag → List ℕ
 tag_text t = space ∷ at_sign ∷ (decimal t.offset ++ colon ∷ tag_value_text t)
 
 -- how many firings a sink holds, then items, then tags
+abbrev pub held_text : ℕ → List ℤ → List Tag → List ℕ
+held_text held items tags = decimal held ++ flat_map item_text items ++ flat_map tag_text tags
+
 abbrev pub piece_text : ℕ → List ℤ → List Tag → List ℕ
-piece_text held items tags = codes "read " ++ decimal held ++ flat_map item_text items ++ flat_map tag_text tags
+piece_text held items tags = codes "read " ++ held_text held items tags
 
 -- a job is named by its first firing and how many they are
 abbrev pub claimed_text : ℕ → ℕ → List ℕ

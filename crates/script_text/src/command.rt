@@ -14,16 +14,35 @@ pub enum Command {
     Close {
         name: BlockName,
     },
+    /// Set a block's value, from this item of its input on, or from the first that is still open.
+    Set {
+        name: BlockName,
+        at: Option<u64>,
+        numbers: Vec<i64>,
+    },
+    /// Claim at most so many firings of a block.
+    Claim {
+        name: BlockName,
+        max: u32,
+    },
+    /// Do the work of a block's claim, and commit it.
+    Commit {
+        name: BlockName,
+    },
+    /// Give up a block's claim.
+    Abandon {
+        name: BlockName,
+    },
     /// Let a block fire at most this often.
     Step {
         name: BlockName,
-        max: u64,
+        max: u32,
     },
     /// Show at most so many items of what a sink holds, from one on.
     Read {
         name: BlockName,
         from: u64,
-        max: u64,
+        max: u32,
     },
     /// Ask whether no block can act.
     Quiet,

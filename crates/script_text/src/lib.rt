@@ -9,6 +9,7 @@ mod numerals;
 pub mod parse;
 mod print;
 pub mod reply;
+pub mod report;
 pub mod script;
 pub mod splitter;
 
@@ -16,5 +17,6 @@ pub use command::{Command, Line};
 pub use ends::{Broken, ByteIn, ByteOut, ReadEnd, WriteEnd};
 pub use parse::parse_line;
 pub use reply::Reply;
+pub use report::Report;
 pub use script::{last_line, next_line};
 pub use splitter::{LineSplitter, Taken};

@@ -2,7 +2,7 @@
 ghost use Rattle.std.specs.Prelude.{◌≡◌, IfOk, IfSome, IfNone, None};
 ghost use Rattle.std.specs.Option.{option_map};
 ghost use Rattle.script_text.specs.Fields.{fields_of};
-ghost use Rattle.script_text.specs.Grammar.{parsed_line, command_of, feed_of, close_of, step_of, read_of, quiet_of, given_of, marks_of, mark_of, mark_at, name_of, with_items};
+ghost use Rattle.script_text.specs.Grammar.{parsed_line, command_of, feed_of, close_of, set_of, claim_of, commit_of, abandon_of, step_of, read_of, quiet_of, name_alone, name_and_max, place_of, integers_of, given_of, marks_of, mark_of, mark_at, name_of, with_items};
 ghost use Rattle.script_text.specs.Numbers.{max_of, integer_of};
 ghost use Rattle.script_text.specs.Commands.{line_seen, command_seen, marks_seen, mark_seen};
 
@@ -10,12 +10,10 @@ use crate::bytes::{begins_with, cut_at, next_field};
 use crate::name::block_name;
 use crate::numerals::{parse_integer, parse_natural};
 use crate::{Command, Line};
-use items::{Mark, TagKey};
+use items::{BlockName, Mark, TagKey};
 use std::alloc::{AllocError, Global};
 
 const LONGEST_LINE: usize = 65536;
-
-const GREATEST_MAX: u64 = 4294967295;
 
 /// What a line says, without what ends it.
 #[tactic(auto, unfolding(crate::specs::Grammar::parsed_line))]
@@ -45,6 +43,14 @@ fn parse_command(alloc: Global, word: &[u8], fields: &[u8]) -> Result<Option<Com
         parse_feed(alloc, fields)
     } else if word == b"close".as_slice() {
         Ok(parse_close(fields))
+    } else if word == b"set".as_slice() {
+        parse_set(alloc, fields)
+    } else if word == b"claim".as_slice() {
+        Ok(parse_claim(fields))
+    } else if word == b"commit".as_slice() {
+        Ok(parse_commit(fields))
+    } else if word == b"abandon".as_slice() {
+        Ok(parse_abandon(fields))
     } else if word == b"step".as_slice() {
         Ok(parse_step(fields))
     } else if word == b"read".as_slice() {
@@ -77,24 +83,59 @@ fn parse_feed(alloc: Global, fields: &[u8]) -> Result<Option<Command>, AllocErro
 fn parse_close(fields: &[u8]) -> Option<Command>
     ensures { option_map command_seen result ≡ close_of (fields_of fields.now) }
 {
-    let (name, rest) = next_field(fields)?;
-    if next_field(rest).is_some() {
-        return None;
-    }
-    let name = block_name(name)?;
+    let name = parse_name_alone(fields)?;
     Some(Command::Close { name })
+}
+
+fn parse_set(alloc: Global, fields: &[u8]) -> Result<Option<Command>, AllocError>
+    ensures { IfOk result (λ command. option_map command_seen command ≡ set_of (fields_of fields.now)) }
+{
+    let Some((name, rest)) = next_field(fields) else {
+        return Ok(None);
+    };
+    let Some((place, numbers)) = next_field(rest) else {
+        return Ok(None);
+    };
+    if next_field(numbers).is_none() {
+        return Ok(None);
+    }
+    let Some(name) = block_name(name) else {
+        return Ok(None);
+    };
+    let Some(at) = parse_place(place) else {
+        return Ok(None);
+    };
+    let Some(numbers) = parse_integers(alloc, numbers)? else {
+        return Ok(None);
+    };
+    Ok(Some(Command::Set { name, at, numbers }))
+}
+
+fn parse_claim(fields: &[u8]) -> Option<Command>
+    ensures { option_map command_seen result ≡ claim_of (fields_of fields.now) }
+{
+    let (name, max) = parse_name_and_max(fields)?;
+    Some(Command::Claim { name, max })
+}
+
+fn parse_commit(fields: &[u8]) -> Option<Command>
+    ensures { option_map command_seen result ≡ commit_of (fields_of fields.now) }
+{
+    let name = parse_name_alone(fields)?;
+    Some(Command::Commit { name })
+}
+
+fn parse_abandon(fields: &[u8]) -> Option<Command>
+    ensures { option_map command_seen result ≡ abandon_of (fields_of fields.now) }
+{
+    let name = parse_name_alone(fields)?;
+    Some(Command::Abandon { name })
 }
 
 fn parse_step(fields: &[u8]) -> Option<Command>
     ensures { option_map command_seen result ≡ step_of (fields_of fields.now) }
 {
-    let (name, rest) = next_field(fields)?;
-    let (max, rest) = next_field(rest)?;
-    if next_field(rest).is_some() {
-        return None;
-    }
-    let name = block_name(name)?;
-    let max = parse_max(max)?;
+    let (name, max) = parse_name_and_max(fields)?;
     Some(Command::Step { name, max })
 }
 
@@ -122,15 +163,51 @@ fn parse_quiet(fields: &[u8]) -> Option<Command>
     Some(Command::Quiet)
 }
 
+// The name that is the only field.
+fn parse_name_alone(fields: &[u8]) -> Option<BlockName>
+    ensures { result ≡ name_alone (fields_of fields.now) }
+{
+    let (name, rest) = next_field(fields)?;
+    if next_field(rest).is_some() {
+        return None;
+    }
+    block_name(name)
+}
+
+// The name and the number that are the only fields.
+fn parse_name_and_max(fields: &[u8]) -> Option<(BlockName, u32)>
+    ensures { result ≡ name_and_max (fields_of fields.now) }
+{
+    let (name, rest) = next_field(fields)?;
+    let (max, rest) = next_field(rest)?;
+    if next_field(rest).is_some() {
+        return None;
+    }
+    let name = block_name(name)?;
+    let max = parse_max(max)?;
+    Some((name, max))
+}
+
+// Where a setting begins to hold.
+fn parse_place(field: &[u8]) -> Option<Option<u64>>
+    ensures { result ≡ place_of field.now }
+{
+    if field == b"now".as_slice() {
+        return Some(None);
+    }
+    let item = parse_natural(field, u64::MAX)?;
+    Some(Some(item))
+}
+
 // How many at most: at least one.
-fn parse_max(field: &[u8]) -> Option<u64>
+fn parse_max(field: &[u8]) -> Option<u32>
     ensures { result ≡ max_of field.now }
 {
-    let max = parse_natural(field, GREATEST_MAX)?;
+    let max = parse_natural(field, u64::from(u32::MAX))?;
     if max == 0 {
         return None;
     }
-    Some(max)
+    Some(max as u32)
 }
 
 // The items at the front, and the fields behind them, which begin with a mark if there are any.
@@ -152,6 +229,22 @@ fn parse_items(alloc: Global, fields: &[u8]) -> Result<Option<(Vec<i64>, &[u8])>
         rest = after;
     }
     Ok(Some((items, rest)))
+}
+
+// The numbers that the fields are.
+fn parse_integers(alloc: Global, fields: &[u8]) -> Result<Option<Vec<i64>>, AllocError>
+    ensures { IfOk result (λ numbers. option_map (λ v. v.items) numbers ≡ integers_of (fields_of fields.now)) }
+{
+    let mut numbers = Vec::new(alloc);
+    let mut rest = fields;
+    while let Some((field, after)) = next_field(rest) {
+        let Some(number) = parse_integer(field) else {
+            return Ok(None);
+        };
+        numbers.push(number)?;
+        rest = after;
+    }
+    Ok(Some(numbers))
 }
 
 // The marks that the fields are.

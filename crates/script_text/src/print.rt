@@ -1,9 +1,9 @@
-//! Numbers, items and tags as text.
+//! Numbers, items and tags as text, written at the end of a vector.
 ghost use Rattle.std.specs.Prelude.{◌≡◌, ◌++◌, map, OnOk};
 ghost use Rattle.std.specs.List.{flat_map};
 ghost use Rattle.std.specs.Fmt.{decimal, signed_decimal};
 ghost use Rattle.items.specs.Items.{numbers_of};
-ghost use Rattle.script_text.specs.Replies.{item_text, tag_text, tag_value_text};
+ghost use Rattle.script_text.specs.Replies.{item_text, tag_text, tag_value_text, held_text};
 ghost use Rattle.script_text.specs.Printed.{tag_seen, tags_seen};
 
 use items::{Items, Tag};
@@ -34,6 +34,28 @@ pub fn push_integer(out: &mut Vec<u8>, number: i64) -> Result<(), AllocError>
     } else {
         push_natural(out, number as u64)
     }
+}
+
+/// Writes a word and a number behind it.
+pub fn push_counted(out: &mut Vec<u8>, word: &[u8], count: u64) -> Result<(), AllocError>
+    ensures { OnOk result (out.new.items ≡ out.old.items ++ (word.now ++ decimal count)) }
+{
+    out.extend_from_slice(word)?;
+    push_natural(out, count)
+}
+
+/// Writes what a sink holds: how many firings, and items, and tags.
+pub fn push_held(
+    out: &mut Vec<u8>,
+    held: u64,
+    items: &Items,
+    tags: &[Tag],
+) -> Result<(), AllocError>
+    ensures { OnOk result (out.new.items ≡ out.old.items ++ held_text held (numbers_of items.now) (tags_seen tags.now)) }
+{
+    push_natural(out, held)?;
+    push_items(out, items)?;
+    push_tags(out, tags)
 }
 
 /// Writes the items at the end, each behind a space.

@@ -1,8 +1,7 @@
 //! Replies, and their text.
 ghost use Rattle.std.specs.Prelude.{◌≡◌, ◌++◌, IfOk, OnOk};
-ghost use Rattle.std.specs.Fmt.{decimal};
 
-use crate::print::{push_items, push_natural, push_tags};
+use crate::print::{push_counted, push_held};
 use items::{Items, Tag};
 use std::alloc::{AllocError, Global};
 
@@ -13,16 +12,25 @@ pub enum Reply<'a> {
     Fed(u64),
     /// A source's tape was ended, with so many items.
     Closed(u64),
+    /// A setting was placed, from this item on.
+    Taken(u64),
+    /// The block claimed so many firings, from this one on.
+    Claimed {
+        first: u64,
+        count: u32,
+    },
     /// The block is done.
     Done,
     /// The block has a claim in flight.
     Busy,
     /// The block waits for items on an input.
-    WaitingItems(u32),
+    WaitingItems(usize),
     /// The block waits for room behind an output.
-    WaitingRoom(u32),
+    WaitingRoom(usize),
     /// The block fired so often.
     Did(u32),
+    /// The block's claim was given up.
+    Abandoned,
     /// What a sink holds: how many firings, and some of the items, with their tags.
     Piece {
         held: u64,
@@ -57,15 +65,20 @@ impl Reply<'_> {
         match self {
             Reply::Fed(total) => push_counted(out, b"fed ", *total),
             Reply::Closed(total) => push_counted(out, b"closed ", *total),
+            Reply::Taken(at) => push_counted(out, b"taken ", *at),
+            Reply::Claimed { first, count } => {
+                push_counted(out, b"claimed ", *first)?;
+                push_counted(out, b" ", u64::from(*count))
+            }
             Reply::Done => out.extend_from_slice(b"done"),
             Reply::Busy => out.extend_from_slice(b"busy"),
-            Reply::WaitingItems(port) => push_counted(out, b"waiting items ", u64::from(*port)),
-            Reply::WaitingRoom(port) => push_counted(out, b"waiting room ", u64::from(*port)),
+            Reply::WaitingItems(port) => push_counted(out, b"waiting items ", *port as u64),
+            Reply::WaitingRoom(port) => push_counted(out, b"waiting room ", *port as u64),
             Reply::Did(count) => push_counted(out, b"did ", u64::from(*count)),
+            Reply::Abandoned => out.extend_from_slice(b"abandoned"),
             Reply::Piece { held, items, tags } => {
-                push_counted(out, b"read ", *held)?;
-                push_items(out, items)?;
-                push_tags(out, tags)
+                out.extend_from_slice(b"read ")?;
+                push_held(out, *held, items, tags)
             }
             Reply::Refused(code) => push_counted(out, b"refused ", u64::from(*code)),
             Reply::Late(floor) => push_counted(out, b"refused 27 ", *floor),
@@ -73,12 +86,4 @@ impl Reply<'_> {
             Reply::Quiet(false) => out.extend_from_slice(b"quiet no"),
         }
     }
-}
-
-// A word and a number.
-fn push_counted(out: &mut Vec<u8>, word: &[u8], count: u64) -> Result<(), AllocError>
-    ensures { OnOk result (out.new.items ≡ out.old.items ++ (word.now ++ decimal count)) }
-{
-    out.extend_from_slice(word)?;
-    push_natural(out, count)
 }

@@ -1,9 +1,9 @@
 //! Scripts, line by line, as what the lines say.
-ghost use Rattle.std.specs.Prelude.{◌≡◌, ◌-◌, ◌^◌, ◌<◌, ◌⊎◌, suc, IfOk, OnErr};
+ghost use Rattle.std.specs.Prelude.{◌≡◌, ◌-◌, ◌^◌, ◌<◌, ◌⊎◌, suc, IfOk, IfSome, OnErr};
 ghost use Rattle.std.specs.Option.{option_map, option_to_list};
 ghost use Rattle.script_text.specs.Lines.{lines_of};
 ghost use Rattle.script_text.specs.Splits.{IsUnfinished, TakesLine, KeepsBytes};
-ghost use Rattle.script_text.specs.Grammar.{parsed_from};
+ghost use Rattle.script_text.specs.Grammar.{parsed_from, SaysAskable};
 ghost use Rattle.script_text.specs.Commands.{line_seen};
 ghost use Rattle.script_text.specs.Scripts.{Continues};
 
@@ -17,6 +17,7 @@ const MOST_LINES: u64 = 4294967295;
 pub fn next_line(alloc: Global, lines: &mut LineSplitter) -> Result<Option<Line>, AllocError>
     requires { lines.old.taken < 2 ^ 64 - 1 }
     ensures ok { IfOk result (λ line. Continues (option_map line_seen line) lines.old lines.new) }
+    ensures askable { IfOk result (λ line. IfSome line (λ l. SaysAskable (line_seen l))) }
     ensures err { OnErr result (TakesLine lines.old lines.new) }
     ensures moves { TakesLine lines.old lines.new ⊎ KeepsBytes lines.old lines.new }
 {
@@ -36,8 +37,9 @@ pub fn next_line(alloc: Global, lines: &mut LineSplitter) -> Result<Option<Line>
 /// What the last line says, at the end of the bytes, if there is one.
 pub fn last_line(alloc: Global, lines: &LineSplitter) -> Result<Option<Line>, AllocError>
     requires { IsUnfinished lines.now.rest }
-    ensures { IfOk result (λ line.
+    ensures says { IfOk result (λ line.
         option_to_list (option_map line_seen line) ≡ parsed_from (suc lines.now.taken) (lines_of lines.now.rest)) }
+    ensures askable { IfOk result (λ line. IfSome line (λ l. SaysAskable (line_seen l))) }
 {
     let Some(line) = lines.last_line() else {
         return Ok(None);

@@ -7,9 +7,9 @@ use Rattle.flow.proofs.Flows.{stops_at}
 use Rattle.flow.proofs.script.answer_next.Goals as goal
 
 pub answer_command-requires-clause-askable : goal.answer_command-requires-clause-askable
-answer_command-requires-clause-askable g c = some_askable c.args.lines.now c.next_line.new.lines _ _ _ c.in-Some-Command.is c.in-Some-Command.field-0-is c.in_ok-next_line.ensures.ok
+answer_command-requires-clause-askable g c = some_askable _ _ _ c.in-Some-Command.is c.in-Some-Command.field-0-is c.in_ok-next_line.ensures.askable
 
 pub returns-clause-stops : goal.returns-clause-stops
 returns-clause-stops g c =
     let goes : GoesOn (Says (command_seen c.in-Some-Command.command)) c.args.lines.now c.next_line.new.lines = some_goes c.args.lines.now c.next_line.new.lines _ _ c.in-Some-Command.command c.in-Some-Command.is c.in-Some-Command.field-0-is c.in_ok-next_line.ensures.ok in
-    stops_at (graph_of g.B.Block.meaning c.args.plant.now) (said_of c.args.lines.now) (command_seen c.in-Some-Command.command) _ _ _ _ c.args.lines.now.taken c.in-Err.fault (λ more. (said_of c.next_line.new.lines more, goes.says more)) c.in-Err.ensures.unwritten
+    stops_at (graph_of g.B.Block.meaning c.args.session.now.plant) (said_of c.args.lines.now) (command_seen c.in-Some-Command.command) _ _ _ _ c.args.lines.now.taken c.in-Err.fault (λ more. (said_of c.next_line.new.lines more, goes.says more)) c.in-Err.ensures.unwritten

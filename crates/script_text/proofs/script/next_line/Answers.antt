@@ -1,7 +1,8 @@
-use Rattle.std.proofs.Common.{suc, sym, ap, ◌∙◌, arith}
-use Rattle.script_text.specs.Grammar.{parsed_line}
+use Rattle.std.proofs.Common.{suc, sym, ap, subst, ◌∙◌, arith}
+use Rattle.script_text.specs.Grammar.{SaysAskable, parsed_line}
 use Rattle.script_text.specs.Splits.{TakesLine}
 use Rattle.script_text.proofs.ScriptLemmas.{taken_bad, taken_next, within_lines, beyond_lines, too_long_next}
+use Rattle.script_text.proofs.AskableLemmas.{says_askable}
 use Rattle.script_text.proofs.script.next_line.Goals as goal
 
 pub returns-then-taken-gt-MOST_LINES-clause-ok : goal.returns-then-taken-gt-MOST_LINES-clause-ok
@@ -23,3 +24,7 @@ returns-in_ok-parse_line-in-Whole-clause-ok c =
 
 pub returns-in-TooLong-clause-ok : goal.returns-in-TooLong-clause-ok
 returns-in-TooLong-clause-ok c = too_long_next c.args.lines.now c.take_line.new.self c.in-TooLong.ensures.0
+
+pub returns-in_ok-parse_line-in-Whole-clause-askable : goal.returns-in_ok-parse_line-in-Whole-clause-askable
+returns-in_ok-parse_line-in-Whole-clause-askable c =
+    subst SaysAskable (sym c.in_ok-parse_line-in-Whole.ensures) (says_askable c.line.result.now)

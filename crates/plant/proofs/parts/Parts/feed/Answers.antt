@@ -1,4 +1,4 @@
-use Rattle.std.proofs.Common.{◌≡◌, ◌+◌, map, true, Ok, Err, refl, arith, ap, sym, ◌∙◌}
+use Rattle.std.proofs.Common.{◌≡◌, map, true, Ok, Err, refl, arith, ap, sym, ◌∙◌}
 use Rattle.std.proofs.lemmas.Result.{err_from_is_err_and}
 use Rattle.std.specs.Arc.{arc_value}
 use Rattle.stream_model.specs.Numbers.{types_agree}
@@ -9,8 +9,9 @@ use Rattle.items.specs.Items.{type_of, numbers_of}
 use Rattle.flowgraph.specs.Flowgraph.{net_of}
 use Rattle.stores.specs.Stores.{mark_of, state_of}
 use Rattle.plant.specs.Answers.{source_type_of, takes_memory}
+use Rattle.plant.specs.Feeding.{length_with}
 use Rattle.plant.proofs.Refusals.{source_there, feed-refused, feed-other_type, answered}
-use Rattle.plant.proofs.Moves.{feed_closed, feed_misplaced, feed_full, feed_now, feeds, keeps_fed, keeps_same, state_same, item_is}
+use Rattle.plant.proofs.Moves.{tape_short, feed_stopped, feed_now, feeds, keeps_fed, keeps_same, state_same, item_is}
 use Rattle.plant.proofs.parts.Parts.feed.Goals as goal
 
 pub returns-in_err-item-clause-answered : goal.returns-in_err-item-clause-answered
@@ -30,32 +31,23 @@ returns-then-not-same_type-clause-answered g c =
     (rw (← c.item_type.ensures) (sym c.same_type.ensures ∙ c.if-not-same_type.true)) in
     rw (no) (refl, refl)
 
-pub returns-then-tape-clause-answered : goal.returns-then-tape-clause-answered
-returns-then-tape-clause-answered g c =
+pub length_with-requires : goal.length_with-requires
+length_with-requires g c =
     let net = net_of g.B.Block.meaning (arc_value c.args.self.now.graph) in
     let there : source_type_of net c.args.source.0 ≡ Ok c.in_ok-item.item = rw (← c.deref-2.ensures) (sym c.source_type.ensures ∙ c.in_ok-item.was) in
     let is = source_there net c.args.source.0 c.in_ok-item.item there in
-    let typed : types_agree (type_of c.args.items) c.in_ok-item.item ≡ true = rw (← c.item_type.ensures) (sym c.same_type.ensures ∙ c.if-not-same_type.false) in
-    let no = feed_closed net _ (rw (← c.deref.ensures) c.in_order.ensures.runs) _ _ _ c.requires.keeps c.args.source.0 is.inside c.index-tape.result.now c.index-tape.ensures c.in_ok-item.item is (type_of c.args.items) (numbers_of c.args.items) (map mark_of c.args.marks.now) typed c.if-tape.true in
-    rw (no) (refl, refl)
+    let short = tape_short net _ (rw (← c.deref.ensures) c.in_order.ensures.runs) _ _ _ c.requires.keeps c.args.source.0 is.inside c.index-tape.result.now c.index-tape.ensures in
+    omega (arith, short, c.len.ensures.small)
 
-pub returns-then-not-fit-clause-answered : goal.returns-then-not-fit-clause-answered
-returns-then-not-fit-clause-answered g c =
+pub returns-in_err-total-clause-answered : goal.returns-in_err-total-clause-answered
+returns-in_err-total-clause-answered g c =
     let net = net_of g.B.Block.meaning (arc_value c.args.self.now.graph) in
     let there : source_type_of net c.args.source.0 ≡ Ok c.in_ok-item.item = rw (← c.deref-2.ensures) (sym c.source_type.ensures ∙ c.in_ok-item.was) in
     let is = source_there net c.args.source.0 c.in_ok-item.item there in
     let typed : types_agree (type_of c.args.items) c.in_ok-item.item ≡ true = rw (← c.item_type.ensures) (sym c.same_type.ensures ∙ c.if-not-same_type.false) in
-    let no = feed_misplaced net _ (rw (← c.deref.ensures) c.in_order.ensures.runs) _ _ _ c.requires.keeps c.args.source.0 is.inside c.index-tape.result.now c.index-tape.ensures c.in_ok-item.item is (type_of c.args.items) (numbers_of c.args.items) (map mark_of c.args.marks.now) typed c.if-tape.false (c.index-tape.result.now.length + c.len.result) (ap (λ n. c.index-tape.result.now.length + n) c.len.ensures.value) (sym c.fit.ensures ∙ c.if-not-fit.true) in
-    rw (no) (refl, refl)
-
-pub returns-then-total-gt-LONGEST_TAPE-clause-answered : goal.returns-then-total-gt-LONGEST_TAPE-clause-answered
-returns-then-total-gt-LONGEST_TAPE-clause-answered g c =
-    let net = net_of g.B.Block.meaning (arc_value c.args.self.now.graph) in
-    let there : source_type_of net c.args.source.0 ≡ Ok c.in_ok-item.item = rw (← c.deref-2.ensures) (sym c.source_type.ensures ∙ c.in_ok-item.was) in
-    let is = source_there net c.args.source.0 c.in_ok-item.item there in
-    let typed : types_agree (type_of c.args.items) c.in_ok-item.item ≡ true = rw (← c.item_type.ensures) (sym c.same_type.ensures ∙ c.if-not-same_type.false) in
-    let no = feed_full net _ (rw (← c.deref.ensures) c.in_order.ensures.runs) _ _ _ c.requires.keeps c.args.source.0 is.inside c.index-tape.result.now c.index-tape.ensures c.in_ok-item.item is (type_of c.args.items) (numbers_of c.args.items) (map mark_of c.args.marks.now) typed c.if-tape.false (c.index-tape.result.now.length + c.len.result) (ap (λ n. c.index-tape.result.now.length + n) c.len.ensures.value) (sym c.fit.ensures ∙ c.if-not-fit.false) (omega (arith, c.if-total-gt-LONGEST_TAPE.true)) in
-    rw (no) (refl, refl)
+    let p = err_from_is_err_and c.from_residual-in_err-total.result c.from_residual-in_err-total.ensures.1 in
+    let no = feed_stopped net _ (rw (← c.deref.ensures) c.in_order.ensures.runs) _ _ _ c.requires.keeps c.args.source.0 is.inside c.index-tape.result.now c.index-tape.ensures c.in_ok-item.item is (type_of c.args.items) (numbers_of c.args.items) (map mark_of c.args.marks.now) typed c.in_err-total.field-0.0 (ap (λ n. length_with c.index-tape.result.now n (map mark_of c.args.marks.now)) (sym c.len.ensures.value) ∙ sym c.length_with.ensures ∙ c.in_err-total.was) in
+    rw (p.1, p.2) (answered _ _ _ no.0 no.1)
 
 pub feed-requires : goal.feed-requires
 feed-requires g c =
@@ -82,7 +74,7 @@ returns-in_err-feed-clause-answered g c =
     let is = source_there net c.args.source.0 c.in_ok-item.item there in
     let typed : types_agree (type_of c.args.items) c.in_ok-item.item ≡ true = rw (← c.item_type.ensures) (sym c.same_type.ensures ∙ c.if-not-same_type.false) in
     let p = err_from_is_err_and c.from_residual-in_err-feed.result c.from_residual-in_err-feed.ensures.1 in
-    let now = feed_now net _ (rw (← c.deref.ensures) c.in_order.ensures.runs) _ _ _ c.requires.keeps c.args.source.0 is.inside c.index-tape.result.now c.index-tape.ensures c.in_ok-item.item is (type_of c.args.items) (numbers_of c.args.items) (map mark_of c.args.marks.now) typed c.if-tape.false (c.index-tape.result.now.length + c.len.result) (ap (λ n. c.index-tape.result.now.length + n) c.len.ensures.value) (sym c.fit.ensures ∙ c.if-not-fit.false) (omega (arith, c.if-total-gt-LONGEST_TAPE.false)) in
+    let now = feed_now net _ (rw (← c.deref.ensures) c.in_order.ensures.runs) _ _ _ c.requires.keeps c.args.source.0 is.inside c.index-tape.result.now c.index-tape.ensures c.in_ok-item.item is (type_of c.args.items) (numbers_of c.args.items) (map mark_of c.args.marks.now) typed c.in_ok-total.total (ap (λ n. length_with c.index-tape.result.now n (map mark_of c.args.marks.now)) (sym c.len.ensures.value) ∙ sym c.length_with.ensures ∙ c.in_ok-total.was) in
     let same = state_same net _ (rw (← c.deref.ensures) c.in_order.ensures.runs) _ _ _ c.requires.keeps c.args.source.0 is.inside c.index_mut.result.now c.feed.new.self c.index_mut.ensures.value c.in_err-feed.ensures.err in
     rw (p.1, p.2, same) (ap (λ (x : machine.Reply × State). takes_memory x.0) now, refl)
 
@@ -93,7 +85,7 @@ returns-clause-right g c =
     let is = source_there net c.args.source.0 c.in_ok-item.item there in
     let typed : types_agree (type_of c.args.items) c.in_ok-item.item ≡ true = rw (← c.item_type.ensures) (sym c.same_type.ensures ∙ c.if-not-same_type.false) in
     record {
-      keeps = keeps_fed net _ (rw (← c.deref.ensures) c.in_order.ensures.runs) _ _ _ c.requires.keeps c.args.source.0 is.inside c.index-tape.result.now c.index-tape.ensures c.in_ok-item.item is (type_of c.args.items) (numbers_of c.args.items) (map mark_of c.args.marks.now) typed c.if-tape.false (c.index-tape.result.now.length + c.len.result) (ap (λ n. c.index-tape.result.now.length + n) c.len.ensures.value) (sym c.fit.ensures ∙ c.if-not-fit.false) (omega (arith, c.if-total-gt-LONGEST_TAPE.false)) c.index_mut.result.now c.feed.new.self c.index_mut.ensures.value c.in_ok-feed.ensures.ok _ (record { handed = refl; words = refl; buffers = refl; sinks = refl; brought = refl });
+      keeps = keeps_fed net _ (rw (← c.deref.ensures) c.in_order.ensures.runs) _ _ _ c.requires.keeps c.args.source.0 is.inside c.index-tape.result.now c.index-tape.ensures c.in_ok-item.item is (type_of c.args.items) (numbers_of c.args.items) (map mark_of c.args.marks.now) typed c.in_ok-total.total (ap (λ n. length_with c.index-tape.result.now n (map mark_of c.args.marks.now)) (sym c.len.ensures.value) ∙ sym c.length_with.ensures ∙ c.in_ok-total.was) c.index_mut.result.now c.feed.new.self c.index_mut.ensures.value c.in_ok-feed.ensures.ok _ (record { handed = refl; words = refl; buffers = refl; sinks = refl; brought = refl });
       built = record { rates = c.requires.built.rates; capacities = c.requires.built.capacities; places = c.requires.built.places };
     }
 
@@ -103,5 +95,5 @@ returns-clause-answered g c =
     let there : source_type_of net c.args.source.0 ≡ Ok c.in_ok-item.item = rw (← c.deref-2.ensures) (sym c.source_type.ensures ∙ c.in_ok-item.was) in
     let is = source_there net c.args.source.0 c.in_ok-item.item there in
     let typed : types_agree (type_of c.args.items) c.in_ok-item.item ≡ true = rw (← c.item_type.ensures) (sym c.same_type.ensures ∙ c.if-not-same_type.false) in
-    let now = feeds net _ (rw (← c.deref.ensures) c.in_order.ensures.runs) _ _ _ c.requires.keeps c.args.source.0 is.inside c.index-tape.result.now c.index-tape.ensures c.in_ok-item.item is (type_of c.args.items) (numbers_of c.args.items) (map mark_of c.args.marks.now) typed c.if-tape.false (c.index-tape.result.now.length + c.len.result) (ap (λ n. c.index-tape.result.now.length + n) c.len.ensures.value) (sym c.fit.ensures ∙ c.if-not-fit.false) (omega (arith, c.if-total-gt-LONGEST_TAPE.false)) c.index_mut.result.now c.feed.new.self c.index_mut.ensures.value c.in_ok-feed.ensures.ok in
+    let now = feeds net _ (rw (← c.deref.ensures) c.in_order.ensures.runs) _ _ _ c.requires.keeps c.args.source.0 is.inside c.index-tape.result.now c.index-tape.ensures c.in_ok-item.item is (type_of c.args.items) (numbers_of c.args.items) (map mark_of c.args.marks.now) typed c.in_ok-total.total (ap (λ n. length_with c.index-tape.result.now n (map mark_of c.args.marks.now)) (sym c.len.ensures.value) ∙ sym c.length_with.ensures ∙ c.in_ok-total.was) c.index_mut.result.now c.feed.new.self c.index_mut.ensures.value c.in_ok-feed.ensures.ok in
     rw (now) (refl, refl)

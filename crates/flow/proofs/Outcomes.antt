@@ -1,0 +1,98 @@
+-- What a command does, from what it tells and whether that was written.
+use Rattle.std.proofs.Common.{◌≡◌, ℕ, ◌+◌, List, refl, ap, sym, ◌∙◌, subst, arith, Bool, true, false}
+use Rattle.std.specs.Prelude.{Option, Result, Ok, Err, IfOk, IfErr, if◌then◌else◌}
+use Rattle.std.specs.Io.KnownBytes.{Appends}
+use Rattle.stream_model.specs.Network.{Network, State}
+use Rattle.stream_model.specs.Machine.{Capacities, is_all_done, IsWhole}
+use Rattle.flowgraph.specs.Flowgraph.{net_of}
+use Rattle.kinds.specs.declared.kind.Kind.{Kind}
+use Rattle.kinds.specs.Kind.{meaning_of}
+use Rattle.plant.specs.Plant.{PlantState}
+use Rattle.plant.specs.Settling.{HasSettled, StepsLead}
+use Rattle.plant.specs.declared.answers.Settled.{Settled}
+use Rattle.plant.specs.declared.answers.Settled.TheVariants.{Done, Quiet}
+use Rattle.graph_file.specs.Refusals.{Refusal}
+use Rattle.graph_file.specs.Blocks.{drafted}
+use Rattle.graph_file.specs.Opening.{opened_of}
+use Rattle.script_text.specs.Ends.{AppendsBeginning}
+use Rattle.flow.specs.Session.{in_state}
+use Rattle.flow.specs.Reports.{run_text}
+use Rattle.flow.specs.Serve.{Refuses, Writes, WritesNot, IsAtRest, IsRun, plant_in, closed, turn, reads_in, writes_failed}
+use Rattle.flow.specs.declared.fault.Fault.{Fault}
+use Rattle.flow.specs.declared.fault.Fault.TheVariants.{File, Script}
+use Rattle.flow.specs.declared.script.ScriptFault.TheVariants.{BadLine, Read, Write, Memory}
+
+-- what holds of a result by what held of it before
+pub if_ok : {A E : Type 0} (r : Result A E) (P Q : A → Type 0) → IfOk r P → ((x : A) → P x → Q x) → IfOk r Q
+if_ok (Ok x) P Q h k = k x h
+if_ok (Err e) P Q h k = tt
+
+pub if_err : {A E : Type 0} (r : Result A E) (P Q : E → Type 0) → IfErr r P → ((e : E) → P e → Q e) → IfErr r Q
+if_err (Ok x) P Q h k = tt
+if_err (Err e) P Q h k = k e h
+
+pub same_count : (a b : ℕ) → a ≡ b + 0 → a ≡ b
+same_count a b e = omega (arith, e)
+
+pub no_more : (a n : ℕ) → n ≡ 0 → a ≡ a + n
+no_more a n e = omega (arith, e)
+
+module _ {A : Type 0} (IsDone : List ℕ → ℕ → Type 0) (r : Result A Refusal) where
+  -- what was told was written
+  pub wrote : (out out' : Option (List ℕ)) (text : List ℕ) (status : ℕ) (result : Result ℕ Fault) → IsDone text status →
+      IfOk result (λ s. (s ≡ status) × Appends out out' text) → IfOk result (Writes IsDone out out')
+  wrote out out' text status (Ok s) h k = (text, subst (IsDone text) (sym k.0) h, k.1)
+  wrote out out' text status (Err e) h k = tt
+
+  -- or not
+  pub wrote_not : (out out' : Option (List ℕ)) (text : List ℕ) (status : ℕ) (result : Result ℕ Fault) → IsDone text status →
+      IfErr result (λ fault. (fault ≡ Script Write) × AppendsBeginning out out' text) → IfErr result (WritesNot IsDone r out out')
+  wrote_not out out' text status (Ok s) h k = tt
+  wrote_not out out' text status (Err e) h k = subst (WritesNot IsDone r out out') (sym k.0) (text, status, h, k.1)
+
+  -- nothing was told
+  pub refused_not : (out : Option (List ℕ)) (fault : Fault) → Refuses r fault → WritesNot IsDone r out out fault
+  refused_not out (File fault) h = (h, refl)
+  refused_not out (Script (BadLine n)) h = h
+  refused_not out (Script Read) h = h
+  refused_not out (Script Write) h = absurd h
+  refused_not out (Script Memory) h = refl
+
+  pub refused_writes : (fault : Fault) → Refuses r fault → writes_failed fault ≡ 0
+  refused_writes (File fault) h = refl
+  refused_writes (Script (BadLine n)) h = refl
+  refused_writes (Script Read) h = refl
+  refused_writes (Script Write) h = absurd h
+  refused_writes (Script Memory) h = refl
+
+  -- and nothing was read
+  pub no_reads : (out out' : Option (List ℕ)) (result : Result ℕ Fault) → IfErr result (WritesNot IsDone r out out') → reads_in result ≡ 0
+  no_reads out out' (Ok s) h = refl
+  no_reads out out' (Err (File fault)) h = refl
+  no_reads out out' (Err (Script (BadLine n))) h = refl
+  no_reads out out' (Err (Script Read)) h = absurd h
+  no_reads out out' (Err (Script Write)) h = refl
+  no_reads out out' (Err (Script Memory)) h = refl
+
+-- a network that settled is at rest
+pub at_rest : (net : Network) (caps : Capacities) (st : State) (settled : Settled) → HasSettled net caps st settled → (is_all_done st ≡ true → IsWhole net st) → IsAtRest net caps st
+at_rest net caps st Done h whole = record { whole = whole; quiet = λ e. absurd (let both : true ≡ false = sym h ∙ e in cc) }
+at_rest net caps st Quiet h whole = record { whole = whole; quiet = λ _. h.1 }
+
+module _ (file text : List ℕ) (p q r : PlantState Kind) where
+  -- a plant whose sources were closed, and which then settled
+  pub ran : (settled : Settled) (done : Bool) (status : ℕ) → plant_in file ≡ Ok (opened_of p) → q ≡ in_state p (closed (net_of meaning_of p.graph) p.state) → r ≡ in_state q r.state →
+      StepsLead (net_of meaning_of q.graph) q.capacities turn q.state r.state → HasSettled (net_of meaning_of r.graph) r.capacities r.state settled →
+      done ≡ is_all_done r.state → (done ≡ true → IsWhole (net_of meaning_of r.graph) r.state) → text ≡ run_text (drafted r.graph) r.state → status ≡ (if done then 0 else 3) → IsRun file text status
+  ran settled done status opens closes same steps rests all whole tells well =
+      let of : r ≡ in_state p r.state = same ∙ ap (λ (x : PlantState Kind). in_state x r.state) closes in
+      record {
+        plant = opened_of p;
+        opens = opens;
+        last = r.state;
+        steps = subst (λ (x : PlantState Kind). StepsLead (net_of meaning_of x.graph) x.capacities turn x.state r.state) closes steps;
+        rests = subst (λ (x : PlantState Kind). IsAtRest (net_of meaning_of x.graph) x.capacities r.state) of
+            (at_rest (net_of meaning_of r.graph) r.capacities r.state settled rests (λ e. whole (all ∙ e)));
+        told = tells ∙ ap (λ (x : PlantState Kind). run_text (drafted x.graph) r.state) of;
+        well = well ∙ ap (λ (b : Bool). if b then 0 else 3) all;
+      }

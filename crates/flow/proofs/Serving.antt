@@ -1,0 +1,136 @@
+-- From a graph file to a plant whose sources are closed.
+use Rattle.std.proofs.Common.{◌≡◌, ℕ, zero, suc, ◌+◌, List, [], ◌∷◌, length, map, Some, None, Bool, true, refl, ap, sym, ◌∙◌, subst, add-one, not, inl, inr, ℤ}
+use Rattle.std.specs.Prelude.{Option, Result, Ok, Err, nat_lt, ◌&&◌, position, bytes_eq, ◌==◌, OnOk, OnErr, is_ok, if◌then◌else◌}
+use Rattle.std.specs.List.{list_all}
+use Rattle.std.specs.Str.{IsUtf8, is_utf8}
+use Rattle.std.specs.Io.KnownBytes.{Appends}
+use Rattle.std.proofs.lemmas.Str.{IsUtf8-from_is_utf8, is_utf8-from_IsUtf8}
+use Rattle.toml.specs.Parse.{parse_document}
+use Rattle.stream_model.specs.Network.{Network, Node, State, Progress, node_at, role_at, handed_at, no_progress, is_source, opening}
+use Rattle.stream_model.specs.Numbers.{types_agree}
+use Rattle.stream_model.specs.Machine as machine
+use Rattle.stream_model.specs.Machine.{Reply, Refused, close_of, feed_of, is_idle, marks_fit, longest_tape}
+use Rattle.stream_model.specs.Tags.{Mark}
+use Rattle.stream_model.specs.declared.vocabulary.ItemType.{ItemType}
+use Rattle.machine_laws.proofs.Choices.{if_both}
+use Rattle.plant.specs.Feeding.{are_items, given_type, feed_numbers}
+use Rattle.graph_file.specs.declared.fault.FileFault.{FileFault}
+use Rattle.graph_file.specs.declared.fault.FileFault.TheVariants as file
+use Rattle.graph_file.specs.Refusals.{Refusal, IsRefused, IsTold, told, syntax}
+use Rattle.graph_file.specs.Steps.{then}
+use Rattle.graph_file.specs.Blocks.{Draft}
+use Rattle.graph_file.specs.Feeds.{Fed}
+use Rattle.graph_file.specs.File.{Content, file_of}
+use Rattle.graph_file.specs.Opening.{Opened, opened, opened_in, validated, feed_now, feed_found, after_feed, after_feeds, mark_of}
+use Rattle.script_text.specs.Ends.{AppendsBeginning}
+use Rattle.script_text.specs.declared.ends.Broken.{Broken}
+use Rattle.flow.specs.Serve.{Tries, content_in, closed_below, closed}
+
+-- what is read of a text
+pub content_ok : (text : List ℕ) (c : Content) → IsUtf8 text → file_of (parse_document text) ≡ Ok c → content_in text ≡ Ok c
+content_ok text c utf8 e = ap (λ (b : Bool). if b then file_of (parse_document text) else Err syntax) (is_utf8-from_IsUtf8 text utf8) ∙ e
+
+pub content_refused : {A : Type 0} (text : List ℕ) (fault : FileFault) → (IsUtf8 text → IsRefused (file_of (parse_document text)) fault) → (¬ (IsUtf8 text) → ◌≡◌ {A = Result A FileFault} (Err fault) (Err file.Syntax)) → IsRefused (content_in text) fault
+content_refused {A} text fault utf8 other =
+    if_both (is_utf8 text) (file_of (parse_document text)) (Err syntax) (λ (r : Result Content Refusal). IsRefused r fault)
+    (λ yes. utf8 (IsUtf8-from_is_utf8 text yes))
+    (λ no. subst (λ (f : FileFault). IsRefused {A = Content} (Err syntax) f) (sym (same_fault (other (λ h. let yes = is_utf8-from_IsUtf8 text h in cc)))) refl)
+  where
+    same_fault : ◌≡◌ {A = Result A FileFault} (Err fault) (Err file.Syntax) → fault ≡ file.Syntax
+    same_fault e = cc
+
+-- what is refused first is refused of the whole
+told_then : {A B : Type 0} (r : Result A Refusal) (next : A → Result B Refusal) (refusal : Option Refusal) → IsTold r refusal → IsTold ((then) r next) refusal
+told_then r next None h = tt
+told_then r next (Some refusal) h = ap (λ x. (then) x next) h
+
+pub refused_then : {A B : Type 0} (r : Result A Refusal) (next : A → Result B Refusal) (fault : FileFault) → IsRefused r fault → IsRefused ((then) r next) fault
+refused_then r next fault h = told_then r next (told fault) h
+
+pub then_ok : {A B : Type 0} (r : Result A Refusal) (next : A → Result B Refusal) (a : A) → r ≡ Ok a → (then) r next ≡ next a
+then_ok r next a e = ap (λ x. (then) x next) e
+
+pub then_refused : {A B : Type 0} (r : Result A Refusal) (next : A → Result B Refusal) (a : A) (fault : FileFault) → r ≡ Ok a → IsRefused (next a) fault → IsRefused ((then) r next) fault
+then_refused r next a fault e h = subst (λ (x : Result _ Refusal). IsRefused x fault) (sym (then_ok r next a e)) h
+
+-- both steps went well
+both_ok : {A B : Type 0} (r : Result A Refusal) (next : A → Result B Refusal) (b : B) → (then) r next ≡ Ok b → (a : A) × (next a ≡ Ok b) × (r ≡ Ok a)
+both_ok (Ok a) next b e = (a, e, refl)
+both_ok (Err refusal) next b e = cc
+
+-- feeds and closes leave how far the blocks are
+module _ (net : Network) (st : State) where
+  close-progress : (b : ℕ) → (close_of net st b).1.progress ≡ st.progress
+  unfolding close_of
+  close-progress b =
+      if_both (not (nat_lt b (length net.nodes))) _ _ (λ (r : Reply × State). r.1.progress ≡ st.progress) (λ _. refl)
+      (λ _. if_both (not (is_source (role_at net b))) _ _ (λ (r : Reply × State). r.1.progress ≡ st.progress) (λ _. refl)
+      (λ _. if_both (handed_at st.handed b).closed _ _ (λ (r : Reply × State). r.1.progress ≡ st.progress) (λ _. refl) (λ _. refl)))
+
+  feed-progress : (b : ℕ) (t : ItemType) (xs : List ℤ) (ms : List Mark) → (feed_of net st b t xs ms).1.progress ≡ st.progress
+  unfolding feed_of
+  feed-progress b t xs ms =
+      let s = handed_at st.handed b in
+      if_both (not (nat_lt b (length net.nodes))) _ _ (λ (r : Reply × State). r.1.progress ≡ st.progress) (λ _. refl)
+      (λ _. if_both (not (is_source (role_at net b))) _ _ (λ (r : Reply × State). r.1.progress ≡ st.progress) (λ _. refl)
+      (λ _. if_both (not (types_agree t (node_at net b).meaning.outputs.item)) _ _ (λ (r : Reply × State). r.1.progress ≡ st.progress) (λ _. refl)
+      (λ _. if_both s.closed _ _ (λ (r : Reply × State). r.1.progress ≡ st.progress) (λ _. refl)
+      (λ _. if_both (not (marks_fit s.tape xs ms)) _ _ (λ (r : Reply × State). r.1.progress ≡ st.progress) (λ _. refl)
+      (λ _. if_both (nat_lt longest_tape (length s.tape + length xs)) _ _ (λ (r : Reply × State). r.1.progress ≡ st.progress) (λ _. refl) (λ _. refl))))))
+
+  numbers-progress : (b : ℕ) (xs : List ℤ) (ms : List Mark) → (feed_numbers net st b xs ms).1.progress ≡ st.progress
+  numbers-progress b xs ms =
+      if_both (nat_lt b (length net.nodes) && (is_source (role_at net b) && not (are_items (given_type net b) xs))) _ _ (λ (r : Reply × State). r.1.progress ≡ st.progress) (λ _. refl)
+      (λ _. feed-progress b (given_type net b) xs ms)
+
+  found-progress : (feed : Fed) (o : Option ℕ) → (feed_found net st feed o).1.progress ≡ st.progress
+  found-progress feed None = refl
+  found-progress feed (Some b) = numbers-progress b feed.items (map mark_of feed.marks)
+
+pub closed-progress : (net : Network) (st : State) (n : ℕ) → (closed_below net st n).progress ≡ st.progress
+closed-progress net st zero = refl
+closed-progress net st (suc n) = close-progress net (closed_below net st n) n ∙ closed-progress net st n
+
+-- one source more
+pub closed-more : (net : Network) (st : State) (n : ℕ) → closed_below net st (n + 1) ≡ (close_of net (closed_below net st n) n).1
+closed-more net st n = ap (closed_below net st) (add-one n)
+
+after_is : (n : ℕ) (reply : Reply) (st next : State) → after_feed n (reply, st) ≡ Ok next → next ≡ st
+after_is n (machine.Refused code) st next e = cc
+after_is n _ st next e = cc
+
+feeds-progress : (d : Draft) (n : ℕ) (st last : State) (feeds : List Fed) → after_feeds d n st feeds ≡ Ok last → last.progress ≡ st.progress
+feeds-progress d n st last [] e = let same : last ≡ st = cc in ap (λ (s : State). s.progress) same
+feeds-progress d n st last (feed ∷ feeds) e =
+    let now = feed_now d st feed in
+    let both = both_ok (after_feed n now) (λ next. after_feeds d (suc n) next feeds) last e in
+    let is : both.0 ≡ now.1 = after_is n now.0 now.1 both.0 both.2 in
+    feeds-progress d (suc n) both.0 last feeds both.1 ∙ ap (λ (s : State). s.progress) is ∙ found-progress d.net st feed (position (bytes_eq feed.source) d.names)
+
+none_claimed : (nodes : List Node) → list_all (λ (s : Progress). s.claimed == 0) (map (λ _. no_progress) nodes) ≡ true
+none_claimed [] = refl
+none_claimed (n ∷ nodes) = none_claimed nodes
+
+pub idle-same : (old new : State) → new.progress ≡ old.progress → is_idle old ≡ true → is_idle new ≡ true
+idle-same old new e h = ap (list_all (λ (s : Progress). s.claimed == 0)) e ∙ h
+
+-- nothing is claimed of a plant that opens
+pub opened-idle : (c : Content) (p : Opened) → opened c ≡ Ok p → is_idle p.state ≡ true
+opened-idle c p e =
+    let both = both_ok (validated c.graph) (λ d. (then) (after_feeds d 0 (opening d.net) c.feeds) (λ st. Ok (opened_in d st))) p e in
+    let fed = both_ok (after_feeds both.0 0 (opening both.0.net) c.feeds) (λ st. Ok (opened_in both.0 st)) p both.1 in
+    let is : opened_in both.0 fed.0 ≡ p = cc in
+    let state : p.state ≡ fed.0 = ap (λ (o : Opened). o.state) (sym is) in
+    idle-same (opening both.0.net) p.state (ap (λ (s : State). s.progress) state ∙ feeds-progress both.0 0 (opening both.0.net) fed.0 c.feeds fed.2) (none_claimed both.0.net.nodes)
+
+pub plant-idle : (r : Result Content Refusal) (p : Opened) → (then) r opened ≡ Ok p → is_idle p.state ≡ true
+plant-idle r p e = let both = both_ok r opened p e in opened-idle both.0 p both.1
+
+pub closed-idle : (net : Network) (st : State) → is_idle st ≡ true → is_idle (closed net st) ≡ true
+closed-idle net st h = idle-same st (closed net st) (closed-progress net st (length net.nodes)) h
+
+-- a write does all of a line, or a beginning of it
+pub tries : (out out' : Option (List ℕ)) (failed failed' : ℕ) (result : Result (Unit {0}) Broken) (line : List ℕ) → OnOk result (Appends out out' line) → OnErr result (AppendsBeginning out out' line) →
+    failed' ≡ (if is_ok result then failed else failed + 1) → Tries (record { bytes = out; failed = failed }) (record { bytes = out'; failed = failed' }) line
+tries out out' failed failed' (Ok x) line written cut counted = inl (written, counted)
+tries out out' failed failed' (Err x) line written cut counted = inr (cut, counted)

@@ -1,0 +1,30 @@
+use Rattle.std.proofs.Common.{refl}
+use Rattle.flow.specs.Serve.{IsCheck, IsRun, graph_in, plant_in}
+use Rattle.flow.proofs.Outcomes.{if_ok, if_err, no_more, no_reads}
+use Rattle.flow.proofs.serve.obey.Goals as goal
+
+pub returns-in-Check-clause-does : goal.returns-in-Check-clause-does
+returns-in-Check-clause-does g c = rw c.in-Check.is (if_ok c.check.result _ _ c.check.ensures.does (λ status h. (refl, h)))
+
+pub returns-in-Check-clause-does_not : goal.returns-in-Check-clause-does_not
+returns-in-Check-clause-does_not g c = rw c.in-Check.is (if_err c.check.result _ _ c.check.ensures.does_not (λ fault h. (refl, h)))
+
+pub returns-in-Check-clause-failed_reads : goal.returns-in-Check-clause-failed_reads
+returns-in-Check-clause-failed_reads g c =
+    no_more _ _ (no_reads (IsCheck c.args.file.now) (graph_in c.args.file.now) (g.O.ByteOut.contents c.args.output.now) (g.O.ByteOut.contents c.check.new.output) c.check.result c.check.ensures.does_not)
+
+pub returns-in-Run-clause-does : goal.returns-in-Run-clause-does
+returns-in-Run-clause-does g c = rw c.in-Run.is (if_ok c.run.result _ _ c.run.ensures.does (λ status h. (refl, h)))
+
+pub returns-in-Run-clause-does_not : goal.returns-in-Run-clause-does_not
+returns-in-Run-clause-does_not g c = rw c.in-Run.is (if_err c.run.result _ _ c.run.ensures.does_not (λ fault h. (refl, h)))
+
+pub returns-in-Run-clause-failed_reads : goal.returns-in-Run-clause-failed_reads
+returns-in-Run-clause-failed_reads g c =
+    no_more _ _ (no_reads (IsRun c.args.file.now) (plant_in c.args.file.now) (g.O.ByteOut.contents c.args.output.now) (g.O.ByteOut.contents c.run.new.output) c.run.result c.run.ensures.does_not)
+
+pub returns-in-Script-clause-does : goal.returns-in-Script-clause-does
+returns-in-Script-clause-does g c = rw c.in-Script.is c.run_script.ensures.does
+
+pub returns-in-Script-clause-does_not : goal.returns-in-Script-clause-does_not
+returns-in-Script-clause-does_not g c = rw c.in-Script.is c.run_script.ensures.does_not

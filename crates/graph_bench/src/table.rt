@@ -1,0 +1,98 @@
+//! The table of all shapes.
+
+use crate::graphs::Shape;
+use crate::races::{Rates, race};
+use items::ItemType;
+use std::io;
+
+// What rows have that do not say otherwise.
+const PLAIN: Shape = Shape {
+    item: ItemType::Byte,
+    adders: 4,
+    chains: 1,
+    kept: false,
+    capacity: 4096,
+    items: 1_000_000,
+    tag_every: None,
+};
+
+/// Times each shape and prints its row.
+pub fn print_table(rt: &HostRuntime) -> io::Result<()> {
+    println!(rt;
+        "item adders chains sink capacity    items tags     graph     plain      copy  of plain"
+    )?;
+    for item in [ItemType::Byte, ItemType::Int] {
+        let plain = Shape { item, ..PLAIN };
+        for kept in [false, true] {
+            for adders in [1, 4, 16, 64] {
+                print_row(
+                    rt,
+                    Shape {
+                        adders,
+                        kept,
+                        ..plain
+                    },
+                )?;
+            }
+        }
+        print_row(
+            rt,
+            Shape {
+                adders: 1,
+                chains: 8,
+                ..plain
+            },
+        )?;
+        print_row(
+            rt,
+            Shape {
+                tag_every: Some(16),
+                ..plain
+            },
+        )?;
+        print_row(
+            rt,
+            Shape {
+                tag_every: Some(16),
+                kept: true,
+                ..plain
+            },
+        )?;
+        for capacity in [64, 65_536] {
+            print_row(rt, Shape { capacity, ..plain })?;
+        }
+        for items in [10_000, 100_000, 10_000_000] {
+            print_row(rt, Shape { items, ..plain })?;
+        }
+    }
+    Ok(())
+}
+
+// Rates are in millions of items a second, for each block.
+fn print_row(rt: &HostRuntime, shape: Shape) -> io::Result<()> {
+    let Rates { graph, plain, copy } = race(rt, shape)?;
+    let item = match shape.item {
+        ItemType::Byte => "byte",
+        ItemType::Short => "short",
+        ItemType::Int => "int",
+    };
+    let sink = if shape.kept { "kept" } else { "null" };
+    let tags = if shape.tag_every.is_some() {
+        "1:16"
+    } else {
+        "none"
+    };
+    let percent = graph.saturating_mul(100) / plain.max(1);
+    let (whole, part) = (percent / 100, percent % 100);
+    let Shape {
+        adders,
+        chains,
+        capacity,
+        items,
+        ..
+    } = shape;
+    let (graph, plain, copy) = (graph / 1000, plain / 1000, copy / 1000);
+    println!(rt;
+        "{item:<4} {adders:>6} {chains:>6} {sink:<4} {capacity:>8} {items:>8} {tags:<4} {graph:>9} {plain:>9} {copy:>9} {whole:>6}.{part:02}"
+    )
+}

@@ -1,0 +1,109 @@
+-- What is told of a graph that is not valid, and of a file that does not open.
+use Rattle.std.proofs.Common.{◌≡◌, ℕ, ◌<◌, Bool, true, List, ◌∷◌, [], length, map, slice_get, Option, None, Some, option_map, Result, Ok, Err, refl, arith, ap, ◌∙◌, sym, subst, inl, inr}
+use Rattle.std.specs.Prelude.{◌⊎◌, ◌||◌, ◌&&◌, ◌==◌, not, nat_lt}
+use Rattle.std.proofs.lemmas.List.{length-map}
+use Rattle.std.proofs.lemmas.Option.{get_or_from_slice_get}
+use Rattle.stream_model.specs.Network.{Network, opening, node_at}
+use Rattle.stream_model.specs.Lists.{below}
+use Rattle.graph_model.specs.Graphs as model
+use Rattle.graph_model.specs.Graphs.{graph_fault, gap_fault, gap_of, first_fault, lowest, has_few, is_one, ports_to, reaches_by, gain_by, most_gain}
+use Rattle.graph_laws.proofs.Search.{first-Some, refusal-Some, mapped-Some, lowest-Some}
+use Rattle.flowgraph.specs.declared.parts.BlockId.{BlockId}
+use Rattle.flowgraph.specs.declared.fault.GraphFault.{GraphFault}
+use Rattle.flowgraph.specs.declared.fault.Limit.TheVariants.{Blocks}
+use Rattle.flowgraph.specs.Fault.{id, reported, told}
+use Rattle.flowgraph.specs.Flowgraph.{Flowgraph, node_of}
+use Rattle.kinds.specs.declared.kind.Kind.{Kind}
+use Rattle.kinds.specs.Kind.{meaning_of}
+use Rattle.graph_file.specs.declared.fault.Place.TheVariants.{Top}
+use Rattle.graph_file.specs.declared.fault.FileFault.{FileFault}
+use Rattle.graph_file.specs.Refusals as refusals
+use Rattle.graph_file.specs.Refusals.{Refusal, of_graph, IsTold, IsRefused}
+use Rattle.graph_file.specs.Steps.{then}
+use Rattle.graph_file.specs.Blocks.{Draft, drafted}
+use Rattle.graph_file.specs.File.{Content}
+use Rattle.graph_file.specs.Opening.{named_block, name_at, unless_wrong, validated, after_feeds, Opened, opened_in, opened}
+
+-- a refusal names a block of the network, if any
+abbrev Inside : Network → model.GraphFault → Type 0
+Inside net f = (b : BlockId) → named_block (reported Blocks (Some f)) ≡ Some b → b.0 < length net.nodes
+
+named : (net : Network) (n : ℕ) (b : BlockId) → n < length net.nodes → ◌≡◌ {A = Option BlockId} (Some (id n)) (Some b) → b.0 < length net.nodes
+named net n b h e = let is : id n ≡ b = cc in subst (λ (i : BlockId). i.0 < length net.nodes) is h
+
+module _ (net : Network) where
+  gap-inside : (f : model.GraphFault) → first_fault (map (gap_fault net) (below (length net.nodes))) ≡ Some f → Inside net f
+  gap-inside f e =
+      let r = refusal-Some (gap_fault net) 0 (length net.nodes) (length net.nodes) f (omega arith) e in
+      elim (first-Some (option_map (model.PortGap r.0 model.In) (gap_of net r.0 model.In)) (option_map (model.PortGap r.0 model.Out) (gap_of net r.0 model.Out) ∷ []) f r.1.here) [
+        | inl h ↦ (let m = mapped-Some (model.PortGap r.0 model.In) (gap_of net r.0 model.In) f h in subst (Inside net) m.2 (λ b. named net r.0 b r.1.high))
+        | inr h ↦ elim (first-Some (option_map (model.PortGap r.0 model.Out) (gap_of net r.0 model.Out)) [] f h.1) [
+          | inl i ↦ (let m = mapped-Some (model.PortGap r.0 model.Out) (gap_of net r.0 model.Out) f i in subst (Inside net) m.2 (λ b. named net r.0 b r.1.high))
+          | inr i ↦ absurd (let bad = i.1 in cc)
+        ]
+      ]
+
+  lowest-inside : (test : ℕ → Bool) (fault : ℕ → model.GraphFault) → ((n : ℕ) → n < length net.nodes → Inside net (fault n)) → (f : model.GraphFault) → lowest net test fault ≡ Some f → Inside net f
+  lowest-inside test fault inside f e =
+      let r = lowest-Some net (λ b. test b ≡ true) test (λ b h p. p) (λ b h p. p) fault f e in
+      subst (Inside net) r.2 (inside r.0 r.1.in_net)
+
+  abbrev few : Option model.GraphFault
+  few = lowest net (λ b. has_few net b model.In || has_few net b model.Out) model.TooFewPorts
+
+  abbrev unequal : Option model.GraphFault
+  unequal = lowest net (λ b. is_one (node_at net b).policy && not (ports_to net b model.In == ports_to net b model.Out)) model.OneToOne
+
+  abbrev looped : Option model.GraphFault
+  looped = lowest net (λ b. reaches_by (length net.nodes) net b b) model.Loop
+
+  abbrev steep : Option model.GraphFault
+  steep = lowest net (λ b. nat_lt most_gain (gain_by (length net.nodes) net b)) model.Gain
+
+  fault-inside : (f : model.GraphFault) → graph_fault net ≡ Some f → Inside net f
+  fault-inside f e =
+      elim (first-Some (first_fault (map (gap_fault net) (below (length net.nodes)))) (few ∷ unequal ∷ looped ∷ steep ∷ []) f e) [
+        | inl h ↦ gap-inside f h
+        | inr past ↦ elim (first-Some few (unequal ∷ looped ∷ steep ∷ []) f past.1) [
+          | inl h ↦ lowest-inside _ model.TooFewPorts (λ n in' b. named net n b in') f h
+          | inr past ↦ elim (first-Some unequal (looped ∷ steep ∷ []) f past.1) [
+            | inl h ↦ lowest-inside _ model.OneToOne (λ n in' b. named net n b in') f h
+            | inr past ↦ elim (first-Some looped (steep ∷ []) f past.1) [
+              | inl h ↦ lowest-inside _ model.Loop (λ n in' b. named net n b in') f h
+              | inr past ↦ elim (first-Some steep [] f past.1) [
+                | inl h ↦ lowest-inside _ model.Gain (λ n in' b. named net n b in') f h
+                | inr past ↦ absurd (let bad = past.1 in cc)
+              ]
+            ]
+          ]
+        ]
+      ]
+
+  told-inside : (o : Option model.GraphFault) (fault : GraphFault) (b : BlockId) → graph_fault net ≡ o → told Blocks o ≡ Some fault → named_block fault ≡ Some b → b.0 < length net.nodes
+  told-inside None fault b e t n = absurd (cc)
+  told-inside (Some f) fault b e t n = let is : reported Blocks (Some f) ≡ fault = cc in fault-inside f e b (ap named_block is ∙ n)
+
+-- the block that is named is one of the graph
+pub named-inside : (g : Flowgraph Kind) (fault : GraphFault) (b : BlockId) → told Blocks (graph_fault (drafted g).net) ≡ Some fault → named_block fault ≡ Some b → b.0 < length g.blocks
+named-inside g fault b t n = subst (λ k. b.0 < k) (length-map g.blocks (node_of meaning_of)) (told-inside (drafted g).net (graph_fault (drafted g).net) fault b refl t n)
+
+-- what is reported of a graph, with the name of the block
+pub validated-told : (d : Draft) (fault : GraphFault) (b : BlockId) (name : List ℕ) (o : Option Refusal) →
+    told Blocks (graph_fault d.net) ≡ Some fault → named_block fault ≡ Some b → slice_get d.names b.0 ≡ Some name → (o ≡ None) ⊎ (o ≡ Some (of_graph Top fault name)) → IsTold (validated d) o
+validated-told d fault b name o t n s told_is =
+    elim told_is [
+      | inl none ↦ subst (IsTold (validated d)) (sym none) tt
+      | inr some ↦ subst (IsTold (validated d)) (sym some)
+          (ap (unless_wrong d) t ∙ ap (λ x. Err (of_graph Top fault (name_at d.names x))) n ∙ ap (λ x. Err (of_graph Top fault x)) (get_or_from_slice_get d.names b.0 name [] s))
+    ]
+
+-- what was refused first is refused of the whole
+told-then : {A B : Type 0} (r : Result A Refusal) (next : A → Result B Refusal) (o : Option Refusal) → IsTold r o → IsTold (then r next) o
+told-then r next None h = tt
+told-then r next (Some x) h = ap (λ r. then r next) h
+
+pub opened-refused : (c : Content) (d : Draft) (fault : FileFault) → validated c.graph ≡ Ok d → IsRefused (after_feeds d 0 (opening d.net) c.feeds) fault → IsRefused (opened c) fault
+opened-refused c d fault e h =
+    let rest : Draft → Result Opened Refusal = λ d. then (after_feeds d 0 (opening d.net) c.feeds) (λ st. Ok (opened_in d st)) in
+    subst (λ (r : Result Draft Refusal). IsTold (then r rest) (refusals.told fault)) (sym e)
+    (told-then (after_feeds d 0 (opening d.net) c.feeds) (λ st. Ok (opened_in d st)) (refusals.told fault) h)

@@ -1,0 +1,9 @@
+use Rattle.std.proofs.Common.{◌≡◌, ◌++◌, drop, map, length, vec_len, vec_capacity, ◌≤◌}
+use Rattle.stores.specs.Stores as stores
+use Rattle.graph_file.specs.Opening.{mark_of}
+use Rattle.graph_file.proofs.opening.marks_of.Given as goal
+
+abbrev pub invariant-loop-mark : goal.invariant-loop-mark
+invariant-loop-mark l =
+    (map stores.mark_of l.taken.items ++ map mark_of (drop l.mark-index l.marks) ≡ map mark_of l.marks)
+    × (vec_len l.taken ≡ l.mark-index) × (length l.marks ≤ vec_capacity l.taken)

@@ -1,0 +1,89 @@
+-- What a graph file opens: the plant of its graph, with its feeds on the tapes.
+use Rattle.std.specs.Prelude.{ℕ, suc, ◌-◌, ◌^◌, ℤ, pos, negsuc, List, [], ◌∷◌, map, position, bytes_eq, slice_index_or, Option, Some, None, Result, Ok, Err}
+use Rattle.stream_model.specs.Network.{Network, State, opening}
+use Rattle.stream_model.specs.Tags.{Mark}
+use Rattle.stream_model.specs.Machine as machine
+use Rattle.stream_model.specs.Machine.{Capacities, Reply, Refused}
+use Rattle.graph_model.specs.Graphs.{graph_fault}
+use Rattle.graph_model.specs.Rates.{balance_of, capacities_of}
+use Rattle.flowgraph.specs.declared.fault.Limit.TheVariants.{Blocks}
+use Rattle.flowgraph.specs.declared.fault.GraphFault.{GraphFault}
+use Rattle.flowgraph.specs.declared.fault.GraphFault.TheVariants.{PortGap, Loop, TooFewPorts, OneToOne, Gain}
+use Rattle.flowgraph.specs.declared.parts.BlockId.{BlockId}
+use Rattle.flowgraph.specs.Fault.{told}
+use Rattle.kinds.specs.declared.kind.Kind.{Kind}
+use Rattle.plant.specs.Plant.{PlantState}
+use Rattle.plant.specs.Feeding.{feed_numbers}
+use Rattle.graph_file.specs.declared.fault.Place.TheVariants.{Top}
+use Rattle.graph_file.specs.declared.feed.FileMark.{FileMark}
+use Rattle.graph_file.specs.Refusals.{Refusal, of_graph, of_feed}
+use Rattle.graph_file.specs.Steps.{then}
+use Rattle.graph_file.specs.Blocks.{Draft, drafted}
+use Rattle.graph_file.specs.Feeds.{Fed}
+use Rattle.graph_file.specs.File.{Content}
+
+-- a graph with its capacities, and how far it is
+pub record Opened : Type 0 where
+  pub draft : Draft
+  pub capacities : Capacities
+  pub state : State
+
+-- what is seen of a plant
+abbrev pub opened_of : PlantState Kind → Opened
+opened_of p = record { draft = drafted p.graph; capacities = p.capacities; state = p.state }
+
+-- the block that a refusal of a whole graph names
+abbrev pub named_block : GraphFault → Option BlockId
+named_block (PortGap b side port) = Some b
+named_block (TooFewPorts b) = Some b
+named_block (OneToOne b) = Some b
+named_block (Loop b) = Some b
+named_block (Gain b) = Some b
+named_block _ = None
+
+abbrev pub name_at : List (List ℕ) → Option BlockId → List ℕ
+name_at names None = []
+name_at names (Some b) = slice_index_or names b.0 []
+
+-- a graph, unless something is wrong with it as a whole
+abbrev pub unless_wrong : Draft → Option GraphFault → Result Draft Refusal
+unless_wrong d None = Ok d
+unless_wrong d (Some fault) = Err (of_graph Top fault (name_at d.names (named_block fault)))
+
+-- a valid graph, or what is wrong with it
+abbrev pub validated : Draft → Result Draft Refusal
+validated d = unless_wrong d (told Blocks (graph_fault d.net))
+
+-- a place of a tag, as a source is fed: one before the first item lies outside all items, as one behind every tape does
+abbrev pub place_of : ℤ → ℕ
+place_of (pos n) = n
+place_of (negsuc n) = 2 ^ 64 - 1
+
+abbrev pub mark_of : FileMark → Mark
+mark_of m = record { offset = place_of m.at; key = m.key; value = m.value }
+
+-- what a feed is answered, and the state that it leaves
+abbrev pub feed_found : Network → State → Fed → Option ℕ → Reply × State
+feed_found net st feed None = (Refused machine.no_such_block, st)
+feed_found net st feed (Some b) = feed_numbers net st b feed.items (map mark_of feed.marks)
+
+abbrev pub feed_now : Draft → State → Fed → Reply × State
+feed_now d st feed = feed_found d.net st feed (position (bytes_eq feed.source) d.names)
+
+-- the state after a feed, which is number n of the file, or that it is refused
+abbrev pub after_feed : ℕ → Reply × State → Result State Refusal
+after_feed n (Refused code, st) = Err (of_feed n code)
+after_feed n (_, st) = Ok st
+
+-- the state after the feeds from number n on, in turn, or the first that is refused
+abbrev pub after_feeds : Draft → ℕ → State → List Fed → Result State Refusal
+after_feeds d n st [] = Ok st
+after_feeds d n st (feed ∷ feeds) = then (after_feed n (feed_now d st feed)) (λ next. after_feeds d (suc n) next feeds)
+
+-- a graph opens with nothing fed, and with the capacities of its balance
+abbrev pub opened_in : Draft → State → Opened
+opened_in d st = record { draft = d; capacities = capacities_of d.net (balance_of d.net); state = st }
+
+-- the plant of a file, or why there is none: its graph is not valid, or a feed is refused
+abbrev pub opened : Content → Result Opened Refusal
+opened c = then (validated c.graph) (λ d. then (after_feeds d 0 (opening d.net) c.feeds) (λ st. Ok (opened_in d st)))

@@ -1,0 +1,135 @@
+//! From a graph file to a plant that is fed.
+
+ghost use Rattle.std.specs.Prelude.{◌≡◌, ◌≢◌, Ok, Some, IfOk, IfErr, OnOk, map};
+ghost use Rattle.graph_model.specs.Graphs as graph_model;
+ghost use Rattle.flowgraph.specs.declared.fault.Limit.TheVariants.{Blocks};
+ghost use Rattle.flowgraph.specs.Fault.{told};
+ghost use Rattle.stores.specs.Stores as stores;
+ghost use Rattle.graph_file.specs.Refusals.{IsRefused};
+ghost use Rattle.graph_file.specs.Blocks.{drafted};
+ghost use Rattle.graph_file.specs.Feeds.{fed};
+ghost use Rattle.graph_file.specs.File.{seen};
+ghost use Rattle.graph_file.specs.Opening.{opened, opened_of, validated, feed_now, after_feed, after_feeds, mark_of, named_block};
+
+use crate::fault::{FileFault, Place, feed_fault, graph_fault};
+use crate::feed::{Feed, FileMark};
+use crate::file::File;
+use flowgraph::{BlockId, Graph, GraphFault, Valid};
+use items::Mark;
+use kinds::Kind;
+use plant::{Plant, PlantFault};
+use std::alloc::{AllocError, Global};
+
+impl File {
+    /// The valid graph of the file with its feeds, or what is wrong with the graph as a whole.
+    pub fn validate(self, alloc: Global) -> Result<(Valid<Kind>, Vec<Feed>), FileFault>
+        ensures ok { IfOk result (λ valid. validated (seen self).graph ≡ Ok (drafted valid.0)) }
+        ensures same { IfOk result (λ valid. (valid.0 ≡ self.graph) × (valid.1 ≡ self.feeds)) }
+        ensures refused { IfErr result (IsRefused (validated (seen self).graph)) }
+    {
+        match self.graph.validate(alloc) {
+            Ok(valid) => Ok((valid, self.feeds)),
+            Err((graph, fault)) => Err(invalid(alloc, &graph, fault)),
+        }
+    }
+
+    /// The plant of the file's graph with its feeds on the tapes, in their order; or what is wrong with the graph as a whole, or the first feed
+    /// that is refused.
+    pub fn open(self, alloc: Global) -> Result<Plant<Kind>, FileFault>
+        ensures ok { IfOk result (λ plant. opened (seen self) ≡ Ok (opened_of plant)) }
+        ensures refused { IfErr result (IsRefused (opened (seen self))) }
+    {
+        let (graph, feeds) = self.validate(alloc)?;
+        let mut plant = match Plant::open(alloc, graph) {
+            Ok(plant) => plant,
+            Err(_) => return Err(FileFault::Memory),
+        };
+        take_feeds(alloc, &mut plant, &feeds)?;
+        Ok(plant)
+    }
+}
+
+// The refusal of a graph, with the name of the block that it tells of.
+fn invalid(alloc: Global, graph: &Graph<Kind>, fault: GraphFault) -> FileFault
+    requires { fault ≢ GraphFault.Memory → told Blocks (graph_model.graph_fault (drafted graph.now).net) ≡ Some fault }
+    ensures { IsRefused (validated (drafted graph.now)) result }
+{
+    let Some(block) = named_block(fault) else {
+        return FileFault::Memory;
+    };
+    match std::str::from_utf8(graph.name(block)) {
+        Ok(name) => graph_fault(alloc, Place::Top, fault, name),
+        Err(_) => FileFault::Memory,
+    }
+}
+
+// The block that a refusal of a whole graph names.
+fn named_block(fault: GraphFault) -> Option<BlockId>
+    ensures { result ≡ named_block fault }
+{
+    match fault {
+        GraphFault::PortGap { block, .. }
+        | GraphFault::TooFewPorts { block }
+        | GraphFault::OneToOne { block }
+        | GraphFault::Loop { block }
+        | GraphFault::Gain { block } => Some(block),
+        _ => None,
+    }
+}
+
+// Feeds a plant, in order, up to the first feed that is refused.
+fn take_feeds(alloc: Global, plant: &mut Plant<Kind>, feeds: &[Feed]) -> Result<(), FileFault>
+    ensures ok { OnOk result (after_feeds (drafted plant.old.graph) 0 plant.old.state (map fed feeds.now) ≡ Ok plant.new.state) }
+    ensures rest { OnOk result (plant.new ≡ record plant.old { state = plant.new.state }) }
+    ensures refused { IfErr result (IsRefused (after_feeds (drafted plant.old.graph) 0 plant.old.state (map fed feeds.now))) }
+{
+    for (number, feed) in feeds.iter().enumerate() {
+        if let Err(fault) = take_feed(alloc, plant, number, feed) {
+            return Err(fault);
+        }
+    }
+    Ok(())
+}
+
+// Feeds a plant. A feed names a source; its marks may lie before all items.
+fn take_feed(
+    alloc: Global,
+    plant: &mut Plant<Kind>,
+    number: usize,
+    feed: &Feed,
+) -> Result<(), FileFault>
+    ensures ok { OnOk result (after_feed number (feed_now (drafted plant.old.graph) plant.old.state (fed feed.now)) ≡ Ok plant.new.state) }
+    ensures rest { OnOk result (plant.new ≡ record plant.old { state = plant.new.state }) }
+    ensures refused { IfErr result (IsRefused (after_feed number (feed_now (drafted plant.old.graph) plant.old.state (fed feed.now)))) }
+{
+    let Some(source) = plant.graph().find(&feed.source) else {
+        return Err(feed_fault(number, PlantFault::NoSuchBlock));
+    };
+    let marks = marks_of(alloc, &feed.marks)?;
+    match plant.feed_numbers(alloc, source, &feed.items, &marks) {
+        Ok(_) => Ok(()),
+        Err(fault) => Err(feed_fault(number, fault)),
+    }
+}
+
+// The marks of a file.
+fn marks_of(alloc: Global, marks: &[FileMark]) -> Result<Vec<Mark>, AllocError>
+    ensures { IfOk result (λ taken. map stores.mark_of taken.items ≡ map mark_of marks.now) }
+{
+    let mut taken = Vec::with_capacity(alloc, marks.len())?;
+    for mark in marks {
+        taken.push_reserved(placed(mark));
+    }
+    Ok(taken)
+}
+
+// A mark of a file. One before the first item lies outside all items, as one behind every tape does.
+fn placed(mark: &FileMark) -> Mark
+    ensures { stores.mark_of result ≡ mark_of mark.now }
+{
+    Mark {
+        offset: u64::try_from(mark.at).unwrap_or(u64::MAX),
+        key: mark.key,
+        value: mark.value,
+    }
+}

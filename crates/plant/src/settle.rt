@@ -1,0 +1,84 @@
+//! Steps of all blocks in turn, to their end.
+
+ghost use Rattle.std.specs.Prelude.{◌≡◌, ◌<◌, ◌≤◌, length, true, IfOk, OnErr};
+ghost use Rattle.std.specs.Arc.{arc_value};
+ghost use Rattle.stream_model.specs.Machine as machine;
+ghost use Rattle.stream_model.specs.Machine.{is_idle, step_of};
+ghost use Rattle.machine_laws.specs.Steps.{moves_on};
+ghost use Rattle.flowgraph.specs.Flowgraph.{net_of};
+ghost use Rattle.plant.specs.Plant.{IsRight, plant_of};
+ghost use Rattle.plant.specs.Settling.{StepsLead, HasMoved, HasSettled, HoldsSettled};
+
+use crate::answers::{Settled, Step};
+use crate::parts::Parts;
+use flowgraph::{Block, BlockId};
+use std::alloc::{AllocError, Global};
+
+impl<B: Block> Parts<B> {
+    /// Steps all blocks in their order, at most `max` firings each, until all are done or none moved on.
+    pub fn settle(&mut self, alloc: Global, max: u32) -> Result<Settled, AllocError>
+        requires right { IsRight B.meaning self.old }
+        requires idle { is_idle (plant_of self.old).state ≡ true }
+        requires some { 1 ≤ max }
+        ensures right { IsRight B.meaning self.new }
+        ensures same { plant_of self.new ≡ record (plant_of self.old) { state = (plant_of self.new).state } }
+        ensures steps { let old = plant_of self.old in StepsLead (net_of B.meaning old.graph) old.capacities max old.state (plant_of self.new).state }
+        ensures idle { is_idle (plant_of self.new).state ≡ true }
+        ensures settled { let new = plant_of self.new in IfOk result (HasSettled (net_of B.meaning new.graph) new.capacities new.state) }
+        ensures whole { let new = plant_of self.new in IfOk result (HoldsSettled (net_of B.meaning new.graph) new.state) }
+    {
+        'rounds: loop {
+            let moved = self.round(alloc, max)?;
+            self.graph.in_order();
+            if self.firings.all_done() {
+                return Ok(Settled::Done);
+            }
+            if !moved {
+                return Ok(Settled::Quiet);
+            }
+        }
+    }
+
+    // Steps each block once, and tells whether one moved on.
+    fn round(&mut self, alloc: Global, max: u32) -> Result<bool, AllocError>
+        requires right { IsRight B.meaning self.old }
+        requires idle { is_idle (plant_of self.old).state ≡ true }
+        requires some { 1 ≤ max }
+        ensures right { IsRight B.meaning self.new }
+        ensures same { plant_of self.new ≡ record (plant_of self.old) { state = (plant_of self.new).state } }
+        ensures steps { let old = plant_of self.old in StepsLead (net_of B.meaning old.graph) old.capacities max old.state (plant_of self.new).state }
+        ensures idle { is_idle (plant_of self.new).state ≡ true }
+        ensures moved { let old = plant_of self.old in IfOk result (HasMoved (net_of B.meaning old.graph) old.capacities old.state (plant_of self.new).state) }
+    {
+        self.graph.in_order();
+        let mut moved = false;
+        for block in 0..self.graph.len() {
+            if self.moves(alloc, BlockId(block as u32), max)? {
+                moved = true;
+            }
+        }
+        Ok(moved)
+    }
+
+    // Steps a block, and tells whether it fired or became done.
+    fn moves(&mut self, alloc: Global, block: BlockId, max: u32) -> Result<bool, AllocError>
+        requires right { IsRight B.meaning self.old }
+        requires block { block.0 < length (arc_value self.old.graph).blocks }
+        requires some { 1 ≤ max }
+        ensures right { IsRight B.meaning self.new }
+        ensures step { let old = plant_of self.old in
+            IfOk result (λ moved. plant_of self.new ≡ record old { state = (step_of (net_of B.meaning old.graph) old.capacities old.state block.0 max).1 }) }
+        ensures moved { let old = plant_of self.old in
+            IfOk result (λ moved. moved ≡ moves_on old.state (machine.Claim block.0 max) (step_of (net_of B.meaning old.graph) old.capacities old.state block.0 max).0) }
+        ensures err { OnErr result (plant_of self.new ≡ plant_of self.old) }
+    {
+        self.graph.in_order();
+        let was_done = self.firings.progress(block).done;
+        match self.step(alloc, block, max) {
+            Ok(Step::Did(_)) => Ok(true),
+            Ok(Step::Done) => Ok(!was_done),
+            Ok(Step::Busy | Step::Waiting(_)) => Ok(false),
+            Err(_) => Err(AllocError),
+        }
+    }
+}

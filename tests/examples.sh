@@ -1,0 +1,30 @@
+#!/usr/bin/env bash
+# The examples: each folder of examples/ has a graph file and what `check`, `run` or its script, whichever it has a file for, writes for it.
+set -euo pipefail
+# shellcheck source=tests/cases.sh
+source "$(dirname -- "$(readlink -f -- "${BASH_SOURCE[0]}")")/cases.sh"
+
+# example FOLDER: its cases
+example() {
+    local name expected
+    name=$(basename -- "$1")
+    cp -- "$1/graph.toml" "$room/graphs/$name.toml"
+    if [[ -e $1/script ]]; then
+        cp -- "$1/script" "$room/cases/$name.script"
+        ends "$name.script" 0 "$(cat -- "$1/expected")\n" '' script "$name.toml"
+    fi
+    if [[ -e $1/expected_check ]]; then
+        ends "$name.check" 0 "$(cat -- "$1/expected_check")\n" '' check "$name.toml"
+    fi
+    if [[ -e $1/expected_run ]]; then
+        expected=$(cat -- "$1/expected_run")
+        # A run that stalls says so in its last line, and by its status.
+        ends "$name.run" "$([[ ${expected##*$'\n'} == stalled ]] && echo 3 || echo 0)" "$expected\n" '' run "$name.toml"
+    fi
+}
+
+for folder in "$top"/examples/*/; do
+    example "${folder%/}"
+done
+
+run_cases "examples"
