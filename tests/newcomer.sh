@@ -73,6 +73,12 @@ unproved_runs_pass_all_on() {
     writes output "words: script -- FILE" "$(cat "$elsewhere/a graph.toml")" "input: two lines"
     calls 0 ./flow_by_link check /dev/stdin <"$room/given"
     writes output "words: check FILE" "$(cat "$room/given")" "input: "
+    calls 0 ./flow_by_link run --quiet "a graph.toml" <"$room/given"
+    writes output "words: run --quiet FILE" "$(cat "$elsewhere/a graph.toml")" "input: "
+    calls 0 ./flow_by_link run -q -- "a graph.toml" <"$room/given"
+    writes output "words: run -q -- FILE" "$(cat "$elsewhere/a graph.toml")" "input: "
+    calls 0 ./flow_by_link run "a graph.toml" -q <"$room/given"
+    writes output "words: run -q FILE" "$(cat "$elsewhere/a graph.toml")" "input: "
     calls 0 ./flow_by_link --help "a b" <"$room/given"
     writes output "words: --help a b" "input: "
 }
@@ -239,13 +245,17 @@ second_build_waits() {
     waits_for "$own" "build: an rt works in $own: waiting for it"
 }
 
+# ./flow waits for no ./build: it runs the sources, as long as the program is not built.
 interrupted_build_leaves_no_room() {
     local stopped began status=0
     echo "${order[0]}" >"$room/bin/hangs"
     echo "// edited" >>"$tree/crates/${order[0]}/src/lib.rt"
-    (cd "$elsewhere" && exec ./build_by_link) >"$room/output" 2>"$room/errors" &
+    (cd "$elsewhere" && exec ./build_by_link) &>"$room/built" &
     stopped=$!
     wait_for test -s "$room/bin/hanging"
+    calls 0 ./flow_by_link --help "beside a build"
+    writes errors "$unproved"
+    writes output "words: --help beside a build" "input: "
     kill "$stopped"
     began=$SECONDS
     wait "$stopped" || status=$?
@@ -253,6 +263,7 @@ interrupted_build_leaves_no_room() {
     [[ $status == 143 ]] || wrong "a ./build that was stopped ends in $status"
     [[ -z $(find "$tree" -path "*/out/room") ]] || wrong "a ./build that was stopped leaves a room"
     ! kill -0 "$(cat "$room/bin/hanging")" 2>/dev/null || wrong "a ./build that was stopped leaves rt running"
+    calls 127 env PATH="$room/tools" ./flow_by_link "a build that was stopped"
     rm "$room/bin/hangs"
     calls 0 ./build_by_link
 }

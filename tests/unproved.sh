@@ -1,5 +1,6 @@
 #!/usr/bin/env bash
-# Tests of libraries that run unproved: those of tests/plants, tests/graph_files and tests/streams.
+# Tests that run unproved: those of tests/plants, tests/graph_files and tests/streams, of libraries, and those of tests/terminal, of a file of
+# the program.
 set -euo pipefail
 # shellcheck source=tests/apart.sh
 source "$(dirname -- "$(readlink -f -- "${BASH_SOURCE[0]}")")/apart.sh"
@@ -8,6 +9,9 @@ source "$(dirname -- "$(readlink -f -- "${BASH_SOURCE[0]}")")/apart.sh"
 run_tests() {
     local count=$2 status=0
     put_apart "$1" "${@:3}"
+    if [[ -e $top/crates/$program_crate/src/$1.rt ]]; then
+        cp -- "$top/crates/$program_crate/src/$1.rt" "$room/$1/crates/${1}_tests/src"
+    fi
     (cd "$room/$1/crates/${1}_tests" && rt try --test) >"$room/said" 2>&1 </dev/null || status=$?
     if [[ $status != 0 ]] || ! grep -q "^test result: ok\. $count passed" "$room/said"; then
         echo "unproved: the tests of $1:" >&2
@@ -17,6 +21,7 @@ run_tests() {
     echo "$count tests of $1 passed"
 }
 
-run_tests plants 4 plant kinds
+run_tests plants 5 plant kinds
 run_tests graph_files 5 graph_file
 run_tests streams 6 flow
+run_tests terminal 2 plant

@@ -5,19 +5,57 @@ set -euo pipefail
 source "$(dirname -- "$(readlink -f -- "${BASH_SOURCE[0]}")")/cases.sh"
 cp "$top/tests/graphs/plain.toml" "$room/graphs"
 
+help='Runs a flowgraph that a file describes
+
+Usage: flow <COMMAND>
+
+Commands:
+  check   Reads the graph and tells of it
+  run     Runs the graph and tells what its sinks hold
+  script  Runs the commands of standard input on the graph
+  help    Print this message or the help of the given subcommand(s)
+
+Options:
+  -h, --help     Print help
+  -V, --version  Print version'
+# help_text LINE WORDS OPTION..: the help of a call, with its options
+help_text() {
+    printf '%s\n\nUsage: flow %s\n\nArguments:\n  <FILE>  The graph file\n\nOptions:\n' "$1" "$2"
+    printf '%s\n' "${@:3}"
+}
+declare -A help_of=(
+    [check]=$(help_text "Reads the graph and tells of it" "check <FILE>" "  -h, --help  Print help")
+    [run]=$(help_text "Runs the graph and tells what its sinks hold" "run [OPTIONS] <FILE>" \
+        "  -q, --quiet  Shows no progress on a terminal" "  -h, --help   Print help")
+    [script]=$(help_text "Runs the commands of standard input on the graph" "script <FILE>" "  -h, --help  Print help")
+)
+
 for command in check run script; do
     ends "${command}_of_a_missing_file" 4 '' "flow: refused 51 Read" "$command" no/such/file
     ends "${command}_of_a_folder" 4 '' "flow: refused 51 Read" "$command" /
     ends "${command}_of_no_file" 2 '' - "$command"
     ends "${command}_of_two_files" 2 '' - "$command" plain.toml plain.toml
     ends "${command}_of_an_unknown_flag" 2 '' - "$command" --fast plain.toml
+    ends "${command}_call_for_help" 2 '' "${help_of[$command]}" "$command" --help
+    ends "${command}_short_call_for_help" 2 '' "${help_of[$command]}" "$command" -h
+    ends "help_of_$command" 2 '' "${help_of[$command]}" help "$command"
 done
 ends no_words 2 '' -
 ends unknown_word 2 '' - play plain.toml
 ends file_alone 2 '' - plain.toml
 ends empty_word 2 '' - ''
-ends call_for_help 2 '' - --help
-ends call_for_the_version 2 '' - --version
+ends call_for_help 2 '' "$help" --help
+ends short_call_for_help 2 '' "$help" -h
+ends help_alone 2 '' "$help" help
+ends call_for_the_version 2 '' "flow 0.1.0" --version
+ends short_call_for_the_version 2 '' "flow 0.1.0" -V
+# Standard error is no terminal here, so that a run writes nothing there, with the flag or without.
+ends quiet_run 0 'sink out 0\ndone\n' '' run --quiet plain.toml
+ends quiet_run_by_a_letter 0 'sink out 0\ndone\n' '' run -q plain.toml
+ends quiet_behind_the_file 0 'sink out 0\ndone\n' '' run plain.toml --quiet
+ends quiet_twice 2 '' - run -q --quiet plain.toml
+ends quiet_check 2 '' - check --quiet plain.toml
+ends quiet_script 2 '' - script -q plain.toml
 ends file_behind_dashes 0 'sink out 0\ndone\n' '' run -- plain.toml
 
 run_cases "calls"

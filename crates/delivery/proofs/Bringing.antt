@@ -25,6 +25,11 @@ below_end_of from to ts us e = λ k d lt.
     let here = all k (tag_of d) (rw length-map lt) in
     subst (λ (t : model.Tag). t.offset < to) (get_or-map tag_of us k d (tag_of d) lt) here
 
+-- where places stay, so do tags
+pub stays : (n : Node) (p : ℕ) → ((s : ℕ) → n.meaning.place p s ≡ s) → (ts : List model.Tag) → moved n p ts ≡ ts
+stays n p same [] = refl
+stays n p same (t ∷ ts) = ap (λ (u : model.Tag). u ∷ moved n p ts) (ap (λ s. record t { offset = s }) (same t.offset)) ∙ ap (λ us. t ∷ us) (stays n p same ts)
+
 -- all: which output it is does not matter
 pub all_alike : (n : Node) (p q : ℕ) (ts : List (List model.Tag)) → chosen policy.All n p q ts ≡ chosen policy.All n 0 q ts
 all_alike n p q [] = refl

@@ -1,5 +1,5 @@
 //! The tags that firings bring to an output.
-ghost use Rattle.std.specs.Prelude.{◌≡◌, ◌+◌, ◌++◌, ◌^◌, ◌<◌, ◌≤◌, [], length, map, slice_index_or, All};
+ghost use Rattle.std.specs.Prelude.{◌≡◌, ◌+◌, ◌++◌, ◌^◌, ◌<◌, ◌≤◌, ℕ, [], length, map, slice_index_or, All, true};
 ghost use Rattle.std.specs.Vec.{vec_len, vec_capacity};
 ghost use Rattle.stream_model.specs.declared.vocabulary.Policy.TheVariants as policies;
 ghost use Rattle.stream_model.specs.Tags.{tags_within};
@@ -13,7 +13,7 @@ ghost use Rattle.delivery.specs.Steps.{stored_with, CanRead};
 
 use crate::firings::Firings;
 use crate::inputs::tags_on;
-use block_kinds::{Block, Role};
+use block_kinds::{Block, Pace, Role};
 use buffers::Buffer;
 use flowgraph::{BlockId, Policy, Valid};
 use items::Tag;
@@ -130,11 +130,25 @@ fn append_moved<B: Block>(
     ensures capacity { vec_capacity list.new ≡ vec_capacity list.old }
 {
     let own = graph.block(block);
+    if keeps_places(own, port) {
+        append(list, tags);
+        return;
+    }
     for tag in tags {
         list.push_reserved(Tag {
             offset: own.place(port, tag.offset),
             ..*tag
         });
+    }
+}
+
+// Whether it is seen at once that a tag stays on the item of its number: the block gives as many items as it takes of the input.
+fn keeps_places<B: Block>(block: &B, port: usize) -> bool
+    ensures { result ≡ true → (s : ℕ) → (B.meaning block.now).place port s ≡ s }
+{
+    match block.shape(port).pace {
+        Pace::Rate(taken, given) => taken == given,
+        Pace::Turns(_, _, _) | Pace::Skip(_) | Pace::Delay(_) => false,
     }
 }
 

@@ -1,7 +1,7 @@
 //! What a claim looks at: how many items have come to the inputs of a block, and how far the readers of its outputs are.
 
-ghost use Rattle.std.specs.Prelude.{◌≡◌, ◌*◌, ◌^◌, ◌<◌, List, length, map, slice_index_or};
-ghost use Rattle.stream_model.specs.Network.{State, node_at, role_at, is_source, taken_by, given_by, writers_of};
+ghost use Rattle.std.specs.Prelude.{◌≡◌, ◌^◌, ◌<◌, List, length, map, slice_index_or};
+ghost use Rattle.stream_model.specs.Network.{State};
 ghost use Rattle.stream_model.specs.Machine.{input_counts, counts_in, reader_counts, capacity_at};
 ghost use Rattle.flowgraph.specs.Flowgraph.{net_of, connection_of};
 ghost use Rattle.firings.specs.State.{lent, rows_of};
@@ -9,7 +9,7 @@ ghost use Rattle.firings.specs.Small.{AreSmall, IsReader};
 ghost use Rattle.firings.specs.Counts.{input_of, reader_of, no_input};
 
 use crate::progress::{Progress, Tape};
-use block_kinds::{Block, Role};
+use block_kinds::Block;
 use flowgraph::{BlockId, Connection, Valid};
 
 /// What has come to an input.
@@ -35,7 +35,7 @@ pub(crate) fn input_count<B: Block>(graph: &Valid<B>, block: BlockId) -> usize
     requires { block.0 < length graph.now.blocks }
     ensures { (st : State) → result ≡ length (counts_in (net_of B.meaning graph.now) st block.0) }
 {
-    if is_source(graph, block) {
+    if graph.is_source(block) {
         1
     } else {
         graph.inputs(block).len()
@@ -56,7 +56,7 @@ pub(crate) fn input_at<B: Block>(
     ensures value { input_of result ≡ slice_index_or (counts_in (net_of B.meaning graph.now) (lent tapes.now progress.now) block.0) port no_input }
     ensures small { result.written < 2 ^ 62 }
 {
-    if is_source(graph, block) {
+    if graph.is_source(block) {
         let tape = tapes[block.0 as usize];
         return Input {
             written: tape.length,
@@ -66,7 +66,7 @@ pub(crate) fn input_at<B: Block>(
     let writer = graph.inputs(block)[port].connection.from;
     let own = progress[writer.0 as usize];
     Input {
-        written: given(graph, writer, own.firings),
+        written: graph.given(writer, own.firings),
         ended: own.done,
     }
 }
@@ -85,7 +85,7 @@ pub(crate) fn reader_at<B: Block>(
 {
     let own = progress[connection.to.0 as usize];
     Reader {
-        taken: taken(graph, connection.to, connection.in_port, own.firings),
+        taken: graph.taken(connection.to, connection.in_port, own.firings),
         done: own.done,
     }
 }
@@ -101,38 +101,4 @@ pub(crate) fn capacity_at(capacities: &[Vec<u32>], block: BlockId, port: usize) 
         },
         None => 0,
     }
-}
-
-fn is_source<B: Block>(graph: &Valid<B>, block: BlockId) -> bool
-    requires { block.0 < length graph.now.blocks }
-    ensures { result ≡ is_source (role_at (net_of B.meaning graph.now) block.0) }
-{
-    match graph.block(block).role() {
-        Role::Source => true,
-        Role::Work | Role::Keep | Role::Discard => false,
-    }
-}
-
-// How many items the first `firings` firings give on each output.
-fn given<B: Block>(graph: &Valid<B>, block: BlockId, firings: u64) -> u64
-    requires block { block.0 < length graph.now.blocks }
-    requires firings { (node_at (net_of B.meaning graph.now) block.0).multiple * firings < 2 ^ 62 }
-    requires given { given_by (node_at (net_of B.meaning graph.now) block.0) firings < 2 ^ 62 }
-    ensures { result ≡ given_by (node_at (net_of B.meaning graph.now) block.0) firings }
-{
-    let multiple = graph.options(block).multiple;
-    graph.block(block).given(u64::from(multiple) * firings)
-}
-
-// How many items of an input they take.
-fn taken<B: Block>(graph: &Valid<B>, block: BlockId, port: usize, firings: u64) -> u64
-    requires block { block.0 < length graph.now.blocks }
-    requires firings { (node_at (net_of B.meaning graph.now) block.0).multiple * firings < 2 ^ 62 }
-    requires taken { taken_by (node_at (net_of B.meaning graph.now) block.0) port firings < 2 ^ 62 }
-    ensures { result ≡ taken_by (node_at (net_of B.meaning graph.now) block.0) port firings }
-{
-    let multiple = graph.options(block).multiple;
-    graph
-        .block(block)
-        .taken(port, u64::from(multiple) * firings)
 }

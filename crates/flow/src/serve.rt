@@ -21,7 +21,7 @@ use crate::script::{ScriptFault, script};
 use flowgraph::{BlockId, Valid};
 use graph_file::{FileFault, read_graph};
 use kinds::Kind;
-use plant::{Plant, Settled};
+use plant::{Plant, Watch};
 use rates::balance;
 use script_text::{ByteIn, ByteOut};
 use std::alloc::{AllocError, Global};
@@ -50,21 +50,23 @@ struct Outcome {
 }
 
 /// Does a command. The status is 0 where all went well, 3 for a run that stalled, 1 for a refused file or line, and 4 for memory and devices; with
-/// 1 and 4 one line on `errors` says why, and whether that write succeeds changes nothing.
-pub fn serve<I: ByteIn, O: ByteOut, E: ByteOut>(
+/// 1 and 4 one line on `errors` says why, and whether that write succeeds changes nothing. A run is shown to `watch` while it goes on, and is over
+/// for it before anything is written.
+pub fn serve<I: ByteIn, O: ByteOut, E: ByteOut, W: Watch>(
     alloc: Global,
     command: Command,
     file: &[u8],
     input: &mut I,
     output: &mut O,
     errors: &mut E,
+    watch: &mut W,
 ) -> u8
     requires reads { I.failed input.old < 2 ^ 64 - 1 }
     requires writes { O.failed output.old < 2 ^ 64 - 1 }
     requires reports { E.failed errors.old < 2 ^ 64 - 1 }
     ensures { Serves command file.now (stream (I.remaining input.old) (I.failed input.old)) (stream (I.remaining input.new) (I.failed input.new)) (stream (O.contents output.old) (O.failed output.old)) (stream (O.contents output.new) (O.failed output.new)) (stream (E.contents errors.old) (E.failed errors.old)) (stream (E.contents errors.new) (E.failed errors.new)) result }
 {
-    match obey(alloc, command, file, input, output) {
+    match obey(alloc, command, file, input, output, watch) {
         Ok(status) => status,
         Err(fault) => {
             let status = fault.status();
@@ -75,12 +77,13 @@ pub fn serve<I: ByteIn, O: ByteOut, E: ByteOut>(
 }
 
 // Does a command, and gives its status.
-fn obey<I: ByteIn, O: ByteOut>(
+fn obey<I: ByteIn, O: ByteOut, W: Watch>(
     alloc: Global,
     command: Command,
     file: &[u8],
     input: &mut I,
     output: &mut O,
+    watch: &mut W,
 ) -> Result<u8, Fault>
     requires reads { I.failed input.old < 2 ^ 64 - 1 }
     requires writes { O.failed output.old < 2 ^ 64 - 1 }
@@ -91,7 +94,7 @@ fn obey<I: ByteIn, O: ByteOut>(
 {
     match command {
         Command::Check => check(alloc, file, output),
-        Command::Run => run(alloc, file, output),
+        Command::Run => run(alloc, file, output, watch),
         Command::Script => run_script(alloc, file, input, output),
     }
 }
@@ -108,13 +111,18 @@ fn check<O: ByteOut>(alloc: Global, file: &[u8], output: &mut O) -> Result<u8, F
     }
 }
 
-fn run<O: ByteOut>(alloc: Global, file: &[u8], output: &mut O) -> Result<u8, Fault>
+fn run<O: ByteOut, W: Watch>(
+    alloc: Global,
+    file: &[u8],
+    output: &mut O,
+    watch: &mut W,
+) -> Result<u8, Fault>
     requires writes { O.failed output.old < 2 ^ 64 - 1 }
     ensures does { IfOk result (Writes (IsRun file.now) (O.contents output.old) (O.contents output.new)) }
     ensures does_not { IfErr result (WritesNot (IsRun file.now) (plant_in file.now) (O.contents output.old) (O.contents output.new)) }
     ensures failed_writes { O.failed output.new ≡ O.failed output.old + writes_in result }
 {
-    match run_file(alloc, file) {
+    match run_file(alloc, file, watch) {
         Ok(outcome) => written(output, &outcome),
         Err(fault) => Err(fault),
     }
@@ -155,13 +163,13 @@ fn check_file(alloc: Global, file: &[u8]) -> Result<Outcome, Fault>
 }
 
 // Lets the plant of a file go on until it comes to rest, where its sources give no more, and tells what it holds then.
-fn run_file(alloc: Global, file: &[u8]) -> Result<Outcome, Fault>
+fn run_file<W: Watch>(alloc: Global, file: &[u8], watch: &mut W) -> Result<Outcome, Fault>
     ensures ok { IfOk result (λ outcome. IsRun file.now outcome.text.items outcome.status) }
     ensures refused { IfErr result (Refuses (plant_in file.now)) }
 {
     let mut plant = open_plant(alloc, file)?;
     close_all(&mut plant);
-    let settled = plant.settle(alloc, TURN)?;
+    let settled = plant.settle_watched(alloc, TURN, watch)?;
     let text = ended(alloc, &plant, settled)?;
     let status = status_of(plant.all_done());
     Ok(Outcome { text, status })

@@ -1,11 +1,15 @@
 //! The program `flow`: runs a flowgraph that a file describes.
 #![tactic(auto)]
 
+mod terminal;
+
+use crate::terminal::Terminal;
 use clap::error::ErrorKind;
 use clap::{Arg, ArgAction};
 use flow::serve::{Command, serve};
 use script_text::{ReadEnd, WriteEnd};
 use std::alloc::{AllocError, Global};
+use std::io::IsTerminal;
 use std::process::ExitCode;
 use std::{env, fs, io};
 
@@ -13,6 +17,16 @@ use std::{env, fs, io};
 const BAD_WORDS: u8 = 2;
 // The exit status of a device or memory that failed.
 const FAILED: u8 = 4;
+
+const VERSION: &str = "0.1.0";
+
+// What the words ask for.
+#[derive(Clone, Copy)]
+struct Call<'a> {
+    command: Command,
+    path: &'a str,
+    is_quiet: bool,
+}
 
 fn main(rt: HostRuntime) -> ExitCode {
     ExitCode::from(status(&rt))
@@ -30,11 +44,12 @@ fn status(rt: &HostRuntime) -> u8 {
     let Ok(words) = arguments.collect::<Vec<String>>(rt.alloc()) else {
         return out_of_memory(rt);
     };
-    match words_of(rt.alloc(), &words) {
-        Ok((command, path)) => run(rt, command, path),
+    match call_of(rt.alloc(), &words) {
+        Ok(call) => run(rt, call),
         Err(error) if error.kind() == ErrorKind::OutOfMemory => out_of_memory(rt),
         Err(error) => {
-            let _ = eprintln!(rt; "{error}");
+            // Its text ends its last line.
+            let _ = eprint!(rt; "{error}");
             BAD_WORDS
         }
     }
@@ -45,20 +60,9 @@ fn out_of_memory(rt: &HostRuntime) -> u8 {
     FAILED
 }
 
-// The subcommand, and the path that follows it.
-fn words_of<'a>(alloc: Global, words: &'a [String]) -> Result<(Command, &'a str), clap::Error> {
-    // The name of the built file is another.
-    let flow = clap::Command::new(alloc, "flow")
-        .bin_name("flow")?
-        .subcommand_required(true)
-        .subcommand(subcommand(alloc, "check", "Reads the graph and tells of it")?)?
-        .subcommand(subcommand(alloc, "run", "Runs the graph and tells what its sinks hold")?)?
-        .subcommand(subcommand(
-            alloc,
-            "script",
-            "Runs the commands of standard input on the graph",
-        )?)?;
-    let matches = flow.try_get_matches_from(words)?;
+// What the words ask for.
+fn call_of<'a>(alloc: Global, words: &'a [String]) -> Result<Call<'a>, clap::Error> {
+    let matches = commands(alloc)?.try_get_matches_from(words)?;
     let Some((name, inner)) = matches.subcommand() else {
         return Err(clap::Error::from(AllocError));
     };
@@ -68,9 +72,40 @@ fn words_of<'a>(alloc: Global, words: &'a [String]) -> Result<(Command, &'a str)
         _ => Command::Script,
     };
     match inner.get_str("FILE") {
-        Some(path) => Ok((command, path)),
+        Some(path) => Ok(Call {
+            command,
+            path,
+            is_quiet: inner.get_flag("quiet"),
+        }),
         None => Err(clap::Error::from(AllocError)),
     }
+}
+
+// The words that the program knows.
+fn commands<'a>(alloc: Global) -> Result<clap::Command<'a>, clap::Error> {
+    let quiet = Arg::new(alloc, "quiet")
+        .short('q')
+        .long("quiet")
+        .action(ArgAction::SetTrue)
+        .help("Shows no progress on a terminal");
+    let check = subcommand(alloc, "check", "Reads the graph and tells of it")?;
+    let run = subcommand(alloc, "run", "Runs the graph and tells what its sinks hold")?;
+    let script = subcommand(
+        alloc,
+        "script",
+        "Runs the commands of standard input on the graph",
+    )?;
+    // The name of the built file is another.
+    Ok(
+        clap::Command::new(alloc, "flow")
+            .bin_name("flow")?
+            .version(VERSION)
+            .about("Runs a flowgraph that a file describes")
+            .subcommand_required(true)
+            .subcommand(check)?
+            .subcommand(run.arg(quiet)?)?
+            .subcommand(script)?,
+    )
 }
 
 // A subcommand that takes a graph file, with its line of help.
@@ -81,24 +116,32 @@ fn subcommand<'a>(
 ) -> Result<clap::Command<'a>, clap::Error> {
     let file = Arg::new(alloc, "FILE")
         .required(true)
-        .action(ArgAction::Set);
+        .action(ArgAction::Set)
+        .help("The graph file");
     Ok(clap::Command::new(alloc, name).about(help).arg(file)?)
 }
 
-fn run(rt: &HostRuntime, command: Command, path: &str) -> u8 {
-    let Ok(file) = fs::read(rt, path) else {
-        let _ = eprintln!(rt; "flow: refused 51 Read");
-        return FAILED;
+fn run(rt: &HostRuntime, call: Call<'_>) -> u8 {
+    let may_show = !call.is_quiet && rt.stderr().is_terminal();
+    let mut terminal = Terminal::new(rt, rt.stderr(), may_show);
+    let file = match fs::read(rt, call.path) {
+        Ok(file) => file,
+        Err(error) if error.kind() == io::ErrorKind::OutOfMemory => return out_of_memory(rt),
+        Err(_) => {
+            let _ = eprintln!(rt; "flow: refused 51 Read");
+            return FAILED;
+        }
     };
     let mut input = ReadEnd::new(rt.reader());
     let mut output = WriteEnd::new(std::io::writer(rt));
     let mut errors = WriteEnd::new(rt.stderr());
     serve(
         rt.alloc(),
-        command,
+        call.command,
         &file,
         &mut input,
         &mut output,
         &mut errors,
+        &mut terminal,
     )
 }

@@ -75,10 +75,10 @@ module _ {B : Type 0} (meaning : B → Meaning) (es : List (Entry B)) (cs : List
   abbrev pub net : Network
   net = net_of meaning (graph_of [] es cs)
 
-  nodes : length net.nodes ≡ length es
+  pub nodes : length net.nodes ≡ length es
   nodes = length-map es (node_of meaning)
 
-  reaches_same : (k a b : ℕ) → reaches_by k (net_from cs) a b ≡ reaches_by k net a b
+  pub reaches_same : (k a b : ℕ) → reaches_by k (net_from cs) a b ≡ reaches_by k net a b
   reaches_same zero a b = refl
   reaches_same (suc k) a b = λ i. list_any (λ c. c.to == b || reaches_same k c.to b i) (filter (λ c. c.from == a) (map connection_of cs))
 

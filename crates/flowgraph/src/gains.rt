@@ -1,27 +1,25 @@
 //! The test for paths that multiply items too much.
-ghost use Rattle.std.specs.Prelude.{◌≡◌, ◌<◌, ◌≤◌, ◌*◌, ◌^◌, ◌+◌, ℕ, [], min, length, map, nat_lt, slice_index, IfOk};
+ghost use Rattle.std.specs.Prelude.{◌≡◌, ◌<◌, ◌≤◌, ◌*◌, ◌^◌, ◌+◌, ℕ, false, [], None, min, length, map, nat_lt, slice_index, All, IfOk};
 ghost use Rattle.std.specs.List.{find};
 ghost use Rattle.std.specs.Option.{option_map};
 ghost use Rattle.stream_model.specs.Lists.{below};
 ghost use Rattle.stream_model.specs.Firings.{given_at};
-ghost use Rattle.graph_model.specs.Graphs.{gain_by, most_gain};
+ghost use Rattle.graph_model.specs.Graphs.{gain_by, reaches_by, most_gain};
 ghost use Rattle.graph_model.specs.Graphs as model;
 ghost use Rattle.flowgraph.specs.Fault.{told};
 ghost use Rattle.flowgraph.specs.Flowgraph.{net_of, graph_of};
-ghost use Rattle.flowgraph.specs.Ports.{AreWithin};
-ghost use Rattle.flowgraph.specs.Turns.{steepest};
+ghost use Rattle.flowgraph.specs.Ports.{AreWithin, net_from};
+ghost use Rattle.flowgraph.specs.Turns.{carried, carried_to};
 
 use crate::fault::{GraphFault, Limit};
 use crate::parts::{BlockId, Connection, Entry};
 use block_kinds::Block;
 use std::alloc::{AllocError, Global};
-use std::mem::swap;
 
 /// The greatest product of interpolations along a path.
 const MOST_GAIN: u64 = 16_777_216;
 
-/// The lowest block at which the interpolations along a path that ends there have a product above 16,777,216. Products are counted
-/// turn by turn, each turn along one connection more; no more turns are needed than there are blocks.
+/// The lowest block at which the interpolations along a path that ends there have a product above 16,777,216.
 pub fn gain_fault<B: Block>(
     alloc: Global,
     blocks: &[Entry<B>],
@@ -29,18 +27,11 @@ pub fn gain_fault<B: Block>(
 ) -> Result<Option<GraphFault>, AllocError>
     requires few { length blocks.now ≤ 256 }
     requires within { AreWithin (length blocks.now) connections.now }
+    requires no_loop { find (λ b. reaches_by (length blocks.now) (net_from connections.now) b b) (below (length blocks.now)) ≡ None }
     ensures { IfOk result (λ fault. fault ≡ told Limit.Blocks (option_map model.Gain
         (find (λ b. nat_lt most_gain (gain_by (length blocks.now) (net_of B.meaning (graph_of [] blocks.now connections.now)) b)) (below (length blocks.now))))) }
 {
-    let own = interpolations(alloc, blocks)?;
-    let mut gains = interpolations(alloc, blocks)?;
-    cap(&mut gains);
-    let mut next = interpolations(alloc, blocks)?;
-    'turns: for _ in 0..blocks.len() {
-        steepen(connections, &gains, &mut next);
-        multiply(&own, &mut next);
-        swap(&mut gains, &mut next);
-    }
+    let gains = gains(alloc, blocks, connections)?;
     'steep: for block in 0..blocks.len() {
         let gain = gains[block];
         if MOST_GAIN < gain {
@@ -50,6 +41,31 @@ pub fn gain_fault<B: Block>(
         }
     }
     Ok(None)
+}
+
+// For each block the greatest product along a path that ends there. Turns over all connections raise the products until a turn raises
+// none; no more turns are needed than there are blocks, and two where connections were made in the order of the stream.
+fn gains<B: Block>(
+    alloc: Global,
+    blocks: &[Entry<B>],
+    connections: &[Connection],
+) -> Result<Vec<u64>, AllocError>
+    requires within { AreWithin (length blocks.now) connections.now }
+    requires no_loop { find (λ b. reaches_by (length blocks.now) (net_from connections.now) b b) (below (length blocks.now)) ≡ None }
+    ensures len { IfOk result (λ gains. length gains.items ≡ length blocks.now) }
+    ensures each { IfOk result (λ gains. (b : ℕ) → b < length blocks.now →
+        slice_index gains.items b ≡ min (most_gain + 1) (gain_by (length blocks.now) (net_of B.meaning (graph_of [] blocks.now connections.now)) b)) }
+{
+    let own = interpolations(alloc, blocks)?;
+    let mut gains = interpolations(alloc, blocks)?;
+    cap(&mut gains);
+    'turns: for _ in 0..blocks.len() {
+        let raised = raise(connections, &own, &mut gains);
+        if !raised {
+            return Ok(gains);
+        }
+    }
+    Ok(gains)
 }
 
 // The interpolation of each block.
@@ -82,27 +98,32 @@ fn cap(gains: &mut [u64])
     }
 }
 
-// The greatest product of those that lead to each block, or 1.
-fn steepen(connections: &[Connection], gains: &[u64], next: &mut [u64])
-    requires within { AreWithin (length next.old) connections.now }
-    requires same { length gains.now ≡ length next.old }
-    ensures { (b : ℕ) → b < length next.old → slice_index next.new b ≡ steepest gains.now b connections.now }
+// Raises the product of each block to which a connection leads, where its own interpolation times that of the writer is more. It answers
+// whether it raised one.
+fn raise(connections: &[Connection], own: &[u64], gains: &mut [u64]) -> bool
+    requires within { AreWithin (length gains.old) connections.now }
+    requires same { length own.now ≡ length gains.old }
+    ensures reached { All (λ c. carried own.now gains.old c ≤ slice_index gains.new c.to.0) connections.now }
+    ensures kept { (b : ℕ) → slice_index gains.old b ≤ slice_index gains.new b }
+    ensures bounded { (most : ℕ → ℕ) → ((b : ℕ) → slice_index gains.old b ≤ most b) → All (λ c. carried_to own.now most c ≤ most c.to.0) connections.now
+        → (b : ℕ) → slice_index gains.new b ≤ most b }
+    ensures still { result ≡ false → gains.new ≡ gains.old }
 {
-    for gain in next.iter_mut() {
-        *gain = 1;
-    }
+    let mut raised = false;
     for connection in connections {
         let to = connection.to.0 as usize;
-        next[to] = next[to].max(gains[connection.from.0 as usize]);
+        let gain = carried(own[to], gains[connection.from.0 as usize]);
+        if gains[to] < gain {
+            gains[to] = gain;
+            raised = true;
+        }
     }
+    raised
 }
 
-// Each product times the block's own interpolation, up to the limit.
-fn multiply(own: &[u64], gains: &mut [u64])
-    requires { length own.now ≡ length gains.old }
-    ensures { (b : ℕ) → b < length gains.old → slice_index gains.new b ≡ min (most_gain + 1) (slice_index own.now b * slice_index gains.old b) }
+// A product times an interpolation, up to the limit.
+fn carried(own: u64, gain: u64) -> u64
+    ensures { result ≡ min (most_gain + 1) (own * gain) }
 {
-    for block in 0..own.len() {
-        gains[block] = own[block].saturating_mul(gains[block]).min(MOST_GAIN + 1);
-    }
+    own.saturating_mul(gain).min(MOST_GAIN + 1)
 }

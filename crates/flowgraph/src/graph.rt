@@ -1,5 +1,5 @@
 //! Building a graph.
-ghost use Rattle.std.specs.Prelude.{◌≡◌, ◌≢◌, ◌<◌, ◌≤◌, false, [], ◌∷◌, ◌++◌, length, map, min, nat_lt, bytes_eq, slice_get, None, Some, IfOk, IfErr, OnOk, OnErr};
+ghost use Rattle.std.specs.Prelude.{◌≡◌, ◌≢◌, ◌<◌, ◌≤◌, false, true, [], ◌∷◌, ◌++◌, length, map, min, nat_lt, bytes_eq, slice_get, None, Some, IfOk, IfErr, OnOk, OnErr};
 ghost use Rattle.std.specs.Option.{option_map};
 ghost use Rattle.std.specs.List.{list_any};
 ghost use Rattle.stream_model.specs.Network.{enters};
@@ -75,7 +75,8 @@ impl<B: Block> Graph<B> {
     /// The name of a block.
     pub fn name(&self, block: BlockId) -> &[u8]
         requires { block.0 < length self.now.blocks }
-        ensures { slice_get self.now.names block.0 ≡ Some result.now }
+        ensures value { slice_get self.now.names block.0 ≡ Some result.now }
+        ensures good { graphs.is_name result.now ≡ true }
     {
         &self.names[block.0 as usize]
     }

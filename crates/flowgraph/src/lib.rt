@@ -10,6 +10,7 @@ mod loops;
 pub mod parts;
 mod port_tests;
 mod ports;
+mod ranks;
 mod rows;
 pub mod valid;
 mod wiring;

@@ -1,7 +1,7 @@
 //! Graphs that were tested.
-ghost use Rattle.std.specs.Prelude.{◌≡◌, ◌<◌, ◌≤◌, ◌==◌, length, map, All, Some, slice_get, position, bytes_eq};
+ghost use Rattle.std.specs.Prelude.{◌≡◌, ◌*◌, ◌^◌, ◌<◌, ◌≤◌, ◌==◌, length, map, All, Some, slice_get, position, bytes_eq};
 ghost use Rattle.std.specs.Option.{option_map};
-ghost use Rattle.stream_model.specs.Network.{node_at, writers_of, readers_of, used_outputs};
+ghost use Rattle.stream_model.specs.Network.{node_at, role_at, is_source, is_keeper, taken_by, given_by, writers_of, readers_of, used_outputs};
 ghost use Rattle.stream_laws.specs.CanRun.{CanRun};
 ghost use Rattle.graph_model.specs.Graphs.{IsValidGraph};
 ghost use Rattle.graph_model.specs.Rates.{CanCount};
@@ -13,7 +13,7 @@ ghost use Rattle.flowgraph.specs.Wiring.{writers_in, IsItsReader, IsWired};
 use crate::parts::{BlockId, Connection, Entry, Input, Options};
 use crate::ports::MOST_PORTS;
 use crate::wiring::Wiring;
-use block_kinds::Block;
+use block_kinds::{Block, Role};
 use indexmap::IndexSet;
 use std::marker::Model;
 
@@ -108,6 +108,50 @@ impl<B: Block> Valid<B> {
         ensures node { HasOptions (node_at (net_of B.meaning self.now) block.0) result }
     {
         self.blocks[block.0 as usize].options
+    }
+
+    /// Whether a block is a source.
+    pub fn is_source(&self, block: BlockId) -> bool
+        requires { block.0 < length self.now.blocks }
+        ensures { result ≡ is_source (role_at (net_of B.meaning self.now) block.0) }
+    {
+        match self.block(block).role() {
+            Role::Source => true,
+            Role::Work | Role::Keep | Role::Discard => false,
+        }
+    }
+
+    /// Whether a block is a sink that keeps its items.
+    pub fn is_keeper(&self, block: BlockId) -> bool
+        requires { block.0 < length self.now.blocks }
+        ensures { result ≡ is_keeper (role_at (net_of B.meaning self.now) block.0) }
+    {
+        match self.block(block).role() {
+            Role::Keep => true,
+            Role::Source | Role::Work | Role::Discard => false,
+        }
+    }
+
+    /// How many items of an input the first `firings` firings of a block take.
+    pub fn taken(&self, block: BlockId, port: usize, firings: u64) -> u64
+        requires block { block.0 < length self.now.blocks }
+        requires firings { (node_at (net_of B.meaning self.now) block.0).multiple * firings < 2 ^ 62 }
+        requires taken { taken_by (node_at (net_of B.meaning self.now) block.0) port firings < 2 ^ 62 }
+        ensures { result ≡ taken_by (node_at (net_of B.meaning self.now) block.0) port firings }
+    {
+        let multiple = self.options(block).multiple;
+        self.block(block).taken(port, u64::from(multiple) * firings)
+    }
+
+    /// How many items the first `firings` firings of a block give on each output.
+    pub fn given(&self, block: BlockId, firings: u64) -> u64
+        requires block { block.0 < length self.now.blocks }
+        requires firings { (node_at (net_of B.meaning self.now) block.0).multiple * firings < 2 ^ 62 }
+        requires given { given_by (node_at (net_of B.meaning self.now) block.0) firings < 2 ^ 62 }
+        ensures { result ≡ given_by (node_at (net_of B.meaning self.now) block.0) firings }
+    {
+        let multiple = self.options(block).multiple;
+        self.block(block).given(u64::from(multiple) * firings)
     }
 
     /// The block of a name. It takes one look-up by hash.

@@ -1,3 +1,4 @@
+pub mod BlockNames
 pub mod TagKeys
 pub mod Feeding
 pub mod Validity

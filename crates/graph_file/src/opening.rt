@@ -59,7 +59,8 @@ fn invalid(alloc: Global, graph: &Graph<Kind>, fault: GraphFault) -> FileFault
     };
     match std::str::from_utf8(graph.name(block)) {
         Ok(name) => graph_fault(alloc, Place::Top, fault, name),
-        Err(_) => FileFault::Memory,
+        // (the name of a block is ASCII)
+        Err(_) => unreachable!(),
     }
 }
 

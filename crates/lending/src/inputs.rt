@@ -9,7 +9,6 @@ ghost use Rattle.plant_laws.specs.Claims.{input_buffer, input_reader};
 ghost use Rattle.stores.specs.Stores.{stored_in, buffer_of};
 ghost use Rattle.stores.specs.Lending.{CanLend, FitsWords, takes_between};
 
-use crate::counts::taken;
 use block_kinds::Block;
 use buffers::{Buffer, Reader};
 use flowgraph::{BlockId, Valid};
@@ -53,8 +52,8 @@ pub(crate) fn takes<B: Block>(
     ensures small { result < 2 ^ 62 }
 {
     graph.in_order();
-    let before = taken(graph, block, port, first);
-    (taken(graph, block, port, first + u64::from(count)) - before) as usize
+    let before = graph.taken(block, port, first);
+    (graph.taken(block, port, first + u64::from(count)) - before) as usize
 }
 
 /// The tags on the items of an input that the firings take.

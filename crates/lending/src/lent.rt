@@ -6,7 +6,6 @@ ghost use Rattle.plant_laws.specs.Claims.{held_over};
 ghost use Rattle.stores.specs.Stores.{stored_in};
 ghost use Rattle.stores.specs.Lending.{CanLend, IsLent};
 
-use crate::counts::{given, taken};
 use crate::places::ready_places;
 use crate::windows::lend_windows;
 use block_kinds::Block;
@@ -36,11 +35,11 @@ pub fn lend<B: Block>(
     lend_settings(
         alloc,
         &stores.handed[block.0 as usize].timeline,
-        taken(graph, block, 0, first),
-        taken(graph, block, 0, next),
+        graph.taken(block, 0, first),
+        graph.taken(block, 0, next),
         &mut lent.held,
     )?;
-    let room = given(graph, block, next) - given(graph, block, first);
+    let room = graph.given(block, next) - graph.given(block, first);
     ready_places(
         alloc,
         &mut lent.outputs,

@@ -1,7 +1,6 @@
 //! What a claim takes from what is stored: windows, settings, and room for its commit.
 #![tactic(auto)]
 
-mod counts;
 mod inputs;
 pub mod lent;
 mod places;

@@ -6,7 +6,6 @@ ghost use Rattle.stores.specs.Lending.{CanLend, HasRoom, KeepsAllRoom, no_buffer
 ghost use Rattle.lending.specs.Spare.{spare_at, HasSpare};
 ghost use Rattle.lending.specs.Tags.{tags_on_items};
 
-use crate::counts::{is_keeper, is_source};
 use crate::inputs::tags_at;
 use block_kinds::Block;
 use buffers::Buffer;
@@ -35,7 +34,7 @@ pub fn make_room<B: Block>(
     let at = block.0 as usize;
     reserve_outputs(&mut stores.buffers, at, tags)?;
     stores.brought.reserve(tags)?;
-    if is_keeper(graph, block) {
+    if graph.is_keeper(block) {
         reserve_sink(&mut stores.sinks, at, count as usize, tags)?;
     }
     Ok(())
@@ -52,7 +51,7 @@ fn count_tags<B: Block>(
     requires { CanLend (net_of B.meaning graph.now) (stored_in stores.now) block.0 first count }
     ensures { IfOk result (λ n. n ≡ sum_by length (tags_on_items (net_of B.meaning graph.now) (stored_in stores.now) block.0 first (first + count))) }
 {
-    if is_source(graph, block) {
+    if graph.is_source(block) {
         graph.in_order();
         let tape = &stores.handed[block.0 as usize].tape;
         return Ok(tape.tags(first, first + u64::from(count)).len());

@@ -8,7 +8,6 @@ ghost use Rattle.stores.specs.Stores.{stored_in};
 ghost use Rattle.stores.specs.Lending.{CanLend, AreWindows};
 ghost use Rattle.lending.specs.Windows.{IsWindow};
 
-use crate::counts::is_source;
 use crate::inputs::{input_of, takes};
 use crate::places::{make_ready, resize};
 use block_kinds::Block;
@@ -33,7 +32,7 @@ pub(crate) fn lend_windows<B: Block>(
     ensures types { OnOk result (All (λ w. type_of w ≡ (node_at (net_of B.meaning graph.now) block.0).meaning.inputs.item) windows.new.items) }
 {
     let item = graph.block(block).inputs().item;
-    if is_source(graph, block) {
+    if graph.is_source(block) {
         resize(alloc, windows, 1, item)?;
         let tape = &stores.handed[block.0 as usize].tape;
         return cut_tape(alloc, tape, first as usize, count as usize, &mut windows[0]);

@@ -21,3 +21,4 @@ pub mod Answering
 pub mod Rounds
 pub mod Steps
 pub mod Settles
+pub mod Counting

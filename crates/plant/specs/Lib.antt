@@ -7,3 +7,4 @@ pub mod Keeping
 pub mod Setting
 pub mod Feeding
 pub mod Settling
+pub mod Headway

@@ -78,3 +78,10 @@ pub enum Settled {
     /// Some block is not done, and none can act.
     Quiet,
 }
+
+/// How far a plant is: how many items its sources were fed, and how many of these they have given.
+#[derive(Clone, Copy, Debug, PartialEq, Eq)]
+pub struct Headway {
+    pub given: u64,
+    pub fed: u64,
+}

@@ -11,11 +11,12 @@ mod opening;
 mod parts;
 pub mod plant;
 mod reading;
-mod settle;
+pub mod settle;
 
-pub use answers::{Claim, Closed, Did, Fed, Piece, Settled, Step, Stored, Taken};
+pub use answers::{Claim, Closed, Did, Fed, Headway, Piece, Settled, Step, Stored, Taken};
 pub use fault::PlantFault;
 pub use firings::Need;
 pub use flowgraph::{Block, BlockId, Valid};
 pub use jobs::{Job, Worked};
 pub use plant::Plant;
+pub use settle::{Unwatched, Watch};

@@ -1,7 +1,6 @@
 //! What calls ask before they act.
 
-ghost use Rattle.std.specs.Prelude.{◌≡◌, ◌<◌, ◌&&◌, nat_le, nat_lt, length, map};
-ghost use Rattle.stream_model.specs.Network.{is_keeper, role_at};
+ghost use Rattle.std.specs.Prelude.{◌≡◌, ◌&&◌, nat_le, nat_lt, map};
 ghost use Rattle.stream_model.specs.Machine.{is_wanted};
 ghost use Rattle.settings.specs.Values.{value_of};
 ghost use Rattle.std.specs.List.{list_all};
@@ -47,17 +46,6 @@ pub fn fit(marks: &[Mark], first: u64, end: u64) -> bool
         }
     }
     true
-}
-
-/// Whether the block keeps its items.
-pub fn is_keeper<B: Block>(graph: &Valid<B>, block: BlockId) -> bool
-    requires { block.0 < length graph.now.blocks }
-    ensures { result ≡ is_keeper (role_at (net_of B.meaning graph.now) block.0) }
-{
-    match graph.block(block).role() {
-        Role::Keep => true,
-        Role::Source | Role::Work | Role::Discard => false,
-    }
 }
 
 /// Whether a block takes this value as its setting.

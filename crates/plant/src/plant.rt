@@ -17,11 +17,13 @@ ghost use Rattle.plant.specs.Keeping.{IsKeptOf, kept_refusal};
 ghost use Rattle.plant.specs.Opening.{opening_plant};
 ghost use Rattle.plant.specs.Feeding.{feed_numbers};
 ghost use Rattle.plant.specs.Settling.{StepsLead, HasSettled, HoldsSettled};
+ghost use Rattle.plant.specs.Headway.{headway_of};
 
-use crate::answers::{Claim, Closed, Did, Fed, Piece, Settled, Step, Stored, Taken};
+use crate::answers::{Claim, Closed, Did, Fed, Headway, Piece, Settled, Step, Stored, Taken};
 use crate::fault::PlantFault;
 use crate::looks::source_type;
 use crate::parts::Parts;
+use crate::settle::{Unwatched, Watch};
 use flowgraph::{Block, BlockId, Valid};
 use items::{ItemType, Items, Mark};
 use jobs::{Job, Worked};
@@ -202,7 +204,35 @@ impl<B: Block> Plant<B> {
         ensures settled { IfOk result (HasSettled (net_of B.meaning self.new.graph) self.new.capacities self.new.state) }
         ensures whole { IfOk result (HoldsSettled (net_of B.meaning self.new.graph) self.new.state) }
     {
-        self.parts.settle(alloc, max)
+        self.settle_watched(alloc, max, &mut Unwatched)
+    }
+
+    /// The same, where `watch` is shown how far the plant is each time that all blocks were stepped, and told when that is over, however it ends.
+    pub fn settle_watched<W: Watch>(
+        &mut self,
+        alloc: Global,
+        max: u32,
+        watch: &mut W,
+    ) -> Result<Settled, AllocError>
+        requires idle { is_idle self.old.state ≡ true }
+        requires some { 1 ≤ max }
+        ensures same { self.new ≡ record self.old { state = self.new.state } }
+        ensures steps { StepsLead (net_of B.meaning self.old.graph) self.old.capacities max self.old.state self.new.state }
+        ensures idle { is_idle self.new.state ≡ true }
+        ensures settled { IfOk result (HasSettled (net_of B.meaning self.new.graph) self.new.capacities self.new.state) }
+        ensures whole { IfOk result (HoldsSettled (net_of B.meaning self.new.graph) self.new.state) }
+    {
+        let settled = self.parts.settle(alloc, max, watch);
+        watch.end();
+        settled
+    }
+
+    /// How many items all sources were fed, and how many of these they have given. It looks at each block.
+    pub fn headway(&self) -> Headway
+        ensures value { result ≡ headway_of (net_of B.meaning self.now.graph) self.now.state }
+        ensures within { result.given ≤ result.fed }
+    {
+        self.parts.headway()
     }
 
     /// Commits a job that was done, and tells of how many firings it was. Work that is not that of the claim in flight of its block comes back,

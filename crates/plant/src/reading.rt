@@ -9,7 +9,6 @@ ghost use Rattle.plant.specs.Keeping.{IsKeptOf, kept_refusal};
 
 use crate::answers::{Piece, Stored};
 use crate::fault::PlantFault;
-use crate::looks::is_keeper;
 use crate::parts::Parts;
 use flowgraph::{Block, BlockId};
 use std::alloc::Global;
@@ -32,7 +31,7 @@ impl<B: Block> Parts<B> {
         if self.graph.len() <= sink.0 as usize {
             return Err(PlantFault::NoSuchBlock);
         }
-        if !is_keeper(&self.graph, sink) {
+        if !self.graph.is_keeper(sink) {
             return Err(PlantFault::NotSink);
         }
         let own = self.firings.progress(sink);

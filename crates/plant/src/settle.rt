@@ -1,6 +1,6 @@
-//! Steps of all blocks in turn, to their end.
+//! Steps of all blocks in turn, to their end, and who looks on.
 
-ghost use Rattle.std.specs.Prelude.{◌≡◌, ◌<◌, ◌≤◌, length, true, IfOk, OnErr};
+ghost use Rattle.std.specs.Prelude.{◌≡◌, ◌<◌, ◌≤◌, ◌^◌, length, true, IfOk, OnErr};
 ghost use Rattle.std.specs.Arc.{arc_value};
 ghost use Rattle.stream_model.specs.Machine as machine;
 ghost use Rattle.stream_model.specs.Machine.{is_idle, step_of};
@@ -8,15 +8,40 @@ ghost use Rattle.machine_laws.specs.Steps.{moves_on};
 ghost use Rattle.flowgraph.specs.Flowgraph.{net_of};
 ghost use Rattle.plant.specs.Plant.{IsRight, plant_of};
 ghost use Rattle.plant.specs.Settling.{StepsLead, HasMoved, HasSettled, HoldsSettled};
+ghost use Rattle.plant.specs.Headway.{fed_to, given_by_source, headway_of};
 
-use crate::answers::{Settled, Step};
+use crate::answers::{Headway, Settled, Step};
 use crate::parts::Parts;
 use flowgraph::{Block, BlockId};
 use std::alloc::{AllocError, Global};
 
+/// What looks on while a plant settles. It promises nothing.
+pub trait Watch {
+    /// Each block was stepped once more, and the plant is so far.
+    fn show(&mut self, headway: Headway);
+
+    /// No block is stepped any more.
+    fn end(&mut self);
+}
+
+/// What looks away.
+#[derive(Drop)]
+pub struct Unwatched;
+
+impl Watch for Unwatched {
+    fn show(&mut self, _headway: Headway) {}
+
+    fn end(&mut self) {}
+}
+
 impl<B: Block> Parts<B> {
     /// Steps all blocks in their order, at most `max` firings each, until all are done or none moved on.
-    pub fn settle(&mut self, alloc: Global, max: u32) -> Result<Settled, AllocError>
+    pub fn settle<W: Watch>(
+        &mut self,
+        alloc: Global,
+        max: u32,
+        watch: &mut W,
+    ) -> Result<Settled, AllocError>
         requires right { IsRight B.meaning self.old }
         requires idle { is_idle (plant_of self.old).state ≡ true }
         requires some { 1 ≤ max }
@@ -29,6 +54,7 @@ impl<B: Block> Parts<B> {
     {
         'rounds: loop {
             let moved = self.round(alloc, max)?;
+            watch.show(self.headway());
             self.graph.in_order();
             if self.firings.all_done() {
                 return Ok(Settled::Done);
@@ -79,6 +105,42 @@ impl<B: Block> Parts<B> {
             Ok(Step::Done) => Ok(!was_done),
             Ok(Step::Busy | Step::Waiting(_)) => Ok(false),
             Err(_) => Err(AllocError),
+        }
+    }
+
+    /// How many items all sources were fed, and how many of these they have given.
+    pub fn headway(&self) -> Headway
+        requires { IsRight B.meaning self.now }
+        ensures value { let plant = plant_of self.now in result ≡ headway_of (net_of B.meaning plant.graph) plant.state }
+        ensures within { result.given ≤ result.fed }
+    {
+        let mut headway = Headway { given: 0, fed: 0 };
+        for block in 0..self.graph.len() {
+            let own = self.own_headway(BlockId(block as u32));
+            headway.given += own.given;
+            headway.fed += own.fed;
+        }
+        headway
+    }
+
+    // The same of one block. A firing of a source gives one item, and no other block is fed.
+    fn own_headway(&self, block: BlockId) -> Headway
+        requires right { IsRight B.meaning self.now }
+        requires block { block.0 < length (arc_value self.now.graph).blocks }
+        ensures given { let plant = plant_of self.now in result.given ≡ given_by_source (net_of B.meaning plant.graph) plant.state block.0 }
+        ensures fed { let plant = plant_of self.now in result.fed ≡ fed_to (net_of B.meaning plant.graph) plant.state block.0 }
+        ensures within { result.given ≤ result.fed }
+        ensures short { result.fed ≤ 2 ^ 32 }
+    {
+        self.graph.in_order();
+        if !self.graph.is_source(block) {
+            return Headway { given: 0, fed: 0 };
+        }
+        let tape = self.tapes[block.0 as usize];
+        let own = self.firings.progress(block);
+        Headway {
+            given: own.firings,
+            fed: tape.length,
         }
     }
 }

@@ -1,7 +1,7 @@
 -- Rows of tags of which the first are gone.
-use Rattle.std.proofs.Common.{◌≡◌, ℕ, zero, suc, ◌+◌, ◌-◌, ◌≤◌, ◌∙◌, ap, sym, subst, arith, false, List, [], ◌∷◌, length, take, drop, map, insert, length-drop}
+use Rattle.std.proofs.Common.{◌≡◌, ℕ, zero, suc, ◌+◌, ◌-◌, ◌≤◌, ◌∙◌, ap, sym, subst, arith, false, List, [], ◌∷◌, ◌++◌, length, take, drop, map, insert, length-drop}
 use Rattle.std.specs.Ordering.{is_gt}
-use Rattle.std.proofs.lemmas.List.{drop-drop, take_all}
+use Rattle.std.proofs.lemmas.List.{drop-drop, take_all, map-append}
 use Rattle.std.proofs.lemmas.List.Kept.{AllPairs-filter}
 use Rattle.std.specs.Prelude.{nat_le}
 use Rattle.stream_model.specs.Tags.{tag_cmp}
@@ -36,3 +36,9 @@ drop-insert (x ∷ row) (suc gone) p t le =
 -- one more tag behind those that are gone
 pub one_more : (row : List Tag) (gone p : ℕ) (t : Tag) → gone ≤ length row → kept_of (insert row (gone + p) t) gone ≡ insert (kept_of row gone) p (tag_of t)
 one_more row gone p t le = ap (map tag_of) (drop-insert row gone p t le) ∙ map_insert (drop gone row) p t
+
+-- one more tag behind all
+pub one_behind : (row : List Tag) (gone : ℕ) (t : Tag) → gone ≤ length row → kept_of (row ++ t ∷ []) gone ≡ kept_of row gone ++ tag_of t ∷ []
+one_behind row zero t le = map-append tag_of row (t ∷ [])
+one_behind [] (suc gone) t le = absurd (omega (arith, le))
+one_behind (x ∷ row) (suc gone) t le = one_behind row gone t (omega (arith, le))

@@ -1,5 +1,5 @@
 //! The tags of a stream, in their order.
-ghost use Rattle.std.specs.Prelude.{◌≡◌, ◌+◌, ◌<◌, ◌≤◌, ◌↔◌, [], length, map, insert, nat_lt, true, false, IsTrue, IsOk, OnOk, OnErr};
+ghost use Rattle.std.specs.Prelude.{◌≡◌, ◌+◌, ◌<◌, ◌≤◌, ◌↔◌, [], ◌∷◌, ◌++◌, length, map, insert, nat_lt, true, false, IsTrue, IsOk, OnOk, OnErr};
 ghost use Rattle.std.specs.List.Sorted.{IsPartitionPoint};
 ghost use Rattle.stream_model.specs.Tags.{IsOrdered, insert_tag, tags_within};
 ghost use Rattle.items.specs.Tags.{tag_of};
@@ -96,6 +96,10 @@ impl Tags {
         ensures tags { self.new.tags ≡ insert_tag (tag_of tag) self.old.tags }
         ensures spare { self.new.spare + 1 ≡ self.old.spare }
     {
+        if comes_last(&self.row[self.gone..], &tag) {
+            self.row.push_reserved(tag);
+            return;
+        }
         let place = place_of(&self.row[self.gone..], &tag);
         if self.row.insert(self.gone + place, tag).is_err() {
             unreachable!();
@@ -149,18 +153,23 @@ impl Tags {
     }
 }
 
-// Before how many of the tags `tag` goes.
+// Whether it is seen at once that `tag` goes behind all others.
+fn comes_last(tags: &[Tag], tag: &Tag) -> bool
+    requires { IsOrdered (map tag_of tags.now) }
+    ensures { result ≡ true → insert_tag (tag_of tag.now) (map tag_of tags.now) ≡ map tag_of tags.now ++ tag_of tag.now ∷ [] }
+{
+    match tags.last() {
+        Some(last) => last < tag,
+        None => true,
+    }
+}
+
+// Behind how many of the tags `tag` goes.
 fn place_of(tags: &[Tag], tag: &Tag) -> usize
     requires { IsOrdered (map tag_of tags.now) }
     ensures bound { result ≤ length tags.now }
     ensures place { insert_tag (tag_of tag.now) (map tag_of tags.now) ≡ insert (map tag_of tags.now) result (tag_of tag.now) }
 {
-    let Some(last) = tags.last() else {
-        return 0;
-    };
-    if last < tag {
-        return tags.len();
-    }
     tags.partition_point(|before| before < tag)
 }
 

@@ -1,10 +1,20 @@
-use Rattle.std.proofs.Common.{◌∷◌, [], ap, sym, ◌∙◌}
+use Rattle.std.proofs.Common.{◌≡◌, ℕ, ◌∷◌, [], Option, Some, None, refl, ap, sym, ◌∙◌}
+use Rattle.std.specs.Option.{option_map}
+use Rattle.graph_model.specs.Graphs.{Loop}
 use Rattle.flowgraph.specs.declared.fault.Limit.TheVariants.{Blocks}
 use Rattle.flowgraph.specs.Fault.{told}
 use Rattle.flowgraph.specs.Tests.{port_faults}
 use Rattle.flowgraph.proofs.Places.{none_of}
 use Rattle.flowgraph.proofs.Assembly.{stop, go, alone, tests, looped, steep, net}
 use Rattle.flowgraph.proofs.graph.tested.Goals as goal
+
+-- where nothing is told of loops, no block was found
+none_found : (o : Option ℕ) → told Blocks (option_map Loop o) ≡ None → o ≡ None
+none_found None e = refl
+none_found (Some b) e = absurd (cc)
+
+pub gain_fault-requires-clause-no_loop : goal.gain_fault-requires-clause-no_loop
+gain_fault-requires-clause-no_loop g c = none_found _ (sym c.in_ok-fault-2.ensures ∙ c.in_default-2.is)
 
 pub returns : goal.returns
 returns g c =

@@ -1,0 +1,153 @@
+//! Ranks of blocks, found by searches along the connections.
+ghost use Rattle.std.specs.Prelude.{◌≡◌, ◌<◌, ◌≤◌, ℕ, length, map, All, IfOk, OnOk};
+ghost use Rattle.flowgraph.specs.Ports.{AreWithin};
+
+use crate::by_port::{empty_rows, push_at};
+use crate::fault::Side;
+use crate::parts::Connection;
+use crate::ports::{cleared, end_of};
+use std::alloc::{AllocError, Global};
+
+/// A step of a search.
+#[derive(Clone, Copy, Debug)]
+struct Step {
+    block: usize,
+    // The number of the root from which the search came to the block.
+    root: usize,
+    // The block is left, since all that the search comes to from it is behind it.
+    leaves: bool,
+}
+
+/// What a search has found.
+#[derive(Debug, Drop)]
+struct Found {
+    // The blocks in the order in which they were left.
+    left: Vec<usize>,
+    // For each block the number of the root from which the search came to it.
+    roots: Vec<usize>,
+}
+
+/// A rank for each block. Ranks fall along no connection, and are one for blocks that reach one another and for no others; who relies on this
+/// looks at the ranks, since the contract does not say it.
+///
+/// A search against the connections leaves each block behind its writers, but for those that it reaches. The last that was left leads, of
+/// all blocks, only to such as reach it: so a second search, along the connections, from the last block to the first, comes from each root
+/// to those that reach the root.
+pub fn ranks(
+    alloc: Global,
+    blocks: usize,
+    connections: &[Connection],
+) -> Result<Vec<usize>, AllocError>
+    requires few { blocks ≤ 256 }
+    requires within { AreWithin blocks connections.now }
+    ensures { IfOk result (λ ranks. length ranks.items ≡ blocks) }
+{
+    let steps = connections.len().saturating_add(2 * blocks);
+    let writers = neighbours(alloc, blocks, connections, Side::In)?;
+    let first = search(alloc, &writers, &all(alloc, blocks)?, steps)?;
+    let readers = neighbours(alloc, blocks, connections, Side::Out)?;
+    let second = search(alloc, &readers, &first.left, steps)?;
+    Ok(second.roots)
+}
+
+// The numbers of all blocks.
+fn all(alloc: Global, blocks: usize) -> Result<Vec<usize>, AllocError>
+    ensures { IfOk result (λ all. All (λ b. b < blocks) all.items) }
+{
+    let mut all = Vec::with_capacity(alloc, blocks)?;
+    for block in 0..blocks {
+        all.push(block)?;
+    }
+    Ok(all)
+}
+
+// For each block those at the other ends of the connections on a side of it.
+fn neighbours(
+    alloc: Global,
+    blocks: usize,
+    connections: &[Connection],
+    side: Side,
+) -> Result<Vec<Vec<usize>>, AllocError>
+    requires { AreWithin blocks connections.now }
+    ensures len { IfOk result (λ rows. length rows.items ≡ blocks) }
+    ensures within { IfOk result (λ rows. All (All (λ b. b < blocks)) (map (λ row. row.items) rows.items)) }
+{
+    let mut rows: Vec<Vec<usize>> = empty_rows(alloc, blocks)?;
+    for connection in connections {
+        let (from, to) = (connection.from.0 as usize, connection.to.0 as usize);
+        match side {
+            Side::In => push_at(&mut rows, to, from)?,
+            Side::Out => push_at(&mut rows, from, to)?,
+        }
+    }
+    Ok(rows)
+}
+
+// Searches from each root in turn, the last root first, and from each block on to its neighbours. It comes once to each block, and takes no
+// more steps than there are roots, blocks and connections.
+fn search(
+    alloc: Global,
+    neighbours: &[Vec<usize>],
+    roots: &[usize],
+    steps: usize,
+) -> Result<Found, AllocError>
+    requires neighbours { All (All (λ b. b < length neighbours.now)) (map (λ row. row.items) neighbours.now) }
+    requires roots { All (λ b. b < length neighbours.now) roots.now }
+    ensures left { IfOk result (λ found. All (λ b. b < length neighbours.now) found.left.items) }
+    ensures roots { IfOk result (λ found. length found.roots.items ≡ length neighbours.now) }
+{
+    let blocks = neighbours.len();
+    let mut seen = cleared(alloc, blocks)?;
+    let mut left = Vec::with_capacity(alloc, blocks)?;
+    let mut root_of: Vec<usize> = vec![in alloc; 0; blocks]?;
+    let mut stack = begun(alloc, roots)?;
+    'steps: for _ in 0..steps {
+        let Some(step) = stack.pop() else {
+            break;
+        };
+        if step.leaves {
+            left.push(step.block)?;
+        } else if !seen[step.block] {
+            seen[step.block] = true;
+            root_of[step.block] = step.root;
+            go_on(&mut stack, step, &neighbours[step.block])?;
+        }
+    }
+    Ok(Found {
+        left,
+        roots: root_of,
+    })
+}
+
+// The steps to the roots.
+fn begun(alloc: Global, roots: &[usize]) -> Result<Vec<Step>, AllocError>
+    ensures { IfOk result (λ stack. (blocks : ℕ) → All (λ b. b < blocks) roots.now → All (λ s. s.block < blocks) stack.items) }
+{
+    let mut stack = Vec::with_capacity(alloc, roots.len())?;
+    for (root, block) in roots.iter().enumerate() {
+        stack.push(Step {
+            block: *block,
+            root,
+            leaves: false,
+        })?;
+    }
+    Ok(stack)
+}
+
+// Adds the steps from a block to its neighbours, and below them the one that leaves it.
+fn go_on(stack: &mut Vec<Step>, step: Step, neighbours: &[usize]) -> Result<(), AllocError>
+    ensures { OnOk result ((blocks : ℕ) → All (λ s. s.block < blocks) stack.old.items → step.block < blocks → All (λ b. b < blocks) neighbours.now
+        → All (λ s. s.block < blocks) stack.new.items) }
+{
+    stack.push(Step {
+        leaves: true,
+        ..step
+    })?;
+    for block in neighbours {
+        stack.push(Step {
+            block: *block,
+            ..step
+        })?;
+    }
+    Ok(())
+}

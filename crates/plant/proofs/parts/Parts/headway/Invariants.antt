@@ -1,0 +1,18 @@
+use Rattle.std.proofs.Common.{◌≡◌, ◌≤◌, ◌*◌, ◌^◌, map}
+use Rattle.std.specs.Prelude.{sum}
+use Rattle.stream_model.specs.Lists.{below}
+use Rattle.flowgraph.specs.Flowgraph.{net_of}
+use Rattle.plant.specs.Headway.{fed_to, given_by_source}
+use Rattle.plant.specs.Plant.{plant_of}
+use Rattle.plant.proofs.parts.Parts.headway.Given as goal
+
+abbrev pub invariant-loop-block : goal.invariant-loop-block
+invariant-loop-block g l =
+    let plant = plant_of l.self in
+    let net = net_of g.B.Block.meaning plant.graph in
+    record {
+      given : l.headway.given ≡ sum (map (given_by_source net plant.state) (below l.block));
+      fed : l.headway.fed ≡ sum (map (fed_to net plant.state) (below l.block));
+      within : l.headway.given ≤ l.headway.fed;
+      short : l.headway.fed ≤ l.block * 2 ^ 32;
+    }
