@@ -9,10 +9,10 @@ use std::rt::Clock;
 use std::time::Instant;
 
 // Of so many runs the best one counts.
-const RUNS: u32 = 15;
+pub const RUNS: u32 = 15;
 
 // A run lasts about so many nanoseconds at the pace of the first round, which is slower than the others.
-const RUN_TIME: u128 = 2_000_000;
+pub const RUN_TIME: u128 = 2_000_000;
 
 // The calls of a round begin at item 0, 64, 128 and 192.
 const SPARE: usize = 192;
@@ -57,7 +57,7 @@ pub fn noise<T: Item>(alloc: Global, count: usize) -> Result<Vec<T>, AllocError>
     Ok(items)
 }
 
-fn copies<T: Copy>(alloc: Global, count: usize, x: T) -> Result<Vec<T>, AllocError>
+pub fn copies<T: Copy>(alloc: Global, count: usize, x: T) -> Result<Vec<T>, AllocError>
     ensures { IfOk result (λ v. vec_len v ≡ count) }
 {
     let mut items = Vec::with_capacity(alloc, count)?;
@@ -141,7 +141,7 @@ fn repeat<T, U, C: Contest<T, U>>(contest: &C, side: Side, rounds: u128, input: 
     }
 }
 
-fn print_row(
+pub fn print_row(
     rt: &impl Print,
     row: Row,
     rate: u128,
@@ -159,6 +159,6 @@ fn print_row(
     let (rate, plain_rate) = (rate / 1000, plain_rate / 1000);
     let remark = if agree { "" } else { " differs" };
     println!(rt;
-        "{kernel:<14} {item:<16} {length:>8} {rate:>11} {plain_rate:>11} {whole:>4}.{part:02}{remark}"
+        "{kernel:<18} {item:<16} {length:>8} {rate:>11} {plain_rate:>11} {whole:>4}.{part:02}{remark}"
     )
 }

@@ -1,4 +1,5 @@
 //! What a plain loop has to know of a type of items.
+use items::Items;
 use num_traits::AsPrimitive;
 use numbers::Number;
 
@@ -9,6 +10,12 @@ pub trait Item: Number {
 
     /// The nearest number that the type has.
     fn saturated(n: i64) -> Self;
+
+    /// The values as items of a stream.
+    fn items(values: Vec<Self>) -> Items;
+
+    /// The values of items, none where they are of another type.
+    fn slice(items: &Items) -> &[Self];
 }
 
 impl Item for u8 {
@@ -20,6 +27,17 @@ impl Item for u8 {
     #[inline(always)]
     fn saturated(n: i64) -> u8 {
         n.clamp(0, 255) as u8
+    }
+
+    fn items(values: Vec<u8>) -> Items {
+        Items::Byte(values)
+    }
+
+    fn slice(items: &Items) -> &[u8] {
+        match items {
+            Items::Byte(values) => values,
+            _ => &[],
+        }
     }
 }
 
@@ -33,6 +51,17 @@ impl Item for i16 {
     fn saturated(n: i64) -> i16 {
         n.clamp(-32768, 32767) as i16
     }
+
+    fn items(values: Vec<i16>) -> Items {
+        Items::Short(values)
+    }
+
+    fn slice(items: &Items) -> &[i16] {
+        match items {
+            Items::Short(values) => values,
+            _ => &[],
+        }
+    }
 }
 
 impl Item for i32 {
@@ -44,5 +73,16 @@ impl Item for i32 {
     #[inline(always)]
     fn saturated(n: i64) -> i32 {
         n.clamp(-2147483648, 2147483647) as i32
+    }
+
+    fn items(values: Vec<i32>) -> Items {
+        Items::Int(values)
+    }
+
+    fn slice(items: &Items) -> &[i32] {
+        match items {
+            Items::Int(values) => values,
+            _ => &[],
+        }
     }
 }

@@ -4,6 +4,9 @@
 mod contest;
 mod contests;
 mod item;
+mod kind_contest;
+mod kind_plain;
+mod kind_table;
 mod plain;
 mod small;
 mod table;
@@ -19,7 +22,10 @@ fn main(rt: HostRuntime) -> io::Result<ExitCode> {
     let words = env::args(&rt)?.collect::<Vec<String>>(rt.alloc())?;
     match words.as_slice() {
         [] | [_] => small::print_small(&rt)?,
-        [_, word] if word.as_str() == "measure" => table::print_table(&rt)?,
+        [_, word] if word.as_str() == "measure" => {
+            table::print_table(&rt)?;
+            kind_table::print_kinds(&rt)?;
+        }
         _ => {
             eprintln!(rt; "usage: kernel_bench [measure]")?;
             return Ok(ExitCode::from(BAD_WORDS));

@@ -121,7 +121,7 @@ pub fn diff_decode(m: u32, before: u8, x: &[u8], out: &mut [u8])
 }
 
 // Over `2 ^ shift`, a half upwards.
-fn rounded(sum: i64, shift: u32) -> i64
+pub fn rounded(sum: i64, shift: u32) -> i64
     requires { shift ≤ 31 }
 {
     let half = if shift == 0 { 0 } else { 1 << (shift - 1) };

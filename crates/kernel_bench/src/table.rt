@@ -16,7 +16,7 @@ const LIGHT: i16 = 128;
 
 /// Prints each row once it is measured.
 pub fn print_table(rt: &HostRuntime) -> io::Result<()> {
-    println!(rt; "kernel         type             length   M items/s  plain loop   ratio")?;
+    println!(rt; "kernel             type             length   M items/s  plain loop   ratio")?;
     print_rows(rt, 16)?;
     print_rows(rt, 64)?;
     print_rows(rt, 1024)?;

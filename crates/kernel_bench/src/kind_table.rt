@@ -1,0 +1,347 @@
+//! The table of kinds: a row for each kind of block, and a second one where another type says more.
+ghost use Rattle.std.specs.Prelude.{◌≡◌};
+
+use crate::contest::{Row, noise};
+use crate::item::Item;
+use crate::kind_contest::{Call, ITEMS, print_kind, unfit};
+use crate::kind_plain::{Bits, Bytes, Ints, Narrowed, Shorts};
+use bit_blocks::{
+    AdditiveScrambler, Descrambler, DiffDecoder, DiffEncoder, PackKBits, Register, Scrambler,
+    UnpackKBits,
+};
+use fir_blocks::{Fir, InterpFir};
+use items::ItemType::{Byte, Int, Short};
+use math_blocks::{
+    Add, AddConst, And, Convert, MapBb, MovingSum, MultiplyConst, Not, Or, Scale, Xor,
+};
+use rate_blocks::{
+    Deinterleave, Delay, Head, Integrate, Interleave, KeepOneInN, Repeat, SkipHead, StreamMux,
+};
+use std::alloc::Global;
+use std::io;
+
+// An item taken and one given in a firing.
+const EACH: Call = Call {
+    inputs: 1,
+    outputs: 1,
+    firings: 4096,
+};
+
+// The same with two inputs.
+const PAIRS: Call = Call {
+    inputs: 2,
+    outputs: 1,
+    firings: 4096,
+};
+
+/// Prints each row once it is measured.
+pub fn print_kinds(rt: &HostRuntime) -> io::Result<()> {
+    println!(rt; "")?;
+    println!(rt; "kind               type              items   M items/s  plain loop   ratio")?;
+    print_constants(rt)?;
+    print_joins(rt)?;
+    print_changes(rt)?;
+    print_sums(rt)?;
+    print_filters(rt)?;
+    print_rates(rt)?;
+    print_turns(rt)?;
+    print_moves(rt)?;
+    print_codes(rt)?;
+    print_registers(rt)
+}
+
+// So many ports and firings.
+fn calls(inputs: usize, outputs: usize, firings: u64) -> Call
+    ensures { result ≡ record { inputs = inputs; outputs = outputs; firings = firings } }
+{
+    Call {
+        inputs,
+        outputs,
+        firings,
+    }
+}
+
+// What a row says of its kind.
+fn row<'a>(kernel: &'a str, item: &'a str) -> Row<'a> {
+    Row {
+        kernel,
+        item,
+        length: ITEMS,
+    }
+}
+
+fn print_constants(rt: &HostRuntime) -> io::Result<()> {
+    print_kind(
+        rt,
+        row("add_const", "byte"),
+        AddConst::new(Byte, 10),
+        EACH,
+        &Bytes::AddConst(10),
+    )?;
+    print_kind(
+        rt,
+        row("multiply_const", "byte"),
+        MultiplyConst::new(Byte, 3),
+        EACH,
+        &Bytes::MultiplyConst(3),
+    )?;
+    print_kind(
+        rt,
+        row("multiply_const", "int"),
+        MultiplyConst::new(Int, 3),
+        EACH,
+        &Ints::MultiplyConst(3),
+    )?;
+    print_kind(
+        rt,
+        row("scale", "byte"),
+        Scale::new(Byte, 181, 7),
+        EACH,
+        &Bytes::Scale(181, 7),
+    )?;
+    print_kind(
+        rt,
+        row("scale", "int"),
+        Scale::new(Int, -181, 7),
+        EACH,
+        &Ints::Scale(-181, 7),
+    )
+}
+
+fn print_joins(rt: &HostRuntime) -> io::Result<()> {
+    print_kind(
+        rt,
+        row("add", "byte"),
+        Ok(Add::new(Byte)),
+        PAIRS,
+        &Bytes::Add,
+    )?;
+    print_kind(
+        rt,
+        row("and", "byte"),
+        Ok(And::new(Byte)),
+        PAIRS,
+        &Bytes::And,
+    )?;
+    print_kind(rt, row("or", "byte"), Ok(Or::new(Byte)), PAIRS, &Bytes::Or)?;
+    print_kind(
+        rt,
+        row("xor", "byte"),
+        Ok(Xor::new(Byte)),
+        PAIRS,
+        &Bytes::Xor,
+    )
+}
+
+fn print_changes(rt: &HostRuntime) -> io::Result<()> {
+    print_kind(
+        rt,
+        row("not", "byte"),
+        Ok(Not::new(Byte)),
+        EACH,
+        &Bytes::Not,
+    )?;
+    print_kind(
+        rt,
+        row("convert", "short byte"),
+        Ok(Convert::new(Short, Byte)),
+        EACH,
+        &Narrowed,
+    )
+}
+
+fn print_sums(rt: &HostRuntime) -> io::Result<()> {
+    let alloc = rt.alloc();
+    let table = noise::<u8>(alloc, 256)?;
+    let block = MapBb::new(alloc, &numbers_of(alloc, &table)?);
+    print_kind(
+        rt,
+        row("map_bb", "byte"),
+        block,
+        EACH,
+        &Bytes::MapBb(&table),
+    )?;
+    print_kind(
+        rt,
+        row("moving_sum", "byte 16"),
+        MovingSum::new(Byte, 16),
+        EACH,
+        &Bytes::MovingSum(16),
+    )
+}
+
+fn print_filters(rt: &HostRuntime) -> io::Result<()> {
+    let alloc = rt.alloc();
+    let taps = noise::<i16>(alloc, 64)?;
+    let numbers = numbers_of(alloc, &taps)?;
+    let shorts = Fir::new(alloc, Short, &numbers, 1, 15);
+    print_kind(
+        rt,
+        row("fir", "short 64 taps"),
+        shorts,
+        EACH,
+        &Shorts::Fir(&taps),
+    )?;
+    let ints = Fir::new(alloc, Int, &numbers, 1, 15);
+    print_kind(rt, row("fir", "int 64 taps"), ints, EACH, &Ints::Fir(&taps))?;
+    let fourfold = InterpFir::new(alloc, Short, &numbers, 4, 15);
+    print_kind(
+        rt,
+        row("interp_fir", "short 64 by 4"),
+        fourfold,
+        calls(1, 1, 1024),
+        &Shorts::InterpFir(&taps),
+    )
+}
+
+// The items as numbers, for a maker of blocks.
+fn numbers_of<T: Item>(alloc: Global, items: &[T]) -> io::Result<Vec<i64>> {
+    let mut numbers = Vec::new(alloc);
+    for item in items {
+        numbers.push(item.widen())?;
+    }
+    Ok(numbers)
+}
+
+fn print_rates(rt: &HostRuntime) -> io::Result<()> {
+    let eighth = calls(1, 1, 512);
+    print_kind(
+        rt,
+        row("keep_one_in_n", "byte 8"),
+        KeepOneInN::new(Byte, 8),
+        eighth,
+        &Bytes::KeepOneInN(8),
+    )?;
+    print_kind(
+        rt,
+        row("integrate", "byte 8"),
+        Integrate::new(Byte, 8),
+        eighth,
+        &Bytes::Integrate(8),
+    )?;
+    print_kind(
+        rt,
+        row("repeat", "byte 8"),
+        Repeat::new(Byte, 8),
+        eighth,
+        &Bytes::Repeat(8),
+    )
+}
+
+fn print_turns(rt: &HostRuntime) -> io::Result<()> {
+    print_kind(
+        rt,
+        row("interleave", "byte 2"),
+        Interleave::new(Byte, 2),
+        calls(2, 1, 2048),
+        &Bytes::Interleave,
+    )?;
+    print_kind(
+        rt,
+        row("deinterleave", "byte 2"),
+        Deinterleave::new(Byte, 2),
+        calls(1, 2, 2048),
+        &Bytes::Deinterleave,
+    )?;
+    print_kind(
+        rt,
+        row("stream_mux", "byte 12 4"),
+        StreamMux::new(Byte, &[12, 4]),
+        calls(2, 1, 256),
+        &Bytes::StreamMux(12, 4),
+    )
+}
+
+fn print_moves(rt: &HostRuntime) -> io::Result<()> {
+    print_kind(
+        rt,
+        row("head", "byte"),
+        Head::new(Byte, 4096),
+        EACH,
+        &Bytes::SkipHead(0),
+    )?;
+    print_kind(
+        rt,
+        row("skiphead", "byte 64"),
+        SkipHead::new(Byte, 64),
+        EACH,
+        &Bytes::SkipHead(64),
+    )?;
+    print_kind(
+        rt,
+        row("delay", "byte 64"),
+        Delay::new(Byte, 64),
+        EACH,
+        &Bytes::Delay(64),
+    )
+}
+
+fn print_codes(rt: &HostRuntime) -> io::Result<()> {
+    let eighth = calls(1, 1, 512);
+    print_kind(
+        rt,
+        row("pack_k_bits", "byte 8"),
+        PackKBits::new(8),
+        eighth,
+        &Bytes::PackKBits(8),
+    )?;
+    print_kind(
+        rt,
+        row("unpack_k_bits", "byte 8"),
+        UnpackKBits::new(8),
+        eighth,
+        &Bytes::UnpackKBits(8),
+    )?;
+    print_kind(
+        rt,
+        row("diff_encoder", "byte 4"),
+        DiffEncoder::new(4),
+        EACH,
+        &Bytes::DiffEncoder(4),
+    )?;
+    print_kind(
+        rt,
+        row("diff_decoder", "byte 4"),
+        DiffDecoder::new(4),
+        EACH,
+        &Bytes::DiffDecoder(4),
+    )
+}
+
+// The register of x^7 + x^4 + 1.
+fn register() -> io::Result<Register> {
+    match Register::new(7, 72, 1) {
+        Ok(register) => Ok(register),
+        Err(_) => Err(unfit()),
+    }
+}
+
+fn print_registers(rt: &HostRuntime) -> io::Result<()> {
+    let bits = Bits {
+        mask: 72,
+        init: 1,
+        all: 127,
+    };
+    let (one, other, third) = (register()?, register()?, register()?);
+    print_kind(
+        rt,
+        row("scrambler", "byte 7 bits"),
+        Ok(Scrambler::new(one)),
+        EACH,
+        &Bytes::Scrambler(bits),
+    )?;
+    print_kind(
+        rt,
+        row("descrambler", "byte 7 bits"),
+        Ok(Descrambler::new(other)),
+        EACH,
+        &Bytes::Descrambler(bits),
+    )?;
+    print_kind(
+        rt,
+        row("additive_scrambler", "byte 7 bits"),
+        Ok(AdditiveScrambler::new(third)),
+        EACH,
+        &Bytes::AdditiveScrambler(bits),
+    )
+}
