@@ -1,31 +1,37 @@
 -- The names of blocks are ASCII.
-use Rattle.std.proofs.Common.{◌≡◌, ℕ, zero, suc, ◌<◌, ◌≤◌, Bool, true, List, [], ◌∷◌, length, get_or, arith, inl, inr, eqb-true}
+use Rattle.std.proofs.Common.{◌≡◌, ℕ, zero, suc, ◌<◌, ◌≤◌, Bool, true, List, [], ◌∷◌, length, arith, inl, inr, eqb-true}
 use Rattle.std.specs.Prelude.{nat_le, ◌&&◌, ◌||◌, ◌==◌, IsUtf8}
 use Rattle.std.specs.Char.{is_ascii_alphanumeric}
-use Rattle.core.specs.Int.{is_in_range}
 use Rattle.std.specs.List.{list_all}
 use Rattle.std.specs.Str.{IsAscii}
 use Rattle.std.proofs.lemmas.Bool.{and_parts, or_cases, leb-true}
 use Rattle.std.proofs.lemmas.Str.{IsUtf8-from_ascii}
 use Rattle.graph_model.specs.Graphs.{is_name}
 
+abbrev is_between : ℕ → ℕ → ℕ → Bool
+is_between least most c = nat_le least c && nat_le c most
+
 abbrev name_byte : ℕ → Bool
 name_byte c = is_ascii_alphanumeric c || c == 95 || c == 46 || c == 45
 
-in_range : (least most c : ℕ) → most < 128 → (nat_le least c && nat_le c most) ≡ true → c < 128
+in_range : (least most c : ℕ) → most < 128 → is_between least most c ≡ true → c < 128
 in_range least most c small is = let high = leb-true c most (and_parts (nat_le least c) (nat_le c most) is).1 in omega arith
+
+low_letter : (c : ℕ) → is_ascii_alphanumeric c ≡ true → c < 128
+low_letter c is =
+    elim (or_cases (is_between 48 57 c || is_between 65 90 c) (is_between 97 122 c) is) [
+      | inl low ↦ elim (or_cases (is_between 48 57 c) (is_between 65 90 c) low) [ inl digit ↦ in_range 48 57 c (omega arith) digit | inr capital ↦ in_range 65 90 c (omega arith) capital ]
+      | inr small ↦ in_range 97 122 c (omega arith) small
+    ]
 
 low_byte : (c : ℕ) → name_byte c ≡ true → c < 128
 low_byte c is =
-    elim (or_cases (is_ascii_alphanumeric c) (c == 95 || c == 46 || c == 45) is) [
-      | inl letter ↦ elim (or_cases (is_in_range 48 57 c || is_in_range 65 90 c) (is_in_range 97 122 c) letter) [
-        | inl low ↦ elim (or_cases (is_in_range 48 57 c) (is_in_range 65 90 c) low) [ inl digit ↦ in_range 48 57 c (omega arith) digit | inr capital ↦ in_range 65 90 c (omega arith) capital ]
-        | inr small ↦ in_range 97 122 c (omega arith) small
+    elim (or_cases (is_ascii_alphanumeric c || c == 95 || c == 46) (c == 45) is) [
+      | inl more ↦ elim (or_cases (is_ascii_alphanumeric c || c == 95) (c == 46) more) [
+        | inl first ↦ elim (or_cases (is_ascii_alphanumeric c) (c == 95) first) [ inl letter ↦ low_letter c letter | inr line ↦ (let e = eqb-true c 95 line in omega arith) ]
+        | inr dot ↦ (let e = eqb-true c 46 dot in omega arith)
       ]
-      | inr other ↦ elim (or_cases (c == 95) (c == 46 || c == 45) other) [
-        | inl line ↦ (let e = eqb-true c 95 line in omega arith)
-        | inr more ↦ elim (or_cases (c == 46) (c == 45) more) [ inl dot ↦ (let e = eqb-true c 46 dot in omega arith) | inr dash ↦ (let e = eqb-true c 45 dash in omega arith) ]
-      ]
+      | inr dash ↦ (let e = eqb-true c 45 dash in omega arith)
     ]
 
 ascii : (s : List ℕ) → list_all name_byte s ≡ true → IsAscii s
