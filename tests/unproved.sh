@@ -1,6 +1,5 @@
 #!/usr/bin/env bash
-# Tests that run unproved: those of tests/plants, tests/graph_files and tests/streams, of libraries, and those of tests/terminal, of a file of
-# the program.
+# Tests that run unproved, each folder of tests/ those of the crates that stand behind it below, and tests/terminal those of a file of the program.
 set -euo pipefail
 # shellcheck source=tests/apart.sh
 source "$(dirname -- "$(readlink -f -- "${BASH_SOURCE[0]}")")/apart.sh"
@@ -21,6 +20,10 @@ run_tests() {
     echo "$count tests of $1 passed"
 }
 
+run_tests leaves 6 items tags ring_readers buffers settings
+run_tests kernels 5 lane_kernels lane_filters
+run_tests blocks 13 kinds
+run_tests flowgraphs 5 kinds rates firings
 run_tests plants 5 plant kinds
 run_tests graph_files 5 graph_file
 run_tests streams 6 flow
