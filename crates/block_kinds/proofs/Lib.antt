@@ -2,3 +2,4 @@ pub mod Fills
 pub mod InForce
 pub mod Inputs
 pub mod Outputs
+pub mod Paces

@@ -1,5 +1,7 @@
--- The numbers of refusals.
-use Rattle.std.specs.Prelude.{ℕ}
+-- The numbers and the texts of refusals.
+use Rattle.std.specs.Prelude.{ℕ, List, ◌++◌, codes}
+use Rattle.block_kinds.specs.declared.fault.Parameter.{Parameter}
+use Rattle.block_kinds.specs.declared.fault.Parameter.TheVariants.{ItemType, Value, Factor, Shift, Map, To, Length, Taps, Decimation, Interpolation, K, Modulus, Bits, Mask, Init, N, Ports, Lengths}
 use Rattle.block_kinds.specs.declared.fault.ParamFault.{ParamFault}
 use Rattle.block_kinds.specs.declared.fault.ParamFault.TheVariants.{BadParameter, Memory}
 
@@ -7,3 +9,29 @@ use Rattle.block_kinds.specs.declared.fault.ParamFault.TheVariants.{BadParameter
 abbrev pub number_of : ParamFault → ℕ
 number_of (BadParameter p) = 10
 number_of Memory = 32
+
+-- the name that a graph gives a parameter
+abbrev pub parameter_text : Parameter → List ℕ
+parameter_text ItemType = codes "type"
+parameter_text Value = codes "value"
+parameter_text Factor = codes "factor"
+parameter_text Shift = codes "shift"
+parameter_text Map = codes "map"
+parameter_text To = codes "to"
+parameter_text Length = codes "length"
+parameter_text Taps = codes "taps"
+parameter_text Decimation = codes "decimation"
+parameter_text Interpolation = codes "interpolation"
+parameter_text K = codes "k"
+parameter_text Modulus = codes "modulus"
+parameter_text Bits = codes "bits"
+parameter_text Mask = codes "mask"
+parameter_text Init = codes "init"
+parameter_text N = codes "n"
+parameter_text Ports = codes "ports"
+parameter_text Lengths = codes "lengths"
+
+-- what is printed of a refusal
+abbrev pub text_of : ParamFault → List ℕ
+text_of (BadParameter p) = codes "bad parameter " ++ parameter_text p
+text_of Memory = codes "out of memory"

@@ -12,6 +12,19 @@ use Rattle.block_kinds.specs.declared.shape.Setting.{Setting}
 use Rattle.block_kinds.specs.declared.shape.Setting.TheVariants.{Fixed, Number, Taps}
 use Rattle.block_kinds.specs.declared.shape.Shape.{Shape}
 
+-- how many items the first k firings take of an input, and how many they give on each output
+abbrev pub taken_at : Pace → ℕ → ℕ
+taken_at (Rate d i) k = d * k
+taken_at (Turns d i b) k = d * k
+taken_at (Skip n) k = k
+taken_at (Delay n) k = k - n
+
+abbrev pub given_at : Pace → ℕ → ℕ
+given_at (Rate d i) k = i * k
+given_at (Turns d i b) k = i * k
+given_at (Skip n) k = k - n
+given_at (Delay n) k = k
+
 -- what the setting may be
 abbrev pub wanted_by : Setting → Option Wanted
 wanted_by Fixed = None

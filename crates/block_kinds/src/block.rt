@@ -29,28 +29,28 @@ pub trait Block: Eq + Drop {
         ensures { IsShape (meaning self.now) input result };
 
     /// What the block does with streams.
-    fn role(&self) -> Role
+    final fn role(&self) -> Role
         ensures { result ≡ (meaning self.now).role }
     {
         self.shape(0).role
     }
 
     /// How many inputs may be used, and the type of their items.
-    fn inputs(&self) -> Signature
+    final fn inputs(&self) -> Signature
         ensures { result ≡ (meaning self.now).inputs }
     {
         self.shape(0).inputs
     }
 
     /// How many outputs may be used, and the type of their items.
-    fn outputs(&self) -> Signature
+    final fn outputs(&self) -> Signature
         ensures { result ≡ (meaning self.now).outputs }
     {
         self.shape(0).outputs
     }
 
     /// How many items of an input a firing takes, and how many it gives on each output. A block that shifts its stream has no rate.
-    fn rate(&self, input: usize) -> Option<(u64, u64)>
+    final fn rate(&self, input: usize) -> Option<(u64, u64)>
         ensures { result ≡ (meaning self.now).rate input }
     {
         match self.shape(input).pace {
@@ -60,7 +60,7 @@ pub trait Block: Eq + Drop {
     }
 
     /// How a block without a rate moves its stream.
-    fn shift(&self) -> Shift
+    final fn shift(&self) -> Shift
         ensures { result ≡ (meaning self.now).shift }
     {
         match self.shape(0).pace {
@@ -71,31 +71,23 @@ pub trait Block: Eq + Drop {
     }
 
     /// How many items of an input the first `firings` firings take.
-    fn taken(&self, input: usize, firings: u64) -> u64
+    final fn taken(&self, input: usize, firings: u64) -> u64
         requires { (meaning self.now).taken input firings < 2 ^ 63 }
         ensures { result ≡ (meaning self.now).taken input firings }
     {
-        match self.shape(input).pace {
-            Pace::Rate(taken, _) | Pace::Turns(taken, _, _) => taken * firings,
-            Pace::Skip(_) => firings,
-            Pace::Delay(count) => firings.saturating_sub(count),
-        }
+        self.shape(input).pace.taken(firings)
     }
 
     /// How many items the first `firings` firings give on each output.
-    fn given(&self, firings: u64) -> u64
+    final fn given(&self, firings: u64) -> u64
         requires { (meaning self.now).given firings < 2 ^ 63 }
         ensures { result ≡ (meaning self.now).given firings }
     {
-        match self.shape(0).pace {
-            Pace::Rate(_, given) | Pace::Turns(_, given, _) => given * firings,
-            Pace::Skip(count) => firings.saturating_sub(count),
-            Pace::Delay(_) => firings,
-        }
+        self.shape(0).pace.given(firings)
     }
 
     /// Where a tag on an item of an input goes.
-    fn place(&self, input: usize, offset: u64) -> u64
+    final fn place(&self, input: usize, offset: u64) -> u64
         requires { (meaning self.now).place input offset < 2 ^ 63 }
         ensures { result ≡ (meaning self.now).place input offset }
     {
@@ -108,21 +100,21 @@ pub trait Block: Eq + Drop {
     }
 
     /// After how many firings the block ends by itself.
-    fn limit(&self) -> Option<u64>
+    final fn limit(&self) -> Option<u64>
         ensures { result ≡ (meaning self.now).limit }
     {
         self.shape(0).limit
     }
 
     /// How many items of the past a firing reads, the current one included.
-    fn history(&self) -> u32
+    final fn history(&self) -> u32
         ensures { result ≡ (meaning self.now).history }
     {
         self.shape(0).history
     }
 
     /// What the block's setting may be, where it has one.
-    fn setting(&self) -> Option<Wanted>
+    final fn setting(&self) -> Option<Wanted>
         ensures { result ≡ (meaning self.now).setting }
     {
         match self.shape(0).setting {
@@ -133,7 +125,7 @@ pub trait Block: Eq + Drop {
     }
 
     /// The value of the block's own parameter, in memory of its own. It fails only where the allocator refuses.
-    fn own(&self, alloc: Global) -> Result<Option<Value>, AllocError>
+    final fn own(&self, alloc: Global) -> Result<Option<Value>, AllocError>
         ensures { IfOk result (λ own. option_map value_of own ≡ (meaning self.now).own) }
     {
         Ok(match self.shape(0).setting {
@@ -144,7 +136,7 @@ pub trait Block: Eq + Drop {
     }
 
     /// The state word before the first firing.
-    fn start(&self) -> u64
+    final fn start(&self) -> u64
         ensures { result ≡ (meaning self.now).start }
     {
         self.shape(0).start

@@ -1,6 +1,6 @@
 //! Why a block could not be made.
-ghost use Rattle.std.specs.Prelude.{◌≡◌};
-ghost use Rattle.block_kinds.specs.Fault.{number_of};
+ghost use Rattle.std.specs.Prelude.{◌≡◌, Some};
+ghost use Rattle.block_kinds.specs.Fault.{number_of, parameter_text, text_of};
 ghost use Rattle.block_kinds.specs.declared.fault.ParamFault.TheVariants.{Memory};
 
 use std::alloc::AllocError;
@@ -48,9 +48,12 @@ pub enum Parameter {
     Lengths,
 }
 
-impl fmt::Display for Parameter {
-    fn fmt<W: fmt::Write>(&self, f: &mut fmt::Formatter<W>) -> fmt::Result {
-        f.write_str(match self {
+impl Parameter {
+    /// The name that a graph gives the parameter.
+    pub fn text(&self) -> &'static str
+        ensures { result.now ≡ parameter_text self.now }
+    {
+        match self {
             Parameter::ItemType => "type",
             Parameter::Value => "value",
             Parameter::Factor => "factor",
@@ -69,7 +72,15 @@ impl fmt::Display for Parameter {
             Parameter::N => "n",
             Parameter::Ports => "ports",
             Parameter::Lengths => "lengths",
-        })
+        }
+    }
+}
+
+impl fmt::Display for Parameter {
+    ghost output = { λ parameter. Some (parameter_text parameter) };
+
+    fn fmt<W: fmt::Write>(&self, f: &mut fmt::Formatter<W>) -> fmt::Result {
+        f.write_str(self.text())
     }
 }
 
@@ -96,6 +107,8 @@ impl ParamFault {
 }
 
 impl fmt::Display for ParamFault {
+    ghost output = { λ fault. Some (text_of fault) };
+
     fn fmt<W: fmt::Write>(&self, f: &mut fmt::Formatter<W>) -> fmt::Result {
         match self {
             ParamFault::BadParameter(parameter) => write!(f, "bad parameter {parameter}"),

@@ -17,6 +17,35 @@ pub enum Pace {
     Delay(u64),
 }
 
+impl Pace {
+    ghost use Rattle.std.specs.Prelude.{◌<◌, ◌^◌};
+    ghost use Rattle.block_kinds.specs.Shape.{taken_at, given_at};
+
+    /// How many items the first `firings` firings take.
+    pub fn taken(self, firings: u64) -> u64
+        requires { taken_at self firings < 2 ^ 63 }
+        ensures { result ≡ taken_at self firings }
+    {
+        match self {
+            Pace::Rate(taken, _) | Pace::Turns(taken, _, _) => taken * firings,
+            Pace::Skip(_) => firings,
+            Pace::Delay(count) => firings.saturating_sub(count),
+        }
+    }
+
+    /// How many items the first `firings` firings give on each output.
+    pub fn given(self, firings: u64) -> u64
+        requires { given_at self firings < 2 ^ 63 }
+        ensures { result ≡ given_at self firings }
+    {
+        match self {
+            Pace::Rate(_, given) | Pace::Turns(_, given, _) => given * firings,
+            Pace::Skip(count) => firings.saturating_sub(count),
+            Pace::Delay(_) => firings,
+        }
+    }
+}
+
 /// What may be set of a block, and the block's own value of it.
 #[derive(Clone, Copy, Debug)]
 pub enum Setting<'a> {

@@ -35,7 +35,7 @@ pub(crate) fn bring<B: Block>(
     ensures capacity { vec_capacity list.new ≡ vec_capacity list.old }
 {
     list.clear();
-    match graph.block(firings.block).role() {
+    match graph.role(firings.block) {
         Role::Source => {
             let tape = &handed[firings.block.0 as usize].tape;
             append(list, tape.tags(firings.first, firings.next));
@@ -129,11 +129,11 @@ fn append_moved<B: Block>(
     ensures tags { map tag_of list.new.items ≡ map tag_of list.old.items ++ moved (node_at (net_of B.meaning graph.now) block.0) port (map tag_of tags.now) }
     ensures capacity { vec_capacity list.new ≡ vec_capacity list.old }
 {
-    let own = graph.block(block);
-    if keeps_places(own, port) {
+    if keeps_places(graph, block, port) {
         append(list, tags);
         return;
     }
+    let own = graph.block(block);
     for tag in tags {
         list.push_reserved(Tag {
             offset: own.place(port, tag.offset),
@@ -143,10 +143,11 @@ fn append_moved<B: Block>(
 }
 
 // Whether it is seen at once that a tag stays on the item of its number: the block gives as many items as it takes of the input.
-fn keeps_places<B: Block>(block: &B, port: usize) -> bool
-    ensures { result ≡ true → (s : ℕ) → (B.meaning block.now).place port s ≡ s }
+fn keeps_places<B: Block>(graph: &Valid<B>, block: BlockId, port: usize) -> bool
+    requires { block.0 < length graph.now.blocks }
+    ensures { result ≡ true → (s : ℕ) → (node_at (net_of B.meaning graph.now) block.0).meaning.place port s ≡ s }
 {
-    match block.shape(port).pace {
+    match graph.pace(block, port) {
         Pace::Rate(taken, given) => taken == given,
         Pace::Turns(_, _, _) | Pace::Skip(_) | Pace::Delay(_) => false,
     }

@@ -3,7 +3,7 @@
 use flowgraph::BlockId;
 
 /// Firings of a block: from `first` up to, but not including, `next`.
-#[derive(Clone, Copy, Debug)]
+#[derive(Clone, Copy)]
 pub(crate) struct Firings {
     pub block: BlockId,
     pub first: u64,

@@ -74,9 +74,6 @@ fn taken<B: Block>(graph: &Valid<B>, firings: Firings, port: usize) -> usize
     requires more { taken_by (node_at (net_of B.meaning graph.now) firings.block.0) port firings.first ≤ taken_by (node_at (net_of B.meaning graph.now) firings.block.0) port firings.next }
     ensures { result ≡ takes_between (net_of B.meaning graph.now) firings.block.0 port firings.first firings.next }
 {
-    let own = graph.block(firings.block);
-    let multiple = u64::from(graph.options(firings.block).multiple);
-    let before = own.taken(port, multiple * firings.first);
-    let after = own.taken(port, multiple * firings.next);
-    (after - before) as usize
+    let before = graph.taken(firings.block, port, firings.first);
+    (graph.taken(firings.block, port, firings.next) - before) as usize
 }

@@ -33,7 +33,7 @@ pub(crate) fn collect<B: Block>(
     ensures others { (a : ℕ) → (a ≡ firings.block.0 → ⊥) → sink_in sinks.new a ≡ sink_in sinks.old a }
 {
     graph.in_order();
-    match graph.block(firings.block).role() {
+    match graph.role(firings.block) {
         Role::Keep => {
             let tags = tags_on(buffers, graph, firings, 0);
             sinks[firings.block.0 as usize].push(&windows[0], tags);

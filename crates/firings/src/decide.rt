@@ -71,8 +71,7 @@ fn is_over<B: Block>(
         let inputs = counts_in (net_of B.meaning graph.now) (lent tapes.now progress.now) block.0 in
         result ≡ (not (within_limit n.meaning.limit firings) || claims.lacks_for_good n firings 0 inputs) }
 {
-    is_beyond(graph.block(block).limit(), firings)
-        || lacks_for_good(graph, tapes, progress, block, firings)
+    is_beyond(graph.limit(block), firings) || lacks_for_good(graph, tapes, progress, block, firings)
 }
 
 /// Whether each block is done or would wait.

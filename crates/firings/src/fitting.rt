@@ -1,11 +1,9 @@
 //! How many firings of a block fit, and what it lacks where none does.
 
-ghost use Rattle.std.specs.Prelude.{◌≡◌, ◌^◌, ◌<◌, ◌≤◌, min, map, length, All};
+ghost use Rattle.std.specs.Prelude.{◌≡◌, ◌<◌, ◌≤◌, map, length, All};
 ghost use Rattle.stream_model.specs.Network.{node_at};
-ghost use Rattle.stream_model.specs.Firings as closed;
 ghost use Rattle.stream_model.specs.Claims as claims;
 ghost use Rattle.stream_model.specs.Machine.{counts_in, counts_out, counts_of};
-ghost use Rattle.stream_laws.specs.CanRun.{CanRun};
 ghost use Rattle.stream_laws.specs.Firings as allow;
 ghost use Rattle.flowgraph.specs.Flowgraph.{net_of};
 ghost use Rattle.firings.specs.State.{lent, rows_of};
@@ -13,7 +11,7 @@ ghost use Rattle.firings.specs.Small.{AreSmall, IsReader};
 ghost use Rattle.firings.specs.Counts.{readers_in};
 
 use crate::counts::{capacity_at, input_at, input_count, reader_at};
-use crate::paces::{allowed, fitting};
+use crate::paces::{allowed_at, fitting_at};
 use crate::progress::{Progress, Tape};
 use block_kinds::Block;
 use flowgraph::{BlockId, Connection, Valid};
@@ -35,7 +33,7 @@ pub(crate) fn most<B: Block>(
     let first = progress[block.0 as usize].firings;
     let items = items_allow(graph, tapes, progress, block, first + u64::from(max));
     let room = room_allows(graph, capacities, tapes, progress, block, items);
-    let last = match graph.block(block).limit() {
+    let last = match graph.limit(block) {
         Some(limit) => limit.min(room),
         None => room,
     };
@@ -113,33 +111,4 @@ fn readers_allow<B: Block>(
         }
     }
     least
-}
-
-// How many firings take at most so many items of an input.
-pub(crate) fn allowed_at<B: Block>(graph: &Valid<B>, block: BlockId, port: usize, items: u64) -> u64
-    requires runs { CanRun (net_of B.meaning graph.now) }
-    requires block { block.0 < length graph.now.blocks }
-    requires items { items < 2 ^ 62 }
-    ensures { result ≡ closed.allowed (node_at (net_of B.meaning graph.now) block.0) port items }
-{
-    allowed(
-        graph.block(block),
-        graph.options(block).multiple,
-        port,
-        items,
-    )
-}
-
-// How many firings, at most `bound`, give at most so many items.
-pub(crate) fn fitting_at<B: Block>(graph: &Valid<B>, block: BlockId, items: u64, bound: u64) -> u64
-    requires runs { CanRun (net_of B.meaning graph.now) }
-    requires block { block.0 < length graph.now.blocks }
-    ensures { result ≡ min (closed.fitting (node_at (net_of B.meaning graph.now) block.0) items) bound }
-{
-    fitting(
-        graph.block(block),
-        graph.options(block).multiple,
-        items,
-        bound,
-    )
 }

@@ -12,7 +12,7 @@ ghost use Rattle.firings.specs.Small.{AreSmall, IsReader};
 ghost use Rattle.firings.specs.Counts.{readers_in};
 
 use crate::counts::{Input, Reader, capacity_at, input_at, input_count, reader_at};
-use crate::fitting::{allowed_at, fitting_at};
+use crate::paces::{allowed_at, fitting_at};
 use crate::progress::{Progress, Tape};
 use block_kinds::Block;
 use flowgraph::{BlockId, Connection, Valid};

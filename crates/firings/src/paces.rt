@@ -1,31 +1,39 @@
 //! How many firings of a block some items allow, in closed form.
 
-ghost use Rattle.std.specs.Prelude.{◌≡◌, ◌*◌, ◌^◌, ◌<◌, ◌≤◌, min};
-ghost use Rattle.stream_model.specs.Firings.{allowed_by, fitting_by, taken_at, given_at};
+ghost use Rattle.std.specs.Prelude.{◌≡◌, ◌^◌, ◌<◌, min, length};
+ghost use Rattle.stream_model.specs.Network.{node_at};
+ghost use Rattle.stream_model.specs.Firings as closed;
+ghost use Rattle.stream_laws.specs.CanRun.{CanRun};
+ghost use Rattle.flowgraph.specs.Flowgraph.{net_of};
 
 use block_kinds::{Block, Pace};
+use flowgraph::{BlockId, Valid};
 
 /// How many firings take at most so many items of an input.
-pub(crate) fn allowed<B: Block>(block: &B, multiple: u32, port: usize, items: u64) -> u64
-    requires some { 1 ≤ multiple }
-    requires small { items < 2 ^ 63 }
-    ensures { result ≡ allowed_by (B.meaning block.now).shift (multiple * taken_at ((B.meaning block.now).rate port)) items }
+pub(crate) fn allowed_at<B: Block>(graph: &Valid<B>, block: BlockId, port: usize, items: u64) -> u64
+    requires runs { CanRun (net_of B.meaning graph.now) }
+    requires block { block.0 < length graph.now.blocks }
+    requires items { items < 2 ^ 62 }
+    ensures { result ≡ closed.allowed (node_at (net_of B.meaning graph.now) block.0) port items }
 {
-    match block.shape(port).pace {
-        Pace::Rate(taken, _) | Pace::Turns(taken, _, _) => items / (u64::from(multiple) * taken),
+    let multiple = u64::from(graph.options(block).multiple);
+    match graph.pace(block, port) {
+        Pace::Rate(taken, _) | Pace::Turns(taken, _, _) => items / (multiple * taken),
         Pace::Skip(_) => items,
         Pace::Delay(count) => items + count,
     }
 }
 
 /// How many firings, at most `bound`, give at most so many items on each output.
-pub(crate) fn fitting<B: Block>(block: &B, multiple: u32, items: u64, bound: u64) -> u64
-    requires { 1 ≤ multiple }
-    ensures { result ≡ min (fitting_by (B.meaning block.now).shift (multiple * given_at ((B.meaning block.now).rate 0)) items) bound }
+pub(crate) fn fitting_at<B: Block>(graph: &Valid<B>, block: BlockId, items: u64, bound: u64) -> u64
+    requires runs { CanRun (net_of B.meaning graph.now) }
+    requires block { block.0 < length graph.now.blocks }
+    ensures { result ≡ min (closed.fitting (node_at (net_of B.meaning graph.now) block.0) items) bound }
 {
-    let count = match block.shape(0).pace {
-        Pace::Rate(_, given) => items / (u64::from(multiple) * given),
-        Pace::Turns(_, given, _) => items / (u64::from(multiple) * given),
+    let multiple = u64::from(graph.options(block).multiple);
+    let count = match graph.pace(block, 0) {
+        Pace::Rate(_, given) => items / (multiple * given),
+        Pace::Turns(_, given, _) => items / (multiple * given),
         Pace::Skip(count) => items.saturating_add(count),
         Pace::Delay(_) => items,
     };

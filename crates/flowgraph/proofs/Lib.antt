@@ -1,3 +1,4 @@
+pub mod AskedLemmas
 pub mod RowLemmas
 pub mod CountLemmas
 pub mod InputRows

@@ -1,11 +1,13 @@
 -- Refusals of graphs, as they are reported.
-use Rattle.std.specs.Prelude.{ℕ, Option, Some, None, option_map}
+use Rattle.std.specs.Prelude.{ℕ, List, Option, Some, None, option_map, codes}
 use Rattle.graph_model.specs.Graphs as model
 use Rattle.flowgraph.specs.declared.parts.BlockId.{BlockId}
 use Rattle.flowgraph.specs.declared.fault.Side.{Side}
 use Rattle.flowgraph.specs.declared.fault.Side.TheVariants.{In, Out}
+use Rattle.flowgraph.specs.declared.fault.BlockOption.{BlockOption}
 use Rattle.flowgraph.specs.declared.fault.BlockOption.TheVariants.{Name, Multiple, Capacity}
 use Rattle.flowgraph.specs.declared.fault.Limit.{Limit}
+use Rattle.flowgraph.specs.declared.fault.Limit.TheVariants.{Blocks, Connections}
 use Rattle.flowgraph.specs.declared.fault.GraphFault.{GraphFault}
 use Rattle.flowgraph.specs.declared.fault.GraphFault.TheVariants.{DuplicateName, UnknownBlock, PortRange, InputTaken, PortGap, TypeMismatch, Loop, TooFewPorts, TooLarge, BadParameter, OneToOne, Gain, Memory}
 
@@ -24,6 +26,36 @@ number_of (BadParameter o) = 10
 number_of (OneToOne b) = 11
 number_of (Gain b) = 12
 number_of Memory = 32
+
+-- what is printed of a side, of what a graph has too many of, and of what is wrong with a block that is added
+abbrev pub side_text : Side → List ℕ
+side_text In = codes "in"
+side_text Out = codes "out"
+
+abbrev pub limit_text : Limit → List ℕ
+limit_text Blocks = codes "blocks"
+limit_text Connections = codes "connections"
+
+abbrev pub option_text : BlockOption → List ℕ
+option_text Name = codes "name"
+option_text Multiple = codes "multiple"
+option_text Capacity = codes "capacity"
+
+-- what is printed of a refusal
+abbrev pub text_of : GraphFault → List ℕ
+text_of DuplicateName = codes "duplicate name"
+text_of UnknownBlock = codes "unknown block"
+text_of (PortRange b s p) = codes "port out of range"
+text_of (InputTaken b p) = codes "input taken"
+text_of (PortGap b s p) = codes "port gap"
+text_of (TypeMismatch b p) = codes "type mismatch"
+text_of (Loop b) = codes "loop"
+text_of (TooFewPorts b) = codes "too few ports"
+text_of (TooLarge l) = codes "too large"
+text_of (BadParameter o) = codes "bad parameter"
+text_of (OneToOne b) = codes "not one to one"
+text_of (Gain b) = codes "gain too high"
+text_of Memory = codes "out of memory"
 
 abbrev pub side_of : model.Side → Side
 side_of model.In = In

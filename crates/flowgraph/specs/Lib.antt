@@ -1,3 +1,4 @@
+pub mod Asked
 pub mod Fault
 pub mod Flowgraph
 pub mod Ports

@@ -11,7 +11,7 @@ use crate::ports::{MOST_PORTS, end_of};
 use std::alloc::{AllocError, Global};
 
 /// For each port that a side of a block may have, 16 for each block, what ends there, in the order of connecting.
-#[derive(Debug, Drop)]
+#[derive(Drop)]
 pub struct ByPort {
     // By output ports.
     pub readers: Vec<Vec<Connection>>,

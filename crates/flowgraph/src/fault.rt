@@ -1,6 +1,6 @@
 //! Why a graph is refused.
-ghost use Rattle.std.specs.Prelude.{◌≡◌};
-ghost use Rattle.flowgraph.specs.Fault.{number_of};
+ghost use Rattle.std.specs.Prelude.{◌≡◌, Some};
+ghost use Rattle.flowgraph.specs.Fault.{number_of, side_text, limit_text, option_text, text_of};
 ghost use Rattle.flowgraph.specs.declared.fault.GraphFault.TheVariants.{Memory};
 
 use crate::parts::BlockId;
@@ -110,6 +110,8 @@ impl GraphFault {
 }
 
 impl fmt::Display for Side {
+    ghost output = { λ side. Some (side_text side) };
+
     fn fmt<W: fmt::Write>(&self, f: &mut fmt::Formatter<W>) -> fmt::Result {
         f.write_str(match self {
             Side::In => "in",
@@ -119,6 +121,8 @@ impl fmt::Display for Side {
 }
 
 impl fmt::Display for BlockOption {
+    ghost output = { λ option. Some (option_text option) };
+
     fn fmt<W: fmt::Write>(&self, f: &mut fmt::Formatter<W>) -> fmt::Result {
         f.write_str(match self {
             BlockOption::Name => "name",
@@ -129,6 +133,8 @@ impl fmt::Display for BlockOption {
 }
 
 impl fmt::Display for Limit {
+    ghost output = { λ limit. Some (limit_text limit) };
+
     fn fmt<W: fmt::Write>(&self, f: &mut fmt::Formatter<W>) -> fmt::Result {
         f.write_str(match self {
             Limit::Blocks => "blocks",
@@ -138,6 +144,8 @@ impl fmt::Display for Limit {
 }
 
 impl fmt::Display for GraphFault {
+    ghost output = { λ fault. Some (text_of fault) };
+
     fn fmt<W: fmt::Write>(&self, f: &mut fmt::Formatter<W>) -> fmt::Result {
         f.write_str(match self {
             GraphFault::DuplicateName => "duplicate name",

@@ -8,9 +8,11 @@ ghost use Rattle.graph_model.specs.Graphs as graphs;
 ghost use Rattle.graph_model.specs.Graphs.{add_fault, connect_fault, graph_fault, multiples};
 ghost use Rattle.flowgraph.specs.Fault.{reported, told};
 ghost use Rattle.flowgraph.specs.Ports.{AreWithin};
+ghost use Rattle.flowgraph.specs.Asked.{AreAsked};
 ghost use Rattle.flowgraph.specs.Tables.{AreTables};
 ghost use Rattle.flowgraph.specs.Flowgraph.{net_of, node_of, graph_of, entry, connection, connection_of, with_block, with_connection};
 
+use crate::asked::{Asked, all_asked};
 use crate::fault::{BlockOption, GraphFault, Limit, Side};
 use crate::gains::gain_fault;
 use crate::loops::loop_fault;
@@ -119,13 +121,13 @@ impl<B: Block> Graph<B> {
         ensures unchanged { IfErr result (λ refused. refused.0 ≡ self) }
     {
         match tested(alloc, &self.blocks, &self.connections) {
-            Ok(wiring) => {
+            Ok((wiring, asked)) => {
                 let Graph {
                     names,
                     blocks,
                     connections,
                 } = self;
-                Ok(Valid::with_tables(names, blocks, connections, wiring))
+                Ok(Valid::with_tables(names, blocks, connections, wiring, asked))
             }
             Err(fault) => Err((self, fault)),
         }
@@ -166,11 +168,12 @@ fn tested<B: Block>(
     alloc: Global,
     blocks: &[Entry<B>],
     connections: &[Connection],
-) -> Result<Wiring, GraphFault>
+) -> Result<(Wiring, Vec<Asked>), GraphFault>
     requires few { length blocks.now ≤ 256 }
     requires within { AreWithin (length blocks.now) connections.now }
     ensures passed { OnOk result (graph_fault (net_of B.meaning (graph_of [] blocks.now connections.now)) ≡ None) }
-    ensures tables { IfOk result (λ w. AreTables (length blocks.now) connections.now w.inputs w.outputs.items w.readers) }
+    ensures tables { IfOk result (λ made. AreTables (length blocks.now) connections.now made.0.inputs made.0.outputs.items made.0.readers) }
+    ensures asked { IfOk result (λ made. AreAsked B.meaning blocks.now made.1.items) }
     ensures refused { IfErr result (λ fault. fault ≢ GraphFault.Memory
         → told Limit.Blocks (graph_fault (net_of B.meaning (graph_of [] blocks.now connections.now))) ≡ Some fault) }
 {
@@ -183,7 +186,8 @@ fn tested<B: Block>(
     if let Some(fault) = gain_fault(alloc, blocks, connections)? {
         return Err(fault);
     }
-    Ok(tables(alloc, blocks.len(), connections)?)
+    let wiring = tables(alloc, blocks.len(), connections)?;
+    Ok((wiring, all_asked(alloc, blocks)?))
 }
 
 // Why a block may not be added.

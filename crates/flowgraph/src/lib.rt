@@ -1,6 +1,7 @@
 //! Graphs of any shape: building them block by block and connection by connection, and testing them.
 #![tactic(auto)]
 
+mod asked;
 mod by_port;
 mod counts;
 pub mod fault;

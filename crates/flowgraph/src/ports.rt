@@ -13,7 +13,7 @@ use std::alloc::{AllocError, Global};
 pub const MOST_PORTS: usize = 16;
 
 /// The ports of a side of a block.
-#[derive(Clone, Copy, Debug, PartialEq, Eq)]
+#[derive(Clone, Copy)]
 pub struct Ports {
     /// How many are used: one more than the greatest.
     pub used: usize,

@@ -9,7 +9,7 @@ use crate::ports::{cleared, end_of};
 use std::alloc::{AllocError, Global};
 
 /// A step of a search.
-#[derive(Clone, Copy, Debug)]
+#[derive(Clone, Copy)]
 struct Step {
     block: usize,
     // The number of the root from which the search came to the block.
@@ -19,7 +19,7 @@ struct Step {
 }
 
 /// What a search has found.
-#[derive(Debug, Drop)]
+#[derive(Drop)]
 struct Found {
     // The blocks in the order in which they were left.
     left: Vec<usize>,

@@ -6,14 +6,14 @@ use std::alloc::{AllocError, Global};
 use std::marker::Model;
 
 /// Where a row begins and ends.
-#[derive(Clone, Copy, Debug, PartialEq, Eq)]
+#[derive(Clone, Copy)]
 pub struct Place {
     from: usize,
     to: usize,
 }
 
 /// Rows of items, one behind the other in one vector. A contract sees the list of the rows.
-#[derive(Debug, Drop)]
+#[derive(Drop)]
 pub struct Rows<T> {
     items: Vec<T>,
     places: Vec<Place>,

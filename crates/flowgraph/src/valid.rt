@@ -6,14 +6,17 @@ ghost use Rattle.stream_laws.specs.CanRun.{CanRun};
 ghost use Rattle.graph_model.specs.Graphs.{IsValidGraph};
 ghost use Rattle.graph_model.specs.Rates.{CanCount};
 ghost use Rattle.graph_laws.specs.Running.{AreLawful};
+ghost use Rattle.block_kinds.specs.Shape.{HasPace};
+ghost use Rattle.flowgraph.specs.Asked.{AreAsked};
 ghost use Rattle.flowgraph.specs.Fault.{id};
 ghost use Rattle.flowgraph.specs.Flowgraph.{net_of, graph_of, connection_of, HasOptions};
 ghost use Rattle.flowgraph.specs.Wiring.{writers_in, IsItsReader, IsWired};
 
+use crate::asked::Asked;
 use crate::parts::{BlockId, Connection, Entry, Input, Options};
 use crate::ports::MOST_PORTS;
 use crate::wiring::Wiring;
-use block_kinds::{Block, Role};
+use block_kinds::{Block, Pace, Role};
 use indexmap::IndexSet;
 use std::marker::Model;
 
@@ -24,6 +27,7 @@ pub struct Valid<B: Block> {
     blocks: Vec<Entry<B>>,
     connections: Vec<Connection>,
     wiring: Wiring,
+    asked: Vec<Asked>,
 }
 
 impl<B: Block> Model for Valid<B> {
@@ -34,12 +38,14 @@ impl<B: Block> Model for Valid<B> {
 
     ghost use Rattle.graph_model.specs.Graphs.{IsValidGraph};
     ghost use Rattle.flowgraph.specs.Flowgraph.{net_of, graph_of};
+    ghost use Rattle.flowgraph.specs.Asked.{AreAsked};
     ghost use Rattle.flowgraph.specs.Wiring.{IsWired};
 
     ghost view = { λ g. graph_of (map (λ name. name.items) g.names.keys) g.blocks.items g.connections.items };
 
     ghost invariant = { λ g. let graph = graph_of (map (λ name. name.items) g.names.keys) g.blocks.items g.connections.items in
-        IsValidGraph graph.names (net_of B.meaning graph) × IsWired (net_of B.meaning graph) g.wiring.inputs g.wiring.outputs.items g.wiring.readers };
+        IsValidGraph graph.names (net_of B.meaning graph) × IsWired (net_of B.meaning graph) g.wiring.inputs g.wiring.outputs.items g.wiring.readers
+        × AreAsked B.meaning g.blocks.items g.asked.items };
 }
 
 impl<B: Block> Valid<B> {
@@ -49,9 +55,11 @@ impl<B: Block> Valid<B> {
         blocks: Vec<Entry<B>>,
         connections: Vec<Connection>,
         wiring: Wiring,
+        asked: Vec<Asked>,
     ) -> Valid<B>
         requires valid { IsValidGraph (map (λ n. n.items) names.keys) (net_of B.meaning (graph_of (map (λ n. n.items) names.keys) blocks.items connections.items)) }
         requires wired { IsWired (net_of B.meaning (graph_of (map (λ n. n.items) names.keys) blocks.items connections.items)) wiring.inputs wiring.outputs.items wiring.readers }
+        requires asked { AreAsked B.meaning blocks.items asked.items }
         ensures { result ≡ graph_of (map (λ n. n.items) names.keys) blocks.items connections.items }
     {
         Valid {
@@ -59,6 +67,7 @@ impl<B: Block> Valid<B> {
             blocks,
             connections,
             wiring,
+            asked,
         }
     }
 
@@ -110,12 +119,41 @@ impl<B: Block> Valid<B> {
         self.blocks[block.0 as usize].options
     }
 
+    /// What a block does with streams.
+    pub fn role(&self, block: BlockId) -> Role
+        requires { block.0 < length self.now.blocks }
+        ensures { result ≡ role_at (net_of B.meaning self.now) block.0 }
+    {
+        self.asked[block.0 as usize].role
+    }
+
+    /// After how many firings a block ends by itself.
+    pub fn limit(&self, block: BlockId) -> Option<u64>
+        requires { block.0 < length self.now.blocks }
+        ensures { result ≡ (node_at (net_of B.meaning self.now) block.0).meaning.limit }
+    {
+        self.asked[block.0 as usize].limit
+    }
+
+    /// How the items that a block takes of an input, or of its tape, go with those that it gives.
+    pub fn pace(&self, block: BlockId, port: usize) -> Pace
+        requires { block.0 < length self.now.blocks }
+        ensures { HasPace (node_at (net_of B.meaning self.now) block.0).meaning port result }
+    {
+        let paces = &self.asked[block.0 as usize].paces;
+        if port < paces.len() {
+            paces[port]
+        } else {
+            self.block(block).shape(port).pace
+        }
+    }
+
     /// Whether a block is a source.
     pub fn is_source(&self, block: BlockId) -> bool
         requires { block.0 < length self.now.blocks }
         ensures { result ≡ is_source (role_at (net_of B.meaning self.now) block.0) }
     {
-        match self.block(block).role() {
+        match self.role(block) {
             Role::Source => true,
             Role::Work | Role::Keep | Role::Discard => false,
         }
@@ -126,7 +164,7 @@ impl<B: Block> Valid<B> {
         requires { block.0 < length self.now.blocks }
         ensures { result ≡ is_keeper (role_at (net_of B.meaning self.now) block.0) }
     {
-        match self.block(block).role() {
+        match self.role(block) {
             Role::Keep => true,
             Role::Source | Role::Work | Role::Discard => false,
         }
@@ -140,7 +178,7 @@ impl<B: Block> Valid<B> {
         ensures { result ≡ taken_by (node_at (net_of B.meaning self.now) block.0) port firings }
     {
         let multiple = self.options(block).multiple;
-        self.block(block).taken(port, u64::from(multiple) * firings)
+        self.pace(block, port).taken(u64::from(multiple) * firings)
     }
 
     /// How many items the first `firings` firings of a block give on each output.
@@ -151,7 +189,7 @@ impl<B: Block> Valid<B> {
         ensures { result ≡ given_by (node_at (net_of B.meaning self.now) block.0) firings }
     {
         let multiple = self.options(block).multiple;
-        self.block(block).given(u64::from(multiple) * firings)
+        self.pace(block, 0).given(u64::from(multiple) * firings)
     }
 
     /// The block of a name. It takes one look-up by hash.

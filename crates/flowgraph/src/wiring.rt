@@ -15,7 +15,7 @@ use crate::rows::Rows;
 use std::alloc::{AllocError, Global};
 
 /// The tables that tell how blocks are wired.
-#[derive(Debug, Drop)]
+#[derive(Drop)]
 pub struct Wiring {
     // For each block its inputs.
     pub inputs: Rows<Input>,

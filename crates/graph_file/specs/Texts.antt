@@ -3,15 +3,11 @@ use Rattle.std.specs.Prelude.{ℕ, List, ◌++◌, codes, string_bytes}
 use Rattle.std.specs.Fmt.{decimal, signed_decimal}
 use Rattle.flowgraph.specs.declared.fault.GraphFault.{GraphFault}
 use Rattle.flowgraph.specs.declared.fault.GraphFault.TheVariants as graph
-use Rattle.flowgraph.specs.declared.fault.Side.{Side}
-use Rattle.flowgraph.specs.declared.fault.Side.TheVariants.{In, Out}
-use Rattle.flowgraph.specs.declared.fault.Limit.{Limit}
-use Rattle.flowgraph.specs.declared.fault.Limit.TheVariants.{Blocks, Connections}
-use Rattle.flowgraph.specs.declared.fault.BlockOption.{BlockOption}
-use Rattle.flowgraph.specs.declared.fault.BlockOption.TheVariants.{Name, Multiple, Capacity}
+use Rattle.flowgraph.specs.Fault.{side_text, limit_text, option_text}
 use Rattle.kind_keys.specs.declared.fault.KeyFault.{KeyFault}
 use Rattle.kind_keys.specs.declared.fault.KeyFault.TheVariants as key
-use Rattle.kind_keys.specs.Keys.{text_of, parameter_text}
+use Rattle.block_kinds.specs.Fault.{parameter_text}
+use Rattle.kind_keys.specs.Keys.{text_of}
 use Rattle.plant.specs.declared.fault.PlantFault.{PlantFault}
 use Rattle.plant.specs.declared.fault.PlantFault.TheVariants as plant
 use Rattle.plant.specs.Fault.{number_of as feed_number}
@@ -20,25 +16,12 @@ use Rattle.graph_file.specs.declared.fault.Place.TheVariants.{Top, Block, Connec
 use Rattle.graph_file.specs.declared.fault.FileFault.{FileFault}
 use Rattle.graph_file.specs.declared.fault.FileFault.TheVariants as file
 
--- the words for places, sides, limits and options
+-- the words for places
 abbrev pub place_text : Place → List ℕ
 place_text Top = codes "top"
 place_text (Block n) = codes "block " ++ decimal n
 place_text (Connect n) = codes "connect " ++ decimal n
 place_text (Feed n) = codes "feed " ++ decimal n
-
-abbrev pub side_text : Side → List ℕ
-side_text In = codes "in"
-side_text Out = codes "out"
-
-abbrev pub limit_text : Limit → List ℕ
-limit_text Blocks = codes "blocks"
-limit_text Connections = codes "connections"
-
-abbrev pub option_text : BlockOption → List ℕ
-option_text Name = codes "name"
-option_text Multiple = codes "multiple"
-option_text Capacity = codes "capacity"
 
 -- what is wrong with the table of a place
 abbrev pub table_text : Place → KeyFault → List ℕ

@@ -4,9 +4,8 @@ ghost use Rattle.graph_file.specs.declared.fault.FileFault.TheVariants.{Memory};
 ghost use Rattle.graph_file.specs.Refusals.{told, told_table, told_feed, of_graph, negative_port};
 ghost use Rattle.graph_file.specs.Texts as texts;
 
-use flowgraph::{BlockOption, GraphFault, Limit, Side};
+use flowgraph::{GraphFault, Side};
 use kind_keys::KeyFault;
-use kind_keys::key::parameter_text;
 use plant::PlantFault;
 use std::alloc::{AllocError, AllocFailed, Global};
 use std::fmt;
@@ -167,43 +166,37 @@ impl fmt::Display for FileFault {
                     write!(f, "43 WrongType {place} {key}")
                 }
                 KeyFault::UnknownKind => write!(f, "44 UnknownKind {place}"),
-                KeyFault::BadParameter(parameter) => {
-                    let parameter = parameter_text(*parameter);
-                    write!(f, "10 BadParameter {place} {parameter}")
-                }
+                KeyFault::BadParameter(parameter) => write!(
+                    f,
+                    "10 BadParameter {place} {parameter}"
+                ),
                 KeyFault::Memory => write!(f, "32 Memory"),
             },
             FileFault::Graph { place, fault, name } => match fault {
                 GraphFault::DuplicateName => write!(f, "1 DuplicateName {name}"),
                 GraphFault::UnknownBlock => write!(f, "2 UnknownBlock {place}"),
-                GraphFault::PortRange { side, port, .. } => {
-                    let side = side_text(*side);
-                    write!(f, "3 PortRange {name} {side} {port}")
-                }
+                GraphFault::PortRange { side, port, .. } => write!(
+                    f,
+                    "3 PortRange {name} {side} {port}"
+                ),
                 GraphFault::InputTaken { port, .. } => write!(f, "4 InputTaken {name} {port}"),
-                GraphFault::PortGap { side, port, .. } => {
-                    let side = side_text(*side);
-                    write!(f, "5 PortGap {name} {side} {port}")
-                }
+                GraphFault::PortGap { side, port, .. } => write!(
+                    f,
+                    "5 PortGap {name} {side} {port}"
+                ),
                 GraphFault::TypeMismatch { port, .. } => write!(f, "6 TypeMismatch {name} {port}"),
                 GraphFault::Loop { .. } => write!(f, "7 Loop {name}"),
                 GraphFault::TooFewPorts { .. } => write!(f, "8 TooFewPorts {name}"),
-                GraphFault::TooLarge(limit) => {
-                    let limit = limit_text(*limit);
-                    write!(f, "9 TooLarge {limit}")
-                }
-                GraphFault::BadParameter(option) => {
-                    let option = option_text(*option);
-                    write!(f, "10 BadParameter {place} {option}")
-                }
+                GraphFault::TooLarge(limit) => write!(f, "9 TooLarge {limit}"),
+                GraphFault::BadParameter(option) => write!(f, "10 BadParameter {place} {option}"),
                 GraphFault::OneToOne { .. } => write!(f, "11 OneToOne {name}"),
                 GraphFault::Gain { .. } => write!(f, "12 Gain {name}"),
                 GraphFault::Memory => write!(f, "32 Memory"),
             },
-            FileFault::NegativePort { name, side, port } => {
-                let side = side_text(*side);
-                write!(f, "3 PortRange {name} {side} {port}")
-            }
+            FileFault::NegativePort { name, side, port } => write!(
+                f,
+                "3 PortRange {name} {side} {port}"
+            ),
             FileFault::Feed { feed, fault } => {
                 let number = fault.number();
                 let name = feed_fault_text(*fault);
@@ -232,33 +225,5 @@ fn feed_fault_text(fault: PlantFault) -> &'static str
         PlantFault::BeyondEnd => "BeyondEnd",
         PlantFault::NoSuchPort => "NoSuchPort",
         PlantFault::Memory => "Memory",
-    }
-}
-
-fn side_text(side: Side) -> &'static str
-    ensures { result.now ≡ texts.side_text side }
-{
-    match side {
-        Side::In => "in",
-        Side::Out => "out",
-    }
-}
-
-fn limit_text(limit: Limit) -> &'static str
-    ensures { result.now ≡ texts.limit_text limit }
-{
-    match limit {
-        Limit::Blocks => "blocks",
-        Limit::Connections => "connections",
-    }
-}
-
-fn option_text(option: BlockOption) -> &'static str
-    ensures { result.now ≡ texts.option_text option }
-{
-    match option {
-        BlockOption::Name => "name",
-        BlockOption::Multiple => "multiple",
-        BlockOption::Capacity => "capacity",
     }
 }

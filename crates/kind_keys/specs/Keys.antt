@@ -2,31 +2,11 @@
 use Rattle.std.specs.Prelude.{ℕ, ℤ, pos, List, Bool, true, false, codes}
 use Rattle.block_kinds.specs.declared.fault.Parameter.{Parameter}
 use Rattle.block_kinds.specs.declared.fault.Parameter.TheVariants as parameters
+use Rattle.block_kinds.specs.Fault.{parameter_text}
 use Rattle.kind_keys.specs.declared.key.Key.{Key}
 use Rattle.kind_keys.specs.declared.key.Key.TheVariants as keys
 use Rattle.kind_keys.specs.declared.key.Shape.{Shape}
 use Rattle.kind_keys.specs.declared.key.Shape.TheVariants.{Text, Number, Numbers, Tables, Choice}
-
--- the text of the key of a parameter
-abbrev pub parameter_text : Parameter → List ℕ
-parameter_text parameters.ItemType = codes "type"
-parameter_text parameters.Value = codes "value"
-parameter_text parameters.Factor = codes "factor"
-parameter_text parameters.Shift = codes "shift"
-parameter_text parameters.Map = codes "map"
-parameter_text parameters.To = codes "to"
-parameter_text parameters.Length = codes "length"
-parameter_text parameters.Taps = codes "taps"
-parameter_text parameters.Decimation = codes "decimation"
-parameter_text parameters.Interpolation = codes "interpolation"
-parameter_text parameters.K = codes "k"
-parameter_text parameters.Modulus = codes "modulus"
-parameter_text parameters.Bits = codes "bits"
-parameter_text parameters.Mask = codes "mask"
-parameter_text parameters.Init = codes "init"
-parameter_text parameters.N = codes "n"
-parameter_text parameters.Ports = codes "ports"
-parameter_text parameters.Lengths = codes "lengths"
 
 -- the text of a key
 abbrev pub text_of : Key → List ℕ

@@ -1,6 +1,6 @@
 //! The keys of graph files.
 ghost use Rattle.std.specs.Prelude.{◌≡◌};
-ghost use Rattle.kind_keys.specs.Keys.{text_of, parameter_text, shape_of, parameter_shape, is_needed, is_needed_parameter, missing, missing_parameter};
+ghost use Rattle.kind_keys.specs.Keys.{text_of, shape_of, parameter_shape, is_needed, is_needed_parameter, missing, missing_parameter};
 
 use block_kinds::Parameter;
 
@@ -72,7 +72,7 @@ impl Key {
             Key::Feed => "feed",
             Key::Name => "name",
             Key::Kind => "kind",
-            Key::Parameter(parameter) => parameter_text(*parameter),
+            Key::Parameter(parameter) => parameter.text(),
             Key::Tags | Key::Marks => "tags",
             Key::Multiple => "multiple",
             Key::Capacity => "capacity",
@@ -143,32 +143,6 @@ impl Key {
             Key::Capacity => 4096,
             _ => 0,
         }
-    }
-}
-
-/// The text of the key of a parameter.
-pub fn parameter_text(parameter: Parameter) -> &'static str
-    ensures { result.now ≡ parameter_text parameter }
-{
-    match parameter {
-        Parameter::ItemType => "type",
-        Parameter::Value => "value",
-        Parameter::Factor => "factor",
-        Parameter::Shift => "shift",
-        Parameter::Map => "map",
-        Parameter::To => "to",
-        Parameter::Length => "length",
-        Parameter::Taps => "taps",
-        Parameter::Decimation => "decimation",
-        Parameter::Interpolation => "interpolation",
-        Parameter::K => "k",
-        Parameter::Modulus => "modulus",
-        Parameter::Bits => "bits",
-        Parameter::Mask => "mask",
-        Parameter::Init => "init",
-        Parameter::N => "n",
-        Parameter::Ports => "ports",
-        Parameter::Lengths => "lengths",
     }
 }
 

@@ -3,7 +3,7 @@ use crate::{NullSink, VectorSink, VectorSource};
 use bit_blocks::{
     AdditiveScrambler, Descrambler, DiffDecoder, DiffEncoder, PackKBits, Scrambler, UnpackKBits,
 };
-use block_kinds::{Block, Held, Role, Shape};
+use block_kinds::{Block, Held, Shape};
 use fir_blocks::{Fir, InterpFir};
 use items::Items;
 use math_blocks::{
@@ -129,23 +129,6 @@ impl Block for Kind {
 
     fn shape(&self, input: usize) -> Shape<'_> {
         on_block!(self, block => block.shape(input))
-    }
-
-    // These are asked at each claim and commit: each block's own answer costs no shape.
-    fn role(&self) -> Role {
-        on_block!(self, block => block.role())
-    }
-
-    fn taken(&self, input: usize, firings: u64) -> u64 {
-        on_block!(self, block => block.taken(input, firings))
-    }
-
-    fn given(&self, firings: u64) -> u64 {
-        on_block!(self, block => block.given(firings))
-    }
-
-    fn limit(&self) -> Option<u64> {
-        on_block!(self, block => block.limit())
     }
 
     fn work(

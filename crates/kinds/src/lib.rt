@@ -1,7 +1,6 @@
 //! The blocks of flowgraphs, and one type over all of them.
 #![tactic(auto)]
 
-mod conversions;
 pub mod kind;
 pub mod null_sink;
 pub mod sink;

@@ -22,7 +22,7 @@ returns-in-Keep-clause-sinks g c =
     let k = c.args.firings.first in
     let next = c.args.firings.next in
     let waiting = get_or (tags_waiting net (stored_of [] [] (rows c.args.buffers.now) c.args.sinks.now) b) 0 [] in
-    let role : role_at net b ≡ Keep = ap (λ (m : Meaning). m.role) (sym c.block.ensures.meaning) ∙ sym c.in-Keep.ensures in
+    let role : role_at net b ≡ Keep = sym c.in-Keep.ensures in
     let keeper : is_keeper (role_at net b) ≡ true = ap is_keeper role in
     let keeps = c.requires.keeps keeper in
     let some : 0 < length c.args.windows.now = (let one = keeps.collects.one in omega arith) in

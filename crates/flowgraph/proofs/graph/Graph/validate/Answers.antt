@@ -1,6 +1,7 @@
 use Rattle.std.proofs.Common.{◌≡◌, ◌≤◌, None, length, sym, subst}
 use Rattle.graph_model.specs.Graphs.{graph_fault}
 use Rattle.graph_laws.proofs.Decide.{tests_decide}
+use Rattle.flowgraph.specs.Asked.{AreAsked}
 use Rattle.flowgraph.specs.Ports.{AreWithin}
 use Rattle.flowgraph.specs.Tables.{AreTables}
 use Rattle.flowgraph.proofs.Assembly.{net, within, few_blocks, wired}
@@ -27,4 +28,5 @@ with_tables-requires g c =
     record {
       valid = (tests_decide _ (net m es cs) c.self.invariant).0.0 passed;
       wired = wired m es cs _ c.self.invariant c.in-Ok.wiring.inputs c.in-Ok.wiring.outputs.items c.in-Ok.wiring.readers tables;
+      asked = subst (λ xs. AreAsked m xs c.in-Ok.asked.items) c.deref.ensures.value c.in-Ok.ensures.asked;
     }

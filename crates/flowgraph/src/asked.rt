@@ -1,0 +1,56 @@
+//! What blocks are asked at each claim and commit, kept so that no shape has to be made for it.
+ghost use Rattle.std.specs.Prelude.{◌≡◌, ℕ, length, Some, slice_get, IfOk};
+ghost use Rattle.block_kinds.specs.Shape.{HasPace};
+ghost use Rattle.flowgraph.specs.Asked.{IsAsked, AreAsked};
+
+use crate::parts::Entry;
+use crate::ports::MOST_PORTS;
+use block_kinds::{Block, Pace, Role};
+use std::alloc::{AllocError, Global};
+
+/// What is kept of a block.
+#[derive(Drop)]
+pub struct Asked {
+    pub role: Role,
+    pub limit: Option<u64>,
+    /// Those of its inputs, of a source that of its tape.
+    pub paces: Vec<Pace>,
+}
+
+/// What is kept of all blocks.
+pub fn all_asked<B: Block>(alloc: Global, blocks: &[Entry<B>]) -> Result<Vec<Asked>, AllocError>
+    ensures { IfOk result (λ all. AreAsked B.meaning blocks.now all.items) }
+{
+    let mut all = Vec::with_capacity(alloc, blocks.len())?;
+    for entry in blocks {
+        all.push(keep_of(alloc, &entry.block)?)?;
+    }
+    Ok(all)
+}
+
+fn keep_of<B: Block>(alloc: Global, block: &B) -> Result<Asked, AllocError>
+    ensures { IfOk result (IsAsked (B.meaning block.now)) }
+{
+    let shape = block.shape(0);
+    let paces = paces(
+        alloc,
+        block,
+        (shape.inputs.most as usize).clamp(1, MOST_PORTS),
+    )?;
+    Ok(Asked {
+        role: shape.role,
+        limit: shape.limit,
+        paces,
+    })
+}
+
+// The paces of so many inputs.
+fn paces<B: Block>(alloc: Global, block: &B, inputs: usize) -> Result<Vec<Pace>, AllocError>
+    ensures { IfOk result (λ paces. (p : ℕ) (pace : Pace) → slice_get paces.items p ≡ Some pace → HasPace (B.meaning block.now) p pace) }
+{
+    let mut paces = Vec::with_capacity(alloc, inputs)?;
+    for input in 0..inputs {
+        paces.push(block.shape(input).pace)?;
+    }
+    Ok(paces)
+}
