@@ -2,4 +2,3 @@ pub mod Fills
 pub mod InForce
 pub mod Inputs
 pub mod Outputs
-pub mod Paces
