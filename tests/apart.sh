@@ -1,29 +1,51 @@
 # shellcheck shell=bash
-# For scripts of tests/ to source: crates of test sources that run unproved, as rt try compiles them with checks. Each folder of tests/ with .test
-# files is the source of one, put together in a copy of the checkout, so that the gate has no proof of them to make.
+# For scripts to source: crates that stand outside crates/ and run unproved, as rt try compiles them with checks, so that the gate has no proof of them
+# to make. Each is put together in a copy of the checkout: the tests of a folder of tests/ with .test files, and the programs of benches/.
 # shellcheck source=scripts/program.sh
 source "$(dirname -- "$(readlink -f -- "${BASH_SOURCE[0]}")")/../scripts/program.sh"
 
 room=$(mktemp -d)
 trap 'rm -rf -- "$room"' EXIT
 
-# put_apart FOLDER CRATE..: the crate FOLDER_tests of a folder, over these crates and those below them, in the checkout $room/FOLDER
-put_apart() {
-    local crate file here=$room/$1 name=${1}_tests order=() libraries=()
+# put_below FOLDER LIBRARY..: those of these libraries that are crates, and those below them, in the checkout $room/FOLDER; `order` has them then
+put_below() {
+    local crate here=$room/$1
     for crate in "${@:2}"; do
-        put_in_order "$crate"
-        libraries+=("$crate")
+        if [[ -v uses[$crate] ]]; then
+            put_in_order "$crate"
+        fi
     done
-    mkdir -p "$here/crates/$name/src"
+    mkdir -p "$here/crates"
     for crate in "${order[@]}"; do
         echo "${line_of[$crate]}" >>"$here/crates.txt"
         mkdir "$here/crates/$crate"
         find "$top/crates/$crate" -mindepth 1 -maxdepth 1 ! -name out -exec cp -a -t "$here/crates/$crate" -- {} +
-        read -ra file <<<"${uses[$crate]}"
-        libraries+=("$crate" "${file[@]}")
+    done
+}
+
+# put_apart FOLDER CRATE..: the crate FOLDER_tests of a folder of tests/, over these crates and those below them, in the checkout $room/FOLDER
+put_apart() {
+    local crate file used here=$room/$1 name=${1}_tests order=() libraries=()
+    put_below "$@"
+    for crate in "${order[@]}"; do
+        read -ra used <<<"${uses[$crate]}"
+        libraries+=("$crate" "${used[@]}")
     done
     echo "$name: $(printf '%s\n' "${libraries[@]}" | sort -u | paste -sd ' ')" >>"$here/crates.txt"
+    mkdir -p "$here/crates/$name/src"
     for file in "$top/tests/$1"/*.test; do
         cp -- "$file" "$here/crates/$name/src/$(basename -- "$file" .test).rt"
     done
+}
+
+# put_bench PROGRAM: a program of benches/ over the libraries of its line in benches/uses.txt, in the checkout $room/PROGRAM
+put_bench() {
+    local file here=$room/$1 order=() libraries=()
+    read -ra libraries < <(sed -n "s/^$1: //p" "$top/benches/uses.txt")
+    put_below "$1" "${libraries[@]}"
+    echo "$1: ${libraries[*]}" >>"$here/crates.txt"
+    cp -a -- "$top/benches/$1" "$here/crates/$1"
+    while IFS= read -r file; do
+        mv -- "$file" "${file%.apart}"
+    done < <(find "$here/crates/$1" -name '*.apart')
 }

@@ -1,5 +1,6 @@
 #!/usr/bin/env bash
-# Tests that run unproved, each folder of tests/ those of the crates that stand behind it below, and tests/terminal those of a file of the program.
+# Tests that run unproved, each folder of tests/ those of the crates that stand behind it below, and tests/terminal those of a file of the program; and
+# the programs of benches/, which without words print what was worked out by hand.
 set -euo pipefail
 # shellcheck source=tests/apart.sh
 source "$(dirname -- "$(readlink -f -- "${BASH_SOURCE[0]}")")/apart.sh"
@@ -20,6 +21,18 @@ run_tests() {
     echo "$count tests of $1 passed"
 }
 
+# run_bench PROGRAM: it writes what its file stdout has
+run_bench() {
+    local own=$room/$1/crates/$1
+    put_bench "$1"
+    if ! (cd "$own" && rt try) >"$room/wrote" 2>"$room/said" </dev/null || ! cmp -s "$room/wrote" "$own/stdout"; then
+        echo "unproved: $1 does not write what its file stdout has:" >&2
+        cat "$room/said" "$room/wrote" >&2
+        exit 1
+    fi
+    echo "$1 wrote what its file stdout has"
+}
+
 run_tests leaves 6 items tags ring_readers buffers settings
 run_tests kernels 5 lane_kernels lane_filters
 run_tests blocks 13 kinds
@@ -28,3 +41,5 @@ run_tests plants 5 plant kinds
 run_tests graph_files 5 graph_file
 run_tests streams 6 flow
 run_tests terminal 2 plant
+run_bench kernel_bench
+run_bench graph_bench
