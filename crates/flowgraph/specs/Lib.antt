@@ -3,6 +3,7 @@ pub mod Fault
 pub mod Flowgraph
 pub mod Ports
 pub mod Rows
+pub mod Searches
 pub mod Tables
 pub mod Tests
 pub mod Turns

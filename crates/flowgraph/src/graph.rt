@@ -1,11 +1,9 @@
 //! Building a graph.
-ghost use Rattle.std.specs.Prelude.{◌≡◌, ◌≢◌, ◌<◌, ◌≤◌, false, true, [], ◌∷◌, ◌++◌, length, map, min, nat_lt, bytes_eq, slice_get, None, Some, IfOk, IfErr, OnOk, OnErr};
-ghost use Rattle.std.specs.Option.{option_map};
+ghost use Rattle.std.specs.Prelude.{◌≡◌, ◌≢◌, ◌<◌, ◌≤◌, ◌+◌, false, true, [], ◌∷◌, ◌++◌, length, map, bytes_eq, slice_get, None, Some, IfOk, IfErr, OnOk, OnErr, vec_len, vec_capacity};
 ghost use Rattle.std.specs.List.{list_any};
-ghost use Rattle.stream_model.specs.Network.{enters};
 ghost use Rattle.indexmap.specs.IndexSet.{spare};
 ghost use Rattle.graph_model.specs.Graphs as graphs;
-ghost use Rattle.graph_model.specs.Graphs.{add_fault, connect_fault, graph_fault, multiples};
+ghost use Rattle.graph_model.specs.Graphs.{add_fault, connect_fault, graph_fault};
 ghost use Rattle.flowgraph.specs.Fault.{reported, told};
 ghost use Rattle.flowgraph.specs.Ports.{AreWithin};
 ghost use Rattle.flowgraph.specs.Asked.{AreAsked};
@@ -13,31 +11,18 @@ ghost use Rattle.flowgraph.specs.Tables.{AreTables};
 ghost use Rattle.flowgraph.specs.Flowgraph.{net_of, node_of, graph_of, entry, connection, connection_of, with_block, with_connection};
 
 use crate::asked::{Asked, all_asked};
-use crate::fault::{BlockOption, GraphFault, Limit, Side};
+use crate::fault::{GraphFault, Limit};
 use crate::gains::gain_fault;
 use crate::loops::loop_fault;
 use crate::parts::{BlockId, Connection, Entry, Options};
 use crate::port_tests::port_fault;
-use crate::ports::MOST_PORTS;
+use crate::refusals::{refused_block, refused_connection};
 use crate::valid::Valid;
 use crate::wiring::{Wiring, tables};
 use block_kinds::Block;
 use indexmap::IndexSet;
-use items::is_name;
-use std::alloc::Global;
+use std::alloc::{AllocError, Global};
 use std::marker::Model;
-use stream_model::{Role, Signature};
-
-/// How many blocks a graph may have, connections, bytes of a name, base firings in one, items of a capacity.
-const MOST_BLOCKS: usize = 256;
-
-const MOST_CONNECTIONS: usize = 1024;
-
-const MOST_NAME: usize = 32;
-
-const MOST_MULTIPLE: u32 = 64;
-
-const MOST_CAPACITY: u32 = 65536;
 
 /// A graph while it is built. A contract sees the blocks with their names, and the connections.
 #[derive(Drop)]
@@ -102,9 +87,7 @@ impl<B: Block> Graph<B> {
         if let Some(fault) = refused_block(&self.names, &self.blocks, name, &block, &options) {
             return Err(fault);
         }
-        let key = Vec::from_slice(alloc, name)?;
-        self.names.reserve(1)?;
-        self.blocks.reserve(1)?;
+        let key = make_room(&mut self.names, &mut self.blocks, alloc, name)?;
         let number = self.blocks.len();
         add_name(&mut self.names, key);
         self.blocks.push(Entry { block, options }).unwrap();
@@ -190,47 +173,23 @@ fn tested<B: Block>(
     Ok((wiring, all_asked(alloc, blocks)?))
 }
 
-// Why a block may not be added.
-fn refused_block<B: Block>(
-    names: &IndexSet<Vec<u8>>,
-    blocks: &[Entry<B>],
+// Room for one block more and its name, and a copy of the name.
+fn make_room<B: Block>(
+    names: &mut IndexSet<Vec<u8>>,
+    blocks: &mut Vec<Entry<B>>,
+    alloc: Global,
     name: &[u8],
-    block: &B,
-    options: &Options,
-) -> Option<GraphFault>
-    ensures { result ≡ option_map (λ fault. reported Limit.Blocks (Some fault))
-        (add_fault (map (λ n. n.items) names.now.keys) (net_of B.meaning (graph_of [] blocks.now [])) name.now (node_of B.meaning (entry block.now options.now))) }
+) -> Result<Vec<u8>, AllocError>
+    ensures copied { IfOk result (λ key. key.items ≡ name.now) }
+    ensures name_room { OnOk result (1 ≤ spare names.new) }
+    ensures block_room { OnOk result (vec_len blocks.new + 1 ≤ vec_capacity blocks.new) }
+    ensures names { names.new.keys ≡ names.old.keys }
+    ensures blocks { blocks.new.items ≡ blocks.old.items }
 {
-    if !is_block_name(name) {
-        return Some(GraphFault::BadParameter(BlockOption::Name));
-    }
-    if !is_from_one(options.multiple, most_multiple(block)) {
-        return Some(GraphFault::BadParameter(BlockOption::Multiple));
-    }
-    if !is_from_one(options.capacity, MOST_CAPACITY) {
-        return Some(GraphFault::BadParameter(BlockOption::Capacity));
-    }
-    if is_given(names, name) {
-        return Some(GraphFault::DuplicateName);
-    }
-    if MOST_BLOCKS <= blocks.len() {
-        return Some(GraphFault::TooLarge(Limit::Blocks));
-    }
-    None
-}
-
-// Whether the bytes are a name.
-fn is_block_name(name: &[u8]) -> bool
-    ensures { result ≡ graphs.is_name name.now }
-{
-    is_name(name, MOST_NAME)
-}
-
-// Whether a block has the name.
-fn is_given(names: &IndexSet<Vec<u8>>, name: &[u8]) -> bool
-    ensures { result ≡ list_any (bytes_eq name.now) (map (λ n. n.items) names.now.keys) }
-{
-    names.contains(name)
+    let key = Vec::from_slice(alloc, name)?;
+    names.reserve(1)?;
+    blocks.reserve(1)?;
+    Ok(key)
 }
 
 // Adds a name that no block has, where there is room for one.
@@ -240,100 +199,4 @@ fn add_name(names: &mut IndexSet<Vec<u8>>, name: Vec<u8>)
     ensures { map (λ n. n.items) names.new.keys ≡ map (λ n. n.items) names.old.keys ++ name.items ∷ [] }
 {
     names.insert(name).unwrap();
-}
-
-// Whether a number is from 1 to the greatest.
-fn is_from_one(number: u32, most: u32) -> bool
-    ensures { result ≡ graphs.is_from_one number most }
-{
-    1 <= number && number <= most
-}
-
-// How many base firings one firing of the block may be.
-fn most_multiple<B: Block>(block: &B) -> u32
-    ensures { result ≡ multiples (B.meaning block.now) }
-{
-    match block.role() {
-        Role::Work => {
-            if block.limit().is_none() && block.rate(0).is_some() {
-                MOST_MULTIPLE
-            } else {
-                1
-            }
-        }
-        Role::Source | Role::Keep | Role::Discard => 1,
-    }
-}
-
-// Whether a side of a block may have a port of this number.
-fn may_have(ports: &Signature, port: usize) -> bool
-    ensures { result ≡ nat_lt port (min 16 ports.now.most) }
-{
-    port < MOST_PORTS && port < ports.most as usize
-}
-
-// Why a connection may not be added.
-fn refused_connection<B: Block>(
-    blocks: &[Entry<B>],
-    connections: &[Connection],
-    new: &Connection,
-) -> Option<GraphFault>
-    ensures { result ≡ option_map (λ fault. reported Limit.Connections (Some fault))
-        (connect_fault (net_of B.meaning (graph_of [] blocks.now connections.now)) (connection_of new.now)) }
-{
-    let (from, to) = (new.from.0 as usize, new.to.0 as usize);
-    if blocks.len() <= from || blocks.len() <= to {
-        return Some(GraphFault::UnknownBlock);
-    }
-    let output = blocks[from].block.outputs();
-    if !may_have(&output, new.out_port) {
-        return Some(GraphFault::PortRange {
-            block: new.from,
-            side: Side::Out,
-            port: new.out_port,
-        });
-    }
-    let input = blocks[to].block.inputs();
-    if !may_have(&input, new.in_port) {
-        return Some(GraphFault::PortRange {
-            block: new.to,
-            side: Side::In,
-            port: new.in_port,
-        });
-    }
-    if is_taken(connections, new.to, new.in_port) {
-        return Some(GraphFault::InputTaken {
-            block: new.to,
-            port: new.in_port,
-        });
-    }
-    if output.item != input.item {
-        return Some(GraphFault::TypeMismatch {
-            block: new.to,
-            port: new.in_port,
-        });
-    }
-    if MOST_CONNECTIONS <= connections.len() {
-        return Some(GraphFault::TooLarge(Limit::Connections));
-    }
-    None
-}
-
-// Whether a connection enters the input.
-fn is_taken(connections: &[Connection], block: BlockId, port: usize) -> bool
-    ensures { result ≡ list_any (enters block.0 port) (map connection_of connections.now) }
-{
-    for connection in connections {
-        if is_to(connection, block, port) {
-            return true;
-        }
-    }
-    false
-}
-
-// Whether the connection enters the input.
-fn is_to(connection: &Connection, block: BlockId, port: usize) -> bool
-    ensures { result ≡ enters block.0 port (connection_of connection.now) }
-{
-    connection.to.0 == block.0 && connection.in_port == port
 }

@@ -12,6 +12,7 @@ pub mod parts;
 mod port_tests;
 mod ports;
 mod ranks;
+mod refusals;
 mod rows;
 pub mod valid;
 mod wiring;

@@ -1,6 +1,7 @@
 //! Ranks of blocks, found by searches along the connections.
 ghost use Rattle.std.specs.Prelude.{◌≡◌, ◌<◌, ◌≤◌, ℕ, length, map, All, IfOk, OnOk};
 ghost use Rattle.flowgraph.specs.Ports.{AreWithin};
+ghost use Rattle.flowgraph.specs.Searches.{IsSearch};
 
 use crate::by_port::{empty_rows, push_at};
 use crate::fault::Side;
@@ -27,6 +28,16 @@ struct Found {
     roots: Vec<usize>,
 }
 
+/// A search that goes on.
+#[derive(Drop)]
+struct Search {
+    // The steps to be taken, the next one last.
+    stack: Vec<Step>,
+    // For each block whether the search has come to it.
+    seen: Vec<bool>,
+    found: Found,
+}
+
 /// A rank for each block. Ranks fall along no connection, and are one for blocks that reach one another and for no others; who relies on this
 /// looks at the ranks, since the contract does not say it.
 ///
@@ -44,9 +55,9 @@ pub fn ranks(
 {
     let steps = connections.len().saturating_add(2 * blocks);
     let writers = neighbours(alloc, blocks, connections, Side::In)?;
-    let first = search(alloc, &writers, &all(alloc, blocks)?, steps)?;
+    let first = searched(alloc, &writers, &all(alloc, blocks)?, steps)?;
     let readers = neighbours(alloc, blocks, connections, Side::Out)?;
-    let second = search(alloc, &readers, &first.left, steps)?;
+    let second = searched(alloc, &readers, &first.left, steps)?;
     Ok(second.roots)
 }
 
@@ -85,7 +96,7 @@ fn neighbours(
 
 // Searches from each root in turn, the last root first, and from each block on to its neighbours. It comes once to each block, and takes no
 // more steps than there are roots, blocks and connections.
-fn search(
+fn searched(
     alloc: Global,
     neighbours: &[Vec<usize>],
     roots: &[usize],
@@ -96,31 +107,50 @@ fn search(
     ensures left { IfOk result (λ found. All (λ b. b < length neighbours.now) found.left.items) }
     ensures roots { IfOk result (λ found. length found.roots.items ≡ length neighbours.now) }
 {
-    let blocks = neighbours.len();
-    let mut seen = cleared(alloc, blocks)?;
-    let mut left = Vec::with_capacity(alloc, blocks)?;
-    let mut root_of: Vec<usize> = vec![in alloc; 0; blocks]?;
-    let mut stack = begun(alloc, roots)?;
+    let mut search = begun(alloc, neighbours.len(), roots)?;
     'steps: for _ in 0..steps {
-        let Some(step) = stack.pop() else {
+        if !take_step(&mut search, neighbours)? {
             break;
-        };
-        if step.leaves {
-            left.push(step.block)?;
-        } else if !seen[step.block] {
-            seen[step.block] = true;
-            root_of[step.block] = step.root;
-            go_on(&mut stack, step, &neighbours[step.block])?;
         }
     }
-    Ok(Found {
-        left,
-        roots: root_of,
-    })
+    Ok(search.found)
+}
+
+// A search of so many blocks before its first step.
+fn begun(alloc: Global, blocks: usize, roots: &[usize]) -> Result<Search, AllocError>
+    requires { All (λ b. b < blocks) roots.now }
+    ensures { IfOk result (IsSearch blocks) }
+{
+    let stack = steps_to(alloc, roots)?;
+    let seen = cleared(alloc, blocks)?;
+    let found = Found {
+        left: Vec::with_capacity(alloc, blocks)?,
+        roots: vec![in alloc; 0; blocks]?,
+    };
+    Ok(Search { stack, seen, found })
+}
+
+// Takes the next step of a search, and answers whether there was one.
+fn take_step(search: &mut Search, neighbours: &[Vec<usize>]) -> Result<bool, AllocError>
+    requires neighbours { All (All (λ b. b < length neighbours.now)) (map (λ row. row.items) neighbours.now) }
+    requires search { IsSearch (length neighbours.now) search.old }
+    ensures { OnOk result (IsSearch (length neighbours.now) search.new) }
+{
+    let Some(step) = search.stack.pop() else {
+        return Ok(false);
+    };
+    if step.leaves {
+        search.found.left.push(step.block)?;
+    } else if !search.seen[step.block] {
+        search.seen[step.block] = true;
+        search.found.roots[step.block] = step.root;
+        go_on(&mut search.stack, step, &neighbours[step.block])?;
+    }
+    Ok(true)
 }
 
 // The steps to the roots.
-fn begun(alloc: Global, roots: &[usize]) -> Result<Vec<Step>, AllocError>
+fn steps_to(alloc: Global, roots: &[usize]) -> Result<Vec<Step>, AllocError>
     ensures { IfOk result (λ stack. (blocks : ℕ) → All (λ b. b < blocks) roots.now → All (λ s. s.block < blocks) stack.items) }
 {
     let mut stack = Vec::with_capacity(alloc, roots.len())?;

@@ -42,9 +42,15 @@ impl LaneWork for Repeat {
     ghost makes = { λ b t xs count. listed count (λ k. item xs (k / b.n)) };
 
     fn make<T: SimdLane>(&self, items: &[T], out: &mut [T]) {
-        let n = self.n as usize;
+        // Which item is next, and how often it still is: a division for each item would be dear.
+        let (mut at, mut left) = (0, self.n as usize);
         for k in 0..out.len() {
-            out[k] = items[k / n];
+            out[k] = items[at];
+            left -= 1;
+            if left == 0 {
+                at += 1;
+                left = self.n as usize;
+            }
         }
     }
 }

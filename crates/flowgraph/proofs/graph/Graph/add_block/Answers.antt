@@ -6,13 +6,13 @@ use Rattle.flowgraph.proofs.graph.Graph.add_block.Goals as goal
 
 pub invariant_of-self-2 : goal.invariant_of-self-2
 invariant_of-self-2 g c =
-    let named : map (λ n. n.items) c.add_name.new.names.keys ≡ map (λ n. n.items) c.self.inside.names.keys ++ c.args.name.now ∷ [] = c.add_name.ensures ∙ ap (λ ks. map (λ n. n.items) ks ++ c.in_ok-key.key.items ∷ []) c.in_ok-reserve.ensures.keys ∙ ap (λ text. map (λ n. n.items) c.self.inside.names.keys ++ text ∷ []) c.in_ok-key.ensures.items in
+    let named : map (λ n. n.items) c.add_name.new.names.keys ≡ map (λ n. n.items) c.self.inside.names.keys ++ c.args.name.now ∷ [] = c.add_name.ensures ∙ ap (λ ks. map (λ n. n.items) ks ++ c.in_ok-key.key.items ∷ []) c.make_room.ensures.names ∙ ap (λ text. map (λ n. n.items) c.self.inside.names.keys ++ text ∷ []) c.in_ok-key.ensures.copied in
     let blocks : c.push.new.self.items ≡ c.self.inside.blocks.items ++ entry c.args.block c.args.options ∷ [] = search rules in
     let allowed : add_fault (map (λ n. n.items) c.self.inside.names.keys) (net_of g.B.Block.meaning (graph_of (map (λ n. n.items) c.self.inside.names.keys) c.self.inside.blocks.items c.self.inside.connections.items)) c.args.name.now (node_of g.B.Block.meaning (entry c.args.block c.args.options)) ≡ None = search rules in
     added g.B.Block.meaning _ _ _ _ _ _ _ named blocks c.self.invariant allowed
 
 pub returns-clause-added : goal.returns-clause-added
 returns-clause-added g c =
-    let named : map (λ n. n.items) c.add_name.new.names.keys ≡ map (λ n. n.items) c.self.inside.names.keys ++ c.args.name.now ∷ [] = c.add_name.ensures ∙ ap (λ ks. map (λ n. n.items) ks ++ c.in_ok-key.key.items ∷ []) c.in_ok-reserve.ensures.keys ∙ ap (λ text. map (λ n. n.items) c.self.inside.names.keys ++ text ∷ []) c.in_ok-key.ensures.items in
+    let named : map (λ n. n.items) c.add_name.new.names.keys ≡ map (λ n. n.items) c.self.inside.names.keys ++ c.args.name.now ∷ [] = c.add_name.ensures ∙ ap (λ ks. map (λ n. n.items) ks ++ c.in_ok-key.key.items ∷ []) c.make_room.ensures.names ∙ ap (λ text. map (λ n. n.items) c.self.inside.names.keys ++ text ∷ []) c.in_ok-key.ensures.copied in
     let blocks : c.push.new.self.items ≡ c.self.inside.blocks.items ++ entry c.args.block c.args.options ∷ [] = search rules in
     (λ i. graph_of (named i) (blocks i) c.self.inside.connections.items) ∙ ap (λ graph. with_block graph c.args.name.now (entry c.args.block c.args.options)) c.self.view_is

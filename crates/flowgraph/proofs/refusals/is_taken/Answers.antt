@@ -5,7 +5,7 @@ use Rattle.std.proofs.lemmas.List.Folds.{list_any_at}
 use Rattle.stream_model.specs.Network.{enters}
 use Rattle.flowgraph.specs.Flowgraph.{connection_of}
 use Rattle.flowgraph.proofs.Places.{list_any-map, none_more}
-use Rattle.flowgraph.proofs.graph.is_taken.Goals as goal
+use Rattle.flowgraph.proofs.refusals.is_taken.Goals as goal
 
 pub loop-connection-preserved : goal.loop-connection-preserved
 loop-connection-preserved c =
