@@ -45,11 +45,7 @@ impl Register {
         ensures value { result ≡ masked self.now.bits self.now.mask (places_of self.now.bits word) }
         ensures small { result ≤ 32 }
     {
-        let mut sum = 0;
-        for j in 0..self.bits {
-            sum += (self.mask >> j) % 2 * ((word >> j) % 2);
-        }
-        sum
+        u64::from((self.mask & word).count_ones())
     }
 
     /// The word with a new bit in front, without its oldest bit.
