@@ -8,7 +8,7 @@ build_minutes=70
 
 # (`cd` would go by CDPATH, and a link to a script does not stand in this checkout.)
 top=$(dirname -- "$(dirname -- "$(readlink -f -- "${BASH_SOURCE[0]}")")")
-program=$top/crates/$program_crate/out/$program_crate
+program=$top/crates/$program_crate/out/built/$program_crate
 
 # The line of each crate in crates.txt, and the libraries that it names, of this repository and of the toolchain.
 declare -A line_of=() uses=()
