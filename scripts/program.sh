@@ -4,11 +4,11 @@
 # The crate of the program.
 program_crate=flow_program
 # The minutes that a first ./build takes on four cores.
-build_minutes=70
+build_minutes=50
 
 # (`cd` would go by CDPATH, and a link to a script does not stand in this checkout.)
 top=$(dirname -- "$(dirname -- "$(readlink -f -- "${BASH_SOURCE[0]}")")")
-program=$top/crates/$program_crate/out/$program_crate
+program=$top/crates/$program_crate/out/built/$program_crate
 
 # The line of each crate in crates.txt, and the libraries that it names, of this repository and of the toolchain.
 declare -A line_of=() uses=()
