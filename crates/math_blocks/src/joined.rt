@@ -1,5 +1,5 @@
 //! Blocks that make each item of one item of each input.
-ghost use Rattle.std.specs.Prelude.{◌≡◌, ◌≤◌, ℤ, List, [], All, length, map};
+ghost use Rattle.std.specs.Prelude.{◌≡◌, ◌≤◌, ℤ, List, [], All, length, map, take};
 ghost use Rattle.stream_model.specs.declared.vocabulary.ItemType.{ItemType};
 ghost use Rattle.stream_model.specs.Lists.{item};
 ghost use Rattle.stream_model.specs.Kernels.{listed};
@@ -69,6 +69,48 @@ fn join_items_into<J: Joins>(items: &Items, out: &mut Items)
     }
 }
 
+/// Writes over `out` what is made of each item of `a` and the item of `b` at its place.
+fn join_pair<J: Joins>(a: &Items, b: &Items, out: &mut Items)
+    requires a_type { type_of a.now ≡ type_of out.old }
+    requires b_type { type_of b.now ≡ type_of out.old }
+    requires a_length { length (numbers_of a.now) ≡ length (numbers_of out.old) }
+    requires b_length { length (numbers_of b.now) ≡ length (numbers_of out.old) }
+    ensures item_type { type_of out.new ≡ type_of out.old }
+    ensures numbers { numbers_of out.new ≡ listed (length (numbers_of b.now))
+        (λ k. J.pair (type_of b.now) (item (numbers_of a.now) k) (item (numbers_of b.now) k)) }
+{
+    match (a, b, out) {
+        (Items::Byte(a), Items::Byte(b), Items::Byte(out)) => J::join(a, b, out),
+        (Items::Short(a), Items::Short(b), Items::Short(out)) => J::join(a, b, out),
+        (Items::Int(a), Items::Int(b), Items::Int(out)) => J::join(a, b, out),
+        _ => unreachable!(),
+    }
+}
+
+/// Writes what is made of the items of the first windows, two where there are two, into an empty `out` with room for it, and answers how
+/// many windows these are.
+fn join_first<J: Joins>(windows: &[Items], count: usize, out: &mut Items) -> usize
+    requires joins { AreJoined J.joins J.pair }
+    requires some { 1 ≤ length windows.now }
+    requires same_type { All (λ w. type_of w ≡ type_of out.old) windows.now }
+    requires same_length { All (λ w. length (numbers_of w) ≡ count) windows.now }
+    requires empty { numbers_of out.old ≡ [] }
+    requires room { count ≤ spare_of out.old }
+    ensures there { result ≤ length windows.now }
+    ensures item_type { type_of out.new ≡ type_of out.old }
+    ensures numbers { numbers_of out.new ≡ listed count (λ k. J.joins (type_of out.old) (items_at (map numbers_of (take result windows.now)) k)) }
+{
+    let first = &windows[0];
+    first.in_range();
+    if windows.len() < 2 {
+        out.push_slice(first);
+        return 1;
+    }
+    out.push_zeros(count);
+    join_pair::<J>(first, &windows[1], out);
+    2
+}
+
 /// Writes what is made of the items of all windows into an empty `out` with room for it.
 fn join_windows<J: Joins>(windows: &[Items], count: usize, out: &mut Items)
     requires joins { AreJoined J.joins J.pair }
@@ -80,10 +122,8 @@ fn join_windows<J: Joins>(windows: &[Items], count: usize, out: &mut Items)
     ensures item_type { type_of out.new ≡ type_of out.old }
     ensures numbers { numbers_of out.new ≡ listed count (λ k. J.joins (type_of out.old) (items_at (map numbers_of windows.now) k)) }
 {
-    let window = &windows[0];
-    window.in_range();
-    out.push_slice(window);
-    for p in 1..windows.len() {
+    let begun = join_first::<J>(windows, count, out);
+    for p in begun..windows.len() {
         join_items_into::<J>(&windows[p], out);
     }
 }

@@ -1,27 +1,13 @@
-use Rattle.std.proofs.Common.{◌≡◌, ◌++◌, length, refl, ap, sym, ◌∙◌, subst, arith}
-use Rattle.stream_model.specs.Numbers.{AreItems}
+use Rattle.std.proofs.Common.{◌≡◌, length, ap, sym, ◌∙◌, arith}
 use Rattle.kind_laws.specs.Shared.{length-listed}
 use Rattle.items.specs.Items.{type_of, numbers_of}
-use Rattle.math_blocks.proofs.Joining.{first_joined, next_joined, All-at}
+use Rattle.math_blocks.proofs.Joining.{next_joined, All-at}
 use Rattle.math_blocks.proofs.joined.join_windows.Goals as goal
-
-pub loop-p-init : goal.loop-p-init
-loop-p-init g c =
-    let w = c.index-windows-0.result in
-    let t = type_of c.push_slice.new.self in
-    let same : type_of w ≡ t = All-at (λ v. type_of v ≡ type_of c.args.out.now) c.args.windows.now 0 w c.index-windows-0.is (omega arith) c.requires.same_type ∙ sym c.push_slice.ensures.item_type in
-    let long = All-at (λ v. length (numbers_of v) ≡ c.args.count) c.args.windows.now 0 w c.index-windows-0.is (omega arith) c.requires.same_length in
-    record {
-      item_type = refl;
-      items = c.push_slice.ensures.numbers ∙ ap (λ zs. zs ++ numbers_of w) c.requires.empty
-          ∙ first_joined g.J.Joins.joins g.J.Joins.pair c.requires.joins t numbers_of c.args.windows.now w c.args.count (omega arith) c.index-windows-0.is long
-          (subst (λ s. AreItems s (numbers_of w)) same c.in_range.ensures);
-    }
 
 pub join_items_into-requires-clause-same_type : goal.join_items_into-requires-clause-same_type
 join_items_into-requires-clause-same_type g c =
     All-at (λ v. type_of v ≡ type_of c.args.out.now) c.args.windows.now c.loop-p.p c.index-windows-p.result c.index-windows-p.is (omega arith) c.requires.same_type
-    ∙ sym c.push_slice.ensures.item_type ∙ sym c.loop-p.invariant.item_type
+    ∙ sym c.join_first-begun.ensures.item_type ∙ sym c.loop-p.invariant.item_type
 
 pub join_items_into-requires-clause-same_length : goal.join_items_into-requires-clause-same_length
 join_items_into-requires-clause-same_length g c =
@@ -32,10 +18,10 @@ pub loop-p-preserved : goal.loop-p-preserved
 loop-p-preserved g c =
     let w = c.index-windows-p.result in
     let long = All-at (λ v. length (numbers_of v) ≡ c.args.count) c.args.windows.now c.loop-p.p w c.index-windows-p.is (omega arith) c.requires.same_length in
-    let same : type_of w ≡ type_of c.push_slice.new.self =
-    All-at (λ v. type_of v ≡ type_of c.args.out.now) c.args.windows.now c.loop-p.p w c.index-windows-p.is (omega arith) c.requires.same_type ∙ sym c.push_slice.ensures.item_type in
+    let same : type_of w ≡ type_of c.join_first-begun.new.out =
+    All-at (λ v. type_of v ≡ type_of c.args.out.now) c.args.windows.now c.loop-p.p w c.index-windows-p.is (omega arith) c.requires.same_type ∙ sym c.join_first-begun.ensures.item_type in
     record {
       item_type = c.join_items_into.ensures.item_type ∙ c.loop-p.invariant.item_type;
-      items = next_joined g.J.Joins.joins g.J.Joins.pair c.requires.joins (type_of c.push_slice.new.self) (type_of w) numbers_of c.args.windows.now c.loop-p.p c.args.count w
+      items = next_joined g.J.Joins.joins g.J.Joins.pair c.requires.joins (type_of c.join_first-begun.new.out) (type_of w) numbers_of c.args.windows.now c.loop-p.p c.args.count w
           (numbers_of c.loop-p.out) (numbers_of c.join_items_into.new.out) (omega arith) c.index-windows-p.is long same c.loop-p.invariant.items c.join_items_into.ensures.numbers;
     }
