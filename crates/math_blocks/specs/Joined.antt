@@ -1,11 +1,13 @@
 -- Blocks that make each item of one item of each input.
-use Rattle.std.specs.Prelude.{◌≡◌, ℕ, ◌-◌, ℤ, pos, ◌+ℤ◌, List, [], ◌∷◌, ◌++◌}
+use Rattle.std.specs.Prelude.{◌≡◌, ◌≤◌, ℕ, ◌-◌, ℤ, pos, ◌+ℤ◌, List, [], ◌∷◌, ◌++◌, length, All}
 use Rattle.stream_model.specs.declared.vocabulary.ItemType.{ItemType}
 use Rattle.stream_model.specs.Numbers.{IsItem, numbers_in, wrap, total}
 use Rattle.stream_model.specs.Kernels.{bits_in}
 use Rattle.stream_model.specs.Meaning.{Meaning}
 use Rattle.stream_model.specs.Kinds.Shapes.{ports, any_ports, at_rate}
 use Rattle.stream_model.specs.Kinds.Math.{items_at, all_bits, add, and_of, or_of, xor_of}
+use Rattle.items.specs.declared.stream_items.Items.{Items}
+use Rattle.items.specs.Items.{type_of, numbers_of, spare_of}
 use Rattle.math_blocks.specs.declared.add.Add.{Add}
 use Rattle.math_blocks.specs.declared.logic.And.{And}
 use Rattle.math_blocks.specs.declared.logic.Or.{Or}
@@ -19,6 +21,14 @@ joined_of joins t = record (at_rate (any_ports t) (ports 1 t) 1 1) { out = λ ts
 pub record AreJoined (joins : ItemType → List ℤ → ℤ) (pair : ItemType → ℤ → ℤ → ℤ) : Type 0 where
   pub alone : (t : ItemType) (z : ℤ) → IsItem t z → joins t (z ∷ []) ≡ z
   pub one_more : (t : ItemType) (zs : List ℤ) (z : ℤ) → joins t (zs ++ z ∷ []) ≡ pair t (joins t zs) z
+
+-- windows with so many items each, one window or more, can be joined into an empty output with room for what is made
+pub record CanJoin (count : ℕ) (windows : List Items) (out : Items) : Type 0 where
+  pub some : 1 ≤ length windows
+  pub same_type : All (λ w. type_of w ≡ type_of out) windows
+  pub same_length : All (λ w. length (numbers_of w) ≡ count) windows
+  pub empty : numbers_of out ≡ []
+  pub room : count ≤ spare_of out
 
 -- the wrapped sum of numbers, and of two
 abbrev pub sum_of : ItemType → List ℤ → ℤ

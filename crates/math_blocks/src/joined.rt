@@ -1,13 +1,13 @@
 //! Blocks that make each item of one item of each input.
-ghost use Rattle.std.specs.Prelude.{◌≡◌, ◌≤◌, ℤ, List, [], All, length, map, take};
+ghost use Rattle.std.specs.Prelude.{◌≡◌, ◌≤◌, ℤ, List, length, map, take};
 ghost use Rattle.stream_model.specs.declared.vocabulary.ItemType.{ItemType};
 ghost use Rattle.stream_model.specs.Lists.{item};
 ghost use Rattle.stream_model.specs.Kernels.{listed};
 ghost use Rattle.stream_model.specs.Settings as model;
 ghost use Rattle.stream_model.specs.Kinds.Math.{items_at};
-ghost use Rattle.items.specs.Items.{type_of, numbers_of, spare_of};
+ghost use Rattle.items.specs.Items.{type_of, numbers_of};
 ghost use Rattle.block_kinds.specs.Work.{CanWork, HasWorked, IsWorkOf};
-ghost use Rattle.math_blocks.specs.Joined.{AreJoined, joined_of};
+ghost use Rattle.math_blocks.specs.Joined.{AreJoined, CanJoin, joined_of};
 
 use block_kinds::Held;
 use items::Items;
@@ -91,11 +91,7 @@ fn join_pair<J: Joins>(a: &Items, b: &Items, out: &mut Items)
 /// many windows these are.
 fn join_first<J: Joins>(windows: &[Items], count: usize, out: &mut Items) -> usize
     requires joins { AreJoined J.joins J.pair }
-    requires some { 1 ≤ length windows.now }
-    requires same_type { All (λ w. type_of w ≡ type_of out.old) windows.now }
-    requires same_length { All (λ w. length (numbers_of w) ≡ count) windows.now }
-    requires empty { numbers_of out.old ≡ [] }
-    requires room { count ≤ spare_of out.old }
+    requires can { CanJoin count windows.now out.old }
     ensures there { result ≤ length windows.now }
     ensures item_type { type_of out.new ≡ type_of out.old }
     ensures numbers { numbers_of out.new ≡ listed count (λ k. J.joins (type_of out.old) (items_at (map numbers_of (take result windows.now)) k)) }
@@ -114,11 +110,7 @@ fn join_first<J: Joins>(windows: &[Items], count: usize, out: &mut Items) -> usi
 /// Writes what is made of the items of all windows into an empty `out` with room for it.
 fn join_windows<J: Joins>(windows: &[Items], count: usize, out: &mut Items)
     requires joins { AreJoined J.joins J.pair }
-    requires some { 1 ≤ length windows.now }
-    requires same_type { All (λ w. type_of w ≡ type_of out.old) windows.now }
-    requires same_length { All (λ w. length (numbers_of w) ≡ count) windows.now }
-    requires empty { numbers_of out.old ≡ [] }
-    requires room { count ≤ spare_of out.old }
+    requires can { CanJoin count windows.now out.old }
     ensures item_type { type_of out.new ≡ type_of out.old }
     ensures numbers { numbers_of out.new ≡ listed count (λ k. J.joins (type_of out.old) (items_at (map numbers_of windows.now) k)) }
 {

@@ -1,4 +1,4 @@
-use Rattle.std.proofs.Common.{◌≡◌, ◌∷◌, [], length, map, arith, ap, sym, ◌∙◌}
+use Rattle.std.proofs.Common.{rules, ◌≡◌, ◌∷◌, [], length, map, arith, ap, sym, ◌∙◌}
 use Rattle.stream_model.specs.Kernels.{listed}
 use Rattle.stream_model.specs.Meaning.{given_outputs}
 use Rattle.stream_model.specs.Kinds.Math.{items_at}
@@ -9,10 +9,16 @@ use Rattle.math_blocks.specs.Joined.{joined_of}
 use Rattle.math_blocks.proofs.Joining.{length-joined, joined-given}
 use Rattle.math_blocks.proofs.joined.work_joins.Goals as goal
 
-pub join_windows-requires-clause-same_length : goal.join_windows-requires-clause-same_length
-join_windows-requires-clause-same_length g c =
+pub join_windows-requires-clause-can : goal.join_windows-requires-clause-can
+join_windows-requires-clause-can g c =
     let can = c.requires.can in
-    length-joined g.J.Joins.joins (g.J.Joins.takes c.args.block.now) can.settings can.streams c.args.first c.args.count c.args.state (map held_of c.args.held.now) numbers_of c.args.windows.now can.fed
+    record {
+      some = search rules;
+      same_type = search rules;
+      same_length = length-joined g.J.Joins.joins (g.J.Joins.takes c.args.block.now) can.settings can.streams c.args.first c.args.count c.args.state (map held_of c.args.held.now) numbers_of c.args.windows.now can.fed;
+      empty = search rules;
+      room = search rules;
+    }
 
 pub returns-clause-items : goal.returns-clause-items
 returns-clause-items g c =
