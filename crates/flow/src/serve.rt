@@ -11,6 +11,7 @@ ghost use Rattle.graph_file.specs.Opening.{opened_of};
 ghost use Rattle.script_text.specs.Ends.{AppendsBeginning};
 ghost use Rattle.flow.specs.Session.{in_state};
 ghost use Rattle.flow.specs.Faults.{fault_line};
+ghost use Rattle.flow.specs.Reports.{check_text};
 ghost use Rattle.flow.specs.Serve.{Serves, Tells, stream, Does, DoesNot, IsCheck, IsRun, Refuses, Writes, WritesNot, IsScript, StopsScript, graph_in, plant_in, closed, reads_in, writes_in};
 ghost use Rattle.flow.specs.declared.fault.Fault.TheVariants.{Script};
 ghost use Rattle.flow.specs.declared.script.ScriptFault.TheVariants.{Write};
@@ -157,9 +158,16 @@ fn check_file(alloc: Global, file: &[u8]) -> Result<Outcome, Fault>
     ensures refused { IfErr result (Refuses (graph_in file.now)) }
 {
     let graph = valid_graph(alloc, file)?;
-    let rates = balance(alloc, &graph)?;
-    let text = checked(alloc, &graph, &rates)?;
+    let text = told_of(alloc, &graph)?;
     Ok(Outcome { text, status: 0 })
+}
+
+// What is told of a valid graph.
+fn told_of(alloc: Global, graph: &Valid<Kind>) -> Result<Vec<u8>, AllocError>
+    ensures { IfOk result (λ text. text.items ≡ check_text (drafted graph.now)) }
+{
+    let rates = balance(alloc, graph)?;
+    checked(alloc, graph, &rates)
 }
 
 // Lets the plant of a file go on until it comes to rest, where its sources give no more, and tells what it holds then.

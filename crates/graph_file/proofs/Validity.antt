@@ -1,9 +1,9 @@
--- What is told of a graph that is not valid, and of a file that does not open.
-use Rattle.std.proofs.Common.{◌≡◌, ℕ, ◌<◌, Bool, true, List, ◌∷◌, [], length, map, slice_get, Option, None, Some, option_map, Result, Ok, Err, refl, arith, ap, ◌∙◌, sym, subst, inl, inr}
+-- What is told of a graph that is not valid.
+use Rattle.std.proofs.Common.{◌≡◌, ℕ, ◌<◌, Bool, true, List, ◌∷◌, [], length, map, slice_get, Option, None, Some, option_map, Err, refl, arith, ap, ◌∙◌, sym, subst, inl, inr}
 use Rattle.std.specs.Prelude.{◌⊎◌, ◌||◌, ◌&&◌, ◌==◌, not, nat_lt}
 use Rattle.std.proofs.lemmas.List.{length-map}
 use Rattle.std.proofs.lemmas.Option.{get_or_from_slice_get}
-use Rattle.stream_model.specs.Network.{Network, opening, node_at}
+use Rattle.stream_model.specs.Network.{Network, node_at}
 use Rattle.stream_model.specs.Lists.{below}
 use Rattle.graph_model.specs.Graphs as model
 use Rattle.graph_model.specs.Graphs.{graph_fault, gap_fault, gap_of, first_fault, lowest, has_few, is_one, ports_to, reaches_by, gain_by, most_gain}
@@ -16,13 +16,9 @@ use Rattle.flowgraph.specs.Flowgraph.{Flowgraph, node_of}
 use Rattle.kinds.specs.declared.kind.Kind.{Kind}
 use Rattle.kinds.specs.Kind.{meaning_of}
 use Rattle.graph_file.specs.declared.fault.Place.TheVariants.{Top}
-use Rattle.graph_file.specs.declared.fault.FileFault.{FileFault}
-use Rattle.graph_file.specs.Refusals as refusals
-use Rattle.graph_file.specs.Refusals.{Refusal, of_graph, IsTold, IsRefused}
-use Rattle.graph_file.specs.Steps.{then}
+use Rattle.graph_file.specs.Refusals.{Refusal, of_graph, IsTold}
 use Rattle.graph_file.specs.Blocks.{Draft, drafted}
-use Rattle.graph_file.specs.File.{Content}
-use Rattle.graph_file.specs.Opening.{named_block, name_at, unless_wrong, validated, after_feeds, Opened, opened_in, opened}
+use Rattle.graph_file.specs.Opening.{named_block, name_at, unless_wrong, validated}
 
 -- a refusal names a block of the network, if any
 abbrev Inside : Network → model.GraphFault → Type 0
@@ -96,14 +92,3 @@ validated-told d fault b name o t n s told_is =
       | inr some ↦ subst (IsTold (validated d)) (sym some)
           (ap (unless_wrong d) t ∙ ap (λ x. Err (of_graph Top fault (name_at d.names x))) n ∙ ap (λ x. Err (of_graph Top fault x)) (get_or_from_slice_get d.names b.0 name [] s))
     ]
-
--- what was refused first is refused of the whole
-told-then : {A B : Type 0} (r : Result A Refusal) (next : A → Result B Refusal) (o : Option Refusal) → IsTold r o → IsTold (then r next) o
-told-then r next None h = tt
-told-then r next (Some x) h = ap (λ r. then r next) h
-
-pub opened-refused : (c : Content) (d : Draft) (fault : FileFault) → validated c.graph ≡ Ok d → IsRefused (after_feeds d 0 (opening d.net) c.feeds) fault → IsRefused (opened c) fault
-opened-refused c d fault e h =
-    let rest : Draft → Result Opened Refusal = λ d. then (after_feeds d 0 (opening d.net) c.feeds) (λ st. Ok (opened_in d st)) in
-    subst (λ (r : Result Draft Refusal). IsTold (then r rest) (refusals.told fault)) (sym e)
-    (told-then (after_feeds d 0 (opening d.net) c.feeds) (λ st. Ok (opened_in d st)) (refusals.told fault) h)

@@ -84,6 +84,10 @@ after_feeds d n st (feed ∷ feeds) = then (after_feed n (feed_now d st feed)) (
 abbrev pub opened_in : Draft → State → Opened
 opened_in d st = record { draft = d; capacities = capacities_of d.net (balance_of d.net); state = st }
 
+-- a valid graph opens and takes the feeds, or one of them is refused
+abbrev pub opened_with : Draft → List Fed → Result Opened Refusal
+opened_with d feeds = then (after_feeds d 0 (opening d.net) feeds) (λ st. Ok (opened_in d st))
+
 -- the plant of a file, or why there is none: its graph is not valid, or a feed is refused
 abbrev pub opened : Content → Result Opened Refusal
-opened c = then (validated c.graph) (λ d. then (after_feeds d 0 (opening d.net) c.feeds) (λ st. Ok (opened_in d st)))
+opened c = then (validated c.graph) (λ d. opened_with d c.feeds)

@@ -4,6 +4,7 @@ ghost use Rattle.graph_file.specs.declared.fault.FileFault.TheVariants.{Memory};
 ghost use Rattle.graph_file.specs.Refusals.{told, told_table, told_feed, of_graph, negative_port};
 ghost use Rattle.graph_file.specs.Texts as texts;
 
+use crate::texts::{GraphText, TableText, feed_fault_text};
 use flowgraph::{GraphFault, Side};
 use kind_keys::KeyFault;
 use plant::PlantFault;
@@ -155,44 +156,21 @@ impl fmt::Display for FileFault {
     fn fmt<W: fmt::Write>(&self, f: &mut fmt::Formatter<W>) -> fmt::Result {
         match self {
             FileFault::Syntax => write!(f, "40 Syntax"),
-            FileFault::Table { place, fault } => match fault {
-                KeyFault::UnknownKey => write!(f, "41 UnknownKey {place}"),
-                KeyFault::MissingKey(key) => {
-                    let key = key.text();
-                    write!(f, "42 MissingKey {place} {key}")
-                }
-                KeyFault::WrongType(key) => {
-                    let key = key.text();
-                    write!(f, "43 WrongType {place} {key}")
-                }
-                KeyFault::UnknownKind => write!(f, "44 UnknownKind {place}"),
-                KeyFault::BadParameter(parameter) => write!(
-                    f,
-                    "10 BadParameter {place} {parameter}"
-                ),
-                KeyFault::Memory => write!(f, "32 Memory"),
-            },
-            FileFault::Graph { place, fault, name } => match fault {
-                GraphFault::DuplicateName => write!(f, "1 DuplicateName {name}"),
-                GraphFault::UnknownBlock => write!(f, "2 UnknownBlock {place}"),
-                GraphFault::PortRange { side, port, .. } => write!(
-                    f,
-                    "3 PortRange {name} {side} {port}"
-                ),
-                GraphFault::InputTaken { port, .. } => write!(f, "4 InputTaken {name} {port}"),
-                GraphFault::PortGap { side, port, .. } => write!(
-                    f,
-                    "5 PortGap {name} {side} {port}"
-                ),
-                GraphFault::TypeMismatch { port, .. } => write!(f, "6 TypeMismatch {name} {port}"),
-                GraphFault::Loop { .. } => write!(f, "7 Loop {name}"),
-                GraphFault::TooFewPorts { .. } => write!(f, "8 TooFewPorts {name}"),
-                GraphFault::TooLarge(limit) => write!(f, "9 TooLarge {limit}"),
-                GraphFault::BadParameter(option) => write!(f, "10 BadParameter {place} {option}"),
-                GraphFault::OneToOne { .. } => write!(f, "11 OneToOne {name}"),
-                GraphFault::Gain { .. } => write!(f, "12 Gain {name}"),
-                GraphFault::Memory => write!(f, "32 Memory"),
-            },
+            FileFault::Table { place, fault } => {
+                let table = TableText {
+                    place: *place,
+                    fault: *fault,
+                };
+                write!(f, "{table}")
+            }
+            FileFault::Graph { place, fault, name } => {
+                let graph = GraphText {
+                    place: *place,
+                    fault: *fault,
+                    name,
+                };
+                write!(f, "{graph}")
+            }
             FileFault::NegativePort { name, side, port } => write!(
                 f,
                 "3 PortRange {name} {side} {port}"
@@ -204,26 +182,5 @@ impl fmt::Display for FileFault {
             }
             FileFault::Memory => write!(f, "32 Memory"),
         }
-    }
-}
-
-// The name of a refusal of a feed. No feed is refused by one of the others.
-fn feed_fault_text(fault: PlantFault) -> &'static str
-    ensures { result.now ≡ texts.feed_fault_text fault }
-{
-    match fault {
-        PlantFault::NoSuchBlock => "NoSuchBlock",
-        PlantFault::NotSource => "NotSource",
-        PlantFault::NotSink => "NotSink",
-        PlantFault::Closed => "Closed",
-        PlantFault::ItemRange => "ItemRange",
-        PlantFault::TagPlace => "TagPlace",
-        PlantFault::TapeFull => "TapeFull",
-        PlantFault::Late { .. } => "Late",
-        PlantFault::NoSetting => "NoSetting",
-        PlantFault::WrongSetting => "WrongSetting",
-        PlantFault::BeyondEnd => "BeyondEnd",
-        PlantFault::NoSuchPort => "NoSuchPort",
-        PlantFault::Memory => "Memory",
     }
 }

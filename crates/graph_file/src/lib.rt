@@ -9,6 +9,7 @@ mod feeds;
 pub mod file;
 mod only;
 mod opening;
+mod texts;
 
 pub use fault::{FileFault, Place};
 pub use feed::{Feed, FileMark};

@@ -5,11 +5,13 @@ ghost use Rattle.graph_model.specs.Graphs as graph_model;
 ghost use Rattle.flowgraph.specs.declared.fault.Limit.TheVariants.{Blocks};
 ghost use Rattle.flowgraph.specs.Fault.{told};
 ghost use Rattle.stores.specs.Stores as stores;
+ghost use Rattle.kinds.specs.Kind.{meaning_of};
+ghost use Rattle.plant.specs.Opening.{opening_plant};
 ghost use Rattle.graph_file.specs.Refusals.{IsRefused};
 ghost use Rattle.graph_file.specs.Blocks.{drafted};
 ghost use Rattle.graph_file.specs.Feeds.{fed};
 ghost use Rattle.graph_file.specs.File.{seen};
-ghost use Rattle.graph_file.specs.Opening.{opened, opened_of, validated, feed_now, after_feed, after_feeds, mark_of, named_block};
+ghost use Rattle.graph_file.specs.Opening.{opened, opened_with, opened_of, validated, feed_now, after_feed, after_feeds, mark_of, named_block};
 
 use crate::fault::{FileFault, Place, feed_fault, graph_fault};
 use crate::feed::{Feed, FileMark};
@@ -40,12 +42,30 @@ impl File {
         ensures refused { IfErr result (IsRefused (opened (seen self))) }
     {
         let (graph, feeds) = self.validate(alloc)?;
-        let mut plant = match Plant::open(alloc, graph) {
-            Ok(plant) => plant,
-            Err(_) => return Err(FileFault::Memory),
-        };
-        take_feeds(alloc, &mut plant, &feeds)?;
-        Ok(plant)
+        plant_fed(alloc, graph, &feeds)
+    }
+}
+
+// The plant of a valid graph with these feeds on its tapes.
+fn plant_fed(alloc: Global, graph: Valid<Kind>, feeds: &[Feed]) -> Result<Plant<Kind>, FileFault>
+    ensures ok { IfOk result (λ plant. opened_with (drafted graph) (map fed feeds.now) ≡ Ok (opened_of plant)) }
+    ensures refused { IfErr result (IsRefused (opened_with (drafted graph) (map fed feeds.now))) }
+{
+    let mut plant = plant_of(alloc, graph)?;
+    match take_feeds(alloc, &mut plant, feeds) {
+        Ok(()) => Ok(plant),
+        Err(fault) => Err(fault),
+    }
+}
+
+// The plant of a valid graph.
+fn plant_of(alloc: Global, graph: Valid<Kind>) -> Result<Plant<Kind>, FileFault>
+    ensures ok { IfOk result (λ plant. plant ≡ opening_plant meaning_of graph) }
+    ensures memory { IfErr result (λ fault. fault ≡ FileFault.Memory) }
+{
+    match Plant::open(alloc, graph) {
+        Ok(plant) => Ok(plant),
+        Err(_) => Err(FileFault::Memory),
     }
 }
 

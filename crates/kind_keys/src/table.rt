@@ -98,9 +98,9 @@ pub fn numbers_at(alloc: Global, table: &Table, key: Key) -> Result<Vec<i64>, Al
 fn numbers_of(alloc: Global, values: &[Value]) -> Result<Vec<i64>, AllocError>
     ensures { IfOk result (λ numbers. numbers.items ≡ tables.numbers_of (items_view values.now)) }
 {
-    let mut numbers = Vec::new(alloc);
+    let mut numbers = Vec::with_capacity(alloc, values.len())?;
     for value in values {
-        numbers.push(number_of(value))?;
+        numbers.push_reserved(number_of(value));
     }
     Ok(numbers)
 }

@@ -22,6 +22,7 @@ use Rattle.stream_model.specs.Kinds.Rates.{keep_one_in_n, integrate, repeat, int
 use Rattle.stream_model.specs.Kinds.Bits.{pack_k_bits, unpack_k_bits, diff_decoder, diff_encoder, scrambler, descrambler, additive_scrambler}
 use Rattle.block_kinds.specs.SameItem.{same_item, same_number, same_sized}
 use Rattle.std.proofs.Common.{ap}
+use Rattle.std.proofs.lemmas.Bool.{false≢true}
 
 -- what the block inside means
 abbrev pub meaning_of : Kind → Meaning
@@ -126,4 +127,4 @@ meaning_of-same (DiffEncoder a) (DiffEncoder b) e = ap diff_encoder (same_number
 meaning_of-same (Scrambler a) (Scrambler b) e = same_register scrambler a.register b.register e
 meaning_of-same (Descrambler a) (Descrambler b) e = same_register descrambler a.register b.register e
 meaning_of-same (AdditiveScrambler a) (AdditiveScrambler b) e = same_register additive_scrambler a.register b.register e
-meaning_of-same _ _ e = cc
+meaning_of-same _ _ e = absurd (false≢true e)

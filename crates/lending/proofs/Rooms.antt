@@ -16,7 +16,8 @@ use Rattle.recordings.specs.Recording.{RecordingState}
 use Rattle.plant_laws.specs.Stored.{Stored}
 use Rattle.plant_laws.specs.Changes.{tags_waiting, tags_brought}
 use Rattle.stores.specs.declared.stores.Stores.{Stores}
-use Rattle.stores.specs.Stores.{buffer_of, collected_of, rows_in, stored_in}
+use Rattle.stores.specs.declared.handed.Handed.{Handed}
+use Rattle.stores.specs.Stores.{buffer_of, collected_of, rows_in, stored_in, stored_of, tape_of}
 use Rattle.stores.specs.Lending.{CanLend, HasRoom, no_buffer, sink_state}
 use Rattle.lending.specs.Spare.{spare_at, HasSpare}
 use Rattle.lending.specs.Tags.{tags_on_items}
@@ -33,6 +34,15 @@ set_keeps room (y ∷ ys) (suc i) x d more (suc p) = set_keeps room ys i x d mor
 -- what is kept from lent places to those given back is kept of the whole
 pub kept_between : {X : Type 0} (room : X → ℕ) (old lent given new : X) → lent ≡ old → new ≡ given → room lent ≤ room given → room old ≤ room new
 kept_between room old lent given new e f kept = let g = ap room e in let h = ap room f in omega arith
+
+-- rows, and sinks, that are given back as they were lent are stored as before
+pub given_back : {X Y : Type 0} (stored : X → Y) (old lent given new : X) → lent ≡ old → new ≡ given → stored given ≡ stored lent → stored new ≡ stored old
+given_back stored old lent given new e f same = ap stored f ∙ same ∙ ap stored e
+
+pub stored_again :
+    (handed : List Handed) (words : List ℕ) (rows rows' : List (List BufferState)) (sinks sinks' : List RecordingState) → map (map buffer_of) rows' ≡ map (map buffer_of) rows →
+    map collected_of sinks' ≡ map collected_of sinks → stored_of handed words rows' sinks' ≡ stored_of handed words rows sinks
+stored_again handed words rows rows' sinks sinks' e f = λ i. record { tapes = map tape_of handed; timelines = map (λ h. h.timeline) handed; words = words; buffers = e i; sinks = f i }
 
 -- buffers and sinks that differ in their room alone are stored as the same
 pub same_buffer : (a b : BufferState) → a.item ≡ b.item → a.ring ≡ b.ring → a.tags ≡ b.tags → buffer_of a ≡ buffer_of b

@@ -119,15 +119,18 @@ name_alone [] = None
 name_alone (name ∷ []) = block_of name
 name_alone (name ∷ other ∷ fields) = None
 
+-- two fields and nothing more
+abbrev pub only_two : List (List ℕ) → Option (List ℕ × List ℕ)
+only_two (first ∷ second ∷ []) = Some (first, second)
+only_two _ = None
+
 -- a name, how many at most, and nothing more
 abbrev pub name_and_max : List (List ℕ) → Option (List ℕ × ℕ)
-name_and_max [] = None
-name_and_max (name ∷ []) = None
-name_and_max (name ∷ max ∷ []) = do
-  b ← block_of name
-  n ← max_of max
+name_and_max fields = do
+  two ← only_two fields
+  b ← block_of two.0
+  n ← max_of two.1
   Some (b, n)
-name_and_max (name ∷ max ∷ other ∷ fields) = None
 
 -- where a setting begins to hold: `now`, or the number of an item
 abbrev pub place_of : List ℕ → Option (Option ℕ)
@@ -176,14 +179,12 @@ step_of fields = option_map (λ pair. Step pair.0 pair.1) (name_and_max fields)
 
 abbrev pub read_of : List (List ℕ) → Option Command
 read_of [] = None
-read_of (name ∷ []) = None
-read_of (name ∷ from ∷ []) = None
-read_of (name ∷ from ∷ max ∷ []) = do
+read_of (name ∷ fields) = do
+  two ← only_two fields
   b ← block_of name
-  first ← offset_of from
-  n ← max_of max
+  first ← offset_of two.0
+  n ← max_of two.1
   Some (Read b first n)
-read_of (name ∷ from ∷ max ∷ other ∷ fields) = None
 
 abbrev pub quiet_of : List (List ℕ) → Option Command
 quiet_of [] = Some Quiet

@@ -1,8 +1,8 @@
 //! Lines as commands.
-ghost use Rattle.std.specs.Prelude.{◌≡◌, IfOk, IfSome, IfNone, None};
+ghost use Rattle.std.specs.Prelude.{◌≡◌, [], ◌∷◌, IfOk, IfSome, IfNone, None};
 ghost use Rattle.std.specs.Option.{option_map};
 ghost use Rattle.script_text.specs.Fields.{fields_of};
-ghost use Rattle.script_text.specs.Grammar.{parsed_line, command_of, feed_of, close_of, set_of, claim_of, commit_of, abandon_of, step_of, read_of, quiet_of, name_alone, name_and_max, place_of, integers_of, given_of, marks_of, mark_of, mark_at, name_of, with_items};
+ghost use Rattle.script_text.specs.Grammar.{parsed_line, command_of, feed_of, close_of, set_of, claim_of, commit_of, abandon_of, step_of, read_of, quiet_of, name_alone, name_and_max, only_two, place_of, integers_of, given_of, marks_of, mark_of, mark_at, name_of, with_items};
 ghost use Rattle.script_text.specs.Numbers.{max_of, integer_of};
 ghost use Rattle.script_text.specs.Commands.{line_seen, command_seen, marks_seen, mark_seen};
 
@@ -143,11 +143,13 @@ fn parse_read(fields: &[u8]) -> Option<Command>
     ensures { option_map command_seen result ≡ read_of (fields_of fields.now) }
 {
     let (name, rest) = next_field(fields)?;
-    let (from, rest) = next_field(rest)?;
-    let (max, rest) = next_field(rest)?;
-    if next_field(rest).is_some() {
-        return None;
-    }
+    let (from, max) = two_fields(rest)?;
+    read_command(name, from, max)
+}
+
+fn read_command(name: &[u8], from: &[u8], max: &[u8]) -> Option<Command>
+    ensures { option_map command_seen result ≡ read_of (name.now ∷ from.now ∷ max.now ∷ []) }
+{
     let name = block_name(name)?;
     let from = parse_natural(from, u64::MAX)?;
     let max = parse_max(max)?;
@@ -178,14 +180,22 @@ fn parse_name_alone(fields: &[u8]) -> Option<BlockName>
 fn parse_name_and_max(fields: &[u8]) -> Option<(BlockName, u32)>
     ensures { result ≡ name_and_max (fields_of fields.now) }
 {
-    let (name, rest) = next_field(fields)?;
-    let (max, rest) = next_field(rest)?;
-    if next_field(rest).is_some() {
-        return None;
-    }
+    let (name, max) = two_fields(fields)?;
     let name = block_name(name)?;
     let max = parse_max(max)?;
     Some((name, max))
+}
+
+// The two fields that are the only ones.
+fn two_fields(fields: &[u8]) -> Option<(&[u8], &[u8])>
+    ensures { option_map (λ two. (two.0.now, two.1.now)) result ≡ only_two (fields_of fields.now) }
+{
+    let (first, rest) = next_field(fields)?;
+    let (second, rest) = next_field(rest)?;
+    if next_field(rest).is_some() {
+        return None;
+    }
+    Some((first, second))
 }
 
 // Where a setting begins to hold.

@@ -20,3 +20,6 @@ returns-then-is_same_block g c =
     let is_its : own ≡ true = sym c.is_same_block.ensures ∙ c.if-is_same_block.true in
     let inside : j.block.0 < length net.nodes = rw (length-map c.args.graph.now.blocks (node_of g.B.Block.meaning)) (own_inside g.B.PartialEq.eq c.args.graph.now.blocks j.graph.now.blocks j.block.0 is_its) in
     same_from_decides c.is_claim.result (is_in_flight net (state_of s.handed.items ps) own job) c.is_claim.ensures (flight_decides net s ps job own inside is_its)
+
+pub is_claim-requires-clause-block : goal.is_claim-requires-clause-block
+is_claim-requires-clause-block g c = own_inside g.B.PartialEq.eq c.args.graph.now.blocks c.args.job.now.graph.now.blocks c.args.job.now.block.0 (sym c.is_same_block.ensures ∙ c.if-is_same_block.true)

@@ -8,8 +8,8 @@ use Rattle.std.proofs.lemmas.Result.{on_ok_weaker}
 use Rattle.std.proofs.lemmas.List.{length-map}
 use Rattle.stream_model.specs.Network.{writers_of}
 use Rattle.flowgraph.specs.declared.parts.Input.{Input}
-use Rattle.flowgraph.specs.Flowgraph.{net_of, connection_of}
-use Rattle.stores.specs.Stores.{stored_in}
+use Rattle.flowgraph.specs.Flowgraph.{net_of, node_of, connection_of}
+use Rattle.stores.specs.Stores.{stored_in, tape_of}
 use Rattle.lending.proofs.WindowLists.{windows_read}
 use Rattle.lending.proofs.windows.lend_windows.Goals as goal
 
@@ -24,3 +24,15 @@ returns-clause-windows g c =
     subst (λ (ws : List Items). OnOk c.read_inputs.result (AreWindows net (stored_in c.args.stores.now) c.args.block.0 c.args.first c.args.count (map numbers_of ws))) (sym back)
     (on_ok_weaker c.read_inputs.result
     (windows_read net (stored_in c.args.stores.now) c.args.block.0 c.args.first c.args.count read (sym c.is_source.ensures ∙ c.if-is_source.false) many) c.read_inputs.ensures)
+
+pub block-requires : goal.block-requires
+block-requires g c = omega (arith, c.requires.inside, length-map c.args.graph.now.blocks (node_of g.B.Block.meaning))
+
+pub is_source-requires : goal.is_source-requires
+is_source-requires g c = omega (arith, c.requires.inside, length-map c.args.graph.now.blocks (node_of g.B.Block.meaning))
+
+pub inputs-requires : goal.inputs-requires
+inputs-requires g c = omega (arith, c.requires.inside, length-map c.args.graph.now.blocks (node_of g.B.Block.meaning))
+
+pub index-requires : goal.index-requires
+index-requires g c = omega (arith, c.requires.inside, c.requires.places.tapes, length-map c.args.stores.now.handed.items tape_of)

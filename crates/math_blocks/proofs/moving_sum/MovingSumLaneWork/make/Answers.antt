@@ -78,3 +78,15 @@ loop-k-preserved g c =
 
 pub returns : goal.returns
 returns g c = written_all g.T.Number.number c.loop-k.out (length c.args.out.now) _ (omega arith) (λ j h. c.loop-k.invariant.written j (omega arith))
+
+pub offset_bounds-items-past : goal.offset_bounds-items-past
+offset_bounds-items-past g c = omega (arith, c.requires, c.loop-k-test.true, length-map c.args.items.now g.T.Number.number)
+
+pub bounds-items-past : goal.bounds-items-past
+bounds-items-past g c = omega (arith, c.requires, c.loop-k-test.true, length-map c.args.items.now g.T.Number.number)
+
+pub offset_bounds-items-k : goal.offset_bounds-items-k
+offset_bounds-items-k g c = omega (arith, c.requires, c.loop-k-test.true, length-map c.args.items.now g.T.Number.number)
+
+pub bounds-items-k : goal.bounds-items-k
+bounds-items-k g c = omega (arith, c.requires, c.loop-k-test.true, length-map c.args.items.now g.T.Number.number)

@@ -1,6 +1,15 @@
-use Rattle.std.proofs.Common.{◌∙◌}
+use Rattle.std.proofs.Common.{◌≡◌, ◌∙◌, length, ap, arith}
+use Rattle.std.specs.Arc.{arc_value}
+use Rattle.std.proofs.lemmas.List.{length-map}
+use Rattle.flowgraph.specs.Flowgraph.{Flowgraph, node_of}
 use Rattle.plant.proofs.Jobs.{may_do, its_job}
 use Rattle.plant.proofs.parts.Parts.made_job.Goals as goal
+
+pub new-requires-clause-block : goal.new-requires-clause-block
+new-requires-clause-block g c =
+    let graph = arc_value c.args.self.now.graph in
+    let same = ap (λ (g : Flowgraph _). length g.blocks) c.in_ok-graph.ensures in
+    omega (arith, c.requires.flight.inside, length-map graph.blocks (node_of g.B.Block.meaning), same)
 
 pub new-requires-clause-can : goal.new-requires-clause-can
 new-requires-clause-can g c =
