@@ -4,7 +4,7 @@
 # The crate of the program.
 program_crate=flow_program
 # The minutes that a first ./build takes on four cores.
-build_minutes=50
+build_minutes=35
 
 # (`cd` would go by CDPATH, and a link to a script does not stand in this checkout.)
 top=$(dirname -- "$(dirname -- "$(readlink -f -- "${BASH_SOURCE[0]}")")")
