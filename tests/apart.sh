@@ -1,6 +1,6 @@
 # shellcheck shell=bash
 # For scripts to source: crates that stand outside crates/ and run unproved, as rt try compiles them with checks, so that the gate has no proof of them
-# to make. Each is put together in a copy of the checkout: the tests of a folder of tests/ with .test files, and the programs of benches/.
+# to make. Each is put together in a copy of the checkout: the tests of the folders of tests/ with .test files, and the programs of benches/.
 # shellcheck source=scripts/program.sh
 source "$(dirname -- "$(readlink -f -- "${BASH_SOURCE[0]}")")/../scripts/program.sh"
 
@@ -23,9 +23,17 @@ put_below() {
     done
 }
 
-# put_apart FOLDER CRATE..: the crate FOLDER_tests of a folder of tests/, over these crates and those below them, in the checkout $room/FOLDER
+# put_tests FOLDER ROOM: the .test files of a folder of tests/, as sources, in this room
+put_tests() {
+    local file
+    for file in "$top/tests/$1"/*.test; do
+        cp -- "$file" "$2/$(basename -- "$file" .test).rt"
+    done
+}
+
+# put_apart NAME CRATE..: the crate NAME_tests, over these crates and those below them, in the checkout $room/NAME; tests/NAME has its sources, if it is there
 put_apart() {
-    local crate file used here=$room/$1 name=${1}_tests order=() libraries=()
+    local crate used here=$room/$1 name=${1}_tests order=() libraries=()
     put_below "$@"
     for crate in "${order[@]}"; do
         read -ra used <<<"${uses[$crate]}"
@@ -33,9 +41,9 @@ put_apart() {
     done
     echo "$name: $(printf '%s\n' "${libraries[@]}" | sort -u | paste -sd ' ')" >>"$here/crates.txt"
     mkdir -p "$here/crates/$name/src"
-    for file in "$top/tests/$1"/*.test; do
-        cp -- "$file" "$here/crates/$name/src/$(basename -- "$file" .test).rt"
-    done
+    if [[ -d $top/tests/$1 ]]; then
+        put_tests "$1" "$here/crates/$name/src"
+    fi
 }
 
 # put_bench PROGRAM: a program of benches/ over the libraries of its line in benches/uses.txt, in the checkout $room/PROGRAM

@@ -7,7 +7,7 @@ ghost use Rattle.script_text.specs.Scripts.{said_of};
 ghost use Rattle.script_text.specs.Grammar.{Says, IsAskable};
 ghost use Rattle.script_text.specs.Commands.{command_seen};
 ghost use Rattle.flow.specs.Session.{graph_of, standing, standing_of, in_standing, in_state, none_kept};
-ghost use Rattle.flow.specs.Script.{Answered, Stops, Unwritten, Proceeds, Went, EndsIn, Breaks, failed_reads, failed_writes};
+ghost use Rattle.flow.specs.Script.{Answered, Stops, Unwritten, Proceeds, Went, Ends, EndsIn, Breaks, failed_reads, failed_writes};
 ghost use Rattle.flow.specs.declared.script.ScriptFault.TheVariants.{Memory};
 
 use crate::session::Session;
@@ -72,6 +72,25 @@ pub fn script<B: Block, I: ByteIn, O: ByteOut>(
     ensures failed_writes { O.failed output.new ≡ O.failed output.old + failed_writes result }
 {
     let mut session = Session::new(alloc, plant)?;
+    answer_all(alloc, &mut session, input, output)?;
+    Ok(session.into_plant())
+}
+
+// Answers all lines, up to the end of the reader.
+fn answer_all<B: Block, I: ByteIn, O: ByteOut>(
+    alloc: Global,
+    session: &mut Session<B>,
+    input: &mut I,
+    output: &mut O,
+) -> Result<(), ScriptFault>
+    requires reads { I.failed input.old < 2 ^ 64 - 1 }
+    requires writes { O.failed output.old < 2 ^ 64 - 1 }
+    ensures same { session.new ≡ in_standing session.old (standing session.new) }
+    ensures ends { OnOk result (Ends (graph_of B.meaning session.old.plant) (standing session.old) (standing session.new) (I.remaining input.old) (I.remaining input.new) (O.contents output.old) (O.contents output.new)) }
+    ensures breaks { IfErr result (λ fault. Breaks (graph_of B.meaning session.old.plant) (standing session.old) (I.remaining input.old) (I.remaining input.new) (O.contents output.old) (O.contents output.new) fault) }
+    ensures failed_reads { I.failed input.new ≡ I.failed input.old + failed_reads result }
+    ensures failed_writes { O.failed output.new ≡ O.failed output.old + failed_writes result }
+{
     let mut lines = LineSplitter::new(alloc);
     let mut buffer = [0; PIECE];
     for _ in 0..u64::MAX {
@@ -79,11 +98,10 @@ pub fn script<B: Block, I: ByteIn, O: ByteOut>(
             return Err(ScriptFault::Read);
         };
         if read == 0 {
-            answer_last(alloc, &mut session, &lines, output)?;
-            return Ok(session.into_plant());
+            return answer_last(alloc, session, &lines, output);
         }
         lines.push(&buffer[..read])?;
-        answer_lines(alloc, &mut session, &mut lines, output)?;
+        answer_lines(alloc, session, &mut lines, output)?;
     }
     // So many pieces have a bad line among them, since there may be only so many lines and none may be long.
     Err(ScriptFault::Memory)

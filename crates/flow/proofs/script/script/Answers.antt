@@ -1,60 +1,10 @@
-use Rattle.std.proofs.Common.{refl, arith, ◌∙◌}
 use Rattle.std.proofs.lemmas.Result.{err_from_is_err_and}
-use Rattle.flow.specs.Session.{graph_of, standing, standing_of, none_kept}
-use Rattle.flow.proofs.Flows.{begun_same, kept_same, flows_begin, breaks_first, ends_in, flows_on, breaks_in, breaks_last, ends_last, breaks_memory, breaks_between, breaks_read, kept_count}
+use Rattle.flow.specs.Session.{graph_of, standing_of, none_kept}
+use Rattle.flow.proofs.Flows.{breaks_first}
 use Rattle.flow.proofs.script.script.Goals as goal
-
-pub loop-init : goal.loop-init
-loop-init g c = (
-  begun_same c.args.plant c.in_ok-session.session c.in_ok-session.ensures,
-  refl,
-  refl,
-  flows_begin (graph_of g.B.Block.meaning c.args.plant) c.args.plant c.in_ok-session.session _ _ c.new-lines.result c.in_ok-session.ensures c.new-lines.ensures,
-)
 
 pub returns-in_err-session-clause-breaks : goal.returns-in_err-session-clause-breaks
 returns-in_err-session-clause-breaks g c =
     let p = err_from_is_err_and c.from_residual.result c.from_residual.ensures.1 in
     rw (p.1, p.2)
     (breaks_first (graph_of g.B.Block.meaning c.args.plant) (standing_of c.args.plant (none_kept c.args.plant)) (g.I.ByteIn.remaining c.args.input.now) (g.O.ByteOut.contents c.args.output.now))
-
-pub returns-in_default-clause-breaks : goal.returns-in_default-clause-breaks
-returns-in_default-clause-breaks g c = breaks_read (graph_of g.B.Block.meaning c.args.plant) (standing_of c.args.plant (none_kept c.args.plant)) (standing c.loop.session) _ (g.I.ByteIn.remaining c.loop.input) _ _ _ c.loop.lines c.loop.invariant.3 c.in_default.ensures.bytes
-
-pub returns-clause-breaks : goal.returns-clause-breaks
-returns-clause-breaks g c = breaks_between (graph_of g.B.Block.meaning c.args.plant) (standing_of c.args.plant (none_kept c.args.plant)) (standing c.loop.session) _ _ _ _ c.loop.lines c.loop.invariant.3
-
-pub returns-in_err-answer_last-clause-breaks : goal.returns-in_err-answer_last-clause-breaks
-returns-in_err-answer_last-clause-breaks g c =
-    let p = err_from_is_err_and c.from_residual-in_err-answer_last.result c.from_residual-in_err-answer_last.ensures.1 in
-    rw (p.1, p.2)
-    (breaks_last (graph_of g.B.Block.meaning c.args.plant) (standing_of c.args.plant (none_kept c.args.plant)) (standing c.loop.session) _ (g.I.ByteIn.remaining c.loop.input) _ _ (g.O.ByteOut.contents c.loop.output) _ c.loop.lines c.in_err-answer_last.field-0.0 c.loop.invariant.3
-    (rw c.if-read-eq0.true at c.in-Ok.ensures.bytes.0) (c.in-Ok.ensures.bytes.1 c.if-read-eq0.true (omega arith)) (rw c.loop.invariant.0 at c.in_err-answer_last.ensures.stops))
-
-pub returns-then-read-eq0-clause-ends : goal.returns-then-read-eq0-clause-ends
-returns-then-read-eq0-clause-ends g c =
-    ends_in (graph_of g.B.Block.meaning c.args.plant) c.into_plant.result c.answer_last.new.session (standing_of c.args.plant (none_kept c.args.plant)) _ _ _ _ c.into_plant.ensures
-    (ends_last (graph_of g.B.Block.meaning c.args.plant) (standing_of c.args.plant (none_kept c.args.plant)) (standing c.loop.session) (standing c.answer_last.new.session) _ (g.I.ByteIn.remaining c.loop.input) _ _ (g.O.ByteOut.contents c.loop.output) _ c.loop.lines c.loop.invariant.3
-    (rw c.if-read-eq0.true at c.in-Ok.ensures.bytes.0) (c.in-Ok.ensures.bytes.1 c.if-read-eq0.true (omega arith)) (rw c.loop.invariant.0 at c.in_ok-answer_last.ensures.answered))
-
-pub returns-in_err-push-clause-breaks : goal.returns-in_err-push-clause-breaks
-returns-in_err-push-clause-breaks g c =
-    let p = err_from_is_err_and c.from_residual-in_err-push.result c.from_residual-in_err-push.ensures.1 in
-    rw (p.1, p.2)
-    (breaks_memory (graph_of g.B.Block.meaning c.args.plant) (standing_of c.args.plant (none_kept c.args.plant)) (standing c.loop.session) _ (g.I.ByteIn.remaining c.loop.input) _ _ _ c.loop.lines _ c.loop.invariant.3 c.in-Ok.ensures.bytes.0)
-
-pub returns-in_err-answer_lines-clause-breaks : goal.returns-in_err-answer_lines-clause-breaks
-returns-in_err-answer_lines-clause-breaks g c =
-    let p = err_from_is_err_and c.from_residual-in_err-answer_lines.result c.from_residual-in_err-answer_lines.ensures.1 in
-    rw (p.1, p.2)
-    (breaks_in (graph_of g.B.Block.meaning c.args.plant) (standing_of c.args.plant (none_kept c.args.plant)) (standing c.loop.session) _ (g.I.ByteIn.remaining c.loop.input) _ _ (g.O.ByteOut.contents c.loop.output) _ c.loop.lines c.push.new.self _ c.in_err-answer_lines.field-0.0 c.loop.invariant.3
-    c.in-Ok.ensures.bytes.0 c.in_ok-push.ensures.ok c.push.ensures.taken (rw c.loop.invariant.0 at c.in_err-answer_lines.ensures.stops))
-
-pub loop-preserved : goal.loop-preserved
-loop-preserved g c = (
-  kept_same c.args.plant c.loop.session c.answer_lines.new.session c.loop.invariant.0 c.in_ok-answer_lines.ensures.same,
-  c.in-Ok.ensures.counted ∙ c.loop.invariant.1,
-  kept_count _ _ _ c.in_ok-answer_lines.ensures.failed_writes c.loop.invariant.2,
-  flows_on (graph_of g.B.Block.meaning c.args.plant) (standing_of c.args.plant (none_kept c.args.plant)) (standing c.loop.session) _ _ (g.I.ByteIn.remaining c.loop.input) _ _ (g.O.ByteOut.contents c.loop.output) _ c.loop.lines c.push.new.self _ _ c.loop.invariant.3
-      c.in-Ok.ensures.bytes.0 c.in_ok-push.ensures.ok c.push.ensures.taken (rw c.loop.invariant.0 at c.in_ok-answer_lines.ensures.went) c.in_ok-answer_lines.ensures.unfinished,
-)
