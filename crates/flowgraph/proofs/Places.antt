@@ -28,3 +28,8 @@ none_more test xs i d low none fails =
 pub none_of : {X Y : Type 0} (f : X → Y) (o : Option X) (r : Option Y) → r ≡ option_map f o → ((y : Y) → r ≡ Some y → ⊥) → o ≡ None
 none_of f None r e none = refl
 none_of f (Some x) r e none = absurd (none (f x) e)
+
+-- what is there came of a value that is there
+pub some_of : {X Y : Type 0} (f : Option X → Y) (o : Option X) (r : Option Y) (y : Y) → r ≡ option_map (λ x. f (Some x)) o → r ≡ Some y → y ≡ f o
+some_of f None r y e is = absurd (let no = e in let there = is in cc)
+some_of f (Some x) r y e is = let came = e in let there = is in cc
