@@ -31,7 +31,8 @@ put_tests() {
     done
 }
 
-# put_apart NAME CRATE..: the crate NAME_tests, over these crates and those below them, in the checkout $room/NAME; tests/NAME has its sources, if it is there
+# put_apart NAME CRATE..: the crate NAME_tests, over these crates and those below them, in the checkout $room/NAME, with the sources of tests/NAME if that
+# is there
 put_apart() {
     local crate used here=$room/$1 name=${1}_tests order=() libraries=()
     put_below "$@"

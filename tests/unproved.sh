@@ -5,25 +5,25 @@ set -euo pipefail
 # shellcheck source=tests/apart.sh
 source "$(dirname -- "$(readlink -f -- "${BASH_SOURCE[0]}")")/apart.sh"
 
-# run_tests COUNT CRATE..: so many tests stand in the folders that are named in `folders`, over these crates, and all pass. They are one crate, so that what
-# stands below them is compiled once.
+# run_tests COUNT FOLDER..: so many tests stand in these folders, and all pass. They are one crate, so that what stands below them is compiled once.
 run_tests() {
-    local count=$1 folder own=$room/all/crates/all_tests status=0
-    put_apart all "${@:2}"
-    for folder in "${folders[@]}"; do
+    local folder own=$room/all/crates/all_tests status=0
+    put_apart all flow rates firings
+    for folder in "${@:2}"; do
         mkdir "$own/src/$folder"
         put_tests "$folder" "$own/src/$folder"
         mv -- "$own/src/$folder/lib.rt" "$own/src/$folder.rt"
         printf '#[cfg(test)]\nmod %s;\n' "$folder" >>"$own/src/lib.rt"
     done
+    # (tests/terminal stands over this file of the program)
     cp -- "$top/crates/$program_crate/src/terminal.rt" "$own/src/terminal"
     (cd "$own" && rt try --test) >"$room/said" 2>&1 </dev/null || status=$?
-    if [[ $status != 0 ]] || ! grep -q "^test result: ok\. $count passed" "$room/said"; then
-        echo "unproved: the tests of ${folders[*]}:" >&2
+    if [[ $status != 0 ]] || ! grep -q "^test result: ok\. $1 passed" "$room/said"; then
+        echo "unproved: the tests of ${*:2}:" >&2
         cat "$room/said" >&2
         exit 1
     fi
-    echo "$count tests of ${folders[*]} passed"
+    echo "$1 tests of ${*:2} passed"
 }
 
 # run_bench PROGRAM: it writes what its file stdout has
@@ -38,7 +38,6 @@ run_bench() {
     echo "$1 wrote what its file stdout has"
 }
 
-folders=(leaves kernels blocks flowgraphs plants graph_files streams terminal)
-run_tests 47 flow rates firings
+run_tests 47 leaves kernels blocks flowgraphs plants graph_files streams terminal
 run_bench kernel_bench
 run_bench graph_bench

@@ -7,9 +7,8 @@ use Rattle.script_text.specs.Lines.{lines_of}
 use Rattle.script_text.specs.Splits.{Split, IsUnfinished}
 use Rattle.script_text.specs.Scripts.{said_of, GoesOn}
 use Rattle.script_text.specs.Grammar.{Command, Parsed, Nothing, Bad, Says, parsed_from}
-use Rattle.plant.specs.Plant.{PlantState}
-use Rattle.flow.specs.Session.{Graph, Standing, SessionState, standing, standing_of, in_state, in_standing, none_kept}
-use Rattle.flow.specs.Script.{Replies, Answered, Begins, Stops, Went, Unwritten, Flows, Ends, EndsIn, Breaks, script_after, script_of}
+use Rattle.flow.specs.Session.{Graph, Standing}
+use Rattle.flow.specs.Script.{Replies, Answered, Begins, Stops, Went, Unwritten, Flows, Ends, Breaks, script_after, script_of}
 use Rattle.flow.specs.declared.script.ScriptFault.{ScriptFault}
 use Rattle.flow.specs.declared.script.ScriptFault.TheVariants.{BadLine, Read, Write, Memory}
 
@@ -36,13 +35,6 @@ said_last s lines e = ap (λ (bytes : List ℕ). parsed_from (suc s.taken) (line
 -- a count that grew by nothing
 pub kept_count : (a b c : ℕ) → a ≡ b + 0 → b ≡ c → a ≡ c
 kept_count a b c p q = omega (arith, p, q)
-
--- the plant of a session stays the same plant
-pub begun_same : {B : Type 0} (p : PlantState B) (s : SessionState B) → s ≡ record { plant = p; kept = none_kept p } → s.plant ≡ in_state p s.plant.state
-begun_same {B} p s e = ap (λ (x : SessionState B). x.plant) e ∙ sym (ap (λ (x : SessionState B). in_state p x.plant.state) e)
-
-pub kept_same : {B : Type 0} (p : PlantState B) (s t : SessionState B) → s.plant ≡ in_state p s.plant.state → t ≡ in_standing s (standing t) → t.plant ≡ in_state p t.plant.state
-kept_same {B} p s t e h = ap (λ (x : SessionState B). x.plant) h ∙ ap (λ (x : PlantState B). in_state x t.plant.state) e
 
 module _ (g : Graph) where
   -- no line was answered
@@ -232,18 +224,7 @@ module _ (g : Graph) where
         stops = inl (record { before = f.before; last = mid; answered = f.answered; next = λ more. (said_of s more, f.says more) });
       }
 
-  -- a script of a plant begins
-  pub flows_begin : {B : Type 0} (p : PlantState B) (session : SessionState B) (input out : Option (List ℕ)) (s : Split) → session ≡ record { plant = p; kept = none_kept p } →
-      s ≡ record { rest = []; line = []; taken = 0 } → Flows g (standing_of p (none_kept p)) (standing session) input input out out s
-  flows_begin {B} p session input out s e h =
-      subst (λ (x : SessionState B). Flows g (standing_of p (none_kept p)) (standing x) input input out out s) (sym e) (flows_start (standing_of p (none_kept p)) input out s h)
-
   -- nothing was read
   pub breaks_first : (st : Standing) (input out : Option (List ℕ)) → Breaks g st input input out out Memory
   breaks_first st input out =
       record { given = []; read = Consumes-nil input; stops = inl (record { before = []; last = st; answered = none_answered st out; next = λ more. (script_after [] more, refl) }) }
-
-  -- the plant that a script leaves
-  pub ends_in : {B : Type 0} (p : PlantState B) (session : SessionState B) (st : Standing) (i k o q : Option (List ℕ)) → p ≡ session.plant → Ends g st (standing session) i k o q → EndsIn g st p.state i k o q
-  ends_in {B} p session st i k o q e h =
-      record { kept = session.kept; ends = subst (λ (x : PlantState B). Ends g st (record { state = x.state; kept = session.kept }) i k o q) (sym e) h }

@@ -35,3 +35,11 @@ module _ {B : Type 0} (meaning : B → Meaning) where
       let more = building_keeps.connecting names (net_of meaning (graph_of names es cs)) (connection_of c) graph allowed in
       let all : map connection_of cs ++ connection_of c ∷ [] ≡ map connection_of cs' = sym (ap (map connection_of) joined ∙ map-append connection_of cs (c ∷ [])) in
       subst (λ ds. IsGraph names (record { nodes = map (node_of meaning) es; connections = ds })) all more
+
+  -- which connection is refused hangs on the blocks and the connections, and no name
+  pub connect_same :
+      (es es' : List (Entry B)) (cs cs' : List Connection) (c : Connection) →
+      es ≡ es' → cs ≡ cs' → connect_fault (net_of meaning (graph_of [] es cs)) (connection_of c) ≡ connect_fault (net_of meaning (graph_of [] es' cs')) (connection_of c)
+  connect_same es es' cs cs' c blocks connections =
+      ap (λ xs. connect_fault (net_of meaning (graph_of [] xs cs)) (connection_of c)) blocks
+      ∙ ap (λ ys. connect_fault (net_of meaning (graph_of [] es' ys)) (connection_of c)) connections

@@ -1,8 +1,8 @@
-use Rattle.std.proofs.Common.{rules, arith, ◌≡◌, ◌++◌, ◌∷◌, [], None, length, map, ap, sym, ◌∙◌}
-use Rattle.graph_model.specs.Graphs.{add_fault}
-use Rattle.flowgraph.specs.Flowgraph.{net_of, node_of, graph_of, entry, with_block}
+use Rattle.std.proofs.Common.{rules, arith, ◌≡◌, ◌++◌, ◌∷◌, [], length, map, ap, sym, ◌∙◌}
 use Rattle.std.proofs.lemmas.List.{length-map}
+use Rattle.graph_model.specs.Graphs.{add_fault}
 use Rattle.flowgraph.specs.Fault.{reported}
+use Rattle.flowgraph.specs.Flowgraph.{net_of, node_of, graph_of, entry, with_block}
 use Rattle.flowgraph.specs.declared.fault.Limit.TheVariants.{Blocks}
 use Rattle.flowgraph.proofs.Nets.{added}
 use Rattle.flowgraph.proofs.Places.{none_of, some_of}
@@ -12,10 +12,9 @@ pub invariant_of-self-2 : goal.invariant_of-self-2
 invariant_of-self-2 g c =
     let named : map (λ n. n.items) c.add_name.new.names.keys ≡ map (λ n. n.items) c.self.inside.names.keys ++ c.args.name.now ∷ [] = c.add_name.ensures ∙ ap (λ ks. map (λ n. n.items) ks ++ c.in_ok-key.key.items ∷ []) c.make_room.ensures.names ∙ ap (λ text. map (λ n. n.items) c.self.inside.names.keys ++ text ∷ []) c.in_ok-key.ensures.copied in
     let blocks : c.push.new.self.items ≡ c.self.inside.blocks.items ++ entry c.args.block c.args.options ∷ [] = search rules in
-    let allowed : add_fault (map (λ n. n.items) c.self.inside.names.keys) (net_of g.B.Block.meaning (graph_of (map (λ n. n.items) c.self.inside.names.keys) c.self.inside.blocks.items c.self.inside.connections.items)) c.args.name.now (node_of g.B.Block.meaning (entry c.args.block c.args.options)) ≡ None =
-        sym (ap (λ es. add_fault (map (λ n. n.items) c.self.inside.names.keys) (net_of g.B.Block.meaning (graph_of [] es [])) c.args.name.now (node_of g.B.Block.meaning (entry c.args.block c.args.options))) c.deref.ensures.value)
-        ∙ none_of _ _ _ c.refused_block.ensures c.in_default.not-Some in
-    added g.B.Block.meaning _ _ _ _ _ _ _ named blocks c.self.invariant allowed
+    let node = node_of g.B.Block.meaning (entry c.args.block c.args.options) in
+    let same = ap (λ es. add_fault (map (λ n. n.items) c.self.inside.names.keys) (net_of g.B.Block.meaning (graph_of [] es [])) c.args.name.now node) c.deref.ensures.value in
+    added g.B.Block.meaning _ _ _ _ _ _ _ named blocks c.self.invariant (sym same ∙ none_of _ _ _ c.refused_block.ensures c.in_default.not-Some)
 
 pub returns-clause-added : goal.returns-clause-added
 returns-clause-added g c =
