@@ -1,13 +1,8 @@
 -- Several tags that go into a list in order.
-use Rattle.std.proofs.Common.{◌≡◌, ◌+◌, refl, arith, List, [], ◌∷◌, ◌++◌, length}
+use Rattle.std.proofs.Common.{◌≡◌, ◌+◌, arith, List, [], ◌∷◌, length}
 use Rattle.stream_model.specs.Tags.{Tag, insert_tag}
 use Rattle.tags.specs.TagList.{insert_tags}
 use Rattle.tags.proofs.Kept.{length-insert_tag}
-
--- one more tag goes in last
-pub insert_tags-more : (more : List Tag) (t : Tag) (ts : List Tag) → insert_tags (more ++ t ∷ []) ts ≡ insert_tag t (insert_tags more ts)
-insert_tags-more [] t ts = refl
-insert_tags-more (u ∷ more) t ts = insert_tags-more more t (insert_tag u ts)
 
 pub length-insert_tags : (more ts : List Tag) → length (insert_tags more ts) ≡ length more + length ts
 length-insert_tags [] ts = omega arith

@@ -4,3 +4,4 @@ pub mod Kept
 pub mod Order
 pub mod Rounding
 pub mod Rows
+pub mod Sorted

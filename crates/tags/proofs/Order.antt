@@ -1,10 +1,9 @@
 -- Where a tag goes in a list that is in order.
-use Rattle.std.proofs.Common.{◌≡◌, ℕ, zero, suc, ◌-◌, ◌<◌, ◌≤◌, ◌∙◌, ap, sym, subst, refl, arith, true, false, List, [], ◌∷◌, ◌++◌, length, map, insert, slice_index_or, inl, inr}
+use Rattle.std.proofs.Common.{◌≡◌, ℕ, zero, suc, ◌<◌, ◌≤◌, ◌∙◌, ap, sym, subst, refl, arith, true, false, List, [], ◌∷◌, length, map, insert, slice_index_or, inl, inr}
 use Rattle.std.specs.List.{AllWithin}
 use Rattle.std.specs.List.Sorted.{IsNonDecreasingBy, IsPartitionedBy, IsPartitionPoint}
 use Rattle.std.proofs.lemmas.Bool.{both_ways, cases_Bool, cases_lt}
 use Rattle.std.proofs.lemmas.List.{length-map}
-use Rattle.std.proofs.lemmas.List.Edits.{insert_end}
 use Rattle.std.proofs.Math.ListN.{get_or-map}
 use Rattle.std.proofs.lemmas.List as lists
 use Rattle.std.specs.Ordering.{is_lt, is_gt}
@@ -43,7 +42,7 @@ less_before a b t up lt =
       | inr e ↦ absurd (both_ways (is_gt (tag_cmp t b)) (not_greater-trans t a b (sym (less_is_greater a t) ∙ e) up) (sym (less_is_greater b t) ∙ lt))
     ]
 
-stored_in_order : (xs : List items.Tag) → IsOrdered (map tag_of xs) → (i j : ℕ) (d : items.Tag) → i < j → j < length xs → is_gt (tag_cmp (tag_of (slice_index_or xs i d)) (tag_of (slice_index_or xs j d))) ≡ false
+pub stored_in_order : (xs : List items.Tag) → IsOrdered (map tag_of xs) → (i j : ℕ) (d : items.Tag) → i < j → j < length xs → is_gt (tag_cmp (tag_of (slice_index_or xs i d)) (tag_of (slice_index_or xs j d))) ≡ false
 stored_in_order xs o i j d lt h =
     subst (λ a. is_gt (tag_cmp a (tag_of (slice_index_or xs j d))) ≡ false) (get_or-map tag_of xs i d)
     (subst (λ b. is_gt (tag_cmp (slice_index_or (map tag_of xs) i (tag_of d)) b) ≡ false) (get_or-map tag_of xs j d)
@@ -65,14 +64,6 @@ stored_insert t xs p le point =
     insert_here (tag_of t) (map tag_of xs) p (omega (arith, le, length-map xs tag_of))
     (λ k d low high. rw (lists.get_or-map tag_of xs k t d (omega (arith, high, le))) (point.0 k t low high))
     (λ k d low high. rw (lists.get_or-map tag_of xs k t d (omega (arith, high, length-map xs tag_of))) (point.1 k t low (omega (arith, high, length-map xs tag_of))))
-
--- and behind all where the last is less
-pub stored_push : (t : items.Tag) (xs : List items.Tag) → IsOrdered (map tag_of xs) → 0 < length xs → ((d : items.Tag) → is_lt (tag_cmp (tag_of (slice_index_or xs (length xs - 1) d)) (tag_of t)) ≡ true)
-    → insert_tag (tag_of t) (map tag_of xs) ≡ map tag_of xs ++ tag_of t ∷ []
-stored_push t xs o some lt =
-    stored_insert t xs (length xs) (omega arith)
-    (λ k d low high. less_come_first t xs o k (length xs - 1) d (omega (arith, high)) (omega (arith, some)) (lt d), λ k d low high. absurd (omega (arith, low, high)))
-    ∙ (ap (λ n. insert (map tag_of xs) n (tag_of t)) (sym (length-map xs tag_of)) ∙ insert_end (map tag_of xs) (tag_of t))
 
 -- the model's tags of a list with one more
 pub map_insert : (xs : List items.Tag) (p : ℕ) (t : items.Tag) → map tag_of (insert xs p t) ≡ insert (map tag_of xs) p (tag_of t)

@@ -1,16 +1,14 @@
 //! The tags of a stream, in their order.
-ghost use Rattle.std.specs.Prelude.{◌≡◌, ◌+◌, ◌<◌, ◌≤◌, ◌↔◌, [], ◌∷◌, ◌++◌, length, map, insert, nat_lt, true, false, IsTrue, IsOk, OnOk, OnErr};
+ghost use Rattle.std.specs.Prelude.{◌≡◌, ◌+◌, ◌<◌, ◌≤◌, ◌↔◌, [], ◌∷◌, ◌++◌, length, map, take, drop, insert, nat_lt, All, true, false, IsTrue, IsNone, IfSome, IsOk, OnOk, OnErr, vec_len, vec_capacity};
+ghost use Rattle.std.specs.Ordering.{is_lt, is_le};
 ghost use Rattle.std.specs.List.Sorted.{IsPartitionPoint};
-ghost use Rattle.stream_model.specs.Tags.{IsOrdered, insert_tag, tags_within};
+ghost use Rattle.stream_model.specs.Tags.{IsOrdered, tag_cmp, insert_tag, tags_within};
 ghost use Rattle.items.specs.Tags.{tag_of};
 ghost use Rattle.tags.specs.TagList.{tags_from, insert_tags};
 
 use items::Tag;
 use std::alloc::{AllocError, Global};
 use std::marker::Model;
-
-// How many tags there may be at most, so that twice as many can be counted.
-const MOST: usize = usize::MAX / 2;
 
 /// The tags of a stream, ordered by offset, key, value and source. Doubles are kept. A contract sees the list, and how many
 /// more tags fit before memory is needed.
@@ -83,14 +81,13 @@ impl Tags {
         if n <= self.row.capacity() / 2 - kept {
             return Ok(());
         }
-        if n > MOST - kept {
-            return Err(AllocError);
-        }
-        self.row.reserve(2 * (kept + n) - self.row.len())
+        // A number that no memory holds stands for all above it.
+        let room = kept.saturating_add(n).saturating_mul(2);
+        self.row.reserve(room - self.row.len())
     }
 
-    /// Adds a tag at its place, where there is room. It takes no memory. A tag behind all others, the common case, goes there
-    /// at once.
+    /// Adds a tag at its place, where there is room. It takes no memory. A tag that no other is behind, the common case, goes
+    /// last at once.
     pub fn insert_reserved(&mut self, tag: Tag)
         requires { 0 < self.old.spare }
         ensures tags { self.new.tags ≡ insert_tag (tag_of tag) self.old.tags }
@@ -106,16 +103,21 @@ impl Tags {
         }
     }
 
-    /// Adds tags at their places, where there is room. It takes no memory.
+    /// Adds tags at their places, where there is room. It takes no memory. Several are sorted at once, together with the tags
+    /// behind the least of them, and what is in order already is only looked at.
     pub fn insert_all(&mut self, more: &[Tag])
         requires { length more.now ≤ self.old.spare }
         ensures tags { self.new.tags ≡ insert_tags (map tag_of more.now) self.old.tags }
         ensures spare { self.new.spare + length more.now ≡ self.old.spare }
         ensures room { self.new.spare + length self.new.tags ≡ self.old.spare + length self.old.tags }
     {
-        for tag in more {
+        if let [tag] = more {
             self.insert_reserved(*tag);
+            return;
         }
+        let kept = self.row.len() - self.gone;
+        append(&mut self.row, more);
+        sort_in(&mut self.row[self.gone..], kept);
     }
 
     /// The tags on items `from` to below `to`.
@@ -159,7 +161,7 @@ fn comes_last(tags: &[Tag], tag: &Tag) -> bool
     ensures { result ≡ true → insert_tag (tag_of tag.now) (map tag_of tags.now) ≡ map tag_of tags.now ++ tag_of tag.now ∷ [] }
 {
     match tags.last() {
-        Some(last) => last < tag,
+        Some(last) => last <= tag,
         None => true,
     }
 }
@@ -171,6 +173,48 @@ fn place_of(tags: &[Tag], tag: &Tag) -> usize
     ensures place { insert_tag (tag_of tag.now) (map tag_of tags.now) ≡ insert (map tag_of tags.now) result (tag_of tag.now) }
 {
     tags.partition_point(|before| before < tag)
+}
+
+// Appends tags where there is room.
+fn append(row: &mut Vec<Tag>, more: &[Tag])
+    requires { vec_len row.old + length more.now ≤ vec_capacity row.old }
+    ensures items { row.new.items ≡ row.old.items ++ more.now }
+    ensures capacity { vec_capacity row.new ≡ vec_capacity row.old }
+{
+    for tag in more {
+        row.push_reserved(*tag);
+    }
+}
+
+// Brings the tags from place `kept` on to their places among those before it, which are in order.
+fn sort_in(tags: &mut [Tag], kept: usize)
+    requires within { kept ≤ length tags.old }
+    requires ordered { IsOrdered (map tag_of (take kept tags.old)) }
+    ensures len { length tags.new ≡ length tags.old }
+    ensures tags { map tag_of tags.new ≡ insert_tags (map tag_of (drop kept tags.old)) (map tag_of (take kept tags.old)) }
+{
+    let (before, more) = tags.split_at(kept);
+    if let Some(least) = least_of(more) {
+        let place = count_upto(before, least);
+        tags[place..].sort_unstable();
+    }
+}
+
+// The least of the tags.
+fn least_of(tags: &[Tag]) -> Option<&Tag>
+    ensures none { IsNone result → tags.now ≡ [] }
+    ensures least { IfSome result (λ least. All (λ t. is_lt (tag_cmp (tag_of t) (tag_of least.now)) ≡ false) tags.now) }
+{
+    tags.iter().min()
+}
+
+// How many of the tags are not behind `tag`.
+fn count_upto(tags: &[Tag], tag: &Tag) -> usize
+    requires { IsOrdered (map tag_of tags.now) }
+    ensures bound { result ≤ length tags.now }
+    ensures point { IsPartitionPoint (λ t. is_le (tag_cmp (tag_of t) (tag_of tag.now)) ≡ true) (λ t. is_le (tag_cmp (tag_of t) (tag_of tag.now)) ≡ false) tags.now result }
+{
+    tags.partition_point(|before| before <= tag)
 }
 
 // How many of the tags are on items before `offset`.

@@ -1,27 +1,59 @@
-use Rattle.std.proofs.Common.{◌≡◌, ◌+◌, ◌∙◌, ap, sym, arith, [], ◌∷◌, ◌++◌, length, map, take}
-use Rattle.std.proofs.lemmas.List.{length-map, length-take-le, map-append, take_more}
-use Rattle.stream_model.specs.Tags.{insert_tag}
+use Rattle.std.proofs.Common.{rules, ◌≡◌, ◌+◌, ◌-◌, ◌≤◌, List, ◌++◌, ◌∙◌, ap, sym, subst, arith, length, map, take, drop, vec_len}
+use Rattle.std.proofs.lemmas.List.{length-map, length-append}
+use borrow.Rule.Slice.PartMut.{put_mid}
+use Rattle.stream_model.specs.Tags.{IsOrdered}
+use Rattle.items.specs.declared.marks.Tag.{Tag}
 use Rattle.items.specs.Tags.{tag_of}
-use Rattle.tags.specs.TagList.{insert_tags}
-use Rattle.tags.proofs.Inserted.{insert_tags-more, length-insert_tags}
+use Rattle.tags.specs.TagList.{insert_tags, kept_of}
+use Rattle.tags.proofs.Inserted.{length-insert_tags}
+use Rattle.tags.proofs.Sorted.{length-parted, parted_row, kept_parted, row_and_more, ordered_insert_tags, one_tag}
 use Rattle.tags.proofs.tag_list.Tags.insert_all.Goals as goal
 
-pub loop-tag-preserved : goal.loop-tag-preserved
-loop-tag-preserved c =
-    let i = c.loop-tag.tag-index in
-    let more = c.args.more.now in
-    let one : take (i + 1) more ≡ take i more ++ c.tag-item.result ∷ [] = take_more more i c.tag-item.result c.loop-tag-test.true ∙ ap (λ t. take i more ++ t ∷ []) (sym c.tag-item.is) in (
-      c.insert_reserved.ensures.tags
-          ∙ (ap (insert_tag (tag_of c.tag-item.result)) c.loop-tag.invariant.0
-          ∙ (sym (insert_tags-more (map tag_of (take i more)) (tag_of c.tag-item.result) c.args.self.now.tags)
-          ∙ ap (λ ts. insert_tags ts c.args.self.now.tags) (sym (ap (map tag_of) one ∙ map-append tag_of (take i more) (c.tag-item.result ∷ []))))),
-      omega (arith, c.insert_reserved.ensures.spare, c.loop-tag.invariant.1),
-      c.loop-tag.invariant.2,
-    )
+one : (c : goal.After-insert_reserved) → c.insert_reserved.new.self.tags ≡ insert_tags (map tag_of c.args.more.now) c.args.self.now.tags
+one c =
+    c.insert_reserved.ensures.tags
+    ∙ ap (λ ts. insert_tags ts c.args.self.now.tags) (sym (one_tag c.tag-item.result c.args.more.now (omega (arith, c.in-len1.len_at_least, c.in-len1.len_below)) c.tag-item.is))
 
-pub returns-clause-room : goal.returns-clause-room
-returns-clause-room c =
-    let i = c.loop-tag.tag-index in
-    let more = c.args.more.now in
-    let all = ap length c.loop-tag.invariant.0 ∙ length-insert_tags (map tag_of (take i more)) c.args.self.now.tags in
-    omega (arith, all, length-map (take i more) tag_of, length-take-le i more c.loop-tag.auto.tag-index-end, c.loop-tag.invariant.1)
+pub returns-in-len1-clause-tags : goal.returns-in-len1-clause-tags
+returns-in-len1-clause-tags c = one c
+
+pub returns-in-len1-clause-room : goal.returns-in-len1-clause-room
+returns-in-len1-clause-room c =
+    omega (arith, ap length (one c), length-insert_tags (map tag_of c.args.more.now) c.args.self.now.tags, length-map c.args.more.now tag_of, c.insert_reserved.ensures.spare, c.in-len1.len_at_least, c.in-len1.len_below)
+
+-- the row as it is then
+abbrev row : (c : goal.After-self-1) → List Tag
+row c = take (vec_len c.append.new.row) (put_mid c.self.inside.gone (length c.deref_mut.result.now - c.self.inside.gone) c.deref_mut.result.now c.sort_in.new.tags ++ drop (length (put_mid c.self.inside.gone (length c.deref_mut.result.now - c.self.inside.gone) c.deref_mut.result.now c.sort_in.new.tags)) c.append.new.row.items)
+
+longer : (c : goal.After-self-1) → length c.append.new.row.items ≡ vec_len c.self.inside.row + length c.args.more.now
+longer c = ap length c.append.ensures.items ∙ length-append c.self.inside.row.items c.args.more.now ∙ omega (arith, c.self.invariant.whole)
+
+within : (c : goal.After-self-1) → c.self.inside.gone ≤ length c.append.new.row.items
+within c = omega (arith, longer c, c.self.invariant.few)
+
+full : (c : goal.After-self-1) → length (take c.self.inside.gone c.append.new.row.items ++ c.sort_in.new.tags) ≡ length c.append.new.row.items
+full c = length-parted c.self.inside.gone c.deref_mut.result.now c.append.new.row.items c.sort_in.new.tags c.deref_mut.ensures.value (within c) c.sort_in.ensures.len
+
+is_row : (c : goal.After-self-1) → row c ≡ take c.self.inside.gone c.append.new.row.items ++ c.sort_in.new.tags
+is_row c =
+    let whole : vec_len c.append.new.row ≡ length c.append.new.row.items = search rules in
+    parted_row c.self.inside.gone (vec_len c.append.new.row) c.deref_mut.result.now c.append.new.row.items c.sort_in.new.tags c.deref_mut.ensures.value whole (full c)
+
+kept : (c : goal.After-self-1) → kept_of (row c) c.self.inside.gone ≡ insert_tags (map tag_of c.args.more.now) (kept_of c.self.inside.row.items c.self.inside.gone)
+kept c =
+    let gone = c.self.inside.gone in
+    ap (λ us. kept_of us gone) (is_row c)
+    ∙ (kept_parted gone c.append.new.row.items c.sort_in.new.tags (within c)
+    ∙ (c.sort_in.ensures.tags
+    ∙ row_and_more gone (c.len.result - gone) c.deref_mut.result.now c.self.inside.row.items c.args.more.now (c.deref_mut.ensures.value ∙ c.append.ensures.items) (omega (arith, c.self.invariant.whole, c.self.invariant.few)) (omega (arith, c.self.invariant.whole, c.len.ensures))))
+
+pub invariant_of-self : goal.invariant_of-self
+invariant_of-self c =
+    let whole : vec_len c.append.new.row ≡ length c.append.new.row.items = search rules in
+    let long = ap length (is_row c) ∙ full c in
+    record {
+      ordered = subst IsOrdered (sym (kept c)) (ordered_insert_tags (map tag_of c.args.more.now) (kept_of c.self.inside.row.items c.self.inside.gone) c.self.invariant.ordered);
+      whole = whole ∙ sym long;
+      few = omega (arith, whole, longer c, c.self.invariant.few);
+      fits = omega (arith, whole, longer c, c.self.invariant.few, c.append.ensures.capacity, c.requires, ap (λ v. v.spare) c.self.view_is);
+    }
