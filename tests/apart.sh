@@ -31,10 +31,10 @@ put_tests() {
     done
 }
 
-# put_apart NAME CRATE..: the crate NAME_tests, over these crates and those below them, in the checkout $room/NAME, with the sources of tests/NAME if that
+# put_apart NAME LIBRARY..: the crate NAME_tests, over these libraries and those below them, in the checkout $room/NAME, with the sources of tests/NAME if that
 # is there
 put_apart() {
-    local crate used here=$room/$1 name=${1}_tests order=() libraries=()
+    local crate used here=$room/$1 name=${1}_tests order=() libraries=("${@:2}")
     put_below "$@"
     for crate in "${order[@]}"; do
         read -ra used <<<"${uses[$crate]}"

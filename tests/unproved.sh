@@ -1,5 +1,5 @@
 #!/usr/bin/env bash
-# Tests of libraries that run unproved, each folder of tests/ those of a layer, and tests/terminal those of a file of the program; and the programs of
+# Tests of libraries that run unproved, each folder of tests/ those of a layer, and tests/terminal those of files of the program; and the programs of
 # benches/, which without words print what was worked out by hand.
 set -euo pipefail
 # shellcheck source=tests/apart.sh
@@ -8,15 +8,15 @@ source "$(dirname -- "$(readlink -f -- "${BASH_SOURCE[0]}")")/apart.sh"
 # run_tests COUNT FOLDER..: so many tests stand in these folders, and all pass. They are one crate, so that what stands below them is compiled once.
 run_tests() {
     local folder own=$room/all/crates/all_tests status=0
-    put_apart all flow rates firings
+    put_apart all flow rates firings clap
     for folder in "${@:2}"; do
         mkdir "$own/src/$folder"
         put_tests "$folder" "$own/src/$folder"
         mv -- "$own/src/$folder/lib.rt" "$own/src/$folder.rt"
         printf '#[cfg(test)]\nmod %s;\n' "$folder" >>"$own/src/lib.rt"
     done
-    # (tests/terminal stands over this file of the program)
-    cp -- "$top/crates/$program_crate/src/terminal.rt" "$own/src/terminal"
+    # (tests/terminal stands over these files of the program)
+    cp -- "$top/crates/$program_crate/src/"{terminal,words}.rt "$own/src/terminal"
     (cd "$own" && rt try --test) >"$room/said" 2>&1 </dev/null || status=$?
     if [[ $status != 0 ]] || ! grep -q "^test result: ok\. $1 passed" "$room/said"; then
         echo "unproved: the tests of ${*:2}:" >&2
@@ -38,6 +38,6 @@ run_bench() {
     echo "$1 wrote what its file stdout has"
 }
 
-run_tests 47 leaves kernels blocks flowgraphs plants graph_files streams terminal
+run_tests 57 leaves kernels blocks flowgraphs plants graph_files streams terminal
 run_bench kernel_bench
 run_bench graph_bench

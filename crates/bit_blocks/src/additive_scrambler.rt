@@ -4,7 +4,7 @@ ghost use Rattle.stream_model.specs.Kinds.Bits.{additive_scrambler};
 
 use crate::code::{Coder, code};
 use crate::register::Register;
-use block_kinds::{Block, Held, Shape, Single, work_single};
+use block_kinds::{Block, ByPace, Held, Shape, Single, work_single};
 use items::{ItemType, Items};
 
 /// A block that adds the bits of a shift register with feedback to its input. Only the lowest bit of a byte counts.
@@ -69,6 +69,8 @@ impl Block for AdditiveScrambler {
     ghost use Rattle.stream_model.specs.Kinds.Bits.{additive_scrambler};
 
     ghost meaning = { additive_scrambler_of };
+
+    type Places = ByPace;
 
     fn shape(&self, _input: usize) -> Shape<'_> {
         Shape {

@@ -4,7 +4,7 @@ ghost use Rattle.stream_model.specs.Kinds.Bits.{descrambler};
 
 use crate::code::{Coder, code};
 use crate::register::Register;
-use block_kinds::{Block, Held, Shape, Single, work_single};
+use block_kinds::{Block, ByPace, Held, Shape, Single, work_single};
 use items::{ItemType, Items};
 
 /// A block that undoes a scrambler: each output is the input with earlier inputs. Only the lowest bit of a byte counts.
@@ -68,6 +68,8 @@ impl Block for Descrambler {
     ghost use Rattle.stream_model.specs.Kinds.Bits.{descrambler};
 
     ghost meaning = { descrambler_of };
+
+    type Places = ByPace;
 
     fn shape(&self, _input: usize) -> Shape<'_> {
         Shape {

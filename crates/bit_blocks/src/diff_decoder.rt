@@ -2,7 +2,7 @@
 ghost use Rattle.std.specs.Prelude.{◌≡◌, ◌≤◌, ◌↔◌, IsOk, IfOk, IfErr};
 ghost use Rattle.stream_model.specs.Kinds.Bits.{diff_decoder};
 
-use block_kinds::{Block, Held, ParamFault, Parameter, Shape, Single, work_single};
+use block_kinds::{Block, ByPace, Held, ParamFault, Parameter, Shape, Single, work_single};
 use items::{ItemType, Items};
 use lane_filters::diff_decode;
 use lane_work::{ByteWork, make_bytes};
@@ -75,6 +75,8 @@ impl Block for DiffDecoder {
     ghost use Rattle.stream_model.specs.Kinds.Bits.{diff_decoder};
 
     ghost meaning = { diff_decoder_of };
+
+    type Places = ByPace;
 
     fn shape(&self, _input: usize) -> Shape<'_> {
         Shape {

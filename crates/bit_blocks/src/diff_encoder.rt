@@ -3,7 +3,7 @@ ghost use Rattle.std.specs.Prelude.{◌≡◌, ◌≤◌, ◌↔◌, IsOk, IfOk,
 ghost use Rattle.stream_model.specs.Kinds.Bits.{diff_encoder};
 
 use crate::code::{Coder, code};
-use block_kinds::{Block, Held, ParamFault, Parameter, Shape, Single, work_single};
+use block_kinds::{Block, ByPace, Held, ParamFault, Parameter, Shape, Single, work_single};
 use items::{ItemType, Items};
 
 /// A block that gives the sum of all bytes so far, modulo `modulus`.
@@ -75,6 +75,8 @@ impl Block for DiffEncoder {
     ghost use Rattle.stream_model.specs.Kinds.Bits.{diff_encoder};
 
     ghost meaning = { diff_encoder_of };
+
+    type Places = ByPace;
 
     fn shape(&self, _input: usize) -> Shape<'_> {
         Shape::sync(ItemType::Byte, ItemType::Byte)

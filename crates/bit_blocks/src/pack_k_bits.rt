@@ -2,7 +2,7 @@
 ghost use Rattle.std.specs.Prelude.{◌≡◌, ◌≤◌, ◌↔◌, IsOk, IfOk, IfErr};
 ghost use Rattle.stream_model.specs.Kinds.Bits.{pack_k_bits};
 
-use block_kinds::{Block, Held, ParamFault, Parameter, Shape, Single, ports, work_single};
+use block_kinds::{Block, ByPace, Held, ParamFault, Parameter, Shape, Single, ports, work_single};
 use items::{ItemType, Items};
 use lane_filters::pack_bits;
 use lane_work::{ByteWork, make_bytes};
@@ -74,6 +74,8 @@ impl Block for PackKBits {
     ghost use Rattle.stream_model.specs.Kinds.Bits.{pack_k_bits};
 
     ghost meaning = { pack_k_bits_of };
+
+    type Places = ByPace;
 
     fn shape(&self, _input: usize) -> Shape<'_> {
         Shape::at_rate(

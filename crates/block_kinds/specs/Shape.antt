@@ -7,7 +7,7 @@ use Rattle.stream_model.specs.Settings as model
 use Rattle.stream_model.specs.Tags.{place_at_rate}
 use Rattle.stream_model.specs.Meaning.{Meaning}
 use Rattle.block_kinds.specs.declared.shape.Pace.{Pace}
-use Rattle.block_kinds.specs.declared.shape.Pace.TheVariants.{Rate, Turns, Skip, Delay}
+use Rattle.block_kinds.specs.declared.shape.Pace.TheVariants.{Rate, Turns, Placed, Skip, Delay}
 use Rattle.block_kinds.specs.declared.shape.Setting.{Setting}
 use Rattle.block_kinds.specs.declared.shape.Setting.TheVariants.{Fixed, Number, Taps}
 use Rattle.block_kinds.specs.declared.shape.Shape.{Shape}
@@ -16,12 +16,14 @@ use Rattle.block_kinds.specs.declared.shape.Shape.{Shape}
 abbrev pub taken_at : Pace → ℕ → ℕ
 taken_at (Rate d i) k = d * k
 taken_at (Turns d i b) k = d * k
+taken_at (Placed d i) k = d * k
 taken_at (Skip n) k = k
 taken_at (Delay n) k = k - n
 
 abbrev pub given_at : Pace → ℕ → ℕ
 given_at (Rate d i) k = i * k
 given_at (Turns d i b) k = i * k
+given_at (Placed d i) k = i * k
 given_at (Skip n) k = k - n
 given_at (Delay n) k = k
 
@@ -70,6 +72,14 @@ pub record IsTakingTurns (m : Meaning) (p d i b : ℕ) : Type 0 where
   pub given : (k : ℕ) → m.given k ≡ i * k
   pub place : (s : ℕ) → m.place p s ≡ s / d * i + b + s % d
 
+-- on input p, d items taken and i given in a firing, and tags placed by the block itself
+pub record IsPlacing (m : Meaning) (p d i : ℕ) : Type 0 where
+  pub some : 1 ≤ d
+  pub rate : m.rate p ≡ Some (d, i)
+  pub shift : m.shift ≡ shifts.No
+  pub taken : (k : ℕ) → m.taken p k ≡ d * k
+  pub given : (k : ℕ) → m.given k ≡ i * k
+
 -- without the first n items
 pub record IsSkipping (m : Meaning) (p n : ℕ) : Type 0 where
   pub rate : m.rate p ≡ None
@@ -89,8 +99,17 @@ pub record IsDelaying (m : Meaning) (p n : ℕ) : Type 0 where
 abbrev pub HasPace : Meaning → ℕ → Pace → Type 0
 HasPace m p (Rate d i) = IsPacedAt m p d i
 HasPace m p (Turns d i b) = IsTakingTurns m p d i b
+HasPace m p (Placed d i) = IsPlacing m p d i
 HasPace m p (Skip n) = IsSkipping m p n
 HasPace m p (Delay n) = IsDelaying m p n
+
+-- where the pace leaves the places of tags to the block, they are these
+abbrev pub IsPlacedBy : Meaning → (ℕ → ℕ → ℕ) → ℕ → Pace → Type 0
+IsPlacedBy m own p (Rate d i) = Unit {0}
+IsPlacedBy m own p (Turns d i b) = Unit {0}
+IsPlacedBy m own p (Placed d i) = (s : ℕ) → m.place p s ≡ own p s
+IsPlacedBy m own p (Skip n) = Unit {0}
+IsPlacedBy m own p (Delay n) = Unit {0}
 
 -- the shape is that of the block, with the pace of input p
 pub record IsShape (m : Meaning) (p : ℕ) (s : Shape) : Type 0 where

@@ -5,9 +5,10 @@ ghost use Rattle.std.specs.Option.{option_map};
 ghost use Rattle.stream_model.specs.Meaning.{Meaning, IsLawful};
 ghost use Rattle.stream_model.specs.Settings as model;
 ghost use Rattle.settings.specs.Values.{value_of};
-ghost use Rattle.block_kinds.specs.Shape.{IsShape};
+ghost use Rattle.block_kinds.specs.Shape.{IsShape, IsPlacedBy};
 ghost use Rattle.block_kinds.specs.Work.{CanWork, HasWorked, IsWorkOf};
 
+use crate::placing::Placing;
 use crate::shape::{Pace, Setting, Shape};
 use items::Items;
 use settings::{Held, Taps, Value};
@@ -24,9 +25,13 @@ pub trait Block: Eq + Drop {
     /// What the block means.
     ghost meaning: { Self → Meaning };
 
+    /// Where the block puts tags, where its pace leaves that to it. Of most blocks the pace says it: `ByPace`.
+    type Places: Placing<Self>;
+
     /// Everything of the block but its equation, with the pace of an input. The other answers are read from it.
     fn shape(&self, input: usize) -> Shape<'_>
-        ensures { IsShape (meaning self.now) input result };
+        ensures shape { IsShape (meaning self.now) input result }
+        ensures placed { IsPlacedBy (meaning self.now) (Self.Places.place_of self.now) input result.pace };
 
     /// What the block does with streams.
     final fn role(&self) -> Role
@@ -54,7 +59,8 @@ pub trait Block: Eq + Drop {
         ensures { result ≡ (meaning self.now).rate input }
     {
         match self.shape(input).pace {
-            Pace::Rate(taken, given) | Pace::Turns(taken, given, _) => Some((taken, given)),
+            Pace::Rate(taken, given) | Pace::Turns(taken, given, _) | Pace::Placed(taken, given) =>
+                { Some((taken, given)) }
             Pace::Skip(_) | Pace::Delay(_) => None,
         }
     }
@@ -64,7 +70,7 @@ pub trait Block: Eq + Drop {
         ensures { result ≡ (meaning self.now).shift }
     {
         match self.shape(0).pace {
-            Pace::Rate(_, _) | Pace::Turns(_, _, _) => Shift::No,
+            Pace::Rate(_, _) | Pace::Turns(_, _, _) | Pace::Placed(_, _) => Shift::No,
             Pace::Skip(count) => Shift::Skip(count),
             Pace::Delay(count) => Shift::Delay(count),
         }
@@ -94,6 +100,7 @@ pub trait Block: Eq + Drop {
         match self.shape(input).pace {
             Pace::Rate(taken, given) => place(taken, given, offset),
             Pace::Turns(taken, given, before) => offset / taken * given + before + offset % taken,
+            Pace::Placed(_, _) => Self::Places::place(self, input, offset),
             Pace::Skip(count) => offset.saturating_sub(count),
             Pace::Delay(count) => offset + count,
         }

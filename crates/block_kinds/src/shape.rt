@@ -11,6 +11,8 @@ pub enum Pace {
     Rate(u64, u64),
     /// So many items taken, and so many given of which these are the next behind so many others. A tag stays on its item.
     Turns(u64, u64, u64),
+    /// So many items taken and so many given in a firing. A tag goes where the block's `Places` put it.
+    Placed(u64, u64),
     /// The first items are left out, this many.
     Skip(u64),
     /// This many zeros come before the stream.
@@ -27,7 +29,9 @@ impl Pace {
         ensures { result ≡ taken_at self firings }
     {
         match self {
-            Pace::Rate(taken, _) | Pace::Turns(taken, _, _) => taken * firings,
+            Pace::Rate(taken, _) | Pace::Turns(taken, _, _) | Pace::Placed(taken, _) => {
+                taken * firings
+            }
             Pace::Skip(_) => firings,
             Pace::Delay(count) => firings.saturating_sub(count),
         }
@@ -39,7 +43,9 @@ impl Pace {
         ensures { result ≡ given_at self firings }
     {
         match self {
-            Pace::Rate(_, given) | Pace::Turns(_, given, _) => given * firings,
+            Pace::Rate(_, given) | Pace::Turns(_, given, _) | Pace::Placed(_, given) => {
+                given * firings
+            }
             Pace::Skip(count) => firings.saturating_sub(count),
             Pace::Delay(_) => firings,
         }

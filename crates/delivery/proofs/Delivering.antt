@@ -12,7 +12,7 @@ use Rattle.buffers.specs.Buffer.{BufferState}
 use Rattle.recordings.specs.Recording.{RecordingState}
 use Rattle.plant_laws.specs.Stored.{OutputBuffer}
 use Rattle.plant_laws.specs.Changes.{taken_buffers}
-use Rattle.stores.specs.declared.handed.Handed.{Handed}
+use Rattle.stores.specs.declared.intake.Intake.{Intake}
 use Rattle.stores.specs.declared.stores.Stores.{Stores}
 use Rattle.stores.specs.Stores.{buffer_of, tape_of, collected_of, stored_in, stored_of}
 use Rattle.stores.specs.Delivery.{CanGive, CanDeliver, delivered_buffers, delivered_sinks}
@@ -55,13 +55,13 @@ module _ (net : Network) (old : Stores) (b first count : ℕ) (windows outs : Li
     list = can.room.brought;
   }
 
-  pub gives_at : (hs : List Handed) (vs : List Row) (n : ℕ) → hs ≡ old.handed.items → vs ≡ old.buffers.items → n ≡ count → CanGiveAll net hs (rows vs) (vec_capacity old.brought) b first (first + n) outs
+  pub gives_at : (hs : List Intake) (vs : List Row) (n : ℕ) → hs ≡ old.handed.items → vs ≡ old.buffers.items → n ≡ count → CanGiveAll net hs (rows vs) (vec_capacity old.brought) b first (first + n) outs
   gives_at hs vs n hs_is vs_is n_is =
       subst (λ k. CanGiveAll net hs (rows vs) (vec_capacity old.brought) b first (first + k) outs) (sym n_is)
       (subst (λ us. CanGiveAll net hs (rows us) (vec_capacity old.brought) b first (first + count) outs) (sym vs_is)
       (subst (λ gs. CanGiveAll net gs (rows old.buffers.items) (vec_capacity old.brought) b first (first + count) outs) (sym hs_is) gives))
 
-  pub given_at : (hs : List Handed) (vs new : List Row) (n : ℕ) → hs ≡ old.handed.items → vs ≡ old.buffers.items → n ≡ count → outputs new ≡ delivered_buffers net (stored_with hs (rows vs)) b first (first + n) (map numbers_of outs) →
+  pub given_at : (hs : List Intake) (vs new : List Row) (n : ℕ) → hs ≡ old.handed.items → vs ≡ old.buffers.items → n ≡ count → outputs new ≡ delivered_buffers net (stored_with hs (rows vs)) b first (first + n) (map numbers_of outs) →
       outputs new ≡ delivered_buffers net (stored_in old) b first (first + count) (map numbers_of outs)
   given_at hs vs new n hs_is vs_is n_is given =
       given

@@ -27,7 +27,7 @@ use Rattle.recordings.specs.Recording.{RecordingState}
 use Rattle.plant_laws.specs.Stored as stored
 use Rattle.plant_laws.specs.Stored.{OutputBuffer, Collected, Stored, nothing_collected, buffers_in, buffer_in, buffer_at, tape_at, sink_at}
 use Rattle.plant_laws.specs.Changes.{pushed, collected, tags_waiting, tags_brought}
-use Rattle.stores.specs.declared.handed.Handed.{Handed}
+use Rattle.stores.specs.declared.intake.Intake.{Intake}
 use Rattle.stores.specs.Stores.{buffer_of, collected_of}
 use Rattle.stores.specs.Delivery.{is_read, delivered_to, delivered_buffers, CanGive}
 use Rattle.delivery.specs.Rows.{state_in, with_buffer, OthersStay}
@@ -115,7 +115,7 @@ other_blocks net can b = λ k d lt e.
     absurd (omega arith)
 
 -- as long as only its own buffers change, a block reads the same
-module _ (net : Network) (can : CanRun net) (hs : List Handed) (old new : List (List BufferState)) (b : ℕ) (rest : (a q : ℕ) → (a ≡ b → ⊥) → state_in new a q ≡ state_in old a q) where
+module _ (net : Network) (can : CanRun net) (hs : List Intake) (old new : List (List BufferState)) (b : ℕ) (rest : (a q : ℕ) → (a ≡ b → ⊥) → state_in new a q ≡ state_in old a q) where
   buffer_stays : (a q : ℕ) → (a ≡ b → ⊥) → buffer_at (stored_with hs new) a q ≡ buffer_at (stored_with hs old) a q
   buffer_stays a q ne = states.buffer_at new a q ∙ ap buffer_of (rest a q ne) ∙ sym (states.buffer_at old a q)
 
@@ -188,7 +188,7 @@ zip_at R (x ∷ xs) (y ∷ ys) zero d e all in' = all.0
 zip_at R (x ∷ xs) (y ∷ ys) (suc i) d e all in' = zip_at R xs ys i d e all.1 (omega arith)
 
 -- a turn over the outputs
-module _ (net : Network) (hs : List Handed) (start : List (List BufferState)) (b k next : ℕ) (outs : List Items) where
+module _ (net : Network) (hs : List Intake) (start : List (List BufferState)) (b k next : ℕ) (outs : List Items) where
   abbrev pub given_at : ℕ → OutputBuffer
   given_at p = delivered_to (buffer_at (stored_with hs start) b p) (input (map numbers_of outs) p) (tags_brought net (stored_with hs start) b p k next)
 
@@ -243,7 +243,7 @@ module _ (net : Network) (hs : List Handed) (start : List (List BufferState)) (b
 abbrev pub first_taken : Network → ℕ → ℕ → ℕ
 first_taken net b k = taken_by (node_at net b) 0 k
 
-module _ (net : Network) (can : CanRun net) (hs : List Handed) (start : List (List BufferState)) (capacity b k next : ℕ) (outs : List Items) (all : CanGiveAll net hs start capacity b k next outs) where
+module _ (net : Network) (can : CanRun net) (hs : List Intake) (start : List (List BufferState)) (capacity b k next : ℕ) (outs : List Items) (all : CanGiveAll net hs start capacity b k next outs) where
   start_block : b < length start
   start_block = let same = all.blocks in let in' = all.reads.inside in omega arith
 

@@ -13,7 +13,7 @@ use Rattle.buffers.specs.Buffer.{BufferState}
 use Rattle.plant_laws.specs.Stored.{OutputBuffer, Stored, buffer_in, buffer_at}
 use Rattle.plant_laws.specs.Changes.{reader_number, tags_waiting}
 use Rattle.plant_laws.specs.Turns.{CanTake}
-use Rattle.stores.specs.declared.handed.Handed.{Handed}
+use Rattle.stores.specs.declared.intake.Intake.{Intake}
 use Rattle.stores.specs.Lending.{HasInput, takes_between}
 use Rattle.delivery.specs.Steps.{stored_with, CanRead}
 use Rattle.delivery.proofs.States as states
@@ -24,7 +24,7 @@ use Rattle.delivery.proofs.Wires as wires
 pub turn_of : (net : Network) (stored : Stored) (b q k next : ℕ) → HasInput net stored b q k next → CanTake net stored.buffers (writer_of net b q) (takes_between net b q k next)
 turn_of net stored b q k next has = record { live = has.live; unread = has.unread }
 
-module _ (net : Network) (can : CanRun net) (hs : List Handed) (vs : List Row) (b k next : ℕ) (reads : CanRead net (stored_with hs (rows vs)) b k next)
+module _ (net : Network) (can : CanRun net) (hs : List Intake) (vs : List Row) (b k next : ℕ) (reads : CanRead net (stored_with hs (rows vs)) b k next)
     (is : List Input) (writers : writers_in is ≡ writers_of net b) (readers : All (IsItsReader net) is) (q : ℕ) (in' : q < length is) where
   abbrev input : Input
   input = get_or is q wires.no_input

@@ -10,14 +10,14 @@ use Rattle.plant_laws.specs.Stored.{OutputBuffer, Stored}
 use Rattle.recordings.specs.Recording.{RecordingState}
 use Rattle.plant_laws.specs.Changes.{taken_buffers, released_buffers, tags_waiting, tags_brought}
 use Rattle.plant_laws.specs.Turns.{CanTake}
-use Rattle.stores.specs.declared.handed.Handed.{Handed}
+use Rattle.stores.specs.declared.intake.Intake.{Intake}
 use Rattle.stores.specs.Stores.{stored_of}
 use Rattle.stores.specs.Lending.{HasInput, FitsWords, takes_between, no_sink}
 use Rattle.stores.specs.Delivery.{CanGive, CanCollect}
 use Rattle.delivery.specs.Rows.{state_in}
 
 -- what is stored, where only tapes and buffers are looked at
-abbrev pub stored_with : List Handed → List (List BufferState) → Stored
+abbrev pub stored_with : List Intake → List (List BufferState) → Stored
 stored_with handed rows = stored_of handed [] rows []
 
 -- the items that firings of block b from k up to the next ones take are there, with the tags on them
@@ -41,7 +41,7 @@ pub record CanLeaveAll (net : Network) (buffers : List (List OutputBuffer)) (b :
   pub turns : (q : ℕ) → q < length (writers_of net b) → CanTake net (released_buffers net (take q (writers_of net b)) buffers) (writer_of net b q) 0
 
 -- output p can be given these items with the tags that the firings bring, which have room in the buffer and in a list of this capacity
-pub record CanGiveTo (net : Network) (hs : List Handed) (rows : List (List BufferState)) (capacity b p k next : ℕ) (out : Items) : Type 0 where
+pub record CanGiveTo (net : Network) (hs : List Intake) (rows : List (List BufferState)) (capacity b p k next : ℕ) (out : Items) : Type 0 where
   pub block : b < length rows
   pub port : p < length (slice_index_or rows b [])
   pub gives : CanGive net (stored_with hs rows) b p k next out
@@ -49,7 +49,7 @@ pub record CanGiveTo (net : Network) (hs : List Handed) (rows : List (List Buffe
   pub list : length (tags_brought net (stored_with hs rows) b p k next) ≤ capacity
 
 -- so can each used output
-pub record CanGiveAll (net : Network) (hs : List Handed) (rows : List (List BufferState)) (capacity b k next : ℕ) (outs : List Items) : Type 0 where
+pub record CanGiveAll (net : Network) (hs : List Intake) (rows : List (List BufferState)) (capacity b k next : ℕ) (outs : List Items) : Type 0 where
   pub blocks : length rows ≡ length net.nodes
   pub handed : length hs ≡ length net.nodes
   pub ports : length (slice_index_or rows b []) ≡ used_outputs net b

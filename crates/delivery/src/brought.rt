@@ -17,12 +17,12 @@ use block_kinds::{Block, Pace, Role};
 use buffers::Buffer;
 use flowgraph::{BlockId, Policy, Valid};
 use items::Tag;
-use stores::Handed;
+use stores::Intake;
 
 /// Puts the tags that the firings bring to an output in the place of what the list has. It takes no memory.
 pub(crate) fn bring<B: Block>(
     list: &mut Vec<Tag>,
-    handed: &[Handed],
+    handed: &[Intake],
     buffers: &[Vec<Buffer>],
     graph: &Valid<B>,
     firings: Firings,
@@ -37,7 +37,7 @@ pub(crate) fn bring<B: Block>(
     list.clear();
     match graph.role(firings.block) {
         Role::Source => {
-            let tape = &handed[firings.block.0 as usize].tape;
+            let tape = handed[firings.block.0 as usize].tape.recording();
             append(list, tape.tags(firings.first, firings.next));
         }
         Role::Work | Role::Keep | Role::Discard => {
@@ -149,7 +149,7 @@ fn keeps_places<B: Block>(graph: &Valid<B>, block: BlockId, port: usize) -> bool
 {
     match graph.pace(block, port) {
         Pace::Rate(taken, given) => taken == given,
-        Pace::Turns(_, _, _) | Pace::Skip(_) | Pace::Delay(_) => false,
+        Pace::Turns(_, _, _) | Pace::Placed(_, _) | Pace::Skip(_) | Pace::Delay(_) => false,
     }
 }
 

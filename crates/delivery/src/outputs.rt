@@ -15,14 +15,14 @@ use block_kinds::Block;
 use buffers::Buffer;
 use flowgraph::Valid;
 use items::{Items, Tag};
-use stores::Handed;
+use stores::Intake;
 
 /// Gives each output that is still read its items, and the tags that the firings bring. `list` is a place for these. It takes no
 /// memory.
 pub(crate) fn give_all<B: Block>(
     buffers: &mut [Vec<Buffer>],
     list: &mut Vec<Tag>,
-    handed: &[Handed],
+    handed: &[Intake],
     graph: &Valid<B>,
     firings: Firings,
     outputs: &[Items],
@@ -43,7 +43,7 @@ pub(crate) fn give_all<B: Block>(
 fn give<B: Block>(
     buffers: &mut [Vec<Buffer>],
     list: &mut Vec<Tag>,
-    handed: &[Handed],
+    handed: &[Intake],
     graph: &Valid<B>,
     firings: Firings,
     port: usize,

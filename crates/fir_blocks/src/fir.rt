@@ -6,7 +6,9 @@ ghost use Rattle.stream_model.specs.Kinds.Filters.{fir};
 use crate::parameters::first_bad;
 use crate::polyphase::Polyphase;
 use crate::stretch::filter_items;
-use block_kinds::{Block, Held, ParamFault, Parameter, Setting, Shape, Single, ports, work_single};
+use block_kinds::{
+    Block, ByPace, Held, ParamFault, Parameter, Setting, Shape, Single, ports, work_single,
+};
 use items::{ItemType, Items};
 use numbers::vectors::narrowed;
 use std::alloc::Global;
@@ -91,6 +93,8 @@ impl Block for Fir {
     ghost use Rattle.fir_blocks.specs.Kinds.{fir_of, fir-same};
 
     ghost meaning = { fir_of };
+
+    type Places = ByPace;
 
     fn shape(&self, _input: usize) -> Shape<'_> {
         let one = ports(1, self.item);

@@ -6,7 +6,9 @@ ghost use Rattle.stream_model.specs.Kinds.Filters.{interp_fir};
 use crate::parameters::first_bad;
 use crate::polyphase::Polyphase;
 use crate::stretch::filter_items;
-use block_kinds::{Block, Held, ParamFault, Parameter, Setting, Shape, Single, ports, work_single};
+use block_kinds::{
+    Block, ByPace, Held, ParamFault, Parameter, Setting, Shape, Single, ports, work_single,
+};
 use items::{ItemType, Items};
 use numbers::vectors::narrowed;
 use std::alloc::Global;
@@ -104,6 +106,8 @@ impl Block for InterpFir {
     ghost use Rattle.fir_blocks.specs.Kinds.{interp_fir_of, interp_fir-same};
 
     ghost meaning = { interp_fir_of };
+
+    type Places = ByPace;
 
     fn shape(&self, _input: usize) -> Shape<'_> {
         let one = ports(1, self.item);

@@ -8,7 +8,7 @@ ghost use Rattle.firings.specs.State.{lent, rows_of};
 ghost use Rattle.firings.specs.Small.{AreSmall, IsReader};
 ghost use Rattle.firings.specs.Counts.{input_of, reader_of, no_input};
 
-use crate::progress::{Progress, Tape};
+use crate::progress::{Progress, Tapes};
 use block_kinds::Block;
 use flowgraph::{BlockId, Connection, Valid};
 
@@ -43,21 +43,21 @@ pub(crate) fn input_count<B: Block>(graph: &Valid<B>, block: BlockId) -> usize
 }
 
 /// What has come to an input of a block.
-pub(crate) fn input_at<B: Block>(
+pub(crate) fn input_at<B: Block, T: Tapes>(
     graph: &Valid<B>,
-    tapes: &[Tape],
+    tapes: &T,
     progress: &[Progress],
     block: BlockId,
     port: usize,
 ) -> Input
-    requires small { AreSmall (net_of B.meaning graph.now) tapes.now progress.now }
+    requires small { AreSmall (net_of B.meaning graph.now) (T.tapes tapes.now) progress.now }
     requires block { block.0 < length graph.now.blocks }
-    requires port { port < length (counts_in (net_of B.meaning graph.now) (lent tapes.now progress.now) block.0) }
-    ensures value { input_of result ≡ slice_index_or (counts_in (net_of B.meaning graph.now) (lent tapes.now progress.now) block.0) port no_input }
+    requires port { port < length (counts_in (net_of B.meaning graph.now) (lent (T.tapes tapes.now) progress.now) block.0) }
+    ensures value { input_of result ≡ slice_index_or (counts_in (net_of B.meaning graph.now) (lent (T.tapes tapes.now) progress.now) block.0) port no_input }
     ensures small { result.written < 2 ^ 62 }
 {
     if graph.is_source(block) {
-        let tape = tapes[block.0 as usize];
+        let tape = tapes.tape(block);
         return Input {
             written: tape.length,
             ended: tape.closed,
@@ -72,15 +72,15 @@ pub(crate) fn input_at<B: Block>(
 }
 
 /// How far the reader at the end of a connection is.
-pub(crate) fn reader_at<B: Block>(
+pub(crate) fn reader_at<B: Block, T: Tapes>(
     graph: &Valid<B>,
-    tapes: &[Tape],
+    tapes: &T,
     progress: &[Progress],
     connection: &Connection,
 ) -> Reader
-    requires small { AreSmall (net_of B.meaning graph.now) tapes.now progress.now }
+    requires small { AreSmall (net_of B.meaning graph.now) (T.tapes tapes.now) progress.now }
     requires known { IsReader (net_of B.meaning graph.now) connection.now }
-    ensures value { reader_of result ≡ reader_counts (net_of B.meaning graph.now) (lent tapes.now progress.now) (connection_of connection.now) }
+    ensures value { reader_of result ≡ reader_counts (net_of B.meaning graph.now) (lent (T.tapes tapes.now) progress.now) (connection_of connection.now) }
     ensures small { result.taken < 2 ^ 62 }
 {
     let own = progress[connection.to.0 as usize];

@@ -14,23 +14,23 @@ ghost use Rattle.firings.specs.Decision.{answer_of, rests, waits};
 use crate::decision::{Decision, Need};
 use crate::fitting::most;
 use crate::lacking::{is_unread, lacks_for_good, lacks_items, lacks_room};
-use crate::progress::{Progress, Tape};
+use crate::progress::{Progress, Tapes};
 use block_kinds::Block;
 use flowgraph::{BlockId, Valid};
 
 /// What a claim of at most `max` firings decides.
-pub(crate) fn decide<B: Block>(
+pub(crate) fn decide<B: Block, T: Tapes>(
     graph: &Valid<B>,
     capacities: &[Vec<u32>],
-    tapes: &[Tape],
+    tapes: &T,
     progress: &[Progress],
     block: BlockId,
     max: u32,
 ) -> Decision
-    requires small { AreSmall (net_of B.meaning graph.now) tapes.now progress.now }
+    requires small { AreSmall (net_of B.meaning graph.now) (T.tapes tapes.now) progress.now }
     requires block { block.0 < length graph.now.blocks }
     ensures { let net = net_of B.meaning graph.now in
-        let st = lent tapes.now progress.now in
+        let st = lent (T.tapes tapes.now) progress.now in
         result ≡ answer_of (progress_at st.progress block.0).firings (claims.decide (node_at net block.0) (counts_of net (rows_of (λ row. row.items) capacities.now) st block.0) max) }
 {
     let own = progress[block.0 as usize];
@@ -58,32 +58,32 @@ pub(crate) fn decide<B: Block>(
 }
 
 // Whether a block will never come to so many firings: its limit is reached before, or an input that has ended lacks their items.
-fn is_over<B: Block>(
+fn is_over<B: Block, T: Tapes>(
     graph: &Valid<B>,
-    tapes: &[Tape],
+    tapes: &T,
     progress: &[Progress],
     block: BlockId,
     firings: u64,
 ) -> bool
-    requires small { AreSmall (net_of B.meaning graph.now) tapes.now progress.now }
+    requires small { AreSmall (net_of B.meaning graph.now) (T.tapes tapes.now) progress.now }
     requires block { block.0 < length graph.now.blocks }
     ensures { let n = node_at (net_of B.meaning graph.now) block.0 in
-        let inputs = counts_in (net_of B.meaning graph.now) (lent tapes.now progress.now) block.0 in
+        let inputs = counts_in (net_of B.meaning graph.now) (lent (T.tapes tapes.now) progress.now) block.0 in
         result ≡ (not (within_limit n.meaning.limit firings) || claims.lacks_for_good n firings 0 inputs) }
 {
     is_beyond(graph.limit(block), firings) || lacks_for_good(graph, tapes, progress, block, firings)
 }
 
 /// Whether each block is done or would wait.
-pub(crate) fn all_rest<B: Block>(
+pub(crate) fn all_rest<B: Block, T: Tapes>(
     graph: &Valid<B>,
     capacities: &[Vec<u32>],
-    tapes: &[Tape],
+    tapes: &T,
     progress: &[Progress],
 ) -> bool
-    requires { AreSmall (net_of B.meaning graph.now) tapes.now progress.now }
+    requires { AreSmall (net_of B.meaning graph.now) (T.tapes tapes.now) progress.now }
     ensures { let net = net_of B.meaning graph.now in
-        let rests = rests net (rows_of (λ row. row.items) capacities.now) (lent tapes.now progress.now) in
+        let rests = rests net (rows_of (λ row. row.items) capacities.now) (lent (T.tapes tapes.now) progress.now) in
         result ≡ list_all rests (below (length net.nodes)) }
 {
     for block in 0..graph.len() {
@@ -95,16 +95,16 @@ pub(crate) fn all_rest<B: Block>(
 }
 
 // Whether a block is done or would wait.
-fn rests<B: Block>(
+fn rests<B: Block, T: Tapes>(
     graph: &Valid<B>,
     capacities: &[Vec<u32>],
-    tapes: &[Tape],
+    tapes: &T,
     progress: &[Progress],
     block: BlockId,
 ) -> bool
-    requires small { AreSmall (net_of B.meaning graph.now) tapes.now progress.now }
+    requires small { AreSmall (net_of B.meaning graph.now) (T.tapes tapes.now) progress.now }
     requires block { block.0 < length graph.now.blocks }
-    ensures { result ≡ rests (net_of B.meaning graph.now) (rows_of (λ row. row.items) capacities.now) (lent tapes.now progress.now) block.0 }
+    ensures { result ≡ rests (net_of B.meaning graph.now) (rows_of (λ row. row.items) capacities.now) (lent (T.tapes tapes.now) progress.now) block.0 }
 {
     progress[block.0 as usize].done || waits(decide(graph, capacities, tapes, progress, block, 1))
 }
@@ -119,19 +119,19 @@ fn waits(decision: Decision) -> bool
 }
 
 // What a block waits for that has not come to so many firings: an input before an output.
-fn waiting<B: Block>(
+fn waiting<B: Block, T: Tapes>(
     graph: &Valid<B>,
     capacities: &[Vec<u32>],
-    tapes: &[Tape],
+    tapes: &T,
     progress: &[Progress],
     block: BlockId,
     firings: u64,
 ) -> Decision
-    requires small { AreSmall (net_of B.meaning graph.now) tapes.now progress.now }
+    requires small { AreSmall (net_of B.meaning graph.now) (T.tapes tapes.now) progress.now }
     requires block { block.0 < length graph.now.blocks }
     ensures { (first : ℕ) →
         let net = net_of B.meaning graph.now in
-        let st = lent tapes.now progress.now in
+        let st = lent (T.tapes tapes.now) progress.now in
         let items = claims.lacks_items (node_at net block.0) firings 0 (counts_in net st block.0) in
         let room = claims.lacks_room (node_at net block.0) firings 0 (counts_out net (rows_of (λ row. row.items) capacities.now) st block.0) in
         result ≡ answer_of first (claims.waits_for items room) }

@@ -11,7 +11,7 @@ ghost use Rattle.firings.specs.Firings.{committed, abandoned};
 
 use crate::decide::{all_rest, decide};
 use crate::decision::Decision;
-use crate::progress::{Progress, Tape};
+use crate::progress::{Progress, Tapes};
 use block_kinds::Block;
 use flowgraph::{BlockId, Valid};
 use std::alloc::{AllocError, Global};
@@ -82,23 +82,23 @@ impl Firings {
 
     /// Decides a claim of at most `max` firings of a block, and makes it: the claim is in flight, or the block is done, from now on. The
     /// cases come in the order of `Decision`; counts are all that is looked at, those of the block's own ports and readers.
-    pub fn claim<B: Block>(
+    pub fn claim<B: Block, T: Tapes>(
         &mut self,
         graph: &Valid<B>,
         capacities: &[Vec<u32>],
-        tapes: &[Tape],
+        tapes: &T,
         block: BlockId,
         max: u32,
     ) -> Decision
-        requires running { IsRunning (net_of B.meaning graph.now) (rows_of (λ row. row.items) capacities.now) tapes.now self.old }
+        requires running { IsRunning (net_of B.meaning graph.now) (rows_of (λ row. row.items) capacities.now) (T.tapes tapes.now) self.old }
         requires block { block.0 < length graph.now.blocks }
-        ensures decision { (hs : List Handed) → HasTapes tapes.now hs →
+        ensures decision { (hs : List Handed) → HasTapes (T.tapes tapes.now) hs →
             let net = net_of B.meaning graph.now in
             let counts = counts_of net (rows_of (λ row. row.items) capacities.now) (state_of hs self.old) block.0 in
             result ≡ answer_of counts.firings (claims.decide (node_at net block.0) counts max) }
-        ensures progress { (hs : List Handed) → HasTapes tapes.now hs →
+        ensures progress { (hs : List Handed) → HasTapes (T.tapes tapes.now) hs →
             (claim_of (net_of B.meaning graph.now) (rows_of (λ row. row.items) capacities.now) (state_of hs self.old) block.0 max).1 ≡ state_of hs self.new }
-        ensures running { IsRunning (net_of B.meaning graph.now) (rows_of (λ row. row.items) capacities.now) tapes.now self.new }
+        ensures running { IsRunning (net_of B.meaning graph.now) (rows_of (λ row. row.items) capacities.now) (T.tapes tapes.now) self.new }
     {
         graph.in_order();
         let decision = decide(graph, capacities, tapes, &self.progress, block, max);
@@ -140,9 +140,14 @@ impl Firings {
     }
 
     /// Whether no claim is in flight and each block is done or would wait. It looks at each block.
-    pub fn quiet<B: Block>(&self, graph: &Valid<B>, capacities: &[Vec<u32>], tapes: &[Tape]) -> bool
-        requires { IsRunning (net_of B.meaning graph.now) (rows_of (λ row. row.items) capacities.now) tapes.now self.now }
-        ensures { (hs : List Handed) → HasTapes tapes.now hs →
+    pub fn quiet<B: Block, T: Tapes>(
+        &self,
+        graph: &Valid<B>,
+        capacities: &[Vec<u32>],
+        tapes: &T,
+    ) -> bool
+        requires { IsRunning (net_of B.meaning graph.now) (rows_of (λ row. row.items) capacities.now) (T.tapes tapes.now) self.now }
+        ensures { (hs : List Handed) → HasTapes (T.tapes tapes.now) hs →
             result ≡ is_quiet (net_of B.meaning graph.now) (rows_of (λ row. row.items) capacities.now) (state_of hs self.now) }
     {
         graph.in_order();

@@ -12,23 +12,23 @@ ghost use Rattle.firings.specs.Counts.{readers_in};
 
 use crate::counts::{capacity_at, input_at, input_count, reader_at};
 use crate::paces::{allowed_at, fitting_at};
-use crate::progress::{Progress, Tape};
+use crate::progress::{Progress, Tapes};
 use block_kinds::Block;
 use flowgraph::{BlockId, Connection, Valid};
 
 /// How many firings a claim of at most `max` gets.
-pub(crate) fn most<B: Block>(
+pub(crate) fn most<B: Block, T: Tapes>(
     graph: &Valid<B>,
     capacities: &[Vec<u32>],
-    tapes: &[Tape],
+    tapes: &T,
     progress: &[Progress],
     block: BlockId,
     max: u32,
 ) -> u32
-    requires small { AreSmall (net_of B.meaning graph.now) tapes.now progress.now }
+    requires small { AreSmall (net_of B.meaning graph.now) (T.tapes tapes.now) progress.now }
     requires block { block.0 < length graph.now.blocks }
     ensures { let net = net_of B.meaning graph.now in
-        result ≡ claims.most (node_at net block.0) (counts_of net (rows_of (λ row. row.items) capacities.now) (lent tapes.now progress.now) block.0) max }
+        result ≡ claims.most (node_at net block.0) (counts_of net (rows_of (λ row. row.items) capacities.now) (lent (T.tapes tapes.now) progress.now) block.0) max }
 {
     let first = progress[block.0 as usize].firings;
     let items = items_allow(graph, tapes, progress, block, first + u64::from(max));
@@ -41,17 +41,17 @@ pub(crate) fn most<B: Block>(
 }
 
 // As many of `bound` firings, from the first on, as the items on each input allow.
-fn items_allow<B: Block>(
+fn items_allow<B: Block, T: Tapes>(
     graph: &Valid<B>,
-    tapes: &[Tape],
+    tapes: &T,
     progress: &[Progress],
     block: BlockId,
     bound: u64,
 ) -> u64
-    requires small { AreSmall (net_of B.meaning graph.now) tapes.now progress.now }
+    requires small { AreSmall (net_of B.meaning graph.now) (T.tapes tapes.now) progress.now }
     requires block { block.0 < length graph.now.blocks }
     ensures value { let net = net_of B.meaning graph.now in
-        result ≡ allow.items_allow (node_at net block.0) 0 (map (λ i. i.written) (counts_in net (lent tapes.now progress.now) block.0)) bound }
+        result ≡ allow.items_allow (node_at net block.0) 0 (map (λ i. i.written) (counts_in net (lent (T.tapes tapes.now) progress.now) block.0)) bound }
     ensures within { result ≤ bound }
 {
     let mut least = bound;
@@ -63,18 +63,18 @@ fn items_allow<B: Block>(
 }
 
 // As many as each output has room for.
-fn room_allows<B: Block>(
+fn room_allows<B: Block, T: Tapes>(
     graph: &Valid<B>,
     capacities: &[Vec<u32>],
-    tapes: &[Tape],
+    tapes: &T,
     progress: &[Progress],
     block: BlockId,
     bound: u64,
 ) -> u64
-    requires small { AreSmall (net_of B.meaning graph.now) tapes.now progress.now }
+    requires small { AreSmall (net_of B.meaning graph.now) (T.tapes tapes.now) progress.now }
     requires block { block.0 < length graph.now.blocks }
     ensures value { let net = net_of B.meaning graph.now in
-        result ≡ allow.room_allows (node_at net block.0) (counts_out net (rows_of (λ row. row.items) capacities.now) (lent tapes.now progress.now) block.0) bound }
+        result ≡ allow.room_allows (node_at net block.0) (counts_out net (rows_of (λ row. row.items) capacities.now) (lent (T.tapes tapes.now) progress.now) block.0) bound }
     ensures within { result ≤ bound }
 {
     let mut least = bound;
@@ -87,20 +87,20 @@ fn room_allows<B: Block>(
 }
 
 // As many as leave room before each live reader of an output.
-fn readers_allow<B: Block>(
+fn readers_allow<B: Block, T: Tapes>(
     graph: &Valid<B>,
-    tapes: &[Tape],
+    tapes: &T,
     progress: &[Progress],
     block: BlockId,
     readers: &[Connection],
     capacity: u32,
     bound: u64,
 ) -> u64
-    requires small { AreSmall (net_of B.meaning graph.now) tapes.now progress.now }
+    requires small { AreSmall (net_of B.meaning graph.now) (T.tapes tapes.now) progress.now }
     requires block { block.0 < length graph.now.blocks }
     requires known { All (IsReader (net_of B.meaning graph.now)) readers.now }
     ensures value { let net = net_of B.meaning graph.now in
-        result ≡ allow.readers_allow (node_at net block.0) capacity (readers_in net (lent tapes.now progress.now) readers.now) bound }
+        result ≡ allow.readers_allow (node_at net block.0) capacity (readers_in net (lent (T.tapes tapes.now) progress.now) readers.now) bound }
     ensures within { result ≤ bound }
 {
     let mut least = bound;

@@ -13,20 +13,20 @@ ghost use Rattle.firings.specs.Counts.{readers_in};
 
 use crate::counts::{Input, Reader, capacity_at, input_at, input_count, reader_at};
 use crate::paces::{allowed_at, fitting_at};
-use crate::progress::{Progress, Tape};
+use crate::progress::{Progress, Tapes};
 use block_kinds::Block;
 use flowgraph::{BlockId, Connection, Valid};
 
 /// Whether the block has outputs and nobody reads any of them any more.
-pub(crate) fn is_unread<B: Block>(
+pub(crate) fn is_unread<B: Block, T: Tapes>(
     graph: &Valid<B>,
-    tapes: &[Tape],
+    tapes: &T,
     progress: &[Progress],
     block: BlockId,
 ) -> bool
-    requires small { AreSmall (net_of B.meaning graph.now) tapes.now progress.now }
+    requires small { AreSmall (net_of B.meaning graph.now) (T.tapes tapes.now) progress.now }
     requires block { block.0 < length graph.now.blocks }
-    ensures { (caps : Capacities) → result ≡ claims.is_unread (counts_of (net_of B.meaning graph.now) caps (lent tapes.now progress.now) block.0) }
+    ensures { (caps : Capacities) → result ≡ claims.is_unread (counts_of (net_of B.meaning graph.now) caps (lent (T.tapes tapes.now) progress.now) block.0) }
 {
     let outputs = graph.outputs(block);
     for port in 0..outputs {
@@ -51,17 +51,17 @@ fn is_abandoned(progress: &[Progress], readers: &[Connection]) -> bool
 }
 
 /// Whether an input that has ended lacks items of so many firings.
-pub(crate) fn lacks_for_good<B: Block>(
+pub(crate) fn lacks_for_good<B: Block, T: Tapes>(
     graph: &Valid<B>,
-    tapes: &[Tape],
+    tapes: &T,
     progress: &[Progress],
     block: BlockId,
     firings: u64,
 ) -> bool
-    requires small { AreSmall (net_of B.meaning graph.now) tapes.now progress.now }
+    requires small { AreSmall (net_of B.meaning graph.now) (T.tapes tapes.now) progress.now }
     requires block { block.0 < length graph.now.blocks }
     ensures { let net = net_of B.meaning graph.now in
-        result ≡ claims.lacks_for_good (node_at net block.0) firings 0 (counts_in net (lent tapes.now progress.now) block.0) }
+        result ≡ claims.lacks_for_good (node_at net block.0) firings 0 (counts_in net (lent (T.tapes tapes.now) progress.now) block.0) }
 {
     for port in 0..input_count(graph, block) {
         let input = input_at(graph, tapes, progress, block, port);
@@ -73,17 +73,17 @@ pub(crate) fn lacks_for_good<B: Block>(
 }
 
 /// The lowest input that lacks items of so many firings.
-pub(crate) fn lacks_items<B: Block>(
+pub(crate) fn lacks_items<B: Block, T: Tapes>(
     graph: &Valid<B>,
-    tapes: &[Tape],
+    tapes: &T,
     progress: &[Progress],
     block: BlockId,
     firings: u64,
 ) -> Option<usize>
-    requires small { AreSmall (net_of B.meaning graph.now) tapes.now progress.now }
+    requires small { AreSmall (net_of B.meaning graph.now) (T.tapes tapes.now) progress.now }
     requires block { block.0 < length graph.now.blocks }
     ensures { let net = net_of B.meaning graph.now in
-        result ≡ claims.lacks_items (node_at net block.0) firings 0 (counts_in net (lent tapes.now progress.now) block.0) }
+        result ≡ claims.lacks_items (node_at net block.0) firings 0 (counts_in net (lent (T.tapes tapes.now) progress.now) block.0) }
 {
     for port in 0..input_count(graph, block) {
         let input = input_at(graph, tapes, progress, block, port);
@@ -95,18 +95,18 @@ pub(crate) fn lacks_items<B: Block>(
 }
 
 /// The lowest output without room for so many firings.
-pub(crate) fn lacks_room<B: Block>(
+pub(crate) fn lacks_room<B: Block, T: Tapes>(
     graph: &Valid<B>,
     capacities: &[Vec<u32>],
-    tapes: &[Tape],
+    tapes: &T,
     progress: &[Progress],
     block: BlockId,
     firings: u64,
 ) -> Option<usize>
-    requires small { AreSmall (net_of B.meaning graph.now) tapes.now progress.now }
+    requires small { AreSmall (net_of B.meaning graph.now) (T.tapes tapes.now) progress.now }
     requires block { block.0 < length graph.now.blocks }
     ensures { let net = net_of B.meaning graph.now in
-        result ≡ claims.lacks_room (node_at net block.0) firings 0 (counts_out net (rows_of (λ row. row.items) capacities.now) (lent tapes.now progress.now) block.0) }
+        result ≡ claims.lacks_room (node_at net block.0) firings 0 (counts_out net (rows_of (λ row. row.items) capacities.now) (lent (T.tapes tapes.now) progress.now) block.0) }
 {
     for port in 0..graph.outputs(block) {
         let readers = graph.readers(block, port);
@@ -119,20 +119,20 @@ pub(crate) fn lacks_room<B: Block>(
 }
 
 // Whether so many firings leave room before each live reader.
-fn leaves_room<B: Block>(
+fn leaves_room<B: Block, T: Tapes>(
     graph: &Valid<B>,
-    tapes: &[Tape],
+    tapes: &T,
     progress: &[Progress],
     block: BlockId,
     readers: &[Connection],
     capacity: u32,
     firings: u64,
 ) -> bool
-    requires small { AreSmall (net_of B.meaning graph.now) tapes.now progress.now }
+    requires small { AreSmall (net_of B.meaning graph.now) (T.tapes tapes.now) progress.now }
     requires block { block.0 < length graph.now.blocks }
     requires known { All (IsReader (net_of B.meaning graph.now)) readers.now }
     ensures { let net = net_of B.meaning graph.now in
-        result ≡ claims.leaves_room (node_at net block.0) firings (record { capacity = capacity; readers = readers_in net (lent tapes.now progress.now) readers.now }) }
+        result ≡ claims.leaves_room (node_at net block.0) firings (record { capacity = capacity; readers = readers_in net (lent (T.tapes tapes.now) progress.now) readers.now }) }
 {
     for connection in readers {
         let reader = reader_at(graph, tapes, progress, connection);

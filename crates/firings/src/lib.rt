@@ -12,4 +12,4 @@ pub mod progress;
 
 pub use decision::{Decision, Need};
 pub use firings::Firings;
-pub use progress::{Progress, Tape};
+pub use progress::{Progress, Tape, Tapes};

@@ -18,7 +18,9 @@ pub(crate) fn allowed_at<B: Block>(graph: &Valid<B>, block: BlockId, port: usize
 {
     let multiple = u64::from(graph.options(block).multiple);
     match graph.pace(block, port) {
-        Pace::Rate(taken, _) | Pace::Turns(taken, _, _) => items / (multiple * taken),
+        Pace::Rate(taken, _) | Pace::Turns(taken, _, _) | Pace::Placed(taken, _) => {
+            items / (multiple * taken)
+        }
         Pace::Skip(_) => items,
         Pace::Delay(count) => items + count,
     }
@@ -34,6 +36,7 @@ pub(crate) fn fitting_at<B: Block>(graph: &Valid<B>, block: BlockId, items: u64,
     let count = match graph.pace(block, 0) {
         Pace::Rate(_, given) => items / (multiple * given),
         Pace::Turns(_, given, _) => items / (multiple * given),
+        Pace::Placed(_, given) => items / (multiple * given),
         Pace::Skip(count) => items.saturating_add(count),
         Pace::Delay(_) => items,
     };

@@ -1,5 +1,9 @@
 //! How far a block is, and what it was fed.
 
+ghost use Rattle.std.specs.Prelude.{◌≡◌, ◌<◌, List, length, Some, slice_get};
+
+use flowgraph::BlockId;
+
 /// How far a block is.
 #[derive(Clone, Copy, Debug, PartialEq, Eq)]
 pub struct Progress {
@@ -18,4 +22,17 @@ pub struct Tape {
     pub length: u64,
     /// Whether nothing more will come.
     pub closed: bool,
+}
+
+/// What knows the tapes of the sources. Firings look at them where they lie.
+pub trait Tapes {
+    ghost use Rattle.firings.specs.declared.progress.Tape.{Tape};
+
+    /// For each block, what counts of its tape.
+    ghost tapes: { Self → List Tape };
+
+    /// What counts of the tape of a block.
+    fn tape(&self, block: BlockId) -> Tape
+        requires { block.0 < length (tapes self.now) }
+        ensures { slice_get (tapes self.now) block.0 ≡ Some result };
 }

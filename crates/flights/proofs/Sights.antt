@@ -27,7 +27,8 @@ use Rattle.plant_laws.specs.Stored.{Stored, tape_at, timeline_at, buffer_at}
 use Rattle.plant_laws.specs.Claims.{MayFire, Serves, held_over, input_buffer, input_reader}
 use Rattle.plant_laws.proofs.Windows.{length-windows}
 use Rattle.plant_laws.proofs.Serving.{flights_may_fire, firings_are_served, is_end, enough, job_window}
-use Rattle.stores.specs.declared.handed.Handed.{Handed}
+use Rattle.std.specs.Arc.{arc_value}
+use Rattle.stores.specs.declared.intake.Intake.{Intake}
 use Rattle.stores.specs.declared.stores.Stores.{Stores}
 use Rattle.stores.specs.Stores.{rows_in, stored_in, state_of, tape_of, buffer_of}
 use Rattle.stores.specs.Lending.{no_buffer, HasInput, CanLend}
@@ -217,28 +218,28 @@ module _ (names : List (List ℕ)) (net : Network) (can : CanRun net) (valid : I
     to_small = let few = first_small in rw (means, multiple_is, first_is, claimed_is) (omega arith)
 
     -- what the block was handed
-    module _ (h : Handed) (at : h ≡ get_or s.handed.items b h) where
+    module _ (h : Intake) (at : h ≡ get_or s.handed.items b h) where
       tape_here : tape_at (stored_in s) b ≡ tape_of h
       tape_here = get_or-map tape_of s.handed.items b h plain.no_tape handed_there ∙ ap tape_of (sym at)
 
       timeline_here : timeline_at (stored_in s) b ≡ h.timeline
-      timeline_here = get_or-map (λ (h : Handed). h.timeline) s.handed.items b h None handed_there ∙ ap (λ (h : Handed). h.timeline) (sym at)
+      timeline_here = get_or-map (λ (h : Intake). h.timeline) s.handed.items b h None handed_there ∙ ap (λ (h : Intake). h.timeline) (sym at)
 
       pub held_is : (t u : ℕ) → t ≡ m.taken 0 (multiple * first) → u ≡ m.taken 0 (multiple * (first + claimed)) → held_over h.timeline t u ≡ (in_flight net (st) b).held
       held_is t u t_is u_is = rw (t_is, u_is, means, multiple_is, first_is, claimed_is, ← timeline_here) serves.held
 
       -- the window of a source
       module _ (source : is_source (role_at net b) ≡ true) where
-        pub tape_long : first + claimed ≤ length h.tape.items
+        pub tape_long : first + claimed ≤ length (arc_value h.tape).items
         tape_long =
             let long = (lend.tape source).long in
             let same = ap (λ (t : plain.Tape). length t.items) tape_here in
             rw (first_is, claimed_is) (omega arith)
 
-        pub tape_type : h.tape.item ≡ (node_at net b).meaning.inputs.item
+        pub tape_type : (arc_value h.tape).item ≡ (node_at net b).meaning.inputs.item
         tape_type = sym (ap (λ (t : plain.Tape). t.item) tape_here) ∙ (lend.tape source).type
 
-        pub cut_is : slice_range h.tape.items first (first + claimed) ∷ [] ≡ (in_flight net (st) b).windows
+        pub cut_is : slice_range (arc_value h.tape).items first (first + claimed) ∷ [] ≡ (in_flight net (st) b).windows
         cut_is = rw (first_is, claimed_is) (ap (λ (t : plain.Tape). slice_range t.items (fired (st) b) (next) ∷ []) (sym tape_here) ∙ serves.tape source)
 
     -- its inputs

@@ -102,7 +102,7 @@ fn is_given<B: Block>(
     let handed = &stores.handed[block.0 as usize];
     are_held(&handed.timeline, own.taken(0, from), own.taken(0, to), held)
         && match own.role() {
-            Role::Source => is_cut(&handed.tape, at.firings, next, windows),
+            Role::Source => is_cut(handed.tape.recording(), at.firings, next, windows),
             Role::Work | Role::Keep | Role::Discard => {
                 are_seen(&stores.buffers, own, graph.inputs(block), from, to, windows)
             }

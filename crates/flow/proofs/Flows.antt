@@ -1,14 +1,14 @@
 -- Lines that are answered, one after another.
-use Rattle.std.proofs.Common.{inl, inr, ◌≡◌, ℕ, suc, ◌+◌, List, [], ◌∷◌, ◌++◌, length, refl, arith, ap, sym, ◌∙◌, append_assoc, append-nil, length-append, None, Some, subst}
+use Rattle.std.proofs.Common.{inl, inr, ◌≡◌, ◌≤◌, ℕ, suc, ◌+◌, List, [], ◌∷◌, ◌++◌, length, refl, arith, ap, sym, ◌∙◌, append_assoc, append-nil, length-append, None, Some, subst}
 use Rattle.std.specs.Prelude.{Option, Result, Ok, Err, IfErr}
 use Rattle.std.specs.Io.KnownBytes.{Appends, Consumes, Keeps, IsAtEnd}
 use Rattle.std.proofs.KnownBytes.{Consumes-nil, Consumes-trans, Consumes-kept}
-use Rattle.script_text.specs.Lines.{lines_of}
-use Rattle.script_text.specs.Splits.{Split, IsUnfinished}
+use Rattle.script_text.specs.Lines.{lines_of, without_return}
+use Rattle.script_text.specs.Splits.{Split, IsUnfinished, most_held}
 use Rattle.script_text.specs.Scripts.{said_of, GoesOn}
-use Rattle.script_text.specs.Grammar.{Command, Parsed, Nothing, Bad, Says, parsed_from}
+use Rattle.script_text.specs.Grammar.{Command, Parsed, Nothing, Bad, Says, HasWords, parsed_from}
 use Rattle.flow.specs.Session.{Graph, Standing}
-use Rattle.flow.specs.Script.{Replies, Answered, Begins, Stops, Went, Unwritten, Flows, Ends, Breaks, script_after, script_of}
+use Rattle.flow.specs.Script.{Replies, Answered, Begins, Stops, StopsBetween, Went, Unwritten, Flows, Ends, Breaks, BreaksAt, script_after, script_of}
 use Rattle.flow.specs.declared.script.ScriptFault.{ScriptFault}
 use Rattle.flow.specs.declared.script.ScriptFault.TheVariants.{BadLine, Read, Write, Memory}
 
@@ -28,6 +28,16 @@ replies_both g (Nothing ∷ xs) ys a b c s t p q = replies_both g xs ys a b c s 
 replies_both g (Bad ∷ xs) ys a b c s t p q = absurd p
 replies_both g (Says c' ∷ xs) ys a b c s t p q =
     (p.0, p.1, p.2 ++ t, ap (λ (l : List ℕ). l ++ t) p.3 ∙ append_assoc p.1 p.2 t, p.4, replies_both g xs ys p.0 b c p.2 t p.5 q)
+
+-- only a carriage return is left out
+return_less : (bytes : List ℕ) → length bytes ≤ suc (length (without_return bytes))
+return_less [] = omega arith
+return_less (b ∷ []) = omega arith
+return_less (b ∷ c ∷ bs) = let rest = return_less (c ∷ bs) in omega (arith, rest)
+
+-- there is room for a piece behind less than a line
+pub room_for : (s : Split) (piece : List ℕ) → IsUnfinished s.rest → length piece ≤ 4096 → length s.rest + length piece ≤ most_held
+room_for s piece u low = let most = return_less s.rest in omega (arith, most, u.short, low)
 
 said_last : (s : Split) (lines : List Parsed) → lines ≡ parsed_from (suc s.taken) (lines_of s.rest) → said_of s [] ≡ lines ++ []
 said_last s lines e = ap (λ (bytes : List ℕ). parsed_from (suc s.taken) (lines_of bytes)) (append-nil s.rest) ∙ sym e ∙ sym (append-nil lines)
@@ -56,10 +66,26 @@ module _ (g : Graph) where
   begins_more : (all rest : List ℕ → List Parsed) (xs ys zs : List Parsed) → ((more : List ℕ) → all more ≡ xs ++ rest more) → Begins rest (ys ++ zs) → Begins all ((xs ++ ys) ++ zs)
   begins_more all rest xs ys zs e h = subst (Begins all) (sym (append_assoc xs ys zs)) (begins_behind all rest xs (ys ++ zs) e h)
 
+  between_behind : (all rest : List ℕ → List Parsed) (xs : List Parsed) (st mid : Standing) (o p q : Option (List ℕ)) (count later : ℕ) →
+      ((more : List ℕ) → all more ≡ xs ++ rest more) → Answered g st mid o p xs → later ≡ count + length xs → StopsBetween g mid p q rest later → StopsBetween g st o q all count
+  between_behind all rest xs st mid o p q count later e h l s =
+      let sum = length-append xs s.before in
+      let number : later + length s.before ≡ count + length (xs ++ s.before) = omega (arith, sum, l) in
+      record {
+        before = xs ++ s.before;
+        last = s.last;
+        answered = both_answered st mid s.last o p q xs s.before h s.answered;
+        rest = s.rest;
+        unfinished = s.unfinished;
+        next = λ more.
+            e more ∙ ap (λ (ys : List Parsed). xs ++ ys) (s.next more ∙ ap (λ (n : ℕ). s.before ++ parsed_from (suc n) (lines_of (s.rest ++ more))) number)
+            ∙ sym (append_assoc xs s.before (parsed_from (suc (count + length (xs ++ s.before))) (lines_of (s.rest ++ more))));
+      }
+
   -- a stop behind lines that were answered
-  pub stops_behind : (all rest : List ℕ → List Parsed) (xs : List Parsed) (st mid : Standing) (o p q : Option (List ℕ)) (count later : ℕ) (fault : ScriptFault) →
-      ((more : List ℕ) → all more ≡ xs ++ rest more) → Answered g st mid o p xs → later ≡ count + length xs → Stops g mid p q rest later fault → Stops g st o q all count fault
-  stops_behind all rest xs st mid o p q count later (BadLine n) e h l s =
+  pub stops_behind : (all rest : List ℕ → List Parsed) (xs : List Parsed) (st mid : Standing) (o p q : Option (List ℕ)) (count later n : ℕ) (fault : ScriptFault) →
+      ((more : List ℕ) → all more ≡ xs ++ rest more) → Answered g st mid o p xs → later ≡ count + length xs → Stops g mid p q rest later n fault → Stops g st o q all count n fault
+  stops_behind all rest xs st mid o p q count later n (BadLine bad) e h l s =
       record {
         before = xs ++ s.before;
         last = s.last;
@@ -67,11 +93,19 @@ module _ (g : Graph) where
         next = begins_more all rest xs s.before (Bad ∷ []) e s.next;
         number = let sum = length-append xs s.before in s.number ∙ (omega arith);
       }
-  stops_behind all rest xs st mid o p q count later Read e h l s =
-      record { before = xs ++ s.before; last = s.last; answered = both_answered st mid s.last o p q xs s.before h s.answered; next = begins_behind all rest xs s.before e s.next }
-  stops_behind all rest xs st mid o p q count later Memory e h l s =
-      record { before = xs ++ s.before; last = s.last; answered = both_answered st mid s.last o p q xs s.before h s.answered; next = begins_behind all rest xs s.before e s.next }
-  stops_behind all rest xs st mid o p q count later Write e h l s =
+  stops_behind all rest xs st mid o p q count later n Read e h l s = between_behind all rest xs st mid o p q count later e h l s
+  stops_behind all rest xs st mid o p q count later n Memory e h l (inl s) = inl (between_behind all rest xs st mid o p q count later e h l s)
+  stops_behind all rest xs st mid o p q count later n Memory e h l (inr s) =
+      inr (record {
+        before = xs ++ s.before;
+        last = s.last;
+        answered = both_answered st mid s.last o p q xs s.before h s.answered;
+        line = s.line;
+        words = s.words;
+        next = begins_more all rest xs s.before (s.line ∷ []) e s.next;
+        number = let sum = length-append xs s.before in s.number ∙ (omega arith);
+      })
+  stops_behind all rest xs st mid o p q count later n Write e h l s =
       record {
         before = xs ++ s.before;
         last = s.last;
@@ -96,30 +130,36 @@ module _ (g : Graph) where
         low = k.counted;
       }
 
+  -- memory ran out in the first line, and nothing was written
+  pub stops_in_line : (said : List ℕ → List Parsed) (st : Standing) (out : Option (List ℕ)) (line : Parsed) (count n : ℕ) → HasWords line → Begins said (line ∷ []) → n ≡ suc count →
+      Stops g st out out said count n Memory
+  stops_in_line said st out line count n w b e =
+      inr (record { before = []; last = st; answered = none_answered st out; line = line; words = w; next = b; number = omega (arith, e) })
+
   -- no reply to the first line was written, or only a beginning of it
-  pub stops_at : (said : List ℕ → List Parsed) (c : Command) (old new : Standing) (out out' : Option (List ℕ)) (count : ℕ) (fault : ScriptFault) →
-      Begins said (Says c ∷ []) → Unwritten g c old new out out' fault → Stops g old out out' said count fault
-  stops_at said c old new out out' count (BadLine n) b u = absurd u
-  stops_at said c old new out out' count Read b u = absurd u
-  stops_at said c old new out out' count Write b u =
+  pub stops_at : (said : List ℕ → List Parsed) (c : Command) (old new : Standing) (out out' : Option (List ℕ)) (count n : ℕ) (fault : ScriptFault) →
+      Begins said (Says c ∷ []) → n ≡ suc count → Unwritten g c old new out out' fault → Stops g old out out' said count n fault
+  stops_at said c old new out out' count n (BadLine bad) b e u = absurd u
+  stops_at said c old new out out' count n Read b e u = absurd u
+  stops_at said c old new out out' count n Write b e u =
       record { before = []; last = old; between = out; answered = none_answered old out; command = c; after = new; text = u.0; reply = u.1; cut = u.2; next = b }
-  stops_at said c old new out out' count Memory b u =
-      record { before = []; last = old; answered = record { text = []; replies = (refl, refl); written = subst (λ (o : Option (List ℕ)). Appends out o []) (sym u) (appends_nothing out) }; next = λ more. (said more, refl) }
+  stops_at said c old new out out' count n Memory b e u =
+      subst (λ (o : Option (List ℕ)). Stops g old out o said count n Memory) (sym u) (stops_in_line said old out (Says c) count n tt b e)
 
   -- the same of a result, which may be no fault
-  pub stops_if : (said : List ℕ → List Parsed) (c : Command) (old new : Standing) (out out' : Option (List ℕ)) (count : ℕ) (result : Result (Unit {0}) ScriptFault) →
-      Begins said (Says c ∷ []) → IfErr result (λ fault. Unwritten g c old new out out' fault) → IfErr result (λ fault. Stops g old out out' said count fault)
-  stops_if said c old new out out' count (Ok x) b u = tt
-  stops_if said c old new out out' count (Err fault) b u = stops_at said c old new out out' count fault b u
+  pub stops_if : (said : List ℕ → List Parsed) (c : Command) (old new : Standing) (out out' : Option (List ℕ)) (count n : ℕ) (result : Result (Unit {0}) ScriptFault) →
+      Begins said (Says c ∷ []) → n ≡ suc count → IfErr result (λ fault. Unwritten g c old new out out' fault) → IfErr result (λ fault. Stops g old out out' said count n fault)
+  stops_if said c old new out out' count n (Ok x) b e u = tt
+  stops_if said c old new out out' count n (Err fault) b e u = stops_at said c old new out out' count n fault b e u
 
   -- the last line, where only a bad one is left
-  pub stops_bad_last : (st : Standing) (out : Option (List ℕ)) (s : Split) (n : ℕ) → Bad ∷ [] ≡ parsed_from (suc s.taken) (lines_of s.rest) → n ≡ suc s.taken → Stops g st out out (λ more. said_of s []) s.taken (BadLine n)
+  pub stops_bad_last : (st : Standing) (out : Option (List ℕ)) (s : Split) (n : ℕ) → Bad ∷ [] ≡ parsed_from (suc s.taken) (lines_of s.rest) → n ≡ suc s.taken → Stops g st out out (λ more. said_of s []) s.taken (suc s.taken) (BadLine n)
   stops_bad_last st out s n e i =
       record { before = []; last = st; answered = none_answered st out; next = λ more. ([], said_last s (Bad ∷ []) e); number = omega arith }
 
   -- the line after the last end says what the last one does
-  pub begins_last : (s : Split) (c : Command) → Says c ∷ [] ≡ parsed_from (suc s.taken) (lines_of s.rest) → Begins (λ more. said_of s []) (Says c ∷ [])
-  begins_last s c e = λ more. ([], said_last s (Says c ∷ []) e)
+  pub begins_last : (s : Split) (line : Parsed) → line ∷ [] ≡ parsed_from (suc s.taken) (lines_of s.rest) → Begins (λ more. said_of s []) (line ∷ [])
+  begins_last s line e = λ more. ([], said_last s (line ∷ []) e)
 
   -- bytes that were pushed are said behind those that were left
   said_pushed : (s t : Split) (piece more : List ℕ) → t.rest ≡ s.rest ++ piece → t.taken ≡ s.taken → said_of s (piece ++ more) ≡ said_of t more
@@ -165,25 +205,25 @@ module _ (g : Graph) where
       }
 
   -- a piece was read and pushed, and the script stops in its lines
-  pub breaks_in : (st mid : Standing) (i j k o p q : Option (List ℕ)) (s t : Split) (piece : List ℕ) (fault : ScriptFault) → Flows g st mid i j o p s → Consumes j k piece →
-      t.rest ≡ s.rest ++ piece → t.taken ≡ s.taken → Stops g mid p q (said_of t) t.taken fault → Breaks g st i k o q fault
-  breaks_in st mid i j k o p q s t piece fault f c r n h =
+  pub breaks_in : (st mid : Standing) (i j k o p q : Option (List ℕ)) (s t : Split) (piece : List ℕ) (n : ℕ) (fault : ScriptFault) → Flows g st mid i j o p s → Consumes j k piece →
+      t.rest ≡ s.rest ++ piece → t.taken ≡ s.taken → Stops g mid p q (said_of t) t.taken n fault → BreaksAt g st i k o q n fault
+  breaks_in st mid i j k o p q s t piece m fault f c r n h =
       record {
         given = f.given ++ piece;
         read = Consumes-trans i j k f.given piece f.read c;
-        stops = inl (stops_behind (script_after (f.given ++ piece)) (said_of t) f.before st mid o p q 0 t.taken fault
+        stops = inl (stops_behind (script_after (f.given ++ piece)) (said_of t) f.before st mid o p q 0 t.taken m fault
             (λ more. after_both f.given piece more ∙ f.says (piece ++ more) ∙ ap (λ (l : List Parsed). f.before ++ l) (said_pushed s t piece more r n))
             f.answered (let taken = f.counted in omega (arith, n, taken)) h);
       }
 
   -- the reader is at its end, and the script stops in the last line
   pub breaks_last : (st mid : Standing) (i j k o p q : Option (List ℕ)) (s : Split) (fault : ScriptFault) → Flows g st mid i j o p s → Consumes j k [] → IsAtEnd k →
-      Stops g mid p q (λ more. said_of s []) s.taken fault → Breaks g st i k o q fault
+      Stops g mid p q (λ more. said_of s []) s.taken (suc s.taken) fault → BreaksAt g st i k o q s.taken fault
   breaks_last st mid i j k o p q s fault f c e h =
       record {
         given = f.given;
         read = consumes_none i j k f.given f.read c;
-        stops = inr (e, stops_behind (script_of f.given) (λ more. said_of s []) f.before st mid o p q 0 s.taken fault (λ more. f.says []) f.answered (let taken = f.counted in omega (arith, taken)) h);
+        stops = inr (e, stops_behind (script_of f.given) (λ more. said_of s []) f.before st mid o p q 0 s.taken (suc s.taken) fault (λ more. f.says []) f.answered (let taken = f.counted in omega (arith, taken)) h);
       }
 
   -- the reader is at its end, and the last line was answered
@@ -197,34 +237,27 @@ module _ (g : Graph) where
         answered = subst (Answered g st last o q) (sym (f.says [])) (both_answered st mid last o p q f.before (said_of s []) f.answered h);
       }
 
-  -- nothing of a piece was answered, since memory ran out
-  pub breaks_memory : (st mid : Standing) (i j k o p : Option (List ℕ)) (s : Split) (piece : List ℕ) → Flows g st mid i j o p s → Consumes j k piece → Breaks g st i k o p Memory
-  breaks_memory st mid i j k o p s piece f c =
+  -- all whole lines were answered
+  between_pieces : (st mid : Standing) (i j o p : Option (List ℕ)) (s : Split) → (f : Flows g st mid i j o p s) → StopsBetween g st o p (script_after f.given) 0
+  between_pieces st mid i j o p s f =
+      let number : s.taken ≡ 0 + length f.before = let taken = f.counted in omega (arith, taken) in
       record {
-        given = f.given ++ piece;
-        read = Consumes-trans i j k f.given piece f.read c;
-        stops = inl (record { before = f.before; last = mid; answered = f.answered; next = λ more. (said_of s (piece ++ more), after_both f.given piece more ∙ f.says (piece ++ more)) });
+        before = f.before;
+        last = mid;
+        answered = f.answered;
+        rest = s.rest;
+        unfinished = f.unfinished;
+        next = λ more. f.says more ∙ ap (λ (n : ℕ). f.before ++ parsed_from (suc n) (lines_of (s.rest ++ more))) number;
       }
 
   -- the script stops between pieces
-  pub breaks_between : (st mid : Standing) (i j o p : Option (List ℕ)) (s : Split) → Flows g st mid i j o p s → Breaks g st i j o p Memory
-  breaks_between st mid i j o p s f =
-      record {
-        given = f.given;
-        read = f.read;
-        stops = inl (record { before = f.before; last = mid; answered = f.answered; next = λ more. (said_of s more, f.says more) });
-      }
+  pub breaks_between : (st mid : Standing) (i j o p : Option (List ℕ)) (s : Split) (n : ℕ) → Flows g st mid i j o p s → BreaksAt g st i j o p n Memory
+  breaks_between st mid i j o p s n f = record { given = f.given; read = f.read; stops = inl (inl (between_pieces st mid i j o p s f)) }
 
   -- a read failed
-  pub breaks_read : (st mid : Standing) (i j k o p : Option (List ℕ)) (s : Split) → Flows g st mid i j o p s → Keeps j k → Breaks g st i k o p Read
-  breaks_read st mid i j k o p s f c =
-      record {
-        given = f.given;
-        read = Consumes-kept i j k f.given f.read c;
-        stops = inl (record { before = f.before; last = mid; answered = f.answered; next = λ more. (said_of s more, f.says more) });
-      }
+  pub breaks_read : (st mid : Standing) (i j k o p : Option (List ℕ)) (s : Split) (n : ℕ) → Flows g st mid i j o p s → Keeps j k → BreaksAt g st i k o p n Read
+  breaks_read st mid i j k o p s n f c = record { given = f.given; read = Consumes-kept i j k f.given f.read c; stops = inl (between_pieces st mid i j o p s f) }
 
   -- nothing was read
   pub breaks_first : (st : Standing) (input out : Option (List ℕ)) → Breaks g st input input out out Memory
-  breaks_first st input out =
-      record { given = []; read = Consumes-nil input; stops = inl (record { before = []; last = st; answered = none_answered st out; next = λ more. (script_after [] more, refl) }) }
+  breaks_first st input out = (0, breaks_between st st input input out out (record { rest = []; line = []; taken = 0 }) 0 (flows_start st input out (record { rest = []; line = []; taken = 0 }) refl))

@@ -1,9 +1,12 @@
 -- From a graph file to a plant whose sources are closed.
-use Rattle.std.proofs.Common.{◌≡◌, ℕ, zero, suc, ◌+◌, List, [], ◌∷◌, length, map, Some, None, Bool, true, refl, ap, sym, ◌∙◌, subst, add-one, not, inl, inr, ℤ}
+use Rattle.std.proofs.Common.{◌≡◌, ℕ, zero, suc, ◌+◌, List, [], ◌∷◌, ◌++◌, length, length-append, take, arith, map, Some, None, Bool, true, refl, ap, sym, ◌∙◌, subst, add-one, not, inl, inr, ℤ}
 use Rattle.std.specs.Prelude.{Option, Result, Ok, Err, nat_lt, ◌&&◌, position, bytes_eq, ◌==◌, OnOk, OnErr, is_ok, if◌then◌else◌}
 use Rattle.std.specs.List.{list_all}
 use Rattle.std.specs.Str.{IsUtf8, is_utf8}
 use Rattle.std.specs.Io.KnownBytes.{Appends}
+use Rattle.std.proofs.Math.Seq.{take-append-add}
+use Rattle.std.proofs.lemmas.List.{take-append-le}
+use Rattle.flow.proofs.Flows.{appends_both}
 use Rattle.std.proofs.lemmas.Str.{IsUtf8-from_is_utf8, is_utf8-from_IsUtf8}
 use Rattle.toml.specs.Parse.{parse_document}
 use Rattle.stream_model.specs.Network.{Network, Node, State, Progress, node_at, role_at, handed_at, no_progress, is_source, opening}
@@ -134,3 +137,17 @@ pub tries : (out out' : Option (List ℕ)) (failed failed' : ℕ) (result : Resu
     failed' ≡ (if is_ok result then failed else failed + 1) → Tries (record { bytes = out; failed = failed }) (record { bytes = out'; failed = failed' }) line
 tries out out' failed failed' (Ok x) line written cut counted = inl (written, counted)
 tries out out' failed failed' (Err x) line written cut counted = inr (cut, counted)
+
+-- a line goes on behind what was written of it
+pub tries_on : (a b c : Option (List ℕ)) (m n k : ℕ) (xs ys : List ℕ) → Appends a b xs → n ≡ m → Tries (record { bytes = b; failed = n }) (record { bytes = c; failed = k }) ys →
+    Tries (record { bytes = a; failed = m }) (record { bytes = c; failed = k }) (xs ++ ys)
+tries_on a b c m n k xs ys h e (inl t) = inl (appends_both a b c xs ys h t.0, t.1 ∙ e)
+tries_on a b c m n k xs ys h e (inr t) =
+    let size = length-append xs ys in
+    inr ((length xs + t.0.0, omega (arith, size, t.0.1), subst (Appends a c) (sym (take-append-add xs ys t.0.0)) (appends_both a b c xs (take t.0.0 ys) h t.0.2)), t.1 ∙ ap (λ (x : ℕ). x + 1) e)
+
+-- nothing is written behind a write that failed
+pub tries_not : (a b : Option (List ℕ)) (m n : ℕ) (xs ys : List ℕ) → AppendsBeginning a b xs → n ≡ m + 1 → Tries (record { bytes = a; failed = m }) (record { bytes = b; failed = n }) (xs ++ ys)
+tries_not a b m n xs ys h e =
+    let size = length-append xs ys in
+    inr ((h.0, omega (arith, size, h.1), subst (Appends a b) (sym (take-append-le h.0 xs ys h.1)) h.2), e)

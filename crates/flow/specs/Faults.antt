@@ -29,7 +29,7 @@ fault_line fault = line_text (codes "flow: refused " ++ fault_text fault)
 abbrev pub no_memory_line : List ℕ
 no_memory_line = line_text (codes "flow: refused 32 Memory")
 
--- the number of want of memory
+-- the number of out of memory
 abbrev pub memory_number : ℕ
 memory_number = 32
 

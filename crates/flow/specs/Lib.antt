@@ -3,3 +3,4 @@ pub mod Script
 pub mod Faults
 pub mod Reports
 pub mod Serve
+pub mod Starts

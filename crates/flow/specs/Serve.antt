@@ -146,9 +146,10 @@ writes_in (Err fault) = writes_failed fault
 abbrev pub Tries : Stream → Stream → List ℕ → Type 0
 Tries old new line = (Appends old.bytes new.bytes line × (new.failed ≡ old.failed)) ⊎ (AppendsBeginning old.bytes new.bytes line × (new.failed ≡ old.failed + 1))
 
--- the fault is told by one line, or that memory ran out where there is none for that line
+-- the fault is told by one line. Where it is one of the file, and there is no memory for its text, that is told in its place
 abbrev pub Tells : Stream → Stream → Fault → Type 0
-Tells old new fault = Tries old new (fault_line fault) ⊎ Tries old new no_memory_line
+Tells old new (Script fault) = Tries old new (fault_line (Script fault))
+Tells old new (File fault) = Tries old new (fault_line (File fault)) ⊎ Tries old new no_memory_line
 
 -- a command was done, and nothing is told of a fault; or it was not, the fault is told, and the status is the one that it brings
 pub data Serves (c : Command) (file : List ℕ) (input input' output output' errors errors' : Stream) : ℕ → Type 0 where

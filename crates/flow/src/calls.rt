@@ -73,7 +73,7 @@ pub(crate) fn set<B: Block>(
         Ok(value) => value,
         Err(fault) => return refused(alloc, fault),
     };
-    match plant.set(alloc, block, at, value) {
+    match plant.set(block, at, value) {
         Ok(Taken(at)) => Reply::Taken(at).to_line(alloc),
         Err(fault) => refused(alloc, fault),
     }

@@ -8,12 +8,13 @@ use crate::script::ScriptFault;
 use graph_file::FileFault;
 use std::alloc::AllocError;
 use std::fmt;
+use thiserror::Error;
 
-// The number by which a file reports want of memory.
+// The number by which a file reports that memory ran out.
 const NO_MEMORY: u32 = 32;
 
 /// Why a command stopped. Its text is the number of the refusal, its name, and what the name alone does not say.
-#[derive(Debug, Drop)]
+#[derive(Debug, Drop, Error)]
 pub enum Fault {
     /// The graph file is refused.
     File(FileFault),

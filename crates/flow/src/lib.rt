@@ -8,3 +8,4 @@ mod reports;
 pub mod script;
 pub mod serve;
 pub mod session;
+pub mod start;

@@ -121,7 +121,7 @@ fn add_sink(
             add_held(alloc, text, name, piece.held, &piece)
         }
         Err(PlantFault::NotSink) => Ok(()),
-        // A block that there is refuses nothing else but for want of memory.
+        // A block that there is is refused only where memory runs out.
         Err(_) => Err(AllocError),
     }
 }

@@ -1,13 +1,13 @@
 //! A script: commands line by line, and their replies.
 
-ghost use Rattle.std.specs.Prelude.{◌≡◌, ◌+◌, ◌-◌, ◌^◌, ◌<◌, ◌≤◌, [], ◌∷◌, IfOk, IfErr, OnOk};
+ghost use Rattle.std.specs.Prelude.{◌≡◌, ◌+◌, ◌-◌, ◌^◌, ◌<◌, ◌≤◌, suc, [], ◌∷◌, IfOk, IfErr, OnOk};
 ghost use Rattle.script_text.specs.Lines.{most_lines};
 ghost use Rattle.script_text.specs.Splits.{IsUnfinished};
 ghost use Rattle.script_text.specs.Scripts.{said_of};
 ghost use Rattle.script_text.specs.Grammar.{Says, IsAskable};
 ghost use Rattle.script_text.specs.Commands.{command_seen};
 ghost use Rattle.flow.specs.Session.{graph_of, standing, standing_of, in_standing, in_state, none_kept};
-ghost use Rattle.flow.specs.Script.{Answered, Stops, Unwritten, Proceeds, Went, Ends, EndsIn, Breaks, failed_reads, failed_writes};
+ghost use Rattle.flow.specs.Script.{Answered, Stops, Unwritten, Proceeds, Went, Ends, EndsIn, Breaks, BreaksAt, failed_reads, failed_writes};
 ghost use Rattle.flow.specs.declared.script.ScriptFault.TheVariants.{Memory};
 
 use crate::session::Session;
@@ -16,11 +16,12 @@ use plant::Plant;
 use script_text::{ByteIn, ByteOut, Command, Line, LineSplitter, last_line, next_line};
 use std::alloc::{AllocError, Global};
 use std::fmt;
+use thiserror::Error;
 
 const PIECE: usize = 4096;
 
 /// Why a script stopped.
-#[derive(Clone, Copy, Debug, PartialEq, Eq)]
+#[derive(Clone, Copy, Debug, PartialEq, Eq, Error)]
 pub enum ScriptFault {
     /// The line of this number, where the first is 1, says nothing that a line may say.
     BadLine(u64),
@@ -56,7 +57,8 @@ impl From<AllocError> for ScriptFault {
     }
 }
 
-/// Reads a script to its end, does what its lines say, and writes a reply to each line that asks something.
+/// Reads a script to its end, does what its lines say, and writes a reply to each line that asks something. Where it stops by a bad line or since memory
+/// ran out, the replies to all lines before that one were written; where a read fails, the replies to all whole lines that were read.
 pub fn script<B: Block, I: ByteIn, O: ByteOut>(
     alloc: Global,
     plant: Plant<B>,
@@ -72,7 +74,8 @@ pub fn script<B: Block, I: ByteIn, O: ByteOut>(
     ensures failed_writes { O.failed output.new ≡ O.failed output.old + failed_writes result }
 {
     let mut session = Session::new(alloc, plant)?;
-    answer_all(alloc, &mut session, input, output)?;
+    let mut lines = LineSplitter::new(alloc)?;
+    answer_all(alloc, &mut session, &mut lines, input, output)?;
     Ok(session.into_plant())
 }
 
@@ -80,28 +83,29 @@ pub fn script<B: Block, I: ByteIn, O: ByteOut>(
 fn answer_all<B: Block, I: ByteIn, O: ByteOut>(
     alloc: Global,
     session: &mut Session<B>,
+    lines: &mut LineSplitter,
     input: &mut I,
     output: &mut O,
 ) -> Result<(), ScriptFault>
+    requires none { lines.old ≡ record { rest = []; line = []; taken = 0 } }
     requires reads { I.failed input.old < 2 ^ 64 - 1 }
     requires writes { O.failed output.old < 2 ^ 64 - 1 }
     ensures same { session.new ≡ in_standing session.old (standing session.new) }
     ensures ends { OnOk result (Ends (graph_of B.meaning session.old.plant) (standing session.old) (standing session.new) (I.remaining input.old) (I.remaining input.new) (O.contents output.old) (O.contents output.new)) }
-    ensures breaks { IfErr result (λ fault. Breaks (graph_of B.meaning session.old.plant) (standing session.old) (I.remaining input.old) (I.remaining input.new) (O.contents output.old) (O.contents output.new) fault) }
+    ensures breaks { IfErr result (λ fault. BreaksAt (graph_of B.meaning session.old.plant) (standing session.old) (I.remaining input.old) (I.remaining input.new) (O.contents output.old) (O.contents output.new) lines.new.taken fault) }
     ensures failed_reads { I.failed input.new ≡ I.failed input.old + failed_reads result }
     ensures failed_writes { O.failed output.new ≡ O.failed output.old + failed_writes result }
 {
-    let mut lines = LineSplitter::new(alloc);
     let mut buffer = [0; PIECE];
     for _ in 0..u64::MAX {
         let Ok(read) = input.read(&mut buffer) else {
             return Err(ScriptFault::Read);
         };
         if read == 0 {
-            return answer_last(alloc, session, &lines, output);
+            return answer_last(alloc, session, lines, output);
         }
-        lines.push(&buffer[..read])?;
-        answer_lines(alloc, session, &mut lines, output)?;
+        lines.push(&buffer[..read]);
+        answer_lines(alloc, session, lines, output)?;
     }
     // So many pieces have a bad line among them, since there may be only so many lines and none may be long.
     Err(ScriptFault::Memory)
@@ -119,7 +123,7 @@ fn answer_lines<B: Block, O: ByteOut>(
     ensures same { session.new ≡ in_standing session.old (standing session.new) }
     ensures went { OnOk result (Went (graph_of B.meaning session.old.plant) (standing session.old) (standing session.new) (O.contents output.old) (O.contents output.new) lines.old lines.new) }
     ensures unfinished { OnOk result (IsUnfinished lines.new.rest) }
-    ensures stops { IfErr result (λ fault. Stops (graph_of B.meaning session.old.plant) (standing session.old) (O.contents output.old) (O.contents output.new) (said_of lines.old) lines.old.taken fault) }
+    ensures stops { IfErr result (λ fault. Stops (graph_of B.meaning session.old.plant) (standing session.old) (O.contents output.old) (O.contents output.new) (said_of lines.old) lines.old.taken lines.new.taken fault) }
     ensures failed_reads { failed_reads result ≡ 0 }
     ensures failed_writes { O.failed output.new ≡ O.failed output.old + failed_writes result }
 {
@@ -143,7 +147,7 @@ fn answer_next<B: Block, O: ByteOut>(
     requires writes { O.failed output.old < 2 ^ 64 - 1 }
     ensures same { session.new ≡ in_standing session.old (standing session.new) }
     ensures proceeds { IfOk result (λ came. Proceeds (graph_of B.meaning session.old.plant) (standing session.old) (standing session.new) (O.contents output.old) (O.contents output.new) lines.old lines.new came) }
-    ensures stops { IfErr result (λ fault. Stops (graph_of B.meaning session.old.plant) (standing session.old) (O.contents output.old) (O.contents output.new) (said_of lines.old) lines.old.taken fault) }
+    ensures stops { IfErr result (λ fault. Stops (graph_of B.meaning session.old.plant) (standing session.old) (O.contents output.old) (O.contents output.new) (said_of lines.old) lines.old.taken lines.new.taken fault) }
     ensures failed_reads { failed_reads result ≡ 0 }
     ensures failed_writes { O.failed output.new ≡ O.failed output.old + failed_writes result }
 {
@@ -171,7 +175,7 @@ fn answer_last<B: Block, O: ByteOut>(
     requires writes { O.failed output.old < 2 ^ 64 - 1 }
     ensures same { session.new ≡ in_standing session.old (standing session.new) }
     ensures answered { OnOk result (Answered (graph_of B.meaning session.old.plant) (standing session.old) (standing session.new) (O.contents output.old) (O.contents output.new) (said_of lines.now [])) }
-    ensures stops { IfErr result (λ fault. Stops (graph_of B.meaning session.old.plant) (standing session.old) (O.contents output.old) (O.contents output.new) (λ more. said_of lines.now []) lines.now.taken fault) }
+    ensures stops { IfErr result (λ fault. Stops (graph_of B.meaning session.old.plant) (standing session.old) (O.contents output.old) (O.contents output.new) (λ more. said_of lines.now []) lines.now.taken (suc lines.now.taken) fault) }
     ensures failed_reads { failed_reads result ≡ 0 }
     ensures failed_writes { O.failed output.new ≡ O.failed output.old + failed_writes result }
 {

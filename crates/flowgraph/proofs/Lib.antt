@@ -13,3 +13,4 @@ pub mod TurnLemmas
 pub mod GainLemmas
 pub mod WireLemmas
 pub mod Assembly
+pub mod AgreeLemmas

@@ -1,3 +1,4 @@
+pub mod Agreeing
 pub mod Asked
 pub mod Fault
 pub mod Flowgraph

@@ -36,7 +36,7 @@ pub struct Input {
 }
 
 /// A block with its options.
-#[derive(Debug, Drop)]
+#[derive(Debug, Drop, PartialEq, Eq)]
 pub struct Entry<B> {
     pub block: B,
     pub options: Options,

@@ -1,5 +1,5 @@
 //! Graphs that were tested.
-ghost use Rattle.std.specs.Prelude.{◌≡◌, ◌*◌, ◌^◌, ◌<◌, ◌≤◌, ◌==◌, length, map, All, Some, slice_get, position, bytes_eq};
+ghost use Rattle.std.specs.Prelude.{◌≡◌, ◌*◌, ◌^◌, ◌<◌, ◌≤◌, ◌==◌, length, map, All, IsTrue, Some, slice_get, position, bytes_eq};
 ghost use Rattle.std.specs.Option.{option_map};
 ghost use Rattle.stream_model.specs.Network.{node_at, role_at, is_source, is_keeper, taken_by, given_by, writers_of, readers_of, used_outputs};
 ghost use Rattle.stream_laws.specs.CanRun.{CanRun};
@@ -7,6 +7,7 @@ ghost use Rattle.graph_model.specs.Graphs.{IsValidGraph};
 ghost use Rattle.graph_model.specs.Rates.{CanCount};
 ghost use Rattle.graph_laws.specs.Running.{AreLawful};
 ghost use Rattle.block_kinds.specs.Shape.{HasPace};
+ghost use Rattle.flowgraph.specs.Agreeing.{graphs_agree};
 ghost use Rattle.flowgraph.specs.Asked.{AreAsked};
 ghost use Rattle.flowgraph.specs.Fault.{id};
 ghost use Rattle.flowgraph.specs.Flowgraph.{net_of, graph_of, connection_of, HasOptions};
@@ -229,6 +230,16 @@ impl<B: Block> Valid<B> {
         self.wiring
             .readers
             .row(MOST_PORTS * block.0 as usize + port)
+    }
+
+    /// Whether another graph is the same: its names, its blocks by `==`, its options and its connections, in their order.
+    pub fn agrees(&self, other: &Valid<B>) -> bool
+        ensures same { result ≡ graphs_agree B.eq self.now other.now }
+        ensures nets { IsTrue result → net_of B.meaning self.now ≡ net_of B.meaning other.now }
+    {
+        self.names.as_slice() == other.names.as_slice()
+            && self.blocks == other.blocks
+            && self.connections == other.connections
     }
 
     /// The graph is valid, its blocks keep the laws, and so it runs. The call is there for what its contract says.

@@ -1,5 +1,5 @@
 -- What is told of a graph that is not valid.
-use Rattle.std.proofs.Common.{◌≡◌, ℕ, ◌<◌, Bool, true, List, ◌∷◌, [], length, map, slice_get, Option, None, Some, option_map, Err, refl, arith, ap, ◌∙◌, sym, subst, inl, inr}
+use Rattle.std.proofs.Common.{◌≡◌, ◌≢◌, ℕ, ◌<◌, Bool, true, List, ◌∷◌, [], length, map, slice_get, Option, None, Some, option_map, Err, refl, arith, ap, ◌∙◌, sym, subst, inl, inr}
 use Rattle.std.specs.Prelude.{◌⊎◌, ◌||◌, ◌&&◌, ◌==◌, not, nat_lt}
 use Rattle.std.proofs.lemmas.List.{length-map}
 use Rattle.std.proofs.lemmas.Option.{get_or_from_slice_get}
@@ -10,31 +10,32 @@ use Rattle.graph_model.specs.Graphs.{graph_fault, gap_fault, gap_of, first_fault
 use Rattle.graph_laws.proofs.Search.{first-Some, refusal-Some, mapped-Some, lowest-Some}
 use Rattle.flowgraph.specs.declared.parts.BlockId.{BlockId}
 use Rattle.flowgraph.specs.declared.fault.GraphFault.{GraphFault}
+use Rattle.flowgraph.specs.declared.fault.GraphFault.TheVariants.{DuplicateName, UnknownBlock, PortRange, InputTaken, PortGap, TypeMismatch, Loop, TooFewPorts, TooLarge, BadParameter, OneToOne, Gain, Memory}
 use Rattle.flowgraph.specs.declared.fault.Limit.TheVariants.{Blocks}
 use Rattle.flowgraph.specs.Fault.{id, reported, told}
 use Rattle.flowgraph.specs.Flowgraph.{Flowgraph, node_of}
 use Rattle.kinds.specs.declared.kind.Kind.{Kind}
 use Rattle.kinds.specs.Kind.{meaning_of}
 use Rattle.graph_file.specs.declared.fault.Place.TheVariants.{Top}
-use Rattle.graph_file.specs.Refusals.{Refusal, of_graph, IsTold}
+use Rattle.graph_file.specs.Refusals.{Refusal, of_graph, short, IsTold}
 use Rattle.graph_file.specs.Blocks.{Draft, drafted}
 use Rattle.graph_file.specs.Opening.{named_block, name_at, unless_wrong, validated}
 
--- a refusal names a block of the network, if any
-abbrev Inside : Network → model.GraphFault → Type 0
-Inside net f = (b : BlockId) → named_block (reported Blocks (Some f)) ≡ Some b → b.0 < length net.nodes
+-- a refusal names a block of the network
+abbrev IsNamed : Network → GraphFault → Type 0
+IsNamed net fault = (b : BlockId) × ((named_block fault ≡ Some b) × (b.0 < length net.nodes))
 
-named : (net : Network) (n : ℕ) (b : BlockId) → n < length net.nodes → ◌≡◌ {A = Option BlockId} (Some (id n)) (Some b) → b.0 < length net.nodes
-named net n b h e = let is : id n ≡ b = cc in subst (λ (i : BlockId). i.0 < length net.nodes) is h
+abbrev Inside : Network → model.GraphFault → Type 0
+Inside net f = IsNamed net (reported Blocks (Some f))
 
 module _ (net : Network) where
   gap-inside : (f : model.GraphFault) → first_fault (map (gap_fault net) (below (length net.nodes))) ≡ Some f → Inside net f
   gap-inside f e =
       let r = refusal-Some (gap_fault net) 0 (length net.nodes) (length net.nodes) f (omega arith) e in
       elim (first-Some (option_map (model.PortGap r.0 model.In) (gap_of net r.0 model.In)) (option_map (model.PortGap r.0 model.Out) (gap_of net r.0 model.Out) ∷ []) f r.1.here) [
-        | inl h ↦ (let m = mapped-Some (model.PortGap r.0 model.In) (gap_of net r.0 model.In) f h in subst (Inside net) m.2 (λ b. named net r.0 b r.1.high))
+        | inl h ↦ (let m = mapped-Some (model.PortGap r.0 model.In) (gap_of net r.0 model.In) f h in subst (Inside net) m.2 (id r.0, (refl, r.1.high)))
         | inr h ↦ elim (first-Some (option_map (model.PortGap r.0 model.Out) (gap_of net r.0 model.Out)) [] f h.1) [
-          | inl i ↦ (let m = mapped-Some (model.PortGap r.0 model.Out) (gap_of net r.0 model.Out) f i in subst (Inside net) m.2 (λ b. named net r.0 b r.1.high))
+          | inl i ↦ (let m = mapped-Some (model.PortGap r.0 model.Out) (gap_of net r.0 model.Out) f i in subst (Inside net) m.2 (id r.0, (refl, r.1.high)))
           | inr i ↦ absurd (let bad = i.1 in cc)
         ]
       ]
@@ -61,13 +62,13 @@ module _ (net : Network) where
       elim (first-Some (first_fault (map (gap_fault net) (below (length net.nodes)))) (few ∷ unequal ∷ looped ∷ steep ∷ []) f e) [
         | inl h ↦ gap-inside f h
         | inr past ↦ elim (first-Some few (unequal ∷ looped ∷ steep ∷ []) f past.1) [
-          | inl h ↦ lowest-inside _ model.TooFewPorts (λ n in' b. named net n b in') f h
+          | inl h ↦ lowest-inside _ model.TooFewPorts (λ n in'. (id n, (refl, in'))) f h
           | inr past ↦ elim (first-Some unequal (looped ∷ steep ∷ []) f past.1) [
-            | inl h ↦ lowest-inside _ model.OneToOne (λ n in' b. named net n b in') f h
+            | inl h ↦ lowest-inside _ model.OneToOne (λ n in'. (id n, (refl, in'))) f h
             | inr past ↦ elim (first-Some looped (steep ∷ []) f past.1) [
-              | inl h ↦ lowest-inside _ model.Loop (λ n in' b. named net n b in') f h
+              | inl h ↦ lowest-inside _ model.Loop (λ n in'. (id n, (refl, in'))) f h
               | inr past ↦ elim (first-Some steep [] f past.1) [
-                | inl h ↦ lowest-inside _ model.Gain (λ n in' b. named net n b in') f h
+                | inl h ↦ lowest-inside _ model.Gain (λ n in'. (id n, (refl, in'))) f h
                 | inr past ↦ absurd (let bad = past.1 in cc)
               ]
             ]
@@ -75,20 +76,43 @@ module _ (net : Network) where
         ]
       ]
 
-  told-inside : (o : Option model.GraphFault) (fault : GraphFault) (b : BlockId) → graph_fault net ≡ o → told Blocks o ≡ Some fault → named_block fault ≡ Some b → b.0 < length net.nodes
-  told-inside None fault b e t n = absurd (cc)
-  told-inside (Some f) fault b e t n = let is : reported Blocks (Some f) ≡ fault = cc in fault-inside f e b (ap named_block is ∙ n)
+  told-inside : (o : Option model.GraphFault) (fault : GraphFault) → graph_fault net ≡ o → told Blocks o ≡ Some fault → IsNamed net fault
+  told-inside None fault e t = absurd (cc)
+  told-inside (Some f) fault e t = let is : reported Blocks (Some f) ≡ fault = cc in subst (IsNamed net) is (fault-inside f e)
+
+  is_memory : (fault : GraphFault) → ((fault ≢ Memory) → ⊥) → fault ≡ Memory
+  is_memory Memory h = refl
+  is_memory DuplicateName h = absurd (h (λ e. cc))
+  is_memory UnknownBlock h = absurd (h (λ e. cc))
+  is_memory (PortRange b side port) h = absurd (h (λ e. cc))
+  is_memory (InputTaken b port) h = absurd (h (λ e. cc))
+  is_memory (PortGap b side port) h = absurd (h (λ e. cc))
+  is_memory (TypeMismatch b port) h = absurd (h (λ e. cc))
+  is_memory (Loop b) h = absurd (h (λ e. cc))
+  is_memory (TooFewPorts b) h = absurd (h (λ e. cc))
+  is_memory (TooLarge limit) h = absurd (h (λ e. cc))
+  is_memory (BadParameter option) h = absurd (h (λ e. cc))
+  is_memory (OneToOne b) h = absurd (h (λ e. cc))
+  is_memory (Gain b) h = absurd (h (λ e. cc))
+
+  -- what names no block is want of memory
+  pub only_memory : (fault : GraphFault) → (fault ≢ Memory → told Blocks (graph_fault net) ≡ Some fault) → named_block fault ≡ None → fault ≡ Memory
+  only_memory fault is_told none = is_memory fault (λ other. let b = told-inside (graph_fault net) fault refl (is_told other) in let bad = sym none ∙ b.1.0 in cc)
 
 -- the block that is named is one of the graph
 pub named-inside : (g : Flowgraph Kind) (fault : GraphFault) (b : BlockId) → told Blocks (graph_fault (drafted g).net) ≡ Some fault → named_block fault ≡ Some b → b.0 < length g.blocks
-named-inside g fault b t n = subst (λ k. b.0 < k) (length-map g.blocks (node_of meaning_of)) (told-inside (drafted g).net (graph_fault (drafted g).net) fault b refl t n)
+named-inside g fault b t n =
+    let found = told-inside (drafted g).net (graph_fault (drafted g).net) fault refl t in
+    let both : ◌≡◌ {A = Option BlockId} (Some found.0) (Some b) = sym found.1.0 ∙ n in
+    let is : found.0 ≡ b = cc in
+    subst (λ k. b.0 < k) (length-map g.blocks (node_of meaning_of)) (subst (λ (i : BlockId). i.0 < length (drafted g).net.nodes) is found.1.1)
 
 -- what is reported of a graph, with the name of the block
 pub validated-told : (d : Draft) (fault : GraphFault) (b : BlockId) (name : List ℕ) (o : Option Refusal) →
-    told Blocks (graph_fault d.net) ≡ Some fault → named_block fault ≡ Some b → slice_get d.names b.0 ≡ Some name → (o ≡ None) ⊎ (o ≡ Some (of_graph Top fault name)) → IsTold (validated d) o
+    told Blocks (graph_fault d.net) ≡ Some fault → named_block fault ≡ Some b → slice_get d.names b.0 ≡ Some name → (o ≡ None) ⊎ (o ≡ Some (of_graph Top fault (short name))) → IsTold (validated d) o
 validated-told d fault b name o t n s told_is =
     elim told_is [
       | inl none ↦ subst (IsTold (validated d)) (sym none) tt
       | inr some ↦ subst (IsTold (validated d)) (sym some)
-          (ap (unless_wrong d) t ∙ ap (λ x. Err (of_graph Top fault (name_at d.names x))) n ∙ ap (λ x. Err (of_graph Top fault x)) (get_or_from_slice_get d.names b.0 name [] s))
+          (ap (unless_wrong d) t ∙ ap (λ x. Err (of_graph Top fault (short (name_at d.names x)))) n ∙ ap (λ x. Err (of_graph Top fault (short x))) (get_or_from_slice_get d.names b.0 name [] s))
     ]

@@ -1,5 +1,5 @@
 -- The blocks of a graph file.
-use Rattle.std.specs.Prelude.{ℕ, List, [], ◌∷◌, ◌++◌, Option, Some, None, Result, Ok, Err}
+use Rattle.std.specs.Prelude.{◌≡◌, ◌⊎◌, ℕ, true, List, [], ◌∷◌, ◌++◌, Option, Some, None, Result, Ok, Err, IsOk}
 use Rattle.toml.specs.Data.{Members}
 use Rattle.stream_model.specs.declared.vocabulary.Policy.{Policy}
 use Rattle.stream_model.specs.declared.vocabulary.Policy.TheVariants.{All}
@@ -15,9 +15,9 @@ use Rattle.kinds.specs.Kind.{meaning_of}
 use Rattle.kind_keys.specs.declared.key.Key.TheVariants as keys
 use Rattle.kind_keys.specs.declared.fault.KeyFault.{KeyFault}
 use Rattle.kind_keys.specs.Tables.{at_key, string_in, text_at, small_at, policy_named}
-use Rattle.kind_keys.specs.Reading.{block_in}
+use Rattle.kind_keys.specs.Reading.{block_in, takes_memory}
 use Rattle.graph_file.specs.declared.fault.Place.TheVariants as places
-use Rattle.graph_file.specs.Refusals.{Refusal, at_table, of_graph}
+use Rattle.graph_file.specs.Refusals.{Refusal, at_table, of_graph, short}
 
 -- a graph as it is built: the names of its blocks, and the network of what they mean
 pub record Draft : Type 0 where
@@ -49,7 +49,7 @@ with_node d name node = record { names = d.names ++ name ∷ []; net = record { 
 -- the graph with the block of table n, unless the block does not go into it
 abbrev pub added : ℕ → Draft → List ℕ → Node → Option model.GraphFault → Result Draft Refusal
 added n d name node None = Ok (with_node d name node)
-added n d name node (Some fault) = Err (of_graph (places.Block n) (reported Blocks (Some fault)) name)
+added n d name node (Some fault) = Err (of_graph (places.Block n) (reported Blocks (Some fault)) (short name))
 
 -- the same, where the table means a block
 abbrev pub block_added : ℕ → Draft → Members → Result Meaning KeyFault → Result Draft Refusal
@@ -59,3 +59,7 @@ block_added n d ms (Ok m) = added n d (text_at ms keys.Name) (node_at m ms) (add
 -- the graph with the block of table n
 abbrev pub block_step : ℕ → Draft → Members → Result Draft Refusal
 block_step n d ms = block_added n d ms (block_in ms)
+
+-- the block of the table takes memory as it is made, or as it goes into the graph
+abbrev pub BlockTakes : ℕ → Draft → Members → Type 0
+BlockTakes n d ms = (takes_memory ms ≡ true) ⊎ IsOk (block_step n d ms)

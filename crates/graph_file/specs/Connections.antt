@@ -1,5 +1,5 @@
 -- The connections of a graph file.
-use Rattle.std.specs.Prelude.{ℕ, suc, ◌-◌, ◌^◌, min, ℤ, pos, negsuc, List, [], ◌∷◌, ◌++◌, Option, Some, None, Result, Ok, Err, bytes_eq, if◌then◌else◌}
+use Rattle.std.specs.Prelude.{◌⊎◌, ℕ, suc, ◌<◌, length, ◌-◌, ◌^◌, min, ℤ, pos, negsuc, List, [], ◌∷◌, ◌++◌, Option, Some, None, Result, Ok, Err, IsOk, bytes_eq, if◌then◌else◌}
 use Rattle.toml.specs.Data.{Items, no_items, item, Members, as_table}
 use Rattle.stream_model.specs.Network as network
 use Rattle.graph_model.specs.Graphs as model
@@ -16,7 +16,7 @@ use Rattle.kind_keys.specs.declared.fault.KeyFault.{KeyFault}
 use Rattle.kind_keys.specs.declared.fault.KeyFault.TheVariants.{UnknownKey}
 use Rattle.kind_keys.specs.Tables.{text_at, number_at, count_at, keys_fault, has_only}
 use Rattle.graph_file.specs.declared.fault.Place.TheVariants as places
-use Rattle.graph_file.specs.Refusals.{Refusal, of_graph, negative_port}
+use Rattle.graph_file.specs.Refusals.{Refusal, of_graph, negative_port, short}
 use Rattle.graph_file.specs.Blocks.{Draft}
 use Rattle.graph_file.specs.Steps.{unless}
 use Rattle.std.specs.Prelude.{Bool, true, false}
@@ -48,7 +48,7 @@ end_named ms _ = text_at ms keys.To
 -- the graph with the connection of table n, unless the connection does not go into it
 abbrev pub connected : ℕ → Draft → Members → network.Connection → Option model.GraphFault → Result Draft Refusal
 connected n d ms c None = Ok (with_connection d c)
-connected n d ms c (Some fault) = Err (of_graph (places.Connect n) (reported Connections (Some fault)) (end_named ms (reported Connections (Some fault))))
+connected n d ms c (Some fault) = Err (of_graph (places.Connect n) (reported Connections (Some fault)) (short (end_named ms (reported Connections (Some fault)))))
 
 -- what follows, where a block has the name
 abbrev pub known : ℕ → Option ℕ → (ℕ → Result Draft Refusal) → Result Draft Refusal
@@ -60,6 +60,10 @@ abbrev pub joined : ℕ → Draft → Members → ℕ → ℕ → Result Draft R
 joined n d ms from to =
     let c : network.Connection = record { from = from; out_port = count_at ms keys.FromPort; to = to; in_port = count_at ms keys.ToPort } in
     connected n d ms c (connect_fault d.net c)
+
+-- one of the ends is a longer text than a block's name, for which a refusal of its port takes memory
+abbrev pub HasLongEnd : Members → Type 0
+HasLongEnd ms = (32 < length (text_at ms keys.From)) ⊎ (32 < length (text_at ms keys.To))
 
 -- the keys up to the port of the output, and all keys
 abbrev pub from_keys : List Key
@@ -81,3 +85,7 @@ connect_step blocks n d ms =
     (unless (places.Connect n) (keys_fault ms (keys.ToPort ∷ []))
     (from_zero (number_at ms keys.ToPort) (text_at ms keys.To) In
     (known n (number_from 0 (text_at ms keys.From) blocks) (λ from. known n (number_from 0 (text_at ms keys.To) blocks) (λ to. joined n d ms from to))))))
+
+-- the connection of the table takes memory as its port is refused, or as it goes into the graph
+abbrev pub ConnectTakes : Items → ℕ → Draft → Members → Type 0
+ConnectTakes blocks n d ms = HasLongEnd ms ⊎ IsOk (connect_step blocks n d ms)

@@ -1,5 +1,5 @@
 -- The feeds of a graph file.
-use Rattle.std.specs.Prelude.{ℕ, ℤ, List, [], ◌∷◌, ◌++◌, Option, Some, None, option_and_then, Result, Ok, Err}
+use Rattle.std.specs.Prelude.{ℕ, ℤ, List, [], ◌∷◌, ◌++◌, Option, Some, None, option_and_then, Result, Ok, Err, IsOk}
 use Rattle.toml.specs.Data.{Items, no_items, item, Members, as_table}
 use Rattle.kind_keys.specs.declared.key.Key.{Key}
 use Rattle.kind_keys.specs.declared.key.Key.TheVariants as keys
@@ -73,3 +73,7 @@ one_more feeds (Err refusal) = Err refusal
 -- the feeds with the one of table n
 abbrev pub feed_step : ℕ → List Fed → Members → Result (List Fed) Refusal
 feed_step n feeds ms = one_more feeds (feed_in n ms)
+
+-- the feed of the table takes memory as it is kept: nothing is wrong with it
+abbrev pub FeedTakes : ℕ → List Fed → Members → Type 0
+FeedTakes n feeds ms = IsOk (feed_step n feeds ms)

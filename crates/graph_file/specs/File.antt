@@ -1,5 +1,5 @@
 -- The graph and the feeds of a graph file.
-use Rattle.std.specs.Prelude.{List, [], ◌∷◌, map, Option, Some, None, Result, Ok, Err}
+use Rattle.std.specs.Prelude.{◌≡◌, ◌⊎◌, List, [], ◌∷◌, map, Option, Some, None, Result, Ok, Err, IsOk, IsOkAnd}
 use Rattle.toml.specs.Data.{Members}
 use Rattle.flowgraph.specs.Flowgraph.{graph_of}
 use Rattle.kind_keys.specs.declared.key.Key.{Key}
@@ -8,10 +8,10 @@ use Rattle.kind_keys.specs.Tables.{items_at, keys_fault, has_only}
 use Rattle.graph_file.specs.declared.fault.Place.TheVariants.{Top}
 use Rattle.graph_file.specs.declared.file.File.{File}
 use Rattle.graph_file.specs.Refusals.{Refusal, syntax}
-use Rattle.graph_file.specs.Steps.{then, unless, steps}
-use Rattle.graph_file.specs.Blocks.{Draft, drafted, block_step}
-use Rattle.graph_file.specs.Connections.{only_fault, connect_step}
-use Rattle.graph_file.specs.Feeds.{Fed, fed, feed_step}
+use Rattle.graph_file.specs.Steps.{then, unless, steps, StepsTake}
+use Rattle.graph_file.specs.Blocks.{Draft, drafted, block_step, BlockTakes}
+use Rattle.graph_file.specs.Connections.{only_fault, connect_step, ConnectTakes}
+use Rattle.graph_file.specs.Feeds.{Fed, fed, feed_step, FeedTakes}
 
 -- what a file says
 pub record Content : Type 0 where
@@ -52,3 +52,17 @@ file_in ms = unless Top (only_fault (has_only top_keys ms) (keys_fault ms top_ke
 abbrev pub file_of : Option Members → Result Content Refusal
 file_of None = Err syntax
 file_of (Some ms) = file_in ms
+
+-- where memory may run out: a block or a connection that is reached takes some
+abbrev pub GraphTakes : Members → Type 0
+GraphTakes ms =
+    StepsTake block_step BlockTakes 0 empty (items_at ms keys.Block)
+    ⊎ IsOkAnd (steps block_step 0 empty (items_at ms keys.Block)) (λ d. StepsTake (connect_step (items_at ms keys.Block)) (ConnectTakes (items_at ms keys.Block)) 0 d (items_at ms keys.Connect))
+
+-- the same of a feed, behind a graph that is taken
+abbrev pub FeedsTake : Members → Type 0
+FeedsTake ms = IsOk (graph_in ms) × StepsTake feed_step FeedTakes 0 [] (items_at ms keys.Feed)
+
+-- of a document, with whose own keys nothing is wrong
+abbrev pub FileTakes : Members → Type 0
+FileTakes ms = (only_fault (has_only top_keys ms) (keys_fault ms top_keys) ≡ None) × (GraphTakes ms ⊎ FeedsTake ms)

@@ -16,7 +16,7 @@ use Rattle.plant.specs.Plant.{PlantState}
 use Rattle.plant.specs.Feeding.{feed_numbers}
 use Rattle.graph_file.specs.declared.fault.Place.TheVariants.{Top}
 use Rattle.graph_file.specs.declared.feed.FileMark.{FileMark}
-use Rattle.graph_file.specs.Refusals.{Refusal, of_graph, of_feed}
+use Rattle.graph_file.specs.Refusals.{Refusal, of_graph, of_feed, short}
 use Rattle.graph_file.specs.Steps.{then}
 use Rattle.graph_file.specs.Blocks.{Draft, drafted}
 use Rattle.graph_file.specs.Feeds.{Fed}
@@ -48,7 +48,7 @@ name_at names (Some b) = slice_index_or names b.0 []
 -- a graph, unless something is wrong with it as a whole
 abbrev pub unless_wrong : Draft → Option GraphFault → Result Draft Refusal
 unless_wrong d None = Ok d
-unless_wrong d (Some fault) = Err (of_graph Top fault (name_at d.names (named_block fault)))
+unless_wrong d (Some fault) = Err (of_graph Top fault (short (name_at d.names (named_block fault))))
 
 -- a valid graph, or what is wrong with it
 abbrev pub validated : Draft → Result Draft Refusal

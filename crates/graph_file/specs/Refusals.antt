@@ -1,5 +1,5 @@
 -- Why a graph file is refused.
-use Rattle.std.specs.Prelude.{◌≡◌, ℕ, ℤ, List, Option, Some, None, Result, Err, string_bytes}
+use Rattle.std.specs.Prelude.{◌≡◌, ℕ, ℤ, List, [], length, nat_le, if◌then◌else◌, Option, Some, None, Result, Err, string_bytes}
 use Rattle.flowgraph.specs.declared.fault.GraphFault as graph_fault
 use Rattle.flowgraph.specs.Fault as graph_faults
 use Rattle.flowgraph.specs.declared.fault.Side.{Side}
@@ -9,6 +9,8 @@ use Rattle.plant.specs.declared.fault.PlantFault.{PlantFault}
 use Rattle.plant.specs.declared.fault.PlantFault.TheVariants as plant
 use Rattle.plant.specs.Fault.{number_of as feed_number}
 use Rattle.graph_file.specs.declared.fault.Place.{Place}
+use Rattle.graph_file.specs.declared.fault.EndName.{EndName}
+use Rattle.graph_file.specs.declared.fault.EndName.TheVariants as ends
 use Rattle.graph_file.specs.declared.fault.FileFault.{FileFault}
 use Rattle.graph_file.specs.declared.fault.FileFault.TheVariants as file
 
@@ -21,12 +23,21 @@ pub data Refusal : Type 0 where
   negative_port : List ℕ → Side → ℤ → Refusal
   of_feed : ℕ → ℕ → Refusal
 
+-- a block's name has at most 32 bytes; a longer text is none, and is not told
+abbrev pub short : List ℕ → List ℕ
+short name = if nat_le (length name) 32 then name else []
+
+-- the name at an end of a connection, as the file says it
+abbrev pub end_text : EndName → List ℕ
+end_text (ends.Short name) = name.bytes
+end_text (ends.Long name) = string_bytes name
+
 -- the refusal that a fault reports; none for want of memory
 abbrev pub told : FileFault → Option Refusal
 told file.Syntax = Some syntax
 told (file.Table place fault) = Some (at_table place fault)
-told (file.Graph place fault name) = Some (of_graph place fault (string_bytes name))
-told (file.NegativePort name side port) = Some (negative_port (string_bytes name) side port)
+told (file.Graph place fault name) = Some (of_graph place fault name.bytes)
+told (file.NegativePort name side port) = Some (negative_port (end_text name) side port)
 told (file.Feed n fault) = Some (of_feed n (feed_number fault))
 told file.Memory = None
 

@@ -1,5 +1,5 @@
 -- How refusals print: their number, their name, and what the name alone does not say.
-use Rattle.std.specs.Prelude.{ℕ, List, ◌++◌, codes, string_bytes}
+use Rattle.std.specs.Prelude.{ℕ, List, ◌++◌, codes}
 use Rattle.std.specs.Fmt.{decimal, signed_decimal}
 use Rattle.flowgraph.specs.declared.fault.GraphFault.{GraphFault}
 use Rattle.flowgraph.specs.declared.fault.GraphFault.TheVariants as graph
@@ -15,6 +15,7 @@ use Rattle.graph_file.specs.declared.fault.Place.{Place}
 use Rattle.graph_file.specs.declared.fault.Place.TheVariants.{Top, Block, Connect, Feed}
 use Rattle.graph_file.specs.declared.fault.FileFault.{FileFault}
 use Rattle.graph_file.specs.declared.fault.FileFault.TheVariants as file
+use Rattle.graph_file.specs.Refusals.{end_text}
 
 -- the words for places
 abbrev pub place_text : Place → List ℕ
@@ -68,7 +69,7 @@ feed_fault_text plant.Memory = codes "Memory"
 abbrev pub fault_text : FileFault → List ℕ
 fault_text file.Syntax = codes "40 Syntax"
 fault_text (file.Table place fault) = table_text place fault
-fault_text (file.Graph place fault name) = graph_text place fault (string_bytes name)
-fault_text (file.NegativePort name side port) = codes "3 PortRange " ++ string_bytes name ++ codes " " ++ side_text side ++ codes " " ++ signed_decimal port
+fault_text (file.Graph place fault name) = graph_text place fault name.bytes
+fault_text (file.NegativePort name side port) = codes "3 PortRange " ++ end_text name ++ codes " " ++ side_text side ++ codes " " ++ signed_decimal port
 fault_text (file.Feed n fault) = decimal (feed_number fault) ++ codes " " ++ feed_fault_text fault ++ codes " feed " ++ decimal n
 fault_text file.Memory = codes "32 Memory"

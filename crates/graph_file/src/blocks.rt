@@ -1,12 +1,12 @@
 //! The blocks of a graph file.
-ghost use Rattle.std.specs.Prelude.{◌≡◌, Ok, OnOk, IfErr};
+ghost use Rattle.std.specs.Prelude.{◌≡◌, Ok, OnOk, IfErr, IsErrOf};
 ghost use Rattle.toml.specs.Data.{as_table};
 ghost use Rattle.toml.specs.View.{view, table_view, items_view};
 ghost use Rattle.kind_keys.specs.Tables.{at_key, string_in};
 ghost use Rattle.kind_keys.specs.declared.key.Key.TheVariants as keys;
 ghost use Rattle.graph_file.specs.Refusals.{IsRefused};
-ghost use Rattle.graph_file.specs.Steps.{steps, step_in};
-ghost use Rattle.graph_file.specs.Blocks.{drafted, block_step, policy_in};
+ghost use Rattle.graph_file.specs.Steps.{steps, step_in, StepsTake, TakesIn};
+ghost use Rattle.graph_file.specs.Blocks.{drafted, block_step, policy_in, BlockTakes};
 
 use crate::fault::{FileFault, Place, graph_fault, table_fault};
 use flowgraph::{Graph, Options, Policy};
@@ -24,6 +24,7 @@ pub(crate) fn add_blocks(
 ) -> Result<(), FileFault>
     ensures ok { OnOk result (steps block_step 0 (drafted graph.old) (items_view values.now) ≡ Ok (drafted graph.new)) }
     ensures refused { IfErr result (IsRefused (steps block_step 0 (drafted graph.old) (items_view values.now))) }
+    ensures memory { IsErrOf result FileFault.Memory → StepsTake block_step BlockTakes 0 (drafted graph.old) (items_view values.now) }
 {
     for (number, value) in values.iter().enumerate() {
         if let Err(fault) = add_value(alloc, graph, number, value) {
@@ -42,6 +43,7 @@ fn add_value(
 ) -> Result<(), FileFault>
     ensures ok { OnOk result (step_in block_step number (drafted graph.old) (as_table (view value.now)) ≡ Ok (drafted graph.new)) }
     ensures refused { IfErr result (IsRefused (step_in block_step number (drafted graph.old) (as_table (view value.now)))) }
+    ensures memory { IsErrOf result FileFault.Memory → TakesIn BlockTakes number (drafted graph.old) (as_table (view value.now)) }
 {
     match value.as_table() {
         Some(table) => add_block(alloc, graph, number, table),
@@ -58,6 +60,7 @@ fn add_block(
 ) -> Result<(), FileFault>
     ensures ok { OnOk result (block_step number (drafted graph.old) (table_view table.now) ≡ Ok (drafted graph.new)) }
     ensures refused { IfErr result (IsRefused (block_step number (drafted graph.old) (table_view table.now))) }
+    ensures memory { IsErrOf result FileFault.Memory → BlockTakes number (drafted graph.old) (table_view table.now) }
 {
     let place = Place::Block(number);
     let block = match read_kind(alloc, table) {
@@ -72,7 +75,7 @@ fn add_block(
     };
     match graph.add_block(alloc, name.as_bytes(), block, options) {
         Ok(_) => Ok(()),
-        Err(fault) => Err(graph_fault(alloc, place, fault, name)),
+        Err(fault) => Err(graph_fault(place, fault, name)),
     }
 }
 

@@ -1,11 +1,11 @@
 //! The connections of a graph file.
-ghost use Rattle.std.specs.Prelude.{◌≡◌, Ok, OnOk, IfErr, option_map};
+ghost use Rattle.std.specs.Prelude.{◌≡◌, Ok, IsOk, OnOk, IfErr, IsErrOf, option_map};
 ghost use Rattle.toml.specs.Data.{as_table};
 ghost use Rattle.toml.specs.View.{view, table_view, items_view};
 ghost use Rattle.graph_file.specs.Refusals.{IsRefused};
-ghost use Rattle.graph_file.specs.Steps.{steps, step_in};
+ghost use Rattle.graph_file.specs.Steps.{steps, step_in, StepsTake, TakesIn};
 ghost use Rattle.graph_file.specs.Blocks.{drafted};
-ghost use Rattle.graph_file.specs.Connections.{connect_step, joined, number_from, name_in, end_named};
+ghost use Rattle.graph_file.specs.Connections.{connect_step, joined, number_from, name_in, end_named, ConnectTakes};
 
 use crate::fault::{FileFault, Place, graph_fault, port_fault, table_fault};
 use crate::only::only_fault;
@@ -25,6 +25,7 @@ pub(crate) fn add_connections(
 ) -> Result<(), FileFault>
     ensures ok { OnOk result (steps (connect_step (items_view blocks.now)) 0 (drafted graph.old) (items_view values.now) ≡ Ok (drafted graph.new)) }
     ensures refused { IfErr result (IsRefused (steps (connect_step (items_view blocks.now)) 0 (drafted graph.old) (items_view values.now))) }
+    ensures memory { IsErrOf result FileFault.Memory → StepsTake (connect_step (items_view blocks.now)) (ConnectTakes (items_view blocks.now)) 0 (drafted graph.old) (items_view values.now) }
 {
     for (number, value) in values.iter().enumerate() {
         if let Err(fault) = connect_value(alloc, graph, blocks, number, value) {
@@ -44,6 +45,7 @@ fn connect_value(
 ) -> Result<(), FileFault>
     ensures ok { OnOk result (step_in (connect_step (items_view blocks.now)) number (drafted graph.old) (as_table (view value.now)) ≡ Ok (drafted graph.new)) }
     ensures refused { IfErr result (IsRefused (step_in (connect_step (items_view blocks.now)) number (drafted graph.old) (as_table (view value.now)))) }
+    ensures memory { IsErrOf result FileFault.Memory → TakesIn (ConnectTakes (items_view blocks.now)) number (drafted graph.old) (as_table (view value.now)) }
 {
     match value.as_table() {
         Some(table) => connect(alloc, graph, blocks, number, table),
@@ -61,6 +63,7 @@ fn connect(
 ) -> Result<(), FileFault>
     ensures ok { OnOk result (connect_step (items_view blocks.now) number (drafted graph.old) (table_view table.now) ≡ Ok (drafted graph.new)) }
     ensures refused { IfErr result (IsRefused (connect_step (items_view blocks.now) number (drafted graph.old) (table_view table.now))) }
+    ensures memory { IsErrOf result FileFault.Memory → ConnectTakes (items_view blocks.now) number (drafted graph.old) (table_view table.now) }
 {
     let place = Place::Connect(number);
     let known = [Key::From, Key::To, Key::FromPort, Key::ToPort];
@@ -80,14 +83,13 @@ fn connect(
         return Err(port_fault(alloc, to, Side::In, in_port));
     }
     let (Some(from), Some(to)) = (block_named(blocks, from), block_named(blocks, to)) else {
-        return Err(graph_fault(alloc, place, GraphFault::UnknownBlock, ""));
+        return Err(graph_fault(place, GraphFault::UnknownBlock, ""));
     };
-    join(alloc, graph, number, table, from, to)
+    join(graph, number, table, from, to)
 }
 
 // Connects two blocks by the ports of a table.
 fn join(
-    alloc: Global,
     graph: &mut Graph<Kind>,
     number: usize,
     table: &Table,
@@ -96,6 +98,7 @@ fn join(
 ) -> Result<(), FileFault>
     ensures ok { OnOk result (joined number (drafted graph.old) (table_view table.now) from to ≡ Ok (drafted graph.new)) }
     ensures refused { IfErr result (IsRefused (joined number (drafted graph.old) (table_view table.now) from to)) }
+    ensures memory { IsErrOf result FileFault.Memory → IsOk (joined number (drafted graph.old) (table_view table.now) from to) }
 {
     let out_port = count_at(table, Key::FromPort) as usize;
     let in_port = count_at(table, Key::ToPort) as usize;
@@ -103,7 +106,7 @@ fn join(
         Ok(()) => Ok(()),
         Err(fault) => {
             let name = end_named(table, fault);
-            Err(graph_fault(alloc, Place::Connect(number), fault, name))
+            Err(graph_fault(Place::Connect(number), fault, name))
         }
     }
 }

@@ -1,10 +1,11 @@
 //! Why a graph file is refused.
-ghost use Rattle.std.specs.Prelude.{◌≡◌, ◌⊎◌, None, Some};
+ghost use Rattle.std.specs.Prelude.{◌≡◌, ◌↔◌, ◌⊎◌, ◌<◌, length, None, Some};
 ghost use Rattle.graph_file.specs.declared.fault.FileFault.TheVariants.{Memory};
-ghost use Rattle.graph_file.specs.Refusals.{told, told_table, told_feed, of_graph, negative_port};
+ghost use Rattle.graph_file.specs.Refusals.{told, told_table, told_feed, of_graph, negative_port, short, end_text};
 ghost use Rattle.graph_file.specs.Texts as texts;
 
 use crate::texts::{GraphText, TableText, feed_fault_text};
+use arrayvec::ArrayString;
 use flowgraph::{GraphFault, Side};
 use kind_keys::KeyFault;
 use plant::PlantFault;
@@ -21,6 +22,13 @@ pub enum Place {
     Feed(usize),
 }
 
+/// The text at an end of a connection. One that may be the name of a block is held without memory.
+#[derive(Debug, Drop)]
+pub enum EndName {
+    Short(ArrayString<32>),
+    Long(String),
+}
+
 /// Why a graph file is refused. Its text is the number of the refusal, its name, and what the name alone does not say.
 #[derive(Debug, Drop, Error)]
 pub enum FileFault {
@@ -35,11 +43,11 @@ pub enum FileFault {
     Graph {
         place: Place,
         fault: GraphFault,
-        name: String,
+        name: ArrayString<32>,
     },
     /// A port of a connection is negative.
     NegativePort {
-        name: String,
+        name: EndName,
         side: Side,
         port: i64,
     },
@@ -95,7 +103,8 @@ impl<T: Drop> From<AllocFailed<T>> for FileFault {
 
 /// What a fault of a table is reported as.
 pub(crate) fn table_fault(place: Place, fault: KeyFault) -> FileFault
-    ensures { told result ≡ told_table place fault }
+    ensures told { told result ≡ told_table place fault }
+    ensures memory { (result ≡ FileFault.Memory) ↔ (fault ≡ KeyFault.Memory) }
 {
     match fault {
         KeyFault::Memory => FileFault::Memory,
@@ -105,7 +114,8 @@ pub(crate) fn table_fault(place: Place, fault: KeyFault) -> FileFault
 
 /// What a refusal of a feed, counted from 0, is reported as.
 pub(crate) fn feed_fault(feed: usize, fault: PlantFault) -> FileFault
-    ensures { told result ≡ told_feed feed fault }
+    ensures told { told result ≡ told_feed feed fault }
+    ensures memory { (result ≡ FileFault.Memory) ↔ (fault ≡ PlantFault.Memory) }
 {
     match fault {
         PlantFault::Memory => FileFault::Memory,
@@ -114,25 +124,35 @@ pub(crate) fn feed_fault(feed: usize, fault: PlantFault) -> FileFault
 }
 
 /// What a fault of the graph is reported as, where it names a block of this name.
-pub(crate) fn graph_fault(alloc: Global, place: Place, fault: GraphFault, name: &str) -> FileFault
-    ensures memory { fault ≡ GraphFault.Memory → told result ≡ None }
-    ensures named { (told result ≡ None) ⊎ (told result ≡ Some (of_graph place fault name.now)) }
+pub(crate) fn graph_fault(place: Place, fault: GraphFault, name: &str) -> FileFault
+    ensures memory { (result ≡ FileFault.Memory) ↔ (fault ≡ GraphFault.Memory) }
+    ensures named { (told result ≡ None) ⊎ (told result ≡ Some (of_graph place fault (short name.now))) }
 {
     if let GraphFault::Memory = fault {
         return FileFault::Memory;
     }
-    match String::from_str(alloc, name) {
-        Ok(name) => FileFault::Graph { place, fault, name },
-        Err(_) => FileFault::Memory,
-    }
+    let name = match ArrayString::from(name) {
+        Ok(name) => name,
+        Err(_) => ArrayString::new(),
+    };
+    FileFault::Graph { place, fault, name }
 }
 
 /// The refusal of a negative port of the block of this name.
 pub(crate) fn port_fault(alloc: Global, name: &str, side: Side, port: i64) -> FileFault
-    ensures { (told result ≡ None) ⊎ (told result ≡ Some (negative_port name.now side port)) }
+    ensures told { (told result ≡ None) ⊎ (told result ≡ Some (negative_port name.now side port)) }
+    ensures memory { told result ≡ None → 32 < length name.now }
 {
+    if let Ok(short) = ArrayString::from(name) {
+        let name = EndName::Short(short);
+        return FileFault::NegativePort { name, side, port };
+    }
     match String::from_str(alloc, name) {
-        Ok(name) => FileFault::NegativePort { name, side, port },
+        Ok(long) => FileFault::NegativePort {
+            name: EndName::Long(long),
+            side,
+            port,
+        },
         Err(_) => FileFault::Memory,
     }
 }
@@ -146,6 +166,17 @@ impl fmt::Display for Place {
             Place::Block(number) => write!(f, "block {number}"),
             Place::Connect(number) => write!(f, "connect {number}"),
             Place::Feed(number) => write!(f, "feed {number}"),
+        }
+    }
+}
+
+impl fmt::Display for EndName {
+    ghost output = { λ name. Some (end_text name) };
+
+    fn fmt<W: fmt::Write>(&self, f: &mut fmt::Formatter<W>) -> fmt::Result {
+        match self {
+            EndName::Short(name) => write!(f, "{name}"),
+            EndName::Long(name) => write!(f, "{name}"),
         }
     }
 }

@@ -1,10 +1,10 @@
 //! The feeds of a graph file.
-ghost use Rattle.std.specs.Prelude.{◌≡◌, Ok, Some, [], map, IfOk, OnOk, IfErr, option_map};
+ghost use Rattle.std.specs.Prelude.{◌≡◌, ◌↔◌, IsTrue, Ok, IsOk, IsErrOf, Some, IsSome, [], map, IfOk, OnOk, IfErr, OnErr, option_map};
 ghost use Rattle.toml.specs.Data.{as_table};
 ghost use Rattle.toml.specs.View.{view, table_view, items_view};
 ghost use Rattle.graph_file.specs.Refusals.{IsRefused};
-ghost use Rattle.graph_file.specs.Steps.{steps, step_in};
-ghost use Rattle.graph_file.specs.Feeds.{Fed, fed, feed_step, feed_in, mark_in, marks_of};
+ghost use Rattle.graph_file.specs.Steps.{steps, step_in, StepsTake, TakesIn};
+ghost use Rattle.graph_file.specs.Feeds.{Fed, fed, feed_step, feed_in, mark_in, marks_of, FeedTakes};
 ghost use Rattle.graph_file.specs.Names.{tag_key_of};
 
 use crate::fault::{FileFault, Place, table_fault};
@@ -20,6 +20,7 @@ use toml::{Table, Value};
 pub(crate) fn read_feeds(alloc: Global, values: &[Value]) -> Result<Vec<Feed>, FileFault>
     ensures ok { IfOk result (λ feeds. steps feed_step 0 [] (items_view values.now) ≡ Ok (map fed feeds.items)) }
     ensures refused { IfErr result (IsRefused (steps feed_step 0 [] (items_view values.now))) }
+    ensures memory { IsErrOf result FileFault.Memory → StepsTake feed_step FeedTakes 0 [] (items_view values.now) }
 {
     let mut feeds = Vec::new(alloc);
     for (number, value) in values.iter().enumerate() {
@@ -39,6 +40,7 @@ fn add_value(
 ) -> Result<(), FileFault>
     ensures ok { OnOk result (step_in feed_step number (map fed feeds.old.items) (as_table (view value.now)) ≡ Ok (map fed feeds.new.items)) }
     ensures refused { IfErr result (IsRefused (step_in feed_step number (map fed feeds.old.items) (as_table (view value.now)))) }
+    ensures memory { IsErrOf result FileFault.Memory → TakesIn FeedTakes number (map fed feeds.old.items) (as_table (view value.now)) }
 {
     match value.as_table() {
         Some(table) => add_feed(alloc, feeds, number, table),
@@ -55,6 +57,7 @@ fn add_feed(
 ) -> Result<(), FileFault>
     ensures ok { OnOk result (feed_step number (map fed feeds.old.items) (table_view table.now) ≡ Ok (map fed feeds.new.items)) }
     ensures refused { IfErr result (IsRefused (feed_step number (map fed feeds.old.items) (table_view table.now))) }
+    ensures memory { IsErrOf result FileFault.Memory → FeedTakes number (map fed feeds.old.items) (table_view table.now) }
 {
     match read_feed(alloc, number, table) {
         Ok(feed) => Ok(feeds.push(feed)?),
@@ -66,6 +69,7 @@ fn add_feed(
 fn read_feed(alloc: Global, number: usize, table: &Table) -> Result<Feed, FileFault>
     ensures ok { IfOk result (λ feed. feed_in number (table_view table.now) ≡ Ok (fed feed)) }
     ensures refused { IfErr result (IsRefused (feed_in number (table_view table.now))) }
+    ensures memory { IsErrOf result FileFault.Memory → IsOk (feed_in number (table_view table.now)) }
 {
     let place = Place::Feed(number);
     let keys = [Key::Source, Key::Items, Key::Marks];
@@ -82,18 +86,33 @@ fn read_feed(alloc: Global, number: usize, table: &Table) -> Result<Feed, FileFa
     })
 }
 
-// The tags of an array, or `None` where one is none.
+// The tags of an array, or `None` where one is none. Memory is asked for only where each is one.
 fn read_marks(alloc: Global, values: &[Value]) -> Result<Option<Vec<FileMark>>, AllocError>
-    ensures { IfOk result (λ marks. option_map (λ v. v.items) marks ≡ marks_of (items_view values.now)) }
+    ensures ok { IfOk result (λ marks. option_map (λ v. v.items) marks ≡ marks_of (items_view values.now)) }
+    ensures memory { OnErr result (IsSome (marks_of (items_view values.now))) }
 {
-    let mut marks = Vec::new(alloc);
+    if !are_marks(values) {
+        return Ok(None);
+    }
+    let mut marks = Vec::with_capacity(alloc, values.len())?;
     for value in values {
         match read_mark(value) {
-            Some(mark) => marks.push(mark)?,
+            Some(mark) => marks.push_reserved(mark),
             None => return Ok(None),
         }
     }
     Ok(Some(marks))
+}
+
+fn are_marks(values: &[Value]) -> bool
+    ensures { IsTrue result ↔ IsSome (marks_of (items_view values.now)) }
+{
+    for value in values {
+        if read_mark(value).is_none() {
+            return false;
+        }
+    }
+    true
 }
 
 // The tag of a table, where it is one.

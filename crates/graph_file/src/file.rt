@@ -1,10 +1,11 @@
 //! A graph file, read.
 ghost use Rattle.std.specs.Prelude.{◌≡◌, Ok, Some, IfOk, OnOk, IfErr, IsUtf8, IsErrOf};
 ghost use Rattle.toml.specs.Parse.{parse_document};
+ghost use Rattle.toml.specs.Errors.{IsBlank};
 ghost use Rattle.toml.specs.View.{table_view};
 ghost use Rattle.graph_file.specs.Refusals.{IsRefused};
 ghost use Rattle.graph_file.specs.Blocks.{drafted};
-ghost use Rattle.graph_file.specs.File.{file_of, file_in, graph_in, seen};
+ghost use Rattle.graph_file.specs.File.{file_of, file_in, graph_in, seen, GraphTakes, FileTakes};
 
 use crate::blocks::add_blocks;
 use crate::connections::add_connections;
@@ -32,6 +33,7 @@ pub fn read_graph(alloc: Global, text: &[u8]) -> Result<File, FileFault>
     ensures ok { IfOk result (λ file. IsUtf8 text.now × (file_of (parse_document text.now) ≡ Ok (seen file))) }
     ensures refused { IsUtf8 text.now → IfErr result (IsRefused (file_of (parse_document text.now))) }
     ensures encoding { ¬ (IsUtf8 text.now) → IsErrOf result FileFault.Syntax }
+    ensures memory { IsErrOf result FileFault.Memory → ¬ IsBlank text.now }
 {
     let Ok(text) = std::str::from_utf8(text) else {
         return Err(FileFault::Syntax);
@@ -47,6 +49,7 @@ pub fn read_graph(alloc: Global, text: &[u8]) -> Result<File, FileFault>
 fn file_of(alloc: Global, table: &Table) -> Result<File, FileFault>
     ensures ok { IfOk result (λ file. file_in (table_view table.now) ≡ Ok (seen file)) }
     ensures refused { IfErr result (IsRefused (file_in (table_view table.now))) }
+    ensures memory { IsErrOf result FileFault.Memory → FileTakes (table_view table.now) }
 {
     let keys = [Key::Block, Key::Connect, Key::Feed];
     if let Some(fault) = only_fault(table, &keys, &keys) {
@@ -66,6 +69,7 @@ fn file_of(alloc: Global, table: &Table) -> Result<File, FileFault>
 fn graph_of(alloc: Global, table: &Table) -> Result<Graph<Kind>, FileFault>
     ensures ok { IfOk result (λ graph. graph_in (table_view table.now) ≡ Ok (drafted graph)) }
     ensures refused { IfErr result (IsRefused (graph_in (table_view table.now))) }
+    ensures memory { IsErrOf result FileFault.Memory → GraphTakes (table_view table.now) }
 {
     let blocks = values_at(table, Key::Block);
     let mut graph = Graph::new(alloc);

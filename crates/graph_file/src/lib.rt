@@ -11,6 +11,6 @@ mod only;
 mod opening;
 mod texts;
 
-pub use fault::{FileFault, Place};
+pub use fault::{EndName, FileFault, Place};
 pub use feed::{Feed, FileMark};
 pub use file::{File, read_graph};

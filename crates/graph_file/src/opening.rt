@@ -1,6 +1,6 @@
 //! From a graph file to a plant that is fed.
 
-ghost use Rattle.std.specs.Prelude.{◌≡◌, ◌≢◌, Ok, Some, IfOk, IfErr, OnOk, map};
+ghost use Rattle.std.specs.Prelude.{◌≡◌, ◌≢◌, ◌↔◌, Ok, Some, IfOk, IfErr, OnOk, IsErrOf, IsSome, position, bytes_eq, map};
 ghost use Rattle.graph_model.specs.Graphs as graph_model;
 ghost use Rattle.flowgraph.specs.declared.fault.Limit.TheVariants.{Blocks};
 ghost use Rattle.flowgraph.specs.Fault.{told};
@@ -31,7 +31,7 @@ impl File {
     {
         match self.graph.validate(alloc) {
             Ok(valid) => Ok((valid, self.feeds)),
-            Err((graph, fault)) => Err(invalid(alloc, &graph, fault)),
+            Err((graph, fault)) => Err(invalid(&graph, fault)),
         }
     }
 
@@ -70,15 +70,16 @@ fn plant_of(alloc: Global, graph: Valid<Kind>) -> Result<Plant<Kind>, FileFault>
 }
 
 // The refusal of a graph, with the name of the block that it tells of.
-fn invalid(alloc: Global, graph: &Graph<Kind>, fault: GraphFault) -> FileFault
+fn invalid(graph: &Graph<Kind>, fault: GraphFault) -> FileFault
     requires { fault ≢ GraphFault.Memory → told Blocks (graph_model.graph_fault (drafted graph.now).net) ≡ Some fault }
-    ensures { IsRefused (validated (drafted graph.now)) result }
+    ensures refused { IsRefused (validated (drafted graph.now)) result }
+    ensures memory { (result ≡ FileFault.Memory) ↔ (fault ≡ GraphFault.Memory) }
 {
     let Some(block) = named_block(fault) else {
         return FileFault::Memory;
     };
     match std::str::from_utf8(graph.name(block)) {
-        Ok(name) => graph_fault(alloc, Place::Top, fault, name),
+        Ok(name) => graph_fault(Place::Top, fault, name),
         // (the name of a block is ASCII)
         Err(_) => unreachable!(),
     }
@@ -122,6 +123,7 @@ fn take_feed(
     ensures ok { OnOk result (after_feed number (feed_now (drafted plant.old.graph) plant.old.state (fed feed.now)) ≡ Ok plant.new.state) }
     ensures rest { OnOk result (plant.new ≡ record plant.old { state = plant.new.state }) }
     ensures refused { IfErr result (IsRefused (after_feed number (feed_now (drafted plant.old.graph) plant.old.state (fed feed.now)))) }
+    ensures memory { IsErrOf result FileFault.Memory → IsSome (position (bytes_eq (fed feed.now).source) (drafted plant.old.graph).names) }
 {
     let Some(source) = plant.graph().find(&feed.source) else {
         return Err(feed_fault(number, PlantFault::NoSuchBlock));

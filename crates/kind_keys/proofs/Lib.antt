@@ -1,3 +1,4 @@
 pub mod Values
 pub mod Tests
 pub mod Makers
+pub mod Faults

@@ -1,5 +1,5 @@
 -- Arrays and tables, item by item and key by key.
-use Rattle.std.proofs.Common.{◌≡◌, ℕ, ◌+◌, ◌<◌, ℤ, pos, Bool, true, false, ◌&&◌, List, [], ◌∷◌, ◌++◌, length, get_or, drop, String, Global, string_bytes, refl, ap, sym, ◌∙◌, append_assoc}
+use Rattle.std.proofs.Common.{◌≡◌, ℕ, zero, suc, ◌+◌, ◌<◌, ℤ, pos, Bool, true, false, ◌&&◌, List, [], ◌∷◌, ◌++◌, length, get_or, drop, take, String, Global, string_bytes, refl, ap, sym, ◌∙◌, append_assoc}
 use Rattle.std.specs.List.{list_all}
 use Rattle.std.specs.Map.{keys_of}
 use Rattle.toml.specs.Data.{Data, as_integer}
@@ -31,6 +31,12 @@ numbers_pass vs i v ns ms h is so_far more =
     let turn : numbers_of (items_view (drop i vs)) ≡ integer_or (pos 0) (as_integer (view v)) ∷ rest =
     ap numbers_of (items_view-drop vs i v h) ∙ ap (λ w. integer_or (pos 0) (as_integer (view w)) ∷ rest) (sym is) in
     ap (λ xs. xs ++ rest) more ∙ append_assoc ns (integer_or (pos 0) (as_integer (view v)) ∷ []) rest ∙ ap (λ xs. ns ++ xs) (sym turn) ∙ so_far
+
+-- the first numbers of an array
+pub numbers_of-take : (n : ℕ) (vs : List Value) → numbers_of (items_view (take n vs)) ≡ take n (numbers_of (items_view vs))
+numbers_of-take zero vs = refl
+numbers_of-take (suc n) [] = refl
+numbers_of-take (suc n) (v ∷ vs) = ap (λ ns. integer_or (pos 0) (as_integer (view v)) ∷ ns) (numbers_of-take n vs)
 
 -- the keys of a table's entries are those of its members
 pub only_known : (keys : List Key) (es : List (String Global × Value)) → list_all (λ text. is_known keys (string_bytes text)) (keys_of es) ≡ has_only keys (members_view es)

@@ -135,6 +135,13 @@ keys_of kinds.Head = keys_with parameters.N
 keys_of kinds.SkipHead = keys_with parameters.N
 keys_of kinds.Delay = keys_with parameters.N
 
+-- whether a block of the kind keeps a list of its table, for which it takes memory
+abbrev pub keeps_list : KindName → Bool
+keeps_list kinds.MapBb = true
+keeps_list kinds.Fir = true
+keeps_list kinds.InterpFir = true
+keeps_list _ = false
+
 -- tests of parameters
 abbrev pub is_in : ItemType → ℤ → Bool
 is_in t z = int_le (least_of t) z && int_le z (greatest_of t)

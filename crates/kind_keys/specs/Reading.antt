@@ -1,5 +1,5 @@
 -- The block that a table means, or the first thing that is wrong with it.
-use Rattle.std.specs.Prelude.{◌≡◌, ℕ, Option, Some, None, Result, Ok, Err, Bool, true, false}
+use Rattle.std.specs.Prelude.{◌≡◌, ℕ, Option, Some, None, Result, Ok, Err, is_ok, Bool, true, false, ◌&&◌}
 use Rattle.toml.specs.Data.{Members}
 use Rattle.stream_model.specs.Meaning.{Meaning}
 use Rattle.block_kinds.specs.declared.fault.Parameter.{Parameter}
@@ -12,26 +12,26 @@ use Rattle.kind_keys.specs.declared.kind_name.KindName.{KindName}
 use Rattle.kind_keys.specs.declared.fault.KeyFault.{KeyFault}
 use Rattle.kind_keys.specs.declared.fault.KeyFault.TheVariants.{UnknownKey, MissingKey, WrongType, UnknownKind, BadParameter, Memory}
 use Rattle.kind_keys.specs.Tables.{text_at, small_at, count_at, key_fault, keys_fault, has_only}
-use Rattle.kind_keys.specs.Kinds.{kind_named, keys_of, made, registered, parameter}
+use Rattle.kind_keys.specs.Kinds.{kind_named, keys_of, keeps_list, made, registered, parameter}
 
 -- a fault of a maker as one of a table
 abbrev pub carried : ParamFault → KeyFault
 carried (param.BadParameter p) = BadParameter p
 carried param.Memory = Memory
 
--- what was refused, but for want of memory
-abbrev pub IsBad : Result Meaning Parameter → ParamFault → Type 0
-IsBad r (param.BadParameter p) = r ≡ Err p
-IsBad r param.Memory = Unit {0}
+-- a fault names the bad parameter; or memory ran out, of a kind that takes some, for a block without a bad one
+abbrev pub IsBad : Bool → Result Meaning Parameter → ParamFault → Type 0
+IsBad takes r (param.BadParameter p) = r ≡ Err p
+IsBad takes r param.Memory = (takes && is_ok r) ≡ true
 
--- the same of a table
-abbrev pub IsRefused : {A : Type 0} → Result A KeyFault → KeyFault → Type 0
-IsRefused r UnknownKey = r ≡ Err UnknownKey
-IsRefused r (MissingKey k) = r ≡ Err (MissingKey k)
-IsRefused r (WrongType k) = r ≡ Err (WrongType k)
-IsRefused r UnknownKind = r ≡ Err UnknownKind
-IsRefused r (BadParameter p) = r ≡ Err (BadParameter p)
-IsRefused r Memory = Unit {0}
+-- a fault is what is wrong with a table; or memory ran out, where making the block takes some
+abbrev pub IsRefused : {A : Type 0} → Bool → Result A KeyFault → KeyFault → Type 0
+IsRefused takes r UnknownKey = r ≡ Err UnknownKey
+IsRefused takes r (MissingKey k) = r ≡ Err (MissingKey k)
+IsRefused takes r (WrongType k) = r ≡ Err (WrongType k)
+IsRefused takes r UnknownKind = r ≡ Err UnknownKind
+IsRefused takes r (BadParameter p) = r ≡ Err (BadParameter p)
+IsRefused takes r Memory = takes ≡ true
 
 -- the registers of a table's parameters, and what is wrong with them
 abbrev pub bits_at : Members → ℕ
@@ -47,7 +47,7 @@ abbrev pub IsRegisterOf : Members → Register → Type 0
 IsRegisterOf ms r = (meant : ℕ → ℕ → ℕ → Meaning) → registered meant (bits_at ms) (mask_at ms) (init_at ms) ≡ Ok (meant r.bits r.mask r.init)
 
 abbrev pub IsBadRegister : Members → ParamFault → Type 0
-IsBadRegister ms fault = (meant : ℕ → ℕ → ℕ → Meaning) → IsBad (registered meant (bits_at ms) (mask_at ms) (init_at ms)) fault
+IsBadRegister ms fault = (meant : ℕ → ℕ → ℕ → Meaning) → IsBad false (registered meant (bits_at ms) (mask_at ms) (init_at ms)) fault
 
 -- what follows, where there is no fault
 abbrev pub unless : {A : Type 0} → Option KeyFault → Result A KeyFault → Result A KeyFault
@@ -81,3 +81,12 @@ block_at (Err fault) ms = Err fault
 -- the same, of a table
 abbrev pub block_in : Members → Result Meaning KeyFault
 block_in ms = block_at (tested ms) ms
+
+-- whether making the block of a table takes memory: nothing is wrong with the table, and its kind keeps a list
+abbrev pub block_takes : Result KindName KeyFault → Members → Bool
+block_takes (Ok kind) ms = keeps_list kind && is_ok (made kind ms)
+block_takes (Err fault) ms = false
+
+-- the same, of a table
+abbrev pub takes_memory : Members → Bool
+takes_memory ms = block_takes (tested ms) ms

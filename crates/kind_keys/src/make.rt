@@ -1,8 +1,8 @@
 //! The block that a kind makes of the parameters of a table.
-ghost use Rattle.std.specs.Prelude.{◌≡◌, Ok, Some, None, IfOk, IfErr};
+ghost use Rattle.std.specs.Prelude.{◌≡◌, Ok, Some, None, IfOk, IfErr, true, false, take};
 ghost use Rattle.toml.specs.View.{table_view};
 ghost use Rattle.kinds.specs.Kind.{meaning_of};
-ghost use Rattle.kind_keys.specs.Kinds.{made, made_of};
+ghost use Rattle.kind_keys.specs.Kinds.{keeps_list, made, made_of};
 ghost use Rattle.kind_keys.specs.Reading.{IsBad, IsRegisterOf, IsBadRegister};
 ghost use Rattle.kind_keys.specs.Tables as tables;
 ghost use Rattle.kind_keys.specs.declared.key.Key.TheVariants as key;
@@ -11,7 +11,8 @@ ghost use Rattle.kind_keys.specs.declared.kind_name.KindName.TheVariants as kind
 
 use crate::key::Key;
 use crate::kind_name::KindName;
-use crate::table::{count_at, number_at, numbers_at, small_at, type_at};
+use crate::table::{count_at, first_numbers_at, number_at, small_at, type_at};
+use arrayvec::ArrayVec;
 use bit_blocks::{
     AdditiveScrambler, Descrambler, DiffDecoder, DiffEncoder, PackKBits, Register, Scrambler,
     UnpackKBits,
@@ -32,7 +33,7 @@ use toml::Table;
 /// The block of a kind with the parameters of a table.
 pub(crate) fn make(alloc: Global, kind: KindName, table: &Table) -> Result<Kind, ParamFault>
     ensures ok { IfOk result (λ block. made kind (table_view table.now) ≡ Ok (meaning_of block)) }
-    ensures bad { IfErr result (IsBad (made kind (table_view table.now))) }
+    ensures bad { IfErr result (IsBad (keeps_list kind) (made kind (table_view table.now))) }
 {
     match type_at(table, Key::Parameter(Parameter::ItemType)) {
         Some(item) => make_of(alloc, kind, item, table),
@@ -43,7 +44,7 @@ pub(crate) fn make(alloc: Global, kind: KindName, table: &Table) -> Result<Kind,
 // The same, on items of a type.
 fn make_of(alloc: Global, kind: KindName, item: ItemType, table: &Table) -> Result<Kind, ParamFault>
     ensures ok { IfOk result (λ block. made_of kind item (table_view table.now) ≡ Ok (meaning_of block)) }
-    ensures bad { IfErr result (IsBad (made_of kind item (table_view table.now))) }
+    ensures bad { IfErr result (IsBad (keeps_list kind) (made_of kind item (table_view table.now))) }
 {
     match kind {
         KindName::VectorSource => Ok(Kind::VectorSource(VectorSource::new(item))),
@@ -108,7 +109,7 @@ fn make_of(alloc: Global, kind: KindName, item: ItemType, table: &Table) -> Resu
             item,
             count(table, Parameter::Ports),
         )?)),
-        KindName::StreamMux => make_stream_mux(alloc, item, table),
+        KindName::StreamMux => make_stream_mux(item, table),
         KindName::Head => Ok(Kind::Head(Head::new(item, count(table, Parameter::N))?)),
         KindName::SkipHead => Ok(Kind::SkipHead(SkipHead::new(item, count(table, Parameter::N))?)),
         KindName::Delay => Ok(Kind::Delay(Delay::new(item, count(table, Parameter::N))?)),
@@ -117,9 +118,9 @@ fn make_of(alloc: Global, kind: KindName, item: ItemType, table: &Table) -> Resu
 
 fn make_map_bb(alloc: Global, table: &Table) -> Result<Kind, ParamFault>
     ensures ok { IfOk result (λ block. made_of kinds.MapBb types.Byte (table_view table.now) ≡ Ok (meaning_of block)) }
-    ensures bad { IfErr result (IsBad (made_of kinds.MapBb types.Byte (table_view table.now))) }
+    ensures bad { IfErr result (IsBad true (made_of kinds.MapBb types.Byte (table_view table.now))) }
 {
-    let map = numbers(alloc, table, Parameter::Map)?;
+    let map = numbers(table, Parameter::Map);
     match MapBb::new(alloc, &map) {
         Ok(block) => Ok(Kind::MapBb(block)),
         Err(fault) => Err(fault),
@@ -128,9 +129,9 @@ fn make_map_bb(alloc: Global, table: &Table) -> Result<Kind, ParamFault>
 
 fn make_fir(alloc: Global, item: ItemType, table: &Table) -> Result<Kind, ParamFault>
     ensures ok { IfOk result (λ block. made_of kinds.Fir item (table_view table.now) ≡ Ok (meaning_of block)) }
-    ensures bad { IfErr result (IsBad (made_of kinds.Fir item (table_view table.now))) }
+    ensures bad { IfErr result (IsBad true (made_of kinds.Fir item (table_view table.now))) }
 {
-    let taps = numbers(alloc, table, Parameter::Taps)?;
+    let taps = numbers(table, Parameter::Taps);
     match Fir::new(
         alloc,
         item,
@@ -145,9 +146,9 @@ fn make_fir(alloc: Global, item: ItemType, table: &Table) -> Result<Kind, ParamF
 
 fn make_interp_fir(alloc: Global, item: ItemType, table: &Table) -> Result<Kind, ParamFault>
     ensures ok { IfOk result (λ block. made_of kinds.InterpFir item (table_view table.now) ≡ Ok (meaning_of block)) }
-    ensures bad { IfErr result (IsBad (made_of kinds.InterpFir item (table_view table.now))) }
+    ensures bad { IfErr result (IsBad true (made_of kinds.InterpFir item (table_view table.now))) }
 {
-    let taps = numbers(alloc, table, Parameter::Taps)?;
+    let taps = numbers(table, Parameter::Taps);
     match InterpFir::new(
         alloc,
         item,
@@ -160,11 +161,11 @@ fn make_interp_fir(alloc: Global, item: ItemType, table: &Table) -> Result<Kind,
     }
 }
 
-fn make_stream_mux(alloc: Global, item: ItemType, table: &Table) -> Result<Kind, ParamFault>
+fn make_stream_mux(item: ItemType, table: &Table) -> Result<Kind, ParamFault>
     ensures ok { IfOk result (λ block. made_of kinds.StreamMux item (table_view table.now) ≡ Ok (meaning_of block)) }
-    ensures bad { IfErr result (IsBad (made_of kinds.StreamMux item (table_view table.now))) }
+    ensures bad { IfErr result (IsBad false (made_of kinds.StreamMux item (table_view table.now))) }
 {
-    let lengths = numbers(alloc, table, Parameter::Lengths)?;
+    let lengths = numbers(table, Parameter::Lengths);
     match StreamMux::new(item, &lengths) {
         Ok(block) => Ok(Kind::StreamMux(block)),
         Err(fault) => Err(fault),
@@ -173,7 +174,7 @@ fn make_stream_mux(alloc: Global, item: ItemType, table: &Table) -> Result<Kind,
 
 fn make_scrambler(table: &Table) -> Result<Kind, ParamFault>
     ensures ok { IfOk result (λ block. made_of kinds.Scrambler types.Byte (table_view table.now) ≡ Ok (meaning_of block)) }
-    ensures bad { IfErr result (IsBad (made_of kinds.Scrambler types.Byte (table_view table.now))) }
+    ensures bad { IfErr result (IsBad false (made_of kinds.Scrambler types.Byte (table_view table.now))) }
 {
     match register(table) {
         Ok(register) => Ok(Kind::Scrambler(Scrambler::new(register))),
@@ -183,7 +184,7 @@ fn make_scrambler(table: &Table) -> Result<Kind, ParamFault>
 
 fn make_descrambler(table: &Table) -> Result<Kind, ParamFault>
     ensures ok { IfOk result (λ block. made_of kinds.Descrambler types.Byte (table_view table.now) ≡ Ok (meaning_of block)) }
-    ensures bad { IfErr result (IsBad (made_of kinds.Descrambler types.Byte (table_view table.now))) }
+    ensures bad { IfErr result (IsBad false (made_of kinds.Descrambler types.Byte (table_view table.now))) }
 {
     match register(table) {
         Ok(register) => Ok(Kind::Descrambler(Descrambler::new(register))),
@@ -193,7 +194,7 @@ fn make_descrambler(table: &Table) -> Result<Kind, ParamFault>
 
 fn make_additive_scrambler(table: &Table) -> Result<Kind, ParamFault>
     ensures ok { IfOk result (λ block. made_of kinds.AdditiveScrambler types.Byte (table_view table.now) ≡ Ok (meaning_of block)) }
-    ensures bad { IfErr result (IsBad (made_of kinds.AdditiveScrambler types.Byte (table_view table.now))) }
+    ensures bad { IfErr result (IsBad false (made_of kinds.AdditiveScrambler types.Byte (table_view table.now))) }
 {
     match register(table) {
         Ok(register) => Ok(Kind::AdditiveScrambler(AdditiveScrambler::new(register))),
@@ -242,9 +243,9 @@ fn small(table: &Table, parameter: Parameter) -> u32
     small_at(table, Key::Parameter(parameter))
 }
 
-fn numbers(alloc: Global, table: &Table, parameter: Parameter) -> Result<Vec<i64>, ParamFault>
-    ensures ok { IfOk result (λ numbers. numbers.items ≡ tables.numbers_at (table_view table.now) (key.Parameter parameter)) }
-    ensures err { IfErr result (λ fault. fault ≡ ParamFault.Memory) }
+// The list at a parameter, cut behind what is too long for every kind.
+fn numbers(table: &Table, parameter: Parameter) -> ArrayVec<i64, 257>
+    ensures { result.items ≡ take 257 (tables.numbers_at (table_view table.now) (key.Parameter parameter)) }
 {
-    Ok(numbers_at(alloc, table, Key::Parameter(parameter))?)
+    first_numbers_at(table, Key::Parameter(parameter))
 }

@@ -2,7 +2,7 @@
 ghost use Rattle.std.specs.Prelude.{◌≡◌, Ok, IfOk, IfErr};
 ghost use Rattle.toml.specs.View.{table_view};
 ghost use Rattle.kinds.specs.Kind.{meaning_of};
-ghost use Rattle.kind_keys.specs.Reading.{block_in, tested, IsRefused};
+ghost use Rattle.kind_keys.specs.Reading.{block_in, tested, takes_memory, IsRefused};
 
 use crate::fault::KeyFault;
 use crate::key::Key;
@@ -17,9 +17,12 @@ use toml::Table;
 /// the kind does not have, then each key in the kind's order, then the values of its parameters.
 pub fn read_kind(alloc: Global, table: &Table) -> Result<Kind, KeyFault>
     ensures ok { IfOk result (λ block. block_in (table_view table.now) ≡ Ok (meaning_of block)) }
-    ensures refused { IfErr result (IsRefused (block_in (table_view table.now))) }
+    ensures refused { IfErr result (IsRefused (takes_memory (table_view table.now)) (block_in (table_view table.now))) }
 {
-    let kind = tested(table)?;
+    let kind = match tested(table) {
+        Ok(kind) => kind,
+        Err(fault) => return Err(fault),
+    };
     match make(alloc, kind, table) {
         Ok(block) => Ok(block),
         Err(fault) => Err(KeyFault::from(fault)),

@@ -1,5 +1,5 @@
 //! What stands in a table of a graph file.
-ghost use Rattle.std.specs.Prelude.{◌≡◌, IfOk, option_map};
+ghost use Rattle.std.specs.Prelude.{◌≡◌, IfOk, option_map, take};
 ghost use Rattle.std.specs.Prelude.{pos, string_bytes};
 ghost use Rattle.toml.specs.Data.{as_integer};
 ghost use Rattle.std.specs.List.{list_all};
@@ -10,6 +10,7 @@ ghost use Rattle.kind_keys.specs.Tables.{at_key, string_in, array_in, count_of};
 
 use crate::fault::KeyFault;
 use crate::key::{Key, Shape};
+use arrayvec::ArrayVec;
 use items::ItemType;
 use std::alloc::{AllocError, Global};
 use stream_model::Policy;
@@ -103,6 +104,24 @@ fn numbers_of(alloc: Global, values: &[Value]) -> Result<Vec<i64>, AllocError>
         numbers.push_reserved(number_of(value));
     }
     Ok(numbers)
+}
+
+/// The first 257 whole numbers of the array at a key: a copy that takes no memory, and enough to tell a list of more than 256.
+pub(crate) fn first_numbers_at(table: &Table, key: Key) -> ArrayVec<i64, 257>
+    ensures { result.items ≡ take 257 (tables.numbers_at (table_view table.now) key) }
+{
+    first_numbers(values_at(table, key))
+}
+
+fn first_numbers(values: &[Value]) -> ArrayVec<i64, 257>
+    ensures { result.items ≡ take 257 (tables.numbers_of (items_view values.now)) }
+{
+    let mut numbers = ArrayVec::new();
+    let first = &values[..values.len().min(257)];
+    for value in first {
+        numbers.push(number_of(value));
+    }
+    numbers
 }
 
 fn number_of(value: &Value) -> i64

@@ -3,7 +3,7 @@ use crate::{NullSink, VectorSink, VectorSource};
 use bit_blocks::{
     AdditiveScrambler, Descrambler, DiffDecoder, DiffEncoder, PackKBits, Scrambler, UnpackKBits,
 };
-use block_kinds::{Block, Held, Shape};
+use block_kinds::{Block, ByPace, Held, Shape};
 use fir_blocks::{Fir, InterpFir};
 use items::Items;
 use math_blocks::{
@@ -126,6 +126,8 @@ impl Block for Kind {
     ghost use Rattle.kinds.specs.Kind.{meaning_of, meaning_of-lawful, meaning_of-same};
 
     ghost meaning = { meaning_of };
+
+    type Places = ByPace;
 
     fn shape(&self, input: usize) -> Shape<'_> {
         on_block!(self, block => block.shape(input))

@@ -2,7 +2,7 @@
 ghost use Rattle.std.specs.Prelude.{◌≡◌};
 ghost use Rattle.stream_model.specs.Kinds.Ends.{vector_sink};
 
-use block_kinds::{Block, Held, Role, Shape, ports};
+use block_kinds::{Block, ByPace, Held, Role, Shape, ports};
 use items::{ItemType, Items};
 
 /// A block that keeps its input. What it keeps is the stream that enters it: `work` writes nothing.
@@ -29,6 +29,8 @@ impl Block for VectorSink {
     ghost use Rattle.kinds.specs.Ends.{sink_meaning};
 
     ghost meaning = { sink_meaning };
+
+    type Places = ByPace;
 
     fn shape(&self, _input: usize) -> Shape<'_> {
         Shape {

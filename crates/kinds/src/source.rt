@@ -2,7 +2,7 @@
 ghost use Rattle.std.specs.Prelude.{◌≡◌};
 ghost use Rattle.stream_model.specs.Kinds.Ends.{vector_source};
 
-use block_kinds::{Block, Held, Role, Shape, Single, ports, work_single};
+use block_kinds::{Block, ByPace, Held, Role, Shape, Single, ports, work_single};
 use items::{ItemType, Items};
 
 /// A block that gives the tape that it is fed, item for item.
@@ -51,6 +51,8 @@ impl Block for VectorSource {
     ghost use Rattle.kinds.specs.Ends.{source_meaning};
 
     ghost meaning = { source_meaning };
+
+    type Places = ByPace;
 
     fn shape(&self, _input: usize) -> Shape<'_> {
         Shape {

@@ -16,7 +16,7 @@ use Rattle.recordings.specs.Recording.{RecordingState}
 use Rattle.plant_laws.specs.Stored.{Stored}
 use Rattle.plant_laws.specs.Changes.{tags_waiting, tags_brought}
 use Rattle.stores.specs.declared.stores.Stores.{Stores}
-use Rattle.stores.specs.declared.handed.Handed.{Handed}
+use Rattle.stores.specs.declared.intake.Intake.{Intake}
 use Rattle.stores.specs.Stores.{buffer_of, collected_of, rows_in, stored_in, stored_of, tape_of}
 use Rattle.stores.specs.Lending.{CanLend, HasRoom, no_buffer, sink_state}
 use Rattle.lending.specs.Spare.{spare_at, HasSpare}
@@ -40,7 +40,7 @@ pub given_back : {X Y : Type 0} (stored : X → Y) (old lent given new : X) → 
 given_back stored old lent given new e f same = ap stored f ∙ same ∙ ap stored e
 
 pub stored_again :
-    (handed : List Handed) (words : List ℕ) (rows rows' : List (List BufferState)) (sinks sinks' : List RecordingState) → map (map buffer_of) rows' ≡ map (map buffer_of) rows →
+    (handed : List Intake) (words : List ℕ) (rows rows' : List (List BufferState)) (sinks sinks' : List RecordingState) → map (map buffer_of) rows' ≡ map (map buffer_of) rows →
     map collected_of sinks' ≡ map collected_of sinks → stored_of handed words rows' sinks' ≡ stored_of handed words rows sinks
 stored_again handed words rows rows' sinks sinks' e f = λ i. record { tapes = map tape_of handed; timelines = map (λ h. h.timeline) handed; words = words; buffers = e i; sinks = f i }
 

@@ -53,7 +53,7 @@ fn count_tags<B: Block>(
 {
     if graph.is_source(block) {
         graph.in_order();
-        let tape = &stores.handed[block.0 as usize].tape;
+        let tape = stores.handed[block.0 as usize].tape.recording();
         return Ok(tape.tags(first, first + u64::from(count)).len());
     }
     let mut tags: usize = 0;

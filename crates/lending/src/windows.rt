@@ -34,7 +34,7 @@ pub(crate) fn lend_windows<B: Block>(
     let item = graph.block(block).inputs().item;
     if graph.is_source(block) {
         resize(alloc, windows, 1, item)?;
-        let tape = &stores.handed[block.0 as usize].tape;
+        let tape = stores.handed[block.0 as usize].tape.recording();
         return cut_tape(alloc, tape, first as usize, count as usize, &mut windows[0]);
     }
     resize(alloc, windows, graph.inputs(block).len(), item)?;

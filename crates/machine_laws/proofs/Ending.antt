@@ -6,7 +6,7 @@ use Rattle.std.proofs.lemmas.Bool.{cases_eq, and_parts}
 use Rattle.std.proofs.lemmas.Simd.{map-map}
 use Rattle.stream_model.specs.declared.vocabulary.Wanted.{Wanted}
 use Rattle.stream_model.specs.Lists.{numbers_from}
-use Rattle.stream_model.specs.Settings.{Value}
+use Rattle.stream_model.specs.Settings.{Value, put_setting}
 use Rattle.stream_model.specs.Network.{Network, Connection, Handed, Progress, State, no_progress, node_at, handed_at, progress_at, role_at, is_source, is_keeper, writers_of, items_of, entering, fires, given_by}
 use Rattle.stream_model.specs.Claims.{Decision, IsDone, IsBusy, Ends, Fires, LacksItems, LacksRoom, decide}
 use Rattle.stream_model.specs.Machine.{Capacities, Call, Feed, Close, Set, Claim, Commit, Abandon, Read, Job, Reply, Claimed, Late, Taken, with_progress, with_handed, counts_of, claimed_by, claim_of, is_in_flight, commit_of, abandon_of, read_of, close_of, set_of, set_wanted, place_setting, is_wanted, floor_of, next, commit_claimed}
@@ -156,7 +156,7 @@ module _ (net : Network) (can : CanRun net) (caps : Capacities) (st : State) (so
     places : (call : Call) → ((n : ℕ) → moves_on st call (Late n) ≡ false) → ((n : ℕ) → moves_on st call (Taken n) ≡ false) → (floor at : ℕ) (v : Value) → Outcome call (place_setting floor st b at v)
     places call late taken floor at v =
         if_both (nat_lt at floor) _ _ (Outcome call) (λ _. stays call (Late floor) (late floor))
-        (λ _. (same_tapes (record (handed_at st.handed b) { settings = (handed_at st.handed b).settings ++ record { at = at; value = v } ∷ [] }) refl, λ moves. absurd (let no = taken at in cc)))
+        (λ _. (same_tapes (record (handed_at st.handed b) { settings = put_setting (record { at = at; value = v }) (handed_at st.handed b).settings }) refl, λ moves. absurd (let no = taken at in cc)))
 
     sets : (o : Option Wanted) (at : Option ℕ) (v : Value) → Outcome (Set b at v) (set_wanted net st b at v o)
     sets None at v = (omega arith, λ moves. absurd (cc))

@@ -1,22 +1,23 @@
 -- Feeding, closing and setting keep a state sound.
 use Rattle.std.proofs.Common.{◌≡◌, ◌≢◌, ℕ, ◌+◌, ◌<◌, ◌≤◌, true, false, not, List, [], ◌∷◌, ◌++◌, length, map, set, refl, arith, ap, sym, ◌∙◌, subst, inl, inr, get_or-set_same, get_or-set_other, length-set, length-append, T, Option, Some, None, MatchOption, ltb-false, ltb-true, eqb-true, ℤ}
-use Rattle.std.specs.Prelude.{nat_lt, nat_le, ◌&&◌}
+use Rattle.std.specs.Prelude.{nat_lt, nat_le, ◌&&◌, IsNone}
 use Rattle.std.specs.Bool.{⊤}
 use Rattle.std.specs.List.{All}
 use Rattle.std.specs.Int.Signed.{le_z_yes}
 use Rattle.std.proofs.lemmas.Bool.{cases_eq, and_parts}
-use Rattle.std.proofs.lemmas.List.Elements.{All-append, All-weaker, All-map, All-push}
+use Rattle.std.proofs.lemmas.List.Elements.{All-append, All-weaker, All-map}
 use Rattle.std.proofs.lemmas.List.Sums.{AllPass-from_list_all}
 use Rattle.stream_model.specs.declared.vocabulary.ItemType.{ItemType}
 use Rattle.stream_model.specs.declared.vocabulary.Wanted.{Wanted}
 use Rattle.stream_model.specs.declared.vocabulary.Wanted.TheVariants as wanted
 use Rattle.stream_model.specs.Lists.{IsBeginning}
 use Rattle.stream_model.specs.Meaning.{IsWanted, AreWanted}
-use Rattle.stream_model.specs.Settings.{Value, Number, Taps, Held}
+use Rattle.stream_model.specs.Settings.{Value, Number, Taps, Held, put_setting}
 use Rattle.stream_model.specs.Tags.{Tag, Mark}
 use Rattle.stream_model.specs.Network.{Network, Handed, State, nothing_handed, node_at, handed_at, role_at, is_source}
 use Rattle.stream_model.specs.Numbers.{types_agree}
 use Rattle.stream_model.specs.Machine.{Capacities, Reply, with_handed, with_tape, tag_of, marks_fit, longest_tape, feed_of, close_of, set_of, set_wanted, place_setting, is_wanted, floor_of}
+use Rattle.stream_model.proofs.Putting.{put-all, put-rises}
 use Rattle.stream_model.proofs.Streams.{beginning_refl}
 use Rattle.machine_laws.specs.Sound.{IsHandedWell, Sound}
 use Rattle.machine_laws.proofs.Choices.{if_both, not_false}
@@ -81,6 +82,8 @@ module _ (net : Network) (caps : Capacities) (st : State) (sound : Sound net cap
             (All-weaker (λ (t : Tag). t.offset < length (handed_at st.handed b).tape) (λ (t : Tag). t.offset < length (handed_at st.handed b).tape + length xs) (λ t low. omega arith) (handed_at st.handed b).tags well.tags)
             (marks_on xs ms fit));
         settings = well.settings;
+        rising = well.rising;
+        unset = well.unset;
       }
 
   feeds : (xs : List ℤ) (ms : List Mark) → is_source (role_at net b) ≡ true → (handed_at st.handed b).closed ≡ false → marks_fit (handed_at st.handed b).tape xs ms ≡ true →
@@ -95,7 +98,7 @@ module _ (net : Network) (caps : Capacities) (st : State) (sound : Sound net cap
       let well = sound.handed b in' in
       sound-handed (record (handed_at st.handed b) { closed = true })
       (record { tape = beginning_refl (handed_at st.handed b).tape; stays_closed = λ e. refl; ended = λ e. refl })
-      (record { tape = well.tape; short = well.short; tags = well.tags; settings = well.settings })
+      (record { tape = well.tape; short = well.short; tags = well.tags; settings = well.settings; rising = well.rising; unset = well.unset })
 
   -- setting
   wanted_is : (w : Wanted) (v : Value) → is_wanted w v ≡ true → IsWanted w v
@@ -104,20 +107,29 @@ module _ (net : Network) (caps : Capacities) (st : State) (sound : Sound net cap
   wanted_is (wanted.Taps count) (Number z) e = cc
   wanted_is (wanted.Taps count) (Taps h) e = eqb-true (length h) count e
 
-  placed_well : (w : Wanted) (at : ℕ) (v : Value) → (node_at net b).meaning.setting ≡ Some w → is_wanted w v ≡ true → AreWanted (node_at net b).meaning ((handed_at st.handed b).settings ++ record { at = at; value = v } ∷ [])
+  placed_well : (w : Wanted) (at : ℕ) (v : Value) → (node_at net b).meaning.setting ≡ Some w → is_wanted w v ≡ true →
+      AreWanted (node_at net b).meaning (put_setting (record { at = at; value = v }) (handed_at st.handed b).settings)
   placed_well w at v some e =
       let well = (sound.handed b in').settings in
-      subst (λ (o : Option Wanted). MatchOption o ⊤ (λ w. All (λ (h : Held). IsWanted w h.value) ((handed_at st.handed b).settings ++ record { at = at; value = v } ∷ []))) (sym some)
-      (All-push (λ (h : Held). IsWanted w h.value) (handed_at st.handed b).settings (record { at = at; value = v })
-      (subst (λ (o : Option Wanted). MatchOption o ⊤ (λ w. All (λ (h : Held). IsWanted w h.value) (handed_at st.handed b).settings)) some well) (wanted_is w v e))
+      subst (λ (o : Option Wanted). MatchOption o ⊤ (λ w. All (λ (h : Held). IsWanted w h.value) (put_setting (record { at = at; value = v }) (handed_at st.handed b).settings))) (sym some)
+      (put-all (λ (h : Held). IsWanted w h.value) (record { at = at; value = v }) (handed_at st.handed b).settings (wanted_is w v e)
+      (subst (λ (o : Option Wanted). MatchOption o ⊤ (λ w. All (λ (h : Held). IsWanted w h.value) (handed_at st.handed b).settings)) some well))
 
   places : (w : Wanted) (floor at : ℕ) (v : Value) → (node_at net b).meaning.setting ≡ Some w → is_wanted w v ≡ true → Sound net caps (place_setting floor st b at v).1
   places w floor at v some e =
       let well = sound.handed b in' in
-      let h : Handed = record (handed_at st.handed b) { settings = (handed_at st.handed b).settings ++ record { at = at; value = v } ∷ [] } in
+      let g : Held = record { at = at; value = v } in
+      let h : Handed = record (handed_at st.handed b) { settings = put_setting g (handed_at st.handed b).settings } in
       if_both (nat_lt at floor) _ _ (λ (r : Reply × State). Sound net caps r.1) (λ _. sound)
       (λ _. sound-handed h (record { tape = beginning_refl (handed_at st.handed b).tape; stays_closed = λ e. e; ended = λ e. refl })
-      (record { tape = well.tape; short = well.short; tags = well.tags; settings = placed_well w at v some e }))
+      (record {
+        tape = well.tape;
+        short = well.short;
+        tags = well.tags;
+        settings = placed_well w at v some e;
+        rising = put-rises g (handed_at st.handed b).settings well.rising;
+        unset = λ none. absurd (let is = subst (λ (o : Option Wanted). IsNone o) some none in cc);
+      }))
 
   sets : (o : Option Wanted) (at : Option ℕ) (v : Value) → (node_at net b).meaning.setting ≡ o → Sound net caps (set_wanted net st b at v o).1
   sets None at v e = sound

@@ -11,6 +11,7 @@ use Rattle.stream_model.specs.declared.vocabulary.Wanted.{Wanted}
 use Rattle.stream_model.specs.Settings.{Held}
 use Rattle.stream_model.specs.Tags.{Tag}
 use Rattle.stream_model.proofs.Counts.{given-zero}
+use Rattle.stream_model.proofs.Rising.{rising_nil}
 use Rattle.stream_model.proofs.Streams.{taken_by-rises, given_by-rises, taken_by-zero, limit-falls}
 use Rattle.stream_model.specs.Meaning.{IsWanted}
 use Rattle.stream_model.specs.Network.{Network, Handed, Node, Progress, State, node_at, handed_at, progress_at, role_at, is_source, writers_of, writer_of, no_connection, no_node, no_progress, entering, taken_by, given_by, within_limit, opening, nothing_handed}
@@ -192,7 +193,7 @@ pub opening_sound : OpeningIsSound
 opening_sound net caps can =
     begun_sound net caps (opening net).handed can (length-map net.nodes (λ n. nothing_handed))
     (λ b in1. subst (IsHandedWell (node_at net b)) (sym (nothing-at b))
-    (record { tape = λ e. refl; short = zero-le; tags = All-nil (λ (t : Tag). t.offset < 0); settings = no_settings (node_at net b).meaning.setting }))
+    (record { tape = λ e. refl; short = zero-le; tags = All-nil (λ (t : Tag). t.offset < 0); settings = no_settings (node_at net b).meaning.setting; rising = rising_nil; unset = λ none. refl }))
   where
     nothing-at : (b : ℕ) → handed_at (opening net).handed b ≡ nothing_handed
     nothing-at b = get_or-map (λ (n : Node). nothing_handed) net.nodes b no_node

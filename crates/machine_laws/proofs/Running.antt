@@ -1,7 +1,6 @@
 -- What is true after any list of calls.
 use Rattle.std.proofs.Common.{◌≡◌, ℕ, ◌<◌, ◌≤◌, true, List, [], ◌∷◌, ◌++◌, length, refl, arith, ap, ◌∙◌, get_or, append_assoc}
 use Rattle.std.proofs.lemmas.List.Elements.{All-append, All-weaker}
-use Rattle.stream_model.specs.Settings.{Held}
 use Rattle.stream_model.specs.Tags.{Tag}
 use Rattle.stream_model.specs.Meaning.{input}
 use Rattle.stream_model.specs.Network.{Network, Handed, State, node_at, handed_at, role_at, is_keeper, entering, opening, taken_by}
@@ -41,10 +40,7 @@ later_then : (low mid high : ℕ) (f g h : Handed) → low ≤ mid → low ≤ h
 later_then low mid high f g h le1 le2 first second =
     record {
       more = more_then f g h first.more second.more;
-      settings = record { rest = first.settings.rest ++ second.settings.rest; is = begins_on f.settings g.settings h.settings first.settings.rest second.settings.rest first.settings.is second.settings.is };
-      late = All-append (λ (t : Held). low ≤ t.at) first.settings.rest second.settings.rest
-          (All-weaker (λ (t : Held). mid ≤ t.at) (λ (t : Held). low ≤ t.at) (λ t le. omega arith) first.settings.rest first.late)
-          (All-weaker (λ (t : Held). high ≤ t.at) (λ (t : Held). low ≤ t.at) (λ t le. omega arith) second.settings.rest second.late);
+      settings = λ own a below. first.settings own a (omega arith) ∙ second.settings own a (omega arith);
     }
 
 module _ (net : Network) (can : CanRun net) (caps : Capacities) where

@@ -1,16 +1,17 @@
 -- What calls hand to blocks comes behind what is committed and claimed.
-use Rattle.std.proofs.Common.{◌≡◌, ℕ, ◌+◌, ◌<◌, ◌≤◌, true, not, List, [], ◌∷◌, ◌++◌, length, map, set, Option, Some, None, refl, sym, ltb-true, ltb-false, append-nil, ℤ}
+use Rattle.std.proofs.Common.{◌≡◌, ℕ, ◌+◌, ◌<◌, ◌≤◌, true, not, List, [], ◌∷◌, ◌++◌, length, map, set, Option, Some, None, refl, sym, arith, ltb-true, ltb-false, append-nil, ℤ}
 use Rattle.std.specs.Prelude.{nat_lt, nat_le, ◌&&◌}
 use Rattle.std.proofs.lemmas.Bool.{and_parts, leb-true}
-use Rattle.std.proofs.lemmas.List.Elements.{All-nil, All-cons, All-map, All-weaker}
+use Rattle.std.proofs.lemmas.List.Elements.{All-nil, All-map, All-weaker}
 use Rattle.std.proofs.lemmas.List.Sums.{AllPass-from_list_all}
 use Rattle.stream_model.specs.declared.vocabulary.ItemType.{ItemType}
 use Rattle.stream_model.specs.declared.vocabulary.Wanted.{Wanted}
-use Rattle.stream_model.specs.Settings.{Value, Held}
+use Rattle.stream_model.specs.Settings.{Value, put_setting}
 use Rattle.stream_model.specs.Tags.{Tag, Mark}
 use Rattle.stream_model.specs.Network.{Network, Handed, State, node_at, handed_at, progress_at, role_at, is_source, taken_by}
 use Rattle.stream_model.specs.Numbers.{types_agree}
 use Rattle.stream_model.specs.Machine.{Capacities, Reply, with_tape, tag_of, marks_fit, longest_tape, close_of, feed_of, set_of, set_wanted, place_setting, is_wanted, floor_of}
+use Rattle.stream_model.proofs.Putting.{put-below}
 use Rattle.stream_laws.specs.Past.{HasLater}
 use Rattle.machine_laws.specs.Sound.{reached, Sound}
 use Rattle.machine_laws.proofs.Choices.{if_both, not_false}
@@ -21,8 +22,7 @@ pub later_same : (floor : ℕ) (h : Handed) → HasLater floor h h
 later_same floor h =
     record {
       more = record { tape = record { rest = []; is = sym (append-nil h.tape) }; tags = record { rest = []; is = sym (append-nil h.tags) }; on_new = All-nil (λ (t : Tag). length h.tape ≤ t.offset) };
-      settings = record { rest = []; is = sym (append-nil h.settings) };
-      late = All-nil (λ (g : Held). floor ≤ g.at);
+      settings = λ own a below. refl;
     }
 
 module _ (net : Network) (caps : Capacities) (st : State) (sound : Sound net caps st) where
@@ -51,27 +51,25 @@ module _ (net : Network) (caps : Capacities) (st : State) (sound : Sound net cap
                 (λ m e. leb-true _ _ (and_parts (nat_le (length (handed_at st.handed b).tape) m.offset) (nat_lt m.offset (length (handed_at st.handed b).tape + length xs)) e).0) ms
                 (AllPass-from_list_all (λ (m : Mark). nat_le (length (handed_at st.handed b).tape) m.offset && nat_lt m.offset (length (handed_at st.handed b).tape + length xs)) ms fit));
           };
-          settings = record { rest = []; is = sym (append-nil (handed_at st.handed b).settings) };
-          late = All-nil (λ (g : Held). taken_by (node_at net b) 0 (reached st b) ≤ g.at);
+          settings = λ own a below. refl;
         }
 
     closed_later : HasLater (taken_by (node_at net b) 0 (reached st b)) (handed_at st.handed b) (record (handed_at st.handed b) { closed = true })
     closed_later = let same = later_same (taken_by (node_at net b) 0 (reached st b)) (handed_at st.handed b) in
-        record { more = record { tape = same.more.tape; tags = same.more.tags; on_new = same.more.on_new }; settings = same.settings; late = same.late }
+        record { more = record { tape = same.more.tape; tags = same.more.tags; on_new = same.more.on_new }; settings = same.settings }
 
     set_later : (at : ℕ) (v : Value) → taken_by (node_at net b) 0 (reached st b) ≤ at →
-        HasLater (taken_by (node_at net b) 0 (reached st b)) (handed_at st.handed b) (record (handed_at st.handed b) { settings = (handed_at st.handed b).settings ++ record { at = at; value = v } ∷ [] })
+        HasLater (taken_by (node_at net b) 0 (reached st b)) (handed_at st.handed b) (record (handed_at st.handed b) { settings = put_setting (record { at = at; value = v }) (handed_at st.handed b).settings })
     set_later at v behind = let same = later_same (taken_by (node_at net b) 0 (reached st b)) (handed_at st.handed b) in
         record {
           more = record { tape = same.more.tape; tags = same.more.tags; on_new = same.more.on_new };
-          settings = record { rest = record { at = at; value = v } ∷ []; is = refl };
-          late = All-cons (λ (g : Held). taken_by (node_at net b) 0 (reached st b) ≤ g.at) (record { at = at; value = v }) [] behind (All-nil (λ (g : Held). taken_by (node_at net b) 0 (reached st b) ≤ g.at));
+          settings = λ own a below. sym (put-below (record { at = 0; value = own }) (record { at = at; value = v }) (handed_at st.handed b).settings a (omega arith));
         }
 
     placed : (at : ℕ) (v : Value) → HandsLater (place_setting (floor_of net st b) st b at v)
     placed at v =
         if_both (nat_lt at (floor_of net st b)) _ _ HandsLater (λ _. nothing)
-        (λ late. hands (record (handed_at st.handed b) { settings = (handed_at st.handed b).settings ++ record { at = at; value = v } ∷ [] })
+        (λ late. hands (record (handed_at st.handed b) { settings = put_setting (record { at = at; value = v }) (handed_at st.handed b).settings })
         (set_later at v (ltb-false at (floor_of net st b) late)))
 
     sets : (o : Option Wanted) (at : Option ℕ) (v : Value) → HandsLater (set_wanted net st b at v o)

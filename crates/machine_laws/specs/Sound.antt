@@ -1,6 +1,7 @@
 -- What is true of every state that calls lead to.
-use Rattle.std.specs.Prelude.{ℕ, ◌+◌, ◌<◌, ◌≤◌, ◌≡◌, List, length, map, true, false, All, ◌⊎◌}
+use Rattle.std.specs.Prelude.{ℕ, ◌+◌, ◌<◌, ◌≤◌, ◌≡◌, List, [], length, map, true, false, All, IsNone, ◌⊎◌}
 use Rattle.stream_model.specs.Lists.{IsBeginning}
+use Rattle.stream_model.specs.Settings.{IsRising}
 use Rattle.stream_model.specs.Meaning.{AreWanted}
 use Rattle.stream_model.specs.Network.{Network, Node, Handed, State, node_at, handed_at, progress_at, role_at, is_source, used_outputs, taken_by, given_by, within_limit, fires, entering, no_progress, opening}
 use Rattle.stream_model.specs.Machine.{Capacities, Call, capacity_at, longest_tape, next}
@@ -36,12 +37,15 @@ pub record Fits (net : Network) (caps : Capacities) (st : State) (b k : ℕ) : T
       given_by (node_at net b) k ≤ taken_by (node_at net c.to) c.in_port (fired st c.to) + capacity_at caps b c.out_port) net.connections
   pub limit : within_limit (node_at net b).meaning.limit k ≡ true
 
--- what a block may have been handed: a tape where it is a source, not too long, with tags on its items, and settings that it can have
+-- what a block may have been handed: a tape where it is a source, not too long, with tags on its items, and settings that it can have, by their
+-- items, none where it has no setting
 pub record IsHandedWell (n : Node) (h : Handed) : Type 0 where
   pub tape : is_source n.meaning.role ≡ false → length h.tape ≡ 0
   pub short : length h.tape ≤ longest_tape
   pub tags : All (λ t. t.offset < length h.tape) h.tags
   pub settings : AreWanted n.meaning h.settings
+  pub rising : IsRising h.settings
+  pub unset : IsNone n.meaning.setting → h.settings ≡ []
 
 pub record Sound (net : Network) (caps : Capacities) (st : State) : Type 0 where
   pub handed_count : length st.handed ≡ length net.nodes

@@ -3,7 +3,7 @@ ghost use Rattle.std.specs.Prelude.{◌≡◌};
 ghost use Rattle.stream_model.specs.Kinds.Math.{add};
 
 use crate::joined::{Joins, work_joins};
-use block_kinds::{Block, Held, Shape, any_ports, ports};
+use block_kinds::{Block, ByPace, Held, Shape, any_ports, ports};
 use items::{ItemType, Items};
 use lane_kernels::{SimdLane, add_wrap};
 
@@ -45,6 +45,8 @@ impl Block for Add {
     ghost use Rattle.stream_model.specs.Kinds.Math.{add};
 
     ghost meaning = { add_block_of };
+
+    type Places = ByPace;
 
     fn shape(&self, _input: usize) -> Shape<'_> {
         Shape::at_rate(any_ports(self.item), ports(1, self.item), 1, 1)

@@ -4,7 +4,9 @@ ghost use Rattle.stream_model.specs.Numbers.{IsItem};
 ghost use Rattle.stream_model.specs.Kinds.Math.{add_const};
 
 use crate::stretch::{EachItem, run_items};
-use block_kinds::{Block, Held, ParamFault, Parameter, Setting, Shape, Single, work_single};
+use block_kinds::{
+    Block, ByPace, Held, ParamFault, Parameter, Setting, Shape, Single, work_single,
+};
 use items::{ItemType, Items};
 use lane_kernels::{SimdLane, add_const_wrap};
 use numbers::Number;
@@ -77,6 +79,8 @@ impl Block for AddConst {
     ghost use Rattle.math_blocks.specs.Kinds.{add_const_of, add_const-same};
 
     ghost meaning = { add_const_of };
+
+    type Places = ByPace;
 
     fn shape(&self, _input: usize) -> Shape<'_> {
         Shape {

@@ -4,7 +4,7 @@ ghost use Rattle.stream_model.specs.Kinds.Math.{convert};
 ghost use Rattle.stream_model.specs.Kernels as kernels;
 ghost use Rattle.items.specs.Items.{type_of, numbers_of, spare_of};
 
-use block_kinds::{Block, Held, Shape, Single, work_single};
+use block_kinds::{Block, ByPace, Held, Shape, Single, work_single};
 use items::{ItemType, Items};
 use lane_kernels::{NarrowsTo, SimdLane, WidensTo, narrow, widen};
 use numbers::Number;
@@ -96,6 +96,8 @@ impl Block for Convert {
     ghost use Rattle.math_blocks.specs.Kinds.{convert_of, convert-same};
 
     ghost meaning = { convert_of };
+
+    type Places = ByPace;
 
     fn shape(&self, _input: usize) -> Shape<'_> {
         Shape::sync(self.item, self.to)

@@ -3,7 +3,7 @@ ghost use Rattle.std.specs.Prelude.{◌≡◌};
 ghost use Rattle.stream_model.specs.Kinds.Math.{and_of, or_of, xor_of};
 
 use crate::joined::{Joins, work_joins};
-use block_kinds::{Block, Held, Shape, any_ports, ports};
+use block_kinds::{Block, ByPace, Held, Shape, any_ports, ports};
 use items::{ItemType, Items};
 use lane_kernels::{SimdLane, and, or, xor};
 
@@ -46,6 +46,8 @@ impl Block for And {
     ghost use Rattle.stream_model.specs.Kinds.Math.{and_of};
 
     ghost meaning = { and_block_of };
+
+    type Places = ByPace;
 
     fn shape(&self, _input: usize) -> Shape<'_> {
         Shape::at_rate(any_ports(self.item), ports(1, self.item), 1, 1)
@@ -108,6 +110,8 @@ impl Block for Or {
 
     ghost meaning = { or_block_of };
 
+    type Places = ByPace;
+
     fn shape(&self, _input: usize) -> Shape<'_> {
         Shape::at_rate(any_ports(self.item), ports(1, self.item), 1, 1)
     }
@@ -168,6 +172,8 @@ impl Block for Xor {
     ghost use Rattle.stream_model.specs.Kinds.Math.{xor_of};
 
     ghost meaning = { xor_block_of };
+
+    type Places = ByPace;
 
     fn shape(&self, _input: usize) -> Shape<'_> {
         Shape::at_rate(any_ports(self.item), ports(1, self.item), 1, 1)

@@ -4,7 +4,7 @@ ghost use Rattle.stream_model.specs.Numbers.{AreItems};
 ghost use Rattle.stream_model.specs.declared.vocabulary.ItemType.TheVariants as types;
 ghost use Rattle.stream_model.specs.Kinds.Math.{map_bb};
 
-use block_kinds::{Block, Held, ParamFault, Parameter, Shape, Single, work_single};
+use block_kinds::{Block, ByPace, Held, ParamFault, Parameter, Shape, Single, work_single};
 use items::{ItemType, Items};
 use lane_work::{ByteWork, make_bytes};
 use numbers::vectors::narrowed;
@@ -93,6 +93,8 @@ impl Block for MapBb {
     ghost use Rattle.math_blocks.specs.Kinds.{map_bb_of, map_bb_of-lawful, map_bb-same};
 
     ghost meaning = { map_bb_of };
+
+    type Places = ByPace;
 
     fn shape(&self, _input: usize) -> Shape<'_> {
         Shape::sync(ItemType::Byte, ItemType::Byte)

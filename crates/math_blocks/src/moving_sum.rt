@@ -2,7 +2,7 @@
 ghost use Rattle.std.specs.Prelude.{◌≡◌, ◌≤◌, ◌↔◌, IsOk, IfOk, IfErr};
 ghost use Rattle.stream_model.specs.Kinds.Math.{moving_sum};
 
-use block_kinds::{Block, Held, ParamFault, Parameter, Shape, Single, work_single};
+use block_kinds::{Block, ByPace, Held, ParamFault, Parameter, Shape, Single, work_single};
 use items::{ItemType, Items};
 use lane_kernels::SimdLane;
 use lane_work::{LaneWork, make_items, sum_of};
@@ -85,6 +85,8 @@ impl Block for MovingSum {
     ghost use Rattle.stream_model.specs.Kinds.Math.{moving_sum};
 
     ghost meaning = { moving_sum_of };
+
+    type Places = ByPace;
 
     fn shape(&self, _input: usize) -> Shape<'_> {
         Shape {

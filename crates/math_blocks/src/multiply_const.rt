@@ -4,7 +4,9 @@ ghost use Rattle.stream_model.specs.Numbers.{IsItem};
 ghost use Rattle.stream_model.specs.Kinds.Math.{multiply_const};
 
 use crate::stretch::{EachItem, run_items};
-use block_kinds::{Block, Held, ParamFault, Parameter, Setting, Shape, Single, work_single};
+use block_kinds::{
+    Block, ByPace, Held, ParamFault, Parameter, Setting, Shape, Single, work_single,
+};
 use items::{ItemType, Items};
 use lane_kernels::{SimdLane, mul_wrap};
 use numbers::Number;
@@ -77,6 +79,8 @@ impl Block for MultiplyConst {
     ghost use Rattle.math_blocks.specs.Kinds.{multiply_const_of, multiply_const-same};
 
     ghost meaning = { multiply_const_of };
+
+    type Places = ByPace;
 
     fn shape(&self, _input: usize) -> Shape<'_> {
         Shape {

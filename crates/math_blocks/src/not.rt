@@ -2,7 +2,7 @@
 ghost use Rattle.std.specs.Prelude.{◌≡◌};
 ghost use Rattle.stream_model.specs.Kinds.Math.{not_of};
 
-use block_kinds::{Block, Held, Shape, Single, work_single};
+use block_kinds::{Block, ByPace, Held, Shape, Single, work_single};
 use items::{ItemType, Items};
 use lane_kernels::{SimdLane, not};
 use lane_work::{LaneWork, make_items};
@@ -66,6 +66,8 @@ impl Block for Not {
     ghost use Rattle.stream_model.specs.Kinds.Math.{not_of};
 
     ghost meaning = { not_block_of };
+
+    type Places = ByPace;
 
     fn shape(&self, _input: usize) -> Shape<'_> {
         Shape::sync(self.item, self.item)

@@ -5,7 +5,9 @@ ghost use Rattle.stream_model.specs.Numbers.{IsItem};
 ghost use Rattle.stream_model.specs.Kinds.Math.{scale};
 
 use crate::stretch::{EachItem, run_items};
-use block_kinds::{Block, Held, ParamFault, Parameter, Setting, Shape, Single, work_single};
+use block_kinds::{
+    Block, ByPace, Held, ParamFault, Parameter, Setting, Shape, Single, work_single,
+};
 use items::{ItemType, Items};
 use lane_kernels::{SimdLane, scale_sat};
 use numbers::Number;
@@ -87,6 +89,8 @@ impl Block for Scale {
     ghost use Rattle.math_blocks.specs.Kinds.{scale_of, scale-same};
 
     ghost meaning = { scale_of };
+
+    type Places = ByPace;
 
     fn shape(&self, _input: usize) -> Shape<'_> {
         Shape {

@@ -37,7 +37,7 @@ abandon_taken {B} old net own job b ps is block progress =
           ∙ ap (λ (r : Reply × State). (let y : PlantState B = record old { state = r.1 } in y)) (sym answer),
     )
 
-module _ (net : Network) (caps : Capacities) (tapes : List Tape) (s : Stores) (ps : List Progress) (keeps : Keeps net caps tapes s ps) (can : CanRun net) (own : Bool) (job : Job)
+module _ (net : Network) (caps : Capacities) (s : Stores) (ps : List Progress) (keeps : Keeps net caps s ps) (can : CanRun net) (own : Bool) (job : Job)
     (is : is_in_flight net (state_of s.handed.items ps) own job ≡ true) (inside : job.block < length net.nodes) where
   abbrev st : State
   st = state_of s.handed.items ps
@@ -62,16 +62,15 @@ module _ (net : Network) (caps : Capacities) (tapes : List Tape) (s : Stores) (p
       let was : progress_at (abandoned ps job.block) a ≡ progress_at ps a = get_or-set_other ps job.block a _ no_progress ne in
       subst (λ (p : Progress). HasRoom net s a p.firings p.claimed) (sym was) (keeps.room a in'' (subst (λ (p : Progress). 0 < p.claimed) was claimed))
 
-  here : Keeps net caps tapes s (abandoned ps job.block)
+  here : Keeps net caps s (abandoned ps job.block)
   here = record {
     sound = subst (Sound net caps) there (calls_keep_sound net caps st can keeps.sound (machine.Abandon own job));
     stored = stored;
-    tapes_are = keeps.tapes_are;
     room = λ a in'' claimed. elim (cases_eq a job.block) [
       | inl e ↦ absurd (none_left a e claimed)
       | inr ne ↦ room_left a in'' ne claimed
     ];
   }
 
-  pub keeps_abandoned : (b : ℕ) (qs : List Progress) → b ≡ job.block → qs ≡ abandoned ps b → Keeps net caps tapes s qs
-  keeps_abandoned b qs block progress = subst (Keeps net caps tapes s) (sym (progress ∙ ap (abandoned ps) block)) here
+  pub keeps_abandoned : (b : ℕ) (qs : List Progress) → b ≡ job.block → qs ≡ abandoned ps b → Keeps net caps s qs
+  keeps_abandoned b qs block progress = subst (Keeps net caps s) (sym (progress ∙ ap (abandoned ps) block)) here

@@ -25,7 +25,7 @@ pub runs_out : {B : Type 0} (now : Reply × State) (old new : PlantState B) (r :
 runs_out now old new r after e takes f = (ap (λ (x : Reply × State). takes_memory x.0) e ∙ takes, f)
 
 -- the claim that was decided took a plant from the old state to the new one
-module _ {B : Type 0} (meaning : B → Meaning) (old new : Parts B) (b max : ℕ) (right : IsRight meaning old) (inside : b < length (arc_value old.graph).blocks) (d : Decision)
+module _ {B P : Type 0} (meaning : B → Meaning) (old new : Parts B P) (b max : ℕ) (right : IsRight meaning old) (inside : b < length (arc_value old.graph).blocks) (d : Decision)
     (is : let net = net_of meaning (arc_value old.graph) in let counts = counts_of net (sizes_of old.capacities) (plant_of old).state b in d ≡ answer_of counts.firings (claims.decide (node_at net b) counts max))
     (moved : plant_of new ≡ record (plant_of old) { state = (claim_of (net_of meaning (arc_value old.graph)) (sizes_of old.capacities) (plant_of old).state b max).1 }) where
   abbrev own : Network

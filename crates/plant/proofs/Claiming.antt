@@ -20,7 +20,7 @@ use Rattle.firings.specs.Decision.{answer_of}
 use Rattle.firings.specs.State as firings
 use Rattle.firings.specs.declared.decision.Decision.TheVariants as decision
 use Rattle.firings.specs.declared.progress.Tape.{Tape}
-use Rattle.stores.specs.declared.handed.Handed.{Handed}
+use Rattle.stores.specs.declared.intake.Intake.{Intake}
 use Rattle.stores.specs.declared.stores.Stores.{Stores}
 use Rattle.stores.specs.Stores.{handed_of, state_of, stored_in}
 use Rattle.stores.specs.Delivery.{CanRelease}
@@ -32,15 +32,14 @@ use Rattle.plant.specs.Plant.{Keeps, KeepsBut}
 use Rattle.plant.specs.Answers.{is_claimed}
 
 -- what is kept of all blocks is kept of all but one, and the other way about where this one has its room
-pub but_from : (net : Network) (caps : Capacities) (tapes : List Tape) (s : Stores) (ps : List Progress) (b : ℕ) → Keeps net caps tapes s ps → KeepsBut net caps tapes s ps b
-but_from net caps tapes s ps b keeps = record { sound = keeps.sound; stored = keeps.stored; tapes_are = keeps.tapes_are; room = λ a in' ne some. keeps.room a in' some }
+pub but_from : (net : Network) (caps : Capacities) (s : Stores) (ps : List Progress) (b : ℕ) → Keeps net caps s ps → KeepsBut net caps s ps b
+but_from net caps s ps b keeps = record { sound = keeps.sound; stored = keeps.stored; room = λ a in' ne some. keeps.room a in' some }
 
-pub keeps_from : (net : Network) (caps : Capacities) (tapes : List Tape) (s : Stores) (ps : List Progress) (b : ℕ) → KeepsBut net caps tapes s ps b →
-    (0 < (progress_at ps b).claimed → HasRoom net s b (progress_at ps b).firings (progress_at ps b).claimed) → Keeps net caps tapes s ps
-keeps_from net caps tapes s ps b keeps here = record {
+pub keeps_from : (net : Network) (caps : Capacities) (s : Stores) (ps : List Progress) (b : ℕ) → KeepsBut net caps s ps b →
+    (0 < (progress_at ps b).claimed → HasRoom net s b (progress_at ps b).firings (progress_at ps b).claimed) → Keeps net caps s ps
+keeps_from net caps s ps b keeps here = record {
   sound = keeps.sound;
   stored = keeps.stored;
-  tapes_are = keeps.tapes_are;
   room = λ a in' some. elim (cases_eq a b) [
     | inl e ↦ subst (λ k. HasRoom net s k (progress_at ps k).firings (progress_at ps k).claimed) (sym e) (here (subst (λ k. 0 < (progress_at ps k).claimed) e some))
     | inr ne ↦ keeps.room a in' ne some
@@ -51,33 +50,31 @@ pub all_room : (s : Stores) → KeepsAllRoom s s
 all_room s = record { buffers = λ a p. omega arith; brought = omega arith; sinks = λ a. (omega arith, omega arith) }
 
 -- where no block's tape or settings change, and what is stored stays, there is room as before
-module _ (net : Network) (caps : Capacities) (can : CanRun net) (tapes : List Tape) (s s' : Stores) (ps : List Progress) (b : ℕ) (keeps : KeepsBut net caps tapes s ps b)
+module _ (net : Network) (caps : Capacities) (can : CanRun net) (s s' : Stores) (ps : List Progress) (b : ℕ) (keeps : KeepsBut net caps s ps b)
     (stored : stored_in s' ≡ stored_in s) (handed : s'.handed ≡ s.handed) (rooms : KeepsAllRoom s s') where
   brings_same : (a k c : ℕ) → BringsTheSame net (stored_in s) (stored_in s') a k (k + c)
   brings_same a k c = subst (λ x. BringsTheSame net (stored_in s) x a k (k + c)) (sym stored) (record { taken = λ q used. refl; brought = λ p used. refl })
 
-  pub keeps_roomier : KeepsBut net caps tapes s' ps b
+  pub keeps_roomier : KeepsBut net caps s' ps b
   keeps_roomier =
-      let there : state_of s.handed.items ps ≡ state_of s'.handed.items ps = ap (λ (h : Vec Handed Global). state_of h.items ps) (sym handed) in
+      let there : state_of s.handed.items ps ≡ state_of s'.handed.items ps = ap (λ (h : Vec Intake Global). state_of h.items ps) (sym handed) in
       record {
         sound = subst (Sound net caps) there keeps.sound;
         stored = subst (Holds net caps (state_of s'.handed.items ps)) (sym stored) (subst (λ st. Holds net caps st (stored_in s)) there keeps.stored);
-        tapes_are = ap (λ (st : State). map firings.tape_of st.handed) (sym there) ∙ keeps.tapes_are;
         room = λ a in' ne some. room_stays net can s s' a (progress_at ps a).firings (progress_at ps a).claimed (brings_same a (progress_at ps a).firings (progress_at ps a).claimed) (keeps.room a in' ne some) rooms;
       }
 
 -- after a call that claims for block b alone, if at all, and hands nothing to any
-module _ (net : Network) (caps : Capacities) (can : CanRun net) (tapes : List Tape) (s : Stores) (ps : List Progress) (b : ℕ) (keeps : KeepsBut net caps tapes s ps b)
+module _ (net : Network) (caps : Capacities) (can : CanRun net) (s : Stores) (ps : List Progress) (b : ℕ) (keeps : KeepsBut net caps s ps b)
     (call : Call) (others : (a : ℕ) → a ≢ b → is_claim_of a call ≡ false) where
   pub keeps_called : (s' : Stores) (ps' : List Progress) → (next net caps (state_of s.handed.items ps) call).1 ≡ state_of s'.handed.items ps' → s'.handed ≡ s.handed →
-      Holds net caps (next net caps (state_of s.handed.items ps) call).1 (stored_in s') → KeepsAllRoom s s' → KeepsBut net caps tapes s' ps' b
+      Holds net caps (next net caps (state_of s.handed.items ps) call).1 (stored_in s') → KeepsAllRoom s s' → KeepsBut net caps s' ps' b
   keeps_called s' ps' there handed holds rooms =
       let st = state_of s.handed.items ps in
       let at : (a : ℕ) → progress_at (next net caps st call).1.progress a ≡ progress_at ps' a = λ a. ap (λ (x : State). progress_at x.progress a) there in
       record {
         sound = subst (Sound net caps) there (calls_keep_sound net caps st can keeps.sound call);
         stored = subst (λ x. Holds net caps x (stored_in s')) there holds;
-        tapes_are = ap (λ (h : Vec Handed Global). map firings.tape_of (map handed_of h.items)) handed ∙ keeps.tapes_are;
         room = λ a in' ne some.
             let flying : 0 < (progress_at (next net caps st call).1.progress a).claimed = subst (λ (p : Progress). 0 < p.claimed) (sym (at a)) some in
             let was : 0 < (progress_at ps a).claimed = subst (λ (p : Progress). 0 < p.claimed) (flight_was net can caps st keeps.sound a call (others a ne) flying) flying in
@@ -86,7 +83,7 @@ module _ (net : Network) (caps : Capacities) (can : CanRun net) (tapes : List Ta
       }
 
 -- a claim of block b
-module _ (net : Network) (caps : Capacities) (can : CanRun net) (tapes : List Tape) (s : Stores) (ps : List Progress) (keeps : Keeps net caps tapes s ps) (b max : ℕ) (in' : b < length net.nodes) where
+module _ (net : Network) (caps : Capacities) (can : CanRun net) (s : Stores) (ps : List Progress) (keeps : Keeps net caps s ps) (b max : ℕ) (in' : b < length net.nodes) where
   abbrev st : State
   st = state_of s.handed.items ps
 
@@ -114,11 +111,11 @@ module _ (net : Network) (caps : Capacities) (can : CanRun net) (tapes : List Ta
   others a ne = ne_eqb b a (λ e. ne (sym e))
 
   abbrev Then : Stores → List Progress → Type 0
-  Then s' ps' = (claim_of net caps (st) b max).1 ≡ state_of s'.handed.items ps' → KeepsBut net caps tapes s' ps' b
+  Then s' ps' = (claim_of net caps (st) b max).1 ≡ state_of s'.handed.items ps' → KeepsBut net caps s' ps' b
 
   pub keeps_claimed : (ps' : List Progress) → (answer_of (progress_at ps b).firings (decide (node_at net b) (counts_of net caps (st) b) max) ≡ decision.Ended → ⊥) → Then s ps'
   keeps_claimed ps' ne there =
-      keeps_called net caps can tapes s ps b (but_from net caps tapes s ps b keeps) (Claim b max) others s ps' (ap (λ (r : Reply × State). r.1) next_is ∙ there) refl
+      keeps_called net caps can s ps b (but_from net caps s ps b keeps) (Claim b max) others s ps' (ap (λ (r : Reply × State). r.1) next_is ∙ there) refl
       (stored_unless (decide (node_at net b) (counts_of net caps (st) b) max) refl (λ e. ne (ap (answer_of (progress_at ps b).firings) e))) (all_room s)
 
   -- only where the block ends is that the answer
@@ -141,17 +138,17 @@ module _ (net : Network) (caps : Capacities) (can : CanRun net) (tapes : List Ta
 
     pub keeps_ended : (s' : Stores) (ps' : List Progress) → s'.handed ≡ s.handed → stored_in s' ≡ with_released net (stored_in s) b → KeepsAllRoom s s' → Then s' ps'
     keeps_ended s' ps' handed stored rooms there =
-        keeps_called net caps can tapes s ps b (but_from net caps tapes s ps b keeps) (Claim b max) others s' ps' (ap (λ (r : Reply × State). r.1) next_is ∙ there) handed
+        keeps_called net caps can s ps b (but_from net caps s ps b keeps) (Claim b max) others s' ps' (ap (λ (r : Reply × State). r.1) next_is ∙ there) handed
         (subst (Holds net caps (next net caps (st) (Claim b max)).1) (sym stored) (ending_holds net caps (st) (stored_in s) can keeps.sound keeps.stored b max in' ends)) rooms
 
-    pub all_ended : (s' : Stores) (ps' : List Progress) → (claim_of net caps (st) b max).1 ≡ state_of s'.handed.items ps' → KeepsBut net caps tapes s' ps' b → Keeps net caps tapes s' ps'
+    pub all_ended : (s' : Stores) (ps' : List Progress) → (claim_of net caps (st) b max).1 ≡ state_of s'.handed.items ps' → KeepsBut net caps s' ps' b → Keeps net caps s' ps'
     all_ended s' ps' there but =
         let why : Reason (node_at net b) (counts_of net caps (st) b) max Ends = subst (Reason (node_at net b) (counts_of net caps (st) b) max) ends (decide-reason (node_at net b) (counts_of net caps (st) b) max) in
         let own : Progress = record (progress_at ps b) { done = true } in
         let at : progress_at ps' b ≡ own =
         ap (λ (x : State). progress_at x.progress b) (sym there ∙ ap (λ (r : Reply × State). r.1) (claims_as Ends ends)) ∙ get_or-set_same ps b own no_progress (rw keeps.sound.progress_count in') in
         let idle = ap (λ (p : Progress). p.claimed) at ∙ why.0.idle in
-        keeps_from net caps tapes s' ps' b but (λ some. absurd (omega (arith, idle, some)))
+        keeps_from net caps s' ps' b but (λ some. absurd (omega (arith, idle, some)))
 
   -- where nothing is claimed and nothing ends, all is as it was
   same_as : (d : claims.Decision) (k : ℕ) → is_claimed (answer_of k d) ≡ false → (answer_of k d ≡ decision.Ended → ⊥) → (claimed_by net (st) b d).1 ≡ st
@@ -164,8 +161,8 @@ module _ (net : Network) (caps : Capacities) (can : CanRun net) (tapes : List Ta
 
   pub keeps_plain : (ps' : List Progress) → (claim_of net caps (st) b max).1 ≡ state_of s.handed.items ps' →
       is_claimed (answer_of (progress_at ps b).firings (decide (node_at net b) (counts_of net caps (st) b) max)) ≡ false →
-      (answer_of (progress_at ps b).firings (decide (node_at net b) (counts_of net caps (st) b) max) ≡ decision.Ended → ⊥) → Keeps net caps tapes s ps'
+      (answer_of (progress_at ps b).firings (decide (node_at net b) (counts_of net caps (st) b) max) ≡ decision.Ended → ⊥) → Keeps net caps s ps'
   keeps_plain ps' there plain ne =
       let d = decide (node_at net b) (counts_of net caps (st) b) max in
       let same : (claim_of net caps (st) b max).1 ≡ st = ap (λ (r : Reply × State). r.1) (claims_as d refl) ∙ same_as d (progress_at ps b).firings plain ne in
-      subst (Keeps net caps tapes s) (ap (λ (x : State). x.progress) (sym same ∙ there)) keeps
+      subst (Keeps net caps s) (ap (λ (x : State). x.progress) (sym same ∙ there)) keeps

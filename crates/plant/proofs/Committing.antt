@@ -17,7 +17,7 @@ use Rattle.firings.specs.Firings.{committed}
 use Rattle.plant_laws.specs.Holds.{Holds}
 use Rattle.plant_laws.specs.Calls.{IsWorked}
 use Rattle.plant_laws.proofs.Committing.{committing_holds}
-use Rattle.stores.specs.declared.handed.Handed.{Handed}
+use Rattle.stores.specs.declared.intake.Intake.{Intake}
 use Rattle.stores.specs.declared.stores.Stores.{Stores}
 use Rattle.stores.specs.Stores.{handed_of, state_of, stored_in}
 use Rattle.stores.specs.Lending.{HasRoom, KeepsRoom}
@@ -53,7 +53,7 @@ module _ (net : Network) (caps : Capacities) (s : Stores) (ps : List Progress) (
         (sym (delivered_is_committed net caps st (stored_in s) holds job b (progress_at ps b).firings (progress_at ps b).claimed windows outputs word in' refl refl refl (sym windows_are)))
         (committing_holds net caps st (stored_in s) can sound holds true job (progress_at ps b).claimed outputs word worked (ap (λ (r : Reply × State). r.0) commits))
 
-module _ (net : Network) (caps : Capacities) (tapes : List Tape) (s : Stores) (ps : List Progress) (keeps : Keeps net caps tapes s ps) (b first count : ℕ)
+module _ (net : Network) (caps : Capacities) (s : Stores) (ps : List Progress) (keeps : Keeps net caps s ps) (b first count : ℕ)
     (flight : IsFlight net (state_of s.handed.items ps) b first count) (windows outputs : List Items) (word : ℕ) (work : IsItsWork net (state_of s.handed.items ps) b windows outputs word) where
   abbrev before : State
   before = state_of s.handed.items ps
@@ -75,7 +75,7 @@ module _ (net : Network) (caps : Capacities) (tapes : List Tape) (s : Stores) (p
       (stored : stored_in s' ≡ delivered net (stored_in s) b first (first + count) (map numbers_of windows) (map numbers_of outputs) word) (handed : s'.handed ≡ s.handed) (room : KeepsRoom net b s s')
       (progress : ps' ≡ committed ps b) where
     handed_items : s'.handed.items ≡ s.handed.items
-    handed_items = ap (λ (hs : Vec Handed Global). hs.items) handed
+    handed_items = ap (λ (hs : Vec Intake Global). hs.items) handed
 
     there : (next net caps before own).1 ≡ state_of s'.handed.items ps'
     there =
@@ -107,11 +107,10 @@ module _ (net : Network) (caps : Capacities) (tapes : List Tape) (s : Stores) (p
         subst (λ qs. HasRoom net s' a (progress_at qs a).firings (progress_at qs a).claimed) now
         (flight_room-other net can caps before keeps.sound a in'' own refl later s s' keeps.stored stored_then b ne room (keeps.room a in'' was))
 
-    pub keeps_committed : Keeps net caps tapes s' ps'
+    pub keeps_committed : Keeps net caps s' ps'
     keeps_committed = record {
       sound = subst (Sound net caps) there (calls_keep_sound net caps before can keeps.sound own);
       stored = subst (λ x. Holds net caps x (stored_in s')) there stored_then;
-      tapes_are = ap (λ hs. map firings.tape_of (map handed_of hs)) handed_items ∙ keeps.tapes_are;
       room = λ a in'' claimed. elim (cases_eq a b) [
         | inl e ↦ absurd (none_left a e claimed)
         | inr ne ↦ room_left a in'' ne claimed

@@ -14,10 +14,9 @@ use Rattle.firings.specs.Decision as firings_decision
 use Rattle.firings.specs.State as firings
 use Rattle.firings.specs.declared.decision.Decision.{Decision}
 use Rattle.firings.specs.declared.decision.Decision.TheVariants as decision
-use Rattle.firings.specs.declared.progress.Tape.{Tape}
 use Rattle.flowgraph.specs.Flowgraph.{Flowgraph, net_of}
 use Rattle.rates.specs.Answer.{sizes_of}
-use Rattle.stores.specs.declared.handed.Handed as stores
+use Rattle.stores.specs.declared.intake.Intake as stores
 use Rattle.stores.specs.declared.stores.Stores.{Stores}
 use Rattle.stores.specs.Stores.{handed_of, state_of, stored_in}
 use Rattle.stores.specs.Delivery.{CanRelease}
@@ -34,18 +33,18 @@ Decides net caps hs ps b max d = let counts = counts_of net caps (firings.state_
 abbrev pub Moves : Network → Capacities → List Handed → List Progress → ℕ → ℕ → List Progress → Type 0
 Moves net caps hs ps b max after = (claim_of net caps (firings.state_of hs ps) b max).1 ≡ firings.state_of hs after
 
-module _ {B : Type 0} (meaning : B → Meaning) (p : Parts B) (b max : ℕ) (right : IsRight meaning p) (inside : b < length (arc_value p.graph).blocks) (graph : Flowgraph B) (graph_is : graph ≡ arc_value p.graph)
-    (runs : CanRun (net_of meaning graph)) (lent : Flowgraph B) (lent_is : lent ≡ arc_value p.graph) (caps : Capacities) (caps_are : caps ≡ sizes_of p.capacities) (tapes : List Tape) (tapes_are : tapes ≡ p.tapes.items)
-    (result : Decision) (decides : (hs : List Handed) → firings.HasTapes tapes hs → Decides (net_of meaning lent) caps hs p.firings b max result)
-    (after : List Progress) (moves : (hs : List Handed) → firings.HasTapes tapes hs → Moves (net_of meaning lent) caps hs p.firings b max after) where
+module _ {B P : Type 0} (meaning : B → Meaning) (p : Parts B P) (b max : ℕ) (right : IsRight meaning p) (inside : b < length (arc_value p.graph).blocks) (graph : Flowgraph B) (graph_is : graph ≡ arc_value p.graph)
+    (runs : CanRun (net_of meaning graph)) (lent : Flowgraph B) (lent_is : lent ≡ arc_value p.graph) (caps : Capacities) (caps_are : caps ≡ sizes_of p.capacities) (fed : List stores.Intake) (fed_is : fed ≡ p.stores.handed.items)
+    (result : Decision) (decides : (hs : List Handed) → firings.HasTapes (map firings.tape_of (map handed_of fed)) hs → Decides (net_of meaning lent) caps hs p.firings b max result)
+    (after : List Progress) (moves : (hs : List Handed) → firings.HasTapes (map firings.tape_of (map handed_of fed)) hs → Moves (net_of meaning lent) caps hs p.firings b max after) where
   abbrev net : Network
   net = net_of meaning (arc_value p.graph)
 
   abbrev handed : List Handed
   handed = map handed_of p.stores.handed.items
 
-  has : firings.HasTapes tapes (handed)
-  has = subst (λ ts. firings.HasTapes ts (handed)) (sym tapes_are) right.keeps.tapes_are
+  has : firings.HasTapes (map firings.tape_of (map handed_of fed)) (handed)
+  has = ap (λ hs. map firings.tape_of (map handed_of hs)) (sym fed_is)
 
   runs_here : CanRun net
   runs_here = subst (λ (x : Flowgraph B). CanRun (net_of meaning x)) graph_is runs
@@ -69,14 +68,14 @@ module _ {B : Type 0} (meaning : B → Meaning) (p : Parts B) (b max : ℕ) (rig
 
   pub right_claimed : (result ≡ decision.Ended → ⊥) → IsRightBut meaning (record p { firings = after }) b
   right_claimed ne = record {
-    keeps = keeps_claimed (net) (sizes_of p.capacities) runs_here p.tapes.items p.stores p.firings right.keeps b max inside_here after (λ e. ne (decided ∙ e)) moved;
+    keeps = keeps_claimed (net) (sizes_of p.capacities) runs_here p.stores p.firings right.keeps b max inside_here after (λ e. ne (decided ∙ e)) moved;
     built = record { rates = right.built.rates; capacities = right.built.capacities; places = right.built.places };
   }
 
   -- where nothing was claimed, all blocks have their room
   pub right_plain : (result ≡ decision.Ended → ⊥) → is_claimed result ≡ false → IsRight meaning (record p { firings = after })
   right_plain ne plain = record {
-    keeps = keeps_plain (net) (sizes_of p.capacities) runs_here p.tapes.items p.stores p.firings right.keeps b max inside_here after moved (ap is_claimed (sym decided) ∙ plain) (λ e. ne (decided ∙ e));
+    keeps = keeps_plain (net) (sizes_of p.capacities) runs_here p.stores p.firings right.keeps b max inside_here after moved (ap is_claimed (sym decided) ∙ plain) (λ e. ne (decided ∙ e));
     built = record { rates = right.built.rates; capacities = right.built.capacities; places = right.built.places };
   }
 
@@ -84,14 +83,14 @@ module _ {B : Type 0} (meaning : B → Meaning) (p : Parts B) (b max : ℕ) (rig
     pub release_from : (other : Flowgraph B) → other ≡ arc_value p.graph → CanRelease (net_of meaning other) (stored_in p.stores) b
     release_from other is =
         subst (λ (x : Flowgraph B). CanRelease (net_of meaning x) (stored_in p.stores) b) (sym is)
-        (may_release (net) (sizes_of p.capacities) runs_here p.tapes.items p.stores p.firings right.keeps b max inside_here (sym decided ∙ ended))
+        (may_release (net) (sizes_of p.capacities) runs_here p.stores p.firings right.keeps b max inside_here (sym decided ∙ ended))
 
     pub right_ended : (other : Flowgraph B) → other ≡ arc_value p.graph → (s : Stores) → s.handed ≡ p.stores.handed → stored_in s ≡ with_released (net_of meaning other) (stored_in p.stores) b → KeepsAllRoom p.stores s →
         IsRightBut meaning (record p { firings = after; stores = s }) b
     right_ended other is s same stored rooms = record {
-      keeps = keeps_ended (net) (sizes_of p.capacities) runs_here p.tapes.items p.stores p.firings right.keeps b max inside_here (sym decided ∙ ended) s after same
+      keeps = keeps_ended (net) (sizes_of p.capacities) runs_here p.stores p.firings right.keeps b max inside_here (sym decided ∙ ended) s after same
           (subst (λ (x : Flowgraph B). stored_in s ≡ with_released (net_of meaning x) (stored_in p.stores) b) is stored) rooms
-          (moved ∙ ap (λ (h : Vec stores.Handed Global). state_of h.items after) (sym same));
+          (moved ∙ ap (λ (h : Vec stores.Intake Global). state_of h.items after) (sym same));
       built = record { rates = right.built.rates; capacities = right.built.capacities; places = right.built.places };
     }
 
@@ -100,7 +99,7 @@ module _ {B : Type 0} (meaning : B → Meaning) (p : Parts B) (b max : ℕ) (rig
     right_all other is s same stored rooms =
         let but = right_ended other is s same stored rooms in
         record {
-          keeps = all_ended (net) (sizes_of p.capacities) runs_here p.tapes.items p.stores p.firings right.keeps b max inside_here (sym decided ∙ ended) s after
-              (moved ∙ ap (λ (h : Vec stores.Handed Global). state_of h.items after) (sym same)) but.keeps;
+          keeps = all_ended (net) (sizes_of p.capacities) runs_here p.stores p.firings right.keeps b max inside_here (sym decided ∙ ended) s after
+              (moved ∙ ap (λ (h : Vec stores.Intake Global). state_of h.items after) (sym same)) but.keeps;
           built = but.built;
         }

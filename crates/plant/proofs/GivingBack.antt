@@ -42,14 +42,14 @@ module _ (net : Network) (st : State) (b : ℕ) (in' : b < length net.nodes) (so
   commits = cond-true (is_in_flight net st true (in_flight net st b)) _ _ flies
 
 -- once it is given up, all blocks have their room
-pub keeps_abandoned : (net : Network) (caps : Capacities) (can : CanRun net) (tapes : List Tape) (s : Stores) (ps : List Progress) (b : ℕ) → KeepsBut net caps tapes s ps b →
-    b < length net.nodes → 0 < (progress_at ps b).claimed → Keeps net caps tapes s (abandoned ps b)
-keeps_abandoned net caps can tapes s ps b keeps in' some =
+pub keeps_abandoned : (net : Network) (caps : Capacities) (can : CanRun net) (s : Stores) (ps : List Progress) (b : ℕ) → KeepsBut net caps s ps b →
+    b < length net.nodes → 0 < (progress_at ps b).claimed → Keeps net caps s (abandoned ps b)
+keeps_abandoned net caps can s ps b keeps in' some =
     let st = state_of s.handed.items ps in
     let up = gives_up net st b in' some in
     let none : (progress_at (abandoned ps b) b).claimed ≡ 0 = ap (λ (p : Progress). p.claimed) (get_or-set_same ps b (record (progress_at ps b) { claimed = 0 }) no_progress (rw keeps.sound.progress_count in')) in
-    keeps_from net caps tapes s (abandoned ps b) b
-    (keeps_called net caps can tapes s ps b keeps (Abandon true (in_flight net st b)) (λ a ne. refl) s (abandoned ps b) (ap (λ (r : Reply × State). r.1) up) refl
+    keeps_from net caps s (abandoned ps b) b
+    (keeps_called net caps can s ps b keeps (Abandon true (in_flight net st b)) (λ a ne. refl) s (abandoned ps b) (ap (λ (r : Reply × State). r.1) up) refl
     (abandoning_holds net caps st (stored_in s) can keeps.sound keeps.stored true (in_flight net st b) (ap (λ (r : Reply × State). r.0) up)) (all_room s))
     (λ flying. absurd (let n = none in omega arith))
 

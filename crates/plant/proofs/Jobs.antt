@@ -20,7 +20,7 @@ use Rattle.plant.specs.declared.parts.Parts.{Parts}
 use Rattle.plant.specs.Plant.{PlantState, IsFlight, IsRightBut, plant_of}
 use Rattle.plant.proofs.Lending.{may_work, job_lent}
 
-module _ {B : Type 0} (meaning : B → Meaning) (old new : Parts B) (b first count : ℕ) (graph : Flowgraph B) (graph_is : graph ≡ arc_value old.graph)
+module _ {B P : Type 0} (meaning : B → Meaning) (old new : Parts B P) (b first count : ℕ) (graph : Flowgraph B) (graph_is : graph ≡ arc_value old.graph)
     (valid : IsValidGraph graph.names (net_of meaning graph)) (runs : CanRun (net_of meaning graph)) (same : plant_of new ≡ plant_of old) (right : IsRightBut meaning new b)
     (flight : IsFlight (net_of meaning (arc_value old.graph)) (plant_of old).state b first count) (windows : List Items) (held : List Held) (places : List Items)
     (lent : IsLent (net_of meaning (arc_value old.graph)) (stored_in new.stores) b first count windows held places) (word : ℕ) (word_here : word ≡ get_or new.stores.words.items b word) where
@@ -47,13 +47,13 @@ module _ {B : Type 0} (meaning : B → Meaning) (old new : Parts B) (b first cou
   may_do other is =
       subst (λ (x : Flowgraph B). let n = node_at (net_of meaning x) b in CanWork n.meaning (n.multiple * first) (n.multiple * count) word windows held places) (sym (is ∙ there))
       (subst (λ w. let n = node_at (net_of meaning (arc_value new.graph)) b in CanWork n.meaning (n.multiple * first) (n.multiple * count) w windows held places) (sym word_is)
-      (may_work (arc_value new.graph).names (net_of meaning (arc_value new.graph)) runs_new valid_new (sizes_of new.capacities) new.tapes.items new.stores new.firings b right.keeps first count flight_new
+      (may_work (arc_value new.graph).names (net_of meaning (arc_value new.graph)) runs_new valid_new (sizes_of new.capacities) new.stores new.firings b right.keeps first count flight_new
       windows held places lent_new))
 
   -- and it is the one that the machine says
   pub its_job : job_of (length places) b first count windows held word ≡ in_flight (net_of meaning (arc_value old.graph)) (plant_of old).state b
   its_job =
       ap (job_of (length places) b first count windows held) word_is
-      ∙ job_lent (arc_value new.graph).names (net_of meaning (arc_value new.graph)) runs_new valid_new (sizes_of new.capacities) new.tapes.items new.stores new.firings b right.keeps first count flight_new
+      ∙ job_lent (arc_value new.graph).names (net_of meaning (arc_value new.graph)) runs_new valid_new (sizes_of new.capacities) new.stores new.firings b right.keeps first count flight_new
       windows held places lent_new
       ∙ ap (λ (p : PlantState B). in_flight (net_of meaning p.graph) p.state b) same

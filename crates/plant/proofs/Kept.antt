@@ -3,10 +3,10 @@ use Rattle.std.proofs.Common.{◌≡◌, ℕ, ◌<◌, ◌≤◌, ◌+◌, min, 
 use Rattle.std.specs.Option.{IfSome}
 use Rattle.std.specs.Prelude.{is_some}
 use Rattle.stream_model.specs.Tags.{tags_within}
-use Rattle.stream_model.specs.Network.{Network, State, readers_of, used_outputs, tags_of}
-use Rattle.stream_model.specs.Machine.{Capacities}
+use Rattle.stream_model.specs.Network.{Network, State, node_at, readers_of, used_outputs, given_by, tags_of}
+use Rattle.stream_model.specs.Machine.{Capacities, capacity_at}
 use Rattle.stream_laws.specs.CanRun.{CanRun}
-use Rattle.machine_laws.specs.Sound.{Sound}
+use Rattle.machine_laws.specs.Sound.{Sound, fired}
 use Rattle.ring_readers.specs.State.{slowest_of, most_kept}
 use Rattle.plant_laws.specs.Stored.{Stored, buffer_at}
 use Rattle.plant_laws.specs.Holds.{Holds, IsBuffer, place_of, has_no_reader}
@@ -34,7 +34,7 @@ module _ (net : Network) (caps : Capacities) (st : State) (stored : Stored) (can
       negated true h = absurd (cc)
       negated false h = refl
 
-  behind : (o : Option ℕ) → slowest_of (map (place_of net st) (readers_of net b p)) ≡ o → KeepsFor net st b p o kept
+  behind : (o : Option ℕ) → slowest_of (map (place_of net st) (readers_of net b p)) ≡ o → KeepsFor net caps st b p o kept
   behind None e = none (slowest_is ∙ e)
   behind (Some place) e =
       let left = is_left place e in
@@ -43,7 +43,10 @@ module _ (net : Network) (caps : Capacities) (st : State) (stored : Stored) (can
       let close : (buffer_at stored b p).ring.written ≤ place + (buffer_at stored b p).ring.capacity = subst (λ o. IfSome o (λ place. (buffer_at stored b p).ring.written ≤ place + (buffer_at stored b p).ring.capacity)) (slowest_is ∙ e) near in
       let kept_tags = subst (λ o. IfSome o (λ place. tags_within 0 (buffer_at stored b p).ring.written (buffer_at stored b p).tags ≡ tags_within place (buffer_at stored b p).ring.written (tags_of net st.handed b p))) e more.tags in
       record {
-        items = (let written = shows.written in let items = all in let greatest = is.greatest in let one = some_history net (readers_of net b p) in omega arith);
+        items = all ∙ ap (λ n. min n (most_kept (buffer_at stored b p).ring.capacity (buffer_at stored b p).ring.greatest)) shows.written
+            ∙ ap (λ n. min (given_by (node_at net b) (fired st b)) (most_kept n (buffer_at stored b p).ring.greatest)) is.capacity
+            ∙ ap (λ n. min (given_by (node_at net b) (fired st b)) (most_kept (capacity_at caps b p) n)) is.greatest;
+        unread = (let written = shows.written in let items = all in let greatest = is.greatest in let one = some_history net (readers_of net b p) in omega arith);
         tags = tags_are ∙ ap length kept_tags ∙ ap (λ n. length (tags_within place n (tags_of net st.handed b p))) shows.written;
       }
 

@@ -27,8 +27,8 @@ use Rattle.stores.proofs.Workable.{lent_is_job, job_is, can_do}
 use Rattle.stores.proofs.Worked.{is_worked}
 use Rattle.plant.specs.Plant.{KeepsBut, IsFlight, IsItsWork}
 
-module _ (names : List (List ℕ)) (net : Network) (can : CanRun net) (valid : IsValidGraph names net) (caps : Capacities) (tapes : List Tape) (s : Stores) (ps : List Progress) (b : ℕ)
-    (keeps : KeepsBut net caps tapes s ps b) (first count : ℕ) (flight : IsFlight net (state_of s.handed.items ps) b first count) where
+module _ (names : List (List ℕ)) (net : Network) (can : CanRun net) (valid : IsValidGraph names net) (caps : Capacities) (s : Stores) (ps : List Progress) (b : ℕ)
+    (keeps : KeepsBut net caps s ps b) (first count : ℕ) (flight : IsFlight net (state_of s.handed.items ps) b first count) where
   abbrev st : State
   st = state_of s.handed.items ps
 

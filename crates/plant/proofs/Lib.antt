@@ -22,3 +22,6 @@ pub mod Rounds
 pub mod Steps
 pub mod Settles
 pub mod Counting
+pub mod Runs
+pub mod Sames
+pub mod Tapes

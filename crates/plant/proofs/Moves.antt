@@ -1,5 +1,6 @@
 -- What a plant keeps stays true as a block is handed something.
 use Rattle.std.proofs.Common.{◌≡◌, ℕ, ℤ, zero, suc, ◌<◌, ◌≤◌, ◌+◌, List, length-append, ◌++◌, [], ◌∷◌, map, length, get_or, set, refl, arith, ap, sym, ◌∙◌, subst, true, false, Option, Some, Ok, Err}
+use Rattle.std.specs.Arc.{arc_value}
 use Rattle.std.proofs.lemmas.List.{map-set, length-map}
 use Rattle.std.proofs.Math.Seq.{map-set_same}
 use Rattle.stream_model.specs.Network as model
@@ -19,7 +20,7 @@ use Rattle.plant_laws.specs.Stored as stored
 use Rattle.plant_laws.specs.Stored.{Stored}
 use Rattle.tags.specs.TagList.{insert_tags}
 use Rattle.plant_laws.specs.Holds.{Holds}
-use Rattle.stores.specs.declared.handed.Handed.{Handed}
+use Rattle.stores.specs.declared.intake.Intake.{Intake}
 use Rattle.stores.specs.Stores.{handed_of, tape_of, state_of, stored_in, rows_in, IsFed, IsAsBefore}
 use Rattle.stores.specs.declared.stores.Stores.{Stores}
 use Rattle.stores.specs.Stores.{stored_of}
@@ -35,7 +36,7 @@ use Rattle.plant.specs.declared.fault.PlantFault.{PlantFault}
 use Rattle.plant.proofs.Refusals.{IsSource, close-again, close-open, feed-stopped, feed-fits, length_with-ok}
 
 -- of all that is stored, only what block b was handed is another
-pub record IsHanded (s s' : Stores) (b : ℕ) (h : Handed) : Type 0 where
+pub record IsHanded (s s' : Stores) (b : ℕ) (h : Intake) : Type 0 where
   pub handed : s'.handed.items ≡ set s.handed.items b h
   pub words : s'.words ≡ s.words
   pub buffers : s'.buffers ≡ s.buffers
@@ -43,10 +44,10 @@ pub record IsHanded (s s' : Stores) (b : ℕ) (h : Handed) : Type 0 where
   pub brought : s'.brought ≡ s.brought
 
 -- then this is stored
-pub stored_then : (s s' : Stores) (b : ℕ) (h : Handed) → IsHanded s s' b h → stored_in s' ≡ stored_of (set s.handed.items b h) s.words.items (rows_in s) s.sinks.items
+pub stored_then : (s s' : Stores) (b : ℕ) (h : Intake) → IsHanded s s' b h → stored_in s' ≡ stored_of (set s.handed.items b h) s.words.items (rows_in s) s.sinks.items
 stored_then s s' b h is = rw (is.handed, is.words, is.buffers, is.sinks) refl
 
-pub room_handed : (s s' : Stores) (b : ℕ) (h : Handed) → IsHanded s s' b h → KeepsAllRoom s s'
+pub room_handed : (s s' : Stores) (b : ℕ) (h : Intake) → IsHanded s s' b h → KeepsAllRoom s s'
 room_handed s s' b h is = record {
   buffers = λ a p. rw is.buffers (omega arith);
   brought = rw is.brought (omega arith);
@@ -54,7 +55,7 @@ room_handed s s' b h is = record {
 }
 
 -- there is as much room as before
-pub room_same : (net : Network) (s s' : Stores) (b : ℕ) (h : Handed) → IsHanded s s' b h → stored_in s' ≡ stored_in s → (a k c : ℕ) → HasRoom net s a k c → HasRoom net s' a k c
+pub room_same : (net : Network) (s s' : Stores) (b : ℕ) (h : Intake) → IsHanded s s' b h → stored_in s' ≡ stored_in s → (a k c : ℕ) → HasRoom net s a k c → HasRoom net s' a k c
 room_same net s s' b h is same a k c room = record {
   tags = λ p used. rw (same, is.buffers) (room.tags p used);
   brought = λ p used. rw (same, is.brought) (room.brought p used);
@@ -76,48 +77,41 @@ mapped_at f [] k x y lt = absurd (omega arith)
 mapped_at f (z ∷ zs) zero x y lt = refl
 mapped_at f (z ∷ zs) (suc k) x y lt = mapped_at f zs k x y (omega arith)
 
-module _ (net : Network) (caps : Capacities) (can : CanRun net) (tapes : List Tape) (s : Stores) (ps : List Progress) (keeps : Keeps net caps tapes s ps) where
+module _ (net : Network) (caps : Capacities) (can : CanRun net) (s : Stores) (ps : List Progress) (keeps : Keeps net caps s ps) where
   pub handed_long : length s.handed.items ≡ length net.nodes
   handed_long = sym (length-map s.handed.items handed_of) ∙ keeps.sound.handed_count
-
-  pub tapes_long : length tapes ≡ length net.nodes
-  tapes_long = ap length (sym keeps.tapes_are) ∙ length-map (map handed_of s.handed.items) firings.tape_of ∙ keeps.sound.handed_count
 
   module _ (b : ℕ) (in' : b < length net.nodes) where
     in-handed : b < length s.handed.items
     in-handed = rw handed_long in'
 
-    pub handed_here : (d : Handed) → handed_at (map handed_of s.handed.items) b ≡ handed_of (get_or s.handed.items b d)
+    pub handed_here : (d : Intake) → handed_at (map handed_of s.handed.items) b ≡ handed_of (get_or s.handed.items b d)
     handed_here d = mapped_at handed_of s.handed.items b d nothing_handed in-handed
 
     -- the tape that firings look at
-    pub tape_here : (d : Tape) → get_or tapes b d ≡ firings.tape_of (handed_at (map handed_of s.handed.items) b)
-    tape_here d = ap (λ ts. get_or ts b d) (sym keeps.tapes_are) ∙ mapped_at firings.tape_of (map handed_of s.handed.items) b nothing_handed d (rw length-map in-handed)
+    pub counted : (h : Intake) (t : Tape) → h ≡ get_or s.handed.items b h → t ≡ firings.tape_of (handed_of h) → t ≡ firings.tape_of (handed_at (map handed_of s.handed.items) b)
+    counted h t h_is is = is ∙ ap firings.tape_of (ap handed_of h_is ∙ sym (handed_here h))
 
-    pub state_with : (h : Handed) → state_of (set s.handed.items b h) ps ≡ with_handed (state_of s.handed.items ps) b (handed_of h)
+    pub state_with : (h : Intake) → state_of (set s.handed.items b h) ps ≡ with_handed (state_of s.handed.items ps) b (handed_of h)
     state_with h = rw (map-set handed_of s.handed.items b h) refl
 
-    pub stored_here : (h : Handed) → h ≡ get_or s.handed.items b h → tape_of h ≡ stored.tape_at (stored_in s) b
+    pub stored_here : (h : Intake) → h ≡ get_or s.handed.items b h → tape_of h ≡ stored.tape_at (stored_in s) b
     stored_here h h_is = ap tape_of h_is ∙ sym (mapped_at tape_of s.handed.items b h stored.no_tape in-handed)
 
-    stored_with : (h d : Handed) → h.timeline ≡ (get_or s.handed.items b d).timeline →
+    stored_with : (h d : Intake) → h.timeline ≡ (get_or s.handed.items b d).timeline →
         stored_of (set s.handed.items b h) s.words.items (rows_in s) s.sinks.items ≡ record (stored_in s) { tapes = set (map tape_of s.handed.items) b (tape_of h) }
-    stored_with h d e = rw (map-set tape_of s.handed.items b h, map-set_same (λ (x : Handed). x.timeline) s.handed.items b h d e) refl
-
-    tapes_with : (h : Handed) (t : Tape) → t ≡ firings.tape_of (handed_of h) → firings.HasTapes (set tapes b t) (map handed_of (set s.handed.items b h))
-    tapes_with h t e = rw (map-set handed_of s.handed.items b h, map-set firings.tape_of (map handed_of s.handed.items) b (handed_of h), keeps.tapes_are, e) refl
+    stored_with h d e = rw (map-set tape_of s.handed.items b h, map-set_same (λ (x : Intake). x.timeline) s.handed.items b h d e) refl
 
     -- after a call that handed the block something, where the law of the call speaks of what is stored now
-    pub keeps_moved : (call : Call) (h : Handed) (t : Tape) (s' : Stores) (after : Stored) → (next net caps (state_of s.handed.items ps) call).1 ≡ with_handed (state_of s.handed.items ps) b (handed_of h) →
-        Holds net caps (next net caps (state_of s.handed.items ps) call).1 after → after ≡ stored_of (set s.handed.items b h) s.words.items (rows_in s) s.sinks.items → IsHanded s s' b h → t ≡ firings.tape_of (handed_of h) →
-        Keeps net caps (set tapes b t) s' ps
-    keeps_moved call h t s' after moved holds is handed tape =
+    pub keeps_moved : (call : Call) (h : Intake) (s' : Stores) (after : Stored) → (next net caps (state_of s.handed.items ps) call).1 ≡ with_handed (state_of s.handed.items ps) b (handed_of h) →
+        Holds net caps (next net caps (state_of s.handed.items ps) call).1 after → after ≡ stored_of (set s.handed.items b h) s.words.items (rows_in s) s.sinks.items → IsHanded s s' b h →
+        Keeps net caps s' ps
+    keeps_moved call h s' after moved holds is handed =
         let there : (next net caps (state_of s.handed.items ps) call).1 ≡ state_of s'.handed.items ps = moved ∙ sym (state_with h) ∙ ap (λ x. state_of x ps) (sym handed.handed) in
         let here : after ≡ stored_in s' = is ∙ sym (stored_then s s' b h handed) in
         record {
           sound = subst (Sound net caps) there (calls_keep_sound net caps (state_of s.handed.items ps) can keeps.sound call);
           stored = subst (Holds net caps (state_of s'.handed.items ps)) here (subst (λ st. Holds net caps st after) there holds);
-          tapes_are = ap (λ x. map firings.tape_of (map handed_of x)) handed.handed ∙ tapes_with h t tape;
           room = λ a in'' claimed.
               room_stays net can s s' a (progress_at ps a).firings (progress_at ps a).claimed
               (flights_keep_tags net caps (state_of s.handed.items ps) (stored_in s) can keeps.sound keeps.stored call (stored_in s') a in'' claimed
@@ -127,12 +121,12 @@ module _ (net : Network) (caps : Capacities) (can : CanRun net) (tapes : List Ta
         }
 
     -- the tape that firings look at is the block's
-    module _ (t : Tape) (t_is : t ≡ get_or tapes b t) where
+    module _ (t : Tape) (t_is : t ≡ firings.tape_of (handed_at (map handed_of s.handed.items) b)) where
       closed_is : (handed_at (map handed_of s.handed.items) b).closed ≡ t.closed
-      closed_is = ap (λ (x : Tape). x.closed) (sym (t_is ∙ tape_here t))
+      closed_is = ap (λ (x : Tape). x.closed) (sym t_is)
 
       pub length_is : length (handed_at (map handed_of s.handed.items) b).tape ≡ t.length
-      length_is = ap (λ (x : Tape). x.length) (sym (t_is ∙ tape_here t))
+      length_is = ap (λ (x : Tape). x.length) (sym t_is)
 
       pub tape_short : t.length ≤ longest_tape
       tape_short = rw (← length_is) (keeps.sound.handed b in').short
@@ -143,7 +137,7 @@ module _ (net : Network) (caps : Capacities) (can : CanRun net) (tapes : List Ta
 
         module _ (ty : ItemType) (xs : List ℤ) (ms : List Mark) (typed : types_agree ty item ≡ true) where
           asked : length_with (firings.tape_of (handed_at (map handed_of s.handed.items) b)) (length xs) ms ≡ length_with t (length xs) ms
-          asked = ap (λ x. length_with x (length xs) ms) (sym (t_is ∙ tape_here t))
+          asked = ap (λ x. length_with x (length xs) ms) (sym t_is)
 
           pub feed_stopped : (e : PlantFault) → length_with t (length xs) ms ≡ Err e →
               (refusal_of e ≡ Some (feed_of net (state_of s.handed.items ps) b ty xs ms).0) × ((feed_of net (state_of s.handed.items ps) b ty xs ms).1 ≡ state_of s.handed.items ps)
@@ -153,30 +147,23 @@ module _ (net : Network) (caps : Capacities) (can : CanRun net) (tapes : List Ta
             pub feed_now : feed_of net (state_of s.handed.items ps) b ty xs ms ≡ (machine.Fed total, with_handed (state_of s.handed.items ps) b (with_tape (handed_at (map handed_of s.handed.items) b) b xs ms))
             feed_now = feed-fits net (state_of s.handed.items ps) b item source ty xs ms typed total (asked ∙ fits)
 
-            module _ (h h' : Handed) (h_is : h ≡ get_or s.handed.items b h) (fed : IsFed b xs ms h h') where
+            module _ (h h' : Intake) (h_is : h ≡ get_or s.handed.items b h) (fed : IsFed b xs ms h h') where
               moves : with_tape (handed_at (map handed_of s.handed.items) b) b xs ms ≡ handed_of h'
               moves = ap (λ x. with_tape x b xs ms) (handed_here h ∙ ap handed_of (sym h_is)) ∙ sym fed.handed
 
               pub feeds : feed_of net (state_of s.handed.items ps) b ty xs ms ≡ (machine.Fed total, state_of (set s.handed.items b h') ps)
               feeds = feed_now ∙ ap (λ x. (machine.Fed total, with_handed (state_of s.handed.items ps) b x)) moves ∙ ap (λ x. (machine.Fed total, x)) (sym (state_with h'))
 
-              tape_grown : firings.tape_of (handed_of h') ≡ record t { length = total }
-              tape_grown =
-                  ap firings.tape_of (sym moves)
-                  ∙ ap (λ n. (let y : Tape = record { length = n; closed = (handed_at (map handed_of s.handed.items) b).closed } in y))
-                  (length-append (handed_at (map handed_of s.handed.items) b).tape xs ∙ ap (λ n. n + length xs) length_is ∙ sym (length_with-ok t (length xs) ms total fits))
-                  ∙ ap (λ c. (let y : Tape = record { length = total; closed = c } in y)) closed_is
-
-              pub keeps_fed : (s' : Stores) → IsHanded s s' b h' → Keeps net caps (set tapes b (record t { length = total })) s' ps
+              pub keeps_fed : (s' : Stores) → IsHanded s s' b h' → Keeps net caps s' ps
               keeps_fed s' handed =
-                  keeps_moved (machine.Feed b ty xs ms) h' (record t { length = total }) s' _ (ap (λ (now : Reply × State). now.1) feeds ∙ state_with h')
+                  keeps_moved (machine.Feed b ty xs ms) h' s' _ (ap (λ (now : Reply × State). now.1) feeds ∙ state_with h')
                   (feeding_holds net caps (state_of s.handed.items ps) (stored_in s) can keeps.sound keeps.stored b ty xs ms total (ap (λ (now : Reply × State). now.0) feeds))
-                  (sym (stored_with h' h (fed.timeline ∙ ap (λ (x : Handed). x.timeline) h_is)
+                  (sym (stored_with h' h (fed.timeline ∙ ap (λ (x : Intake). x.timeline) h_is)
                   ∙ ap (λ x. record (stored_in s) { tapes = set (map tape_of s.handed.items) b x })
                   (fed.tape ∙ ap (λ (x : stored.Tape). record x { items = x.items ++ xs; tags = insert_tags (map (machine.tag_of b) ms) x.tags }) (stored_here h h_is))))
-                  handed (sym tape_grown)
+                  handed
 
-        module _ (h : Handed) (h_is : h ≡ get_or s.handed.items b h) (open' : t.closed ≡ false) where
+        module _ (h : Intake) (h_is : h ≡ get_or s.handed.items b h) (open' : t.closed ≡ false) where
           here : handed_at (map handed_of s.handed.items) b ≡ handed_of h
           here = handed_here h ∙ ap handed_of (sym h_is)
 
@@ -187,33 +174,32 @@ module _ (net : Network) (caps : Capacities) (can : CanRun net) (tapes : List Ta
               ∙ ap (λ (x : model.Handed). (machine.Closed t.length, with_handed (state_of s.handed.items ps) b (record x { closed = true }))) here
               ∙ ap (λ x. (machine.Closed t.length, x)) (sym (state_with (record h { closed = true })))
 
-          pub keeps_closed : (s' : Stores) → IsHanded s s' b (record h { closed = true }) → Keeps net caps (set tapes b (record t { closed = true })) s' ps
+          pub keeps_closed : (s' : Stores) → IsHanded s s' b (record h { closed = true }) → Keeps net caps s' ps
           keeps_closed s' handed =
-              keeps_moved (machine.Close b) (record h { closed = true }) (record t { closed = true }) s' _ (ap (λ (now : Reply × State). now.1) closes ∙ state_with (record h { closed = true }))
+              keeps_moved (machine.Close b) (record h { closed = true }) s' _ (ap (λ (now : Reply × State). now.1) closes ∙ state_with (record h { closed = true }))
               (closing_holds net caps (state_of s.handed.items ps) (stored_in s) can keeps.sound keeps.stored b t.length (ap (λ (now : Reply × State). now.0) closes))
-              (sym (stored_with (record h { closed = true }) h (ap (λ (x : Handed). x.timeline) h_is)
+              (sym (stored_with (record h { closed = true }) h (ap (λ (x : Intake). x.timeline) h_is)
               ∙ ap (λ (x : stored.Tape). record (stored_in s) { tapes = set (map tape_of s.handed.items) b (record x { closed = true }) }) (stored_here h h_is)))
-              handed (ap (λ (x : Tape). record x { closed = true }) (t_is ∙ tape_here t ∙ ap firings.tape_of here))
+              handed
 
-    pub item_is : (h : Handed) (item : ItemType) → h ≡ get_or s.handed.items b h → IsSource net b item → h.tape.item ≡ item
+    pub item_is : (h : Intake) (item : ItemType) → h ≡ get_or s.handed.items b h → IsSource net b item → (arc_value h.tape).item ≡ item
     item_is h item h_is source = ap (λ (x : stored.Tape). x.item) (stored_here h h_is) ∙ (keeps.stored.tapes b in' source.source).type ∙ source.type
 
     -- where nothing that was handed to the block changed
-    module _ (h h' : Handed) (h_is : h ≡ get_or s.handed.items b h) (same : IsAsBefore h h') where
+    module _ (h h' : Intake) (h_is : h ≡ get_or s.handed.items b h) (same : IsAsBefore h h') where
       pub state_same : state_of (set s.handed.items b h') ps ≡ state_of s.handed.items ps
       state_same = ap (λ x. (let y : State = record { handed = x; progress = ps } in y)) (map-set_same handed_of s.handed.items b h' h (same.handed ∙ ap handed_of h_is))
 
       stored_same : stored_of (set s.handed.items b h') s.words.items (rows_in s) s.sinks.items ≡ stored_in s
       stored_same =
-          rw (map-set_same tape_of s.handed.items b h' h (same.tape ∙ ap tape_of h_is), map-set_same (λ (x : Handed). x.timeline) s.handed.items b h' h (same.timeline ∙ ap (λ (x : Handed). x.timeline) h_is)) refl
+          rw (map-set_same tape_of s.handed.items b h' h (same.tape ∙ ap tape_of h_is), map-set_same (λ (x : Intake). x.timeline) s.handed.items b h' h (same.timeline ∙ ap (λ (x : Intake). x.timeline) h_is)) refl
 
-      pub keeps_same : (s' : Stores) → IsHanded s s' b h' → Keeps net caps tapes s' ps
+      pub keeps_same : (s' : Stores) → IsHanded s s' b h' → Keeps net caps s' ps
       keeps_same s' handed =
           let there : state_of s'.handed.items ps ≡ state_of s.handed.items ps = ap (λ x. state_of x ps) handed.handed ∙ state_same in
           let stays : stored_in s' ≡ stored_in s = stored_then s s' b h' handed ∙ stored_same in
           record {
             sound = subst (Sound net caps) (sym there) keeps.sound;
             stored = subst (λ x. Holds net caps (state_of s'.handed.items ps) x) (sym stays) (subst (λ st. Holds net caps st (stored_in s)) (sym there) keeps.stored);
-            tapes_are = ap (λ (st : State). map firings.tape_of st.handed) there ∙ keeps.tapes_are;
             room = λ a in'' claimed. room_same net s s' b h' handed stays a (progress_at ps a).firings (progress_at ps a).claimed (keeps.room a in'' claimed);
           }

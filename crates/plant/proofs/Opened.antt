@@ -37,11 +37,10 @@ module _ (net : Network) (f : Fresh) (is : IsFresh net f) where
   idle : (b : ℕ) → b < length net.nodes → progress_at f.firings b ≡ no_progress
   idle b in' = ap (λ ps. progress_at ps b) is.firings ∙ get_or-replicate (length net.nodes) b no_progress no_progress in'
 
-  pub keeps_opened : CanRun net → Keeps net (sizes_of f.capacities) f.tapes.items f.stores f.firings
+  pub keeps_opened : CanRun net → Keeps net (sizes_of f.capacities) f.stores f.firings
   keeps_opened can = record {
     sound = subst (Sound net (sizes_of f.capacities)) (sym opens) (opening_sound net (sizes_of f.capacities) can);
     stored = subst (Holds net (sizes_of f.capacities) (state_of f.stores.handed.items f.firings)) (sym is.stored)
         (subst (λ st. Holds net (sizes_of f.capacities) st (stored_opening net (sizes_of f.capacities))) (sym opens) (opening_holds net (sizes_of f.capacities) can));
-    tapes_are = ap (map firings.tape_of) is.handed ∙ mapped_alike firings.tape_of nothing_handed net.nodes ∙ sym is.tapes;
     room = λ b in' claimed. (let none = ap (λ (p : Progress). p.claimed) (idle b in') in absurd (omega (arith, none, claimed)));
   }

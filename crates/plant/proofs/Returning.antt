@@ -45,7 +45,7 @@ commit_taken {B} old new net own job b count is block counts new_is =
     )
 
 -- each block of the graph has a place for what its jobs are lent
-pub place_there : {B : Type 0} (meaning : B → Meaning) (p : Parts B) (old : PlantState B) (st : State) (b : ℕ) → IsRight meaning p → plant_of p ≡ record old { state = st } →
+pub place_there : {B P : Type 0} (meaning : B → Meaning) (p : Parts B P) (old : PlantState B) (st : State) (b : ℕ) → IsRight meaning p → plant_of p ≡ record old { state = st } →
     b < length (net_of meaning old.graph).nodes → b < vec_len p.lent
 place_there {B} meaning p old st b right is inside =
     let graphs = ap (λ (x : PlantState B). length (net_of meaning x.graph).nodes) is in

@@ -18,7 +18,7 @@ use Rattle.plant.specs.Plant.{IsFlight, IsRight, IsRightBut, plant_of}
 use Rattle.plant.proofs.Claiming.{keeps_from, keeps_roomier}
 use Rattle.plant.proofs.Lending.{may_lend}
 
-module _ {B : Type 0} (meaning : B → Meaning) (p : Parts B) (b first count : ℕ) (graph : Flowgraph B) (graph_is : graph ≡ arc_value p.graph)
+module _ {B P : Type 0} (meaning : B → Meaning) (p : Parts B P) (b first count : ℕ) (graph : Flowgraph B) (graph_is : graph ≡ arc_value p.graph)
     (valid : IsValidGraph graph.names (net_of meaning graph)) (runs : CanRun (net_of meaning graph)) (right : IsRightBut meaning p b)
     (flight : IsFlight (net_of meaning (arc_value p.graph)) (plant_of p).state b first count) where
   runs_here : CanRun (net_of meaning (arc_value p.graph))
@@ -29,13 +29,13 @@ module _ {B : Type 0} (meaning : B → Meaning) (p : Parts B) (b first count : �
   may_lend_from other is s same =
       subst (λ (x : Flowgraph B). CanLend (net_of meaning x) (stored_in s) b first count) (sym is)
       (subst (λ x. CanLend (net_of meaning (arc_value p.graph)) x b first count) (sym same)
-      (may_lend (arc_value p.graph).names (net_of meaning (arc_value p.graph)) runs_here (subst (λ (x : Flowgraph B). IsValidGraph x.names (net_of meaning x)) graph_is valid) (sizes_of p.capacities) p.tapes.items
+      (may_lend (arc_value p.graph).names (net_of meaning (arc_value p.graph)) runs_here (subst (λ (x : Flowgraph B). IsValidGraph x.names (net_of meaning x)) graph_is valid) (sizes_of p.capacities)
       p.stores p.firings b right.keeps first count flight))
 
   module _ (s : Stores) (same : stored_in s ≡ stored_in p.stores) (handed : s.handed ≡ p.stores.handed) (rooms : KeepsAllRoom p.stores s) (lent : Vec Lent Global) (long : length lent.items ≡ length p.lent.items) where
     pub right_but_roomy : IsRightBut meaning (record p { stores = s; lent = lent }) b
     right_but_roomy = record {
-      keeps = keeps_roomier (net_of meaning (arc_value p.graph)) (sizes_of p.capacities) runs_here p.tapes.items p.stores s p.firings b right.keeps same handed rooms;
+      keeps = keeps_roomier (net_of meaning (arc_value p.graph)) (sizes_of p.capacities) runs_here p.stores s p.firings b right.keeps same handed rooms;
       built = record { rates = right.built.rates; capacities = right.built.capacities; places = long ∙ right.built.places };
     }
 
@@ -46,7 +46,7 @@ module _ {B : Type 0} (meaning : B → Meaning) (p : Parts B) (b first count : �
         let here : HasRoom net s b first count = subst (λ (x : Flowgraph B). HasRoom (net_of meaning x) s b first count) is room in
         let but = right_but_roomy in
         record {
-          keeps = keeps_from net (sizes_of p.capacities) p.tapes.items s p.firings b but.keeps
+          keeps = keeps_from net (sizes_of p.capacities) s p.firings b but.keeps
               (λ _. subst (HasRoom net s b (progress_at p.firings b).firings) flight.count_is (subst (λ k. HasRoom net s b k count) flight.first_is here));
           built = but.built;
         }

@@ -1,13 +1,12 @@
 -- A block's setting: why it is refused, what it makes, and that what a plant keeps stays true.
 use Rattle.std.proofs.Common.{◌≡◌, ℕ, ◌<◌, ◌≤◌, ◌+◌, ◌*◌, ◌++◌, List, [], ◌∷◌, map, length, get_or, set, refl, ap, sym, ◌∙◌, subst, true, false, Bool, Option, Some, None, not, nat_lt, lt-ltb, le-ltb, ltb-true, if◌then◌else◌}
 use Rattle.std.proofs.lemmas.List.{map-set}
-use Rattle.std.proofs.Math.Seq.{map-set_same}
 use Rattle.std.specs.Option.{unwrap_or}
 use Rattle.std.specs.Prelude.{IsSome}
 use Rattle.stream_model.specs.declared.vocabulary.Wanted.{Wanted}
 use Rattle.stream_model.specs.declared.vocabulary.Role.{Role}
 use Rattle.stream_model.specs.declared.vocabulary.Role.TheVariants.{Source, Work, Keep, Discard}
-use Rattle.stream_model.specs.Settings.{Value}
+use Rattle.stream_model.specs.Settings.{Value, Held, put_setting}
 use Rattle.stream_model.specs.Meaning.{Meaning, KeepsRole}
 use Rattle.stream_model.specs.Network as model
 use Rattle.stream_model.specs.Network.{Network, Progress, State, node_at, role_at, is_source, handed_at, progress_at, nothing_handed, writers_of, taken_by}
@@ -17,20 +16,19 @@ use Rattle.graph_model.specs.Graphs.{IsValidGraph}
 use Rattle.stream_laws.specs.CanRun.{CanRun}
 use Rattle.machine_laws.specs.Bounds.{IsSmall}
 use Rattle.machine_laws.proofs.Bounding.{counts_are_small}
-use Rattle.firings.specs.declared.progress.Tape.{Tape}
-use Rattle.firings.specs.State as firings
+use Rattle.std.specs.List.{Any}
 use Rattle.settings.specs.Timelines.{Settings, held_at}
 use Rattle.plant_laws.specs.Stored.{timeline_at}
 use Rattle.plant_laws.specs.Calls.{TakesOneMore}
 use Rattle.plant_laws.specs.Changes.{with_settings}
 use Rattle.plant_laws.specs.Holds.{Holds}
 use Rattle.plant_laws.proofs.Handing.{setting_holds}
-use Rattle.stores.specs.declared.handed.Handed.{Handed}
+use Rattle.stores.specs.declared.intake.Intake.{Intake}
 use Rattle.stores.specs.declared.stores.Stores.{Stores}
-use Rattle.stores.specs.Stores.{handed_of, state_of, stored_in, rows_in, IsSet}
+use Rattle.stores.specs.Stores.{handed_of, settings_in, state_of, stored_in, rows_in, IsSet}
 use Rattle.stores.proofs.Handing.{timeline_before, setting_before, stored_setting}
 use Rattle.plant.specs.declared.fault.PlantFault.{PlantFault}
-use Rattle.plant.specs.declared.fault.PlantFault.TheVariants.{NoSuchBlock, NoSetting, WrongSetting}
+use Rattle.plant.specs.declared.fault.PlantFault.TheVariants.{NoSuchBlock, NotSource, NotSink, Closed, ItemRange, TagPlace, TapeFull, Late, NoSetting, WrongSetting, BeyondEnd, NoSuchPort, Memory}
 use Rattle.plant.specs.Plant.{Keeps}
 use Rattle.plant.specs.Answers.{refusal_of, takes_memory}
 use Rattle.plant.specs.Setting.{unwanted, setting_fault}
@@ -92,7 +90,7 @@ module _ (net : Network) (st : State) (b : ℕ) (v : Value) where
     set-late at place e late = let below = lt-ltb place (floor_of net st b) late in set_is at place e ∙ rw below refl
 
     pub set-now : (at : Option ℕ) (place : ℕ) → place ≡ unwrap_or at (floor_of net st b) → floor_of net st b ≤ place →
-        set_of net st b at v ≡ (machine.Taken place, with_handed st b (let s = handed_at st.handed b in record s { settings = s.settings ++ held_at place v ∷ [] }))
+        set_of net st b at v ≡ (machine.Taken place, with_handed st b (let s = handed_at st.handed b in record s { settings = put_setting (held_at place v) s.settings }))
     set-now at place e open' = let above = le-ltb place (floor_of net st b) open' in set_is at place e ∙ rw above refl
 
 -- a block with a setting is no source
@@ -106,13 +104,13 @@ no_source m Discard w keeps has = refl
 pub input_there : (net : Network) → CanRun net → (b : ℕ) (v : Value) → IsTaken net b v → 0 < length (writers_of net b)
 input_there net can b v is = can.fed b is.inside (no_source (node_at net b).meaning (role_at net b) is.wanted (can.sound b).lawful.role is.has)
 
-module _ (net : Network) (caps : Capacities) (can : CanRun net) (tapes : List Tape) (s : Stores) (ps : List Progress) (keeps : Keeps net caps tapes s ps) where
+module _ (net : Network) (caps : Capacities) (can : CanRun net) (s : Stores) (ps : List Progress) (keeps : Keeps net caps s ps) where
   pub small : (names : List (List ℕ)) → IsValidGraph names net → (b : ℕ) → b < length net.nodes → IsSmall net (state_of s.handed.items ps) b
   small names valid b in' = counts_are_small names net caps (state_of s.handed.items ps) can valid keeps.sound b in'
 
   module _ (b : ℕ) (v : Value) (is : IsTaken net b v) (at : Option ℕ) (place : ℕ) (place_is : place ≡ unwrap_or at (floor_of net (state_of s.handed.items ps) b)) (open' : floor_of net (state_of s.handed.items ps) b ≤ place) where
     set_now : set_of net (state_of s.handed.items ps) b at v
-        ≡ (machine.Taken place, with_handed (state_of s.handed.items ps) b (let h = handed_at (map handed_of s.handed.items) b in record h { settings = h.settings ++ held_at place v ∷ [] }))
+        ≡ (machine.Taken place, with_handed (state_of s.handed.items ps) b (let h = handed_at (map handed_of s.handed.items) b in record h { settings = put_setting (held_at place v) h.settings }))
     set_now = set-now net (state_of s.handed.items ps) b v is at place place_is open'
 
     pub takes : takes_memory (set_of net (state_of s.handed.items ps) b at v).0 ≡ true
@@ -123,17 +121,28 @@ module _ (net : Network) (caps : Capacities) (can : CanRun net) (tapes : List Ta
     law = setting_holds net caps (state_of s.handed.items ps) (stored_in s) can keeps.sound keeps.stored b at v place (ap (λ (now : Reply × State). now.0) set_now)
 
     in-handed : b < length s.handed.items
-    in-handed = rw (handed_long net caps can tapes s ps keeps) is.inside
+    in-handed = rw (handed_long net caps can s ps keeps) is.inside
 
-    module _ (h : Handed) (h_is : h ≡ get_or s.handed.items b h) where
+    module _ (h : Intake) (h_is : h ≡ get_or s.handed.items b h) where
       pub has_timeline : IsSome h.timeline
       has_timeline = let there : h.timeline ≡ Some law.0 = sym (timeline_before s.handed.items b h in-handed h_is s.words.items (rows_in s) s.sinks.items) ∙ law.1 in rw there refl
 
-      module _ (h' : Handed) (made : IsSet (held_at place v) h h') where
-        moves : with_handed (state_of s.handed.items ps) b (let x = handed_at (map handed_of s.handed.items) b in record x { settings = x.settings ++ held_at place v ∷ [] }) ≡ with_handed (state_of s.handed.items ps) b (handed_of h')
+      -- where there is a setting of the place already, the block's timeline has it
+      pub has_place : (other : ℕ) → (set_of net (state_of s.handed.items ps) b at v).0 ≡ machine.Taken other → Any (λ (x : Held). x.at ≡ other) (handed_at (map handed_of s.handed.items) b).settings →
+          Any (λ (x : Held). x.at ≡ place) (settings_in h.timeline)
+      has_place other is_taken has =
+          let same : place ≡ other = the_place (sym (ap (λ (now : Reply × State). now.0) set_now) ∙ is_taken) in
+          let here : (handed_at (map handed_of s.handed.items) b).settings ≡ settings_in h.timeline = ap (λ (x : model.Handed). x.settings) (handed_here net caps can s ps keeps b is.inside h ∙ ap handed_of (sym h_is)) in
+          subst (λ n. Any (λ (x : Held). x.at ≡ n) (settings_in h.timeline)) (sym same) (subst (Any (λ (x : Held). x.at ≡ other)) here has)
+        where
+          the_place : {m n : ℕ} → machine.Taken m ≡ machine.Taken n → m ≡ n
+          the_place e = cc
+
+      module _ (h' : Intake) (made : IsSet (held_at place v) h h') where
+        moves : with_handed (state_of s.handed.items ps) b (let x = handed_at (map handed_of s.handed.items) b in record x { settings = put_setting (held_at place v) x.settings }) ≡ with_handed (state_of s.handed.items ps) b (handed_of h')
         moves =
-            ap (λ (x : model.Handed). with_handed (state_of s.handed.items ps) b (record x { settings = x.settings ++ held_at place v ∷ [] }))
-            (handed_here net caps can tapes s ps keeps b is.inside h ∙ ap handed_of (sym h_is))
+            ap (λ (x : model.Handed). with_handed (state_of s.handed.items ps) b (record x { settings = put_setting (held_at place v) x.settings }))
+            (handed_here net caps can s ps keeps b is.inside h ∙ ap handed_of (sym h_is))
             ∙ ap (with_handed (state_of s.handed.items ps) b) (sym made.handed)
 
         pub sets : set_of net (state_of s.handed.items ps) b at v ≡ (machine.Taken place, state_of (set s.handed.items b h') ps)
@@ -149,21 +158,24 @@ module _ (net : Network) (caps : Capacities) (can : CanRun net) (tapes : List Ta
             let other : timeline_at (stored_in s) b ≡ Some made.timeline.before = setting_before s.handed.items b h in-handed h_is s.words.items (rows_in s) s.sinks.items (held_at place v) h' made in
             cc
 
-        tape_same : map firings.tape_of (map handed_of (set s.handed.items b h')) ≡ map firings.tape_of (map handed_of s.handed.items)
-        tape_same =
-            ap (map firings.tape_of) (map-set handed_of s.handed.items b h')
-            ∙ map-set_same firings.tape_of (map handed_of s.handed.items) b (handed_of h') nothing_handed
-            (ap firings.tape_of made.handed ∙ ap firings.tape_of (ap handed_of h_is ∙ sym (handed_here net caps can tapes s ps keeps b is.inside h)))
-
-        pub keeps_set : (s' : Stores) → IsHanded s s' b h' → Keeps net caps tapes s' ps
+        pub keeps_set : (s' : Stores) → IsHanded s s' b h' → Keeps net caps s' ps
         keeps_set s' handed =
-            let moved =
-            keeps_moved net caps can tapes s ps keeps b is.inside (machine.Set b at v) h' (firings.tape_of (handed_of h')) s' _ (ap (λ (now : Reply × State). now.1) set_now ∙ moves)
+            keeps_moved net caps can s ps keeps b is.inside (machine.Set b at v) h' s' _ (ap (λ (now : Reply × State). now.1) set_now ∙ moves)
             (law.2 made.timeline.after (subst (λ x. TakesOneMore x made.timeline.after (held_at place v)) (sym own_is) made.timeline.more))
-            (sym (stored_setting s.handed.items b h in-handed h_is s.words.items (rows_in s) s.sinks.items (held_at place v) h' made)) handed refl in
-            record {
-              sound = moved.sound;
-              stored = moved.stored;
-              tapes_are = ap (λ x. map firings.tape_of (map handed_of x)) handed.handed ∙ tape_same ∙ keeps.tapes_are;
-              room = moved.room;
-            }
+            (sym (stored_setting s.handed.items b h in-handed h_is s.words.items (rows_in s) s.sinks.items (held_at place v) h' made)) handed
+
+-- a refusal is no setting that was made
+pub refusal_sets_nothing : (e : PlantFault) (place : ℕ) → refusal_of e ≡ Some (machine.Taken place) → ⊥
+refusal_sets_nothing NoSuchBlock place e = cc
+refusal_sets_nothing NotSource place e = cc
+refusal_sets_nothing NotSink place e = cc
+refusal_sets_nothing Closed place e = cc
+refusal_sets_nothing ItemRange place e = cc
+refusal_sets_nothing TagPlace place e = cc
+refusal_sets_nothing TapeFull place e = cc
+refusal_sets_nothing (Late floor) place e = cc
+refusal_sets_nothing NoSetting place e = cc
+refusal_sets_nothing WrongSetting place e = cc
+refusal_sets_nothing BeyondEnd place e = cc
+refusal_sets_nothing NoSuchPort place e = cc
+refusal_sets_nothing Memory place e = cc

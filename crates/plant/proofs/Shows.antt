@@ -34,7 +34,7 @@ module _ (net : Network) (st : State) (b from max : ℕ) where
     unfolding read_of
     read-past keeper past = let member = lt-ltb b (length net.nodes) in' in let beyond = lt-ltb (fired st b) from past in rw (member, keeper, beyond) refl
 
-module _ (net : Network) (caps : Capacities) (can : CanRun net) (tapes : List Tape) (s : Stores) (ps : List model.Progress) (keeps : Keeps net caps tapes s ps) (b from max : ℕ) (in' : b < length net.nodes) (keeper : is_keeper (role_at net b) ≡ true)
+module _ (net : Network) (caps : Capacities) (can : CanRun net) (s : Stores) (ps : List model.Progress) (keeps : Keeps net caps s ps) (b from max : ℕ) (in' : b < length net.nodes) (keeper : is_keeper (role_at net b) ≡ true)
     (own : Progress) (own_is : progress_of own ≡ progress_at ps b) (le : from ≤ own.firings) where
   fired_is : own.firings ≡ fired (state_of s.handed.items ps) b
   fired_is = ap (λ (p : model.Progress). p.firings) own_is

@@ -20,7 +20,7 @@ use Rattle.plant.specs.Plant.{KeepsBut, IsFlight, IsItsWork, IsRight, plant_of}
 use Rattle.plant.proofs.Claiming.{but_from}
 use Rattle.plant.proofs.Lending.{may_lend, may_work, is_its_work}
 
-module _ {B : Type 0} (meaning : B → Meaning) (p : Parts B) (b first count : ℕ) (graph : Flowgraph B) (graph_is : graph ≡ arc_value p.graph)
+module _ {B P : Type 0} (meaning : B → Meaning) (p : Parts B P) (b first count : ℕ) (graph : Flowgraph B) (graph_is : graph ≡ arc_value p.graph)
     (valid : IsValidGraph graph.names (net_of meaning graph)) (runs : CanRun (net_of meaning graph)) (right : IsRight meaning p)
     (flight : IsFlight (net_of meaning (arc_value p.graph)) (plant_of p).state b first count) where
   abbrev net : Network
@@ -35,13 +35,13 @@ module _ {B : Type 0} (meaning : B → Meaning) (p : Parts B) (b first count : �
   valid_here : IsValidGraph (arc_value p.graph).names net
   valid_here = subst (λ (x : Flowgraph B). IsValidGraph x.names (net_of meaning x)) graph_is valid
 
-  but : KeepsBut (net) (sizes_of p.capacities) p.tapes.items p.stores p.firings b
-  but = but_from (net) (sizes_of p.capacities) p.tapes.items p.stores p.firings b right.keeps
+  but : KeepsBut (net) (sizes_of p.capacities) p.stores p.firings b
+  but = but_from (net) (sizes_of p.capacities) p.stores p.firings b right.keeps
 
   -- the numbers of its base firings fit a word
   pub firings_fit : (k : ℕ) → k ≡ (n).multiple → k * first < 2 ^ 62
   firings_fit k is =
-      let small = (may_lend (arc_value p.graph).names (net) runs_here valid_here (sizes_of p.capacities) p.tapes.items p.stores p.firings b but first count flight).words.firings in
+      let small = (may_lend (arc_value p.graph).names (net) runs_here valid_here (sizes_of p.capacities) p.stores p.firings b but first count flight).words.firings in
       let before : first ≤ first + count = omega arith in
       let less = mul-le-mul_left (n).multiple before in
       rw is (omega (arith, less, small))
@@ -55,10 +55,10 @@ module _ {B : Type 0} (meaning : B → Meaning) (p : Parts B) (b first count : �
     pub can_work : CanWork m (k * first) (k * c) word ws hs ps
     can_work =
         rw (m_is, k_is, c_is, word_is, ws_is, hs_is, ps_is)
-        (may_work (arc_value p.graph).names (net) runs_here valid_here (sizes_of p.capacities) p.tapes.items p.stores p.firings b but first count flight windows held places lent)
+        (may_work (arc_value p.graph).names (net) runs_here valid_here (sizes_of p.capacities) p.stores p.firings b but first count flight windows held places lent)
 
     pub has_worked : (out : List Items) (next : ℕ) → HasWorked m (k * first) (k * c) word ws hs ps out →
         ((ts : List model.Held) (xs : List (List ℤ)) → IsWorkOf m ts xs (k * first) (k * c) word ws hs → next ≡ m.word ts xs (k * first + k * c)) → IsItsWork (net) (plant_of p).state b windows out next
     has_worked out next has words =
-        is_its_work (arc_value p.graph).names (net) runs_here valid_here (sizes_of p.capacities) p.tapes.items p.stores p.firings b but first count flight windows held places lent out next
+        is_its_work (arc_value p.graph).names (net) runs_here valid_here (sizes_of p.capacities) p.stores p.firings b but first count flight windows held places lent out next
         (rw (← m_is, ← k_is, ← c_is, ← word_is, ← ws_is, ← hs_is, ← ps_is) has) (rw (← m_is, ← k_is, ← c_is, ← word_is, ← ws_is, ← hs_is) words)

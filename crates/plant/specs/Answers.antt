@@ -79,7 +79,7 @@ abbrev pub waiting_reply : Need → Reply
 waiting_reply (need.Items port) = machine.WaitingItems port
 waiting_reply (need.Room port) = machine.WaitingRoom port
 
-abbrev pub claim_reply : {B : Type 0} → Claim B → Reply
+abbrev pub claim_reply : {B P : Type 0} → Claim B P → Reply
 claim_reply (claim.Claimed job) = machine.Claimed job.job
 claim_reply claim.Done = machine.Done
 claim_reply claim.Busy = machine.Busy
@@ -92,7 +92,7 @@ step_reply step.Busy = machine.Busy
 step_reply (step.Waiting need) = waiting_reply need
 
 -- a job that is claimed is one of this graph
-abbrev pub IsOf : {B : Type 0} → Flowgraph B → Claim B → Type 0
+abbrev pub IsOf : {B P : Type 0} → Flowgraph B → Claim B P → Type 0
 IsOf g (claim.Claimed job) = job.graph ≡ g
 IsOf g claim.Done = ⊤
 IsOf g claim.Busy = ⊤

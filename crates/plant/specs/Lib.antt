@@ -8,3 +8,5 @@ pub mod Setting
 pub mod Feeding
 pub mod Settling
 pub mod Headway
+pub mod Runs
+pub mod Handed

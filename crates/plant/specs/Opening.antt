@@ -5,7 +5,6 @@ use Rattle.stream_model.specs.Network.{Network, no_progress, nothing_handed, ope
 use Rattle.graph_model.specs.Rates.{balance_of, capacities_of}
 use Rattle.flowgraph.specs.Flowgraph.{Flowgraph, net_of}
 use Rattle.rates.specs.Answer.{AreRates, answer_of, sizes_of}
-use Rattle.firings.specs.declared.progress.Tape.{Tape}
 use Rattle.plant_laws.specs.Opening.{stored_opening}
 use Rattle.stores.specs.Stores.{handed_of, stored_in}
 use Rattle.plant.specs.Plant.{PlantState}
@@ -15,16 +14,11 @@ use Rattle.plant.specs.declared.opening.Fresh.{Fresh}
 abbrev pub opening_plant : {B : Type 0} → (B → Meaning) → Flowgraph B → PlantState B
 opening_plant meaning graph = let net = net_of meaning graph in record { graph = graph; capacities = capacities_of net (balance_of net); state = opening net }
 
--- an open tape without items
-abbrev pub blank_tape : Tape
-blank_tape = record { length = 0; closed = false }
-
 -- what a plant of the network has beside its graph as it opens
 pub record IsFresh (net : Network) (f : Fresh) : Type 0 where
   pub rates : AreRates net f.rates
   pub capacities : sizes_of f.capacities ≡ capacities_of net (answer_of f.rates)
   pub firings : f.firings ≡ replicate (length net.nodes) no_progress
-  pub tapes : f.tapes.items ≡ replicate (length net.nodes) blank_tape
   pub stored : stored_in f.stores ≡ stored_opening net (sizes_of f.capacities)
   pub handed : map handed_of f.stores.handed.items ≡ map (λ _. nothing_handed) net.nodes
   pub places : length f.lent.items ≡ length net.nodes

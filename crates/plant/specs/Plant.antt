@@ -12,12 +12,10 @@ use Rattle.items.specs.declared.stream_items.Items.{Items}
 use Rattle.items.specs.Items.{type_of, numbers_of}
 use Rattle.flowgraph.specs.Flowgraph.{Flowgraph, net_of}
 use Rattle.rates.specs.Answer.{AreRates, answer_of, sizes_of}
-use Rattle.firings.specs.declared.progress.Tape.{Tape}
-use Rattle.firings.specs.State.{HasTapes}
 use Rattle.plant_laws.specs.Holds.{Holds}
 use Rattle.plant_laws.specs.Calls.{IsWorked}
 use Rattle.stores.specs.declared.stores.Stores.{Stores}
-use Rattle.stores.specs.Stores.{handed_of, state_of, stored_in}
+use Rattle.stores.specs.Stores.{state_of, stored_in}
 use Rattle.stores.specs.Lending.{HasRoom}
 use Rattle.plant.specs.declared.parts.Parts.{Parts}
 
@@ -27,40 +25,37 @@ pub record PlantState (B : Type 0) : Type 0 where
   pub capacities : Capacities
   pub state : State
 
--- the state is one that calls lead to, what is stored is what its streams say, firings look at the lengths and marks of its tapes, and for each
--- claim in flight there is room for its commit
-pub record Keeps (net : Network) (caps : Capacities) (tapes : List Tape) (s : Stores) (progress : List Progress) : Type 0 where
+-- the state is one that calls lead to, what is stored is what its streams say, and for each claim in flight there is room for its commit
+pub record Keeps (net : Network) (caps : Capacities) (s : Stores) (progress : List Progress) : Type 0 where
   pub sound : Sound net caps (state_of s.handed.items progress)
   pub stored : Holds net caps (state_of s.handed.items progress) (stored_in s)
-  pub tapes_are : HasTapes tapes (map handed_of s.handed.items)
   pub room : (b : ℕ) → b < length net.nodes → 0 < (progress_at progress b).claimed →
       HasRoom net s b (progress_at progress b).firings (progress_at progress b).claimed
 
 -- the same, but for the room of block b
-pub record KeepsBut (net : Network) (caps : Capacities) (tapes : List Tape) (s : Stores) (progress : List Progress) (b : ℕ) : Type 0 where
+pub record KeepsBut (net : Network) (caps : Capacities) (s : Stores) (progress : List Progress) (b : ℕ) : Type 0 where
   pub sound : Sound net caps (state_of s.handed.items progress)
   pub stored : Holds net caps (state_of s.handed.items progress) (stored_in s)
-  pub tapes_are : HasTapes tapes (map handed_of s.handed.items)
   pub room : (a : ℕ) → a < length net.nodes → (a ≡ b → ⊥) → 0 < (progress_at progress a).claimed →
       HasRoom net s a (progress_at progress a).firings (progress_at progress a).claimed
 
 -- what the parts of a plant stand for
-abbrev pub plant_of : {B : Type 0} → Parts B → PlantState B
+abbrev pub plant_of : {B P : Type 0} → Parts B P → PlantState B
 plant_of p = record { graph = arc_value p.graph; capacities = sizes_of p.capacities; state = state_of p.stores.handed.items p.firings }
 
 -- what never changes: the rates and the capacities are the graph's, and each block has a place for what its jobs are lent
-pub record IsBuilt {B : Type 0} (meaning : B → Meaning) (p : Parts B) : Type 0 where
+pub record IsBuilt {B P : Type 0} (meaning : B → Meaning) (p : Parts B P) : Type 0 where
   pub rates : AreRates (net_of meaning (arc_value p.graph)) p.rates
   pub capacities : sizes_of p.capacities ≡ capacities_of (net_of meaning (arc_value p.graph)) (answer_of p.rates)
   pub places : length p.lent.items ≡ length (net_of meaning (arc_value p.graph)).nodes
 
 -- what the parts of a plant keep, and what they keep while block b has no room for its commit yet
-pub record IsRight {B : Type 0} (meaning : B → Meaning) (p : Parts B) : Type 0 where
-  pub keeps : Keeps (net_of meaning (arc_value p.graph)) (sizes_of p.capacities) p.tapes.items p.stores p.firings
+pub record IsRight {B P : Type 0} (meaning : B → Meaning) (p : Parts B P) : Type 0 where
+  pub keeps : Keeps (net_of meaning (arc_value p.graph)) (sizes_of p.capacities) p.stores p.firings
   pub built : IsBuilt meaning p
 
-pub record IsRightBut {B : Type 0} (meaning : B → Meaning) (p : Parts B) (b : ℕ) : Type 0 where
-  pub keeps : KeepsBut (net_of meaning (arc_value p.graph)) (sizes_of p.capacities) p.tapes.items p.stores p.firings b
+pub record IsRightBut {B P : Type 0} (meaning : B → Meaning) (p : Parts B P) (b : ℕ) : Type 0 where
+  pub keeps : KeepsBut (net_of meaning (arc_value p.graph)) (sizes_of p.capacities) p.stores p.firings b
   pub built : IsBuilt meaning p
 
 -- the claim of block b that is in flight has these firings

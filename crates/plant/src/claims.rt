@@ -17,6 +17,7 @@ ghost use Rattle.plant.specs.Answers.{Answered, IsOf, is_claimed, claim_reply, r
 use crate::answers::{Claim, Step};
 use crate::fault::PlantFault;
 use crate::parts::Parts;
+use crate::source_tapes::SourceTapes;
 use delivery::release;
 use firings::Decision;
 use flowgraph::{Block, BlockId};
@@ -88,7 +89,7 @@ impl<B: Block> Parts<B> {
         let decision = self.firings.claim(
             &self.graph,
             self.capacities.rows(),
-            &self.tapes,
+            &SourceTapes::of(&self.stores),
             block,
             max,
         );

@@ -20,7 +20,7 @@ pub enum PlantFault {
     NotSink,
     /// The source's tape was closed before.
     Closed,
-    /// The items are of another type than the source's.
+    /// The items do not fit the source's type: they are of another type, or a number lies outside its range.
     ItemRange,
     /// A mark lies outside the items that it was fed with.
     TagPlace,
@@ -72,7 +72,7 @@ impl fmt::Display for PlantFault {
             PlantFault::NotSource => f.write_str("the block is no source"),
             PlantFault::NotSink => f.write_str("the block is no sink"),
             PlantFault::Closed => f.write_str("the source is closed"),
-            PlantFault::ItemRange => f.write_str("the items are of another type"),
+            PlantFault::ItemRange => f.write_str("the items do not fit the source's type"),
             PlantFault::TagPlace => f.write_str("a mark lies outside its items"),
             PlantFault::TapeFull => f.write_str("the tape is full"),
             PlantFault::Late { floor } => write!(f, "set below item {floor}"),

@@ -1,8 +1,9 @@
 //! The calls that hand something to a block: items, the end of them, and settings.
 
-ghost use Rattle.std.specs.Prelude.{◌≡◌, ◌+◌, ◌^◌, ◌<◌, length, map};
+ghost use Rattle.std.specs.Prelude.{◌≡◌, ◌+◌, ◌^◌, ◌<◌, ℕ, length, map, IsOk};
+ghost use Rattle.std.specs.List.{Any};
 ghost use Rattle.std.specs.Arc.{arc_value};
-ghost use Rattle.stream_model.specs.Network.{writers_of};
+ghost use Rattle.stream_model.specs.Network.{handed_at, writers_of};
 ghost use Rattle.stream_model.specs.Machine as machine;
 ghost use Rattle.stream_model.specs.Machine.{feed_of, close_of, set_of, floor_of};
 ghost use Rattle.items.specs.Items.{type_of, numbers_of};
@@ -17,6 +18,7 @@ use crate::answers::{Closed, Fed, Taken};
 use crate::fault::PlantFault;
 use crate::looks::{fit, same_type, source_type, wanted};
 use crate::parts::Parts;
+use crate::source_tapes::counts_of;
 use firings::Tape;
 use flowgraph::{Block, BlockId};
 use items::{ItemFault, Items, Mark};
@@ -36,14 +38,10 @@ impl<B: Block> Parts<B> {
         self.graph.in_order();
         source_type(&self.graph, source)?;
         let at = source.0 as usize;
-        let tape = self.tapes[at];
+        let tape = counts_of(&self.stores.handed[at]);
         if tape.closed {
             return Err(PlantFault::Closed);
         }
-        self.tapes[at] = Tape {
-            closed: true,
-            ..tape
-        };
         self.stores.handed[at].closed = true;
         Ok(Closed(tape.length))
     }
@@ -60,13 +58,9 @@ impl<B: Block> Parts<B> {
             return Err(PlantFault::ItemRange);
         }
         let at = source.0 as usize;
-        let tape = self.tapes[at];
+        let tape = counts_of(&self.stores.handed[at]);
         let total = length_with(tape, items.len() as u64, marks)?;
         self.stores.handed[at].feed(source.0, &items, marks)?;
-        self.tapes[at] = Tape {
-            length: total,
-            ..tape
-        };
         Ok(Fed(total))
     }
 
@@ -88,7 +82,8 @@ impl<B: Block> Parts<B> {
             Ok(items) => self.feed(source, items, marks),
             Err(ItemFault::ItemRange) => Err(PlantFault::ItemRange),
             Err(ItemFault::Memory) => {
-                length_with(self.tapes[source.0 as usize], numbers.len() as u64, marks)?;
+                let tape = counts_of(&self.stores.handed[source.0 as usize]);
+                length_with(tape, numbers.len() as u64, marks)?;
                 Err(PlantFault::Memory)
             }
         }
@@ -97,13 +92,14 @@ impl<B: Block> Parts<B> {
     /// Sets the value of a block's setting from item `at` of its first input on, or from the first that is still open.
     pub fn set(
         &mut self,
-        alloc: Global,
         block: BlockId,
         at: Option<u64>,
         value: Value,
     ) -> Result<Taken, PlantFault>
         requires { IsRight B.meaning self.old }
         ensures right { IsRight B.meaning self.new }
+        ensures replaces { let old = plant_of self.old in (place : ℕ) → (set_of (net_of B.meaning old.graph) old.state block.0 at (value_of value)).0 ≡ machine.Taken place →
+            Any (λ h. h.at ≡ place) (handed_at old.state.handed block.0).settings → IsOk result }
         ensures answered { let old = plant_of self.old in Answered (set_of (net_of B.meaning old.graph) old.state block.0 at (value_of value)) old (plant_of self.new) (reply_of (λ t. machine.Taken t.0) result) }
     {
         self.graph.in_order();
@@ -113,7 +109,7 @@ impl<B: Block> Parts<B> {
         if place < floor {
             return Err(PlantFault::Late { floor });
         }
-        self.stores.handed[block.0 as usize].set(alloc, place, value)?;
+        self.stores.handed[block.0 as usize].set(place, value)?;
         Ok(Taken(place))
     }
 

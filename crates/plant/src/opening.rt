@@ -6,7 +6,7 @@ ghost use Rattle.plant.specs.Plant.{IsRight, plant_of};
 ghost use Rattle.plant.specs.Opening.{IsFresh, opening_plant};
 
 use crate::parts::Parts;
-use firings::{Firings, Tape};
+use firings::Firings;
 use flowgraph::{Block, Valid};
 use jobs::Lent;
 use rates::{BufferCapacities, Rates, balance, capacities};
@@ -20,7 +20,6 @@ struct Fresh {
     rates: Rates,
     capacities: BufferCapacities,
     firings: Firings,
-    tapes: Vec<Tape>,
     stores: Stores,
     lent: Vec<Lent>,
 }
@@ -57,7 +56,6 @@ fn shared<B: Block>(
             rates: fresh.rates,
             capacities: fresh.capacities,
             firings: fresh.firings,
-            tapes: fresh.tapes,
             stores: fresh.stores,
             lent: fresh.lent,
         }),
@@ -74,18 +72,12 @@ fn prepare<B: Block>(alloc: Global, graph: &Valid<B>) -> Result<Fresh, AllocErro
     let capacities = capacities(alloc, graph, &rates)?;
     let blocks = graph.len();
     let stores = Stores::open(alloc, graph, capacities.rows())?;
-    let nothing = Tape {
-        length: 0,
-        closed: false,
-    };
     let firings = Firings::new(alloc, blocks)?;
-    let tapes = Vec::from_elem(alloc, nothing, blocks)?;
     let lent = places(alloc, blocks)?;
     Ok(Fresh {
         rates,
         capacities,
         firings,
-        tapes,
         stores,
         lent,
     })

@@ -1,6 +1,6 @@
 //! What a plant is made of.
 
-use firings::{Firings, Tape};
+use firings::Firings;
 use flowgraph::{Block, Valid};
 use jobs::Lent;
 use rates::{BufferCapacities, Rates};
@@ -15,8 +15,6 @@ pub struct Parts<B: Block> {
     pub rates: Rates,
     pub capacities: BufferCapacities,
     pub firings: Firings,
-    /// The lengths and marks of the tapes, as firings look at them.
-    pub tapes: Vec<Tape>,
     pub stores: Stores,
     /// For each block the memory of its windows and outputs, while no job has it.
     pub lent: Vec<Lent>,

@@ -1,29 +1,36 @@
 //! The plant.
 
-ghost use Rattle.std.specs.Prelude.{◌≡◌, ◌≤◌, map, true, IfOk, IfErr};
+ghost use Rattle.std.specs.Prelude.{◌≡◌, ◌≤◌, ℕ, List, map, ◌↔◌, true, IsOk, IsTrue, IfOk, IfErr};
+ghost use Rattle.std.specs.List.{Any};
 ghost use Rattle.stream_model.specs.Machine as machine;
 ghost use Rattle.stream_model.specs.Machine.{next, step_of, commit_of, abandon_of, feed_of, close_of, set_of, read_of, is_idle, is_all_done, is_quiet, IsWhole, HoldsAll};
 ghost use Rattle.rates.specs.Answer.{AreRates};
-ghost use Rattle.plant.specs.Plant.{IsSettled};
+ghost use Rattle.stream_model.specs.Network.{node_at, handed_at};
+ghost use Rattle.plant.specs.Plant.{PlantState, IsSettled};
 ghost use Rattle.items.specs.Items.{type_of, numbers_of};
 ghost use Rattle.settings.specs.Values.{value_of};
+ghost use Rattle.flowgraph.specs.Agreeing.{graphs_agree};
 ghost use Rattle.flowgraph.specs.Flowgraph.{net_of};
 ghost use Rattle.flights.specs.Flight.{is_own};
 ghost use Rattle.stream_laws.specs.CanRun.{CanRun};
 ghost use Rattle.machine_laws.specs.Sound.{Sound};
 ghost use Rattle.stores.specs.Stores.{mark_of};
 ghost use Rattle.plant.specs.Answers.{Answered, AnsweredAlways, AnsweredBy, IsOf, IsTaken, claim_reply, piece_reply, reply_of, source_type_of, step_reply};
-ghost use Rattle.plant.specs.Keeping.{IsKeptOf, kept_refusal};
+ghost use Rattle.plant.specs.Keeping.{IsKeptOf, port_fault};
+ghost use Rattle.plant.specs.Setting.{fault_in};
 ghost use Rattle.plant.specs.Opening.{opening_plant};
 ghost use Rattle.plant.specs.Feeding.{feed_numbers};
 ghost use Rattle.plant.specs.Settling.{StepsLead, HasSettled, HoldsSettled};
 ghost use Rattle.plant.specs.Headway.{headway_of};
+ghost use Rattle.plant.specs.Runs.{Made, Leads, IsRun};
 
 use crate::answers::{Claim, Closed, Did, Fed, Headway, Piece, Settled, Step, Stored, Taken};
 use crate::fault::PlantFault;
+use crate::handed::{Handed, Opening};
 use crate::looks::source_type;
 use crate::parts::Parts;
 use crate::settle::{Unwatched, Watch};
+use crate::source_tapes::SourceTapes;
 use flowgraph::{Block, BlockId, Valid};
 use items::{ItemType, Items, Mark};
 use jobs::{Job, Worked};
@@ -105,9 +112,11 @@ impl<B: Block> Plant<B> {
     {
         let parts = &self.parts;
         parts.graph.in_order();
-        parts
-            .firings
-            .quiet(&parts.graph, parts.capacities.rows(), &parts.tapes)
+        parts.firings.quiet(
+            &parts.graph,
+            parts.capacities.rows(),
+            &SourceTapes::of(&parts.stores),
+        )
     }
 
     /// Closes a source's tape: nothing more comes. It takes no memory.
@@ -139,17 +148,18 @@ impl<B: Block> Plant<B> {
     }
 
     /// Sets the value of a block's setting from item `at` of its first input on, or from the first that is still open. The refusals come in
-    /// the order of the machine; an `Err` changes nothing.
+    /// the order of the machine; an `Err` changes nothing. A setting that takes the place of one of the same item needs no memory.
     pub fn set(
         &mut self,
-        alloc: Global,
         block: BlockId,
         at: Option<u64>,
         value: Value,
     ) -> Result<Taken, PlantFault>
-        ensures { Answered (set_of (net_of B.meaning self.old.graph) self.old.state block.0 at (value_of value)) self.old self.new (reply_of (λ t. machine.Taken t.0) result) }
+        ensures replaces { (place : ℕ) → (set_of (net_of B.meaning self.old.graph) self.old.state block.0 at (value_of value)).0 ≡ machine.Taken place →
+            Any (λ h. h.at ≡ place) (handed_at self.old.state.handed block.0).settings → IsOk result }
+        ensures answered { Answered (set_of (net_of B.meaning self.old.graph) self.old.state block.0 at (value_of value)) self.old self.new (reply_of (λ t. machine.Taken t.0) result) }
     {
-        self.parts.set(alloc, block, at, value)
+        self.parts.set(block, at, value)
     }
 
     /// What a sink holds from item `from` on, at most `max` items of it, with the tags on them. A piece that says done is of a whole stream.
@@ -161,6 +171,7 @@ impl<B: Block> Plant<B> {
         max: u64,
     ) -> Result<Piece, PlantFault>
         ensures answered { AnsweredBy (read_of (net_of B.meaning self.now.graph) self.now.state sink.0 from max) (reply_of piece_reply result) }
+        ensures typed { IfOk result (λ piece. type_of piece.items ≡ (node_at (net_of B.meaning self.now.graph) sink.0).meaning.inputs.item) }
         ensures whole { IfOk result (λ piece. piece.done ≡ true → HoldsAll (net_of B.meaning self.now.graph) self.now.state sink.0) }
     {
         self.parts.read(alloc, sink, from, max)
@@ -168,7 +179,7 @@ impl<B: Block> Plant<B> {
 
     /// How much the buffer of an output keeps: no more than its capacity and the greatest past of its readers ask.
     pub fn stored(&self, block: BlockId, port: usize) -> Result<Stored, PlantFault>
-        ensures refused { kept_refusal (net_of B.meaning self.now.graph) block.0 port result }
+        ensures refused { fault_in result ≡ port_fault (net_of B.meaning self.now.graph) block.0 port }
         ensures kept { IfOk result (IsKeptOf (net_of B.meaning self.now.graph) self.now.capacities self.now.state block.0 port) }
     {
         self.parts.stored(block, port)
@@ -235,6 +246,33 @@ impl<B: Block> Plant<B> {
         self.parts.headway()
     }
 
+    /// What was handed to the plant so far: a share of its graph and of its tapes, and a copy of its settings. It takes memory for blocks and
+    /// settings alone, and fails only where the allocator refuses.
+    pub fn handed(&self, alloc: Global) -> Result<Handed<B>, AllocError>
+        ensures graph { IfOk result (λ h. h.graph ≡ self.now.graph) }
+        ensures handed { IfOk result (λ h. h.handed ≡ self.now.state.handed) }
+    {
+        self.parts.handed(alloc)
+    }
+
+    /// Whether that is what was handed to the plant: an equal graph, block by block by `==`, and the same tapes, closed marks and settings. It
+    /// looks at each item once, and takes no memory.
+    pub fn agrees(&self, handed: &Handed<B>) -> bool
+        ensures { IsTrue result ↔ ((graphs_agree B.eq self.now.graph handed.now.graph ≡ true) × (handed.now.handed ≡ self.now.state.handed)) }
+    {
+        self.parts.agrees(handed)
+    }
+
+    /// What was handed to the plant so far, and how far each block is. It takes memory as `handed` does, and fails only where the allocator
+    /// refuses.
+    pub fn opening(&self, alloc: Global) -> Result<Opening<B>, AllocError>
+        ensures graph { IfOk result (λ o. o.graph ≡ self.now.graph) }
+        ensures state { IfOk result (λ o. o.state ≡ self.now.state) }
+    {
+        self.parts.graph.in_order();
+        self.parts.opening(alloc)
+    }
+
     /// Commits a job that was done, and tells of how many firings it was. Work that is not that of the claim in flight of its block comes back,
     /// and nothing changes: it has to agree with it in the block (by number, by the number of its used outputs, and as a block), first firing,
     /// count, windows, settings and opening state word. It takes no memory.
@@ -252,10 +290,13 @@ impl<B: Block> Plant<B> {
         self.parts.abandon(job)
     }
 
-    /// The graph runs, and the state is one that calls lead to. The call is there for what its contract says.
+    /// The graph runs, the state is one that calls lead to, and whatever list of calls is made, each answered as its contract says, replies and
+    /// state are a run of the machine. The call is there for what its contract says.
     pub fn in_order(&self)
         ensures runs { CanRun (net_of B.meaning self.now.graph) }
         ensures sound { Sound (net_of B.meaning self.now.graph) self.now.capacities self.now.state }
+        ensures composes { (made : List Made) (new : PlantState B) → Leads (net_of B.meaning self.now.graph) self.now made new →
+            IsRun (net_of B.meaning self.now.graph) self.now made new }
     {
         self.parts.graph.in_order();
     }

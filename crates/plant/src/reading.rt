@@ -2,10 +2,13 @@
 
 ghost use Rattle.std.specs.Prelude.{◌≡◌, true, IfOk};
 ghost use Rattle.stream_model.specs.Machine.{read_of, HoldsAll};
+ghost use Rattle.stream_model.specs.Network.{node_at};
+ghost use Rattle.items.specs.Items.{type_of};
 ghost use Rattle.flowgraph.specs.Flowgraph.{net_of};
 ghost use Rattle.plant.specs.Plant.{IsRight, plant_of};
 ghost use Rattle.plant.specs.Answers.{AnsweredBy, reply_of, piece_reply};
-ghost use Rattle.plant.specs.Keeping.{IsKeptOf, kept_refusal};
+ghost use Rattle.plant.specs.Keeping.{IsKeptOf, port_fault};
+ghost use Rattle.plant.specs.Setting.{fault_in};
 
 use crate::answers::{Piece, Stored};
 use crate::fault::PlantFault;
@@ -25,6 +28,7 @@ impl<B: Block> Parts<B> {
     ) -> Result<Piece, PlantFault>
         requires { IsRight B.meaning self.now }
         ensures answered { let plant = plant_of self.now in AnsweredBy (read_of (net_of B.meaning plant.graph) plant.state sink.0 from max) (reply_of piece_reply result) }
+        ensures typed { let plant = plant_of self.now in IfOk result (λ piece. type_of piece.items ≡ (node_at (net_of B.meaning plant.graph) sink.0).meaning.inputs.item) }
         ensures whole { let plant = plant_of self.now in IfOk result (λ piece. piece.done ≡ true → HoldsAll (net_of B.meaning plant.graph) plant.state sink.0) }
     {
         self.graph.in_order();
@@ -52,7 +56,7 @@ impl<B: Block> Parts<B> {
     /// How much the buffer of an output keeps.
     pub fn stored(&self, block: BlockId, port: usize) -> Result<Stored, PlantFault>
         requires { IsRight B.meaning self.now }
-        ensures refused { let plant = plant_of self.now in kept_refusal (net_of B.meaning plant.graph) block.0 port result }
+        ensures refused { let plant = plant_of self.now in fault_in result ≡ port_fault (net_of B.meaning plant.graph) block.0 port }
         ensures kept { let plant = plant_of self.now in IfOk result (IsKeptOf (net_of B.meaning plant.graph) plant.capacities plant.state block.0 port) }
     {
         self.graph.in_order();

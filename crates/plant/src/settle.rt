@@ -12,6 +12,7 @@ ghost use Rattle.plant.specs.Headway.{fed_to, given_by_source, headway_of};
 
 use crate::answers::{Headway, Settled, Step};
 use crate::parts::Parts;
+use crate::source_tapes::counts_of;
 use flowgraph::{Block, BlockId};
 use std::alloc::{AllocError, Global};
 
@@ -136,7 +137,7 @@ impl<B: Block> Parts<B> {
         if !self.graph.is_source(block) {
             return Headway { given: 0, fed: 0 };
         }
-        let tape = self.tapes[block.0 as usize];
+        let tape = counts_of(&self.stores.handed[block.0 as usize]);
         let own = self.firings.progress(block);
         Headway {
             given: own.firings,

@@ -5,7 +5,7 @@ use Rattle.std.proofs.lemmas.Bool.{cases_eq}
 use Rattle.stream_model.specs.declared.vocabulary.ItemType.{ItemType}
 use Rattle.stream_model.specs.declared.vocabulary.Wanted.{Wanted}
 use Rattle.stream_model.specs.Numbers.{types_agree}
-use Rattle.stream_model.specs.Settings.{Value, Held}
+use Rattle.stream_model.specs.Settings.{Value, Held, put_setting}
 use Rattle.stream_model.specs.Tags.{Mark}
 use Rattle.stream_model.specs.Meaning.{IsWanted}
 use Rattle.stream_model.specs.Network.{Network, Handed, Progress, State, nothing_handed, no_progress, node_at, handed_at, progress_at, role_at, is_source}
@@ -143,9 +143,9 @@ closing_holds net caps st stored can sound holds b total e =
     (record (tape_at stored b) { closed = true })
     (λ source. let is = holds.tapes b (closed_is net st b total e).inside source in record { type = is.type; items = is.items; tags = is.tags; closed = refl })
 
--- where a setting is taken, the block has one, and it comes last
+-- where a setting is taken, the block has one, and it is put among the others
 pub record IsSet (net : Network) (st : State) (b place : ℕ) (v : Value) (next_state : State) : Type 0 where
-  pub handed : let s = handed_at st.handed b in IsHanded net st b (record s { settings = s.settings ++ held_at place v ∷ [] }) next_state
+  pub handed : let s = handed_at st.handed b in IsHanded net st b (record s { settings = put_setting (held_at place v) s.settings }) next_state
   pub some : IsSome (node_at net b).meaning.setting
 
 module _ (net : Network) (st : State) (b place : ℕ) (v : Value) (in' : b < length net.nodes) where
@@ -157,7 +157,7 @@ module _ (net : Network) (st : State) (b place : ℕ) (v : Value) (in' : b < len
       let s = handed_at st.handed b in
       if_both (nat_lt at floor) _ _ (Sets) (λ _ e. absurd (cc))
       (λ _ e. let same : at ≡ place = cc in record {
-        handed = record { inside = in'; is = ap (λ a. with_handed st b (record s { settings = s.settings ++ held_at a v ∷ [] })) same };
+        handed = record { inside = in'; is = ap (λ a. with_handed st b (record s { settings = put_setting (held_at a v) s.settings })) same };
         some = subst IsSome (sym some) refl;
       })
 
@@ -174,11 +174,11 @@ taken_is net st b at v place =
 
 -- a timeline with one more setting, where there is a setting and so a value of the block's own
 one_more : (setting : Option Wanted) (own : Option Value) → IsSome setting → MatchOption setting (own ≡ None) (λ w. MatchOption own ⊥ (IsWanted w)) → (ts : List Held) (h : Held) (o : Option Settings) → IsTimeline own ts o →
-    (old : Settings) × (o ≡ Some old) × ((new : Settings) → TakesOneMore old new h → IsTimeline own (ts ++ h ∷ []) (Some new))
+    (old : Settings) × (o ≡ Some old) × ((new : Settings) → TakesOneMore old new h → IsTimeline own (put_setting h ts) (Some new))
 one_more None own some has ts h o is = absurd (cc)
 one_more (Some w) None some has ts h o is = absurd (has)
 one_more (Some w) (Some v) some has ts h None is = absurd (is)
-one_more (Some w) (Some v) some has ts h (Some old) is = (old, refl, λ new takes. (takes.0 ∙ is.0, takes.1 ts is.1))
+one_more (Some w) (Some v) some has ts h (Some old) is = (old, refl, λ new takes. (takes.0 ∙ is.0, takes.1 ∙ ap (put_setting h) is.1))
 
 pub setting_holds : SettingHolds
 setting_holds net caps st stored can sound holds b at v place e =
@@ -187,7 +187,7 @@ setting_holds net caps st stored can sound holds b at v place e =
     let more = one_more (node_at net b).meaning.setting (node_at net b).meaning.own set'.some (can.sound b).lawful.own s.settings (held_at place v) (timeline_at stored b) (holds.timelines b set'.handed.inside) in (
       more.0,
       more.1,
-      λ new takes. new_timeline net can caps st sound stored holds (Set b at v) b (record s { settings = s.settings ++ held_at place v ∷ [] }) set'.handed
+      λ new takes. new_timeline net can caps st sound stored holds (Set b at v) b (record s { settings = put_setting (held_at place v) s.settings }) set'.handed
           (λ tape is. record { type = is.type; items = is.items; tags = is.tags; closed = is.closed }) new (more.2 new takes),
     )
 

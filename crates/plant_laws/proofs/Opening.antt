@@ -64,8 +64,8 @@ module _ (net : Network) (can : CanRun net) where
       ∙ (can.sound b).lawful.starts (handed_at (opening net).handed b).settings (entering net (opening net).handed b)
 
   first_timeline : (o : Option Value) → IsTimeline o [] (own_settings o)
-  first_timeline None = tt
-  first_timeline (Some own) = (refl, λ a le. refl)
+  first_timeline None = refl
+  first_timeline (Some own) = (refl, refl)
 
   first_reader : (c : Connection) → first_place net c ≡ place_of net (opening net) c
   first_reader c =

@@ -1,11 +1,11 @@
 -- Windows, settings and the kept end of a stream, as buffers and timelines have them.
 use Rattle.std.proofs.Common.{◌≡◌, ℕ, ℤ, zero, suc, ◌+◌, ◌-◌, ◌<◌, List, [], ◌∷◌, length, take, drop, Option, Some, None, refl, arith, ap, ◌∙◌}
-use Rattle.std.specs.Prelude.{◌==◌, if◌then◌else◌, filter_map, slice_range}
+use Rattle.std.specs.Prelude.{slice_range}
 use Rattle.std.proofs.Math.Nat.{zero-add, add-zero}
 use Rattle.std.proofs.lemmas.List.{length-drop}
 use Rattle.circular_buffer.specs.Buffer.{keep_last}
-use Rattle.stream_model.specs.Lists.{numbers_from, window}
-use Rattle.stream_model.specs.Settings.{Value, Held, setting_at, between}
+use Rattle.stream_model.specs.Lists.{window}
+use Rattle.stream_model.specs.Settings.{Value, Held, between}
 use Rattle.stream_model.specs.Meaning.{Meaning, input, windows_from, held_of}
 use Rattle.settings.specs.Timelines.{Settings}
 use Rattle.ring_readers.specs.State.{EndsWith}
@@ -36,7 +36,7 @@ pub length-windows : (m : Meaning) (p : ℕ) (xs : List (List ℤ)) (first n : �
 length-windows m p [] first n = refl
 length-windows m p (x ∷ xs) first n = ap suc (length-windows m (suc p) xs first n)
 
--- settings over items, as a timeline reads them
+-- settings over items, as a timeline has them
 pub held_is : (m : Meaning) (ts : List Held) (first n : ℕ) (o : Option Value) (s : Option Settings) → m.own ≡ o → IsTimeline o ts s → held_over s (m.taken 0 first) (m.taken 0 (first + n)) ≡ held_of m ts first n
 held_is m ts first n None None e is = rw e refl
 held_is m ts first n None (Some s) e is = absurd (is)
@@ -44,6 +44,4 @@ held_is m ts first n (Some own) None e is = absurd (is)
 held_is m ts first n (Some own) (Some s) e is =
     let from = m.taken 0 first in
     let to = m.taken 0 (first + n) in
-    let reads : (λ (a : ℕ). setting_at s.own s.settings a) ≡ (λ (a : ℕ). setting_at s.own ts a) = λ i. λ a. is.1 a (omega arith) i in
-    rw e (ap (λ (f : ℕ → Held). f from ∷ filter_map (λ a. if (f a).at == a then Some (f a) else None) (numbers_from (suc from) (to - suc from))) reads
-    ∙ ap (λ o. between o ts from to) is.0)
+    rw e (ap (λ us. between s.own us from to) is.1 ∙ ap (λ o. between o ts from to) is.0)

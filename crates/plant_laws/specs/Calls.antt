@@ -1,7 +1,7 @@
 -- Each call keeps what is stored right, where it changes only what it is about.
 use Rattle.std.specs.Prelude.{ℕ, ◌+◌, ◌*◌, ◌<◌, ◌≤◌, ◌≡◌, min, ℤ, List, [], ◌∷◌, ◌++◌, length, Option, Some, All, Bool, true, false, slice_range}
 use Rattle.stream_model.specs.declared.vocabulary.ItemType.{ItemType}
-use Rattle.stream_model.specs.Settings.{Value, Held}
+use Rattle.stream_model.specs.Settings.{Value, Held, put_setting}
 use Rattle.stream_model.specs.Tags.{Mark, tags_within}
 use Rattle.stream_model.specs.Meaning.{given_outputs}
 use Rattle.stream_model.specs.Network.{Network, State, node_at, handed_at, progress_at, role_at, is_keeper, readers_of, used_outputs, entering}
@@ -9,7 +9,7 @@ use Rattle.stream_model.specs.Claims.{IsDone, Ends, decide}
 use Rattle.stream_model.specs.Machine.{Capacities, Job, Call, Feed, Close, Set, Claim, Commit, Abandon, Read, Reply, Fed, Closed, Taken, Claimed, Done, Did, Abandoned, Piece, counts_of, next}
 use Rattle.stream_laws.specs.CanRun.{CanRun}
 use Rattle.machine_laws.specs.Sound.{fired, Sound}
-use Rattle.settings.specs.Timelines.{Settings, ReadsAs, held_at}
+use Rattle.settings.specs.Timelines.{Settings, held_at}
 use Rattle.plant_laws.specs.Stored.{OutputBuffer, Collected, Stored, timeline_at, sink_at}
 use Rattle.plant_laws.specs.Holds.{word_of, IsBuffer, HasCollected, Holds}
 use Rattle.plant_laws.specs.Changes.{with_fed, with_closed, with_settings, with_released, with_committed}
@@ -29,9 +29,9 @@ FeedingHolds = WhereHolds (λ net caps st stored. (b : ℕ) (t : ItemType) (xs :
 abbrev pub ClosingHolds : Type 0
 ClosingHolds = WhereHolds (λ net caps st stored. (b total : ℕ) → LeadsTo net caps st (Close b) (Closed total) (with_closed stored b))
 
--- a timeline that read as the settings before reads as those with one more
+-- a timeline with one more setting
 abbrev pub TakesOneMore : Settings → Settings → Held → Type 0
-TakesOneMore old new h = (new.own ≡ old.own) × ((ts : List Held) → ReadsAs old 0 ts → ReadsAs new 0 (ts ++ h ∷ []))
+TakesOneMore old new h = (new.own ≡ old.own) × (new.settings ≡ put_setting h old.settings)
 
 -- a block whose setting is accepted has a timeline
 abbrev pub SettingHolds : Type 0

@@ -1,5 +1,5 @@
 -- What is stored is what the streams of a state say.
-use Rattle.std.specs.Prelude.{ℕ, ◌*◌, ◌<◌, ◌≡◌, max, List, length, map, fold, take, Option, Some, None, Bool, true, false, not, ⊤}
+use Rattle.std.specs.Prelude.{ℕ, ◌*◌, ◌<◌, ◌≡◌, max, List, [], length, map, fold, take, Option, Some, None, Bool, true, false, not}
 use Rattle.circular_buffer.specs.Buffer.{keep_last}
 use Rattle.stream_model.specs.declared.vocabulary.ItemType.{ItemType}
 use Rattle.stream_model.specs.Tags.{Tag, sorted_tags, tags_within}
@@ -10,7 +10,7 @@ use Rattle.stream_model.specs.Claims.{is_abandoned}
 use Rattle.stream_model.specs.Machine.{Capacities, capacity_at, output_counts}
 use Rattle.stream_laws.specs.Tags.{tags_in, brought}
 use Rattle.machine_laws.specs.Sound.{fired}
-use Rattle.settings.specs.Timelines.{Settings, ReadsAs}
+use Rattle.settings.specs.Timelines.{Settings}
 use Rattle.ring_readers.specs.declared.reader.Place.{Place}
 use Rattle.ring_readers.specs.State.{most_kept}
 use Rattle.buffers.specs.Buffer.{wanted_tags}
@@ -23,12 +23,12 @@ pub record IsTape (item : ItemType) (handed : Handed) (tape : Tape) : Type 0 whe
   pub tags : tape.tags ≡ sorted_tags handed.tags
   pub closed : tape.closed ≡ handed.closed
 
--- a timeline where the block has a parameter of its own: at each item what is in force is what the calls brought
+-- a timeline where the block has a parameter of its own: that, and the settings
 abbrev pub IsTimeline : Option Value → List Held → Option Settings → Type 0
-IsTimeline None ts None = ⊤
+IsTimeline None ts None = ts ≡ []
 IsTimeline None ts (Some s) = ⊥
 IsTimeline (Some own) ts None = ⊥
-IsTimeline (Some own) ts (Some s) = (s.own ≡ own) × ReadsAs s 0 ts
+IsTimeline (Some own) ts (Some s) = (s.own ≡ own) × (s.settings ≡ ts)
 
 -- the state word after the committed firings of block b
 abbrev pub word_of : Network → State → ℕ → ℕ

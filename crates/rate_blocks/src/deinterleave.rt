@@ -2,7 +2,7 @@
 ghost use Rattle.std.specs.Prelude.{◌≡◌, ◌≤◌, ◌<◌, ◌^◌, ◌↔◌, All, [], length, map, IsOk, IfOk, IfErr};
 ghost use Rattle.stream_model.specs.Kinds.Rates.{deinterleave};
 
-use block_kinds::{Block, Held, ParamFault, Parameter, Shape, ports};
+use block_kinds::{Block, ByPace, Held, ParamFault, Parameter, Shape, ports};
 use items::{ItemType, Items};
 use lane_kernels::SimdLane;
 use lane_work::{LaneWork, make_items};
@@ -61,6 +61,8 @@ impl Block for Deinterleave {
     ghost use Rattle.stream_model.specs.Kinds.Rates.{deinterleave};
 
     ghost meaning = { deinterleave_of };
+
+    type Places = ByPace;
 
     fn shape(&self, _input: usize) -> Shape<'_> {
         let outputs = ports(self.ports as u32, self.item);

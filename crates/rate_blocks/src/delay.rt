@@ -2,7 +2,7 @@
 ghost use Rattle.std.specs.Prelude.{◌≡◌, ◌≤◌, ◌^◌, ◌↔◌, IsOk, IfOk, IfErr};
 ghost use Rattle.stream_model.specs.Kinds.Rates.{delay};
 
-use block_kinds::{Block, Held, Pace, ParamFault, Parameter, Shape, Single, work_single};
+use block_kinds::{Block, ByPace, Held, Pace, ParamFault, Parameter, Shape, Single, work_single};
 use items::{ItemType, Items};
 
 /// A block that gives `n` zeros and then its input.
@@ -59,6 +59,8 @@ impl Block for Delay {
     ghost use Rattle.stream_model.specs.Kinds.Rates.{delay};
 
     ghost meaning = { delay_of };
+
+    type Places = ByPace;
 
     fn shape(&self, _input: usize) -> Shape<'_> {
         Shape {

@@ -2,7 +2,7 @@
 ghost use Rattle.std.specs.Prelude.{◌≡◌, ◌≤◌, ◌^◌, ◌↔◌, IsOk, IfOk, IfErr};
 ghost use Rattle.stream_model.specs.Kinds.Rates.{head};
 
-use block_kinds::{Block, Held, ParamFault, Parameter, Shape, Single, work_single};
+use block_kinds::{Block, ByPace, Held, ParamFault, Parameter, Shape, Single, work_single};
 use items::{ItemType, Items};
 
 /// A block that gives its first `n` items and ends.
@@ -58,6 +58,8 @@ impl Block for Head {
     ghost use Rattle.stream_model.specs.Kinds.Rates.{head};
 
     ghost meaning = { head_of };
+
+    type Places = ByPace;
 
     fn shape(&self, _input: usize) -> Shape<'_> {
         Shape {

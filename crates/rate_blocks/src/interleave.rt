@@ -3,7 +3,7 @@ ghost use Rattle.std.specs.Prelude.{◌≡◌, ◌≤◌, ◌^◌, ◌↔◌, Is
 ghost use Rattle.stream_model.specs.Kinds.Rates.{interleave};
 
 use crate::turns::{TakesTurns, Turn, merge_turns};
-use block_kinds::{Block, Held, ParamFault, Parameter, Shape, ports};
+use block_kinds::{Block, ByPace, Held, ParamFault, Parameter, Shape, ports};
 use items::{ItemType, Items};
 
 /// A block that gives an item of each of its inputs in turn.
@@ -52,6 +52,8 @@ impl Block for Interleave {
     ghost use Rattle.stream_model.specs.Kinds.Rates.{interleave};
 
     ghost meaning = { interleave_of };
+
+    type Places = ByPace;
 
     fn shape(&self, _input: usize) -> Shape<'_> {
         let inputs = ports(self.ports as u32, self.item);

@@ -2,7 +2,7 @@
 ghost use Rattle.std.specs.Prelude.{◌≡◌, ◌≤◌, ◌^◌, ◌↔◌, IsOk, IfOk, IfErr};
 ghost use Rattle.stream_model.specs.Kinds.Rates.{keep_one_in_n};
 
-use block_kinds::{Block, Held, ParamFault, Parameter, Shape, Single, ports, work_single};
+use block_kinds::{Block, ByPace, Held, ParamFault, Parameter, Shape, Single, ports, work_single};
 use items::{ItemType, Items};
 use lane_kernels::SimdLane;
 use lane_work::{LaneWork, make_items};
@@ -78,6 +78,8 @@ impl Block for KeepOneInN {
     ghost use Rattle.stream_model.specs.Kinds.Rates.{keep_one_in_n};
 
     ghost meaning = { keep_one_in_n_of };
+
+    type Places = ByPace;
 
     fn shape(&self, _input: usize) -> Shape<'_> {
         Shape::at_rate(ports(1, self.item), ports(1, self.item), self.n, 1)

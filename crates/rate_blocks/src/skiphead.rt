@@ -2,7 +2,7 @@
 ghost use Rattle.std.specs.Prelude.{◌≡◌, ◌≤◌, ◌^◌, ◌↔◌, IsOk, IfOk, IfErr};
 ghost use Rattle.stream_model.specs.Kinds.Rates.{skiphead};
 
-use block_kinds::{Block, Held, Pace, ParamFault, Parameter, Shape, Single, work_single};
+use block_kinds::{Block, ByPace, Held, Pace, ParamFault, Parameter, Shape, Single, work_single};
 use items::{ItemType, Items};
 
 /// A block that leaves out its first `n` items.
@@ -59,6 +59,8 @@ impl Block for SkipHead {
     ghost use Rattle.stream_model.specs.Kinds.Rates.{skiphead};
 
     ghost meaning = { skiphead_of };
+
+    type Places = ByPace;
 
     fn shape(&self, _input: usize) -> Shape<'_> {
         Shape {

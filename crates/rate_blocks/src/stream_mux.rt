@@ -4,7 +4,7 @@ ghost use Rattle.stream_model.specs.Kinds.Rates.{IsMux, stream_mux};
 ghost use Rattle.rate_blocks.specs.Lengths.{AreLengths, unsigned};
 
 use crate::turns::{TakesTurns, Turn, merge_turns};
-use block_kinds::{Block, Held, Pace, ParamFault, Parameter, Shape, ports};
+use block_kinds::{Block, ByPace, Held, Pace, ParamFault, Parameter, Shape, ports};
 use items::{ItemType, Items};
 
 /// The most inputs.
@@ -115,6 +115,8 @@ impl Block for StreamMux {
     ghost use Rattle.rate_blocks.specs.Mux.{stream_mux_of, stream_mux_of-lawful, stream_mux_of-same};
 
     ghost meaning = { stream_mux_of };
+
+    type Places = ByPace;
 
     fn shape(&self, input: usize) -> Shape<'_> {
         let all = self.all();

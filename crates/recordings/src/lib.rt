@@ -3,4 +3,4 @@
 
 pub mod recording;
 
-pub use recording::Recording;
+pub use recording::{Recording, are_same};

@@ -1,5 +1,5 @@
 //! A stream that is kept whole.
-ghost use Rattle.std.specs.Prelude.{◌≡◌, ◌+◌, ◌<◌, ◌≤◌, ◌^◌, [], ◌++◌, length, map, slice_range, OnOk, OnErr, IsOk, ◌==◌};
+ghost use Rattle.std.specs.Prelude.{◌≡◌, ◌+◌, ◌<◌, ◌≤◌, ◌^◌, [], ◌++◌, ◌↔◌, length, map, slice_range, IfOk, OnOk, OnErr, IsOk, IsTrue, ◌==◌};
 ghost use Rattle.stream_model.specs.Tags.{tags_within};
 ghost use Rattle.items.specs.Items as typed;
 ghost use Rattle.items.specs.Items.{numbers_of, spare_of};
@@ -110,4 +110,23 @@ impl Recording {
     {
         self.tags.range(from, to)
     }
+
+    /// The same items and tags in memory of their own. It fails only where the allocator refuses.
+    pub fn copy(&self, alloc: Global) -> Result<Recording, AllocError>
+        ensures item { IfOk result (λ copy. copy.item ≡ self.now.item) }
+        ensures items { IfOk result (λ copy. copy.items ≡ self.now.items) }
+        ensures tags { IfOk result (λ copy. copy.tags ≡ self.now.tags) }
+    {
+        let mut copy = Recording::new(alloc, self.item_type());
+        copy.reserve(self.items.len(), self.tags.len())?;
+        copy.push(&self.items, self.tags.as_slice());
+        Ok(copy)
+    }
+}
+
+/// Whether the tags are the same, one by one.
+pub fn are_same(one: &[Tag], other: &[Tag]) -> bool
+    ensures { IsTrue result ↔ (map tag_of one.now ≡ map tag_of other.now) }
+{
+    one == other
 }

@@ -1,11 +1,25 @@
 -- Lines that are taken, as what they say.
 use Rattle.std.proofs.Common.{◌≡◌, ℕ, suc, ◌<◌, ◌≤◌, List, ◌∷◌, ◌++◌, length, refl, ap, sym, ◌∙◌, cond, Bool, true, false}
-use Rattle.std.specs.Prelude.{nat_lt}
+use Rattle.std.specs.Prelude.{nat_lt, Option, None, Some, Result, Ok, Err, OnErr}
 use Rattle.std.proofs.lemmas.Bool.{lt-ltb, le-ltb}
-use Rattle.script_text.specs.Lines.{lines_of, most_lines, longest_line}
+use Rattle.script_text.specs.Lines.{lines_of, begins_with, most_lines, longest_line}
 use Rattle.script_text.specs.Splits.{Split, TakesLine, StartsTooLong}
-use Rattle.script_text.specs.Grammar.{Parsed, Nothing, Bad, Says, parsed_line, parsed_at, parsed_from}
+use Rattle.script_text.specs.Fields.{fields_of}
+use Rattle.script_text.specs.Grammar.{Command, Parsed, Nothing, Bad, Says, HasWords, says, command_of, number_sign, parsed_line, parsed_at, parsed_from}
 use Rattle.script_text.specs.Scripts.{said_of, GoesOn, SaysNext}
+
+pub on_err : {X E P : Type 0} (r : Result X E) → P → OnErr r P
+on_err (Ok x) p = tt
+on_err (Err e) p = p
+
+says_words : (o : Option Command) → HasWords (says o)
+says_words None = tt
+says_words (Some c) = tt
+
+-- a line with a field, which is no comment and not too long, says something
+pub words_asked : (line word : List ℕ) (fields : List (List ℕ)) → length line ≤ longest_line → begins_with number_sign line ≡ false → fields_of line ≡ word ∷ fields → HasWords (parsed_line line)
+unfolding parsed_line
+words_asked line word fields short other is = let within = le-ltb longest_line (length line) short in rw (within, other, is) (says_words (command_of word fields))
 
 pub says_next : (said : Parsed) (old new : Split) → GoesOn said old new → SaysNext said old new
 says_next Nothing old new h = h

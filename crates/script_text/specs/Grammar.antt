@@ -45,6 +45,12 @@ SaysAskable Nothing = Unit {0}
 SaysAskable Bad = Unit {0}
 SaysAskable (Says c) = IsAskable c
 
+-- the line says something, though it may be nothing that a line may say: memory is asked for on no other
+abbrev pub HasWords : Parsed → Type 0
+HasWords Nothing = ⊥
+HasWords Bad = Unit {0}
+HasWords (Says c) = Unit {0}
+
 infixl 10 ◌>>=◌
 abbrev pub ◌>>=◌ : {A B : Type 0} → Option A → (A → Option B) → Option B
 None >>= f = None

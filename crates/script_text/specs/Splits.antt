@@ -10,6 +10,10 @@ pub record Split : Type 0 where
   pub line : List ℕ
   pub taken : ℕ
 
+-- so many bytes are held at most, those of lines that were taken with them
+abbrev pub most_held : ℕ
+most_held = 196608
+
 -- the first line of the bytes is longer than a line may be
 abbrev pub StartsTooLong : List ℕ → Type 0
 StartsTooLong bytes = (line : List ℕ) × (lines : List (List ℕ)) × (lines_of bytes ≡ line ∷ lines) × (longest_line < length line)

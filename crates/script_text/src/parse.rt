@@ -1,8 +1,9 @@
 //! Lines as commands.
-ghost use Rattle.std.specs.Prelude.{◌≡◌, [], ◌∷◌, IfOk, IfSome, IfNone, None};
+ghost use Rattle.std.specs.Prelude.{◌≡◌, ◌≤◌, [], ◌∷◌, length, IfOk, OnErr, IfSome, IfNone, None};
 ghost use Rattle.std.specs.Option.{option_map};
 ghost use Rattle.script_text.specs.Fields.{fields_of};
-ghost use Rattle.script_text.specs.Grammar.{parsed_line, command_of, feed_of, close_of, set_of, claim_of, commit_of, abandon_of, step_of, read_of, quiet_of, name_alone, name_and_max, only_two, place_of, integers_of, given_of, marks_of, mark_of, mark_at, name_of, with_items};
+ghost use Rattle.script_text.specs.Lines.{longest_line};
+ghost use Rattle.script_text.specs.Grammar.{HasWords, parsed_line, command_of, feed_of, close_of, set_of, claim_of, commit_of, abandon_of, step_of, read_of, quiet_of, name_alone, name_and_max, only_two, place_of, integers_of, given_of, marks_of, mark_of, mark_at, name_of, with_items};
 ghost use Rattle.script_text.specs.Numbers.{max_of, integer_of};
 ghost use Rattle.script_text.specs.Commands.{line_seen, command_seen, marks_seen, mark_seen};
 
@@ -15,10 +16,12 @@ use std::alloc::{AllocError, Global};
 
 const LONGEST_LINE: usize = 65536;
 
-/// What a line says, without what ends it.
+/// What a line says, without what ends it. Memory is asked for only where it says something and is not too long.
 #[tactic(auto, unfolding(crate::specs::Grammar::parsed_line))]
 pub fn parse_line(alloc: Global, line: &[u8]) -> Result<Line, AllocError>
-    ensures { IfOk result (λ l. line_seen l ≡ parsed_line line.now) }
+    ensures ok { IfOk result (λ l. line_seen l ≡ parsed_line line.now) }
+    ensures err { OnErr result (HasWords (parsed_line line.now)) }
+    ensures short { OnErr result (length line.now ≤ longest_line) }
 {
     if line.len() > LONGEST_LINE {
         return Ok(Line::Bad);

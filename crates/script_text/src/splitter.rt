@@ -1,5 +1,5 @@
 //! Lines of bytes that come in pieces.
-ghost use Rattle.std.specs.Prelude.{◌≡◌, ◌≢◌, ℕ, ◌+◌, ◌-◌, ◌^◌, ◌<◌, ◌≤◌, [], ◌++◌, length, take, drop, slice_index, slice_range, vec_len, OnOk, OnErr};
+ghost use Rattle.std.specs.Prelude.{◌≡◌, ◌≢◌, ℕ, ◌+◌, ◌-◌, ◌^◌, ◌<◌, ◌≤◌, [], ◌++◌, length, take, drop, slice_index, slice_range, vec_len, IfOk};
 ghost use Rattle.std.specs.Option.{option_map, option_to_list};
 ghost use Rattle.script_text.specs.Lines.{line_feed, without_return};
 
@@ -13,6 +13,9 @@ const CARRIAGE_RETURN: u8 = b'\r';
 
 const LONGEST_LINE: usize = 65536;
 
+// So many bytes are held at most. A line and a piece are less than half as long, so that fewer bytes are moved than were given up.
+const MOST_HELD: usize = 196608;
+
 /// How a line was taken.
 #[derive(Clone, Copy, Debug, PartialEq, Eq)]
 pub enum Taken {
@@ -24,8 +27,8 @@ pub enum Taken {
     Unfinished,
 }
 
-/// Bytes that come in pieces, and the lines that are taken off their front. A contract sees the bytes that are left, the
-/// line that was taken last, and how many were taken.
+/// Bytes that come in pieces, and the lines that are taken off their front. All memory is there from the start. A contract sees the bytes that
+/// are left, the line that was taken last, and how many were taken.
 #[derive(Drop)]
 pub struct LineSplitter {
     buffer: Vec<u8>,
@@ -39,8 +42,9 @@ pub struct LineSplitter {
 
 impl Model for LineSplitter {
     ghost use Rattle.std.specs.Prelude.{◌≢◌, ℕ, ◌<◌, ◌≤◌, drop, slice_index, slice_range, vec_len};
+    ghost use Rattle.std.specs.Prelude.{vec_capacity};
     ghost use Rattle.script_text.specs.Lines.{line_feed};
-    ghost use Rattle.script_text.specs.Splits.{Split};
+    ghost use Rattle.script_text.specs.Splits.{Split, most_held};
 
     ghost Value = { Split };
 
@@ -51,36 +55,46 @@ impl Model for LineSplitter {
     } };
 
     ghost invariant = { λ s. (s.line_start ≤ s.line_end) × (s.line_end ≤ s.start) × (s.start ≤ s.searched) × (s.searched ≤ vec_len s.buffer)
-        × ((k : ℕ) → s.start ≤ k → k < s.searched → slice_index s.buffer.items k ≢ line_feed) };
+        × ((k : ℕ) → s.start ≤ k → k < s.searched → slice_index s.buffer.items k ≢ line_feed) × (vec_len s.buffer ≤ most_held) × (most_held ≤ vec_capacity s.buffer) };
 }
 
 impl LineSplitter {
-    ghost use Rattle.script_text.specs.Splits.{Takes, IsUnfinished};
+    ghost use Rattle.script_text.specs.Splits.{Takes, IsUnfinished, most_held};
     ghost use Rattle.script_text.specs.Lines.{lines_of};
 
     /// No bytes, of which no line was taken.
-    pub fn new(alloc: Global) -> LineSplitter
-        ensures { result ≡ record { rest = []; line = []; taken = 0 } }
+    pub fn new(alloc: Global) -> Result<LineSplitter, AllocError>
+        ensures { IfOk result (λ lines. lines ≡ record { rest = []; line = []; taken = 0 }) }
     {
-        LineSplitter {
-            buffer: Vec::new(alloc),
+        let buffer = Vec::with_capacity(alloc, MOST_HELD)?;
+        Ok(LineSplitter {
+            buffer,
             line_start: 0,
             line_end: 0,
             start: 0,
             searched: 0,
             taken: 0,
-        }
+        })
     }
 
     /// Adds the next piece of the bytes. The line that was taken last is gone.
-    pub fn push(&mut self, piece: &[u8]) -> Result<(), AllocError>
-        ensures ok { OnOk result (self.new.rest ≡ self.old.rest ++ piece.now) }
-        ensures err { OnErr result (self.new.rest ≡ self.old.rest) }
+    pub fn push(&mut self, piece: &[u8])
+        requires { length self.old.rest + length piece.now ≤ most_held }
+        ensures rest { self.new.rest ≡ self.old.rest ++ piece.now }
         ensures line { self.new.line ≡ [] }
         ensures taken { self.new.taken ≡ self.old.taken }
     {
-        self.forget_taken();
-        self.buffer.extend_from_slice(piece)
+        self.line_start = 0;
+        self.line_end = 0;
+        if piece.len() > MOST_HELD - self.buffer.len() {
+            self.buffer.drain(..self.start);
+            self.searched -= self.start;
+            self.start = 0;
+        }
+        match self.buffer.extend_from_slice(piece) {
+            Ok(()) => {}
+            Err(_) => unreachable!(),
+        }
     }
 
     /// Takes the first line off the bytes, where its end has come.
@@ -129,22 +143,6 @@ impl LineSplitter {
         ensures { result ≡ self.now.taken }
     {
         self.taken
-    }
-
-    // Gives up the bytes of the lines that were taken, once they are at least as many as those that are left: so no byte
-    // is moved more often than one is given up.
-    fn forget_taken(&mut self)
-        ensures rest { self.new.rest ≡ self.old.rest }
-        ensures line { self.new.line ≡ [] }
-        ensures taken { self.new.taken ≡ self.old.taken }
-    {
-        self.line_start = 0;
-        self.line_end = 0;
-        if self.start > 0 && self.start >= self.buffer.len() - self.start {
-            self.buffer.drain(..self.start);
-            self.searched -= self.start;
-            self.start = 0;
-        }
     }
 }
 

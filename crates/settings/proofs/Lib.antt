@@ -1,6 +1,6 @@
+pub mod Cuts
+pub mod Entries
 pub mod Latest
 pub mod Made
-pub mod Places
-pub mod Points
-pub mod Rising
-mod Sames
+pub mod Pruned
+pub mod Sames

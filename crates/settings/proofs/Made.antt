@@ -5,10 +5,10 @@ use Rattle.std.specs.List.{cons_option}
 use Rattle.std.proofs.lemmas.Bool.{eq-eqb, ne_eqb, cases_order}
 use Rattle.std.proofs.lemmas.List.Elements.{All-nil, All-head, All-tail, All-weaker, All-cons}
 use Rattle.stream_model.specs.Lists.{numbers_from}
-use Rattle.stream_model.specs.Settings.{Value, Held, latest, setting_at, made_at, between}
-use Rattle.settings.specs.Timelines.{IsRising}
-use Rattle.settings.proofs.Latest.{latest-taken, latest-later, latest-past, latest-holds, latest-append}
-use Rattle.settings.proofs.Rising.{rising_tail, rising_head, all_left}
+use Rattle.stream_model.specs.Settings.{Value, Held, latest, setting_at, made_at, between, IsRising}
+use Rattle.stream_model.proofs.Latest.{latest-taken, latest-holds, latest-append}
+use Rattle.stream_model.proofs.Rising.{rising_tail, rising_head}
+use Rattle.settings.proofs.Latest.{latest-later, latest-past}
 
 -- the setting made at exactly item a, where b is in force before
 abbrev made : Held → List Held → ℕ → Option Held
@@ -23,12 +23,17 @@ made-none b h ts a is before =
     ap (λ u. cond (u.at == a) (Some u) None) is ∙ ap (λ t. cond t (Some h) None) (ne_eqb h.at a (λ e. omega arith))
 
 -- equal functions from an item on
-pub filter_map-agree : {X : Type 0} (f g : ℕ → Option X) (n k : ℕ) → ((a : ℕ) → n ≤ a → f a ≡ g a) → filter_map f (numbers_from n k) ≡ filter_map g (numbers_from n k)
+filter_map-agree : {X : Type 0} (f g : ℕ → Option X) (n k : ℕ) → ((a : ℕ) → n ≤ a → f a ≡ g a) → filter_map f (numbers_from n k) ≡ filter_map g (numbers_from n k)
 filter_map-agree f g n zero same = refl
 filter_map-agree f g n (suc k) same =
     let here : f n ≡ g n = same n (omega arith) in
     let rest : filter_map f (numbers_from (n + 1) k) ≡ filter_map g (numbers_from (n + 1) k) = filter_map-agree f g (n + 1) k (λ a le. same a (omega arith)) in
     λ i. cons_option (here i) (rest i)
+
+-- what holds of each element holds of each of the first
+all_left : {X : Type 0} (P : X → Type 0) (xs ys : List X) → All P (xs ++ ys) → All P xs
+all_left P [] ys each = All-nil P
+all_left P (x ∷ xs) ys each = All-cons P x xs (All-head P x (xs ++ ys) each) (all_left P xs ys (All-tail P x (xs ++ ys) each))
 
 rising_left : (x : Held) (xs ys : List Held) → IsRising (x ∷ (xs ++ ys)) → All (λ t. x.at < t.at) xs
 rising_left x xs ys rising = all_left (λ t. x.at < t.at) xs ys (rising_head x (xs ++ ys) rising)
@@ -96,11 +101,3 @@ pub between_none : (own : Value) (ts : List Held) (from to : ℕ) → to ≤ fro
 between_none own ts from to past =
     let none : to - suc from ≡ 0 = omega arith in
     ap (λ k. setting_at own ts from ∷ filter_map (made_at own ts) (numbers_from (suc from) k)) none
-
--- lists of settings that read the same from an item on
-pub between_agree : (own : Value) (ss ts : List Held) (from to : ℕ) → ((a : ℕ) → from ≤ a → setting_at own ss a ≡ setting_at own ts a) → between own ss from to ≡ between own ts from to
-between_agree own ss ts from to same =
-    let first : setting_at own ss from ≡ setting_at own ts from = same from (omega arith) in
-    let rest : filter_map (made_at own ss) (numbers_from (suc from) (to - suc from)) ≡ filter_map (made_at own ts) (numbers_from (suc from) (to - suc from)) =
-    filter_map-agree (made_at own ss) (made_at own ts) (suc from) (to - suc from) (λ a le. ap (λ u. cond (u.at == a) (Some u) None) (same a (omega arith))) in
-    λ i. first i ∷ rest i

@@ -1,33 +1,37 @@
 //! The settings of one block over its items.
-ghost use Rattle.std.specs.Prelude.{◌≡◌, ◌+◌, ◌≤◌, ◌<◌, ◌↔◌, ℕ, List, [], ◌∷◌, ◌++◌, All, take, drop, map, length, max, IsTrue, IsOk, IfOk, OnOk, OnErr, IsErrOf, IsOkUnless};
+ghost use Rattle.std.specs.Prelude.{◌≡◌, ◌+◌, ◌≤◌, ◌<◌, ◌↔◌, [], ◌∷◌, ◌++◌, take, map, length, max, IsTrue, IsOk, IfOk, OnOk, OnErr, IsErrOf, IsOkUnless};
 ghost use Rattle.std.specs.List.{Any};
 ghost use Rattle.stream_model.specs.Settings as model;
-ghost use Rattle.settings.specs.Values.{value_of, held_of};
-ghost use Rattle.settings.specs.Timelines.{held_at, IsRising, ReadsAs, TakesIn};
+ghost use Rattle.settings.specs.Values.{value_of, held_of, placed};
+ghost use Rattle.settings.specs.Timelines.{held_at, kept_from, ReadsAs};
 
 use crate::{Held, SettingFault, Value};
 use std::alloc::{AllocError, Global};
+use std::collections::BTreeMap;
+use std::collections::btree_map::Range;
 use std::marker::Model;
 
-/// The settings of one block. A contract sees the block's own parameter and the settings that are
-/// kept, by their items: a setting that a later call replaces is not kept.
+/// The settings of one block. A contract sees the block's own parameter and the settings by their
+/// items: a setting that a later call replaces is not kept.
 #[derive(Debug, Drop)]
 pub struct Timeline {
     // The block's own parameter, in force from item 0 on.
-    own: Held,
-    settings: Vec<Held>,
+    own: Value,
+    // The values, by the items from which on they are in force.
+    settings: BTreeMap<u64, Value>,
 }
 
 impl Model for Timeline {
-    ghost use Rattle.std.specs.Prelude.{◌≡◌, map};
-    ghost use Rattle.settings.specs.Values.{value_of, held_of};
-    ghost use Rattle.settings.specs.Timelines.{Settings, IsRising};
+    ghost use Rattle.std.specs.Prelude.{map};
+    ghost use Rattle.stream_model.specs.Settings.{IsRising};
+    ghost use Rattle.settings.specs.Values.{value_of, placed};
+    ghost use Rattle.settings.specs.Timelines.{Settings};
 
     ghost Value = { Settings };
 
-    ghost view = { λ t. record { own = value_of t.own.value; settings = map held_of t.settings.items } };
+    ghost view = { λ t. record { own = value_of t.own; settings = map placed t.settings.entries } };
 
-    ghost invariant = { λ t. (t.own.at ≡ 0) × IsRising (map held_of t.settings.items) };
+    ghost invariant = { λ t. IsRising (map placed t.settings.entries) };
 }
 
 impl Timeline {
@@ -37,15 +41,15 @@ impl Timeline {
         ensures settings { result.settings ≡ [] }
     {
         Timeline {
-            own: Held { at: 0, value: own },
-            settings: Vec::new(alloc),
+            own,
+            settings: BTreeMap::new(alloc),
         }
     }
 
     /// How many settings are kept: at most one of each item.
     pub fn len(&self) -> usize
         ensures value { result ≡ length self.now.settings }
-        ensures rising { IsRising self.now.settings }
+        ensures rising { model.IsRising self.now.settings }
     {
         self.settings.len()
     }
@@ -59,11 +63,9 @@ impl Timeline {
 
     /// The value in force at the item.
     pub fn in_force(&self, item: u64) -> &Value
-        ensures value { value_of result.now ≡ model.in_force self.now.own self.now.settings item }
-        ensures reads { (ts : List model.Held) → ReadsAs self.now item ts →
-            value_of result.now ≡ model.in_force self.now.own ts item }
+        ensures { value_of result.now ≡ model.in_force self.now.own self.now.settings item }
     {
-        &self.setting_at(item).value
+        self.setting_at(item).1
     }
 
     /// What is in force from item `from` on to below item `to`: the setting in force at `from`, then
@@ -71,11 +73,11 @@ impl Timeline {
     pub fn between(&self, alloc: Global, from: u64, to: u64) -> Result<Vec<Held>, SettingFault>
         ensures value { IfOk result (λ held.
             map held_of held.items ≡ model.between self.now.own self.now.settings from to) }
-        ensures reads { (ts : List model.Held) → ReadsAs self.now from ts → IfOk result (λ held.
-            map held_of held.items ≡ model.between self.now.own ts from to) }
         ensures memory { IsOkUnless result SettingFault.Memory }
     {
-        Ok(copies(alloc, self.setting_at(from), self.made_between(from, to))?)
+        let mut held = Vec::new(alloc);
+        self.copy_between(alloc, from, to, &mut held)?;
+        Ok(held)
     }
 
     /// Makes `held` what is in force from item `from` on to below item `to`, as `between` has it, in the memory that it has where that is
@@ -89,26 +91,39 @@ impl Timeline {
     ) -> Result<(), SettingFault>
         ensures value { OnOk result (
             map held_of held.new.items ≡ model.between self.now.own self.now.settings from to) }
-        ensures reads { (ts : List model.Held) → ReadsAs self.now from ts → OnOk result (
-            map held_of held.new.items ≡ model.between self.now.own ts from to) }
         ensures memory { IsOkUnless result SettingFault.Memory }
     {
-        copy_over(
-            alloc,
-            self.setting_at(from),
-            self.made_between(from, to),
-            held,
-        )?;
+        let (at, value) = self.setting_at(from);
+        put(alloc, held, 0, at, value)?;
+        put_all(alloc, held, 1, self.made_between(from, to))?;
         Ok(())
     }
 
     /// Whether `held` is what is in force from item `from` on to below item `to`.
     pub fn is_between(&self, from: u64, to: u64, held: &[Held]) -> bool
-        ensures value { IsTrue result ↔ (map held_of held.now ≡ model.between self.now.own self.now.settings from to) }
-        ensures reads { (ts : List model.Held) → ReadsAs self.now from ts →
-            IsTrue result ↔ (map held_of held.now ≡ model.between self.now.own ts from to) }
+        ensures { IsTrue result ↔ (map held_of held.now ≡ model.between self.now.own self.now.settings from to) }
     {
-        are_same(held, self.setting_at(from), self.made_between(from, to))
+        let Some((first, others)) = held.split_first() else {
+            return false;
+        };
+        let (at, value) = self.setting_at(from);
+        first.is_same(at, value) && are_same(others, self.made_between(from, to))
+    }
+
+    /// All settings by their items, in memory of their own.
+    pub fn copy(&self, alloc: Global) -> Result<Vec<Held>, AllocError>
+        ensures { IfOk result (λ copy. map held_of copy.items ≡ self.now.settings) }
+    {
+        let mut copy = Vec::with_capacity(alloc, self.settings.len())?;
+        put_all(alloc, &mut copy, 0, self.settings.range(..))?;
+        Ok(copy)
+    }
+
+    /// Whether `held` are all the settings by their items.
+    pub fn is_same_as(&self, held: &[Held]) -> bool
+        ensures { IsTrue result ↔ (map held_of held.now ≡ self.now.settings) }
+    {
+        are_same(held, self.settings.range(..))
     }
 
     /// Sets the value from item `at` on. Below the floor it is refused as `Late`, before any memory
@@ -116,9 +131,8 @@ impl Timeline {
     /// same item.
     pub fn set(&mut self, at: u64, value: Value, floor: u64) -> Result<(), SettingFault>
         ensures own { self.new.own ≡ self.old.own }
-        ensures ok { OnOk result (ReadsAs self.new 0 (self.old.settings ++ held_at at (value_of value) ∷ [])) }
-        ensures reads { OnOk result ((first : ℕ) (ts : List model.Held) → ReadsAs self.old first ts →
-            ReadsAs self.new first (ts ++ held_at at (value_of value) ∷ [])) }
+        ensures ok { OnOk result (
+            self.new.settings ≡ model.put_setting (held_at at (value_of value)) self.old.settings) }
         ensures err { OnErr result (self.new ≡ self.old) }
 
         ensures late { IsErrOf result (SettingFault.Late floor) ↔ (at < floor) }
@@ -128,144 +142,116 @@ impl Timeline {
         if at < floor {
             return Err(SettingFault::Late { floor });
         }
-        take_in(&mut self.settings, Held { at, value })?;
-        Ok(())
-    }
-
-    /// Forgets the settings that no item from `before` on reads. It takes no memory.
-    pub fn prune(&mut self, before: u64)
-        ensures own { self.new.own ≡ self.old.own }
-        ensures value { ReadsAs self.new before self.old.settings }
-        ensures reads { (ts : List model.Held) → ReadsAs self.old before ts → ReadsAs self.new before ts }
-        ensures forgets { All (λ h. before < h.at) (drop 1 self.new.settings) }
-    {
-        let count = count_up_to(&self.settings, before);
-        if count > 1 {
-            drop(self.settings.drain(..count - 1));
+        match self.settings.insert(at, value) {
+            Ok(_) => Ok(()),
+            Err(_) => Err(SettingFault::Memory),
         }
     }
 
-    // The setting in force at the item.
-    fn setting_at(&self, item: u64) -> &Held
-        ensures { held_of result.now ≡ model.setting_at self.now.own self.now.settings item }
+    /// Forgets the settings that no item from `before` on reads, which are those made before that in force there. It takes no memory.
+    pub fn prune(&mut self, before: u64)
+        ensures own { self.new.own ≡ self.old.own }
+        ensures settings { self.new.settings ≡ kept_from
+            (model.setting_at self.old.own self.old.settings before).at self.old.settings }
+        ensures reads { ReadsAs self.new before self.old.settings }
     {
-        match count_up_to(&self.settings, item).checked_sub(1) {
-            Some(last) => &self.settings[last],
-            None => &self.own,
+        let (first, _) = self.setting_at(before);
+        forget_below(&mut self.settings, first);
+    }
+
+    // The setting in force at the item: where it is made, and its value.
+    fn setting_at(&self, item: u64) -> (u64, &Value)
+        ensures { held_at result.0 (value_of result.1.now) ≡ model.setting_at self.now.own self.now.settings item }
+    {
+        match self.settings.range(..=item).next_back() {
+            Some((at, value)) => (*at, value),
+            None => (0, &self.own),
         }
     }
 
     // The settings made after item `from` and before item `to`.
-    fn made_between(&self, from: u64, to: u64) -> &[Held]
-        ensures { model.setting_at self.now.own self.now.settings from ∷ map held_of result.now ≡
+    fn made_between(&self, from: u64, to: u64) -> Range<'_, u64, Value>
+        ensures { model.setting_at self.now.own self.now.settings from ∷ map placed result ≡
             model.between self.now.own self.now.settings from to }
     {
         if to <= from {
-            return &[];
+            return self.settings.range(0..0);
         }
-        let start = count_up_to(&self.settings, from);
-        let end = count_up_to(&self.settings, to - 1);
-        &self.settings[start..end]
+        self.settings.range(from + 1..to)
     }
 }
 
-// How many of the settings are made up to the item. The last is looked at first.
-fn count_up_to(settings: &[Held], item: u64) -> usize
-    requires { IsRising (map held_of settings.now) }
-    ensures within { result ≤ length settings.now }
-    ensures made { All (λ h. h.at ≤ item) (take result (map held_of settings.now)) }
-    ensures later { All (λ h. item < h.at) (drop result (map held_of settings.now)) }
+// Takes out what is set below an item. It takes no memory.
+fn forget_below(settings: &mut BTreeMap<u64, Value>, first: u64)
+    requires { model.IsRising (map placed settings.old.entries) }
+    ensures { map placed settings.new.entries ≡ kept_from first (map placed settings.old.entries) }
 {
-    match settings.last() {
-        Some(last) if item < last.at => settings.partition_point(|held| held.at <= item),
-        _ => settings.len(),
+    while let Some((at, _)) = settings.first_key_value() {
+        if first <= *at {
+            return;
+        }
+        let _ = settings.pop_first();
     }
 }
 
-// Puts a setting where it belongs, in place of one of the same item.
-fn take_in(settings: &mut Vec<Held>, held: Held) -> Result<(), AllocError>
-    requires { IsRising (map held_of settings.old.items) }
-    ensures rising { IsRising (map held_of settings.new.items) }
-    ensures ok { OnOk result (
-        TakesIn (map held_of settings.old.items) (map held_of settings.new.items) (held_of held)) }
-    ensures err { OnErr result (settings.new.items ≡ settings.old.items) }
-    ensures replaces { Any (λ h. h.at ≡ held.at) (map held_of settings.old.items) → IsOk result }
-{
-    let count = count_up_to(settings, held.at);
-    if count > 0 && settings[count - 1].at == held.at {
-        settings[count - 1] = held;
-    } else {
-        settings.insert(count, held)?;
-    }
-    Ok(())
-}
-
-// The same settings in memory of their own, the first before the others.
-fn copies(alloc: Global, first: &Held, others: &[Held]) -> Result<Vec<Held>, AllocError>
-    ensures { IfOk result (λ copies.
-        map held_of copies.items ≡ held_of first.now ∷ map held_of others.now) }
-{
-    let mut copies = Vec::with_capacity(alloc, others.len() + 1)?;
-    copies.push_reserved(copied(alloc, first)?);
-    for held in others {
-        copies.push_reserved(copied(alloc, held)?);
-    }
-    Ok(copies)
-}
-
-// Makes `held` the same settings, the first before the others.
-fn copy_over(
+// Makes what `held` has from a place on these settings, in the memory that it has where that is enough.
+fn put_all(
     alloc: Global,
-    first: &Held,
-    others: &[Held],
     held: &mut Vec<Held>,
+    place: usize,
+    settings: Range<'_, u64, Value>,
 ) -> Result<(), AllocError>
-    ensures { OnOk result (map held_of held.new.items ≡ held_of first.now ∷ map held_of others.now) }
+    requires { place ≤ length held.old.items }
+    ensures { OnOk result (
+        map held_of held.new.items ≡ take place (map held_of held.old.items) ++ map placed settings.entry) }
 {
-    held.truncate(others.len() + 1);
-    put(alloc, held, 0, first)?;
-    for (i, other) in others.iter().enumerate() {
-        put(alloc, held, i + 1, other)?;
+    let mut count = place;
+    for (at, value) in settings {
+        put(alloc, held, count, *at, value)?;
+        count += 1;
     }
+    held.truncate(count);
     Ok(())
 }
 
-// Makes setting `at`, which is there or comes next, the same as the other.
-fn put(alloc: Global, held: &mut Vec<Held>, at: usize, other: &Held) -> Result<(), AllocError>
-    requires { at ≤ length held.old.items }
+// Puts a setting at the place, which is there or comes next.
+fn put(
+    alloc: Global,
+    held: &mut Vec<Held>,
+    place: usize,
+    at: u64,
+    value: &Value,
+) -> Result<(), AllocError>
+    requires { place ≤ length held.old.items }
     ensures value { OnOk result (
-        take (at + 1) (map held_of held.new.items) ≡ take at (map held_of held.old.items) ++ held_of other.now ∷ []) }
-    ensures length { OnOk result (length held.new.items ≡ max (at + 1) (length held.old.items)) }
+        take (place + 1) (map held_of held.new.items)
+        ≡ take place (map held_of held.old.items) ++ held_at at (value_of value.now) ∷ []) }
+    ensures length { OnOk result (length held.new.items ≡ max (place + 1) (length held.old.items)) }
 {
-    if at < held.len() {
-        held[at].copy_from(alloc, other)?;
+    if place < held.len() {
+        held[place].copy_from(alloc, at, value)?;
     } else {
-        held.push(copied(alloc, other)?)?;
+        held.push(Held {
+            at,
+            value: value.copy(alloc)?,
+        })?;
     }
     Ok(())
 }
 
-// Whether `held` are the same settings, the first before the others.
-fn are_same(held: &[Held], first: &Held, others: &[Held]) -> bool
-    ensures { IsTrue result ↔ (map held_of held.now ≡ held_of first.now ∷ map held_of others.now) }
+// Whether `held` are these settings.
+fn are_same(held: &[Held], settings: Range<'_, u64, Value>) -> bool
+    ensures { IsTrue result ↔ (map held_of held.now ≡ map placed settings.entry) }
 {
-    if held.len() != others.len() + 1 || !held[0].is_same(first) {
-        return false;
-    }
-    for (i, other) in others.iter().enumerate() {
-        if !held[i + 1].is_same(other) {
+    let mut rest = held;
+    for (at, value) in settings {
+        let Some((first, others)) = rest.split_first() else {
+            return false;
+        };
+        if !first.is_same(*at, value) {
             return false;
         }
+        rest = others;
     }
-    true
-}
-
-// The same setting in memory of its own.
-fn copied(alloc: Global, held: &Held) -> Result<Held, AllocError>
-    ensures { IfOk result (λ copy. held_of copy ≡ held_of held.now) }
-{
-    Ok(Held {
-        at: held.at,
-        value: held.value.copy(alloc)?,
-    })
+    rest.is_empty()
 }

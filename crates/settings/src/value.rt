@@ -1,7 +1,8 @@
 //! Values of settings.
 
-ghost use Rattle.std.specs.Prelude.{◌≡◌, ◌↔◌, IsTrue, IfOk, OnOk, is_ok, true};
+ghost use Rattle.std.specs.Prelude.{◌≡◌, ◌↔◌, IsTrue, IfOk, OnOk, OnErr, is_ok, true};
 ghost use Rattle.settings.specs.Values.{value_of, held_of, is_number};
+ghost use Rattle.settings.specs.Timelines.{held_at};
 
 use std::alloc::{AllocError, Global};
 use std::marker::Model;
@@ -40,12 +41,14 @@ impl Taps {
         self.taps == other.taps
     }
 
-    /// Makes these taps the same as the others, in the memory that they have where that is enough.
+    /// Makes these taps the same as the others, in the memory that they have where that is enough. An `Err` changes nothing.
     pub fn copy_from(&mut self, other: &Taps) -> Result<(), AllocError>
-        ensures { OnOk result (self.new ≡ other.now) }
+        ensures ok { OnOk result (self.new ≡ other.now) }
+        ensures err { OnErr result (self.new ≡ self.old) }
     {
+        let more = other.taps.len().saturating_sub(self.taps.len());
+        self.taps.reserve(more)?;
         self.taps.clear();
-        self.taps.reserve(other.taps.len())?;
         self.taps.extend_from_slice(&other.taps)
     }
 
@@ -78,9 +81,10 @@ impl Value {
         }
     }
 
-    /// Makes this value the same as the other, in the memory that it has where that is enough.
+    /// Makes this value the same as the other, in the memory that it has where that is enough. An `Err` changes nothing.
     pub fn copy_from(&mut self, alloc: Global, other: &Value) -> Result<(), AllocError>
-        ensures { OnOk result (value_of self.new ≡ value_of other.now) }
+        ensures ok { OnOk result (value_of self.new ≡ value_of other.now) }
+        ensures err { OnErr result (value_of self.new ≡ value_of self.old) }
     {
         if let (Value::Taps(taps), Value::Taps(other)) = (&mut *self, other) {
             return taps.copy_from(other);
@@ -109,18 +113,20 @@ pub struct Held {
 }
 
 impl Held {
-    /// Whether the same is in force from the same item on.
-    pub fn is_same(&self, other: &Held) -> bool
-        ensures { IsTrue result ↔ (held_of self.now ≡ held_of other.now) }
+    /// Whether it is the value that is in force, from this item on.
+    pub fn is_same(&self, at: u64, value: &Value) -> bool
+        ensures { IsTrue result ↔ (held_of self.now ≡ held_at at (value_of value.now)) }
     {
-        self.at == other.at && self.value.is_same(&other.value)
+        self.at == at && self.value.is_same(value)
     }
 
-    /// Makes this setting the same as the other, in the memory that it has where that is enough.
-    pub fn copy_from(&mut self, alloc: Global, other: &Held) -> Result<(), AllocError>
-        ensures { OnOk result (held_of self.new ≡ held_of other.now) }
+    /// Makes this setting one of the value at the item, in the memory that it has where that is enough. An `Err` changes nothing.
+    pub fn copy_from(&mut self, alloc: Global, at: u64, value: &Value) -> Result<(), AllocError>
+        ensures ok { OnOk result (held_of self.new ≡ held_at at (value_of value.now)) }
+        ensures err { OnErr result (held_of self.new ≡ held_of self.old) }
     {
-        self.at = other.at;
-        self.value.copy_from(alloc, &other.value)
+        self.value.copy_from(alloc, value)?;
+        self.at = at;
+        Ok(())
     }
 }

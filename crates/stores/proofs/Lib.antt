@@ -1,3 +1,4 @@
+pub mod Sames
 mod Feeding
 mod Growing
 pub mod Beginning

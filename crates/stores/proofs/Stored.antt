@@ -13,7 +13,7 @@ use Rattle.recordings.specs.Recording.{RecordingState}
 use Rattle.buffers.specs.Buffer.{BufferState}
 use Rattle.plant_laws.specs.Stored as stored
 use Rattle.plant_laws.specs.Stored.{Stored, OutputBuffer, tape_at, timeline_at, word_at, buffers_in, buffer_at, sink_at}
-use Rattle.stores.specs.declared.handed.Handed.{Handed}
+use Rattle.stores.specs.declared.intake.Intake.{Intake}
 use Rattle.stores.specs.declared.stores.Stores.{Stores}
 use Rattle.stores.specs.Stores.{handed_of, tape_of, buffer_of, collected_of, stored_of, rows_in, stored_in, state_of}
 use Rattle.stores.specs.Lending.{no_buffer, no_sink, buffer_state, sink_state}
@@ -33,11 +33,11 @@ module _ (s : Stores) (b : ℕ) where
   word_is = refl
 
   -- what a block was handed
-  pub tape_is : (h : Handed) → b < length s.handed.items → tape_at (stored_in s) b ≡ tape_of (slice_index_or s.handed.items b h)
+  pub tape_is : (h : Intake) → b < length s.handed.items → tape_at (stored_in s) b ≡ tape_of (slice_index_or s.handed.items b h)
   tape_is h lt = places.get_or-map tape_of s.handed.items b h stored.no_tape lt
 
-  pub timeline_is : (h : Handed) → b < length s.handed.items → timeline_at (stored_in s) b ≡ (slice_index_or s.handed.items b h).timeline
-  timeline_is h lt = places.get_or-map (λ (h : Handed). h.timeline) s.handed.items b h _ lt
+  pub timeline_is : (h : Intake) → b < length s.handed.items → timeline_at (stored_in s) b ≡ (slice_index_or s.handed.items b h).timeline
+  timeline_is h lt = places.get_or-map (λ (h : Intake). h.timeline) s.handed.items b h _ lt
 
   -- the row of a block with buffers
   pub row_is : (row : Vec BufferState Global) → b < length s.buffers.items → slice_index_or (rows_in s) b [] ≡ (slice_index_or s.buffers.items b row).items
@@ -75,22 +75,22 @@ pub rows_set : (rows : List (Vec BufferState Global)) (b : ℕ) (row : Vec Buffe
     map (λ (row : Vec BufferState Global). row.items) (slice_set rows b row) ≡ slice_set (map (λ (row : Vec BufferState Global). row.items) rows) b row.items
 rows_set rows b row = map-set (λ (row : Vec BufferState Global). row.items) rows b row
 
-module _ (hs : List Handed) (words : List ℕ) (rows : List (List BufferState)) (sinks : List RecordingState) (b : ℕ) where
+module _ (hs : List Intake) (words : List ℕ) (rows : List (List BufferState)) (sinks : List RecordingState) (b : ℕ) where
   -- where a block was handed something
-  pub state_set : (ps : List Progress) (h : Handed) → state_of (slice_set hs b h) ps ≡ with_handed (state_of hs ps) b (handed_of h)
+  pub state_set : (ps : List Progress) (h : Intake) → state_of (slice_set hs b h) ps ≡ with_handed (state_of hs ps) b (handed_of h)
   state_set ps h = rw (map-set handed_of hs b h) refl
 
-  pub handed_set : (h : Handed) → stored_of (slice_set hs b h) words rows sinks
-      ≡ record (stored_of hs words rows sinks) { tapes = slice_set (map tape_of hs) b (tape_of h); timelines = slice_set (map (λ (h : Handed). h.timeline) hs) b h.timeline }
-  handed_set h = rw (map-set tape_of hs b h, map-set (λ (h : Handed). h.timeline) hs b h) refl
+  pub handed_set : (h : Intake) → stored_of (slice_set hs b h) words rows sinks
+      ≡ record (stored_of hs words rows sinks) { tapes = slice_set (map tape_of hs) b (tape_of h); timelines = slice_set (map (λ (h : Intake). h.timeline) hs) b h.timeline }
+  handed_set h = rw (map-set tape_of hs b h, map-set (λ (h : Intake). h.timeline) hs b h) refl
 
-  pub tape_set : (h d : Handed) → h.timeline ≡ (slice_index_or hs b d).timeline → stored_of (slice_set hs b h) words rows sinks
+  pub tape_set : (h d : Intake) → h.timeline ≡ (slice_index_or hs b d).timeline → stored_of (slice_set hs b h) words rows sinks
       ≡ record (stored_of hs words rows sinks) { tapes = slice_set (map tape_of hs) b (tape_of h) }
-  tape_set h d e = rw (map-set tape_of hs b h, map-set_same (λ (h : Handed). h.timeline) hs b h d e) refl
+  tape_set h d e = rw (map-set tape_of hs b h, map-set_same (λ (h : Intake). h.timeline) hs b h d e) refl
 
-  pub timeline_set : (h d : Handed) → tape_of h ≡ tape_of (slice_index_or hs b d) → stored_of (slice_set hs b h) words rows sinks
-      ≡ record (stored_of hs words rows sinks) { timelines = slice_set (map (λ (h : Handed). h.timeline) hs) b h.timeline }
-  timeline_set h d e = rw (map-set_same tape_of hs b h d e, map-set (λ (h : Handed). h.timeline) hs b h) refl
+  pub timeline_set : (h d : Intake) → tape_of h ≡ tape_of (slice_index_or hs b d) → stored_of (slice_set hs b h) words rows sinks
+      ≡ record (stored_of hs words rows sinks) { timelines = slice_set (map (λ (h : Intake). h.timeline) hs) b h.timeline }
+  timeline_set h d e = rw (map-set_same tape_of hs b h d e, map-set (λ (h : Intake). h.timeline) hs b h) refl
 
   -- where its buffers, one of them, or what it has collected was written over
   pub buffers_set : (row : List BufferState) → stored_of hs words (slice_set rows b row) sinks

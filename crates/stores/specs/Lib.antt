@@ -1,3 +1,5 @@
+pub mod Marks
+pub mod Tapes
 pub mod Stores
 pub mod Opening
 pub mod Lending

@@ -3,7 +3,7 @@ use Rattle.std.specs.Prelude.{◌≡◌, ℕ, ◌<◌, ◌≤◌, max, List, len
 use Rattle.stream_model.specs.Network.{Network, Node, Connection, node_at, used_outputs, nothing_handed}
 use Rattle.stream_model.specs.Machine.{Capacities, capacity_at}
 use Rattle.plant_laws.specs.Opening.{empty_tape, own_settings}
-use Rattle.stores.specs.declared.handed.Handed.{Handed}
+use Rattle.stores.specs.declared.intake.Intake.{Intake}
 use Rattle.stores.specs.Stores.{handed_of, tape_of}
 
 -- each used output has a capacity
@@ -19,13 +19,13 @@ abbrev pub history_among : Network → List Connection → ℕ
 history_among net cs = fold (λ h (c : Connection). max h (node_at net c.to).meaning.history) 1 cs
 
 -- a block was handed nothing
-pub record IsUnhanded (n : Node) (h : Handed) : Type 0 where
+pub record IsUnhanded (n : Node) (h : Intake) : Type 0 where
   pub handed : handed_of h ≡ nothing_handed
   pub tape : tape_of h ≡ empty_tape n
   pub timeline : h.timeline ≡ own_settings n.meaning.own
 
 -- no block was
-pub record AreUnhanded (ns : List Node) (hs : List Handed) : Type 0 where
+pub record AreUnhanded (ns : List Node) (hs : List Intake) : Type 0 where
   pub handed : map handed_of hs ≡ map (λ _. nothing_handed) ns
   pub tapes : map tape_of hs ≡ map empty_tape ns
-  pub timelines : map (λ (h : Handed). h.timeline) hs ≡ map (λ (n : Node). own_settings n.meaning.own) ns
+  pub timelines : map (λ (h : Intake). h.timeline) hs ≡ map (λ (n : Node). own_settings n.meaning.own) ns

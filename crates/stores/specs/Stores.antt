@@ -1,37 +1,33 @@
 -- What the fields of a plant stand for.
-use Rattle.std.specs.Prelude.{◌≡◌, ◌++◌, ℕ, ℤ, List, [], ◌∷◌, map, Option, Some}
+use Rattle.std.specs.Prelude.{◌≡◌, ◌++◌, ℕ, ℤ, List, [], ◌∷◌, map, Option, Some, None}
+use Rattle.std.specs.Arc.{arc_value}
 use Rattle.stream_model.specs.Tags as model_tags
 use Rattle.stream_model.specs.Network as model
 use Rattle.stream_model.specs.Network.{Progress, State}
 use Rattle.stream_model.specs.Machine.{with_tape, tag_of}
-use Rattle.items.specs.declared.marks.Mark.{Mark}
-use Rattle.items.specs.declared.marks.Tag.{Tag}
-use Rattle.items.specs.Tags as tags
 use Rattle.tags.specs.TagList.{insert_tags}
-use Rattle.stream_model.specs.Settings.{Held}
-use Rattle.settings.specs.Values.{held_of}
+use Rattle.stream_model.specs.Settings.{Held, put_setting}
 use Rattle.settings.specs.Timelines.{Settings}
 use Rattle.recordings.specs.Recording.{RecordingState}
 use Rattle.buffers.specs.Buffer.{BufferState}
 use Rattle.plant_laws.specs.Stored.{Tape, OutputBuffer, Collected, Stored}
 use Rattle.plant_laws.specs.Calls.{TakesOneMore}
-use Rattle.stores.specs.declared.handed.Handed.{Handed}
+pub use Rattle.stores.specs.Marks.{mark_of, stamped}
+use Rattle.stores.specs.declared.intake.Intake.{Intake}
 use Rattle.stores.specs.declared.stores.Stores.{Stores}
 
--- a mark as the model has it, and the tag that it becomes when a source is fed with it
-abbrev pub mark_of : Mark → model_tags.Mark
-mark_of m = record { offset = m.offset; key = m.key; value = m.value }
-
-abbrev pub stamped : ℕ → Mark → Tag
-stamped source m = record { offset = m.offset; key = m.key; value = m.value; source = source }
+-- the settings of a block, none where it has no setting
+abbrev pub settings_in : Option Settings → List Held
+settings_in None = []
+settings_in (Some s) = s.settings
 
 -- what a block was handed, as the model has it
-abbrev pub handed_of : Handed → model.Handed
-handed_of h = record { tape = h.tape.items; tags = map tags.tag_of h.marks.items; closed = h.closed; settings = map held_of h.settings.items }
+abbrev pub handed_of : Intake → model.Handed
+handed_of h = let tape = arc_value h.tape in record { tape = tape.items; tags = tape.marks; closed = h.closed; settings = settings_in h.timeline }
 
 -- its tape with the tags in order
-abbrev pub tape_of : Handed → Tape
-tape_of h = record { item = h.tape.item; items = h.tape.items; tags = h.tape.tags; closed = h.closed }
+abbrev pub tape_of : Intake → Tape
+tape_of h = let tape = arc_value h.tape in record { item = tape.item; items = tape.items; tags = tape.tags; closed = h.closed }
 
 abbrev pub buffer_of : BufferState → OutputBuffer
 buffer_of b = record { item = b.item; ring = b.ring; tags = b.tags }
@@ -40,7 +36,7 @@ abbrev pub collected_of : RecordingState → Collected
 collected_of r = record { item = r.item; items = r.items; tags = r.tags }
 
 -- all that is stored
-abbrev pub stored_of : List Handed → List ℕ → List (List BufferState) → List RecordingState → Stored
+abbrev pub stored_of : List Intake → List ℕ → List (List BufferState) → List RecordingState → Stored
 stored_of handed words buffers sinks =
     record { tapes = map tape_of handed; timelines = map (λ h. h.timeline) handed; words = words; buffers = map (map buffer_of) buffers; sinks = map collected_of sinks }
 
@@ -52,22 +48,22 @@ abbrev pub stored_in : Stores → Stored
 stored_in s = stored_of s.handed.items s.words.items (rows_in s) s.sinks.items
 
 -- the state that this is of
-abbrev pub state_of : List Handed → List Progress → State
+abbrev pub state_of : List Intake → List Progress → State
 state_of handed progress = record { handed = map handed_of handed; progress = progress }
 
 -- nothing that was handed to a block changed
-pub record IsAsBefore (old new : Handed) : Type 0 where
+pub record IsAsBefore (old new : Intake) : Type 0 where
   pub handed : handed_of new ≡ handed_of old
   pub tape : tape_of new ≡ tape_of old
   pub timeline : new.timeline ≡ old.timeline
 
 -- source b was fed with items and marks
-pub record IsFed (b : ℕ) (xs : List ℤ) (ms : List model_tags.Mark) (old new : Handed) : Type 0 where
+pub record IsFed (b : ℕ) (xs : List ℤ) (ms : List model_tags.Mark) (old new : Intake) : Type 0 where
   pub handed : handed_of new ≡ with_tape (handed_of old) b xs ms
   pub tape : tape_of new ≡ (let tape = tape_of old in record tape { items = tape.items ++ xs; tags = insert_tags (map (tag_of b) ms) tape.tags })
   pub timeline : new.timeline ≡ old.timeline
 
--- there is a timeline before and after, and it reads as before with one more setting
+-- there is a timeline before and after, with one more setting
 pub record HasOneMore (h : Held) (old new : Option Settings) : Type 0 where
   pub before : Settings
   pub after : Settings
@@ -76,7 +72,7 @@ pub record HasOneMore (h : Held) (old new : Option Settings) : Type 0 where
   pub more : TakesOneMore before after h
 
 -- a setting was made
-pub record IsSet (h : Held) (old new : Handed) : Type 0 where
-  pub handed : handed_of new ≡ (let handed = handed_of old in record handed { settings = handed.settings ++ h ∷ [] })
+pub record IsSet (h : Held) (old new : Intake) : Type 0 where
+  pub handed : handed_of new ≡ (let handed = handed_of old in record handed { settings = put_setting h handed.settings })
   pub tape : tape_of new ≡ tape_of old
   pub timeline : HasOneMore h old.timeline new.timeline

@@ -9,7 +9,7 @@ ghost use Rattle.plant_laws.specs.Opening.{empty_sink, empty_buffer};
 ghost use Rattle.stores.specs.Stores.{buffer_of, collected_of};
 ghost use Rattle.stores.specs.Opening.{LeadInside, HaveCapacities, IsUnhanded, AreUnhanded, history_among};
 
-use crate::handed::Handed;
+use crate::intake::Intake;
 use block_kinds::Block;
 use buffers::Buffer;
 use flowgraph::{BlockId, Connection, Valid};
@@ -21,7 +21,7 @@ use std::alloc::{AllocError, Global};
 pub(crate) fn all_handed<B: Block>(
     alloc: Global,
     graph: &Valid<B>,
-) -> Result<Vec<Handed>, AllocError>
+) -> Result<Vec<Intake>, AllocError>
     ensures { IfOk result (λ handed. AreUnhanded (net_of B.meaning graph.now).nodes handed.items) }
 {
     let mut handed = Vec::with_capacity(alloc, graph.len())?;
@@ -32,13 +32,13 @@ pub(crate) fn all_handed<B: Block>(
 }
 
 // What a block is handed before anything is.
-fn unhanded<B: Block>(alloc: Global, graph: &Valid<B>, block: BlockId) -> Result<Handed, AllocError>
+fn unhanded<B: Block>(alloc: Global, graph: &Valid<B>, block: BlockId) -> Result<Intake, AllocError>
     requires { block.0 < length graph.now.blocks }
     ensures { IfOk result (IsUnhanded (node_at (net_of B.meaning graph.now) block.0)) }
 {
     let kind = graph.block(block);
     let own = kind.own(alloc)?;
-    Ok(Handed::new(alloc, kind.outputs().item, own))
+    Intake::new(alloc, kind.outputs().item, own)
 }
 
 /// The state word of each block before its first firing.

@@ -10,7 +10,7 @@ ghost use Rattle.flowgraph.specs.Flowgraph.{net_of};
 ghost use Rattle.plant_laws.specs.Stored.{buffers_in, buffer_at, sink_at};
 ghost use Rattle.plant_laws.specs.Opening.{stored_opening};
 
-use crate::handed::Handed;
+use crate::intake::Intake;
 use crate::kept::Kept;
 use crate::opening::{all_handed, buffers, sinks, words};
 use crate::segment::{Segment, cut};
@@ -25,7 +25,7 @@ use tags::Tag;
 #[derive(Drop)]
 pub struct Stores {
     /// Tapes and settings.
-    pub handed: Vec<Handed>,
+    pub handed: Vec<Intake>,
     /// The state words behind the committed firings.
     pub words: Vec<u64>,
     /// The buffer of each used output.

@@ -6,7 +6,7 @@ use Rattle.std.proofs.lemmas.Bool.{cases_Bool, lt-leb, le-leb}
 use Rattle.std.proofs.lemmas.List.{take_all, take-append-drop}
 use Rattle.std.proofs.lemmas.List.Elements.{All-head, All-tail, All-weaker, filter-append}
 use Rattle.stream_model.specs.Lists.{IsBeginning}
-use Rattle.stream_model.specs.Settings.{Value, Held, setting_at, latest}
+use Rattle.stream_model.specs.Settings.{Value, Held, setting_at}
 use Rattle.stream_model.specs.Tags.{Tag, sorted_tags, tags_within}
 use Rattle.stream_model.specs.Meaning.{Meaning, input}
 use Rattle.stream_model.specs.Network.{Network, Connection, Handed, node_at, role_at, handed_at, is_source, taken_by, given_by, within_limit, items_of, entering, tags_of, chosen}
@@ -22,29 +22,13 @@ use Rattle.stream_laws.proofs.Sorting.{filter-sorted}
 use Rattle.stream_laws.proofs.Writers.{source_gives, source_takes, source_unlimited, worker_has_inputs, entering-source, entering-input, length-entering, items-source, items-worker}
 use Rattle.stream_laws.proofs.Past.{tags-source, tags-worker, what_is_past_stays}
 
--- settings that are made behind an item change nothing there
-latest-late : (h : Held) (us : List Held) (a : ℕ) → All (λ u. a < u.at) us → latest h us a ≡ h
-latest-late h [] a late = refl
-latest-late h (u ∷ us) a late =
-    let after : a < u.at = All-head (λ v. a < v.at) u us late in
-    let e = lt-leb u.at a after in
-    rw e (latest-late h us a (All-tail (λ v. a < v.at) u us late))
+-- where the same is in force at the items that k firings take, whatever the block's own parameter is
+of_own : (own : Option Value) (P : Value → Type 0) → ((v : Value) → P v) → MatchOption own ⊤ P
+of_own None P each = tt
+of_own (Some v) P each = each v
 
-pub latest-later : (h : Held) (ts us : List Held) (a : ℕ) → All (λ u. a < u.at) us → latest h (ts ++ us) a ≡ latest h ts a
-latest-later h [] us a late = latest-late h us a late
-latest-later h (t ∷ ts) us a late =
-    elim (cases_Bool (nat_le t.at a && nat_le h.at t.at)) [
-      | inl e ↦ rw e (latest-later t ts us a late)
-      | inr e ↦ rw e (latest-later h ts us a late)
-    ]
-
-same_held_at : (own : Option Value) (floor : ℕ) (ts us : List Held) → All (λ h. floor ≤ h.at) us → MatchOption own ⊤ (λ own. (a : ℕ) → a < floor → setting_at own ts a ≡ setting_at own (ts ++ us) a)
-same_held_at None floor ts us late = tt
-same_held_at (Some own) floor ts us late = λ a lt. sym (latest-later (record { at = 0; value = own }) ts us a (All-weaker (λ h. floor ≤ h.at) (λ h. a < h.at) (λ h le. omega arith) us late))
-
--- settings from the items on that k firings do not take
-pub same_held-later : (m : Meaning) (k : ℕ) (ts us : List Held) (more : IsBeginning ts us) → All (λ h. m.taken 0 k ≤ h.at) more.rest → SameHeld m k ts us
-same_held-later m k ts us more late = rw more.is (same_held_at m.own (m.taken 0 k) ts more.rest late)
+same_held : (m : Meaning) (k : ℕ) (ts us : List Held) → ((own : Value) (a : ℕ) → a < m.taken 0 k → setting_at own ts a ≡ setting_at own us a) → SameHeld m k ts us
+same_held m k ts us same = of_own m.own (λ own. (a : ℕ) → a < m.taken 0 k → setting_at own ts a ≡ setting_at own us a) same
 
 -- tags behind an item are not among those before it
 within_behind : (k : ℕ) (ts : List Tag) → All (λ t. k ≤ t.offset) ts → tags_within 0 k ts ≡ []
@@ -80,7 +64,7 @@ module _ (net : Network) (can : CanRun net) (k : ℕ → ℕ) (before after : Li
 
   module _ (more : (b : ℕ) → b < length net.nodes → HasLater (taken_by (node_at net b) 0 (k b)) (handed_at before b) (handed_at after b)) where
     held_later : (b : ℕ) → b < length net.nodes → SameHeld (node_at net b).meaning ((node_at net b).multiple * k b) (handed_at before b).settings (handed_at after b).settings
-    held_later b in' = same_held-later (node_at net b).meaning ((node_at net b).multiple * k b) (handed_at before b).settings (handed_at after b).settings (more b in').settings (more b in').late
+    held_later b in' = same_held (node_at net b).meaning ((node_at net b).multiple * k b) (handed_at before b).settings (handed_at after b).settings (more b in').settings
 
     same_later : SamePast net k before after
     same_later =

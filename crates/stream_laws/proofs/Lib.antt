@@ -6,3 +6,4 @@ pub mod Writers
 pub mod Past
 pub mod Later
 pub mod ClosedForms
+pub mod Putting

@@ -3,3 +3,4 @@ pub mod Cuts
 pub mod Tags
 pub mod Past
 pub mod Firings
+pub mod Putting

@@ -1,6 +1,7 @@
 -- What is past stays: tapes go on and settings come, and what the first firings of each block took and gave is as it was.
 use Rattle.std.specs.Prelude.{ℕ, ◌+◌, ◌*◌, ◌<◌, ◌≤◌, ◌≡◌, List, length, map, take, All, true}
 use Rattle.stream_model.specs.Lists.{IsBeginning}
+use Rattle.stream_model.specs.Settings.{Value, setting_at}
 use Rattle.stream_model.specs.Tags.{sorted_tags, tags_within}
 use Rattle.stream_model.specs.Meaning.{SameSettings, SameInputs}
 use Rattle.stream_model.specs.Network.{Network, Handed, node_at, role_at, handed_at, is_source, taken_by, given_by, within_limit, fires, items_of, entering, tags_of}
@@ -43,11 +44,10 @@ pub record HasMore (before after : Handed) : Type 0 where
   pub tags : IsBeginning before.tags after.tags
   pub on_new : All (λ t. length before.tape ≤ t.offset) tags.rest
 
--- and its settings go on, from item `floor` on
+-- and what was set changes from item `floor` on alone: at each item before it the same setting is in force, with its place
 pub record HasLater (floor : ℕ) (before after : Handed) : Type 0 where
   pub more : HasMore before after
-  pub settings : IsBeginning before.settings after.settings
-  pub late : All (λ h. floor ≤ h.at) settings.rest
+  pub settings : (own : Value) (a : ℕ) → a < floor → setting_at own before.settings a ≡ setting_at own after.settings a
 
 -- what the first firings of block b took and gave, and what any stretch of them was given
 pub record IsUndisturbed (net : Network) (k : ℕ → ℕ) (before after : List Handed) (b : ℕ) : Type 0 where

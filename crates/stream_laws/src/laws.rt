@@ -4,6 +4,7 @@ ghost use Rattle.stream_model.specs.Network.{StreamsUnfold};
 ghost use Rattle.stream_laws.specs.Cuts.{CutsDoNotMatter, FiringsStay};
 ghost use Rattle.stream_laws.specs.Firings.{ClosedFormsAreRight};
 ghost use Rattle.stream_laws.specs.Past.{WhatIsPastStays, WhatComesLaterDisturbsNothing, FeedingAppends};
+ghost use Rattle.stream_laws.specs.Putting.{PuttingKeepsOrder, PuttingReadsAsLast, CallsReadAsTheirList};
 ghost use Rattle.stream_laws.specs.Tags.{TagsUnfold, NoTagIsLate};
 
 /// In a network whose connections form no loop, each stream is its block's equation on the streams that enter the block.
@@ -51,4 +52,11 @@ pub fn no_tag_is_late()
 /// How often a block fires, and how many more firings fit, by division in place of a search.
 pub fn closed_forms_are_right()
     ensures { ClosedFormsAreRight }
+{}
+
+/// Settings that are kept by their items, one of each, read as the list of the calls that made them: each call's setting as if it came last.
+pub fn settings_read_as_their_calls()
+    ensures order { PuttingKeepsOrder }
+    ensures last { PuttingReadsAsLast }
+    ensures calls { CallsReadAsTheirList }
 {}

@@ -6,3 +6,6 @@ pub mod Streams
 pub mod Firings
 pub mod TagOrder
 pub mod Types
+pub mod Latest
+pub mod Rising
+pub mod Putting

@@ -8,7 +8,7 @@ use Rattle.stream_model.specs.declared.vocabulary.Wanted.{Wanted}
 use Rattle.stream_model.specs.declared.vocabulary.Wanted.TheVariants as wanted
 use Rattle.stream_model.specs.Lists.{below}
 use Rattle.stream_model.specs.Numbers.{types_agree}
-use Rattle.stream_model.specs.Settings.{Value, Number, Taps, Held}
+use Rattle.stream_model.specs.Settings.{Value, Number, Taps, Held, put_setting}
 use Rattle.stream_model.specs.Tags.{Tag, Mark, tags_within}
 use Rattle.stream_model.specs.Meaning.{windows_of, held_of, input}
 use Rattle.stream_model.specs.Network.{Connection, Network, Handed, Progress, State, node_at, handed_at, progress_at, is_source, is_keeper, role_at, writers_of, readers_of, used_outputs, taken_by, given_by, entering, tags_entering}
@@ -276,7 +276,7 @@ abbrev pub place_setting : ℕ → State → ℕ → ℕ → Value → Reply × 
 place_setting floor st b at v =
     let s = handed_at st.handed b in
     if nat_lt at floor then (Late floor, st)
-    else (Taken at, with_handed st b (record s { settings = s.settings ++ record { at = at; value = v } ∷ [] }))
+    else (Taken at, with_handed st b (record s { settings = put_setting (record { at = at; value = v }) s.settings }))
 
 abbrev pub set_wanted : Network → State → ℕ → Option ℕ → Value → Option Wanted → Reply × State
 set_wanted net st b at v None = (Refused no_setting, st)

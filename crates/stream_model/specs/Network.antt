@@ -29,7 +29,7 @@ pub record Network : Type 0 where
   pub nodes : List Node
   pub connections : List Connection
 
--- what a block was handed: a source's tape with its tags, whether the tape is closed, and the settings in the order of their calls
+-- what a block was handed: a source's tape with its tags, whether the tape is closed, and the settings by their items
 pub record Handed : Type 0 where
   pub tape : List ℤ
   pub tags : List Tag

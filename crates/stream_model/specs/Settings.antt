@@ -1,5 +1,5 @@
 -- Settings at item numbers: which value is in force at an item.
-use Rattle.std.specs.Prelude.{ℕ, suc, ◌-◌, ℤ, List, [], ◌∷◌, Option, Some, None, ◌&&◌, nat_le, ◌==◌, if◌then◌else◌, filter_map}
+use Rattle.std.specs.Prelude.{ℕ, suc, ◌-◌, ◌<◌, ℤ, List, [], ◌∷◌, Option, Some, None, ◌&&◌, nat_le, nat_lt, ◌==◌, if◌then◌else◌, filter_map, AllPairs}
 use Rattle.stream_model.specs.Lists.{numbers_from}
 
 -- what a setting sets: one number, or the taps of a filter
@@ -17,7 +17,7 @@ abbrev pub latest : Held → List Held → ℕ → Held
 latest h [] a = h
 latest h (t ∷ ts) a = if nat_le t.at a && nat_le h.at t.at then latest t ts a else latest h ts a
 
--- the setting in force at item a, where own is the block's own parameter and ts the settings in the order of their calls
+-- the setting in force at item a, where own is the block's own parameter and ts the settings, of several at one item the last
 abbrev pub setting_at : Value → List Held → ℕ → Held
 setting_at own ts a = latest (record { at = 0; value = own }) ts a
 
@@ -32,3 +32,12 @@ made_at own ts a = let h = setting_at own ts a in if h.at == a then Some h else 
 -- what is in force from item from on to below item to: the setting in force at from, then those made after it
 abbrev pub between : Value → List Held → ℕ → ℕ → List Held
 between own ts from to = setting_at own ts from ∷ filter_map (made_at own ts) (numbers_from (suc from) (to - suc from))
+
+-- each setting is made at a later item than those before it
+abbrev pub IsRising : List Held → Type 0
+IsRising ts = AllPairs (λ h t. h.at < t.at) ts
+
+-- the settings by their items with one more: it takes the place of one of the same item, and else goes before the first of a later item
+abbrev pub put_setting : Held → List Held → List Held
+put_setting h [] = h ∷ []
+put_setting h (t ∷ ts) = if nat_lt t.at h.at then t ∷ put_setting h ts else h ∷ (if t.at == h.at then ts else t ∷ ts)

@@ -5,4 +5,4 @@ use Rattle.firings.specs.Decision.{rests}
 use Rattle.firings.proofs.decide.all_rest.Given as goal
 
 abbrev pub invariant-loop-block : goal.invariant-loop-block
-invariant-loop-block g l = (k : ℕ) → k < l.block → rests (net_of g.B.Block.meaning l.graph) (rows_of (λ row. row.items) l.capacities) (lent l.tapes l.progress) k ≡ true
+invariant-loop-block g l = (k : ℕ) → k < l.block → rests (net_of g.B.Block.meaning l.graph) (rows_of (λ row. row.items) l.capacities) (lent (g.T.Tapes.tapes l.tapes) l.progress) k ≡ true

@@ -20,7 +20,7 @@ pub returns-then-own : goal.returns-then-own
 returns-then-own g c =
     let in' : c.args.block.0 < length c.args.progress.now = rw c.requires.small.blocks (simp length-map c.requires.block) in
     let own = looks.progress_is c.args.progress.now c.args.block.0 looks.nothing_fired in' in
-    ap (answer_of (progress_at (map progress_of c.args.progress.now) c.args.block.0).firings) (sym (decides.decide-done (node_at (net_of g.B.Block.meaning c.args.graph.now) c.args.block.0) (machine.counts_of (net_of g.B.Block.meaning c.args.graph.now) (rows_of (λ row. row.items) c.args.capacities.now) (lent c.args.tapes.now c.args.progress.now) c.args.block.0) c.args.max (ap (λ (p : model.Progress). p.done) own ∙ c.if-own.true)))
+    ap (answer_of (progress_at (map progress_of c.args.progress.now) c.args.block.0).firings) (sym (decides.decide-done (node_at (net_of g.B.Block.meaning c.args.graph.now) c.args.block.0) (machine.counts_of (net_of g.B.Block.meaning c.args.graph.now) (rows_of (λ row. row.items) c.args.capacities.now) (lent (g.T.Tapes.tapes c.args.tapes.now) c.args.progress.now) c.args.block.0) c.args.max (ap (λ (p : model.Progress). p.done) own ∙ c.if-own.true)))
 
 pub returns-then-own-gt0 : goal.returns-then-own-gt0
 returns-then-own-gt0 g c =
@@ -29,7 +29,7 @@ returns-then-own-gt0 g c =
     let done = ap (λ (p : model.Progress). p.done) own in
     let live = done ∙ c.if-own.false in
     let claimed = ap (λ (p : model.Progress). p.claimed) own in
-    ap (answer_of (progress_at (map progress_of c.args.progress.now) c.args.block.0).firings) (sym (decides.decide-busy (node_at (net_of g.B.Block.meaning c.args.graph.now) c.args.block.0) (machine.counts_of (net_of g.B.Block.meaning c.args.graph.now) (rows_of (λ row. row.items) c.args.capacities.now) (lent c.args.tapes.now c.args.progress.now) c.args.block.0) c.args.max live (ap (nat_lt 0) claimed ∙ lt-ltb 0 (get_or c.args.progress.now c.args.block.0 looks.nothing_fired).claimed c.if-own-gt0.true)))
+    ap (answer_of (progress_at (map progress_of c.args.progress.now) c.args.block.0).firings) (sym (decides.decide-busy (node_at (net_of g.B.Block.meaning c.args.graph.now) c.args.block.0) (machine.counts_of (net_of g.B.Block.meaning c.args.graph.now) (rows_of (λ row. row.items) c.args.capacities.now) (lent (g.T.Tapes.tapes c.args.tapes.now) c.args.progress.now) c.args.block.0) c.args.max live (ap (nat_lt 0) claimed ∙ lt-ltb 0 (get_or c.args.progress.now c.args.block.0 looks.nothing_fired).claimed c.if-own-gt0.true)))
 
 pub returns-then-is_unread : goal.returns-then-is_unread
 returns-then-is_unread g c =
@@ -39,7 +39,7 @@ returns-then-is_unread g c =
     let live = done ∙ c.if-own.false in
     let claimed = ap (λ (p : model.Progress). p.claimed) own in
     let free = ap (nat_lt 0) claimed ∙ le-ltb 0 (get_or c.args.progress.now c.args.block.0 looks.nothing_fired).claimed c.if-own-gt0.false in
-    ap (answer_of (progress_at (map progress_of c.args.progress.now) c.args.block.0).firings) (sym (decides.decide-unread (node_at (net_of g.B.Block.meaning c.args.graph.now) c.args.block.0) (machine.counts_of (net_of g.B.Block.meaning c.args.graph.now) (rows_of (λ row. row.items) c.args.capacities.now) (lent c.args.tapes.now c.args.progress.now) c.args.block.0) c.args.max live free (sym (c.is_unread.ensures (rows_of (λ row. row.items) c.args.capacities.now)) ∙ c.if-is_unread.true)))
+    ap (answer_of (progress_at (map progress_of c.args.progress.now) c.args.block.0).firings) (sym (decides.decide-unread (node_at (net_of g.B.Block.meaning c.args.graph.now) c.args.block.0) (machine.counts_of (net_of g.B.Block.meaning c.args.graph.now) (rows_of (λ row. row.items) c.args.capacities.now) (lent (g.T.Tapes.tapes c.args.tapes.now) c.args.progress.now) c.args.block.0) c.args.max live free (sym (c.is_unread.ensures (rows_of (λ row. row.items) c.args.capacities.now)) ∙ c.if-is_unread.true)))
 
 pub returns-then-count-gt0 : goal.returns-then-count-gt0
 returns-then-count-gt0 g c =
@@ -50,7 +50,7 @@ returns-then-count-gt0 g c =
     let claimed = ap (λ (p : model.Progress). p.claimed) own in
     let free = ap (nat_lt 0) claimed ∙ le-ltb 0 (get_or c.args.progress.now c.args.block.0 looks.nothing_fired).claimed c.if-own-gt0.false in
     let firings = ap (λ (p : model.Progress). p.firings) own in
-    ap (λ (k : ℕ). Claimed k c.most-count.result) (sym firings) ∙ ap (answer_of (progress_at (map progress_of c.args.progress.now) c.args.block.0).firings) (sym (decides.decide-fires (node_at (net_of g.B.Block.meaning c.args.graph.now) c.args.block.0) (machine.counts_of (net_of g.B.Block.meaning c.args.graph.now) (rows_of (λ row. row.items) c.args.capacities.now) (lent c.args.tapes.now c.args.progress.now) c.args.block.0) c.args.max live free (sym (c.is_unread.ensures (rows_of (λ row. row.items) c.args.capacities.now)) ∙ c.if-is_unread.false) c.most-count.result c.most-count.ensures c.if-count-gt0.true))
+    ap (λ (k : ℕ). Claimed k c.most-count.result) (sym firings) ∙ ap (answer_of (progress_at (map progress_of c.args.progress.now) c.args.block.0).firings) (sym (decides.decide-fires (node_at (net_of g.B.Block.meaning c.args.graph.now) c.args.block.0) (machine.counts_of (net_of g.B.Block.meaning c.args.graph.now) (rows_of (λ row. row.items) c.args.capacities.now) (lent (g.T.Tapes.tapes c.args.tapes.now) c.args.progress.now) c.args.block.0) c.args.max live free (sym (c.is_unread.ensures (rows_of (λ row. row.items) c.args.capacities.now)) ∙ c.if-is_unread.false) c.most-count.result c.most-count.ensures c.if-count-gt0.true))
 
 pub returns-then-is_over : goal.returns-then-is_over
 returns-then-is_over g c =
@@ -61,9 +61,9 @@ returns-then-is_over g c =
     let claimed = ap (λ (p : model.Progress). p.claimed) own in
     let free = ap (nat_lt 0) claimed ∙ le-ltb 0 (get_or c.args.progress.now c.args.block.0 looks.nothing_fired).claimed c.if-own-gt0.false in
     let firings = ap (λ (p : model.Progress). p.firings) own in
-    let over = ap (λ (k : ℕ). not (within_limit (node_at (net_of g.B.Block.meaning c.args.graph.now) c.args.block.0).meaning.limit (k + 1)) || claims.lacks_for_good (node_at (net_of g.B.Block.meaning c.args.graph.now) c.args.block.0) (k + 1) 0 (machine.counts_in (net_of g.B.Block.meaning c.args.graph.now) (lent c.args.tapes.now c.args.progress.now) c.args.block.0)) firings ∙ sym c.is_over.ensures in
+    let over = ap (λ (k : ℕ). not (within_limit (node_at (net_of g.B.Block.meaning c.args.graph.now) c.args.block.0).meaning.limit (k + 1)) || claims.lacks_for_good (node_at (net_of g.B.Block.meaning c.args.graph.now) c.args.block.0) (k + 1) 0 (machine.counts_in (net_of g.B.Block.meaning c.args.graph.now) (lent (g.T.Tapes.tapes c.args.tapes.now) c.args.progress.now) c.args.block.0)) firings ∙ sym c.is_over.ensures in
     let none : c.most-count.result ≡ 0 = omega (arith, c.if-count-gt0.false) in
-    ap (answer_of (progress_at (map progress_of c.args.progress.now) c.args.block.0).firings) (sym (decides.decide-ends (node_at (net_of g.B.Block.meaning c.args.graph.now) c.args.block.0) (machine.counts_of (net_of g.B.Block.meaning c.args.graph.now) (rows_of (λ row. row.items) c.args.capacities.now) (lent c.args.tapes.now c.args.progress.now) c.args.block.0) c.args.max live free (sym (c.is_unread.ensures (rows_of (λ row. row.items) c.args.capacities.now)) ∙ c.if-is_unread.false) c.most-count.result c.most-count.ensures none (over ∙ c.if-is_over.true)))
+    ap (answer_of (progress_at (map progress_of c.args.progress.now) c.args.block.0).firings) (sym (decides.decide-ends (node_at (net_of g.B.Block.meaning c.args.graph.now) c.args.block.0) (machine.counts_of (net_of g.B.Block.meaning c.args.graph.now) (rows_of (λ row. row.items) c.args.capacities.now) (lent (g.T.Tapes.tapes c.args.tapes.now) c.args.progress.now) c.args.block.0) c.args.max live free (sym (c.is_unread.ensures (rows_of (λ row. row.items) c.args.capacities.now)) ∙ c.if-is_unread.false) c.most-count.result c.most-count.ensures none (over ∙ c.if-is_over.true)))
 
 pub returns : goal.returns
 returns g c =
@@ -74,9 +74,9 @@ returns g c =
     let claimed = ap (λ (p : model.Progress). p.claimed) own in
     let free = ap (nat_lt 0) claimed ∙ le-ltb 0 (get_or c.args.progress.now c.args.block.0 looks.nothing_fired).claimed c.if-own-gt0.false in
     let firings = ap (λ (p : model.Progress). p.firings) own in
-    let over = ap (λ (k : ℕ). not (within_limit (node_at (net_of g.B.Block.meaning c.args.graph.now) c.args.block.0).meaning.limit (k + 1)) || claims.lacks_for_good (node_at (net_of g.B.Block.meaning c.args.graph.now) c.args.block.0) (k + 1) 0 (machine.counts_in (net_of g.B.Block.meaning c.args.graph.now) (lent c.args.tapes.now c.args.progress.now) c.args.block.0)) firings ∙ sym c.is_over.ensures in
+    let over = ap (λ (k : ℕ). not (within_limit (node_at (net_of g.B.Block.meaning c.args.graph.now) c.args.block.0).meaning.limit (k + 1)) || claims.lacks_for_good (node_at (net_of g.B.Block.meaning c.args.graph.now) c.args.block.0) (k + 1) 0 (machine.counts_in (net_of g.B.Block.meaning c.args.graph.now) (lent (g.T.Tapes.tapes c.args.tapes.now) c.args.progress.now) c.args.block.0)) firings ∙ sym c.is_over.ensures in
     let none : c.most-count.result ≡ 0 = omega (arith, c.if-count-gt0.false) in
-    let decided = decides.decide-waits (node_at (net_of g.B.Block.meaning c.args.graph.now) c.args.block.0) (machine.counts_of (net_of g.B.Block.meaning c.args.graph.now) (rows_of (λ row. row.items) c.args.capacities.now) (lent c.args.tapes.now c.args.progress.now) c.args.block.0) c.args.max live free (sym (c.is_unread.ensures (rows_of (λ row. row.items) c.args.capacities.now)) ∙ c.if-is_unread.false) c.most-count.result c.most-count.ensures none (over ∙ c.if-is_over.false) in
+    let decided = decides.decide-waits (node_at (net_of g.B.Block.meaning c.args.graph.now) c.args.block.0) (machine.counts_of (net_of g.B.Block.meaning c.args.graph.now) (rows_of (λ row. row.items) c.args.capacities.now) (lent (g.T.Tapes.tapes c.args.tapes.now) c.args.progress.now) c.args.block.0) c.args.max live free (sym (c.is_unread.ensures (rows_of (λ row. row.items) c.args.capacities.now)) ∙ c.if-is_unread.false) c.most-count.result c.most-count.ensures none (over ∙ c.if-is_over.false) in
     c.waiting.ensures (progress_at (map progress_of c.args.progress.now) c.args.block.0).firings
-    ∙ ap (λ (k : ℕ). answer_of (progress_at (map progress_of c.args.progress.now) c.args.block.0).firings (claims.waits_for (claims.lacks_items (node_at (net_of g.B.Block.meaning c.args.graph.now) c.args.block.0) (k + 1) 0 (machine.counts_in (net_of g.B.Block.meaning c.args.graph.now) (lent c.args.tapes.now c.args.progress.now) c.args.block.0)) (claims.lacks_room (node_at (net_of g.B.Block.meaning c.args.graph.now) c.args.block.0) (k + 1) 0 (machine.counts_out (net_of g.B.Block.meaning c.args.graph.now) (rows_of (λ row. row.items) c.args.capacities.now) (lent c.args.tapes.now c.args.progress.now) c.args.block.0)))) (sym firings)
+    ∙ ap (λ (k : ℕ). answer_of (progress_at (map progress_of c.args.progress.now) c.args.block.0).firings (claims.waits_for (claims.lacks_items (node_at (net_of g.B.Block.meaning c.args.graph.now) c.args.block.0) (k + 1) 0 (machine.counts_in (net_of g.B.Block.meaning c.args.graph.now) (lent (g.T.Tapes.tapes c.args.tapes.now) c.args.progress.now) c.args.block.0)) (claims.lacks_room (node_at (net_of g.B.Block.meaning c.args.graph.now) c.args.block.0) (k + 1) 0 (machine.counts_out (net_of g.B.Block.meaning c.args.graph.now) (rows_of (λ row. row.items) c.args.capacities.now) (lent (g.T.Tapes.tapes c.args.tapes.now) c.args.progress.now) c.args.block.0)))) (sym firings)
     ∙ ap (answer_of (progress_at (map progress_of c.args.progress.now) c.args.block.0).firings) (sym decided)

@@ -16,5 +16,5 @@ returns-else-progress-block g c =
     let in' : c.args.block.0 < length c.args.progress.now = rw c.requires.small.blocks (simp length-map c.requires.block) in
     let own = looks.progress_is c.args.progress.now c.args.block.0 looks.nothing_fired in' in
     let live = ap (λ (p : model.Progress). p.done) own ∙ c.if-progress-block.false in
-    let waits = c.waits.ensures ∙ ap waits c.decide.ensures ∙ running.claim_waits (net_of g.B.Block.meaning c.args.graph.now) (rows_of (λ row. row.items) c.args.capacities.now) (lent c.args.tapes.now c.args.progress.now) c.args.block.0 1 (progress_at (map progress_of c.args.progress.now) c.args.block.0).firings in
-    waits ∙ ap (λ (b : Bool). b || machine.is_waiting (machine.claim_of (net_of g.B.Block.meaning c.args.graph.now) (rows_of (λ row. row.items) c.args.capacities.now) (lent c.args.tapes.now c.args.progress.now) c.args.block.0 1).0) (sym live)
+    let waits = c.waits.ensures ∙ ap waits c.decide.ensures ∙ running.claim_waits (net_of g.B.Block.meaning c.args.graph.now) (rows_of (λ row. row.items) c.args.capacities.now) (lent (g.T.Tapes.tapes c.args.tapes.now) c.args.progress.now) c.args.block.0 1 (progress_at (map progress_of c.args.progress.now) c.args.block.0).firings in
+    waits ∙ ap (λ (b : Bool). b || machine.is_waiting (machine.claim_of (net_of g.B.Block.meaning c.args.graph.now) (rows_of (λ row. row.items) c.args.capacities.now) (lent (g.T.Tapes.tapes c.args.tapes.now) c.args.progress.now) c.args.block.0 1).0) (sym live)

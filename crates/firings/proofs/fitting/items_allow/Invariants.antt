@@ -10,7 +10,7 @@ use Rattle.firings.proofs.fitting.items_allow.Given as goal
 abbrev pub invariant-loop-port : goal.invariant-loop-port
 invariant-loop-port g l =
     let net = net_of g.B.Block.meaning l.graph in
-    let inputs = counts_in net (lent l.tapes l.progress) l.block.0 in
+    let inputs = counts_in net (lent (g.T.Tapes.tapes l.tapes) l.progress) l.block.0 in
     record {
       within : l.least ≤ l.bound;
       left : items_allow (node_at net l.block.0) l.port (map (λ (i : InputCounts). i.written) (drop l.port inputs)) l.least

@@ -17,16 +17,16 @@ readers_allow-least-requires-clause-known g c =
 pub loop-port-preserved : goal.loop-port-preserved
 loop-port-preserved g c =
     let used : c.loop-port.port < used_outputs (net_of g.B.Block.meaning c.args.graph.now) c.args.block.0 = omega (arith, c.outputs-port-end.ensures.value, c.loop-port-test.true) in
-    let in' : c.loop-port.port < length (machine.counts_out (net_of g.B.Block.meaning c.args.graph.now) (rows_of (λ row. row.items) c.args.capacities.now) (lent c.args.tapes.now c.args.progress.now) c.args.block.0) = rw (looks.outputs_long (net_of g.B.Block.meaning c.args.graph.now) (rows_of (λ row. row.items) c.args.capacities.now) (lent c.args.tapes.now c.args.progress.now) c.args.block.0) used in
-    let is = ap (λ (k : ℕ). let o : claims.OutputCounts = record { capacity = k; readers = readers_in (net_of g.B.Block.meaning c.args.graph.now) (lent c.args.tapes.now c.args.progress.now) c.readers-readers.result.now } in o) c.capacity_at-capacity.ensures
-    ∙ looks.output_is (net_of g.B.Block.meaning c.args.graph.now) (rows_of (λ row. row.items) c.args.capacities.now) (lent c.args.tapes.now c.args.progress.now) c.args.block.0 c.loop-port.port c.readers-readers.result.now c.readers-readers.ensures
-    ∙ looks.output_at (net_of g.B.Block.meaning c.args.graph.now) (rows_of (λ row. row.items) c.args.capacities.now) (lent c.args.tapes.now c.args.progress.now) c.args.block.0 c.loop-port.port looks.no_output used in
+    let in' : c.loop-port.port < length (machine.counts_out (net_of g.B.Block.meaning c.args.graph.now) (rows_of (λ row. row.items) c.args.capacities.now) (lent (g.T.Tapes.tapes c.args.tapes.now) c.args.progress.now) c.args.block.0) = rw (looks.outputs_long (net_of g.B.Block.meaning c.args.graph.now) (rows_of (λ row. row.items) c.args.capacities.now) (lent (g.T.Tapes.tapes c.args.tapes.now) c.args.progress.now) c.args.block.0) used in
+    let is = ap (λ (k : ℕ). let o : claims.OutputCounts = record { capacity = k; readers = readers_in (net_of g.B.Block.meaning c.args.graph.now) (lent (g.T.Tapes.tapes c.args.tapes.now) c.args.progress.now) c.readers-readers.result.now } in o) c.capacity_at-capacity.ensures
+    ∙ looks.output_is (net_of g.B.Block.meaning c.args.graph.now) (rows_of (λ row. row.items) c.args.capacities.now) (lent (g.T.Tapes.tapes c.args.tapes.now) c.args.progress.now) c.args.block.0 c.loop-port.port c.readers-readers.result.now c.readers-readers.ensures
+    ∙ looks.output_at (net_of g.B.Block.meaning c.args.graph.now) (rows_of (λ row. row.items) c.args.capacities.now) (lent (g.T.Tapes.tapes c.args.tapes.now) c.args.progress.now) c.args.block.0 c.loop-port.port looks.no_output used in
     record {
       within = omega (arith, c.readers_allow-least.ensures.within, c.loop-port.invariant.within);
-      left = rw c.readers_allow-least.ensures.value (loops.room-turn (node_at (net_of g.B.Block.meaning c.args.graph.now) c.args.block.0) (machine.counts_out (net_of g.B.Block.meaning c.args.graph.now) (rows_of (λ row. row.items) c.args.capacities.now) (lent c.args.tapes.now c.args.progress.now) c.args.block.0) c.loop-port.port looks.no_output (record { capacity = c.capacity_at-capacity.result; readers = readers_in (net_of g.B.Block.meaning c.args.graph.now) (lent c.args.tapes.now c.args.progress.now) c.readers-readers.result.now }) in' is c.loop-port.least ∙ c.loop-port.invariant.left);
+      left = rw c.readers_allow-least.ensures.value (loops.room-turn (node_at (net_of g.B.Block.meaning c.args.graph.now) c.args.block.0) (machine.counts_out (net_of g.B.Block.meaning c.args.graph.now) (rows_of (λ row. row.items) c.args.capacities.now) (lent (g.T.Tapes.tapes c.args.tapes.now) c.args.progress.now) c.args.block.0) c.loop-port.port looks.no_output (record { capacity = c.capacity_at-capacity.result; readers = readers_in (net_of g.B.Block.meaning c.args.graph.now) (lent (g.T.Tapes.tapes c.args.tapes.now) c.args.progress.now) c.readers-readers.result.now }) in' is c.loop-port.least ∙ c.loop-port.invariant.left);
     }
 
 pub returns-clause-value : goal.returns-clause-value
 returns-clause-value g c =
-    let long : length (machine.counts_out (net_of g.B.Block.meaning c.args.graph.now) (rows_of (λ row. row.items) c.args.capacities.now) (lent c.args.tapes.now c.args.progress.now) c.args.block.0) ≤ c.loop-port.port = rw (looks.outputs_long (net_of g.B.Block.meaning c.args.graph.now) (rows_of (λ row. row.items) c.args.capacities.now) (lent c.args.tapes.now c.args.progress.now) c.args.block.0) (omega (arith, c.outputs-port-end.ensures.value, c.loop-port-test.false)) in
-    sym (loops.past_end (λ (os : List claims.OutputCounts). room_allows (node_at (net_of g.B.Block.meaning c.args.graph.now) c.args.block.0) os c.loop-port.least) (machine.counts_out (net_of g.B.Block.meaning c.args.graph.now) (rows_of (λ row. row.items) c.args.capacities.now) (lent c.args.tapes.now c.args.progress.now) c.args.block.0) c.loop-port.port long) ∙ c.loop-port.invariant.left
+    let long : length (machine.counts_out (net_of g.B.Block.meaning c.args.graph.now) (rows_of (λ row. row.items) c.args.capacities.now) (lent (g.T.Tapes.tapes c.args.tapes.now) c.args.progress.now) c.args.block.0) ≤ c.loop-port.port = rw (looks.outputs_long (net_of g.B.Block.meaning c.args.graph.now) (rows_of (λ row. row.items) c.args.capacities.now) (lent (g.T.Tapes.tapes c.args.tapes.now) c.args.progress.now) c.args.block.0) (omega (arith, c.outputs-port-end.ensures.value, c.loop-port-test.false)) in
+    sym (loops.past_end (λ (os : List claims.OutputCounts). room_allows (node_at (net_of g.B.Block.meaning c.args.graph.now) c.args.block.0) os c.loop-port.least) (machine.counts_out (net_of g.B.Block.meaning c.args.graph.now) (rows_of (λ row. row.items) c.args.capacities.now) (lent (g.T.Tapes.tapes c.args.tapes.now) c.args.progress.now) c.args.block.0) c.loop-port.port long) ∙ c.loop-port.invariant.left

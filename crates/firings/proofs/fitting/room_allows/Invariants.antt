@@ -9,7 +9,7 @@ use Rattle.firings.proofs.fitting.room_allows.Given as goal
 abbrev pub invariant-loop-port : goal.invariant-loop-port
 invariant-loop-port g l =
     let net = net_of g.B.Block.meaning l.graph in
-    let outputs = counts_out net (rows_of (λ row. row.items) l.capacities) (lent l.tapes l.progress) l.block.0 in
+    let outputs = counts_out net (rows_of (λ row. row.items) l.capacities) (lent (g.T.Tapes.tapes l.tapes) l.progress) l.block.0 in
     record {
       within : l.least ≤ l.bound;
       left : room_allows (node_at net l.block.0) (drop l.port outputs) l.least ≡ room_allows (node_at net l.block.0) outputs l.bound;

@@ -9,5 +9,5 @@ use Rattle.firings.proofs.lacking.is_unread.Given as goal
 abbrev pub invariant-loop-port : goal.invariant-loop-port
 invariant-loop-port g l =
     let net = net_of g.B.Block.meaning l.graph in
-    (caps : Capacities) → list_all is_abandoned (drop l.port (counts_out net caps (lent l.tapes l.progress) l.block.0))
-    ≡ list_all is_abandoned (counts_out net caps (lent l.tapes l.progress) l.block.0)
+    (caps : Capacities) → list_all is_abandoned (drop l.port (counts_out net caps (lent (g.T.Tapes.tapes l.tapes) l.progress) l.block.0))
+    ≡ list_all is_abandoned (counts_out net caps (lent (g.T.Tapes.tapes l.tapes) l.progress) l.block.0)

@@ -9,5 +9,5 @@ use Rattle.firings.proofs.lacking.lacks_items.Given as goal
 abbrev pub invariant-loop-port : goal.invariant-loop-port
 invariant-loop-port g l =
     let net = net_of g.B.Block.meaning l.graph in
-    let inputs = counts_in net (lent l.tapes l.progress) l.block.0 in
+    let inputs = counts_in net (lent (g.T.Tapes.tapes l.tapes) l.progress) l.block.0 in
     lacks_items (node_at net l.block.0) l.firings l.port (drop l.port inputs) ≡ lacks_items (node_at net l.block.0) l.firings 0 inputs

@@ -9,5 +9,5 @@ use Rattle.firings.proofs.lacking.lacks_room.Given as goal
 abbrev pub invariant-loop-port : goal.invariant-loop-port
 invariant-loop-port g l =
     let net = net_of g.B.Block.meaning l.graph in
-    let outputs = counts_out net (rows_of (λ row. row.items) l.capacities) (lent l.tapes l.progress) l.block.0 in
+    let outputs = counts_out net (rows_of (λ row. row.items) l.capacities) (lent (g.T.Tapes.tapes l.tapes) l.progress) l.block.0 in
     lacks_room (node_at net l.block.0) l.firings l.port (drop l.port outputs) ≡ lacks_room (node_at net l.block.0) l.firings 0 outputs

@@ -12,14 +12,14 @@ use Rattle.stream_model.specs.Claims.{ReaderCounts}
 
 pub returns-then-not-is_near : goal.returns-then-not-is_near
 returns-then-not-is_near g c =
-    let in' : c.loop-connection.connection-index < length (readers_in (net_of g.B.Block.meaning c.args.graph.now) (lent c.args.tapes.now c.args.progress.now) c.args.readers.now) = rw (looks.readers_long (net_of g.B.Block.meaning c.args.graph.now) (lent c.args.tapes.now c.args.progress.now) c.args.readers.now) c.loop-connection-test.true in
-    let is = c.reader_at-reader.ensures.value ∙ looks.reader_in (net_of g.B.Block.meaning c.args.graph.now) (lent c.args.tapes.now c.args.progress.now) c.args.readers.now c.loop-connection.connection-index looks.nothing_there c.loop-connection-test.true in
-    loops.all-found (readers_in (net_of g.B.Block.meaning c.args.graph.now) (lent c.args.tapes.now c.args.progress.now) c.args.readers.now) c.loop-connection.connection-index (machine.reader_counts (net_of g.B.Block.meaning c.args.graph.now) (lent c.args.tapes.now c.args.progress.now) (connection_of looks.nothing_there)) (reader_of c.reader_at-reader.result) in' is
+    let in' : c.loop-connection.connection-index < length (readers_in (net_of g.B.Block.meaning c.args.graph.now) (lent (g.T.Tapes.tapes c.args.tapes.now) c.args.progress.now) c.args.readers.now) = rw (looks.readers_long (net_of g.B.Block.meaning c.args.graph.now) (lent (g.T.Tapes.tapes c.args.tapes.now) c.args.progress.now) c.args.readers.now) c.loop-connection-test.true in
+    let is = c.reader_at-reader.ensures.value ∙ looks.reader_in (net_of g.B.Block.meaning c.args.graph.now) (lent (g.T.Tapes.tapes c.args.tapes.now) c.args.progress.now) c.args.readers.now c.loop-connection.connection-index looks.nothing_there c.loop-connection-test.true in
+    loops.all-found (readers_in (net_of g.B.Block.meaning c.args.graph.now) (lent (g.T.Tapes.tapes c.args.tapes.now) c.args.progress.now) c.args.readers.now) c.loop-connection.connection-index (machine.reader_counts (net_of g.B.Block.meaning c.args.graph.now) (lent (g.T.Tapes.tapes c.args.tapes.now) c.args.progress.now) (connection_of looks.nothing_there)) (reader_of c.reader_at-reader.result) in' is
     (λ (r : ReaderCounts). r.done || nat_le (given_by (node_at (net_of g.B.Block.meaning c.args.graph.now) c.args.block.0) c.args.firings) (r.taken + c.args.capacity)) (sym c.is_near.ensures ∙ c.if-not-is_near.true) ∙ c.loop-connection.invariant
 
 pub loop-connection-preserved : goal.loop-connection-preserved
 loop-connection-preserved g c =
-    let in' : c.loop-connection.connection-index < length (readers_in (net_of g.B.Block.meaning c.args.graph.now) (lent c.args.tapes.now c.args.progress.now) c.args.readers.now) = rw (looks.readers_long (net_of g.B.Block.meaning c.args.graph.now) (lent c.args.tapes.now c.args.progress.now) c.args.readers.now) c.loop-connection-test.true in
-    let is = c.reader_at-reader.ensures.value ∙ looks.reader_in (net_of g.B.Block.meaning c.args.graph.now) (lent c.args.tapes.now c.args.progress.now) c.args.readers.now c.loop-connection.connection-index looks.nothing_there c.loop-connection-test.true in
-    loops.all-turn (readers_in (net_of g.B.Block.meaning c.args.graph.now) (lent c.args.tapes.now c.args.progress.now) c.args.readers.now) c.loop-connection.connection-index (machine.reader_counts (net_of g.B.Block.meaning c.args.graph.now) (lent c.args.tapes.now c.args.progress.now) (connection_of looks.nothing_there)) (reader_of c.reader_at-reader.result) in' is
+    let in' : c.loop-connection.connection-index < length (readers_in (net_of g.B.Block.meaning c.args.graph.now) (lent (g.T.Tapes.tapes c.args.tapes.now) c.args.progress.now) c.args.readers.now) = rw (looks.readers_long (net_of g.B.Block.meaning c.args.graph.now) (lent (g.T.Tapes.tapes c.args.tapes.now) c.args.progress.now) c.args.readers.now) c.loop-connection-test.true in
+    let is = c.reader_at-reader.ensures.value ∙ looks.reader_in (net_of g.B.Block.meaning c.args.graph.now) (lent (g.T.Tapes.tapes c.args.tapes.now) c.args.progress.now) c.args.readers.now c.loop-connection.connection-index looks.nothing_there c.loop-connection-test.true in
+    loops.all-turn (readers_in (net_of g.B.Block.meaning c.args.graph.now) (lent (g.T.Tapes.tapes c.args.tapes.now) c.args.progress.now) c.args.readers.now) c.loop-connection.connection-index (machine.reader_counts (net_of g.B.Block.meaning c.args.graph.now) (lent (g.T.Tapes.tapes c.args.tapes.now) c.args.progress.now) (connection_of looks.nothing_there)) (reader_of c.reader_at-reader.result) in' is
     (λ (r : ReaderCounts). r.done || nat_le (given_by (node_at (net_of g.B.Block.meaning c.args.graph.now) c.args.block.0) c.args.firings) (r.taken + c.args.capacity)) (sym c.is_near.ensures ∙ c.if-not-is_near.false) ∙ c.loop-connection.invariant

@@ -9,6 +9,6 @@ use Rattle.firings.proofs.lacking.leaves_room.Given as goal
 abbrev pub invariant-loop-connection : goal.invariant-loop-connection
 invariant-loop-connection g l =
     let net = net_of g.B.Block.meaning l.graph in
-    let readers = readers_in net (lent l.tapes l.progress) l.readers in
+    let readers = readers_in net (lent (g.T.Tapes.tapes l.tapes) l.progress) l.readers in
     leaves_room (node_at net l.block.0) l.firings (record { capacity = l.capacity; readers = drop l.connection-index readers })
     ≡ leaves_room (node_at net l.block.0) l.firings (record { capacity = l.capacity; readers = readers })

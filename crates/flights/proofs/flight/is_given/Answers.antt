@@ -1,10 +1,12 @@
-use Rattle.std.proofs.Common.{◌≡◌, ◌<◌, ◌*◌, ◌+◌, ◌∙◌, true, false, map, length, ap, sym, subst, arith, inl, inr}
+use Rattle.std.proofs.Common.{◌≡◌, ◌<◌, ◌*◌, ◌+◌, ◌∙◌, ℤ, List, [], ◌∷◌, true, false, map, length, ap, sym, subst, arith, inl, inr}
 use Rattle.std.proofs.lemmas.List.{length-map}
 use Rattle.stream_model.specs.Meaning.{Meaning}
 use Rattle.stream_model.specs.Network.{Progress, node_at, progress_at, role_at, is_source}
 use Rattle.items.specs.Items.{numbers_of}
 use Rattle.flowgraph.specs.Flowgraph.{net_of, node_of}
+use Rattle.std.specs.Prelude.{slice_range}
 use Rattle.stores.specs.Stores.{rows_in}
+use Rattle.stores.specs.Tapes.{TapeState}
 use Rattle.lending.proofs.ReadBuffers.{Row}
 use Rattle.flights.specs.Seen.{CanSeeAll, AreEnds, AreSeen}
 use Rattle.flights.proofs.Sights as sights
@@ -91,7 +93,7 @@ is_cut-requires-clause-within g c =
     let first_is : first ≡ (progress_at ps b).firings = ap (λ (p : Progress). p.firings) c.progress-at.ensures.value in
     let claimed_is : claimed ≡ (progress_at ps b).claimed = c.from.ensures ∙ ap (λ (p : Progress). p.claimed) c.progress-at.ensures.value in
     let source : is_source (role_at net b) ≡ true = ap is_source (sym (ap (λ (k : Meaning). k.role) c.block-own.ensures.meaning) ∙ sym c.role.ensures ∙ c.in-Source.is) in
-    sights.tape_long c.args.graph.now.names net c.in_order.ensures.runs c.in_order.ensures.valid s ps c.requires.stored b inside c.requires.claimed m multiple first claimed c.block-own.ensures.meaning multiple_is first_is claimed_is c.index-handed.result.now c.index-handed.ensures source
+    rw (c.recording.ensures.items, c.deref.ensures) (sights.tape_long c.args.graph.now.names net c.in_order.ensures.runs c.in_order.ensures.valid s ps c.requires.stored b inside c.requires.claimed m multiple first claimed c.block-own.ensures.meaning multiple_is first_is claimed_is c.index-handed.result.now c.index-handed.ensures source)
 
 pub is_cut-requires-clause-types : goal.is_cut-requires-clause-types
 is_cut-requires-clause-types g c =
@@ -108,7 +110,7 @@ is_cut-requires-clause-types g c =
     let first_is : first ≡ (progress_at ps b).firings = ap (λ (p : Progress). p.firings) c.progress-at.ensures.value in
     let claimed_is : claimed ≡ (progress_at ps b).claimed = c.from.ensures ∙ ap (λ (p : Progress). p.claimed) c.progress-at.ensures.value in
     let source : is_source (role_at net b) ≡ true = ap is_source (sym (ap (λ (k : Meaning). k.role) c.block-own.ensures.meaning) ∙ sym c.role.ensures ∙ c.in-Source.is) in
-    λ k d low. c.requires.types k d low ∙ sym (sights.tape_type c.args.graph.now.names net c.in_order.ensures.runs c.in_order.ensures.valid s ps c.requires.stored b inside c.requires.claimed m multiple first claimed c.block-own.ensures.meaning multiple_is first_is claimed_is c.index-handed.result.now c.index-handed.ensures source)
+    λ k d low. c.requires.types k d low ∙ sym (c.recording.ensures.item ∙ ap (λ (t : TapeState). t.item) c.deref.ensures ∙ sights.tape_type c.args.graph.now.names net c.in_order.ensures.runs c.in_order.ensures.valid s ps c.requires.stored b inside c.requires.claimed m multiple first claimed c.block-own.ensures.meaning multiple_is first_is claimed_is c.index-handed.result.now c.index-handed.ensures source)
 
 pub are_seen-requires : goal.are_seen-requires
 are_seen-requires g c =
@@ -124,7 +126,7 @@ are_seen-requires g c =
     let multiple_is : multiple ≡ (node_at net b).multiple = c.from-multiple.ensures ∙ sym c.options.ensures.node.multiple in
     let first_is : first ≡ (progress_at ps b).firings = ap (λ (p : Progress). p.firings) c.progress-at.ensures.value in
     let claimed_is : claimed ≡ (progress_at ps b).claimed = c.from.ensures ∙ ap (λ (p : Progress). p.claimed) c.progress-at.ensures.value in
-    let rows : map (λ (row : Row). row.items) c.deref.result.now ≡ rows_in s = ap (map (λ (row : Row). row.items)) c.deref.ensures.value in
+    let rows : map (λ (row : Row). row.items) c.deref-in-Work.result.now ≡ rows_in s = ap (map (λ (row : Row). row.items)) c.deref-in-Work.ensures.value in
     record {
       inputs = subst (λ rs. CanSeeAll rs m (multiple * first) (multiple * (first + claimed)) c.inputs.result.now) (sym rows) (sights.can_see_all c.args.graph.now.names net c.in_order.ensures.runs c.in_order.ensures.valid s ps c.requires.stored b inside c.requires.claimed m multiple first claimed c.block-own.ensures.meaning multiple_is first_is claimed_is c.inputs.result.now c.inputs.ensures.writers c.inputs.ensures.readers);
       types = λ k d low. c.requires.types k d low ∙ sym (ap (λ (k : Meaning). k.inputs.item) c.block-own.ensures.meaning);
@@ -163,7 +165,7 @@ returns-in-Source g c =
     let claimed_is : claimed ≡ (progress_at ps b).claimed = c.from.ensures ∙ ap (λ (p : Progress). p.claimed) c.progress-at.ensures.value in
     let source : is_source (role_at net b) ≡ true = ap is_source (sym (ap (λ (k : Meaning). k.role) c.block-own.ensures.meaning) ∙ sym c.role.ensures ∙ c.in-Source.is) in
     let held = sights.held_is c.args.graph.now.names net c.in_order.ensures.runs c.in_order.ensures.valid s ps c.requires.stored b inside c.requires.claimed m multiple first claimed c.block-own.ensures.meaning multiple_is first_is claimed_is c.index-handed.result.now c.index-handed.ensures c.taken.result c.taken-2.result c.taken.ensures c.taken-2.ensures in
-    let cut = sights.cut_is c.args.graph.now.names net c.in_order.ensures.runs c.in_order.ensures.valid s ps c.requires.stored b inside c.requires.claimed m multiple first claimed c.block-own.ensures.meaning multiple_is first_is claimed_is c.index-handed.result.now c.index-handed.ensures source in
+    let cut = ap (λ (items : List ℤ). slice_range items first (first + claimed) ∷ []) (c.recording.ensures.items ∙ ap (λ (t : TapeState). t.items) c.deref.ensures) ∙ sights.cut_is c.args.graph.now.names net c.in_order.ensures.runs c.in_order.ensures.valid s ps c.requires.stored b inside c.requires.claimed m multiple first claimed c.block-own.ensures.meaning multiple_is first_is claimed_is c.index-handed.result.now c.index-handed.ensures source in
     (λ t. (c.are_held.ensures.0 c.if-are_held.true ∙ held, c.is_cut.ensures.0 t ∙ cut), λ both. c.is_cut.ensures.1 (both.1 ∙ sym cut))
 
 pub returns-in-Work : goal.returns-in-Work
@@ -184,7 +186,7 @@ returns-in-Work g c =
       | inl e ↦ ap is_source e
       | inr e ↦ elim e [ inl f ↦ ap is_source f | inr f ↦ ap is_source f ]
     ]) in
-    let rows : map (λ (row : Row). row.items) c.deref.result.now ≡ rows_in s = ap (map (λ (row : Row). row.items)) c.deref.ensures.value in
+    let rows : map (λ (row : Row). row.items) c.deref-in-Work.result.now ≡ rows_in s = ap (map (λ (row : Row). row.items)) c.deref-in-Work.ensures.value in
     let held = sights.held_is c.args.graph.now.names net c.in_order.ensures.runs c.in_order.ensures.valid s ps c.requires.stored b inside c.requires.claimed m multiple first claimed c.block-own.ensures.meaning multiple_is first_is claimed_is c.index-handed.result.now c.index-handed.ensures c.taken.result c.taken-2.result c.taken.ensures c.taken-2.ensures in
     let ws = map numbers_of c.args.windows.now in
     let streams = sights.shown c.args.graph.now.names net c.in_order.ensures.runs c.in_order.ensures.valid s ps c.requires.stored b inside c.requires.claimed c.inputs.result.now c.inputs.ensures.writers c.inputs.ensures.readers in

@@ -1,12 +1,13 @@
-use Rattle.std.proofs.Common.{◌≡◌, ◌<◌, ◌∙◌, true, length, sym}
+use Rattle.std.proofs.Common.{◌≡◌, ◌<◌, ◌∙◌, true, length, ap, sym}
 use Rattle.std.proofs.lemmas.List.{length-map}
 use Rattle.std.proofs.lemmas.Bool.Decides.{same_from_decides}
+use Rattle.stream_model.specs.Meaning.{Meaning}
 use Rattle.stream_model.specs.Machine.{is_in_flight}
 use Rattle.flowgraph.specs.Flowgraph.{net_of, node_of}
 use Rattle.jobs.specs.Jobs.{job_of}
 use Rattle.stores.specs.Stores.{state_of}
 use Rattle.flights.specs.Flight.{is_own}
-use Rattle.flights.proofs.Claiming.{flight_decides, own_inside}
+use Rattle.flights.proofs.Claiming.{flight_decides, own_inside, own_means}
 use Rattle.flights.proofs.flight.is_in_flight.Goals as goal
 
 pub returns-then-is_same_block : goal.returns-then-is_same_block
@@ -23,3 +24,9 @@ returns-then-is_same_block g c =
 
 pub is_claim-requires-clause-block : goal.is_claim-requires-clause-block
 is_claim-requires-clause-block g c = own_inside g.B.PartialEq.eq c.args.graph.now.blocks c.args.job.now.graph.now.blocks c.args.job.now.block.0 (sym c.is_same_block.ensures ∙ c.if-is_same_block.true)
+
+pub is_claim-requires-clause-types : goal.is_claim-requires-clause-types
+is_claim-requires-clause-types g c =
+    let j = c.args.job.now in
+    let one = own_means g.B.PartialEq.eq g.B.Block.meaning g.met.B.Block.same c.args.graph.now j.graph.now j.block.0 (sym c.is_same_block.ensures ∙ c.if-is_same_block.true) in
+    λ k d low. c.requires.types k d low ∙ ap (λ (m : Meaning). m.inputs.item) one

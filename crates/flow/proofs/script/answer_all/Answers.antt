@@ -1,7 +1,8 @@
+use Rattle.std.proofs.lemmas.List.{length-take}
 use Rattle.std.proofs.Common.{refl, arith, ◌∙◌}
 use Rattle.std.proofs.lemmas.Result.{err_from_is_err_and}
 use Rattle.flow.specs.Session.{graph_of, standing}
-use Rattle.flow.proofs.Flows.{flows_start, flows_on, breaks_in, breaks_last, ends_last, breaks_memory, breaks_between, breaks_read, kept_count}
+use Rattle.flow.proofs.Flows.{flows_start, flows_on, breaks_in, breaks_last, ends_last, breaks_between, breaks_read, kept_count, room_for}
 use Rattle.flow.proofs.Outcomes.{if_ok, if_err}
 use Rattle.flow.proofs.script.answer_all.Goals as goal
 
@@ -10,14 +11,14 @@ loop-init g c = (
   refl,
   refl,
   refl,
-  flows_start (graph_of g.B.Block.meaning c.args.session.now.plant) (standing c.args.session.now) _ _ c.new-lines.result c.new-lines.ensures,
+  flows_start (graph_of g.B.Block.meaning c.args.session.now.plant) (standing c.args.session.now) _ _ c.args.lines.now c.requires.none,
 )
 
 pub returns-in_default-clause-breaks : goal.returns-in_default-clause-breaks
-returns-in_default-clause-breaks g c = breaks_read (graph_of g.B.Block.meaning c.args.session.now.plant) (standing c.args.session.now) (standing c.loop.session) _ (g.I.ByteIn.remaining c.loop.input) _ _ _ c.loop.lines c.loop.invariant.3 c.in_default.ensures.bytes
+returns-in_default-clause-breaks g c = breaks_read (graph_of g.B.Block.meaning c.args.session.now.plant) (standing c.args.session.now) (standing c.loop.session) _ (g.I.ByteIn.remaining c.loop.input) _ _ _ c.loop.lines _ c.loop.invariant.3 c.in_default.ensures.bytes
 
 pub returns-clause-breaks : goal.returns-clause-breaks
-returns-clause-breaks g c = breaks_between (graph_of g.B.Block.meaning c.args.session.now.plant) (standing c.args.session.now) (standing c.loop.session) _ _ _ _ c.loop.lines c.loop.invariant.3
+returns-clause-breaks g c = breaks_between (graph_of g.B.Block.meaning c.args.session.now.plant) (standing c.args.session.now) (standing c.loop.session) _ _ _ _ c.loop.lines _ c.loop.invariant.3
 
 pub returns-then-read-eq0-clause-ends : goal.returns-then-read-eq0-clause-ends
 returns-then-read-eq0-clause-ends g c =
@@ -31,18 +32,12 @@ returns-then-read-eq0-clause-breaks g c =
     breaks_last (graph_of g.B.Block.meaning c.args.session.now.plant) (standing c.args.session.now) (standing c.loop.session) _ (g.I.ByteIn.remaining c.loop.input) _ _ (g.O.ByteOut.contents c.loop.output) _ c.loop.lines fault c.loop.invariant.3
     (rw c.if-read-eq0.true at c.in-Ok.ensures.bytes.0) (c.in-Ok.ensures.bytes.1 c.if-read-eq0.true (omega arith)) stops)
 
-pub returns-in_err-push-clause-breaks : goal.returns-in_err-push-clause-breaks
-returns-in_err-push-clause-breaks g c =
-    let p = err_from_is_err_and c.from_residual.result c.from_residual.ensures.1 in
-    rw (p.1, p.2)
-    (breaks_memory (graph_of g.B.Block.meaning c.args.session.now.plant) (standing c.args.session.now) (standing c.loop.session) _ (g.I.ByteIn.remaining c.loop.input) _ _ _ c.loop.lines _ c.loop.invariant.3 c.in-Ok.ensures.bytes.0)
-
 pub returns-in_err-answer_lines-clause-breaks : goal.returns-in_err-answer_lines-clause-breaks
 returns-in_err-answer_lines-clause-breaks g c =
-    let p = err_from_is_err_and c.from_residual-in_err-answer_lines.result c.from_residual-in_err-answer_lines.ensures.1 in
+    let p = err_from_is_err_and c.from_residual.result c.from_residual.ensures.1 in
     rw (p.1, p.2)
-    (breaks_in (graph_of g.B.Block.meaning c.args.session.now.plant) (standing c.args.session.now) (standing c.loop.session) _ (g.I.ByteIn.remaining c.loop.input) _ _ (g.O.ByteOut.contents c.loop.output) _ c.loop.lines c.push.new.self _ c.in_err-answer_lines.field-0.0 c.loop.invariant.3
-    c.in-Ok.ensures.bytes.0 c.in_ok-push.ensures.ok c.push.ensures.taken (rw c.loop.invariant.0 at c.in_err-answer_lines.ensures.stops))
+    (breaks_in (graph_of g.B.Block.meaning c.args.session.now.plant) (standing c.args.session.now) (standing c.loop.session) _ (g.I.ByteIn.remaining c.loop.input) _ _ (g.O.ByteOut.contents c.loop.output) _ c.loop.lines c.push.new.self _ c.answer_lines.new.lines.taken c.in_err-answer_lines.field-0.0 c.loop.invariant.3
+    c.in-Ok.ensures.bytes.0 c.push.ensures.rest c.push.ensures.taken (rw c.loop.invariant.0 at c.in_err-answer_lines.ensures.stops))
 
 pub loop-preserved : goal.loop-preserved
 loop-preserved g c = (
@@ -50,5 +45,8 @@ loop-preserved g c = (
   c.in-Ok.ensures.counted ∙ c.loop.invariant.1,
   kept_count _ _ _ c.in_ok-answer_lines.ensures.failed_writes c.loop.invariant.2,
   flows_on (graph_of g.B.Block.meaning c.args.session.now.plant) (standing c.args.session.now) (standing c.loop.session) _ _ (g.I.ByteIn.remaining c.loop.input) _ _ (g.O.ByteOut.contents c.loop.output) _ c.loop.lines c.push.new.self _ _ c.loop.invariant.3
-      c.in-Ok.ensures.bytes.0 c.in_ok-push.ensures.ok c.push.ensures.taken (rw c.loop.invariant.0 at c.in_ok-answer_lines.ensures.went) c.in_ok-answer_lines.ensures.unfinished,
+      c.in-Ok.ensures.bytes.0 c.push.ensures.rest c.push.ensures.taken (rw c.loop.invariant.0 at c.in_ok-answer_lines.ensures.went) c.in_ok-answer_lines.ensures.unfinished,
 )
+
+pub push-requires : goal.push-requires
+push-requires g c = room_for c.loop.lines _ c.loop.invariant.3.unfinished (let size = length-take c.in-Ok.read c.read.new.buffer in omega (arith, size, c.in-Ok.ensures.bound))

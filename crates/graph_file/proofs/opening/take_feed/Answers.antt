@@ -22,7 +22,7 @@ returns-clause-refused c =
     ap (feed_found d.net st (fed c.args.feed.now)) found
     ∙ ap (λ xs. feed_numbers d.net st b xs (map mark_of (fed c.args.feed.now).marks)) (sym c.deref-3.ensures.value)
     ∙ ap (λ ms. feed_numbers d.net st b c.deref-3.result.now ms) (ap (map mark_of) (sym c.deref-2.ensures.value) ∙ sym c.in_ok-marks.ensures ∙ ap (map stores.mark_of) (sym c.deref-4.ensures.value)) in
-    rw c.feed_fault-in-Err.ensures
+    rw c.feed_fault-in-Err.ensures.told
     (subst (λ (now : Reply × State). IsTold (after_feed c.args.number now) (told_feed c.args.number c.in-Err.fault)) (sym same)
     (after_feed-refused c.args.number _ c.args.plant.now c.feed_numbers.new.self c.in-Err.fault
     (feed_numbers-answer d.net st b c.deref-3.result.now (map stores.mark_of c.deref-4.result.now)) c.in-Err.ensures))

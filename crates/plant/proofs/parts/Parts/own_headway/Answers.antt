@@ -2,13 +2,13 @@ use Rattle.std.proofs.Common.{◌<◌, arith, length}
 use Rattle.std.specs.Arc.{arc_value}
 use Rattle.std.proofs.lemmas.List.{length-map}
 use Rattle.flowgraph.specs.Flowgraph.{net_of, node_of}
-use Rattle.plant.proofs.Moves.{tapes_long, tape_short}
+use Rattle.plant.proofs.Moves.{counted, handed_long, tape_short}
 use Rattle.plant.proofs.parts.Parts.own_headway.Goals as goal
 
-pub index-tape-requires : goal.index-tape-requires
-index-tape-requires g c =
+pub index-requires : goal.index-requires
+index-requires g c =
     let net = net_of g.B.Block.meaning (arc_value c.args.self.now.graph) in
-    let long = tapes_long net _ (rw (← c.deref.ensures) c.in_order.ensures.runs) _ _ _ c.requires.right.keeps in
+    let long = handed_long net _ (rw (← c.deref.ensures) c.in_order.ensures.runs) _ _ c.requires.right.keeps in
     omega (arith, c.requires.block, long, length-map (arc_value c.args.self.now.graph).blocks (node_of g.B.Block.meaning))
 
 pub progress-own-requires : goal.progress-own-requires
@@ -19,4 +19,4 @@ pub returns-clause-short : goal.returns-clause-short
 returns-clause-short g c =
     let net = net_of g.B.Block.meaning (arc_value c.args.self.now.graph) in
     let inside : c.args.block.0 < length net.nodes = omega (arith, c.requires.block, length-map (arc_value c.args.self.now.graph).blocks (node_of g.B.Block.meaning)) in
-    tape_short net _ (rw (← c.deref.ensures) c.in_order.ensures.runs) _ _ _ c.requires.right.keeps c.args.block.0 inside c.index-tape.result.now c.index-tape.ensures
+    tape_short net _ (rw (← c.deref.ensures) c.in_order.ensures.runs) _ _ c.requires.right.keeps c.args.block.0 inside c.counts_of-tape.result (counted net _ (rw (← c.deref.ensures) c.in_order.ensures.runs) _ _ c.requires.right.keeps c.args.block.0 inside c.index.result.now c.counts_of-tape.result c.index.ensures c.counts_of-tape.ensures)

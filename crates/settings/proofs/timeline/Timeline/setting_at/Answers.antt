@@ -1,14 +1,22 @@
-use Rattle.settings.proofs.Points.{in_force_at, own_in_force}
+use Rattle.std.proofs.Common.{ℕ, [], ◌∷◌, ◌++◌, ◌∙◌, sym, ap, map}
+use Rattle.std.proofs.lemmas.List.{map-append}
+use Rattle.settings.specs.declared.value.Value.{Value}
+use Rattle.settings.specs.Values.{value_of, placed}
+use Rattle.settings.proofs.Cuts.{last_is, none_is}
+use Rattle.settings.proofs.Entries.{map-up_to}
 use Rattle.settings.proofs.timeline.Timeline.setting_at.Goals as goal
 
 pub returns-in-Some : goal.returns-in-Some
 returns-in-Some c =
-    let made = rw c.deref.ensures.value at c.count_up_to.ensures.made in
-    let later = rw c.deref.ensures.value at c.count_up_to.ensures.later in
-    let within = rw c.deref.ensures.value at c.count_up_to.ensures.within in
-    rw (← c.self.view_is) (in_force_at _ c.self.inside.settings.items _ _ c.args.item c.index.result.now c.self.invariant.1 within c.in-Some.ensures c.index.ensures made later)
+    let es = c.self.inside.settings.entries in
+    let found : ℕ × Value = (c.in-Some.at.now, c.in-Some.value.now) in
+    rw (← c.self.view_is) (last_is (value_of c.self.inside.own) (map placed es) (map placed c.next_back.new.self) (placed found) c.args.item c.self.invariant
+    (sym (map-up_to c.args.item es)
+    ∙ ap (map placed) (sym (c.range.ensures.between tt) ∙ c.in-Some.ensures.steps)
+    ∙ map-append placed c.next_back.new.self (found ∷ [])))
 
 pub returns-in-None : goal.returns-in-None
 returns-in-None c =
-    let later = rw c.deref.ensures.value at c.count_up_to.ensures.later in
-    rw (← c.self.view_is) (own_in_force c.self.inside.own _ _ c.args.item c.self.invariant.0 c.in-None.ensures later)
+    let es = c.self.inside.settings.entries in
+    rw (← c.self.view_is) (none_is (value_of c.self.inside.own) (map placed es) c.args.item c.self.invariant
+    (sym (map-up_to c.args.item es) ∙ ap (map placed) (sym (c.range.ensures.between tt) ∙ c.in-None.ensures.steps.0)))

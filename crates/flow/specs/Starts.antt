@@ -1,0 +1,39 @@
+-- What the program says where it begins no command.
+use Rattle.std.specs.Prelude.{ℕ, List, [], codes, Bool, true, false}
+use Rattle.std_io.specs.declared.io.kind.ErrorKind.{ErrorKind}
+use Rattle.std_io.specs.declared.io.kind.ErrorKind.TheVariants as kind
+use Rattle.script_text.specs.Replies.{line_text}
+use Rattle.flow.specs.Faults.{fault_line, status_of}
+use Rattle.flow.specs.declared.fault.Fault.TheVariants.{Script}
+use Rattle.flow.specs.declared.script.ScriptFault.TheVariants as script
+use Rattle.flow.specs.declared.start.StartFault.{StartFault}
+use Rattle.flow.specs.declared.start.StartFault.TheVariants.{NoText, BadWords, NoFile, Memory}
+
+-- a word that is no UTF-8 is told; nothing but memory can be wanting besides
+abbrev pub words_fault : ErrorKind → StartFault
+words_fault kind.InvalidData = NoText
+words_fault _ = Memory
+
+-- words that say nothing that the program does, where memory did not run out
+abbrev pub call_fault : Bool → StartFault
+call_fault true = Memory
+call_fault false = BadWords
+
+-- a file that could not be read, where memory did not run out
+abbrev pub file_fault : ErrorKind → StartFault
+file_fault kind.OutOfMemory = Memory
+file_fault _ = NoFile
+
+-- memory and a file are told as they are of a command; the text of bad words comes from what reads them
+abbrev pub start_text : StartFault → List ℕ
+start_text NoText = line_text (codes "error: a word is no UTF-8")
+start_text BadWords = []
+start_text NoFile = fault_line (Script script.Read)
+start_text Memory = fault_line (Script script.Memory)
+
+-- the exit status: 2 for words
+abbrev pub start_status : StartFault → ℕ
+start_status NoText = 2
+start_status BadWords = 2
+start_status NoFile = status_of (Script script.Read)
+start_status Memory = status_of (Script script.Memory)

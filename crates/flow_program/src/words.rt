@@ -1,0 +1,87 @@
+//! What the words of the program ask for.
+
+ghost use Rattle.std.specs.Prelude.{◌≡◌, ◌&&◌, not};
+
+use clap::{Arg, ArgAction};
+use flow::serve::Command;
+use std::alloc::{AllocError, Global};
+
+const VERSION: &str = "0.1.0";
+
+/// What the words ask for.
+#[derive(Clone, Copy)]
+pub struct Call<'a> {
+    pub command: Command,
+    pub path: &'a str,
+    pub is_quiet: bool,
+}
+
+impl Call<'_> {
+    /// Whether a run may show how far it is: on a terminal, unless the words say no.
+    pub fn may_show(&self, is_terminal: bool) -> bool
+        ensures { result ≡ (is_terminal && not self.now.is_quiet) }
+    {
+        is_terminal && !self.is_quiet
+    }
+}
+
+/// The call that the words ask for; the first word is none of them.
+pub fn call_of<'a>(alloc: Global, words: &'a [String]) -> Result<Call<'a>, clap::Error> {
+    let matches = commands(alloc)?.try_get_matches_from(words)?;
+    let Some((name, inner)) = matches.subcommand() else {
+        return Err(clap::Error::from(AllocError));
+    };
+    let command = match name {
+        "check" => Command::Check,
+        "run" => Command::Run,
+        _ => Command::Script,
+    };
+    match inner.get_str("FILE") {
+        Some(path) => Ok(Call {
+            command,
+            path,
+            is_quiet: inner.get_flag("quiet"),
+        }),
+        None => Err(clap::Error::from(AllocError)),
+    }
+}
+
+// The words that the program knows.
+fn commands<'a>(alloc: Global) -> Result<clap::Command<'a>, clap::Error> {
+    let quiet = Arg::new(alloc, "quiet")
+        .short('q')
+        .long("quiet")
+        .action(ArgAction::SetTrue)
+        .help("Shows no progress on a terminal");
+    let check = subcommand(alloc, "check", "Reads the graph and tells of it")?;
+    let run = subcommand(alloc, "run", "Runs the graph and tells what its sinks hold")?;
+    let script = subcommand(
+        alloc,
+        "script",
+        "Runs the commands of standard input on the graph",
+    )?;
+    // The name of the built file is another.
+    Ok(
+        clap::Command::new(alloc, "flow")
+            .bin_name("flow")?
+            .version(VERSION)
+            .about("Runs a flowgraph that a file describes")
+            .subcommand_required(true)
+            .subcommand(check)?
+            .subcommand(run.arg(quiet)?)?
+            .subcommand(script)?,
+    )
+}
+
+// A subcommand that takes a graph file, with its line of help.
+fn subcommand<'a>(
+    alloc: Global,
+    name: &'a str,
+    help: &'a str,
+) -> Result<clap::Command<'a>, clap::Error> {
+    let file = Arg::new(alloc, "FILE")
+        .required(true)
+        .action(ArgAction::Set)
+        .help("The graph file");
+    Ok(clap::Command::new(alloc, name).about(help).arg(file)?)
+}

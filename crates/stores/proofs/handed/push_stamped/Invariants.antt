@@ -1,8 +1,0 @@
-use Rattle.std.proofs.Common.{◌≡◌, ◌+◌, ◌≤◌, ◌++◌, map, take, length, vec_len, vec_capacity}
-use Rattle.stores.specs.Stores.{stamped}
-use Rattle.stores.proofs.handed.push_stamped.Given as goal
-
-abbrev pub invariant-loop-mark : goal.invariant-loop-mark
-invariant-loop-mark l =
-    (l.tags.items ≡ l.fn.tags.items ++ map (stamped l.source) (take l.mark-index l.marks)) × (vec_len l.tags ≡ vec_len l.fn.tags + l.mark-index)
-    × (vec_len l.fn.tags + length l.marks ≤ vec_capacity l.tags)

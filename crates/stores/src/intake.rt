@@ -1,0 +1,110 @@
+//! What a block was handed.
+
+ghost use Rattle.std.specs.Prelude.{◌≡◌, map, IsOk, IsSome, IfOk, OnOk, OnErr};
+ghost use Rattle.std.specs.List.{Any};
+ghost use Rattle.std.specs.Option.{option_map};
+ghost use Rattle.std.specs.Arc.{arc_value};
+ghost use Rattle.stream_model.specs.Network.{nothing_handed};
+ghost use Rattle.items.specs.Items.{type_of, numbers_of};
+ghost use Rattle.settings.specs.Values.{value_of};
+ghost use Rattle.settings.specs.Timelines.{held_at};
+ghost use Rattle.plant_laws.specs.Stored.{no_tape};
+ghost use Rattle.plant_laws.specs.Opening.{own_settings};
+ghost use Rattle.stores.specs.Marks.{mark_of};
+ghost use Rattle.stores.specs.Tapes.{longer_tape};
+ghost use Rattle.stores.specs.Stores.{handed_of, tape_of, settings_in, IsAsBefore, IsFed, IsSet, HasOneMore};
+
+use crate::tape::Tape;
+use items::{ItemType, Items, Mark};
+use settings::{Timeline, Value};
+use std::alloc::{AllocError, Global};
+use std::sync::Arc;
+
+/// What a block was handed: a source's tape, and settings. The tape is shared with the copies that are made of it, until either is fed.
+#[derive(Debug, Drop)]
+pub struct Intake {
+    pub tape: Arc<Tape, Global>,
+    /// Whether the tape is closed.
+    pub closed: bool,
+    /// The settings, where the block has one.
+    pub timeline: Option<Timeline>,
+}
+
+impl Intake {
+    /// Nothing yet: an open tape without items, and no settings. The block's own parameter, if it has a setting, is in force. It fails only where
+    /// the allocator refuses.
+    pub fn new(alloc: Global, item: ItemType, own: Option<Value>) -> Result<Intake, AllocError>
+        ensures handed { IfOk result (λ intake. handed_of intake ≡ nothing_handed) }
+        ensures tape { IfOk result (λ intake. tape_of intake ≡ record no_tape { item = item }) }
+        ensures timeline { IfOk result (λ intake. intake.timeline ≡ own_settings (option_map value_of own)) }
+    {
+        let timeline = match own {
+            Some(value) => Some(Timeline::new(alloc, value)),
+            None => None,
+        };
+        Ok(Intake {
+            tape: shared(alloc, Tape::new(alloc, item))?,
+            closed: false,
+            timeline,
+        })
+    }
+
+    /// Puts items at the end of the tape, with each mark as a tag of the source. A tape that is shared is copied first. An `Err` changes nothing.
+    pub fn feed(&mut self, source: u32, items: &Items, marks: &[Mark]) -> Result<(), AllocError>
+        requires { type_of items.now ≡ (arc_value self.old.tape).item }
+        ensures ok { OnOk result (IsFed source (numbers_of items.now) (map mark_of marks.now) self.old self.new) }
+        ensures err { OnErr result (IsAsBefore self.old self.new) }
+    {
+        feed_tape(&mut self.tape, source, items, marks)
+    }
+
+    /// Sets what is in force from an item on. An `Err` changes nothing, and comes only where there is no setting of that item yet.
+    pub fn set(&mut self, at: u64, value: Value) -> Result<(), AllocError>
+        requires { IsSome self.old.timeline }
+        ensures ok { OnOk result (IsSet (held_at at (value_of value)) self.old self.new) }
+        ensures err { OnErr result (IsAsBefore self.old self.new) }
+        ensures replaces { Any (λ h. h.at ≡ at) (settings_in self.old.timeline) → IsOk result }
+    {
+        set_in(&mut self.timeline, at, value)
+    }
+}
+
+// A tape that may be shared from now on.
+fn shared(alloc: Global, tape: Tape) -> Result<Arc<Tape, Global>, AllocError>
+    ensures { IfOk result (λ shared. arc_value shared ≡ tape) }
+{
+    match Arc::new(alloc, tape) {
+        Ok(shared) => Ok(shared),
+        Err(_) => Err(AllocError),
+    }
+}
+
+// Puts items and marks on a tape, which is copied first where it is shared.
+fn feed_tape(
+    tape: &mut Arc<Tape, Global>,
+    source: u32,
+    items: &Items,
+    marks: &[Mark],
+) -> Result<(), AllocError>
+    requires { type_of items.now ≡ (arc_value tape.old).item }
+    ensures ok { OnOk result (arc_value tape.new ≡ longer_tape (arc_value tape.old) source (numbers_of items.now) (map mark_of marks.now)) }
+    ensures err { OnErr result (arc_value tape.new ≡ arc_value tape.old) }
+{
+    Arc::make_mut(tape)?.feed(source, items, marks)
+}
+
+// Sets a value from an item on, whichever it is: no floor is asked of the timeline.
+fn set_in(timeline: &mut Option<Timeline>, at: u64, value: Value) -> Result<(), AllocError>
+    requires { IsSome timeline.old }
+    ensures ok { OnOk result (HasOneMore (held_at at (value_of value)) timeline.old timeline.new) }
+    ensures err { OnErr result (timeline.new ≡ timeline.old) }
+    ensures replaces { Any (λ h. h.at ≡ at) (settings_in timeline.old) → IsOk result }
+{
+    match timeline {
+        Some(timeline) => match timeline.set(at, value, 0) {
+            Ok(()) => Ok(()),
+            Err(_) => Err(AllocError),
+        },
+        None => unreachable!(),
+    }
+}

@@ -1,0 +1,98 @@
+//! What a block was handed, as it was at one moment.
+
+ghost use Rattle.std.specs.Prelude.{◌≡◌, ◌↔◌, map, IsTrue, IfOk};
+ghost use Rattle.settings.specs.Values.{held_of};
+ghost use Rattle.stores.specs.Stores.{handed_of, settings_in};
+
+use crate::intake::Intake;
+use crate::tape::Tape;
+use settings::{Held, Timeline};
+use std::alloc::{AllocError, Global};
+use std::marker::Model;
+use std::sync::Arc;
+
+/// What a block was handed, as it was at one moment. The tape is shared, so that no item of it is copied. A contract sees it as the machine has it.
+#[derive(Drop)]
+pub struct IntakeCopy {
+    tape: Arc<Tape, Global>,
+    closed: bool,
+    settings: Vec<Held>,
+}
+
+impl Model for IntakeCopy {
+    ghost use Rattle.std.specs.Prelude.{map};
+    ghost use Rattle.std.specs.Arc.{arc_value};
+    ghost use Rattle.stream_model.specs.Network.{Handed};
+    ghost use Rattle.settings.specs.Values.{held_of};
+
+    ghost Value = { Handed };
+
+    ghost view = { λ c. let tape = arc_value c.tape in record { tape = tape.items; tags = tape.marks; closed = c.closed; settings = map held_of c.settings.items } };
+}
+
+impl IntakeCopy {
+    /// A copy of what a block was handed. It takes memory for the settings alone, and fails only where the allocator refuses.
+    pub fn of(alloc: Global, intake: &Intake) -> Result<IntakeCopy, AllocError>
+        ensures { IfOk result (λ copy. copy ≡ handed_of intake.now) }
+    {
+        Ok(IntakeCopy {
+            tape: Arc::try_clone(&intake.tape)?,
+            closed: intake.closed,
+            settings: settings_of(alloc, &intake.timeline)?,
+        })
+    }
+
+    /// Whether the block was handed the same: the items of its tape, the tags in the order of feeding, whether it is closed, and the settings.
+    pub fn agrees(&self, intake: &Intake) -> bool
+        ensures { IsTrue result ↔ (self.now ≡ handed_of intake.now) }
+    {
+        self.closed == intake.closed
+            && are_settings(&self.settings, &intake.timeline)
+            && self.tape.is_same(&intake.tape)
+    }
+
+    /// Whether another copy is of the same.
+    pub fn is_same(&self, other: &IntakeCopy) -> bool
+        ensures { IsTrue result ↔ (self.now ≡ other.now) }
+    {
+        self.closed == other.closed
+            && same_settings(&self.settings, &other.settings)
+            && self.tape.is_same(&other.tape)
+    }
+}
+
+// A copy of the settings of a block, none where it has no setting.
+fn settings_of(alloc: Global, timeline: &Option<Timeline>) -> Result<Vec<Held>, AllocError>
+    ensures { IfOk result (λ settings. map held_of settings.items ≡ settings_in timeline.now) }
+{
+    match timeline {
+        Some(timeline) => timeline.copy(alloc),
+        None => Ok(Vec::new(alloc)),
+    }
+}
+
+// Whether these are the settings of a block.
+fn are_settings(settings: &[Held], timeline: &Option<Timeline>) -> bool
+    ensures { IsTrue result ↔ (map held_of settings.now ≡ settings_in timeline.now) }
+{
+    match timeline {
+        Some(timeline) => timeline.is_same_as(settings),
+        None => settings.is_empty(),
+    }
+}
+
+// Whether two lists of settings are the same.
+fn same_settings(one: &[Held], other: &[Held]) -> bool
+    ensures { IsTrue result ↔ (map held_of one.now ≡ map held_of other.now) }
+{
+    if one.len() != other.len() {
+        return false;
+    }
+    for (place, held) in one.iter().enumerate() {
+        let other = &other[place];
+        if !held.is_same(other.at, &other.value) {
+            return false;
+        }
+    }
+    true
+}

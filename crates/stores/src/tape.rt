@@ -1,0 +1,137 @@
+//! The tapes of sources.
+
+ghost use Rattle.std.specs.Prelude.{◌≡◌, ◌+◌, ◌^◌, ◌<◌, ◌≤◌, ◌++◌, ◌↔◌, length, map, IsTrue, IfOk, OnOk, OnErr};
+ghost use Rattle.std.specs.Vec.{vec_len, vec_capacity};
+ghost use Rattle.items.specs.Items.{type_of, numbers_of};
+ghost use Rattle.stores.specs.Marks.{mark_of, stamped};
+ghost use Rattle.stores.specs.Tapes.{blank_tape, longer_tape};
+
+use items::{ItemType, Items, Mark, Tag};
+use recordings::{Recording, are_same};
+use std::alloc::{AllocError, Global};
+use std::marker::Model;
+
+/// What a source was fed: its items, and the tags on them, both in their order and in that of feeding.
+#[derive(Debug, Drop)]
+pub struct Tape {
+    recording: Recording,
+    // The same tags in the order of feeding, which the recording does not keep.
+    marks: Vec<Tag>,
+}
+
+impl Model for Tape {
+    ghost use Rattle.std.specs.Prelude.{map};
+    ghost use Rattle.items.specs.Tags.{tag_of};
+    ghost use Rattle.stores.specs.Tapes.{TapeState};
+
+    ghost Value = { TapeState };
+
+    ghost view = { λ t. record {
+      item = t.recording.item;
+      items = t.recording.items;
+      tags = t.recording.tags;
+      marks = map tag_of t.marks.items;
+    } };
+}
+
+impl Tape {
+    /// A tape without items. It takes no memory.
+    pub fn new(alloc: Global, item: ItemType) -> Tape
+        ensures { result ≡ blank_tape item }
+    {
+        Tape {
+            recording: Recording::new(alloc, item),
+            marks: Vec::new(alloc),
+        }
+    }
+
+    /// How many items it has.
+    pub fn len(&self) -> usize
+        ensures value { result ≡ length self.now.items }
+        ensures small { result < 2 ^ 63 }
+    {
+        self.recording.len()
+    }
+
+    /// Its items and its tags in order.
+    pub fn recording(&self) -> &Recording
+        ensures item { result.now.item ≡ self.now.item }
+        ensures items { result.now.items ≡ self.now.items }
+        ensures tags { result.now.tags ≡ self.now.tags }
+    {
+        &self.recording
+    }
+
+    /// Puts items at its end, with each mark as a tag of the source. An `Err` changes nothing.
+    pub fn feed(&mut self, source: u32, items: &Items, marks: &[Mark]) -> Result<(), AllocError>
+        requires { type_of items.now ≡ self.old.item }
+        ensures ok { OnOk result (self.new ≡ longer_tape self.old source (numbers_of items.now) (map mark_of marks.now)) }
+        ensures err { OnErr result (self.new ≡ self.old) }
+    {
+        self.recording.reserve(items.len(), marks.len())?;
+        self.marks.reserve(marks.len())?;
+        let before = self.marks.len();
+        push_stamped(&mut self.marks, source, marks);
+        self.recording.push(items, &self.marks[before..]);
+        Ok(())
+    }
+
+    /// The same tape in memory of its own. It fails only where the allocator refuses.
+    pub fn copy(&self, alloc: Global) -> Result<Tape, AllocError>
+        ensures { IfOk result (λ copy. copy ≡ self.now) }
+    {
+        Ok(Tape {
+            recording: self.recording.copy(alloc)?,
+            marks: Vec::from_slice(alloc, &self.marks)?,
+        })
+    }
+
+    /// Whether items and marks are the same. It looks at each once, and copies none.
+    pub fn is_same(&self, other: &Tape) -> bool
+        ensures { IsTrue result ↔ ((self.now.items ≡ other.now.items) × (self.now.marks ≡ other.now.marks)) }
+    {
+        same_numbers(self.recording.items(), other.recording.items())
+            && are_same(&self.marks, &other.marks)
+    }
+}
+
+impl Clone for Tape {
+    ghost is_clone = { λ tape copy. copy ≡ tape };
+
+    fn clone(&self) -> Result<Tape, AllocError> {
+        self.copy(*self.marks.allocator())
+    }
+}
+
+// Appends the tag that each mark becomes. It takes no memory.
+fn push_stamped(tags: &mut Vec<Tag>, source: u32, marks: &[Mark])
+    requires { vec_len tags.old + length marks.now ≤ vec_capacity tags.old }
+    ensures { tags.new.items ≡ tags.old.items ++ map (stamped source) marks.now }
+{
+    for mark in marks {
+        tags.push_reserved(Tag {
+            offset: mark.offset,
+            key: mark.key,
+            value: mark.value,
+            source,
+        });
+    }
+}
+
+// Whether the numbers are the same, whatever their types.
+fn same_numbers(one: &Items, other: &Items) -> bool
+    ensures { IsTrue result ↔ (numbers_of one.now ≡ numbers_of other.now) }
+{
+    if one.item_type() == other.item_type() {
+        return one == other;
+    }
+    if one.len() != other.len() {
+        return false;
+    }
+    for place in 0..one.len() {
+        if one.number(place) != other.number(place) {
+            return false;
+        }
+    }
+    true
+}
