@@ -36,7 +36,7 @@ IsFirstBad named item taps rate shift bad =
     ⊎ (((bad ≡ named) × (item ≢ types.Byte) × AreTaps taps × (¬ IsRate rate))
     ⊎ ((bad ≡ parameters.Shift) × (item ≢ types.Byte) × AreTaps taps × IsRate rate × (¬ IsShift shift))))
 
--- why no filter was made: the first bad parameter, or want of memory where none is bad
+-- why no filter was made: the first bad parameter, or out of memory where none is bad
 abbrev pub IsRefusal : Parameter → ItemType → List ℤ → ℕ → ℕ → ParamFault → Type 0
 IsRefusal named item taps rate shift (BadParameter bad) = IsFirstBad named item taps rate shift bad
 IsRefusal named item taps rate shift Memory = AreParameters item taps rate shift

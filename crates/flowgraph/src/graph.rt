@@ -69,7 +69,7 @@ impl<B: Block> Graph<B> {
     }
 
     /// Adds a block, and answers its number. Refused are, in this order, a name that is none, a multiple and a capacity out of range, a name
-    /// that a block has, and a block beyond 256; then want of memory. A block that is refused is dropped.
+    /// that a block has, and a block beyond 256; then out of memory. A block that is refused is dropped.
     pub fn add_block(
         &mut self,
         alloc: Global,
@@ -117,7 +117,7 @@ impl<B: Block> Graph<B> {
     }
 
     /// Connects an output port to an input port. Refused are, in this order, a block that is not there, a port out of range (the output
-    /// first), an input that has a connection, ports of two types, and a connection beyond 1,024; then want of memory.
+    /// first), an input that has a connection, ports of two types, and a connection beyond 1,024; then out of memory.
     pub fn connect(
         &mut self,
         from: BlockId,

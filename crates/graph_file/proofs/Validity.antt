@@ -95,7 +95,7 @@ module _ (net : Network) where
   is_memory (OneToOne b) h = absurd (h (λ e. cc))
   is_memory (Gain b) h = absurd (h (λ e. cc))
 
-  -- what names no block is want of memory
+  -- a fault that names no block says that memory ran out
   pub only_memory : (fault : GraphFault) → (fault ≢ Memory → told Blocks (graph_fault net) ≡ Some fault) → named_block fault ≡ None → fault ≡ Memory
   only_memory fault is_told none = is_memory fault (λ other. let b = told-inside (graph_fault net) fault refl (is_told other) in let bad = sym none ∙ b.1.0 in cc)
 

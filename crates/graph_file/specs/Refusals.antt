@@ -32,7 +32,7 @@ abbrev pub end_text : EndName → List ℕ
 end_text (ends.Short name) = name.bytes
 end_text (ends.Long name) = string_bytes name
 
--- the refusal that a fault reports; none for want of memory
+-- the refusal that a fault reports; none where memory ran out
 abbrev pub told : FileFault → Option Refusal
 told file.Syntax = Some syntax
 told (file.Table place fault) = Some (at_table place fault)
@@ -46,11 +46,11 @@ abbrev pub IsTold : {A : Type 0} → Result A Refusal → Option Refusal → Typ
 IsTold r None = Unit {0}
 IsTold r (Some refusal) = r ≡ Err refusal
 
--- the fault reports the refusal, or want of memory
+-- the fault reports the refusal, or out of memory
 abbrev pub IsRefused : {A : Type 0} → Result A Refusal → FileFault → Type 0
 IsRefused r fault = IsTold r (told fault)
 
--- what is told of a fault of a table, and of a refusal of a feed; nothing for want of memory
+-- what is told of a fault of a table, and of a refusal of a feed; nothing where memory ran out
 abbrev pub told_table : Place → KeyFault → Option Refusal
 told_table place key.UnknownKey = Some (at_table place key.UnknownKey)
 told_table place (key.MissingKey k) = Some (at_table place (key.MissingKey k))

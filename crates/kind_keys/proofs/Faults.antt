@@ -1,4 +1,4 @@
--- What is wrong with the keys of a table is never want of memory.
+-- What is wrong with the keys of a table is never told as out of memory.
 use Rattle.std.proofs.Common.{◌≡◌, ◌≢◌, Bool, true, false, List, [], ◌∷◌, Option, Some, None, Result, Ok, Err, ap, sym, if◌then◌else◌}
 use Rattle.toml.specs.Data.{Data, Members}
 use Rattle.kind_keys.specs.declared.key.Key.{Key}

@@ -1,4 +1,4 @@
--- What a step of a block that there is may answer: it is refused by want of memory alone.
+-- What a step of a block that there is may answer: it is refused only where memory runs out.
 use Rattle.std.proofs.Common.{◌≡◌, ℕ, ◌<◌, ◌==◌, Bool, true, false, cond, length, refl, sym, subst, lt-ltb}
 use Rattle.stream_model.specs.Network.{Network, State, node_at}
 use Rattle.stream_model.specs.Claims.{Decision, IsDone, IsBusy, Ends, Fires, LacksItems, LacksRoom, decide}
