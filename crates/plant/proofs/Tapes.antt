@@ -12,4 +12,4 @@ tape_at view own b a tape is within counts =
     let within' : b < length (map view own) = omega (arith, within, length-map (map view own) tape_of) in
     let inside : b < length own = omega (arith, within', length-map own view) in
     slice_get_read (map tape_of (map view own)) (length (map tape_of (map view own))) b tape refl within (
-      counts ∙ ap (λ x. tape_of (view x)) is ∙ ap tape_of (sym (get_or-map view own b a (view a) inside)) ∙ sym (get_or-map tape_of (map view own) b (view a) tape within'))
+    counts ∙ ap (λ x. tape_of (view x)) is ∙ ap tape_of (sym (get_or-map view own b a (view a) inside)) ∙ sym (get_or-map tape_of (map view own) b (view a) tape within'))

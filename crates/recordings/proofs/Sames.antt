@@ -17,7 +17,6 @@ one_tag a b =
 
 -- a tag of the model as the code has it
 abbrev stored : model.Tag → Tag
-
 stored t = record { offset = t.offset; key = t.key; value = t.value; source = t.source }
 
 stored_again : (ts : List Tag) → map stored (map tag_of ts) ≡ ts
