@@ -20,7 +20,8 @@ wrong() {
     exit 1
 }
 
-# ends NAME STATUS OUTPUT ERRORS WORD..: with these words, and the file cases/NAME as standard input, the program ends so
+# ends NAME STATUS OUTPUT ERRORS WORD..: with these words, and the file cases/NAME as standard input, the program ends so; a plain run does so on one thread,
+# too
 ends() {
     local name=$1
     [[ ! -v status_of[$name] ]] || wrong "two cases are called $name"
@@ -30,6 +31,9 @@ ends() {
     touch "$room/cases/$name"
     if (($# > 4)); then
         printf '%s\n' "${@:5}" >"$room/cases/$name.args"
+    fi
+    if [[ ${5-} == run && ${6-} == *.toml && $# == 6 ]]; then
+        ends "$name.alone" "${@:2:3}" run --one-thread "$6"
     fi
 }
 

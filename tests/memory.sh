@@ -1,5 +1,5 @@
 #!/usr/bin/env bash
-# Calls of a plant, and `check`, `run` and `script` of graph files, of which one growth is refused: the first of all, then the second, and so on until
+# Calls of a plant, and `check`, `run` (in threads and alone) and `script` of graph files, of which one growth is refused: the first of all, then the second, and so on until
 # none is. The program of tests/memory ends with status 0 each time.
 set -euo pipefail
 # shellcheck source=tests/apart.sh
@@ -7,9 +7,9 @@ source "$(dirname -- "$(readlink -f -- "${BASH_SOURCE[0]}")")/apart.sh"
 
 # The allocation that is refused. The program makes so many others before its own that each of its own comes to be this one.
 refused=260
-# Of each task, a few more than the allocations that it makes, and how many of the first are left out: `check` reads and tests the file as the others do.
-declare -A most=([calls]=165 [check]=172 [run]=226 [script]=232)
-declare -A left_out=([calls]=0 [check]=0 [run]=130 [script]=130)
+# Of each task, a few more than the allocations that it makes (in threads the schedule changes their number), and how many of the first are left out: `check` reads and tests the file as the others do.
+declare -A most=([calls]=165 [check]=172 [run]=254 [alone]=226 [script]=232)
+declare -A left_out=([calls]=0 [check]=0 [run]=130 [alone]=130 [script]=130)
 
 put_apart memory flow
 mkdir "$room/cases"

@@ -38,6 +38,6 @@ run_bench() {
     echo "$1 wrote what its file stdout has"
 }
 
-run_tests 57 leaves kernels blocks flowgraphs plants graph_files streams terminal
+run_tests 81 leaves kernels blocks flowgraphs plants threads graph_files streams terminal
 run_bench kernel_bench
 run_bench graph_bench

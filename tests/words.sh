@@ -26,7 +26,7 @@ help_text() {
 declare -A help_of=(
     [check]=$(help_text "Reads the graph and tells of it" "check <FILE>" "  -h, --help  Print help")
     [run]=$(help_text "Runs the graph and tells what its sinks hold" "run [OPTIONS] <FILE>" \
-        "  -q, --quiet  Shows no progress on a terminal" "  -h, --help   Print help")
+        "  -q, --quiet       Shows no progress on a terminal" "      --one-thread  Runs all blocks on one thread" "  -h, --help        Print help")
     [script]=$(help_text "Runs the commands of standard input on the graph" "script <FILE>" "  -h, --help  Print help")
 )
 
@@ -53,6 +53,9 @@ ends short_call_for_the_version 2 '' "flow 0.1.0" -V
 ends quiet_run 0 'sink out 0\ndone\n' '' run --quiet plain.toml
 ends quiet_run_by_a_letter 0 'sink out 0\ndone\n' '' run -q plain.toml
 ends quiet_behind_the_file 0 'sink out 0\ndone\n' '' run plain.toml --quiet
+ends quiet_on_one_thread 0 'sink out 0\ndone\n' '' run --one-thread -q plain.toml
+ends one_thread_twice 2 '' - run --one-thread --one-thread plain.toml
+ends one_thread_for_a_check 2 '' - check --one-thread plain.toml
 ends quiet_twice 2 '' - run -q --quiet plain.toml
 ends quiet_check 2 '' - check --quiet plain.toml
 ends quiet_script 2 '' - script -q plain.toml

@@ -1,3 +1,4 @@
+mod Agreeing
 pub mod Flows
 pub mod Flying
 pub mod Sessions

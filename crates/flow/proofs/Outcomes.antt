@@ -4,6 +4,8 @@ use Rattle.std.specs.Prelude.{Option, Result, Ok, Err, IfOk, IfErr, if◌then◌
 use Rattle.std.specs.Io.KnownBytes.{Appends}
 use Rattle.stream_model.specs.Network.{Network, State}
 use Rattle.stream_model.specs.Machine.{Capacities, is_all_done, IsWhole}
+use Rattle.graph_model.specs.Rates.{balance_of, capacities_of}
+use Rattle.machine_laws.specs.Sound.{Sound}
 use Rattle.flowgraph.specs.Flowgraph.{net_of}
 use Rattle.kinds.specs.declared.kind.Kind.{Kind}
 use Rattle.kinds.specs.Kind.{meaning_of}
@@ -13,13 +15,16 @@ use Rattle.plant.specs.declared.answers.Settled.{Settled}
 use Rattle.plant.specs.declared.answers.Settled.TheVariants.{Done, Quiet}
 use Rattle.graph_file.specs.Refusals.{Refusal}
 use Rattle.graph_file.specs.Blocks.{drafted}
-use Rattle.graph_file.specs.Opening.{opened_of}
+use Rattle.graph_file.specs.Opening.{Opened, opened_of}
+use Rattle.threads.specs.Outcomes.{CameBack, handed_of}
+use Rattle.top_block.specs.Closing.{with_all_closed}
+use Rattle.flow.proofs.Agreeing.{same_names}
 use Rattle.script_text.specs.Ends.{AppendsBeginning}
 use Rattle.flow.specs.Session.{in_state}
 use Rattle.flow.specs.Reports.{run_text}
-use Rattle.flow.specs.Serve.{Refuses, Writes, WritesNot, IsAtRest, IsRun, plant_in, closed, turn, reads_in, writes_failed}
+use Rattle.flow.specs.Serve.{Fails, Refuses, RunsNot, Writes, WritesNot, IsAtRest, IsRun, IsRunAlone, plant_in, turn, reads_in, writes_failed}
 use Rattle.flow.specs.declared.fault.Fault.{Fault}
-use Rattle.flow.specs.declared.fault.Fault.TheVariants.{File, Script}
+use Rattle.flow.specs.declared.fault.Fault.TheVariants.{File, Script, Run}
 use Rattle.flow.specs.declared.script.ScriptFault.TheVariants.{BadLine, Read, Write, Memory}
 
 -- what holds of a result by what held of it before
@@ -57,6 +62,19 @@ module _ {A : Type 0} (IsDone : List ℕ → ℕ → Type 0) (r : Result A Refus
   refused_not out (Script Read) h = h
   refused_not out (Script Write) h = absurd h
   refused_not out (Script Memory) h = refl
+  refused_not out (Run fault) h = absurd h
+
+  pub failed_not : (out : Option (List ℕ)) (fault : Fault) → Fails r fault → RunsNot IsDone r out out fault
+  failed_not out (Run fault) h = refl
+  failed_not out (File fault) h = refused_not out (File fault) h
+  failed_not out (Script fault) h = refused_not out (Script fault) h
+
+  -- the same where a run may have failed
+  pub ran_not : (out out' : Option (List ℕ)) (result : Result ℕ Fault) → IfErr result (WritesNot IsDone r out out') → IfErr result (RunsNot IsDone r out out')
+  ran_not out out' (Ok s) h = tt
+  ran_not out out' (Err (File fault)) h = h
+  ran_not out out' (Err (Script fault)) h = h
+  ran_not out out' (Err (Run fault)) h = absurd h
 
   pub refused_writes : (fault : Fault) → Refuses r fault → writes_failed fault ≡ 0
   refused_writes (File fault) h = refl
@@ -64,6 +82,12 @@ module _ {A : Type 0} (IsDone : List ℕ → ℕ → Type 0) (r : Result A Refus
   refused_writes (Script Read) h = refl
   refused_writes (Script Write) h = absurd h
   refused_writes (Script Memory) h = refl
+  refused_writes (Run fault) h = absurd h
+
+  pub failed_writes : (fault : Fault) → Fails r fault → writes_failed fault ≡ 0
+  failed_writes (File fault) h = refl
+  failed_writes (Script fault) h = refused_writes (Script fault) h
+  failed_writes (Run fault) h = refl
 
   -- and nothing was read
   pub no_reads : (out out' : Option (List ℕ)) (result : Result ℕ Fault) → IfErr result (WritesNot IsDone r out out') → reads_in result ≡ 0
@@ -73,6 +97,13 @@ module _ {A : Type 0} (IsDone : List ℕ → ℕ → Type 0) (r : Result A Refus
   no_reads out out' (Err (Script Read)) h = absurd h
   no_reads out out' (Err (Script Write)) h = refl
   no_reads out out' (Err (Script Memory)) h = refl
+  no_reads out out' (Err (Run fault)) h = absurd h
+
+  pub no_reads_of_run : (out out' : Option (List ℕ)) (result : Result ℕ Fault) → IfErr result (RunsNot IsDone r out out') → reads_in result ≡ 0
+  no_reads_of_run out out' (Ok s) h = refl
+  no_reads_of_run out out' (Err (File fault)) h = refl
+  no_reads_of_run out out' (Err (Script fault)) h = no_reads out out' (Err (Script fault)) h
+  no_reads_of_run out out' (Err (Run fault)) h = refl
 
 -- a network that settled is at rest
 pub at_rest : (net : Network) (caps : Capacities) (st : State) (settled : Settled) → HasSettled net caps st settled → (is_all_done st ≡ true → IsWhole net st) → IsAtRest net caps st
@@ -81,9 +112,9 @@ at_rest net caps st Quiet h whole = record { whole = whole; quiet = λ _. h.1 }
 
 module _ (file text : List ℕ) (p q r : PlantState Kind) where
   -- a plant whose sources were closed, and which then settled
-  pub ran : (settled : Settled) (done : Bool) (status : ℕ) → plant_in file ≡ Ok (opened_of p) → q ≡ in_state p (closed (net_of meaning_of p.graph) p.state) → r ≡ in_state q r.state →
+  pub ran : (settled : Settled) (done : Bool) (status : ℕ) → plant_in file ≡ Ok (opened_of p) → q ≡ with_all_closed meaning_of p → r ≡ in_state q r.state →
       StepsLead (net_of meaning_of q.graph) q.capacities turn q.state r.state → HasSettled (net_of meaning_of r.graph) r.capacities r.state settled →
-      done ≡ is_all_done r.state → (done ≡ true → IsWhole (net_of meaning_of r.graph) r.state) → text ≡ run_text (drafted r.graph) r.state → status ≡ (if done then 0 else 3) → IsRun file text status
+      done ≡ is_all_done r.state → (done ≡ true → IsWhole (net_of meaning_of r.graph) r.state) → text ≡ run_text (drafted r.graph) r.state → status ≡ (if done then 0 else 3) → IsRunAlone file text status
   ran settled done status opens closes same steps rests all whole tells well =
       let of : r ≡ in_state p r.state = same ∙ ap (λ (x : PlantState Kind). in_state x r.state) closes in
       record {
@@ -94,5 +125,33 @@ module _ (file text : List ℕ) (p q r : PlantState Kind) where
         rests = subst (λ (x : PlantState Kind). IsAtRest (net_of meaning_of x.graph) x.capacities r.state) of
             (at_rest (net_of meaning_of r.graph) r.capacities r.state settled rests (λ e. whole (all ∙ e)));
         told = tells ∙ ap (λ (x : PlantState Kind). run_text (drafted x.graph) r.state) of;
+        well = well ∙ ap (λ (b : Bool). if b then 0 else 3) all;
+      }
+
+-- a plant that ran in threads and came back is the one that was opened, elsewhere
+module _ (file text : List ℕ) (p r : PlantState Kind) (eq : Kind → Kind → Bool) (back : CameBack meaning_of eq (handed_of (with_all_closed meaning_of p)) r) where
+  same_graph : drafted r.graph ≡ drafted p.graph
+  same_graph = let names = same_names eq r.graph p.graph back.graph in let net = back.net in λ i. record { names = names i; net = net i }
+
+  same_plant : p.capacities ≡ capacities_of (net_of meaning_of p.graph) (balance_of (net_of meaning_of p.graph)) → opened_of r ≡ record (opened_of p) { state = r.state }
+  same_plant fit =
+      let capacities : r.capacities ≡ p.capacities = back.capacities ∙ ap (λ n. capacities_of n (balance_of n)) back.net ∙ sym fit in
+      let graph = same_graph in
+      λ i. record { draft = graph i; capacities = capacities i; state = r.state }
+
+  pub ran_in_threads : (settled : Settled) (done : Bool) (status : ℕ) → plant_in file ≡ Ok (opened_of p) →
+      p.capacities ≡ capacities_of (net_of meaning_of p.graph) (balance_of (net_of meaning_of p.graph)) → Sound (net_of meaning_of r.graph) r.capacities r.state →
+      HasSettled (net_of meaning_of r.graph) r.capacities r.state settled → done ≡ is_all_done r.state → (done ≡ true → IsWhole (net_of meaning_of r.graph) r.state) →
+      text ≡ run_text (drafted r.graph) r.state → status ≡ (if done then 0 else 3) → IsRun file text status
+  ran_in_threads settled done status opens fit sound rests all whole tells well =
+      let same = same_plant fit in
+      record {
+        plant = opened_of p;
+        opens = opens;
+        last = r.state;
+        handed = back.handed;
+        sound = subst (λ (x : Opened). Sound x.draft.net x.capacities x.state) same sound;
+        rests = subst (λ (x : Opened). IsAtRest x.draft.net x.capacities x.state) same (at_rest (net_of meaning_of r.graph) r.capacities r.state settled rests (λ e. whole (all ∙ e)));
+        told = tells ∙ ap (λ d. run_text d r.state) same_graph;
         well = well ∙ ap (λ (b : Bool). if b then 0 else 3) all;
       }

@@ -1,4 +1,4 @@
--- From a graph file to a plant whose sources are closed.
+-- From a graph file to its plant.
 use Rattle.std.proofs.Common.{◌≡◌, ℕ, zero, suc, ◌+◌, List, [], ◌∷◌, ◌++◌, length, length-append, take, arith, map, Some, None, Bool, true, refl, ap, sym, ◌∙◌, subst, add-one, not, inl, inr, ℤ}
 use Rattle.std.specs.Prelude.{Option, Result, Ok, Err, nat_lt, ◌&&◌, position, bytes_eq, ◌==◌, OnOk, OnErr, is_ok, if◌then◌else◌}
 use Rattle.std.specs.List.{list_all}
@@ -27,7 +27,8 @@ use Rattle.graph_file.specs.File.{Content, file_of}
 use Rattle.graph_file.specs.Opening.{Opened, opened, opened_in, validated, feed_now, feed_found, after_feed, after_feeds, mark_of}
 use Rattle.script_text.specs.Ends.{AppendsBeginning}
 use Rattle.script_text.specs.declared.ends.Broken.{Broken}
-use Rattle.flow.specs.Serve.{Tries, content_in, closed_below, closed}
+use Rattle.top_block.proofs.Idles.{feed-progress, idle-same, opening-idle}
+use Rattle.flow.specs.Serve.{Tries, content_in}
 
 -- what is read of a text
 pub content_ok : (text : List ℕ) (c : Content) → IsUtf8 text → file_of (parse_document text) ≡ Ok c → content_in text ≡ Ok c
@@ -61,42 +62,16 @@ both_ok : {A B : Type 0} (r : Result A Refusal) (next : A → Result B Refusal) 
 both_ok (Ok a) next b e = (a, e, refl)
 both_ok (Err refusal) next b e = cc
 
--- feeds and closes leave how far the blocks are
+-- feeds leave how far the blocks are
 module _ (net : Network) (st : State) where
-  close-progress : (b : ℕ) → (close_of net st b).1.progress ≡ st.progress
-  unfolding close_of
-  close-progress b =
-      if_both (not (nat_lt b (length net.nodes))) _ _ (λ (r : Reply × State). r.1.progress ≡ st.progress) (λ _. refl)
-      (λ _. if_both (not (is_source (role_at net b))) _ _ (λ (r : Reply × State). r.1.progress ≡ st.progress) (λ _. refl)
-      (λ _. if_both (handed_at st.handed b).closed _ _ (λ (r : Reply × State). r.1.progress ≡ st.progress) (λ _. refl) (λ _. refl)))
-
-  feed-progress : (b : ℕ) (t : ItemType) (xs : List ℤ) (ms : List Mark) → (feed_of net st b t xs ms).1.progress ≡ st.progress
-  unfolding feed_of
-  feed-progress b t xs ms =
-      let s = handed_at st.handed b in
-      if_both (not (nat_lt b (length net.nodes))) _ _ (λ (r : Reply × State). r.1.progress ≡ st.progress) (λ _. refl)
-      (λ _. if_both (not (is_source (role_at net b))) _ _ (λ (r : Reply × State). r.1.progress ≡ st.progress) (λ _. refl)
-      (λ _. if_both (not (types_agree t (node_at net b).meaning.outputs.item)) _ _ (λ (r : Reply × State). r.1.progress ≡ st.progress) (λ _. refl)
-      (λ _. if_both s.closed _ _ (λ (r : Reply × State). r.1.progress ≡ st.progress) (λ _. refl)
-      (λ _. if_both (not (marks_fit s.tape xs ms)) _ _ (λ (r : Reply × State). r.1.progress ≡ st.progress) (λ _. refl)
-      (λ _. if_both (nat_lt longest_tape (length s.tape + length xs)) _ _ (λ (r : Reply × State). r.1.progress ≡ st.progress) (λ _. refl) (λ _. refl))))))
-
   numbers-progress : (b : ℕ) (xs : List ℤ) (ms : List Mark) → (feed_numbers net st b xs ms).1.progress ≡ st.progress
   numbers-progress b xs ms =
       if_both (nat_lt b (length net.nodes) && (is_source (role_at net b) && not (are_items (given_type net b) xs))) _ _ (λ (r : Reply × State). r.1.progress ≡ st.progress) (λ _. refl)
-      (λ _. feed-progress b (given_type net b) xs ms)
+      (λ _. feed-progress net st b (given_type net b) xs ms)
 
   found-progress : (feed : Fed) (o : Option ℕ) → (feed_found net st feed o).1.progress ≡ st.progress
   found-progress feed None = refl
   found-progress feed (Some b) = numbers-progress b feed.items (map mark_of feed.marks)
-
-pub closed-progress : (net : Network) (st : State) (n : ℕ) → (closed_below net st n).progress ≡ st.progress
-closed-progress net st zero = refl
-closed-progress net st (suc n) = close-progress net (closed_below net st n) n ∙ closed-progress net st n
-
--- one source more
-pub closed-more : (net : Network) (st : State) (n : ℕ) → closed_below net st (n + 1) ≡ (close_of net (closed_below net st n) n).1
-closed-more net st n = ap (closed_below net st) (add-one n)
 
 after_is : (n : ℕ) (reply : Reply) (st next : State) → after_feed n (reply, st) ≡ Ok next → next ≡ st
 after_is n (machine.Refused code) st next e = cc
@@ -110,13 +85,6 @@ feeds-progress d n st last (feed ∷ feeds) e =
     let is : both.0 ≡ now.1 = after_is n now.0 now.1 both.0 both.2 in
     feeds-progress d (suc n) both.0 last feeds both.1 ∙ ap (λ (s : State). s.progress) is ∙ found-progress d.net st feed (position (bytes_eq feed.source) d.names)
 
-none_claimed : (nodes : List Node) → list_all (λ (s : Progress). s.claimed == 0) (map (λ _. no_progress) nodes) ≡ true
-none_claimed [] = refl
-none_claimed (n ∷ nodes) = none_claimed nodes
-
-pub idle-same : (old new : State) → new.progress ≡ old.progress → is_idle old ≡ true → is_idle new ≡ true
-idle-same old new e h = ap (list_all (λ (s : Progress). s.claimed == 0)) e ∙ h
-
 -- nothing is claimed of a plant that opens
 pub opened-idle : (c : Content) (p : Opened) → opened c ≡ Ok p → is_idle p.state ≡ true
 opened-idle c p e =
@@ -124,13 +92,10 @@ opened-idle c p e =
     let fed = both_ok (after_feeds both.0 0 (opening both.0.net) c.feeds) (λ st. Ok (opened_in both.0 st)) p both.1 in
     let is : opened_in both.0 fed.0 ≡ p = cc in
     let state : p.state ≡ fed.0 = ap (λ (o : Opened). o.state) (sym is) in
-    idle-same (opening both.0.net) p.state (ap (λ (s : State). s.progress) state ∙ feeds-progress both.0 0 (opening both.0.net) fed.0 c.feeds fed.2) (none_claimed both.0.net.nodes)
+    idle-same (opening both.0.net) p.state (ap (λ (s : State). s.progress) state ∙ feeds-progress both.0 0 (opening both.0.net) fed.0 c.feeds fed.2) (opening-idle both.0.net)
 
 pub plant-idle : (r : Result Content Refusal) (p : Opened) → (then) r opened ≡ Ok p → is_idle p.state ≡ true
 plant-idle r p e = let both = both_ok r opened p e in opened-idle both.0 p both.1
-
-pub closed-idle : (net : Network) (st : State) → is_idle st ≡ true → is_idle (closed net st) ≡ true
-closed-idle net st h = idle-same st (closed net st) (closed-progress net st (length net.nodes)) h
 
 -- a write does all of a line, or a beginning of it
 pub tries : (out out' : Option (List ℕ)) (failed failed' : ℕ) (result : Result (Unit {0}) Broken) (line : List ℕ) → OnOk result (Appends out out' line) → OnErr result (AppendsBeginning out out' line) →

@@ -6,9 +6,10 @@ use Rattle.graph_file.specs.Refusals.{number_of}
 use Rattle.graph_file.specs.Texts as files
 use Rattle.script_text.specs.Replies.{line_text}
 use Rattle.flow.specs.declared.fault.Fault.{Fault}
-use Rattle.flow.specs.declared.fault.Fault.TheVariants.{File, Script}
+use Rattle.flow.specs.declared.fault.Fault.TheVariants.{File, Script, Run}
 use Rattle.flow.specs.declared.script.ScriptFault.{ScriptFault}
 use Rattle.flow.specs.declared.script.ScriptFault.TheVariants as script
+use Rattle.flow.specs.Threads.{thread_fault_text}
 
 -- number, name and detail of a script's fault
 abbrev pub script_fault_text : ScriptFault → List ℕ
@@ -21,6 +22,7 @@ script_fault_text script.Memory = codes "32 Memory"
 abbrev pub fault_text : Fault → List ℕ
 fault_text (File fault) = files.fault_text fault
 fault_text (Script fault) = script_fault_text fault
+fault_text (Run fault) = thread_fault_text fault
 
 -- the line that tells a fault, and the one where there is no memory for its text
 abbrev pub fault_line : Fault → List ℕ
@@ -33,7 +35,7 @@ no_memory_line = line_text (codes "flow: refused 32 Memory")
 abbrev pub memory_number : ℕ
 memory_number = 32
 
--- the exit status that a fault brings: 4 for memory and devices, 1 for a file and for a line
+-- the exit status that a fault brings: 4 for memory, devices and threads, 1 for a file and for a line
 abbrev pub status_of_file : FileFault → ℕ
 status_of_file fault = if number_of fault == memory_number then 4 else 1
 
@@ -43,3 +45,4 @@ status_of (Script (script.BadLine n)) = 1
 status_of (Script script.Read) = 4
 status_of (Script script.Write) = 4
 status_of (Script script.Memory) = 4
+status_of (Run fault) = 4

@@ -4,3 +4,4 @@ pub mod Faults
 pub mod Reports
 pub mod Serve
 pub mod Starts
+pub mod Threads

@@ -4,7 +4,8 @@ use Rattle.std.specs.Str.{is_utf8}
 use Rattle.std.specs.Io.KnownBytes.{Appends}
 use Rattle.toml.specs.Parse.{parse_document}
 use Rattle.stream_model.specs.Network.{Network, State}
-use Rattle.stream_model.specs.Machine.{Capacities, close_of, is_all_done, is_quiet, IsWhole}
+use Rattle.stream_model.specs.Machine.{Capacities, is_all_done, is_quiet, IsWhole}
+use Rattle.machine_laws.specs.Sound.{Sound}
 use Rattle.kinds.specs.declared.kind.Kind.{Kind}
 use Rattle.kinds.specs.Kind.{meaning_of}
 use Rattle.plant.specs.Plant.{PlantState}
@@ -15,12 +16,13 @@ use Rattle.graph_file.specs.Blocks.{Draft}
 use Rattle.graph_file.specs.File.{Content, file_of}
 use Rattle.graph_file.specs.Opening.{Opened, opened, opened_of, validated}
 use Rattle.script_text.specs.Ends.{AppendsBeginning}
+use Rattle.top_block.specs.Closing.{closed}
 use Rattle.flow.specs.Session.{graph_of, standing_of, none_kept}
 use Rattle.flow.specs.Script.{EndsIn, Breaks, failed_reads, failed_writes}
 use Rattle.flow.specs.Faults.{fault_line, no_memory_line, status_of}
 use Rattle.flow.specs.Reports.{check_text, run_text}
 use Rattle.flow.specs.declared.fault.Fault.{Fault}
-use Rattle.flow.specs.declared.fault.Fault.TheVariants.{File, Script}
+use Rattle.flow.specs.declared.fault.Fault.TheVariants.{File, Script, Run}
 use Rattle.flow.specs.declared.script.ScriptFault.TheVariants.{BadLine, Read, Write, Memory}
 use Rattle.flow.specs.declared.serve.Command.{Command}
 use Rattle.flow.specs.declared.serve.Command.TheVariants as command
@@ -44,14 +46,6 @@ graph_in text = (then) (content_in text) (λ c. validated c.graph)
 abbrev pub plant_in : List ℕ → Result Opened Refusal
 plant_in text = (then) (content_in text) opened
 
--- the tapes of the sources below n are closed, one after the other, and those of all sources
-abbrev pub closed_below : Network → State → ℕ → State
-closed_below net st zero = st
-closed_below net st (suc n) = (close_of net (closed_below net st n) n).1
-
-abbrev pub closed : Network → State → State
-closed net st = closed_below net st (length net.nodes)
-
 -- a file is refused, or memory ran out
 abbrev pub Refuses : {A : Type 0} → Result A Refusal → Fault → Type 0
 Refuses r (File fault) = IsRefused r fault
@@ -59,6 +53,13 @@ Refuses r (Script (BadLine n)) = ⊥
 Refuses r (Script Read) = ⊥
 Refuses r (Script Write) = ⊥
 Refuses r (Script Memory) = Unit {0}
+Refuses r (Run fault) = ⊥
+
+-- the same, or a run of it in threads came to no end
+abbrev pub Fails : {A : Type 0} → Result A Refusal → Fault → Type 0
+Fails r (Run fault) = Unit {0}
+Fails r (File fault) = Refuses r (File fault)
+Fails r (Script fault) = Refuses r (Script fault)
 
 -- a check of a file: what is told of its graph
 pub record IsCheck (file text : List ℕ) (status : ℕ) : Type 0 where
@@ -76,8 +77,20 @@ pub record IsAtRest (net : Network) (caps : Capacities) (st : State) : Type 0 wh
 abbrev pub turn : ℕ
 turn = 1024
 
--- a run of a file: its plant with all sources closed went on, block by block, until it came to rest, and what is told of it then
+-- a run of a file in threads: its plant with all sources closed came to rest, with what it was handed, and what is told of it then. Which block fired
+-- when is nowhere said
 pub record IsRun (file text : List ℕ) (status : ℕ) : Type 0 where
+  pub plant : Opened
+  pub opens : plant_in file ≡ Ok plant
+  pub last : State
+  pub handed : last.handed ≡ (closed plant.draft.net plant.state).handed
+  pub sound : Sound plant.draft.net plant.capacities last
+  pub rests : IsAtRest plant.draft.net plant.capacities last
+  pub told : text ≡ run_text plant.draft last
+  pub well : status ≡ (if is_all_done last then 0 else 3)
+
+-- a run of a file on one thread: its plant with all sources closed went on, block by block, until it came to rest, and what is told of it then
+pub record IsRunAlone (file text : List ℕ) (status : ℕ) : Type 0 where
   pub plant : Opened
   pub opens : plant_in file ≡ Ok plant
   pub last : State
@@ -97,6 +110,13 @@ WritesNot IsDone r out out' (Script (BadLine n)) = ⊥
 WritesNot IsDone r out out' (Script Read) = ⊥
 WritesNot IsDone r out out' (Script Write) = (text : List ℕ) × (status : ℕ) × IsDone text status × AppendsBeginning out out' text
 WritesNot IsDone r out out' (Script Memory) = out' ≡ out
+WritesNot IsDone r out out' (Run fault) = ⊥
+
+-- the same, or a run in threads came to no end
+abbrev pub RunsNot : {A : Type 0} → (List ℕ → ℕ → Type 0) → Result A Refusal → Option (List ℕ) → Option (List ℕ) → Fault → Type 0
+RunsNot IsDone r out out' (Run fault) = out' ≡ out
+RunsNot IsDone r out out' (File fault) = WritesNot IsDone r out out' (File fault)
+RunsNot IsDone r out out' (Script fault) = WritesNot IsDone r out out' (Script fault)
 
 -- a script ran on the plant of a file to the end of its input
 pub record IsScript (file : List ℕ) (input input' out out' : Option (List ℕ)) : Type 0 where
@@ -111,26 +131,31 @@ StopsScript file input input' out out' (File fault) = IsRefused (plant_in file) 
 StopsScript file input input' out out' (Script fault) =
     (plant : PlantState Kind) × (plant_in file ≡ Ok (opened_of plant))
     × Breaks (graph_of meaning_of plant) (standing_of plant (none_kept plant)) input input' out out' fault
+StopsScript file input input' out out' (Run fault) = ⊥
 
 -- a command was done, with a status; only a script reads its input
 abbrev pub Does : Command → List ℕ → Option (List ℕ) → Option (List ℕ) → Option (List ℕ) → Option (List ℕ) → ℕ → Type 0
 Does command.Check file input input' out out' status = (input' ≡ input) × Writes (IsCheck file) out out' status
 Does command.Run file input input' out out' status = (input' ≡ input) × Writes (IsRun file) out out' status
+Does command.RunAlone file input input' out out' status = (input' ≡ input) × Writes (IsRunAlone file) out out' status
 Does command.Script file input input' out out' status = IsScript file input input' out out' × (status ≡ 0)
 
 -- a command was not done, for a fault
 abbrev pub DoesNot : Command → List ℕ → Option (List ℕ) → Option (List ℕ) → Option (List ℕ) → Option (List ℕ) → Fault → Type 0
 DoesNot command.Check file input input' out out' fault = (input' ≡ input) × WritesNot (IsCheck file) (graph_in file) out out' fault
-DoesNot command.Run file input input' out out' fault = (input' ≡ input) × WritesNot (IsRun file) (plant_in file) out out' fault
+DoesNot command.Run file input input' out out' fault = (input' ≡ input) × RunsNot (IsRun file) (plant_in file) out out' fault
+DoesNot command.RunAlone file input input' out out' fault = (input' ≡ input) × WritesNot (IsRunAlone file) (plant_in file) out out' fault
 DoesNot command.Script file input input' out out' fault = StopsScript file input input' out out' fault
 
 -- how many reads failed by a fault, and how many writes
 abbrev pub reads_failed : Fault → ℕ
 reads_failed (File fault) = 0
+reads_failed (Run fault) = 0
 reads_failed (Script fault) = failed_reads {X = Unit {0}} (Err fault)
 
 abbrev pub writes_failed : Fault → ℕ
 writes_failed (File fault) = 0
+writes_failed (Run fault) = 0
 writes_failed (Script fault) = failed_writes {X = Unit {0}} (Err fault)
 
 -- the same of a result
@@ -149,6 +174,7 @@ Tries old new line = (Appends old.bytes new.bytes line × (new.failed ≡ old.fa
 -- the fault is told by one line. Where it is one of the file, and there is no memory for its text, that is told in its place
 abbrev pub Tells : Stream → Stream → Fault → Type 0
 Tells old new (Script fault) = Tries old new (fault_line (Script fault))
+Tells old new (Run fault) = Tries old new (fault_line (Run fault))
 Tells old new (File fault) = Tries old new (fault_line (File fault)) ⊎ Tries old new no_memory_line
 
 -- a command was done, and nothing is told of a fault; or it was not, the fault is told, and the status is the one that it brings

@@ -1,10 +1,11 @@
 //! Why the program stops, and how it says so.
 
 ghost use Rattle.std.specs.Prelude.{◌≡◌};
-ghost use Rattle.flow.specs.declared.fault.Fault.TheVariants.{File, Script};
+ghost use Rattle.flow.specs.declared.fault.Fault.TheVariants.{File, Run, Script};
 ghost use Rattle.flow.specs.declared.script.ScriptFault.TheVariants.{Memory};
 
 use crate::script::ScriptFault;
+use crate::thread_fault::ThreadFault;
 use graph_file::FileFault;
 use std::alloc::AllocError;
 use std::fmt;
@@ -20,19 +21,22 @@ pub enum Fault {
     File(FileFault),
     /// A line is refused, or a device or memory failed.
     Script(ScriptFault),
+    /// A run in threads came to no end.
+    Run(ThreadFault),
 }
 
 impl Fault {
     ghost use Rattle.flow.specs.Faults.{status_of};
 
-    /// The exit status that the fault brings: 4 for memory and devices, 1 for every other refusal.
+    /// The exit status that the fault brings: 4 for memory, devices and threads, 1 for every other refusal.
     pub fn status(&self) -> u8
         ensures { result ≡ status_of self.now }
     {
         match self {
             Fault::File(fault) if fault.number() == NO_MEMORY => 4,
             Fault::File(_) | Fault::Script(ScriptFault::BadLine(_)) => 1,
-            Fault::Script(ScriptFault::Read | ScriptFault::Write | ScriptFault::Memory) => 4,
+            Fault::Script(ScriptFault::Read | ScriptFault::Write | ScriptFault::Memory)
+            | Fault::Run(_) => 4,
         }
     }
 }
@@ -50,6 +54,14 @@ impl From<ScriptFault> for Fault {
 
     fn from(fault: ScriptFault) -> Fault {
         Fault::Script(fault)
+    }
+}
+
+impl From<ThreadFault> for Fault {
+    ghost from_gives = { λ fault e. e ≡ Run fault };
+
+    fn from(fault: ThreadFault) -> Fault {
+        Fault::Run(fault)
     }
 }
 
@@ -71,6 +83,7 @@ impl fmt::Display for Fault {
         match self {
             Fault::File(fault) => write!(f, "{fault}"),
             Fault::Script(fault) => write!(f, "{fault}"),
+            Fault::Run(fault) => write!(f, "{fault}"),
         }
     }
 }

@@ -3,23 +3,22 @@
 ghost use Rattle.std.specs.Prelude.{◌≡◌, ◌+◌, ◌++◌, ◌<◌, ◌-◌, ◌^◌, true, IfOk, IfErr, string_bytes, if◌then◌else◌};
 ghost use Rattle.std.specs.Io.KnownBytes.{Appends};
 ghost use Rattle.stream_model.specs.Machine.{is_idle};
-ghost use Rattle.kinds.specs.Kind.{meaning_of};
-ghost use Rattle.flowgraph.specs.Flowgraph.{net_of};
 ghost use Rattle.graph_file.specs.Refusals.{IsRefused};
 ghost use Rattle.graph_file.specs.Blocks.{drafted};
 ghost use Rattle.graph_file.specs.Opening.{opened_of};
 ghost use Rattle.script_text.specs.Ends.{AppendsBeginning};
-ghost use Rattle.flow.specs.Session.{in_state};
 ghost use Rattle.flow.specs.Faults.{fault_line};
 ghost use Rattle.flow.specs.Reports.{check_text};
-ghost use Rattle.flow.specs.Serve.{Serves, Tells, Tries, stream, Does, DoesNot, IsCheck, IsRun, Refuses, Writes, WritesNot, IsScript, StopsScript, graph_in, plant_in, closed, reads_in, writes_in};
-ghost use Rattle.flow.specs.declared.fault.Fault.TheVariants.{File, Script};
+ghost use Rattle.flow.specs.Serve.{Serves, Tells, Tries, stream, Does, DoesNot, Fails, IsCheck, IsRun, IsRunAlone, Refuses, RunsNot, Writes, WritesNot, IsScript, StopsScript, graph_in, plant_in, reads_in, writes_in};
+ghost use Rattle.flow.specs.declared.fault.Fault.TheVariants.{File, Run, Script};
 ghost use Rattle.flow.specs.declared.script.ScriptFault.TheVariants.{Write};
 
 use crate::fault::Fault;
 use crate::reports::{checked, ended};
+use crate::running::run_plant;
 use crate::script::{ScriptFault, script};
-use flowgraph::{BlockId, Valid};
+use crate::thread_fault::ThreadFault;
+use flowgraph::Valid;
 use graph_file::{FileFault, read_graph};
 use itoa::Buffer;
 use kinds::Kind;
@@ -27,6 +26,9 @@ use plant::{Plant, Watch};
 use rates::balance;
 use script_text::{ByteIn, ByteOut};
 use std::alloc::{AllocError, Global};
+use std::sync::Wait;
+use std::thread::Threads;
+use top_block::close_all;
 
 // How many firings of a block a run steps at once, at most.
 const TURN: u32 = 1024;
@@ -38,8 +40,10 @@ const STALLED: u8 = 3;
 pub enum Command {
     /// To tell of its graph.
     Check,
-    /// To feed it, let it run to its end, and tell what its sinks hold.
+    /// To feed it, let it run to its end in threads, and tell what its sinks hold.
     Run,
+    /// The same on one thread, block by block.
+    RunAlone,
     /// To feed it and do the commands of standard input.
     Script,
 }
@@ -54,7 +58,14 @@ struct Outcome {
 /// Does a command. The status is 0 where all went well, 3 for a run that stalled, 1 for a refused file or line, and 4 for memory and devices; with
 /// 1 and 4 one line on `errors` says why, and whether that write succeeds changes nothing. A run is shown to `watch` while it goes on, and is over
 /// for it before anything is written.
-pub fn serve<I: ByteIn, O: ByteOut, E: ByteOut, W: Watch>(
+pub fn serve<
+    R: Threads + Wait + Copy + Send + 'static,
+    I: ByteIn,
+    O: ByteOut,
+    E: ByteOut,
+    W: Watch,
+>(
+    rt: R,
     alloc: Global,
     command: Command,
     file: &[u8],
@@ -68,7 +79,7 @@ pub fn serve<I: ByteIn, O: ByteOut, E: ByteOut, W: Watch>(
     requires reports { E.failed errors.old < 2 ^ 64 - 1 }
     ensures { Serves command file.now (stream (I.remaining input.old) (I.failed input.old)) (stream (I.remaining input.new) (I.failed input.new)) (stream (O.contents output.old) (O.failed output.old)) (stream (O.contents output.new) (O.failed output.new)) (stream (E.contents errors.old) (E.failed errors.old)) (stream (E.contents errors.new) (E.failed errors.new)) result }
 {
-    match obey(alloc, command, file, input, output, watch) {
+    match obey(rt, alloc, command, file, input, output, watch) {
         Ok(status) => status,
         Err(fault) => {
             let status = fault.status();
@@ -79,7 +90,8 @@ pub fn serve<I: ByteIn, O: ByteOut, E: ByteOut, W: Watch>(
 }
 
 // Does a command, and gives its status.
-fn obey<I: ByteIn, O: ByteOut, W: Watch>(
+fn obey<R: Threads + Wait + Copy + Send + 'static, I: ByteIn, O: ByteOut, W: Watch>(
+    rt: R,
     alloc: Global,
     command: Command,
     file: &[u8],
@@ -96,7 +108,8 @@ fn obey<I: ByteIn, O: ByteOut, W: Watch>(
 {
     match command {
         Command::Check => check(alloc, file, output),
-        Command::Run => run(alloc, file, output, watch),
+        Command::Run => run(rt, alloc, file, output, watch),
+        Command::RunAlone => run_alone(alloc, file, output, watch),
         Command::Script => run_script(alloc, file, input, output),
     }
 }
@@ -113,7 +126,8 @@ fn check<O: ByteOut>(alloc: Global, file: &[u8], output: &mut O) -> Result<u8, F
     }
 }
 
-fn run<O: ByteOut, W: Watch>(
+fn run<R: Threads + Wait + Copy + Send + 'static, O: ByteOut, W: Watch>(
+    rt: R,
     alloc: Global,
     file: &[u8],
     output: &mut O,
@@ -121,10 +135,27 @@ fn run<O: ByteOut, W: Watch>(
 ) -> Result<u8, Fault>
     requires writes { O.failed output.old < 2 ^ 64 - 1 }
     ensures does { IfOk result (Writes (IsRun file.now) (O.contents output.old) (O.contents output.new)) }
-    ensures does_not { IfErr result (WritesNot (IsRun file.now) (plant_in file.now) (O.contents output.old) (O.contents output.new)) }
+    ensures does_not { IfErr result (RunsNot (IsRun file.now) (plant_in file.now) (O.contents output.old) (O.contents output.new)) }
     ensures failed_writes { O.failed output.new ≡ O.failed output.old + writes_in result }
 {
-    match run_file(alloc, file, watch) {
+    match run_file(rt, alloc, file, watch) {
+        Ok(outcome) => written(output, &outcome),
+        Err(fault) => Err(fault),
+    }
+}
+
+fn run_alone<O: ByteOut, W: Watch>(
+    alloc: Global,
+    file: &[u8],
+    output: &mut O,
+    watch: &mut W,
+) -> Result<u8, Fault>
+    requires writes { O.failed output.old < 2 ^ 64 - 1 }
+    ensures does { IfOk result (Writes (IsRunAlone file.now) (O.contents output.old) (O.contents output.new)) }
+    ensures does_not { IfErr result (WritesNot (IsRunAlone file.now) (plant_in file.now) (O.contents output.old) (O.contents output.new)) }
+    ensures failed_writes { O.failed output.new ≡ O.failed output.old + writes_in result }
+{
+    match run_file_alone(alloc, file, watch) {
         Ok(outcome) => written(output, &outcome),
         Err(fault) => Err(fault),
     }
@@ -171,9 +202,28 @@ fn told_of(alloc: Global, graph: &Valid<Kind>) -> Result<Vec<u8>, AllocError>
     checked(alloc, graph, &rates)
 }
 
-// Lets the plant of a file go on until it comes to rest, where its sources give no more, and tells what it holds then.
-fn run_file<W: Watch>(alloc: Global, file: &[u8], watch: &mut W) -> Result<Outcome, Fault>
+// Lets the plant of a file run in threads until it comes to rest, where its sources give no more, and tells what it holds then.
+fn run_file<R: Threads + Wait + Copy + Send + 'static, W: Watch>(
+    rt: R,
+    alloc: Global,
+    file: &[u8],
+    watch: &mut W,
+) -> Result<Outcome, Fault>
     ensures ok { IfOk result (λ outcome. IsRun file.now outcome.text.items outcome.status) }
+    ensures failed { IfErr result (Fails (plant_in file.now)) }
+{
+    let plant = open_plant(alloc, file)?;
+    plant.in_order();
+    let (plant, settled) = run_plant(rt, alloc, plant, watch)?;
+    plant.in_order();
+    let text = ended(alloc, &plant, settled)?;
+    let status = status_of(plant.all_done());
+    Ok(Outcome { text, status })
+}
+
+// The same on one thread.
+fn run_file_alone<W: Watch>(alloc: Global, file: &[u8], watch: &mut W) -> Result<Outcome, Fault>
+    ensures ok { IfOk result (λ outcome. IsRunAlone file.now outcome.text.items outcome.status) }
     ensures refused { IfErr result (Refuses (plant_in file.now)) }
 {
     let mut plant = open_plant(alloc, file)?;
@@ -189,15 +239,6 @@ fn status_of(done: bool) -> u8
     ensures { result ≡ (if done then 0 else 3) }
 {
     if done { 0 } else { STALLED }
-}
-
-// Closes each tape that is open.
-fn close_all(plant: &mut Plant<Kind>)
-    ensures { plant.new ≡ in_state plant.old (closed (net_of meaning_of plant.old.graph) plant.old.state) }
-{
-    for block in 0..plant.graph().len() {
-        let _ = plant.close(BlockId(block as u32));
-    }
 }
 
 // The valid graph of a file.
@@ -246,6 +287,7 @@ fn report<E: ByteOut>(alloc: Global, fault: Fault, errors: &mut E)
 {
     match fault {
         Fault::Script(fault) => report_script(fault, errors),
+        Fault::Run(fault) => report_run(fault, errors),
         Fault::File(fault) => match line_of(alloc, fault) {
             Ok(line) => tell(errors, line.as_bytes()),
             Err(_) => tell(errors, b"flow: refused 32 Memory\n"),
@@ -271,6 +313,18 @@ fn report_script<E: ByteOut>(fault: ScriptFault, errors: &mut E)
         ScriptFault::Read => tell(errors, b"flow: refused 51 Read\n"),
         ScriptFault::Write => tell(errors, b"flow: refused 52 Write\n"),
         ScriptFault::Memory => tell(errors, b"flow: refused 32 Memory\n"),
+    }
+}
+
+// The same of a run in threads.
+fn report_run<E: ByteOut>(fault: ThreadFault, errors: &mut E)
+    requires { E.failed errors.old < 2 ^ 64 - 1 }
+    ensures { Tries (stream (E.contents errors.old) (E.failed errors.old)) (stream (E.contents errors.new) (E.failed errors.new)) (fault_line (Run fault)) }
+{
+    match fault {
+        ThreadFault::Memory => tell(errors, b"flow: refused 60 Memory\n"),
+        ThreadFault::Thread => tell(errors, b"flow: refused 61 Thread\n"),
+        ThreadFault::Foreign => tell(errors, b"flow: refused 62 Foreign\n"),
     }
 }
 

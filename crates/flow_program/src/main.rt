@@ -12,13 +12,16 @@ use flow::start::StartFault;
 use script_text::{ReadEnd, WriteEnd};
 use std::io::IsTerminal;
 use std::process::ExitCode;
+use std::sync::Wait;
+use std::thread::Threads;
 use std::{env, fs};
 
 fn main(rt: HostRuntime) -> ExitCode {
-    ExitCode::from(status(&rt))
+    ExitCode::from(status(rt, &rt))
 }
 
-fn status(rt: &HostRuntime) -> u8 {
+// Only `main` may hand on the leave to start threads: `threads` is the same runtime with it.
+fn status<R: Threads + Wait + Copy + Send + 'static>(threads: R, rt: &HostRuntime) -> u8 {
     let arguments = match env::args(rt) {
         Ok(arguments) => arguments,
         Err(error) => return begins_none(rt, StartFault::of_words(error.kind())),
@@ -27,7 +30,7 @@ fn status(rt: &HostRuntime) -> u8 {
         return begins_none(rt, StartFault::Memory);
     };
     match call_of(rt.alloc(), &words) {
-        Ok(call) => run(rt, call),
+        Ok(call) => run(threads, rt, call),
         Err(error) => {
             let fault = StartFault::of_call(error.kind() == ErrorKind::OutOfMemory);
             if fault == StartFault::BadWords {
@@ -46,7 +49,11 @@ fn begins_none(rt: &HostRuntime, fault: StartFault) -> u8 {
     fault.status()
 }
 
-fn run(rt: &HostRuntime, call: Call<'_>) -> u8 {
+fn run<R: Threads + Wait + Copy + Send + 'static>(
+    threads: R,
+    rt: &HostRuntime,
+    call: Call<'_>,
+) -> u8 {
     let may_show = call.may_show(rt.stderr().is_terminal());
     let mut terminal = Terminal::new(rt, rt.stderr(), may_show);
     let file = match fs::read(rt, call.path) {
@@ -57,6 +64,7 @@ fn run(rt: &HostRuntime, call: Call<'_>) -> u8 {
     let mut output = WriteEnd::new(std::io::writer(rt));
     let mut errors = WriteEnd::new(rt.stderr());
     serve(
+        threads,
         rt.alloc(),
         call.command,
         &file,

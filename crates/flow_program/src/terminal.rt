@@ -2,10 +2,12 @@
 
 use plant::{Headway, Watch};
 use std::io::Write;
-use std::time::{Clock, Instant};
+use std::time::{Clock, Duration, Instant};
 
 // So many milliseconds lie between two lines, and before the first.
 const PAUSE: u128 = 250;
+// And between two looks at a run in threads.
+const LOOK: u64 = 50;
 
 /// A line on a screen that is written anew as a run goes on. A write that fails is nothing to the run.
 #[derive(Drop)]
@@ -52,6 +54,14 @@ impl<'a, C: Clock, S: Write> Terminal<'a, C, S> {
 }
 
 impl<C: Clock, S: Write> Watch for Terminal<'_, C, S> {
+    fn pause(&self) -> Option<Duration> {
+        if self.last.is_some() {
+            Some(Duration::from_millis(LOOK))
+        } else {
+            None
+        }
+    }
+
     fn show(&mut self, headway: Headway) {
         if self.is_due() {
             let Headway { given, fed } = headway;

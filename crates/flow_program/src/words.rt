@@ -33,6 +33,7 @@ pub fn call_of<'a>(alloc: Global, words: &'a [String]) -> Result<Call<'a>, clap:
     };
     let command = match name {
         "check" => Command::Check,
+        "run" if inner.get_flag("one-thread") => Command::RunAlone,
         "run" => Command::Run,
         _ => Command::Script,
     };
@@ -53,6 +54,10 @@ fn commands<'a>(alloc: Global) -> Result<clap::Command<'a>, clap::Error> {
         .long("quiet")
         .action(ArgAction::SetTrue)
         .help("Shows no progress on a terminal");
+    let one_thread = Arg::new(alloc, "one-thread")
+        .long("one-thread")
+        .action(ArgAction::SetTrue)
+        .help("Runs all blocks on one thread");
     let check = subcommand(alloc, "check", "Reads the graph and tells of it")?;
     let run = subcommand(alloc, "run", "Runs the graph and tells what its sinks hold")?;
     let script = subcommand(
@@ -68,7 +73,7 @@ fn commands<'a>(alloc: Global) -> Result<clap::Command<'a>, clap::Error> {
             .about("Runs a flowgraph that a file describes")
             .subcommand_required(true)
             .subcommand(check)?
-            .subcommand(run.arg(quiet)?)?
+            .subcommand(run.arg(quiet)?.arg(one_thread)?)?
             .subcommand(script)?,
     )
 }

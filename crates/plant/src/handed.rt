@@ -4,6 +4,7 @@ ghost use Rattle.std.specs.Prelude.{◌≡◌, ◌<◌, ◌^◌, ◌↔◌, leng
 ghost use Rattle.stream_model.specs.Network as model;
 ghost use Rattle.firings.specs.State.{progress_of};
 ghost use Rattle.flowgraph.specs.Agreeing.{graphs_agree};
+ghost use Rattle.flowgraph.specs.Flowgraph.{net_of};
 ghost use Rattle.stores.specs.Stores.{handed_of};
 ghost use Rattle.plant.specs.Plant.{plant_of};
 
@@ -74,7 +75,8 @@ impl<B: Block> Parts<B> {
 
     /// Whether that is what was handed to the plant.
     pub fn agrees(&self, handed: &Handed<B>) -> bool
-        ensures { let plant = plant_of self.now in
+        ensures nets { IsTrue result → net_of B.meaning (plant_of self.now).graph ≡ net_of B.meaning handed.now.graph }
+        ensures same { let plant = plant_of self.now in
             IsTrue result ↔ ((graphs_agree B.eq plant.graph handed.now.graph ≡ true) × (handed.now.handed ≡ plant.state.handed)) }
     {
         are_of(&handed.blocks, &self.stores.handed) && self.graph.agrees(&handed.graph)

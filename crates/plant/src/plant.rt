@@ -13,6 +13,7 @@ ghost use Rattle.flowgraph.specs.Agreeing.{graphs_agree};
 ghost use Rattle.flowgraph.specs.Flowgraph.{net_of};
 ghost use Rattle.flights.specs.Flight.{is_own};
 ghost use Rattle.stream_laws.specs.CanRun.{CanRun};
+ghost use Rattle.graph_model.specs.Rates.{balance_of, capacities_of};
 ghost use Rattle.machine_laws.specs.Sound.{Sound};
 ghost use Rattle.stores.specs.Stores.{mark_of};
 ghost use Rattle.plant.specs.Answers.{Answered, AnsweredAlways, AnsweredBy, IsOf, IsTaken, claim_reply, piece_reply, reply_of, source_type_of, step_reply};
@@ -40,9 +41,16 @@ use std::alloc::{AllocError, Global};
 use std::marker::Model;
 
 /// A flowgraph with what it was handed and how far it is. A contract sees the graph, the capacities, and the machine's state.
-#[derive(Drop)]
 pub struct Plant<B: Block> {
     parts: Parts<B>,
+}
+
+// By hand, so that no crate above proves the drop of each part again.
+impl<B: Block> Drop for Plant<B> {
+    fn drop(self) {
+        let Plant { parts } = self;
+        drop(parts);
+    }
 }
 
 impl<B: Block> Model for Plant<B> {
@@ -256,9 +264,10 @@ impl<B: Block> Plant<B> {
     }
 
     /// Whether that is what was handed to the plant: an equal graph, block by block by `==`, and the same tapes, closed marks and settings. It
-    /// looks at each item once, and takes no memory.
+    /// looks at each item once, and takes no memory. Graphs that are so equal are one network.
     pub fn agrees(&self, handed: &Handed<B>) -> bool
-        ensures { IsTrue result ↔ ((graphs_agree B.eq self.now.graph handed.now.graph ≡ true) × (handed.now.handed ≡ self.now.state.handed)) }
+        ensures nets { IsTrue result → net_of B.meaning self.now.graph ≡ net_of B.meaning handed.now.graph }
+        ensures same { IsTrue result ↔ ((graphs_agree B.eq self.now.graph handed.now.graph ≡ true) × (handed.now.handed ≡ self.now.state.handed)) }
     {
         self.parts.agrees(handed)
     }
@@ -290,10 +299,11 @@ impl<B: Block> Plant<B> {
         self.parts.abandon(job)
     }
 
-    /// The graph runs, the state is one that calls lead to, and whatever list of calls is made, each answered as its contract says, replies and
+    /// The graph runs, the capacities are those of its rates, the state is one that calls lead to, and whatever list of calls is made, each answered as its contract says, replies and
     /// state are a run of the machine. The call is there for what its contract says.
     pub fn in_order(&self)
         ensures runs { CanRun (net_of B.meaning self.now.graph) }
+        ensures capacities { self.now.capacities ≡ capacities_of (net_of B.meaning self.now.graph) (balance_of (net_of B.meaning self.now.graph)) }
         ensures sound { Sound (net_of B.meaning self.now.graph) self.now.capacities self.now.state }
         ensures composes { (made : List Made) (new : PlantState B) → Leads (net_of B.meaning self.now.graph) self.now made new →
             IsRun (net_of B.meaning self.now.graph) self.now made new }

@@ -15,13 +15,17 @@ use crate::parts::Parts;
 use crate::source_tapes::counts_of;
 use flowgraph::{Block, BlockId};
 use std::alloc::{AllocError, Global};
+use std::time::Duration;
 
-/// What looks on while a plant settles. It promises nothing.
+/// What looks on while a plant runs. It promises nothing.
 pub trait Watch {
-    /// Each block was stepped once more, and the plant is so far.
+    /// How long a run in threads goes on before it is shown again. With none it is never shown.
+    fn pause(&self) -> Option<Duration>;
+
+    /// The plant is so far: on one thread each block was stepped once more.
     fn show(&mut self, headway: Headway);
 
-    /// No block is stepped any more.
+    /// The run is over.
     fn end(&mut self);
 }
 
@@ -30,6 +34,10 @@ pub trait Watch {
 pub struct Unwatched;
 
 impl Watch for Unwatched {
+    fn pause(&self) -> Option<Duration> {
+        None
+    }
+
     fn show(&mut self, _headway: Headway) {}
 
     fn end(&mut self) {}

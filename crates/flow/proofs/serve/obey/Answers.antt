@@ -1,6 +1,6 @@
 use Rattle.std.proofs.Common.{refl}
-use Rattle.flow.specs.Serve.{IsCheck, IsRun, graph_in, plant_in}
-use Rattle.flow.proofs.Outcomes.{if_ok, if_err, no_more, no_reads}
+use Rattle.flow.specs.Serve.{IsCheck, IsRun, IsRunAlone, graph_in, plant_in}
+use Rattle.flow.proofs.Outcomes.{if_ok, if_err, no_more, no_reads, no_reads_of_run}
 use Rattle.flow.proofs.serve.obey.Goals as goal
 
 pub returns-in-Check-clause-does : goal.returns-in-Check-clause-does
@@ -21,7 +21,17 @@ returns-in-Run-clause-does_not g c = rw c.in-Run.is (if_err c.run.result _ _ c.r
 
 pub returns-in-Run-clause-failed_reads : goal.returns-in-Run-clause-failed_reads
 returns-in-Run-clause-failed_reads g c =
-    no_more _ _ (no_reads (IsRun c.args.file.now) (plant_in c.args.file.now) (g.O.ByteOut.contents c.args.output.now) (g.O.ByteOut.contents c.run.new.output) c.run.result c.run.ensures.does_not)
+    no_more _ _ (no_reads_of_run (IsRun c.args.file.now) (plant_in c.args.file.now) (g.O.ByteOut.contents c.args.output.now) (g.O.ByteOut.contents c.run.new.output) c.run.result c.run.ensures.does_not)
+
+pub returns-in-RunAlone-clause-does : goal.returns-in-RunAlone-clause-does
+returns-in-RunAlone-clause-does g c = rw c.in-RunAlone.is (if_ok c.run_alone.result _ _ c.run_alone.ensures.does (λ status h. (refl, h)))
+
+pub returns-in-RunAlone-clause-does_not : goal.returns-in-RunAlone-clause-does_not
+returns-in-RunAlone-clause-does_not g c = rw c.in-RunAlone.is (if_err c.run_alone.result _ _ c.run_alone.ensures.does_not (λ fault h. (refl, h)))
+
+pub returns-in-RunAlone-clause-failed_reads : goal.returns-in-RunAlone-clause-failed_reads
+returns-in-RunAlone-clause-failed_reads g c =
+    no_more _ _ (no_reads (IsRunAlone c.args.file.now) (plant_in c.args.file.now) (g.O.ByteOut.contents c.args.output.now) (g.O.ByteOut.contents c.run_alone.new.output) c.run_alone.result c.run_alone.ensures.does_not)
 
 pub returns-in-Script-clause-does : goal.returns-in-Script-clause-does
 returns-in-Script-clause-does g c = rw c.in-Script.is c.run_script.ensures.does

@@ -1,0 +1,18 @@
+-- Faults of a run in threads.
+use Rattle.std.specs.Prelude.{ℕ, List, codes}
+use Rattle.threads.specs.declared.fault.RunFault.{RunFault}
+use Rattle.threads.specs.declared.fault.RunFault.TheVariants as run
+use Rattle.flow.specs.declared.thread_fault.ThreadFault.{ThreadFault}
+use Rattle.flow.specs.declared.thread_fault.ThreadFault.TheVariants.{Memory, Thread, Foreign}
+
+-- the fault without the plant that came back
+abbrev pub fault_of : {B P : Type 0} → RunFault B P → ThreadFault
+fault_of (run.Memory p) = Memory
+fault_of (run.Thread p) = Thread
+fault_of run.Foreign = Foreign
+
+-- number and name
+abbrev pub thread_fault_text : ThreadFault → List ℕ
+thread_fault_text Memory = codes "60 Memory"
+thread_fault_text Thread = codes "61 Thread"
+thread_fault_text Foreign = codes "62 Foreign"

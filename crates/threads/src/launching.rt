@@ -1,0 +1,260 @@
+//! The start of a run in threads.
+
+ghost use Rattle.std.specs.Prelude.{◌≡◌, ◌≤◌, true, false, IfOk, IfErr};
+ghost use Rattle.stream_model.specs.Machine.{is_idle};
+ghost use Rattle.threads.specs.Outcomes.{GivesBack, handed_of};
+
+use crate::fault::RunFault;
+use crate::gate::{Gate, Open};
+use crate::hall::Hall;
+use crate::running::{Running, came_back};
+use crate::seats::Seats;
+use crate::turns::Turns;
+use crate::worker::{Shared, work};
+use flowgraph::{Block, BlockId};
+use plant::{Handed, Plant};
+use std::alloc::{AllocError, Global};
+use std::sync::{Arc, Mutex, Wait};
+use std::thread;
+use std::thread::{JoinHandle, Parker, Threads};
+
+/// The same with the gate that does nothing.
+pub fn launch_open<B: Block + Send + Sync + 'static, R: Threads + Wait + Copy + Send + 'static>(
+    rt: R,
+    alloc: Global,
+    plant: Plant<B>,
+    turns: Turns,
+) -> Result<Running<B, Open>, RunFault<B>>
+where
+    B::Places: Send + Sync + 'static,
+    requires { is_idle plant.state ≡ true }
+    ensures ok { IfOk result (λ r. r ≡ record { handed = handed_of plant; asked = false }) }
+    ensures err { IfErr result (GivesBack B.meaning B.eq (handed_of plant)) }
+{
+    let (plant, gate) = with_open_gate(alloc, plant)?;
+    launch_with(rt, alloc, plant, gate, turns)
+}
+
+// A plant with the gate that does nothing.
+fn with_open_gate<B: Block>(
+    alloc: Global,
+    plant: Plant<B>,
+) -> Result<(Plant<B>, Arc<Open, Global>), RunFault<B>>
+    requires { is_idle plant.state ≡ true }
+    ensures ok { IfOk result (λ p. p.0 ≡ plant) }
+    ensures err { IfErr result (GivesBack B.meaning B.eq (handed_of plant)) }
+{
+    match Arc::new(alloc, Open) {
+        Ok(gate) => Ok((plant, gate)),
+        Err(_) => Err(out_of_memory(plant)),
+    }
+}
+
+// A plant that lacked the memory to run.
+fn out_of_memory<B: Block>(plant: Plant<B>) -> RunFault<B>
+    requires { is_idle plant.state ≡ true }
+    ensures { GivesBack B.meaning B.eq (handed_of plant) result }
+{
+    plant.in_order();
+    RunFault::Memory(plant)
+}
+
+// A plant with what its run needs.
+#[derive(Drop)]
+struct Prepared<B: Block> {
+    hall: Hall<B>,
+    handed: Handed<B>,
+    beds: Vec<Parker>,
+    workers: Vec<JoinHandle<()>>,
+}
+
+/// Starts a worker for each block of a plant that has no claim in flight. The workers claim, work and commit until all blocks are done, none can
+/// act, or a stop is asked for; each claims at most 1,024 firings at a time. Before each work the gate is passed.
+pub fn launch<
+    B: Block + Send + Sync + 'static,
+    G: Gate + Drop + Send + Sync + 'static,
+    R: Threads + Wait + Copy + Send + 'static,
+>(rt: R, alloc: Global, plant: Plant<B>, gate: Arc<G, Global>) -> Result<Running<B, G>, RunFault<B>>
+where
+    B::Places: Send + Sync + 'static,
+    requires { is_idle plant.state ≡ true }
+    ensures ok { IfOk result (λ r. r ≡ record { handed = handed_of plant; asked = false }) }
+    ensures err { IfErr result (GivesBack B.meaning B.eq (handed_of plant)) }
+{
+    launch_with(rt, alloc, plant, gate, Turns::default())
+}
+
+/// The same with turns of another length.
+pub fn launch_with<
+    B: Block + Send + Sync + 'static,
+    G: Gate + Drop + Send + Sync + 'static,
+    R: Threads + Wait + Copy + Send + 'static,
+>(
+    rt: R,
+    alloc: Global,
+    plant: Plant<B>,
+    gate: Arc<G, Global>,
+    turns: Turns,
+) -> Result<Running<B, G>, RunFault<B>>
+where
+    B::Places: Send + Sync + 'static,
+    requires { is_idle plant.state ≡ true }
+    ensures ok { IfOk result (λ r. r ≡ record { handed = handed_of plant; asked = false }) }
+    ensures err { IfErr result (GivesBack B.meaning B.eq (handed_of plant)) }
+{
+    let Prepared {
+        hall,
+        handed,
+        beds,
+        workers,
+    } = prepare(alloc, plant)?;
+    let shared = Shared {
+        hall: Mutex::new(hall),
+        beds,
+        lookout: Parker::new(),
+        gate,
+    };
+    match Arc::new(alloc, shared) {
+        Ok(shared) => start_all(rt, alloc, shared, workers, handed, turns),
+        Err(refused) => Err(given_back(refused.value, &handed, true)),
+    }
+}
+
+// All that a run needs, and a note of what its plant was handed.
+fn prepare<B: Block>(alloc: Global, plant: Plant<B>) -> Result<Prepared<B>, RunFault<B>>
+    requires { is_idle plant.state ≡ true }
+    ensures ok { IfOk result (λ p. p.handed ≡ handed_of plant) }
+    ensures err { IfErr result (GivesBack B.meaning B.eq (handed_of plant)) }
+{
+    match rooms_of(alloc, &plant) {
+        Ok((handed, seats, beds, workers)) => Ok(Prepared {
+            hall: Hall {
+                plant,
+                seats,
+                ends: false,
+                starved: false,
+            },
+            handed,
+            beds,
+            workers,
+        }),
+        Err(_) => Err(out_of_memory(plant)),
+    }
+}
+
+// What a run needs beside its plant.
+fn rooms_of<B: Block>(
+    alloc: Global,
+    plant: &Plant<B>,
+) -> Result<(Handed<B>, Seats, Vec<Parker>, Vec<JoinHandle<()>>), AllocError>
+    ensures { IfOk result (λ r. r.0 ≡ handed_of plant.now) }
+{
+    let blocks = plant.graph().len();
+    Ok((
+        plant.handed(alloc)?,
+        Seats::new(alloc, blocks)?,
+        make_beds(alloc, blocks)?,
+        Vec::with_capacity(alloc, blocks)?,
+    ))
+}
+
+fn make_beds(alloc: Global, count: usize) -> Result<Vec<Parker>, AllocError> {
+    let mut beds = Vec::with_capacity(alloc, count)?;
+    for bed in 0..count {
+        let _ = bed;
+        beds.push_reserved(Parker::new());
+    }
+    Ok(beds)
+}
+
+// Starts a worker for each block. Where one cannot be started, those that are there leave again.
+fn start_all<
+    B: Block + Send + Sync + 'static,
+    G: Gate + Drop + Send + Sync + 'static,
+    R: Threads + Wait + Copy + Send + 'static,
+>(
+    rt: R,
+    alloc: Global,
+    shared: Arc<Shared<B, G>, Global>,
+    mut workers: Vec<JoinHandle<()>>,
+    handed: Handed<B>,
+    turns: Turns,
+) -> Result<Running<B, G>, RunFault<B>>
+where
+    B::Places: Send + Sync + 'static,
+    ensures ok { IfOk result (λ r. r ≡ record { handed = handed; asked = false }) }
+    ensures err { IfErr result (GivesBack B.meaning B.eq handed) }
+{
+    for (block, _bed) in (0..u32::MAX).zip(&shared.beds) {
+        match start(rt, alloc, &shared, BlockId(block), turns) {
+            Some(worker) => {
+                if workers.push(worker).is_err() {
+                    return Err(called_back(rt, shared, workers, &handed));
+                }
+            }
+            None => return Err(called_back(rt, shared, workers, &handed)),
+        }
+    }
+    Ok(Running {
+        shared,
+        workers,
+        handed,
+        asked: false,
+    })
+}
+
+// A worker's thread.
+fn start<
+    B: Block + Send + Sync + 'static,
+    G: Gate + Drop + Send + Sync + 'static,
+    R: Threads + Wait + Copy + Send + 'static,
+>(
+    rt: R,
+    alloc: Global,
+    shared: &Arc<Shared<B, G>, Global>,
+    block: BlockId,
+    turns: Turns,
+) -> Option<JoinHandle<()>>
+where
+    B::Places: Send + Sync + 'static,
+{
+    let shared = Arc::try_clone(shared).ok()?;
+    thread::spawn(&rt, move || work(&rt, alloc, &*shared, block, turns)).ok()
+}
+
+// Has the workers that were started leave, and gives the plant back.
+fn called_back<B: Block, G: Gate + Drop, R: Threads + Wait + Copy>(
+    rt: R,
+    shared: Arc<Shared<B, G>, Global>,
+    workers: Vec<JoinHandle<()>>,
+    handed: &Handed<B>,
+) -> RunFault<B>
+    ensures { GivesBack B.meaning B.eq handed.now result }
+{
+    shared.end(&rt);
+    for worker in workers {
+        worker.join(&rt);
+    }
+    match Arc::try_unwrap(shared) {
+        Ok(shared) => given_back(shared, handed, false),
+        Err(_) => RunFault::Foreign,
+    }
+}
+
+// The plant of a run that could not begin, in a fault.
+fn given_back<B: Block, G: Gate + Drop>(
+    shared: Shared<B, G>,
+    handed: &Handed<B>,
+    is_memory: bool,
+) -> RunFault<B>
+    ensures { GivesBack B.meaning B.eq handed.now result }
+{
+    let plant = shared.hall.into_inner().plant;
+    if !came_back(&plant, handed) {
+        RunFault::Foreign
+    } else if is_memory {
+        RunFault::Memory(plant)
+    } else {
+        RunFault::Thread(plant)
+    }
+}

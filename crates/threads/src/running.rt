@@ -1,0 +1,184 @@
+//! A run that goes on in threads, and its end.
+
+ghost use Rattle.std.specs.Prelude.{◌≡◌, true, false, IfOk, IfErr};
+ghost use Rattle.stream_model.specs.Machine.{is_idle};
+ghost use Rattle.threads.specs.Outcomes.{EndsIn, GivesBack, CameBack, handed_of};
+ghost use Rattle.threads.specs.Running.{RunState};
+
+use crate::fault::RunFault;
+use crate::gate::Gate;
+use crate::hall::Hall;
+use crate::launching::launch_with;
+use crate::outcome::Outcome;
+use crate::turns::Turns;
+use crate::worker::Shared;
+use flowgraph::Block;
+use plant::{Handed, Headway, Plant, Watch};
+use std::alloc::Global;
+use std::marker::Model;
+use std::sync::{Arc, Wait};
+use std::thread::{JoinHandle, Threads};
+use std::time::Duration;
+
+/// A plant at work in threads, one for each of its blocks. Where it is dropped its workers go on by themselves, and are cut off as the program
+/// ends; `wait` gives the plant back. A contract sees what was handed in, and whether a stop was asked for.
+#[derive(Drop)]
+pub struct Running<B: Block, G: Gate + Drop> {
+    pub(crate) shared: Arc<Shared<B, G>, Global>,
+    pub(crate) workers: Vec<JoinHandle<()>>,
+    pub(crate) handed: Handed<B>,
+    pub(crate) asked: bool,
+}
+
+impl<B: Block, G: Gate + Drop> Model for Running<B, G> {
+    ghost use Rattle.threads.specs.Running.{RunState};
+
+    ghost Value = { RunState B };
+
+    ghost view = { λ r. record { handed = r.handed; asked = r.asked } };
+}
+
+impl<B: Block, G: Gate + Drop> Running<B, G> {
+    /// Asks the workers to leave: each commits what it works on and claims no more. It returns before they have left.
+    pub fn stop<R: Wait>(&mut self, rt: &R)
+        ensures { self.new ≡ record self.old { asked = true } }
+    {
+        self.asked = true;
+        self.shared.end(rt);
+    }
+
+    /// Whether a stop was asked for.
+    pub fn asked(&self) -> bool
+        ensures { result ≡ self.now.asked }
+    {
+        self.asked
+    }
+
+    /// How many items all sources were fed, and how many of these they have given by now. It takes the lock, and looks at each block.
+    pub fn headway<R: Wait>(&self, rt: &R) -> Headway {
+        self.shared.hall.lock(rt).plant.headway()
+    }
+
+    /// As `wait`, and until the workers leave it shows `watch` how far the plant is, each time that its pause is over.
+    pub fn wait_watched<R: Threads + Wait, W: Watch>(
+        self,
+        rt: &R,
+        watch: &mut W,
+    ) -> Result<Outcome<B>, RunFault<B>>
+        ensures ok { IfOk result (EndsIn B.meaning B.eq self.handed self.asked) }
+        ensures err { IfErr result (GivesBack B.meaning B.eq self.handed) }
+    {
+        if let Some(pause) = watch.pause() {
+            self.show(rt, watch, pause);
+        }
+        watch.end();
+        self.wait(rt)
+    }
+
+    // Shows how far the plant is until the run is over.
+    fn show<R: Wait, W: Watch>(&self, rt: &R, watch: &mut W, pause: Duration) {
+        for _ in rt.forever() {
+            if self.shared.hall.lock(rt).is_over() {
+                return;
+            }
+            self.shared.lookout.park_timeout(rt, pause);
+            watch.show(self.headway(rt));
+        }
+    }
+
+    /// Waits until all workers have left, and tells how the run ended. Sinks hold what they got. A claim that was refused memory ends the run
+    /// with `RunFault::Memory`, and the plant may be run again.
+    pub fn wait<R: Threads + Wait>(self, rt: &R) -> Result<Outcome<B>, RunFault<B>>
+        ensures ok { IfOk result (EndsIn B.meaning B.eq self.handed self.asked) }
+        ensures err { IfErr result (GivesBack B.meaning B.eq self.handed) }
+    {
+        let Running {
+            shared,
+            workers,
+            handed,
+            asked,
+        } = self;
+        for worker in workers {
+            worker.join(rt);
+        }
+        match Arc::try_unwrap(shared) {
+            Ok(shared) => ended(shared.hall.into_inner(), &handed, asked),
+            Err(_) => Err(RunFault::Foreign),
+        }
+    }
+}
+
+// How a run ended of which this came back.
+fn ended<B: Block>(
+    hall: Hall<B>,
+    handed: &Handed<B>,
+    asked: bool,
+) -> Result<Outcome<B>, RunFault<B>>
+    ensures ok { IfOk result (EndsIn B.meaning B.eq handed.now asked) }
+    ensures err { IfErr result (GivesBack B.meaning B.eq handed.now) }
+{
+    let Hall { plant, starved, .. } = hall;
+    if !came_back(&plant, handed) {
+        return Err(RunFault::Foreign);
+    }
+    if plant.all_done() {
+        return Ok(Outcome::Done(plant));
+    }
+    if starved {
+        return Err(RunFault::Memory(plant));
+    }
+    if asked {
+        return Ok(Outcome::Stopped(plant));
+    }
+    if plant.quiet() {
+        return Ok(Outcome::Stalled(plant));
+    }
+    Err(RunFault::Foreign)
+}
+
+/// Whether a plant has what was handed in, with no claim in flight.
+pub(crate) fn came_back<B: Block>(plant: &Plant<B>, handed: &Handed<B>) -> bool
+    ensures { result ≡ true → CameBack B.meaning B.eq handed.now plant.now }
+{
+    plant.in_order();
+    plant.idle() && plant.agrees(handed)
+}
+
+/// Runs a plant to its end in threads, one for each block, and waits for that.
+pub fn run<
+    B: Block + Send + Sync + 'static,
+    G: Gate + Drop + Send + Sync + 'static,
+    R: Threads + Wait + Copy + Send + 'static,
+>(rt: R, alloc: Global, plant: Plant<B>, gate: Arc<G, Global>) -> Result<Outcome<B>, RunFault<B>>
+where
+    B::Places: Send + Sync + 'static,
+    requires { is_idle plant.state ≡ true }
+    ensures ok { IfOk result (EndsIn B.meaning B.eq (handed_of plant) false) }
+    ensures err { IfErr result (GivesBack B.meaning B.eq (handed_of plant)) }
+{
+    run_with(rt, alloc, plant, gate, Turns::default())
+}
+
+/// The same with turns of another length.
+pub fn run_with<
+    B: Block + Send + Sync + 'static,
+    G: Gate + Drop + Send + Sync + 'static,
+    R: Threads + Wait + Copy + Send + 'static,
+>(
+    rt: R,
+    alloc: Global,
+    plant: Plant<B>,
+    gate: Arc<G, Global>,
+    turns: Turns,
+) -> Result<Outcome<B>, RunFault<B>>
+where
+    B::Places: Send + Sync + 'static,
+    requires { is_idle plant.state ≡ true }
+    ensures ok { IfOk result (EndsIn B.meaning B.eq (handed_of plant) false) }
+    ensures err { IfErr result (GivesBack B.meaning B.eq (handed_of plant)) }
+{
+    match launch_with(rt, alloc, plant, gate, turns) {
+        Ok(running) => running.wait(&rt),
+        Err(fault) => Err(fault),
+    }
+}

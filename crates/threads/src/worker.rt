@@ -1,0 +1,84 @@
+//! The worker of a block.
+
+use crate::gate::Gate;
+use crate::hall::{Hall, Next};
+use crate::turns::Turns;
+use crate::woken::{BITS, Woken};
+use flowgraph::{Block, BlockId};
+use std::alloc::Global;
+use std::sync::{Arc, Mutex, Wait};
+use std::thread::Parker;
+
+/// What all workers share.
+#[derive(Drop)]
+pub struct Shared<B: Block, G: Gate + Drop> {
+    pub hall: Mutex<Hall<B>>,
+    /// For each block where its worker sleeps.
+    pub beds: Vec<Parker>,
+    /// Where who looks on sleeps between two looks.
+    pub lookout: Parker,
+    pub gate: Arc<G, Global>,
+}
+
+impl<B: Block, G: Gate + Drop> Shared<B, G> {
+    /// Wakes workers. The lock is not held.
+    pub fn wake(&self, woken: &Woken) {
+        for (beds, word) in self.beds.chunks(BITS).zip(woken.words()) {
+            let mut bits = *word;
+            for _ in 0..bits.count_ones() {
+                if let Some(bed) = beds.get(bits.trailing_zeros() as usize) {
+                    bed.unpark();
+                }
+                bits &= bits.wrapping_sub(1);
+            }
+        }
+        if woken.ends {
+            self.lookout.unpark();
+        }
+        if woken.missed {
+            self.gate.missed();
+        }
+    }
+
+    /// Has the workers leave, each once it has committed what it works on.
+    pub fn end<R: Wait>(&self, rt: &R) {
+        let mut woken = Woken::new();
+        let _ = self.hall.lock(rt).end(&mut woken);
+        self.wake(&woken);
+    }
+
+    fn sleep<R: Wait>(&self, rt: &R, block: BlockId) {
+        if let Some(bed) = self.beds.get(block.0 as usize) {
+            bed.park(rt);
+        }
+    }
+}
+
+/// Turn after turn of a block's worker, until it leaves.
+pub fn work<B: Block, G: Gate + Drop, R: Wait>(
+    rt: &R,
+    alloc: Global,
+    shared: &Shared<B, G>,
+    block: BlockId,
+    turns: Turns,
+) {
+    let most = shared.hall.lock(rt).share(block, turns);
+    let mut brought = None;
+    for _ in rt.forever() {
+        let mut woken = Woken::new();
+        let next = shared
+            .hall
+            .lock(rt)
+            .turn(alloc, block, most, brought, &mut woken);
+        brought = None;
+        shared.wake(&woken);
+        match next {
+            Next::Work(job) => {
+                shared.gate.pass(block, job.first());
+                brought = Some(job.work());
+            }
+            Next::Sleep => shared.sleep(rt, block),
+            Next::Leave => return,
+        }
+    }
+}

@@ -1,0 +1,140 @@
+//! A graph of kinds, from its feeds to its end.
+
+ghost use Rattle.std.specs.Prelude.{◌≡◌, true, false, map, IfOk, IfErr};
+ghost use Rattle.stream_model.specs.Machine as machine;
+ghost use Rattle.stream_model.specs.Machine.{feed_of, is_idle};
+ghost use Rattle.items.specs.Items.{type_of, numbers_of};
+ghost use Rattle.flowgraph.specs.Flowgraph.{net_of};
+ghost use Rattle.kinds.specs.Kind.{meaning_of};
+ghost use Rattle.kinds.specs.declared.kind.Kind.{Kind};
+ghost use Rattle.stores.specs.Stores.{mark_of};
+ghost use Rattle.plant.specs.Answers.{Answered, reply_of};
+ghost use Rattle.plant.specs.Opening.{opening_plant};
+ghost use Rattle.plant.specs.Plant.{PlantState};
+ghost use Rattle.threads.specs.Outcomes.{EndsIn, GivesBack, handed_of};
+ghost use Rattle.top_block.specs.Closing.{with_all_closed};
+
+use crate::closing::close_all;
+use flowgraph::{BlockId, Valid};
+use items::{Items, Mark};
+use kinds::Kind;
+use plant::{Fed, Plant, PlantFault};
+use std::alloc::{AllocError, Global};
+use std::marker::Model;
+use std::sync::{Arc, Wait};
+use std::thread::Threads;
+use threads::{Gate, Open, Outcome, RunFault, Running, Turns, launch_open, run_with};
+
+/// A plant of kinds with no claim in flight, which is fed and then run in threads. It is the whole life of a flowgraph whose data are there from
+/// the start: `from_graph`, `feed`, and `run`, or `start` and `wait`. A contract sees the plant.
+#[derive(Drop)]
+pub struct TopBlock {
+    plant: Plant<Kind>,
+}
+
+impl Model for TopBlock {
+    ghost Value = { PlantState Kind };
+
+    ghost view = { λ t. t.plant };
+
+    ghost invariant = { λ t. is_idle t.plant.state ≡ true };
+}
+
+impl TopBlock {
+    /// The top block of a graph of which nothing is fed. Without memory for it the graph comes back.
+    pub fn from_graph(
+        alloc: Global,
+        graph: Valid<Kind>,
+    ) -> Result<TopBlock, (Valid<Kind>, AllocError)>
+        ensures opens { IfOk result (λ top. top ≡ opening_plant meaning_of graph) }
+        ensures back { IfErr result (λ refusal. refusal.0 ≡ graph) }
+    {
+        match Plant::open(alloc, graph) {
+            Ok(plant) => Ok(TopBlock { plant }),
+            Err(refusal) => Err(refusal),
+        }
+    }
+
+    /// The top block of a plant that has no claim in flight, wherever its blocks are.
+    pub fn from_plant(plant: Plant<Kind>) -> TopBlock
+        requires { is_idle plant.state ≡ true }
+        ensures { result ≡ plant }
+    {
+        TopBlock { plant }
+    }
+
+    /// The plant.
+    pub fn plant(&self) -> &Plant<Kind>
+        ensures { result.now ≡ self.now }
+    {
+        &self.plant
+    }
+
+    /// Appends items to a source's tape, with marks on them, as `Plant::feed` does.
+    pub fn feed(&mut self, source: BlockId, items: Items, marks: &[Mark]) -> Result<Fed, PlantFault>
+        ensures { Answered (feed_of (net_of meaning_of self.old.graph) self.old.state source.0 (type_of items) (numbers_of items) (map mark_of marks.now)) self.old self.new (reply_of (λ f. machine.Fed f.0) result) }
+    {
+        self.plant.feed(source, items, marks)
+    }
+
+    /// Closes each source that is open, and starts a thread for each block.
+    pub fn start<R: Threads + Wait + Copy + Send + 'static>(
+        self,
+        rt: R,
+        alloc: Global,
+    ) -> Result<Running<Kind, Open>, RunFault<Kind>>
+        ensures ok { IfOk result (λ r. r ≡ record { handed = handed_of (with_all_closed meaning_of self); asked = false }) }
+        ensures err { IfErr result (GivesBack meaning_of ⟦<Kind as PartialEq>⟧.eq (handed_of (with_all_closed meaning_of self))) }
+    {
+        self.start_turns(rt, alloc, Turns::default())
+    }
+
+    /// The same with turns of another length.
+    pub fn start_turns<R: Threads + Wait + Copy + Send + 'static>(
+        self,
+        rt: R,
+        alloc: Global,
+        turns: Turns,
+    ) -> Result<Running<Kind, Open>, RunFault<Kind>>
+        ensures ok { IfOk result (λ r. r ≡ record { handed = handed_of (with_all_closed meaning_of self); asked = false }) }
+        ensures err { IfErr result (GivesBack meaning_of ⟦<Kind as PartialEq>⟧.eq (handed_of (with_all_closed meaning_of self))) }
+    {
+        let TopBlock { mut plant } = self;
+        close_all(&mut plant);
+        launch_open(rt, alloc, plant, turns)
+    }
+
+    /// Closes each source that is open, runs the plant in threads, and waits for its end. Nobody asks it to stop.
+    pub fn run<R: Threads + Wait + Copy + Send + 'static>(
+        self,
+        rt: R,
+        alloc: Global,
+    ) -> Result<Outcome<Kind>, RunFault<Kind>>
+        ensures ok { IfOk result (EndsIn meaning_of ⟦<Kind as PartialEq>⟧.eq (handed_of (with_all_closed meaning_of self)) false) }
+        ensures err { IfErr result (GivesBack meaning_of ⟦<Kind as PartialEq>⟧.eq (handed_of (with_all_closed meaning_of self))) }
+    {
+        match self.start(rt, alloc) {
+            Ok(running) => running.wait(&rt),
+            Err(fault) => Err(fault),
+        }
+    }
+
+    /// The same past a gate, and with turns of any length.
+    pub fn run_with<
+        G: Gate + Drop + Send + Sync + 'static,
+        R: Threads + Wait + Copy + Send + 'static,
+    >(
+        self,
+        rt: R,
+        alloc: Global,
+        gate: Arc<G, Global>,
+        turns: Turns,
+    ) -> Result<Outcome<Kind>, RunFault<Kind>>
+        ensures ok { IfOk result (EndsIn meaning_of ⟦<Kind as PartialEq>⟧.eq (handed_of (with_all_closed meaning_of self)) false) }
+        ensures err { IfErr result (GivesBack meaning_of ⟦<Kind as PartialEq>⟧.eq (handed_of (with_all_closed meaning_of self))) }
+    {
+        let TopBlock { mut plant } = self;
+        close_all(&mut plant);
+        run_with(rt, alloc, plant, gate, turns)
+    }
+}
