@@ -1,14 +1,14 @@
 -- Lines that are answered, one after another.
-use Rattle.std.proofs.Common.{inl, inr, ◌≡◌, ◌≤◌, ℕ, suc, ◌+◌, List, [], ◌∷◌, ◌++◌, length, refl, arith, ap, sym, ◌∙◌, append_assoc, append-nil, length-append, None, Some, subst}
+use Rattle.std.proofs.Common.{inl, inr, ◌≡◌, ◌<◌, ◌≤◌, ℕ, suc, ◌+◌, ◌-◌, ◌^◌, List, [], ◌∷◌, ◌++◌, length, refl, arith, ap, sym, ◌∙◌, append_assoc, append-nil, length-append, None, Some, subst}
 use Rattle.std.specs.Prelude.{Option, Result, Ok, Err, IfErr}
 use Rattle.std.specs.Io.KnownBytes.{Appends, Consumes, Keeps, IsAtEnd}
 use Rattle.std.proofs.KnownBytes.{Consumes-nil, Consumes-trans, Consumes-kept}
 use Rattle.script_text.specs.Lines.{lines_of, without_return}
 use Rattle.script_text.specs.Splits.{Split, IsUnfinished, most_held}
 use Rattle.script_text.specs.Scripts.{said_of, GoesOn}
-use Rattle.script_text.specs.Grammar.{Command, Parsed, Nothing, Bad, Says, HasWords, parsed_from}
+use Rattle.script_text.specs.Grammar.{Command, Parsed, Nothing, Bad, Says, SaysList, parsed_from}
 use Rattle.flow.specs.Session.{Graph, Standing}
-use Rattle.flow.specs.Script.{Replies, Answered, Begins, Stops, StopsBetween, Went, Unwritten, Flows, Ends, Breaks, BreaksAt, script_after, script_of}
+use Rattle.flow.specs.Script.{Replies, Answered, Begins, Stops, StopsBetween, Went, Unwritten, Flows, Ends, Breaks, script_after, script_of}
 use Rattle.flow.specs.declared.script.ScriptFault.{ScriptFault}
 use Rattle.flow.specs.declared.script.ScriptFault.TheVariants.{BadLine, Read, Write, Memory}
 
@@ -83,9 +83,9 @@ module _ (g : Graph) where
       }
 
   -- a stop behind lines that were answered
-  pub stops_behind : (all rest : List ℕ → List Parsed) (xs : List Parsed) (st mid : Standing) (o p q : Option (List ℕ)) (count later n : ℕ) (fault : ScriptFault) →
-      ((more : List ℕ) → all more ≡ xs ++ rest more) → Answered g st mid o p xs → later ≡ count + length xs → Stops g mid p q rest later n fault → Stops g st o q all count n fault
-  stops_behind all rest xs st mid o p q count later n (BadLine bad) e h l s =
+  pub stops_behind : (all rest : List ℕ → List Parsed) (xs : List Parsed) (st mid : Standing) (o p q : Option (List ℕ)) (count later : ℕ) (fault : ScriptFault) →
+      ((more : List ℕ) → all more ≡ xs ++ rest more) → Answered g st mid o p xs → later ≡ count + length xs → Stops g mid p q rest later fault → Stops g st o q all count fault
+  stops_behind all rest xs st mid o p q count later (BadLine bad) e h l s =
       record {
         before = xs ++ s.before;
         last = s.last;
@@ -93,19 +93,16 @@ module _ (g : Graph) where
         next = begins_more all rest xs s.before (Bad ∷ []) e s.next;
         number = let sum = length-append xs s.before in s.number ∙ (omega arith);
       }
-  stops_behind all rest xs st mid o p q count later n Read e h l s = between_behind all rest xs st mid o p q count later e h l s
-  stops_behind all rest xs st mid o p q count later n Memory e h l (inl s) = inl (between_behind all rest xs st mid o p q count later e h l s)
-  stops_behind all rest xs st mid o p q count later n Memory e h l (inr s) =
-      inr (record {
+  stops_behind all rest xs st mid o p q count later Read e h l s = between_behind all rest xs st mid o p q count later e h l s
+  stops_behind all rest xs st mid o p q count later Memory e h l s =
+      record {
         before = xs ++ s.before;
         last = s.last;
         answered = both_answered st mid s.last o p q xs s.before h s.answered;
-        line = s.line;
-        words = s.words;
-        next = begins_more all rest xs s.before (s.line ∷ []) e s.next;
-        number = let sum = length-append xs s.before in s.number ∙ (omega arith);
-      })
-  stops_behind all rest xs st mid o p q count later n Write e h l s =
+        command = s.command;
+        next = begins_more all rest xs s.before (Says s.command ∷ []) e s.next;
+      }
+  stops_behind all rest xs st mid o p q count later Write e h l s =
       record {
         before = xs ++ s.before;
         last = s.last;
@@ -131,29 +128,32 @@ module _ (g : Graph) where
       }
 
   -- memory ran out in the first line, and nothing was written
-  pub stops_in_line : (said : List ℕ → List Parsed) (st : Standing) (out : Option (List ℕ)) (line : Parsed) (count n : ℕ) → HasWords line → Begins said (line ∷ []) → n ≡ suc count →
-      Stops g st out out said count n Memory
-  stops_in_line said st out line count n w b e =
-      inr (record { before = []; last = st; answered = none_answered st out; line = line; words = w; next = b; number = omega (arith, e) })
+  stops_in_command : (said : List ℕ → List Parsed) (st : Standing) (out : Option (List ℕ)) (c : Command) (count : ℕ) → Begins said (Says c ∷ []) → Stops g st out out said count Memory
+  stops_in_command said st out c count b = record { before = []; last = st; answered = none_answered st out; command = c; next = b }
+
+  pub stops_in_line : (said : List ℕ → List Parsed) (st : Standing) (out : Option (List ℕ)) (line : Parsed) (count : ℕ) → SaysList line → Begins said (line ∷ []) → Stops g st out out said count Memory
+  stops_in_line said st out Nothing count w b = absurd w
+  stops_in_line said st out Bad count w b = absurd w
+  stops_in_line said st out (Says c) count w b = stops_in_command said st out c count b
 
   -- no reply to the first line was written, or only a beginning of it
-  pub stops_at : (said : List ℕ → List Parsed) (c : Command) (old new : Standing) (out out' : Option (List ℕ)) (count n : ℕ) (fault : ScriptFault) →
-      Begins said (Says c ∷ []) → n ≡ suc count → Unwritten g c old new out out' fault → Stops g old out out' said count n fault
-  stops_at said c old new out out' count n (BadLine bad) b e u = absurd u
-  stops_at said c old new out out' count n Read b e u = absurd u
-  stops_at said c old new out out' count n Write b e u =
+  pub stops_at : (said : List ℕ → List Parsed) (c : Command) (old new : Standing) (out out' : Option (List ℕ)) (count : ℕ) (fault : ScriptFault) →
+      Begins said (Says c ∷ []) → Unwritten g c old new out out' fault → Stops g old out out' said count fault
+  stops_at said c old new out out' count (BadLine bad) b u = absurd u
+  stops_at said c old new out out' count Read b u = absurd u
+  stops_at said c old new out out' count Write b u =
       record { before = []; last = old; between = out; answered = none_answered old out; command = c; after = new; text = u.0; reply = u.1; cut = u.2; next = b }
-  stops_at said c old new out out' count n Memory b e u =
-      subst (λ (o : Option (List ℕ)). Stops g old out o said count n Memory) (sym u) (stops_in_line said old out (Says c) count n tt b e)
+  stops_at said c old new out out' count Memory b u =
+      subst (λ (o : Option (List ℕ)). Stops g old out o said count Memory) (sym u) (stops_in_command said old out c count b)
 
   -- the same of a result, which may be no fault
-  pub stops_if : (said : List ℕ → List Parsed) (c : Command) (old new : Standing) (out out' : Option (List ℕ)) (count n : ℕ) (result : Result (Unit {0}) ScriptFault) →
-      Begins said (Says c ∷ []) → n ≡ suc count → IfErr result (λ fault. Unwritten g c old new out out' fault) → IfErr result (λ fault. Stops g old out out' said count n fault)
-  stops_if said c old new out out' count n (Ok x) b e u = tt
-  stops_if said c old new out out' count n (Err fault) b e u = stops_at said c old new out out' count n fault b e u
+  pub stops_if : (said : List ℕ → List Parsed) (c : Command) (old new : Standing) (out out' : Option (List ℕ)) (count : ℕ) (result : Result (Unit {0}) ScriptFault) →
+      Begins said (Says c ∷ []) → IfErr result (λ fault. Unwritten g c old new out out' fault) → IfErr result (λ fault. Stops g old out out' said count fault)
+  stops_if said c old new out out' count (Ok x) b u = tt
+  stops_if said c old new out out' count (Err fault) b u = stops_at said c old new out out' count fault b u
 
   -- the last line, where only a bad one is left
-  pub stops_bad_last : (st : Standing) (out : Option (List ℕ)) (s : Split) (n : ℕ) → Bad ∷ [] ≡ parsed_from (suc s.taken) (lines_of s.rest) → n ≡ suc s.taken → Stops g st out out (λ more. said_of s []) s.taken (suc s.taken) (BadLine n)
+  pub stops_bad_last : (st : Standing) (out : Option (List ℕ)) (s : Split) (n : ℕ) → Bad ∷ [] ≡ parsed_from (suc s.taken) (lines_of s.rest) → n ≡ suc s.taken → Stops g st out out (λ more. said_of s []) s.taken (BadLine n)
   stops_bad_last st out s n e i =
       record { before = []; last = st; answered = none_answered st out; next = λ more. ([], said_last s (Bad ∷ []) e); number = omega arith }
 
@@ -174,12 +174,13 @@ module _ (g : Graph) where
   consumes_none a b c xs p q = subst (Consumes a c) (append-nil xs) (Consumes-trans a b c xs [] p q)
 
   -- a script begins
-  pub flows_start : (st : Standing) (input out : Option (List ℕ)) (s : Split) → s ≡ record { rest = []; line = []; taken = 0 } → Flows g st st input input out out s
-  flows_start st input out s e = subst (λ (t : Split). Flows g st st input input out out t) (sym e) start
+  pub flows_start : (st : Standing) (input out : Option (List ℕ)) (s : Split) → s ≡ record { rest = []; line = []; taken = 0 } → Flows g st st input input out out s 0
+  flows_start st input out s e = subst (λ (t : Split). Flows g st st input input out out t 0) (sym e) start
     where
-      start : Flows g st st input input out out (record { rest = []; line = []; taken = 0 })
+      start : Flows g st st input input out out (record { rest = []; line = []; taken = 0 }) 0
       start = record {
         given = [];
+        many = omega arith;
         before = [];
         read = Consumes-nil input;
         answered = none_answered st out;
@@ -190,11 +191,12 @@ module _ (g : Graph) where
       }
 
   -- a piece was read and pushed, and its lines were answered
-  pub flows_on : (st mid last : Standing) (i j k o p q : Option (List ℕ)) (s t u : Split) (piece : List ℕ) → Flows g st mid i j o p s → Consumes j k piece →
-      t.rest ≡ s.rest ++ piece → t.taken ≡ s.taken → Went g mid last p q t u → IsUnfinished u.rest → Flows g st last i k o q u
-  flows_on st mid last i j k o p q s t u piece f c r n w h =
+  pub flows_on : (st mid last : Standing) (i j k o p q : Option (List ℕ)) (s t u : Split) (piece : List ℕ) (pieces : ℕ) → Flows g st mid i j o p s pieces → 0 < length piece → Consumes j k piece →
+      t.rest ≡ s.rest ++ piece → t.taken ≡ s.taken → Went g mid last p q t u → IsUnfinished u.rest → Flows g st last i k o q u (pieces + 1)
+  flows_on st mid last i j k o p q s t u piece pieces f some c r n w h =
       record {
         given = f.given ++ piece;
+        many = let sum = length-append f.given piece in let so_far = f.many in omega (arith, sum, so_far, some);
         before = f.before ++ w.before;
         read = Consumes-trans i j k f.given piece f.read c;
         answered = both_answered st mid last o p q f.before w.before f.answered w.answered;
@@ -205,31 +207,31 @@ module _ (g : Graph) where
       }
 
   -- a piece was read and pushed, and the script stops in its lines
-  pub breaks_in : (st mid : Standing) (i j k o p q : Option (List ℕ)) (s t : Split) (piece : List ℕ) (n : ℕ) (fault : ScriptFault) → Flows g st mid i j o p s → Consumes j k piece →
-      t.rest ≡ s.rest ++ piece → t.taken ≡ s.taken → Stops g mid p q (said_of t) t.taken n fault → BreaksAt g st i k o q n fault
-  breaks_in st mid i j k o p q s t piece m fault f c r n h =
+  pub breaks_in : (st mid : Standing) (i j k o p q : Option (List ℕ)) (s t : Split) (piece : List ℕ) (pieces : ℕ) (fault : ScriptFault) → Flows g st mid i j o p s pieces → Consumes j k piece →
+      t.rest ≡ s.rest ++ piece → t.taken ≡ s.taken → Stops g mid p q (said_of t) t.taken fault → Breaks g st i k o q fault
+  breaks_in st mid i j k o p q s t piece pieces fault f c r n h =
       record {
         given = f.given ++ piece;
         read = Consumes-trans i j k f.given piece f.read c;
-        stops = inl (stops_behind (script_after (f.given ++ piece)) (said_of t) f.before st mid o p q 0 t.taken m fault
+        stops = inl (stops_behind (script_after (f.given ++ piece)) (said_of t) f.before st mid o p q 0 t.taken fault
             (λ more. after_both f.given piece more ∙ f.says (piece ++ more) ∙ ap (λ (l : List Parsed). f.before ++ l) (said_pushed s t piece more r n))
             f.answered (let taken = f.counted in omega (arith, n, taken)) h);
       }
 
   -- the reader is at its end, and the script stops in the last line
-  pub breaks_last : (st mid : Standing) (i j k o p q : Option (List ℕ)) (s : Split) (fault : ScriptFault) → Flows g st mid i j o p s → Consumes j k [] → IsAtEnd k →
-      Stops g mid p q (λ more. said_of s []) s.taken (suc s.taken) fault → BreaksAt g st i k o q s.taken fault
-  breaks_last st mid i j k o p q s fault f c e h =
+  pub breaks_last : (st mid : Standing) (i j k o p q : Option (List ℕ)) (s : Split) (pieces : ℕ) (fault : ScriptFault) → Flows g st mid i j o p s pieces → Consumes j k [] → IsAtEnd k →
+      Stops g mid p q (λ more. said_of s []) s.taken fault → Breaks g st i k o q fault
+  breaks_last st mid i j k o p q s pieces fault f c e h =
       record {
         given = f.given;
         read = consumes_none i j k f.given f.read c;
-        stops = inr (e, stops_behind (script_of f.given) (λ more. said_of s []) f.before st mid o p q 0 s.taken (suc s.taken) fault (λ more. f.says []) f.answered (let taken = f.counted in omega (arith, taken)) h);
+        stops = inr (inl (e, stops_behind (script_of f.given) (λ more. said_of s []) f.before st mid o p q 0 s.taken fault (λ more. f.says []) f.answered (let taken = f.counted in omega (arith, taken)) h));
       }
 
   -- the reader is at its end, and the last line was answered
-  pub ends_last : (st mid last : Standing) (i j k o p q : Option (List ℕ)) (s : Split) → Flows g st mid i j o p s → Consumes j k [] → IsAtEnd k →
+  pub ends_last : (st mid last : Standing) (i j k o p q : Option (List ℕ)) (s : Split) (pieces : ℕ) → Flows g st mid i j o p s pieces → Consumes j k [] → IsAtEnd k →
       Answered g mid last p q (said_of s []) → Ends g st last i k o q
-  ends_last st mid last i j k o p q s f c e h =
+  ends_last st mid last i j k o p q s pieces f c e h =
       record {
         given = f.given;
         read = consumes_none i j k f.given f.read c;
@@ -238,8 +240,8 @@ module _ (g : Graph) where
       }
 
   -- all whole lines were answered
-  between_pieces : (st mid : Standing) (i j o p : Option (List ℕ)) (s : Split) → (f : Flows g st mid i j o p s) → StopsBetween g st o p (script_after f.given) 0
-  between_pieces st mid i j o p s f =
+  between_pieces : (st mid : Standing) (i j o p : Option (List ℕ)) (s : Split) (pieces : ℕ) → (f : Flows g st mid i j o p s pieces) → StopsBetween g st o p (script_after f.given) 0
+  between_pieces st mid i j o p s pieces f =
       let number : s.taken ≡ 0 + length f.before = let taken = f.counted in omega (arith, taken) in
       record {
         before = f.before;
@@ -250,14 +252,16 @@ module _ (g : Graph) where
         next = λ more. f.says more ∙ ap (λ (n : ℕ). f.before ++ parsed_from (suc n) (lines_of (s.rest ++ more))) number;
       }
 
-  -- the script stops between pieces
-  pub breaks_between : (st mid : Standing) (i j o p : Option (List ℕ)) (s : Split) (n : ℕ) → Flows g st mid i j o p s → BreaksAt g st i j o p n Memory
-  breaks_between st mid i j o p s n f = record { given = f.given; read = f.read; stops = inl (inl (between_pieces st mid i j o p s f)) }
+  -- more pieces were read than a script without a bad line can have
+  pub breaks_between : (st mid : Standing) (i j o p : Option (List ℕ)) (s : Split) (pieces : ℕ) → Flows g st mid i j o p s pieces → 2 ^ 64 - 1 ≤ pieces → Breaks g st i j o p Memory
+  breaks_between st mid i j o p s pieces f all =
+      let many = f.many in
+      record { given = f.given; read = f.read; stops = inr (inr (inr (omega (arith, many, all)))) }
 
   -- a read failed
-  pub breaks_read : (st mid : Standing) (i j k o p : Option (List ℕ)) (s : Split) (n : ℕ) → Flows g st mid i j o p s → Keeps j k → BreaksAt g st i k o p n Read
-  breaks_read st mid i j k o p s n f c = record { given = f.given; read = Consumes-kept i j k f.given f.read c; stops = inl (between_pieces st mid i j o p s f) }
+  pub breaks_read : (st mid : Standing) (i j k o p : Option (List ℕ)) (s : Split) (pieces : ℕ) → Flows g st mid i j o p s pieces → Keeps j k → Breaks g st i k o p Read
+  breaks_read st mid i j k o p s pieces f c = record { given = f.given; read = Consumes-kept i j k f.given f.read c; stops = inl (between_pieces st mid i j o p s pieces f) }
 
   -- nothing was read
   pub breaks_first : (st : Standing) (input out : Option (List ℕ)) → Breaks g st input input out out Memory
-  breaks_first st input out = (0, breaks_between st st input input out out (record { rest = []; line = []; taken = 0 }) 0 (flows_start st input out (record { rest = []; line = []; taken = 0 }) refl))
+  breaks_first st input out = record { given = []; read = Consumes-nil input; stops = inr (inr (inl (refl, refl))) }

@@ -61,11 +61,11 @@ module _ {A : Type 0} (IsDone : List ℕ → ℕ → Type 0) (r : Result A Refus
   refused_not out (Script (BadLine n)) h = h
   refused_not out (Script Read) h = h
   refused_not out (Script Write) h = absurd h
-  refused_not out (Script Memory) h = refl
+  refused_not out (Script Memory) h = (h, refl)
   refused_not out (Run fault) h = absurd h
 
   pub failed_not : (out : Option (List ℕ)) (fault : Fault) → Fails r fault → RunsNot IsDone r out out fault
-  failed_not out (Run fault) h = refl
+  failed_not out (Run fault) h = (h, refl)
   failed_not out (File fault) h = refused_not out (File fault) h
   failed_not out (Script fault) h = refused_not out (Script fault) h
 

@@ -1,11 +1,11 @@
--- From a graph file to its plant.
-use Rattle.std.proofs.Common.{◌≡◌, ℕ, zero, suc, ◌+◌, List, [], ◌∷◌, ◌++◌, length, length-append, take, arith, map, Some, None, Bool, true, refl, ap, sym, ◌∙◌, subst, add-one, not, inl, inr, ℤ}
+-- From a graph file to its plant, and the line that tells a fault.
+use Rattle.std.proofs.Common.{◌≡◌, ℕ, zero, suc, ◌+◌, List, [], ◌∷◌, ◌++◌, length, length-append, take, drop, get_or, ◌<◌, append_assoc, arith, map, Some, None, Bool, true, refl, ap, sym, ◌∙◌, subst, add-one, not, inl, inr, ℤ}
 use Rattle.std.specs.Prelude.{Option, Result, Ok, Err, nat_lt, ◌&&◌, position, bytes_eq, ◌==◌, OnOk, OnErr, is_ok, if◌then◌else◌}
-use Rattle.std.specs.List.{list_all}
+use Rattle.std.specs.List.{list_all, flat_map}
 use Rattle.std.specs.Str.{IsUtf8, is_utf8}
 use Rattle.std.specs.Io.KnownBytes.{Appends}
 use Rattle.std.proofs.Math.Seq.{take-append-add}
-use Rattle.std.proofs.lemmas.List.{take-append-le}
+use Rattle.std.proofs.lemmas.List.{take-append-le, drop_more}
 use Rattle.flow.proofs.Flows.{appends_both}
 use Rattle.std.proofs.lemmas.Str.{IsUtf8-from_is_utf8, is_utf8-from_IsUtf8}
 use Rattle.toml.specs.Parse.{parse_document}
@@ -28,7 +28,7 @@ use Rattle.graph_file.specs.Opening.{Opened, opened, opened_in, validated, feed_
 use Rattle.script_text.specs.Ends.{AppendsBeginning}
 use Rattle.script_text.specs.declared.ends.Broken.{Broken}
 use Rattle.top_block.proofs.Idles.{feed-progress, idle-same, opening-idle}
-use Rattle.flow.specs.Serve.{Tries, content_in}
+use Rattle.flow.specs.Serve.{Stream, Tries, content_in}
 
 -- what is read of a text
 pub content_ok : (text : List ℕ) (c : Content) → IsUtf8 text → file_of (parse_document text) ≡ Ok c → content_in text ≡ Ok c
@@ -116,3 +116,19 @@ pub tries_not : (a b : Option (List ℕ)) (m n : ℕ) (xs ys : List ℕ) → App
 tries_not a b m n xs ys h e =
     let size = length-append xs ys in
     inr ((h.0, omega (arith, size, h.1), subst (Appends a b) (sym (take-append-le h.0 xs ys h.1)) h.2), e)
+
+module _ {X : Type 0} (f : X → List ℕ) (xs : List X) (i : ℕ) (x : X) (end : List ℕ) (a b : Option (List ℕ)) (m n : ℕ) where
+  split : i < length xs → flat_map f (drop i xs) ++ end ≡ f (get_or xs i x) ++ (flat_map f (drop (i + 1) xs) ++ end)
+  split in' = ap (λ (l : List X). flat_map f l ++ end) (drop_more xs i x in') ∙ append_assoc (f (get_or xs i x)) (flat_map f (drop (i + 1) xs)) end
+
+  -- the next piece of a text was written, and then the rest
+  pub tries_more : i < length xs → Appends a b (f (get_or xs i x)) → n ≡ m → (last : Stream) → Tries (record { bytes = b; failed = n }) last (flat_map f (drop (i + 1) xs) ++ end) →
+      Tries (record { bytes = a; failed = m }) last (flat_map f (drop i xs) ++ end)
+  tries_more in' h e last rest =
+      subst (Tries (record { bytes = a; failed = m }) last) (sym (split in'))
+      (tries_on a b last.bytes m n last.failed (f (get_or xs i x)) (flat_map f (drop (i + 1) xs) ++ end) h e rest)
+
+  -- or its write failed
+  pub tries_no_more : i < length xs → AppendsBeginning a b (f (get_or xs i x)) → n ≡ m + 1 → Tries (record { bytes = a; failed = m }) (record { bytes = b; failed = n }) (flat_map f (drop i xs) ++ end)
+  tries_no_more in' h e =
+      subst (Tries (record { bytes = a; failed = m }) (record { bytes = b; failed = n })) (sym (split in')) (tries_not a b m n (f (get_or xs i x)) (flat_map f (drop (i + 1) xs) ++ end) h e)

@@ -24,12 +24,9 @@ fault_text (File fault) = files.fault_text fault
 fault_text (Script fault) = script_fault_text fault
 fault_text (Run fault) = thread_fault_text fault
 
--- the line that tells a fault, and the one where there is no memory for its text
+-- the line that tells a fault
 abbrev pub fault_line : Fault → List ℕ
 fault_line fault = line_text (codes "flow: refused " ++ fault_text fault)
-
-abbrev pub no_memory_line : List ℕ
-no_memory_line = line_text (codes "flow: refused 32 Memory")
 
 -- the number of out of memory
 abbrev pub memory_number : ℕ

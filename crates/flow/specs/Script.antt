@@ -1,11 +1,11 @@
 -- What a script writes.
-use Rattle.std.specs.Prelude.{◌≡◌, ℕ, suc, ◌+◌, ◌≤◌, ◌⊎◌, List, [], ◌∷◌, ◌++◌, length, Option, Bool, true, false, Result, Ok, Err}
+use Rattle.std.specs.Prelude.{◌≡◌, ℕ, suc, ◌+◌, ◌-◌, ◌^◌, ◌≤◌, ◌⊎◌, List, [], ◌∷◌, ◌++◌, length, Option, Bool, true, false, Result, Ok, Err}
 use Rattle.std.specs.Io.KnownBytes.{Appends, Consumes, IsAtEnd}
 use Rattle.stream_model.specs.Network.{State}
 use Rattle.script_text.specs.Lines.{lines_of, most_lines}
 use Rattle.script_text.specs.Splits.{Split, IsUnfinished, KeepsBytes}
 use Rattle.script_text.specs.Scripts.{said_of, GoesOn}
-use Rattle.script_text.specs.Grammar.{Command, Parsed, Nothing, Bad, Says, HasWords, parsed_from}
+use Rattle.script_text.specs.Grammar.{Command, Parsed, Nothing, Bad, Says, parsed_from}
 use Rattle.script_text.specs.Ends.{AppendsBeginning}
 use Rattle.flow.specs.Session.{Graph, Standing, Answers}
 use Rattle.flow.specs.declared.script.ScriptFault.{ScriptFault}
@@ -46,15 +46,13 @@ pub record StopsBetween (g : Graph) (st : Standing) (out out' : Option (List ℕ
   pub unfinished : IsUnfinished rest
   pub next : (more : List ℕ) → said more ≡ before ++ parsed_from (suc (count + length before)) (lines_of (rest ++ more))
 
--- the lines before the one of this number were answered, and that one says something
-pub record StopsInLine (g : Graph) (st : Standing) (out out' : Option (List ℕ)) (said : List ℕ → List Parsed) (count n : ℕ) : Type 0 where
+-- some lines were answered, and the next is a command: no other line takes memory, and so none that is bad
+pub record StopsInLine (g : Graph) (st : Standing) (out out' : Option (List ℕ)) (said : List ℕ → List Parsed) : Type 0 where
   pub before : List Parsed
   pub last : Standing
   pub answered : Answered g st last out out' before
-  pub line : Parsed
-  pub words : HasWords line
-  pub next : Begins said (before ++ line ∷ [])
-  pub number : n ≡ suc (count + length before)
+  pub command : Command
+  pub next : Begins said (before ++ Says command ∷ [])
 
 -- a line was answered, and only a beginning of its reply was written
 pub record StopsWriting (g : Graph) (st : Standing) (out out' : Option (List ℕ)) (said : List ℕ → List Parsed) : Type 0 where
@@ -69,13 +67,13 @@ pub record StopsWriting (g : Graph) (st : Standing) (out out' : Option (List ℕ
   pub cut : AppendsBeginning between out' text
   pub next : Begins said (before ++ Says command ∷ [])
 
--- where a script stops by a fault, at the line of number n if it stops in one: at the first bad line, where a read fails behind all whole lines that
--- were read, and where memory runs out behind these too, or in a line, behind all lines before it
-abbrev pub Stops : Graph → Standing → Option (List ℕ) → Option (List ℕ) → (List ℕ → List Parsed) → ℕ → ℕ → ScriptFault → Type 0
-Stops g st out out' said count n (BadLine bad) = StopsAtBad g st out out' said count bad
-Stops g st out out' said count n Read = StopsBetween g st out out' said count
-Stops g st out out' said count n Write = StopsWriting g st out out' said
-Stops g st out out' said count n Memory = StopsBetween g st out out' said count ⊎ StopsInLine g st out out' said count n
+-- where a script stops by a fault, behind so many lines that came before what is said: at the first bad line, where a read fails behind all whole lines
+-- that were read, and where a write fails or memory runs out at a command, behind all lines before it
+abbrev pub Stops : Graph → Standing → Option (List ℕ) → Option (List ℕ) → (List ℕ → List Parsed) → ℕ → ScriptFault → Type 0
+Stops g st out out' said count (BadLine bad) = StopsAtBad g st out out' said count bad
+Stops g st out out' said count Read = StopsBetween g st out out' said count
+Stops g st out out' said count Write = StopsWriting g st out out' said
+Stops g st out out' said count Memory = StopsInLine g st out out' said
 
 -- the lines of a script that begins with these bytes
 abbrev pub script_after : List ℕ → List ℕ → List Parsed
@@ -97,15 +95,19 @@ pub record EndsIn (g : Graph) (st : Standing) (state : State) (input input' out 
   pub kept : List Bool
   pub ends : Ends g st (record { state = state; kept = kept }) input input' out out'
 
--- a script stops by a fault, after the reader gave some bytes, of which so many lines were taken: in the last of these, or since the reader is at its
--- end in the line behind them
-pub record BreaksAt (g : Graph) (st : Standing) (input input' out out' : Option (List ℕ)) (taken : ℕ) (fault : ScriptFault) : Type 0 where
+-- memory ran out at no line: before anything was read, or behind more pieces than a script without a bad line can have
+abbrev pub StopsAtNone : List ℕ → Option (List ℕ) → Option (List ℕ) → ScriptFault → Type 0
+StopsAtNone given out out' (BadLine n) = ⊥
+StopsAtNone given out out' Read = ⊥
+StopsAtNone given out out' Write = ⊥
+StopsAtNone given out out' Memory = ((given ≡ []) × (out' ≡ out)) ⊎ (2 ^ 64 - 1 ≤ length given)
+
+-- a script stops by a fault, after the reader gave some bytes: at one of their whole lines, or since the reader is at its end at one of all their lines;
+-- or at none
+pub record Breaks (g : Graph) (st : Standing) (input input' out out' : Option (List ℕ)) (fault : ScriptFault) : Type 0 where
   pub given : List ℕ
   pub read : Consumes input input' given
-  pub stops : Stops g st out out' (script_after given) 0 taken fault ⊎ (IsAtEnd input' × Stops g st out out' (script_of given) 0 (suc taken) fault)
-
-abbrev pub Breaks : Graph → Standing → Option (List ℕ) → Option (List ℕ) → Option (List ℕ) → Option (List ℕ) → ScriptFault → Type 0
-Breaks g st input input' out out' fault = (taken : ℕ) × BreaksAt g st input input' out out' taken fault
+  pub stops : Stops g st out out' (script_after given) 0 fault ⊎ ((IsAtEnd input' × Stops g st out out' (script_of given) 0 fault) ⊎ StopsAtNone given out out' fault)
 
 -- how many reads failed, and how many writes
 abbrev pub failed_reads : {X : Type 0} → Result X ScriptFault → ℕ
@@ -142,9 +144,10 @@ pub record Went (g : Graph) (st last : Standing) (out out' : Option (List ℕ)) 
   pub counted : new.taken ≡ old.taken + length before
   pub low : new.taken ≤ most_lines
 
--- what a script did so far, between its pieces
-pub record Flows (g : Graph) (st last : Standing) (input input' out out' : Option (List ℕ)) (lines : Split) : Type 0 where
+-- what a script did so far, between its pieces, of which so many were read
+pub record Flows (g : Graph) (st last : Standing) (input input' out out' : Option (List ℕ)) (lines : Split) (pieces : ℕ) : Type 0 where
   pub given : List ℕ
+  pub many : pieces ≤ length given
   pub before : List Parsed
   pub read : Consumes input input' given
   pub answered : Answered g st last out out' before

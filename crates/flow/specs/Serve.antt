@@ -1,5 +1,5 @@
 -- What the program does with a graph file and its streams.
-use Rattle.std.specs.Prelude.{ℕ, zero, suc, ◌+◌, ◌≡◌, ◌⊎◌, List, length, Option, true, false, Result, Ok, Err, if◌then◌else◌}
+use Rattle.std.specs.Prelude.{ℕ, zero, suc, ◌+◌, ◌≡◌, ◌⊎◌, List, length, Option, true, false, Result, Ok, Err, IsOk, if◌then◌else◌}
 use Rattle.std.specs.Str.{is_utf8}
 use Rattle.std.specs.Io.KnownBytes.{Appends}
 use Rattle.toml.specs.Parse.{parse_document}
@@ -19,7 +19,7 @@ use Rattle.script_text.specs.Ends.{AppendsBeginning}
 use Rattle.top_block.specs.Closing.{closed}
 use Rattle.flow.specs.Session.{graph_of, standing_of, none_kept}
 use Rattle.flow.specs.Script.{EndsIn, Breaks, failed_reads, failed_writes}
-use Rattle.flow.specs.Faults.{fault_line, no_memory_line, status_of}
+use Rattle.flow.specs.Faults.{fault_line, status_of}
 use Rattle.flow.specs.Reports.{check_text, run_text}
 use Rattle.flow.specs.declared.fault.Fault.{Fault}
 use Rattle.flow.specs.declared.fault.Fault.TheVariants.{File, Script, Run}
@@ -46,18 +46,18 @@ graph_in text = (then) (content_in text) (λ c. validated c.graph)
 abbrev pub plant_in : List ℕ → Result Opened Refusal
 plant_in text = (then) (content_in text) opened
 
--- a file is refused, or memory ran out
+-- a file is refused, or it is not, and memory ran out behind it
 abbrev pub Refuses : {A : Type 0} → Result A Refusal → Fault → Type 0
 Refuses r (File fault) = IsRefused r fault
 Refuses r (Script (BadLine n)) = ⊥
 Refuses r (Script Read) = ⊥
 Refuses r (Script Write) = ⊥
-Refuses r (Script Memory) = Unit {0}
+Refuses r (Script Memory) = IsOk r
 Refuses r (Run fault) = ⊥
 
 -- the same, or a run of it in threads came to no end
 abbrev pub Fails : {A : Type 0} → Result A Refusal → Fault → Type 0
-Fails r (Run fault) = Unit {0}
+Fails r (Run fault) = IsOk r
 Fails r (File fault) = Refuses r (File fault)
 Fails r (Script fault) = Refuses r (Script fault)
 
@@ -109,12 +109,12 @@ WritesNot IsDone r out out' (File fault) = IsRefused r fault × (out' ≡ out)
 WritesNot IsDone r out out' (Script (BadLine n)) = ⊥
 WritesNot IsDone r out out' (Script Read) = ⊥
 WritesNot IsDone r out out' (Script Write) = (text : List ℕ) × (status : ℕ) × IsDone text status × AppendsBeginning out out' text
-WritesNot IsDone r out out' (Script Memory) = out' ≡ out
+WritesNot IsDone r out out' (Script Memory) = IsOk r × (out' ≡ out)
 WritesNot IsDone r out out' (Run fault) = ⊥
 
 -- the same, or a run in threads came to no end
 abbrev pub RunsNot : {A : Type 0} → (List ℕ → ℕ → Type 0) → Result A Refusal → Option (List ℕ) → Option (List ℕ) → Fault → Type 0
-RunsNot IsDone r out out' (Run fault) = out' ≡ out
+RunsNot IsDone r out out' (Run fault) = IsOk r × (out' ≡ out)
 RunsNot IsDone r out out' (File fault) = WritesNot IsDone r out out' (File fault)
 RunsNot IsDone r out out' (Script fault) = WritesNot IsDone r out out' (Script fault)
 
@@ -171,16 +171,10 @@ writes_in (Err fault) = writes_failed fault
 abbrev pub Tries : Stream → Stream → List ℕ → Type 0
 Tries old new line = (Appends old.bytes new.bytes line × (new.failed ≡ old.failed)) ⊎ (AppendsBeginning old.bytes new.bytes line × (new.failed ≡ old.failed + 1))
 
--- the fault is told by one line. Where it is one of the file, and there is no memory for its text, that is told in its place
-abbrev pub Tells : Stream → Stream → Fault → Type 0
-Tells old new (Script fault) = Tries old new (fault_line (Script fault))
-Tells old new (Run fault) = Tries old new (fault_line (Run fault))
-Tells old new (File fault) = Tries old new (fault_line (File fault)) ⊎ Tries old new no_memory_line
-
 -- a command was done, and nothing is told of a fault; or it was not, the fault is told, and the status is the one that it brings
 pub data Serves (c : Command) (file : List ℕ) (input input' output output' errors errors' : Stream) : ℕ → Type 0 where
   Well : (status : ℕ) → Does c file input.bytes input'.bytes output.bytes output'.bytes status →
       input'.failed ≡ input.failed → output'.failed ≡ output.failed → errors' ≡ errors → Serves c file input input' output output' errors errors' status
   Badly : (fault : Fault) → DoesNot c file input.bytes input'.bytes output.bytes output'.bytes fault →
-      input'.failed ≡ input.failed + reads_failed fault → output'.failed ≡ output.failed + writes_failed fault → Tells errors errors' fault →
+      input'.failed ≡ input.failed + reads_failed fault → output'.failed ≡ output.failed + writes_failed fault → Tries errors errors' (fault_line fault) →
       Serves c file input input' output output' errors errors' (status_of fault)

@@ -6,7 +6,7 @@ ghost use Rattle.flow.specs.declared.script.ScriptFault.TheVariants.{Memory};
 
 use crate::script::ScriptFault;
 use crate::thread_fault::ThreadFault;
-use graph_file::FileFault;
+use graph_file::{FileFault, Pieces};
 use std::alloc::AllocError;
 use std::fmt;
 use thiserror::Error;
@@ -37,6 +37,22 @@ impl Fault {
             Fault::File(_) | Fault::Script(ScriptFault::BadLine(_)) => 1,
             Fault::Script(ScriptFault::Read | ScriptFault::Write | ScriptFault::Memory)
             | Fault::Run(_) => 4,
+        }
+    }
+}
+
+impl Fault {
+    ghost use Rattle.graph_file.specs.Texts.{joined};
+    ghost use Rattle.flow.specs.Faults.{fault_text};
+
+    /// The text of the fault in pieces, for which no memory is asked.
+    pub fn pieces(&self) -> Pieces<'_>
+        ensures { joined result ≡ fault_text self.now }
+    {
+        match self {
+            Fault::File(fault) => fault.pieces(),
+            Fault::Script(fault) => fault.pieces(),
+            Fault::Run(fault) => fault.pieces(),
         }
     }
 }

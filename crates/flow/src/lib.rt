@@ -10,4 +10,5 @@ pub mod script;
 pub mod serve;
 pub mod session;
 pub mod start;
+mod telling;
 pub mod thread_fault;

@@ -7,11 +7,12 @@ ghost use Rattle.script_text.specs.Scripts.{said_of};
 ghost use Rattle.script_text.specs.Grammar.{Says, IsAskable};
 ghost use Rattle.script_text.specs.Commands.{command_seen};
 ghost use Rattle.flow.specs.Session.{graph_of, standing, standing_of, in_standing, in_state, none_kept};
-ghost use Rattle.flow.specs.Script.{Answered, Stops, Unwritten, Proceeds, Went, Ends, EndsIn, Breaks, BreaksAt, failed_reads, failed_writes};
+ghost use Rattle.flow.specs.Script.{Answered, Stops, Unwritten, Proceeds, Went, Ends, EndsIn, Breaks, failed_reads, failed_writes};
 ghost use Rattle.flow.specs.declared.script.ScriptFault.TheVariants.{Memory};
 
 use crate::session::Session;
 use block_kinds::Block;
+use graph_file::Pieces;
 use plant::Plant;
 use script_text::{ByteIn, ByteOut, Command, Line, LineSplitter, last_line, next_line};
 use std::alloc::{AllocError, Global};
@@ -33,6 +34,23 @@ pub enum ScriptFault {
     Memory,
 }
 
+impl ScriptFault {
+    ghost use Rattle.graph_file.specs.Texts.{joined};
+    ghost use Rattle.flow.specs.Faults.{script_fault_text};
+
+    /// The text of the fault in pieces, for which no memory is asked.
+    pub fn pieces(&self) -> Pieces<'static>
+        ensures { joined result ≡ script_fault_text self.now }
+    {
+        match self {
+            ScriptFault::BadLine(number) => Pieces::counted("50 BadLine ", *number),
+            ScriptFault::Read => Pieces::named("51 Read", ""),
+            ScriptFault::Write => Pieces::named("52 Write", ""),
+            ScriptFault::Memory => Pieces::named("32 Memory", ""),
+        }
+    }
+}
+
 impl fmt::Display for ScriptFault {
     ghost use Rattle.std.specs.Prelude.{Some};
     ghost use Rattle.flow.specs.Faults.{script_fault_text};
@@ -40,12 +58,8 @@ impl fmt::Display for ScriptFault {
     ghost output = { λ fault. Some (script_fault_text fault) };
 
     fn fmt<W: fmt::Write>(&self, f: &mut fmt::Formatter<W>) -> fmt::Result {
-        match self {
-            ScriptFault::BadLine(number) => write!(f, "50 BadLine {number}"),
-            ScriptFault::Read => write!(f, "51 Read"),
-            ScriptFault::Write => write!(f, "52 Write"),
-            ScriptFault::Memory => write!(f, "32 Memory"),
-        }
+        let pieces = self.pieces();
+        write!(f, "{pieces}")
     }
 }
 
@@ -57,8 +71,9 @@ impl From<AllocError> for ScriptFault {
     }
 }
 
-/// Reads a script to its end, does what its lines say, and writes a reply to each line that asks something. Where it stops by a bad line or since memory
-/// ran out, the replies to all lines before that one were written; where a read fails, the replies to all whole lines that were read.
+/// Reads a script to its end, does what its lines say, and writes a reply to each line that asks something. Where it stops by a bad line, or since memory
+/// ran out at a command, the replies to all lines before that one were written; where a read fails, the replies to all whole lines that were read. No line
+/// that is bad takes memory, and none is read before all memory for lines and jobs is there.
 pub fn script<B: Block, I: ByteIn, O: ByteOut>(
     alloc: Global,
     plant: Plant<B>,
@@ -92,12 +107,12 @@ fn answer_all<B: Block, I: ByteIn, O: ByteOut>(
     requires writes { O.failed output.old < 2 ^ 64 - 1 }
     ensures same { session.new ≡ in_standing session.old (standing session.new) }
     ensures ends { OnOk result (Ends (graph_of B.meaning session.old.plant) (standing session.old) (standing session.new) (I.remaining input.old) (I.remaining input.new) (O.contents output.old) (O.contents output.new)) }
-    ensures breaks { IfErr result (λ fault. BreaksAt (graph_of B.meaning session.old.plant) (standing session.old) (I.remaining input.old) (I.remaining input.new) (O.contents output.old) (O.contents output.new) lines.new.taken fault) }
+    ensures breaks { IfErr result (λ fault. Breaks (graph_of B.meaning session.old.plant) (standing session.old) (I.remaining input.old) (I.remaining input.new) (O.contents output.old) (O.contents output.new) fault) }
     ensures failed_reads { I.failed input.new ≡ I.failed input.old + failed_reads result }
     ensures failed_writes { O.failed output.new ≡ O.failed output.old + failed_writes result }
 {
     let mut buffer = [0; PIECE];
-    for _ in 0..u64::MAX {
+    for _pieces in 0..u64::MAX {
         let Ok(read) = input.read(&mut buffer) else {
             return Err(ScriptFault::Read);
         };
@@ -123,7 +138,7 @@ fn answer_lines<B: Block, O: ByteOut>(
     ensures same { session.new ≡ in_standing session.old (standing session.new) }
     ensures went { OnOk result (Went (graph_of B.meaning session.old.plant) (standing session.old) (standing session.new) (O.contents output.old) (O.contents output.new) lines.old lines.new) }
     ensures unfinished { OnOk result (IsUnfinished lines.new.rest) }
-    ensures stops { IfErr result (λ fault. Stops (graph_of B.meaning session.old.plant) (standing session.old) (O.contents output.old) (O.contents output.new) (said_of lines.old) lines.old.taken lines.new.taken fault) }
+    ensures stops { IfErr result (λ fault. Stops (graph_of B.meaning session.old.plant) (standing session.old) (O.contents output.old) (O.contents output.new) (said_of lines.old) lines.old.taken fault) }
     ensures failed_reads { failed_reads result ≡ 0 }
     ensures failed_writes { O.failed output.new ≡ O.failed output.old + failed_writes result }
 {
@@ -147,7 +162,7 @@ fn answer_next<B: Block, O: ByteOut>(
     requires writes { O.failed output.old < 2 ^ 64 - 1 }
     ensures same { session.new ≡ in_standing session.old (standing session.new) }
     ensures proceeds { IfOk result (λ came. Proceeds (graph_of B.meaning session.old.plant) (standing session.old) (standing session.new) (O.contents output.old) (O.contents output.new) lines.old lines.new came) }
-    ensures stops { IfErr result (λ fault. Stops (graph_of B.meaning session.old.plant) (standing session.old) (O.contents output.old) (O.contents output.new) (said_of lines.old) lines.old.taken lines.new.taken fault) }
+    ensures stops { IfErr result (λ fault. Stops (graph_of B.meaning session.old.plant) (standing session.old) (O.contents output.old) (O.contents output.new) (said_of lines.old) lines.old.taken fault) }
     ensures failed_reads { failed_reads result ≡ 0 }
     ensures failed_writes { O.failed output.new ≡ O.failed output.old + failed_writes result }
 {
@@ -175,7 +190,7 @@ fn answer_last<B: Block, O: ByteOut>(
     requires writes { O.failed output.old < 2 ^ 64 - 1 }
     ensures same { session.new ≡ in_standing session.old (standing session.new) }
     ensures answered { OnOk result (Answered (graph_of B.meaning session.old.plant) (standing session.old) (standing session.new) (O.contents output.old) (O.contents output.new) (said_of lines.now [])) }
-    ensures stops { IfErr result (λ fault. Stops (graph_of B.meaning session.old.plant) (standing session.old) (O.contents output.old) (O.contents output.new) (λ more. said_of lines.now []) lines.now.taken (suc lines.now.taken) fault) }
+    ensures stops { IfErr result (λ fault. Stops (graph_of B.meaning session.old.plant) (standing session.old) (O.contents output.old) (O.contents output.new) (λ more. said_of lines.now []) lines.now.taken fault) }
     ensures failed_reads { failed_reads result ≡ 0 }
     ensures failed_writes { O.failed output.new ≡ O.failed output.old + failed_writes result }
 {

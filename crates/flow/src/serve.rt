@@ -1,26 +1,24 @@
 //! What the program does with a graph file and its standard streams, over any source and place of bytes.
 
-ghost use Rattle.std.specs.Prelude.{◌≡◌, ◌+◌, ◌++◌, ◌<◌, ◌-◌, ◌^◌, true, IfOk, IfErr, string_bytes, if◌then◌else◌};
+ghost use Rattle.std.specs.Prelude.{◌≡◌, ◌+◌, ◌<◌, ◌-◌, ◌^◌, true, IfOk, IfErr, if◌then◌else◌};
 ghost use Rattle.std.specs.Io.KnownBytes.{Appends};
 ghost use Rattle.stream_model.specs.Machine.{is_idle};
 ghost use Rattle.graph_file.specs.Refusals.{IsRefused};
 ghost use Rattle.graph_file.specs.Blocks.{drafted};
 ghost use Rattle.graph_file.specs.Opening.{opened_of};
 ghost use Rattle.script_text.specs.Ends.{AppendsBeginning};
-ghost use Rattle.flow.specs.Faults.{fault_line};
 ghost use Rattle.flow.specs.Reports.{check_text};
-ghost use Rattle.flow.specs.Serve.{Serves, Tells, Tries, stream, Does, DoesNot, Fails, IsCheck, IsRun, IsRunAlone, Refuses, RunsNot, Writes, WritesNot, IsScript, StopsScript, graph_in, plant_in, reads_in, writes_in};
-ghost use Rattle.flow.specs.declared.fault.Fault.TheVariants.{File, Run, Script};
+ghost use Rattle.flow.specs.Serve.{Serves, stream, Does, DoesNot, Fails, IsCheck, IsRun, IsRunAlone, Refuses, RunsNot, Writes, WritesNot, IsScript, StopsScript, graph_in, plant_in, reads_in, writes_in};
+ghost use Rattle.flow.specs.declared.fault.Fault.TheVariants.{Script};
 ghost use Rattle.flow.specs.declared.script.ScriptFault.TheVariants.{Write};
 
 use crate::fault::Fault;
 use crate::reports::{checked, ended};
 use crate::running::run_plant;
 use crate::script::{ScriptFault, script};
-use crate::thread_fault::ThreadFault;
+use crate::telling::report;
 use flowgraph::Valid;
 use graph_file::{FileFault, read_graph};
-use itoa::Buffer;
 use kinds::Kind;
 use plant::{Plant, Watch};
 use rates::balance;
@@ -83,7 +81,7 @@ pub fn serve<
         Ok(status) => status,
         Err(fault) => {
             let status = fault.status();
-            report(alloc, fault, errors);
+            report(&fault, errors);
             status
         }
     }
@@ -278,88 +276,4 @@ fn written<O: ByteOut>(output: &mut O, outcome: &Outcome) -> Result<u8, Fault>
         Ok(()) => Ok(outcome.status),
         Err(_) => Err(Fault::Script(ScriptFault::Write)),
     }
-}
-
-// Writes the line that says why the command stopped. Where it is a fault of the file, and there is no memory for its text, the line says that.
-fn report<E: ByteOut>(alloc: Global, fault: Fault, errors: &mut E)
-    requires { E.failed errors.old < 2 ^ 64 - 1 }
-    ensures { Tells (stream (E.contents errors.old) (E.failed errors.old)) (stream (E.contents errors.new) (E.failed errors.new)) fault }
-{
-    match fault {
-        Fault::Script(fault) => report_script(fault, errors),
-        Fault::Run(fault) => report_run(fault, errors),
-        Fault::File(fault) => match line_of(alloc, fault) {
-            Ok(line) => tell(errors, line.as_bytes()),
-            Err(_) => tell(errors, b"flow: refused 32 Memory\n"),
-        },
-    }
-}
-
-// The same of a fault of a script. It asks for no memory.
-fn report_script<E: ByteOut>(fault: ScriptFault, errors: &mut E)
-    requires { E.failed errors.old < 2 ^ 64 - 1 }
-    ensures { Tries (stream (E.contents errors.old) (E.failed errors.old)) (stream (E.contents errors.new) (E.failed errors.new)) (fault_line (Script fault)) }
-{
-    match fault {
-        ScriptFault::BadLine(number) => {
-            let mut digits = Buffer::new();
-            tell_three(
-                errors,
-                b"flow: refused 50 BadLine ",
-                digits.format(number).as_bytes(),
-                b"\n",
-            );
-        }
-        ScriptFault::Read => tell(errors, b"flow: refused 51 Read\n"),
-        ScriptFault::Write => tell(errors, b"flow: refused 52 Write\n"),
-        ScriptFault::Memory => tell(errors, b"flow: refused 32 Memory\n"),
-    }
-}
-
-// The same of a run in threads.
-fn report_run<E: ByteOut>(fault: ThreadFault, errors: &mut E)
-    requires { E.failed errors.old < 2 ^ 64 - 1 }
-    ensures { Tries (stream (E.contents errors.old) (E.failed errors.old)) (stream (E.contents errors.new) (E.failed errors.new)) (fault_line (Run fault)) }
-{
-    match fault {
-        ThreadFault::Memory => tell(errors, b"flow: refused 60 Memory\n"),
-        ThreadFault::Thread => tell(errors, b"flow: refused 61 Thread\n"),
-        ThreadFault::Foreign => tell(errors, b"flow: refused 62 Foreign\n"),
-    }
-}
-
-// Writes a line. Whether that succeeds is nothing to the command.
-fn tell<E: ByteOut>(errors: &mut E, line: &[u8])
-    requires { E.failed errors.old < 2 ^ 64 - 1 }
-    ensures { Tries (stream (E.contents errors.old) (E.failed errors.old)) (stream (E.contents errors.new) (E.failed errors.new)) line.now }
-{
-    let _ = errors.write(line);
-}
-
-// The same of a line in two pieces, where the second is written once the first was.
-fn tell_both<E: ByteOut>(errors: &mut E, first: &[u8], second: &[u8])
-    requires { E.failed errors.old < 2 ^ 64 - 1 }
-    ensures { Tries (stream (E.contents errors.old) (E.failed errors.old)) (stream (E.contents errors.new) (E.failed errors.new)) (first.now ++ second.now) }
-{
-    match errors.write(first) {
-        Ok(()) => tell(errors, second),
-        Err(_) => {}
-    }
-}
-
-// And of one in three pieces.
-fn tell_three<E: ByteOut>(errors: &mut E, first: &[u8], second: &[u8], third: &[u8])
-    requires { E.failed errors.old < 2 ^ 64 - 1 }
-    ensures { Tries (stream (E.contents errors.old) (E.failed errors.old)) (stream (E.contents errors.new) (E.failed errors.new)) (first.now ++ (second.now ++ third.now)) }
-{
-    match errors.write(first) {
-        Ok(()) => tell_both(errors, second, third),
-        Err(_) => {}
-    }
-}
-
-fn line_of(alloc: Global, fault: FileFault) -> Result<String, AllocError>
-    ensures { IfOk result (λ line. string_bytes line ≡ fault_line (File fault)) }
-{
-    format!(in alloc; "flow: refused {fault}\n")
 }

@@ -1,8 +1,10 @@
 //! Why a run in threads failed.
 
 ghost use Rattle.std.specs.Prelude.{◌≡◌, Some};
+ghost use Rattle.graph_file.specs.Texts.{joined};
 ghost use Rattle.flow.specs.Threads.{fault_of, thread_fault_text};
 
+use graph_file::Pieces;
 use kinds::Kind;
 use std::fmt;
 use thiserror::Error;
@@ -30,16 +32,23 @@ impl ThreadFault {
             RunFault::Foreign => ThreadFault::Foreign,
         }
     }
+
+    /// The text of the fault in pieces, for which no memory is asked.
+    pub fn pieces(&self) -> Pieces<'static>
+        ensures { joined result ≡ thread_fault_text self.now }
+    {
+        match self {
+            ThreadFault::Memory => Pieces::named("60 Memory", ""),
+            ThreadFault::Thread => Pieces::named("61 Thread", ""),
+            ThreadFault::Foreign => Pieces::named("62 Foreign", ""),
+        }
+    }
 }
 
 impl fmt::Display for ThreadFault {
     ghost output = { λ fault. Some (thread_fault_text fault) };
 
     fn fmt<W: fmt::Write>(&self, f: &mut fmt::Formatter<W>) -> fmt::Result {
-        f.write_str(match self {
-            ThreadFault::Memory => "60 Memory",
-            ThreadFault::Thread => "61 Thread",
-            ThreadFault::Foreign => "62 Foreign",
-        })
+        write!(f, "{}", self.pieces())
     }
 }

@@ -1,7 +1,8 @@
 -- What a plant answers to the feeds of a file.
-use Rattle.std.proofs.Common.{◌≡◌, ℕ, ◌+◌, ◌<◌, Bool, true, false, ◌&&◌, not, nat_lt, if◌then◌else◌, List, [], ◌∷◌, ◌++◌, ℤ, length, map, drop, get_or, Option, None, Some, option_map, Ok, Err, refl, ap, ◌∙◌, sym, subst}
+use Rattle.std.proofs.Common.{◌≡◌, ℕ, ◌+◌, ◌<◌, Bool, true, false, ◌&&◌, not, nat_lt, if◌then◌else◌, List, [], ◌∷◌, ◌++◌, ℤ, length, map, drop, get_or, Option, None, Some, option_map, Result, Ok, Err, refl, ap, ◌∙◌, sym, subst}
 use Rattle.std.proofs.lemmas.List.{drop_more}
 use Rattle.stream_model.specs.Tags as tags
+use Rattle.stream_model.specs.declared.vocabulary.ItemType.{ItemType}
 use Rattle.stream_model.specs.Numbers.{types_agree}
 use Rattle.stream_model.specs.Network.{Network, State, handed_at, role_at, is_source}
 use Rattle.stream_model.specs.Machine as machine
@@ -14,10 +15,10 @@ use Rattle.kinds.specs.declared.kind.Kind.{Kind}
 use Rattle.plant.specs.declared.fault.PlantFault.{PlantFault}
 use Rattle.plant.specs.declared.fault.PlantFault.TheVariants as plant
 use Rattle.plant.specs.Plant.{PlantState}
-use Rattle.plant.specs.Answers.{Answered, refusal_of}
+use Rattle.plant.specs.Answers.{Answered, refusal_of, source_type_of}
 use Rattle.plant.specs.Feeding.{are_items, given_type, feed_numbers}
 use Rattle.graph_file.specs.declared.feed.FileMark.{FileMark}
-use Rattle.graph_file.specs.Refusals.{of_feed, IsTold, told_feed}
+use Rattle.graph_file.specs.Refusals.{Refusal, of_feed, IsTold, told_feed}
 use Rattle.graph_file.specs.Opening.{mark_of, after_feed}
 
 -- a feed is taken, or refused by a number
@@ -81,6 +82,26 @@ module _ (n : ℕ) (now : Reply × State) (old new : PlantState Kind) where
   after_feed-refused plant.WrongSetting is h = stopped _ h.0
   after_feed-refused plant.BeyondEnd is h = stopped _ h.0
   after_feed-refused plant.NoSuchPort is h = stopped _ h.0
+
+-- what is no source is refused as such
+module _ (n : ℕ) (fault : PlantFault) where
+  is_told : {A : Type 0} (r : Result A Refusal) (is : PlantFault) → ◌≡◌ {A = Result ItemType PlantFault} (Err fault) (Err is) → IsTold r (told_feed n is) → IsTold r (told_feed n fault)
+  is_told r is e h = let same : is ≡ fault = cc in subst (λ f. IsTold r (told_feed n f)) same h
+
+  told_at : (member source outside : Bool) (item : ItemType) (st : State) (rest : Reply × State) →
+      Err fault ≡ (if not member then Err plant.NoSuchBlock else (if not source then Err plant.NotSource else Ok item)) →
+      IsTold (after_feed n
+      (if member && (source && outside) then (machine.Refused machine.item_range, st)
+      else (if not member then (machine.Refused machine.no_such_block, st)
+      else (if not source then (machine.Refused machine.not_source, st)
+      else rest)))) (told_feed n fault)
+  told_at false source outside item st rest e = is_told _ plant.NoSuchBlock e refl
+  told_at true false outside item st rest e = is_told _ plant.NotSource e refl
+  told_at true true outside item st rest e = absurd (cc)
+
+  pub no_source-told : (net : Network) (st : State) (b : ℕ) (xs : List ℤ) (ms : List tags.Mark) → Err fault ≡ source_type_of net b → IsTold (after_feed n (feed_numbers net st b xs ms)) (told_feed n fault)
+  unfolding machine.feed_of
+  no_source-told net st b xs ms e = told_at (nat_lt b (length net.nodes)) (is_source (role_at net b)) (not (are_items (given_type net b) xs)) (given_type net b) st _ e
 
 -- the block of a name
 pub found-Some : (o : Option ℕ) (b : BlockId) → Some b ≡ option_map id o → o ≡ Some b.0

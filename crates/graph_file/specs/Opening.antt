@@ -1,5 +1,5 @@
 -- What a graph file opens: the plant of its graph, with its feeds on the tapes.
-use Rattle.std.specs.Prelude.{ℕ, suc, ◌-◌, ◌^◌, ℤ, pos, negsuc, List, [], ◌∷◌, map, position, bytes_eq, slice_index_or, Option, Some, None, Result, Ok, Err}
+use Rattle.std.specs.Prelude.{◌≡◌, ◌⊎◌, ◌<◌, true, length, IsOk, ℕ, suc, ◌-◌, ◌^◌, ℤ, pos, negsuc, List, [], ◌∷◌, map, position, bytes_eq, slice_index_or, Option, Some, None, Result, Ok, Err}
 use Rattle.stream_model.specs.Network.{Network, State, opening}
 use Rattle.stream_model.specs.Tags.{Mark}
 use Rattle.stream_model.specs.Machine as machine
@@ -14,6 +14,7 @@ use Rattle.flowgraph.specs.Fault.{told}
 use Rattle.kinds.specs.declared.kind.Kind.{Kind}
 use Rattle.plant.specs.Plant.{PlantState}
 use Rattle.plant.specs.Feeding.{feed_numbers}
+use Rattle.plant.specs.Answers.{takes_memory, source_type_of}
 use Rattle.graph_file.specs.declared.fault.Place.TheVariants.{Top}
 use Rattle.graph_file.specs.declared.feed.FileMark.{FileMark}
 use Rattle.graph_file.specs.Refusals.{Refusal, of_graph, of_feed, short}
@@ -69,6 +70,14 @@ feed_found net st feed (Some b) = feed_numbers net st b feed.items (map mark_of 
 
 abbrev pub feed_now : Draft → State → Fed → Reply × State
 feed_now d st feed = feed_found d.net st feed (position (bytes_eq feed.source) d.names)
+
+-- the feed takes memory: the name is that of a source, and marks are copied for it or what it is fed is kept
+abbrev pub CopiesFor : Network → State → Fed → Option ℕ → Type 0
+CopiesFor net st feed None = ⊥
+CopiesFor net st feed (Some b) = IsOk (source_type_of net b) × ((0 < length feed.marks) ⊎ (takes_memory (feed_found net st feed (Some b)).0 ≡ true))
+
+abbrev pub FeedCopies : Draft → State → Fed → Type 0
+FeedCopies d st feed = CopiesFor d.net st feed (position (bytes_eq feed.source) d.names)
 
 -- the state after a feed, which is number n of the file, or that it is refused
 abbrev pub after_feed : ℕ → Reply × State → Result State Refusal

@@ -1,8 +1,10 @@
 -- How refusals print: their number, their name, and what the name alone does not say.
-use Rattle.std.specs.Prelude.{ℕ, List, ◌++◌, codes}
+use Rattle.std.specs.Prelude.{ℕ, ℤ, List, ◌++◌, codes}
+use Rattle.std.specs.List.{flat_map}
 use Rattle.std.specs.Fmt.{decimal, signed_decimal}
 use Rattle.flowgraph.specs.declared.fault.GraphFault.{GraphFault}
 use Rattle.flowgraph.specs.declared.fault.GraphFault.TheVariants as graph
+use Rattle.flowgraph.specs.declared.fault.Side.{Side}
 use Rattle.flowgraph.specs.Fault.{side_text, limit_text, option_text}
 use Rattle.kind_keys.specs.declared.fault.KeyFault.{KeyFault}
 use Rattle.kind_keys.specs.declared.fault.KeyFault.TheVariants as key
@@ -15,6 +17,9 @@ use Rattle.graph_file.specs.declared.fault.Place.{Place}
 use Rattle.graph_file.specs.declared.fault.Place.TheVariants.{Top, Block, Connect, Feed}
 use Rattle.graph_file.specs.declared.fault.FileFault.{FileFault}
 use Rattle.graph_file.specs.declared.fault.FileFault.TheVariants as file
+use Rattle.graph_file.specs.declared.pieces.Piece.{Piece}
+use Rattle.graph_file.specs.declared.pieces.Piece.TheVariants as pieces
+use Rattle.graph_file.specs.declared.pieces.Pieces.{Pieces}
 use Rattle.graph_file.specs.Refusals.{end_text}
 
 -- the words for places
@@ -65,11 +70,27 @@ feed_fault_text plant.BeyondEnd = codes "BeyondEnd"
 feed_fault_text plant.NoSuchPort = codes "NoSuchPort"
 feed_fault_text plant.Memory = codes "Memory"
 
+-- the refusal of a negative port, and that of a feed
+abbrev pub negative_text : List ℕ → Side → ℤ → List ℕ
+negative_text name side port = codes "3 PortRange " ++ name ++ codes " " ++ side_text side ++ codes " " ++ signed_decimal port
+
+abbrev pub feed_text : ℕ → PlantFault → List ℕ
+feed_text n fault = decimal (feed_number fault) ++ codes " " ++ feed_fault_text fault ++ codes " feed " ++ decimal n
+
 -- what a fault prints
 abbrev pub fault_text : FileFault → List ℕ
 fault_text file.Syntax = codes "40 Syntax"
 fault_text (file.Table place fault) = table_text place fault
 fault_text (file.Graph place fault name) = graph_text place fault name.bytes
-fault_text (file.NegativePort name side port) = codes "3 PortRange " ++ end_text name ++ codes " " ++ side_text side ++ codes " " ++ signed_decimal port
-fault_text (file.Feed n fault) = decimal (feed_number fault) ++ codes " " ++ feed_fault_text fault ++ codes " feed " ++ decimal n
+fault_text (file.NegativePort name side port) = negative_text (end_text name) side port
+fault_text (file.Feed n fault) = feed_text n fault
 fault_text file.Memory = codes "32 Memory"
+
+-- the text of a piece, and of all pieces one behind the other
+abbrev pub piece_text : Piece → List ℕ
+piece_text (pieces.Text text) = text.now
+piece_text (pieces.Number n) = decimal n
+piece_text (pieces.Signed x) = signed_decimal x
+
+abbrev pub joined : Pieces → List ℕ
+joined p = flat_map piece_text p.list

@@ -4,7 +4,7 @@ ghost use Rattle.graph_file.specs.declared.fault.FileFault.TheVariants.{Memory};
 ghost use Rattle.graph_file.specs.Refusals.{told, told_table, told_feed, of_graph, negative_port, short, end_text};
 ghost use Rattle.graph_file.specs.Texts as texts;
 
-use crate::texts::{GraphText, TableText, feed_fault_text};
+use crate::pieces::{Pieces, feed_pieces, graph_pieces, negative_pieces, table_pieces};
 use arrayvec::ArrayString;
 use flowgraph::{GraphFault, Side};
 use kind_keys::KeyFault;
@@ -60,6 +60,17 @@ pub enum FileFault {
     Memory,
 }
 
+impl EndName {
+    fn text(&self) -> &str
+        ensures { result.now ≡ end_text self.now }
+    {
+        match self {
+            EndName::Short(name) => name.as_str(),
+            EndName::Long(name) => name.as_str(),
+        }
+    }
+}
+
 impl FileFault {
     ghost use Rattle.graph_file.specs.Refusals.{number_of};
 
@@ -81,6 +92,24 @@ impl FileFault {
             FileFault::NegativePort { .. } => 3,
             FileFault::Feed { fault, .. } => fault.number(),
             FileFault::Memory => 32,
+        }
+    }
+
+    /// The text of the fault in pieces, for which no memory is asked.
+    pub fn pieces(&self) -> Pieces<'_>
+        ensures { texts.joined result ≡ texts.fault_text self.now }
+    {
+        match self {
+            FileFault::Syntax => Pieces::named("40 Syntax", ""),
+            FileFault::Table { place, fault } => table_pieces(*place, *fault),
+            FileFault::Graph { place, fault, name } => graph_pieces(*place, *fault, name.as_str()),
+            FileFault::NegativePort { name, side, port } => negative_pieces(
+                name.text(),
+                *side,
+                *port,
+            ),
+            FileFault::Feed { feed, fault } => feed_pieces(*feed, *fault),
+            FileFault::Memory => Pieces::named("32 Memory", ""),
         }
     }
 }
@@ -157,61 +186,11 @@ pub(crate) fn port_fault(alloc: Global, name: &str, side: Side, port: i64) -> Fi
     }
 }
 
-impl fmt::Display for Place {
-    ghost output = { λ place. Some (texts.place_text place) };
-
-    fn fmt<W: fmt::Write>(&self, f: &mut fmt::Formatter<W>) -> fmt::Result {
-        match self {
-            Place::Top => write!(f, "top"),
-            Place::Block(number) => write!(f, "block {number}"),
-            Place::Connect(number) => write!(f, "connect {number}"),
-            Place::Feed(number) => write!(f, "feed {number}"),
-        }
-    }
-}
-
-impl fmt::Display for EndName {
-    ghost output = { λ name. Some (end_text name) };
-
-    fn fmt<W: fmt::Write>(&self, f: &mut fmt::Formatter<W>) -> fmt::Result {
-        match self {
-            EndName::Short(name) => write!(f, "{name}"),
-            EndName::Long(name) => write!(f, "{name}"),
-        }
-    }
-}
-
 impl fmt::Display for FileFault {
     ghost output = { λ fault. Some (texts.fault_text fault) };
 
     fn fmt<W: fmt::Write>(&self, f: &mut fmt::Formatter<W>) -> fmt::Result {
-        match self {
-            FileFault::Syntax => write!(f, "40 Syntax"),
-            FileFault::Table { place, fault } => {
-                let table = TableText {
-                    place: *place,
-                    fault: *fault,
-                };
-                write!(f, "{table}")
-            }
-            FileFault::Graph { place, fault, name } => {
-                let graph = GraphText {
-                    place: *place,
-                    fault: *fault,
-                    name,
-                };
-                write!(f, "{graph}")
-            }
-            FileFault::NegativePort { name, side, port } => write!(
-                f,
-                "3 PortRange {name} {side} {port}"
-            ),
-            FileFault::Feed { feed, fault } => {
-                let number = fault.number();
-                let name = feed_fault_text(*fault);
-                write!(f, "{number} {name} feed {feed}")
-            }
-            FileFault::Memory => write!(f, "32 Memory"),
-        }
+        let pieces = self.pieces();
+        write!(f, "{pieces}")
     }
 }

@@ -9,8 +9,9 @@ mod feeds;
 pub mod file;
 mod only;
 mod opening;
-mod texts;
+pub mod pieces;
 
 pub use fault::{EndName, FileFault, Place};
 pub use feed::{Feed, FileMark};
 pub use file::{File, read_graph};
+pub use pieces::{Piece, Pieces};

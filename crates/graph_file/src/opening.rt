@@ -1,6 +1,6 @@
 //! From a graph file to a plant that is fed.
 
-ghost use Rattle.std.specs.Prelude.{◌≡◌, ◌≢◌, ◌↔◌, Ok, Some, IfOk, IfErr, OnOk, IsErrOf, IsSome, position, bytes_eq, map};
+ghost use Rattle.std.specs.Prelude.{◌≡◌, ◌≢◌, ◌↔◌, Ok, Some, IfOk, IfErr, OnOk, OnErr, IsErrOf, map, length, ◌<◌};
 ghost use Rattle.graph_model.specs.Graphs as graph_model;
 ghost use Rattle.flowgraph.specs.declared.fault.Limit.TheVariants.{Blocks};
 ghost use Rattle.flowgraph.specs.Fault.{told};
@@ -11,7 +11,7 @@ ghost use Rattle.graph_file.specs.Refusals.{IsRefused};
 ghost use Rattle.graph_file.specs.Blocks.{drafted};
 ghost use Rattle.graph_file.specs.Feeds.{fed};
 ghost use Rattle.graph_file.specs.File.{seen};
-ghost use Rattle.graph_file.specs.Opening.{opened, opened_with, opened_of, validated, feed_now, after_feed, after_feeds, mark_of, named_block};
+ghost use Rattle.graph_file.specs.Opening.{opened, opened_with, opened_of, validated, feed_now, after_feed, after_feeds, mark_of, named_block, FeedCopies};
 
 use crate::fault::{FileFault, Place, feed_fault, graph_fault};
 use crate::feed::{Feed, FileMark};
@@ -113,7 +113,7 @@ fn take_feeds(alloc: Global, plant: &mut Plant<Kind>, feeds: &[Feed]) -> Result<
     Ok(())
 }
 
-// Feeds a plant. A feed names a source; its marks may lie before all items.
+// Feeds a plant. A feed names a source; its marks may lie before all items. They are copied only for a source.
 fn take_feed(
     alloc: Global,
     plant: &mut Plant<Kind>,
@@ -123,11 +123,14 @@ fn take_feed(
     ensures ok { OnOk result (after_feed number (feed_now (drafted plant.old.graph) plant.old.state (fed feed.now)) ≡ Ok plant.new.state) }
     ensures rest { OnOk result (plant.new ≡ record plant.old { state = plant.new.state }) }
     ensures refused { IfErr result (IsRefused (after_feed number (feed_now (drafted plant.old.graph) plant.old.state (fed feed.now)))) }
-    ensures memory { IsErrOf result FileFault.Memory → IsSome (position (bytes_eq (fed feed.now).source) (drafted plant.old.graph).names) }
+    ensures memory { IsErrOf result FileFault.Memory → FeedCopies (drafted plant.old.graph) plant.old.state (fed feed.now) }
 {
     let Some(source) = plant.graph().find(&feed.source) else {
         return Err(feed_fault(number, PlantFault::NoSuchBlock));
     };
+    if let Err(fault) = plant.source_type(source) {
+        return Err(feed_fault(number, fault));
+    }
     let marks = marks_of(alloc, &feed.marks)?;
     match plant.feed_numbers(alloc, source, &feed.items, &marks) {
         Ok(_) => Ok(()),
@@ -135,9 +138,10 @@ fn take_feed(
     }
 }
 
-// The marks of a file.
+// The marks of a file. Where there are none, no memory is asked for.
 fn marks_of(alloc: Global, marks: &[FileMark]) -> Result<Vec<Mark>, AllocError>
-    ensures { IfOk result (λ taken. map stores.mark_of taken.items ≡ map mark_of marks.now) }
+    ensures ok { IfOk result (λ taken. map stores.mark_of taken.items ≡ map mark_of marks.now) }
+    ensures copies { OnErr result (0 < length marks.now) }
 {
     let mut taken = Vec::with_capacity(alloc, marks.len())?;
     for mark in marks {

@@ -1,5 +1,5 @@
 -- What a line of a script says.
-use Rattle.std.specs.Prelude.{ℕ, suc, ◌≤◌, ℤ, List, [], ◌∷◌, Bool, ◌&&◌, ◌==◌, nat_lt, nat_le, length, if◌then◌else◌, codes, Option, Some, None}
+use Rattle.std.specs.Prelude.{◌⊎◌, ℕ, suc, ◌<◌, ◌≤◌, ℤ, List, [], ◌∷◌, Bool, ◌&&◌, ◌==◌, nat_lt, nat_le, length, if◌then◌else◌, codes, Option, Some, None}
 use Rattle.std.specs.List.{list_all}
 use Rattle.std.specs.Option.{option_map}
 use Rattle.std.specs.Str.{bytes_eq}
@@ -45,11 +45,23 @@ SaysAskable Nothing = Unit {0}
 SaysAskable Bad = Unit {0}
 SaysAskable (Says c) = IsAskable c
 
--- the line says something, though it may be nothing that a line may say: memory is asked for on no other
-abbrev pub HasWords : Parsed → Type 0
-HasWords Nothing = ⊥
-HasWords Bad = Unit {0}
-HasWords (Says c) = Unit {0}
+-- a command with numbers or marks, for which memory is asked as it is read
+abbrev pub HasList : Command → Type 0
+HasList (Feed name items marks) = (0 < length items) ⊎ (0 < length marks)
+HasList (Close name) = ⊥
+HasList (Set name at numbers) = Unit {0}
+HasList (Claim name max) = ⊥
+HasList (Commit name) = ⊥
+HasList (Abandon name) = ⊥
+HasList (Step name max) = ⊥
+HasList (Read name from max) = ⊥
+HasList Quiet = ⊥
+
+-- the line says such a command: on no other is memory asked for, and so on none that is bad
+abbrev pub SaysList : Parsed → Type 0
+SaysList Nothing = ⊥
+SaysList Bad = ⊥
+SaysList (Says c) = HasList c
 
 infixl 10 ◌>>=◌
 abbrev pub ◌>>=◌ : {A B : Type 0} → Option A → (A → Option B) → Option B

@@ -2,7 +2,7 @@
 use Rattle.std.specs.Prelude.{◌≡◌, ◌≤◌, ℕ, suc, List, ◌∷◌, ◌++◌, Option, Some, None}
 use Rattle.script_text.specs.Lines.{lines_of, most_lines}
 use Rattle.script_text.specs.Splits.{Split, IsUnfinished, KeepsBytes}
-use Rattle.script_text.specs.Grammar.{Parsed, Nothing, Bad, Says, HasWords, parsed_from}
+use Rattle.script_text.specs.Grammar.{Parsed, Nothing, Bad, Says, SaysList, parsed_from}
 
 -- what the lines say that were not taken yet, where more bytes come behind those that are left
 abbrev pub said_of : Split → List ℕ → List Parsed
@@ -25,6 +25,6 @@ abbrev pub Continues : Option Parsed → Split → Split → Type 0
 Continues (Some said) old new = SaysNext said old new
 Continues None old new = IsUnfinished new.rest × KeepsBytes old new
 
--- the next line says something, whatever comes behind it
-abbrev pub StopsAtWords : Split → Type 0
-StopsAtWords old = (said : Parsed) × HasWords said × ((more : List ℕ) → (later : List Parsed) × (said_of old more ≡ said ∷ later))
+-- the next line says a command with numbers or marks, whatever comes behind it
+abbrev pub StopsAtList : Split → Type 0
+StopsAtList old = (said : Parsed) × SaysList said × ((more : List ℕ) → (later : List Parsed) × (said_of old more ≡ said ∷ later))

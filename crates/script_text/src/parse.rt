@@ -1,9 +1,8 @@
 //! Lines as commands.
-ghost use Rattle.std.specs.Prelude.{◌≡◌, ◌≤◌, [], ◌∷◌, length, IfOk, OnErr, IfSome, IfNone, None};
+ghost use Rattle.std.specs.Prelude.{◌≡◌, ◌≢◌, ◌↔◌, [], ◌∷◌, IsTrue, IsSome, IfOk, OnErr, IfSome, IfNone, None};
 ghost use Rattle.std.specs.Option.{option_map};
 ghost use Rattle.script_text.specs.Fields.{fields_of};
-ghost use Rattle.script_text.specs.Lines.{longest_line};
-ghost use Rattle.script_text.specs.Grammar.{HasWords, parsed_line, command_of, feed_of, close_of, set_of, claim_of, commit_of, abandon_of, step_of, read_of, quiet_of, name_alone, name_and_max, only_two, place_of, integers_of, given_of, marks_of, mark_of, mark_at, name_of, with_items};
+ghost use Rattle.script_text.specs.Grammar.{SaysList, says, parsed_line, command_of, feed_of, close_of, set_of, claim_of, commit_of, abandon_of, step_of, read_of, quiet_of, name_alone, name_and_max, only_two, place_of, integers_of, given_of, marks_of, mark_of, mark_at, name_of, with_items};
 ghost use Rattle.script_text.specs.Numbers.{max_of, integer_of};
 ghost use Rattle.script_text.specs.Commands.{line_seen, command_seen, marks_seen, mark_seen};
 
@@ -16,12 +15,11 @@ use std::alloc::{AllocError, Global};
 
 const LONGEST_LINE: usize = 65536;
 
-/// What a line says, without what ends it. Memory is asked for only where it says something and is not too long.
+/// What a line says, without what ends it. Memory is asked for only where it is a command with numbers or marks.
 #[tactic(auto, unfolding(crate::specs::Grammar::parsed_line))]
 pub fn parse_line(alloc: Global, line: &[u8]) -> Result<Line, AllocError>
     ensures ok { IfOk result (λ l. line_seen l ≡ parsed_line line.now) }
-    ensures err { OnErr result (HasWords (parsed_line line.now)) }
-    ensures short { OnErr result (length line.now ≤ longest_line) }
+    ensures err { OnErr result (SaysList (parsed_line line.now)) }
 {
     if line.len() > LONGEST_LINE {
         return Ok(Line::Bad);
@@ -40,7 +38,8 @@ pub fn parse_line(alloc: Global, line: &[u8]) -> Result<Line, AllocError>
 
 // The command that the first field and those behind it are.
 fn parse_command(alloc: Global, word: &[u8], fields: &[u8]) -> Result<Option<Command>, AllocError>
-    ensures { IfOk result (λ command. option_map command_seen command ≡ command_of word.now (fields_of fields.now)) }
+    ensures ok { IfOk result (λ command. option_map command_seen command ≡ command_of word.now (fields_of fields.now)) }
+    ensures err { OnErr result (SaysList (says (command_of word.now (fields_of fields.now)))) }
 {
     if word == b"feed".as_slice() {
         parse_feed(alloc, fields)
@@ -66,7 +65,8 @@ fn parse_command(alloc: Global, word: &[u8], fields: &[u8]) -> Result<Option<Com
 }
 
 fn parse_feed(alloc: Global, fields: &[u8]) -> Result<Option<Command>, AllocError>
-    ensures { IfOk result (λ command. option_map command_seen command ≡ feed_of (fields_of fields.now)) }
+    ensures ok { IfOk result (λ command. option_map command_seen command ≡ feed_of (fields_of fields.now)) }
+    ensures err { OnErr result (SaysList (says (feed_of (fields_of fields.now)))) }
 {
     let Some((name, given)) = next_field(fields) else {
         return Ok(None);
@@ -74,6 +74,9 @@ fn parse_feed(alloc: Global, fields: &[u8]) -> Result<Option<Command>, AllocErro
     let Some(name) = block_name(name) else {
         return Ok(None);
     };
+    if !are_given(given) {
+        return Ok(None);
+    }
     let Some((items, marks)) = parse_items(alloc, given)? else {
         return Ok(None);
     };
@@ -91,7 +94,8 @@ fn parse_close(fields: &[u8]) -> Option<Command>
 }
 
 fn parse_set(alloc: Global, fields: &[u8]) -> Result<Option<Command>, AllocError>
-    ensures { IfOk result (λ command. option_map command_seen command ≡ set_of (fields_of fields.now)) }
+    ensures ok { IfOk result (λ command. option_map command_seen command ≡ set_of (fields_of fields.now)) }
+    ensures err { OnErr result (SaysList (says (set_of (fields_of fields.now)))) }
 {
     let Some((name, rest)) = next_field(fields) else {
         return Ok(None);
@@ -108,6 +112,9 @@ fn parse_set(alloc: Global, fields: &[u8]) -> Result<Option<Command>, AllocError
     let Some(at) = parse_place(place) else {
         return Ok(None);
     };
+    if !are_integers(numbers) {
+        return Ok(None);
+    }
     let Some(numbers) = parse_integers(alloc, numbers)? else {
         return Ok(None);
     };
@@ -223,8 +230,52 @@ fn parse_max(field: &[u8]) -> Option<u32>
     Some(max as u32)
 }
 
+// Whether the fields are items and then marks. So a bad line is told from others before memory is asked for.
+fn are_given(fields: &[u8]) -> bool
+    ensures { IsTrue result ↔ IsSome (given_of (fields_of fields.now)) }
+{
+    let mut rest = fields;
+    while let Some((field, after)) = next_field(rest) {
+        if begins_with(field, b'@') {
+            return are_marks(rest);
+        }
+        if parse_integer(field).is_none() {
+            return false;
+        }
+        rest = after;
+    }
+    true
+}
+
+fn are_marks(fields: &[u8]) -> bool
+    ensures { IsTrue result ↔ IsSome (marks_of (fields_of fields.now)) }
+{
+    let mut rest = fields;
+    while let Some((field, after)) = next_field(rest) {
+        if parse_mark(field).is_none() {
+            return false;
+        }
+        rest = after;
+    }
+    true
+}
+
+fn are_integers(fields: &[u8]) -> bool
+    ensures { IsTrue result ↔ IsSome (integers_of (fields_of fields.now)) }
+{
+    let mut rest = fields;
+    while let Some((field, after)) = next_field(rest) {
+        if parse_integer(field).is_none() {
+            return false;
+        }
+        rest = after;
+    }
+    true
+}
+
 // The items at the front, and the fields behind them, which begin with a mark if there are any.
 fn parse_items(alloc: Global, fields: &[u8]) -> Result<Option<(Vec<i64>, &[u8])>, AllocError>
+    ensures some { OnErr result (fields_of fields.now ≢ []) }
     ensures none { IfOk result (λ found. IfNone found (given_of (fields_of fields.now) ≡ None)) }
     ensures items { IfOk result (λ found. IfSome found (λ given.
         given_of (fields_of fields.now) ≡ with_items given.0.items (marks_of (fields_of given.1.now)))) }
@@ -262,7 +313,8 @@ fn parse_integers(alloc: Global, fields: &[u8]) -> Result<Option<Vec<i64>>, Allo
 
 // The marks that the fields are.
 fn parse_marks(alloc: Global, fields: &[u8]) -> Result<Option<Vec<Mark>>, AllocError>
-    ensures { IfOk result (λ marks. option_map (λ v. marks_seen v.items) marks ≡ marks_of (fields_of fields.now)) }
+    ensures ok { IfOk result (λ marks. option_map (λ v. marks_seen v.items) marks ≡ marks_of (fields_of fields.now)) }
+    ensures some { OnErr result (fields_of fields.now ≢ []) }
 {
     let mut marks = Vec::new(alloc);
     let mut rest = fields;

@@ -7,7 +7,7 @@ use Rattle.flow.proofs.script.answer_lines.Goals as goal
 pub returns-in-Err-clause-stops : goal.returns-in-Err-clause-stops
 returns-in-Err-clause-stops g c =
     let went = c.loop-fault.invariant.2 in
-    stops_behind (graph_of g.B.Block.meaning c.args.session.now.plant) (said_of c.args.lines.now) (said_of c.loop-fault.lines) went.before _ (standing c.loop-fault.session) _ (g.O.ByteOut.contents c.loop-fault.output) _ c.args.lines.now.taken c.loop-fault.lines.taken c.answer_next.new.lines.taken c.in-Err.fault went.says went.answered went.counted
+    stops_behind (graph_of g.B.Block.meaning c.args.session.now.plant) (said_of c.args.lines.now) (said_of c.loop-fault.lines) went.before _ (standing c.loop-fault.session) _ (g.O.ByteOut.contents c.loop-fault.output) _ c.args.lines.now.taken c.loop-fault.lines.taken c.in-Err.fault went.says went.answered went.counted
     (rw c.loop-fault.invariant.0 at c.in-Err.ensures.stops)
 
 pub loop-fault-preserved : goal.loop-fault-preserved

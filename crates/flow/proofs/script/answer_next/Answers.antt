@@ -13,11 +13,11 @@ answer_command-requires-clause-askable g c = some_askable _ _ _ c.in-Some-Comman
 pub returns-clause-stops : goal.returns-clause-stops
 returns-clause-stops g c =
     let goes : GoesOn (Says (command_seen c.in-Some-Command.command)) c.args.lines.now c.next_line.new.lines = some_goes c.args.lines.now c.next_line.new.lines _ _ c.in-Some-Command.command c.in-Some-Command.is c.in-Some-Command.field-0-is c.in_ok-next_line.ensures.ok in
-    stops_at (graph_of g.B.Block.meaning c.args.session.now.plant) (said_of c.args.lines.now) (command_seen c.in-Some-Command.command) _ _ _ _ c.args.lines.now.taken c.next_line.new.lines.taken c.in-Err.fault (λ more. (said_of c.next_line.new.lines more, goes.says more)) goes.following c.in-Err.ensures.unwritten
+    stops_at (graph_of g.B.Block.meaning c.args.session.now.plant) (said_of c.args.lines.now) (command_seen c.in-Some-Command.command) _ _ _ _ c.args.lines.now.taken c.in-Err.fault (λ more. (said_of c.next_line.new.lines more, goes.says more)) c.in-Err.ensures.unwritten
 
 pub returns-in_err-next_line-clause-stops : goal.returns-in_err-next_line-clause-stops
 returns-in_err-next_line-clause-stops g c =
     let p = err_from_is_err_and c.from_residual.result c.from_residual.ensures.1 in
-    let words = c.in_err-next_line.ensures.words in
+    let list = c.in_err-next_line.ensures.list in
     rw (p.1, p.2)
-    (stops_in_line (graph_of g.B.Block.meaning c.args.session.now.plant) (said_of c.args.lines.now) _ _ words.0 c.args.lines.now.taken c.next_line.new.lines.taken words.1 words.2 c.in_err-next_line.ensures.err.counted)
+    (stops_in_line (graph_of g.B.Block.meaning c.args.session.now.plant) (said_of c.args.lines.now) _ _ list.0 c.args.lines.now.taken list.1 list.2)

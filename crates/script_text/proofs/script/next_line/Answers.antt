@@ -1,6 +1,6 @@
 use Rattle.std.proofs.Common.{suc, sym, ap, subst, ◌∙◌, arith}
-use Rattle.script_text.specs.Grammar.{SaysAskable, HasWords, parsed_line, parsed_at}
-use Rattle.script_text.specs.Scripts.{said_of, StopsAtWords}
+use Rattle.script_text.specs.Grammar.{SaysAskable, SaysList, parsed_line, parsed_at}
+use Rattle.script_text.specs.Scripts.{said_of, StopsAtList}
 use Rattle.script_text.specs.Splits.{TakesLine}
 use Rattle.script_text.proofs.ScriptLemmas.{on_err, taken_says, taken_bad, taken_next, within_lines, beyond_lines, too_long_next}
 use Rattle.script_text.proofs.AskableLemmas.{says_askable}
@@ -30,12 +30,12 @@ pub returns-in_ok-parse_line-in-Whole-clause-askable : goal.returns-in_ok-parse_
 returns-in_ok-parse_line-in-Whole-clause-askable c =
     subst SaysAskable (sym c.in_ok-parse_line-in-Whole.ensures.ok) (says_askable c.line.result.now)
 
-pub returns-in_err-parse_line-in-Whole-clause-words : goal.returns-in_err-parse_line-in-Whole-clause-words
-returns-in_err-parse_line-in-Whole-clause-words c =
+pub returns-in_err-parse_line-in-Whole-clause-list : goal.returns-in_err-parse_line-in-Whole-clause-list
+returns-in_err-parse_line-in-Whole-clause-list c =
     let old = c.args.lines.now in
     let new = c.take_line.new.self in
     let took : TakesLine old new = c.in-Whole.ensures in
     let within = within_lines (suc old.taken) new.line (omega (arith, took.counted, c.taken.ensures, c.if-taken-gt-MOST_LINES.false)) in
-    let words = subst (λ line. HasWords (parsed_line line)) c.line.ensures c.in_err-parse_line-in-Whole.ensures.err in
-    let stops : StopsAtWords old = (parsed_at (suc old.taken) new.line, subst HasWords (sym within) words, λ more. (said_of new more, taken_says old new took more)) in
+    let words = subst (λ line. SaysList (parsed_line line)) c.line.ensures c.in_err-parse_line-in-Whole.ensures.err in
+    let stops : StopsAtList old = (parsed_at (suc old.taken) new.line, subst SaysList (sym within) words, λ more. (said_of new more, taken_says old new took more)) in
     on_err _ stops
