@@ -41,3 +41,4 @@ run_bench() {
 run_tests 81 leaves kernels blocks flowgraphs plants threads graph_files streams terminal
 run_bench kernel_bench
 run_bench graph_bench
+run_bench thread_bench
