@@ -1,3 +1,4 @@
+pub mod Appended
 pub mod ByteLanes
 pub mod Converted
 pub mod Lanes

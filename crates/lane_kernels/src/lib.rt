@@ -10,8 +10,10 @@ pub mod logic;
 mod scaling;
 mod shorts;
 pub mod simd_lane;
+pub mod streams;
 
 pub use arithmetic::{add_const_wrap, add_wrap, mul_wrap, scale_sat};
 pub use conversion::{NarrowsTo, WidensTo, narrow, widen};
 pub use logic::{and, not, or, xor};
 pub use simd_lane::{MOST_LANES, SimdLane};
+pub use streams::{deinterleave, interleave};

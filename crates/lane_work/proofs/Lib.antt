@@ -1,2 +1,3 @@
+pub mod Told
 pub mod Totals
 pub mod Written

@@ -6,10 +6,14 @@ ghost use Rattle.stream_model.specs.declared.vocabulary.ItemType.{ItemType};
 ghost use Rattle.stream_model.specs.declared.vocabulary.ItemType.TheVariants.{Byte};
 ghost use Rattle.items.specs.Items.{type_of, numbers_of, spare_of};
 
+pub mod appending;
 pub mod change;
+pub mod inputs;
 pub mod sums;
 
+pub use appending::{AppendWork, append_items};
 pub use change::{LaneChange, change_items};
+pub use inputs::{InputWork, append_inputs};
 use items::Items;
 use lane_kernels::SimdLane;
 use numbers::vectors::append_copies;

@@ -1,5 +1,5 @@
 -- What the blocks mean whose inputs or outputs take turns.
-use Rattle.std.specs.Prelude.{ℕ, List, take, replicate}
+use Rattle.std.specs.Prelude.{ℕ, List, take}
 use Rattle.std.specs.Prelude.{◌≡◌, true, ◌&&◌}
 use Rattle.std.specs.Cmp.{first_so, second_so}
 use Rattle.std.specs.Cmp.Lexicographic.{pointwise, same_text}
@@ -19,10 +19,6 @@ interleave_of b = interleave b.item b.ports
 
 abbrev pub deinterleave_of : Deinterleave → Meaning
 deinterleave_of b = deinterleave b.item b.ports
-
--- each of so many ports has one item in a round
-abbrev pub ones : ℕ → List ℕ
-ones n = replicate n 1
 
 pub interleave_of-lawful : (b : Interleave) → IsLawful (interleave_of b)
 interleave_of-lawful b = interleave-lawful b.item b.ports b.some (omega (arith, b.few))

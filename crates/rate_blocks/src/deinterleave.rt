@@ -5,7 +5,7 @@ ghost use Rattle.stream_model.specs.Kinds.Rates.{deinterleave};
 use block_kinds::{Block, ByPace, Held, ParamFault, Parameter, Shape, ports};
 use items::{ItemType, Items};
 use lane_kernels::SimdLane;
-use lane_work::{LaneWork, make_items};
+use lane_work::{AppendWork, append_items};
 
 /// A block that gives an item to each of its outputs in turn.
 #[derive(Debug, Drop, PartialEq, Eq)]
@@ -39,19 +39,16 @@ struct EachOf {
     at: usize,
 }
 
-impl LaneWork for EachOf {
-    ghost use Rattle.std.specs.Prelude.{◌+◌, ◌*◌, ◌<◌, length};
-    ghost use Rattle.stream_model.specs.Lists.{item};
-    ghost use Rattle.stream_model.specs.Kernels.{listed};
+impl AppendWork for EachOf {
+    ghost use Rattle.std.specs.Prelude.{◌≡◌, ◌*◌, ◌<◌, length};
+    ghost use Rattle.lane_kernels.specs.Streams.{deinterleaved};
 
     ghost can_make = { λ b t xs count. (length xs ≡ b.step * count) × (b.at < b.step) };
 
-    ghost makes = { λ b t xs count. listed count (λ k. item xs (k * b.step + b.at)) };
+    ghost makes = { λ b t xs count. deinterleaved count b.step b.at xs };
 
-    fn make<T: SimdLane>(&self, items: &[T], out: &mut [T]) {
-        for k in 0..out.len() {
-            out[k] = items[k * self.step + self.at];
-        }
+    fn append<T: SimdLane>(&self, items: &[T], _count: usize, out: &mut Vec<T>) {
+        lane_kernels::deinterleave(items, self.step, self.at, out);
     }
 }
 
@@ -80,7 +77,7 @@ impl Block for Deinterleave {
     ) -> u64 {
         let step = self.ports as usize;
         for at in 0..out.len() {
-            make_items(
+            append_items(
                 &EachOf { step, at },
                 &windows[0],
                 count as usize,

@@ -2,9 +2,10 @@
 ghost use Rattle.std.specs.Prelude.{◌≡◌, ◌≤◌, ◌^◌, ◌↔◌, IsOk, IfOk, IfErr};
 ghost use Rattle.stream_model.specs.Kinds.Rates.{interleave};
 
-use crate::turns::{TakesTurns, Turn, merge_turns};
 use block_kinds::{Block, ByPace, Held, ParamFault, Parameter, Shape, ports};
 use items::{ItemType, Items};
+use lane_kernels::SimdLane;
+use lane_work::{InputWork, append_inputs};
 
 /// A block that gives an item of each of its inputs in turn.
 #[derive(Debug, Drop, PartialEq, Eq)]
@@ -31,18 +32,22 @@ impl Interleave {
     }
 }
 
-impl TakesTurns for Interleave {
-    ghost use Rattle.rate_blocks.specs.Mux.{ones};
+// So many items of each input, one of each in turn.
+#[derive(Drop)]
+struct Rounds {
+    count: usize,
+}
 
-    ghost lengths = { λ b. ones b.ports };
+impl InputWork for Rounds {
+    ghost use Rattle.std.specs.Prelude.{◌≡◌, ◌*◌, All, length};
+    ghost use Rattle.lane_kernels.specs.Streams.{interleaved};
 
-    fn turn(&self, rounds: usize, port: usize) -> Turn {
-        Turn {
-            rounds,
-            length: 1,
-            before: port,
-            all: self.ports as usize,
-        }
+    ghost can_make = { λ b t xs total. (total ≡ length xs * b.count) × All (λ x. length x ≡ b.count) xs };
+
+    ghost makes = { λ b t xs total. interleaved b.count xs };
+
+    fn append<T: SimdLane>(&self, inputs: &[&[T]], _total: usize, out: &mut Vec<T>) {
+        lane_kernels::interleave(inputs, self.count, out);
     }
 }
 
@@ -70,7 +75,10 @@ impl Block for Interleave {
         out: &mut [Items],
     ) -> u64 {
         let total = self.ports * count;
-        merge_turns(self, count as usize, total as usize, windows, &mut out[0]);
+        let rounds = Rounds {
+            count: count as usize,
+        };
+        append_inputs(&rounds, windows, total as usize, &mut out[0]);
         0
     }
 

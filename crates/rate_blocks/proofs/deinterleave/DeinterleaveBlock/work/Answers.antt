@@ -9,8 +9,8 @@ use Rattle.rate_blocks.specs.Mux.{deinterleave_of}
 use Rattle.rate_blocks.proofs.Interleaved.{length-deinterleaved, deinterleave-given, ext_map}
 use Rattle.rate_blocks.proofs.deinterleave.DeinterleaveBlock.work.Goals as goal
 
-pub make_items-requires-clause-can : goal.make_items-requires-clause-can
-make_items-requires-clause-can c =
+pub append_items-requires-clause-can : goal.append_items-requires-clause-can
+append_items-requires-clause-can c =
     let b = c.args.self.now in
     let can = c.requires in
     let ws = c.args.windows.now in
