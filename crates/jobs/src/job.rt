@@ -28,7 +28,11 @@ pub struct Lent {
 
 impl Lent {
     /// Nothing yet. It takes no memory.
-    pub fn new(alloc: Global) -> Lent {
+    pub fn new(alloc: Global) -> Lent
+        ensures windows { result.windows.items ≡ [] }
+        ensures held { result.held.items ≡ [] }
+        ensures outputs { result.outputs.items ≡ [] }
+    {
         Lent {
             windows: Vec::new(alloc),
             held: Vec::new(alloc),

@@ -110,15 +110,17 @@ fn copies(alloc: Global, handed: &[Intake]) -> Result<Vec<IntakeCopy>, AllocErro
 fn are_of(copies: &[IntakeCopy], handed: &[Intake]) -> bool
     ensures { IsTrue result ↔ (copies.now ≡ map handed_of handed.now) }
 {
-    if copies.len() != handed.len() {
-        return false;
-    }
-    for (block, copy) in copies.iter().enumerate() {
-        if !copy.agrees(&handed[block]) {
+    let mut rest = copies;
+    for intake in handed {
+        let Some((copy, others)) = rest.split_first() else {
+            return false;
+        };
+        if !copy.agrees(intake) {
             return false;
         }
+        rest = others;
     }
-    true
+    rest.is_empty()
 }
 
 // Whether the copies are of the same.

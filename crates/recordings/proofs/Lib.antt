@@ -1,2 +1,3 @@
 mod Copies
 mod Sames
+pub mod Views

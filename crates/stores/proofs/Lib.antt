@@ -1,4 +1,4 @@
-pub mod Sames
+pub mod Views
 mod Feeding
 mod Growing
 pub mod Beginning

@@ -85,14 +85,15 @@ fn are_settings(settings: &[Held], timeline: &Option<Timeline>) -> bool
 fn same_settings(one: &[Held], other: &[Held]) -> bool
     ensures { IsTrue result ↔ (map held_of one.now ≡ map held_of other.now) }
 {
-    if one.len() != other.len() {
-        return false;
-    }
-    for (place, held) in one.iter().enumerate() {
-        let other = &other[place];
-        if !held.is_same(other.at, &other.value) {
+    let mut rest = other;
+    for held in one {
+        let Some((first, others)) = rest.split_first() else {
+            return false;
+        };
+        if !held.is_same(first.at, &first.value) {
             return false;
         }
+        rest = others;
     }
-    true
+    rest.is_empty()
 }

@@ -1,0 +1,2 @@
+-- Lists through a view that loses nothing, for crates above.
+pub use Rattle.recordings.proofs.Views.{same_views}
