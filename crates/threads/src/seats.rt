@@ -11,7 +11,7 @@ use plant::Need;
 use std::alloc::{AllocError, Global};
 
 // A sleeper is woken for so great a part of the buffer that it waits at, or for less once who fills or empties that buffer rests too.
-const PART: u32 = 4;
+const PART: u32 = 2;
 
 // A claim takes no more than such a part of a buffer.
 const HALVES: u32 = 2;

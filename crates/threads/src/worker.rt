@@ -1,13 +1,20 @@
 //! The worker of a block.
 
+ghost use Rattle.std.specs.Prelude.{◌≤◌};
+
 use crate::gate::Gate;
 use crate::hall::{Hall, Next};
 use crate::turns::Turns;
 use crate::woken::{BITS, Woken};
 use flowgraph::{Block, BlockId};
+use jobs::Worked;
 use std::alloc::Global;
+use std::hint::spin_loop;
 use std::sync::{Arc, Mutex, Wait};
 use std::thread::Parker;
+
+// So often a worker looks whether the lock is free before it sleeps for it, some microseconds long: most turns hold it for less.
+const LOOKS: u32 = 500;
 
 /// What all workers share.
 #[derive(Drop)]
@@ -47,6 +54,27 @@ impl<B: Block, G: Gate + Drop> Shared<B, G> {
         self.wake(&woken);
     }
 
+    // The next turn of a block's worker, under the lock.
+    fn turn<R: Wait>(
+        &self,
+        rt: &R,
+        alloc: Global,
+        block: BlockId,
+        most: u32,
+        brought: Option<Worked<B>>,
+        woken: &mut Woken,
+    ) -> Next<B>
+        requires { 1 ≤ most }
+    {
+        for _ in 0..LOOKS {
+            if let Some(mut hall) = self.hall.try_lock() {
+                return hall.turn(alloc, block, most, brought, woken);
+            }
+            spin_loop();
+        }
+        self.hall.lock(rt).turn(alloc, block, most, brought, woken)
+    }
+
     fn sleep<R: Wait>(&self, rt: &R, block: BlockId) {
         if let Some(bed) = self.beds.get(block.0 as usize) {
             bed.park(rt);
@@ -66,10 +94,7 @@ pub fn work<B: Block, G: Gate + Drop, R: Wait>(
     let mut brought = None;
     for _ in rt.forever() {
         let mut woken = Woken::new();
-        let next = shared
-            .hall
-            .lock(rt)
-            .turn(alloc, block, most, brought, &mut woken);
+        let next = shared.turn(rt, alloc, block, most, brought, &mut woken);
         brought = None;
         shared.wake(&woken);
         match next {
