@@ -47,10 +47,15 @@ impl<B: Block> Parts<B> {
     }
 
     /// Appends items to a source's tape, with marks on them.
-    pub fn feed(&mut self, source: BlockId, items: Items, marks: &[Mark]) -> Result<Fed, PlantFault>
+    pub fn feed(
+        &mut self,
+        source: BlockId,
+        items: &Items,
+        marks: &[Mark],
+    ) -> Result<Fed, PlantFault>
         requires { IsRight B.meaning self.old }
         ensures right { IsRight B.meaning self.new }
-        ensures answered { let old = plant_of self.old in Answered (feed_of (net_of B.meaning old.graph) old.state source.0 (type_of items) (numbers_of items) (map mark_of marks.now)) old (plant_of self.new) (reply_of (λ f. machine.Fed f.0) result) }
+        ensures answered { let old = plant_of self.old in Answered (feed_of (net_of B.meaning old.graph) old.state source.0 (type_of items.now) (numbers_of items.now) (map mark_of marks.now)) old (plant_of self.new) (reply_of (λ f. machine.Fed f.0) result) }
     {
         self.graph.in_order();
         let item = source_type(&self.graph, source)?;
@@ -60,7 +65,7 @@ impl<B: Block> Parts<B> {
         let at = source.0 as usize;
         let tape = counts_of(&self.stores.handed[at]);
         let total = length_with(tape, items.len() as u64, marks)?;
-        self.stores.handed[at].feed(source.0, &items, marks)?;
+        self.stores.handed[at].feed(source.0, items, marks)?;
         Ok(Fed(total))
     }
 
@@ -79,7 +84,7 @@ impl<B: Block> Parts<B> {
         self.graph.in_order();
         let item = source_type(&self.graph, source)?;
         match Items::from_numbers(alloc, item, numbers) {
-            Ok(items) => self.feed(source, items, marks),
+            Ok(items) => self.feed(source, &items, marks),
             Err(ItemFault::ItemRange) => Err(PlantFault::ItemRange),
             Err(ItemFault::Memory) => {
                 let tape = counts_of(&self.stores.handed[source.0 as usize]);

@@ -138,6 +138,18 @@ impl<B: Block> Plant<B> {
     pub fn feed(&mut self, source: BlockId, items: Items, marks: &[Mark]) -> Result<Fed, PlantFault>
         ensures { Answered (feed_of (net_of B.meaning self.old.graph) self.old.state source.0 (type_of items) (numbers_of items) (map mark_of marks.now)) self.old self.new (reply_of (λ f. machine.Fed f.0) result) }
     {
+        self.feed_from(source, &items, marks)
+    }
+
+    /// The same, of items that stay the caller's.
+    pub fn feed_from(
+        &mut self,
+        source: BlockId,
+        items: &Items,
+        marks: &[Mark],
+    ) -> Result<Fed, PlantFault>
+        ensures { Answered (feed_of (net_of B.meaning self.old.graph) self.old.state source.0 (type_of items.now) (numbers_of items.now) (map mark_of marks.now)) self.old self.new (reply_of (λ f. machine.Fed f.0) result) }
+    {
         self.parts.feed(source, items, marks)
     }
 

@@ -1,13 +1,13 @@
 -- A graph agrees with itself.
-use Rattle.std.proofs.Common.{◌≡◌, ℕ, Bool, true, false, List, [], ◌∷◌, refl, rules}
-use Rattle.std.specs.Prelude.{◌==◌, ◌&&◌, bytes_eq}
+use Rattle.std.proofs.Common.{◌≡◌, ℕ, Bool, true, List, [], ◌∷◌, refl, rules}
+use Rattle.std.specs.Prelude.{◌==◌, bytes_eq}
 use Rattle.std.specs.Cmp.Lexicographic.{pointwise}
 use Rattle.std.proofs.lemmas.Slice.Eq.{bytes_eq-Decides}
 use Rattle.stream_model.specs.declared.vocabulary.Policy.{Policy}
 use Rattle.stream_model.specs.declared.vocabulary.Policy.TheVariants.{None, All, One}
 use Rattle.flowgraph.specs.declared.parts.Connection.{Connection}
 use Rattle.flowgraph.specs.declared.parts.Entry.{Entry}
-use Rattle.flowgraph.specs.Agreeing.{policies_agree, options_agree, entries_agree, connections_agree, graphs_agree}
+use Rattle.flowgraph.specs.Agreeing.{policies_agree, entries_agree, connections_agree, graphs_agree}
 use Rattle.flowgraph.specs.Flowgraph.{Flowgraph}
 
 -- a test that holds of each value with itself holds so of lists

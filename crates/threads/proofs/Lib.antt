@@ -1,1 +1,6 @@
 mod Agreeing
+mod Claims
+mod Flights
+mod Histories
+mod Records
+mod Sames

@@ -2,13 +2,13 @@
 
 ghost use Rattle.std.specs.Prelude.{◌≤◌};
 
-use crate::lent_calls::{claim_in, commit_in};
+use crate::engine::Engine;
 use crate::seats::{Seats, share_of};
 use crate::turns::Turns;
 use crate::woken::Woken;
 use flowgraph::{Block, BlockId};
 use jobs::{Job, Worked};
-use plant::{Claim, Need, Plant};
+use plant::{Claim, Need};
 use std::alloc::Global;
 
 /// What a worker has to do next.
@@ -25,8 +25,12 @@ pub enum Next<B: Block> {
 /// The plant, and what its workers do.
 #[derive(Drop)]
 pub struct Hall<B: Block> {
-    pub plant: Plant<B>,
+    pub engine: Engine<B>,
     pub seats: Seats,
+    /// How many callers have not returned.
+    pub callers: usize,
+    /// Whether a caller asked for the end of the run.
+    pub asked: bool,
     /// Whether the workers are to leave.
     pub ends: bool,
     /// Whether a claim was refused memory.
@@ -34,11 +38,23 @@ pub struct Hall<B: Block> {
 }
 
 impl<B: Block> Hall<B> {
+    /// All workers work, and so many callers have not returned.
+    pub fn new(engine: Engine<B>, seats: Seats, callers: usize) -> Hall<B> {
+        Hall {
+            engine,
+            seats,
+            callers,
+            asked: false,
+            ends: false,
+            starved: false,
+        }
+    }
+
     /// How many firings the worker of a block claims at most.
     pub fn share(&self, block: BlockId, turns: Turns) -> u32
         ensures { 1 ≤ result }
     {
-        let graph = self.plant.graph();
+        let graph = self.engine.plant().graph();
         if (block.0 as usize) < graph.len() {
             share_of(graph, block, turns)
         } else {
@@ -61,10 +77,10 @@ impl<B: Block> Hall<B> {
         if let Some(worked) = brought {
             self.commit(worked, woken);
         }
-        if self.ends || self.plant.graph().len() <= block.0 as usize {
+        if self.ends || self.engine.plant().graph().len() <= block.0 as usize {
             return Next::Leave;
         }
-        match claim_in(&mut self.plant, alloc, block, most) {
+        match self.engine.claim(alloc, block, most) {
             Ok(Claim::Claimed(job)) => Next::Work(job),
             Ok(Claim::Waiting(need)) => self.sleep(block, need, woken),
             Ok(Claim::Done) => self.leave(block, woken),
@@ -79,7 +95,13 @@ impl<B: Block> Hall<B> {
 
     /// Whether nobody works any more, or is to.
     pub fn is_over(&self) -> bool {
-        self.ends || self.seats.all_rest()
+        self.ends || (self.callers == 0 && self.seats.all_rest())
+    }
+
+    /// A caller has returned. Once none is left the run ends as all rest.
+    pub fn caller_leaves(&mut self, woken: &mut Woken) {
+        self.callers = self.callers.saturating_sub(1);
+        self.look(woken);
     }
 
     /// The workers are to leave, each once it has committed what it works on.
@@ -93,9 +115,9 @@ impl<B: Block> Hall<B> {
     // What comes back is none of the plant's: then the run ends, and what is held is looked at.
     fn commit(&mut self, worked: Worked<B>, woken: &mut Woken) {
         let block = worked.block();
-        match commit_in(&mut self.plant, worked) {
+        match self.engine.commit(worked) {
             Ok(did) => {
-                let graph = self.plant.graph();
+                let graph = self.engine.plant().graph();
                 if (block.0 as usize) < graph.len() {
                     self.seats.commits(graph, block, did.0, woken);
                 }
@@ -107,7 +129,7 @@ impl<B: Block> Hall<B> {
     }
 
     fn sleep(&mut self, block: BlockId, need: Need, woken: &mut Woken) -> Next<B> {
-        let graph = self.plant.graph();
+        let graph = self.engine.plant().graph();
         if (block.0 as usize) < graph.len() {
             self.seats.waits(graph, block, need, woken);
         }
@@ -116,7 +138,7 @@ impl<B: Block> Hall<B> {
     }
 
     fn leave(&mut self, block: BlockId, woken: &mut Woken) -> Next<B> {
-        let graph = self.plant.graph();
+        let graph = self.engine.plant().graph();
         if (block.0 as usize) < graph.len() {
             self.seats.leaves(graph, block, woken);
         }
@@ -124,12 +146,13 @@ impl<B: Block> Hall<B> {
         Next::Leave
     }
 
-    // Once all rest the run is over, or a worker slept though it could act: then all look again.
+    // Once all rest and no caller is left the run is over, or a worker slept though it could act: then all look again.
     fn look(&mut self, woken: &mut Woken) {
-        if !self.seats.all_rest() {
+        if 0 < self.callers || !self.seats.all_rest() {
             return;
         }
-        if self.plant.all_done() || self.plant.quiet() {
+        let plant = self.engine.plant();
+        if plant.all_done() || plant.quiet() {
             let _ = self.end(woken);
         } else {
             woken.missed = true;

@@ -4,6 +4,7 @@ ghost use Rattle.std.specs.Prelude.{◌≡◌, ◌≤◌, true, false, IfOk, IfE
 ghost use Rattle.stream_model.specs.Machine.{is_idle};
 ghost use Rattle.threads.specs.Outcomes.{GivesBack, handed_of};
 
+use crate::engine::Engine;
 use crate::fault::RunFault;
 use crate::gate::{Gate, Open};
 use crate::hall::Hall;
@@ -128,12 +129,7 @@ fn prepare<B: Block>(alloc: Global, plant: Plant<B>) -> Result<Prepared<B>, RunF
 {
     match rooms_of(alloc, &plant) {
         Ok((handed, seats, beds, workers)) => Ok(Prepared {
-            hall: Hall {
-                plant,
-                seats,
-                ends: false,
-                starved: false,
-            },
+            hall: Hall::new(Engine::Plain(plant), seats, 0),
             handed,
             beds,
             workers,
@@ -158,7 +154,7 @@ fn rooms_of<B: Block>(
     ))
 }
 
-fn make_beds(alloc: Global, count: usize) -> Result<Vec<Parker>, AllocError> {
+pub(crate) fn make_beds(alloc: Global, count: usize) -> Result<Vec<Parker>, AllocError> {
     let mut beds = Vec::with_capacity(alloc, count)?;
     for bed in 0..count {
         let _ = bed;
@@ -249,7 +245,10 @@ fn given_back<B: Block, G: Gate + Drop>(
 ) -> RunFault<B>
     ensures { GivesBack B.meaning B.eq handed.now result }
 {
-    let plant = shared.hall.into_inner().plant;
+    let Hall { engine, .. } = shared.hall.into_inner();
+    let Engine::Plain(plant) = engine else {
+        return RunFault::Foreign;
+    };
     if !came_back(&plant, handed) {
         RunFault::Foreign
     } else if is_memory {

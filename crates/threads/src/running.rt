@@ -5,6 +5,7 @@ ghost use Rattle.stream_model.specs.Machine.{is_idle};
 ghost use Rattle.threads.specs.Outcomes.{EndsIn, GivesBack, CameBack, handed_of};
 ghost use Rattle.threads.specs.Running.{RunState};
 
+use crate::engine::Engine;
 use crate::fault::RunFault;
 use crate::gate::Gate;
 use crate::hall::Hall;
@@ -56,7 +57,7 @@ impl<B: Block, G: Gate + Drop> Running<B, G> {
 
     /// How many items all sources were fed, and how many of these they have given by now. It takes the lock, and looks at each block.
     pub fn headway<R: Wait>(&self, rt: &R) -> Headway {
-        self.shared.hall.lock(rt).plant.headway()
+        self.shared.hall.lock(rt).engine.plant().headway()
     }
 
     /// As `wait`, and until the workers leave it shows `watch` how far the plant is, each time that its pause is over.
@@ -117,7 +118,14 @@ fn ended<B: Block>(
     ensures ok { IfOk result (EndsIn B.meaning B.eq handed.now asked) }
     ensures err { IfErr result (GivesBack B.meaning B.eq handed.now) }
 {
-    let Hall { plant, starved, .. } = hall;
+    let Hall {
+        engine,
+        starved,
+        ..
+    } = hall;
+    let Engine::Plain(plant) = engine else {
+        return Err(RunFault::Foreign);
+    };
     if !came_back(&plant, handed) {
         return Err(RunFault::Foreign);
     }

@@ -134,8 +134,8 @@ impl Seats {
         }
     }
 
-    // A worker that sleeps is woken.
-    fn wake(&mut self, block: BlockId, woken: &mut Woken) {
+    /// A worker that sleeps is woken.
+    pub fn wake(&mut self, block: BlockId, woken: &mut Woken) {
         if let Some(seat) = self.seats.get_mut(block.0 as usize) {
             if let Seat::Waits(..) = *seat {
                 *seat = Seat::Works;

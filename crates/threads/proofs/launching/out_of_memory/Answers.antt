@@ -1,4 +1,4 @@
-use Rattle.std.proofs.Common.{◌≡◌, refl}
+use Rattle.std.proofs.Common.{refl}
 use Rattle.threads.proofs.Agreeing.{graph_self}
 use Rattle.threads.proofs.launching.out_of_memory.Goals as goal
 

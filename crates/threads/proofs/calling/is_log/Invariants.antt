@@ -1,0 +1,10 @@
+use Rattle.std.proofs.Common.{◌≡◌, ◌≤◌, map, take, length}
+use Rattle.threads.specs.History.{noted_by}
+use Rattle.threads.specs.Live.{noted_at}
+use Rattle.threads.proofs.calling.is_log.Given as goal
+
+abbrev pub invariant-loop-entry : goal.invariant-loop-entry
+invariant-loop-entry l = record {
+  same : map noted_by (take l.at l.log) ≡ noted_at l.desk (map noted_by (take l.entry-index l.history));
+  within : l.at ≤ length l.log;
+}

@@ -1,0 +1,15 @@
+use Rattle.std.proofs.Common.{[], refl}
+use Rattle.threads.proofs.Agreeing.{graph_self}
+use Rattle.threads.proofs.calling.out_of_memory.Goals as goal
+
+pub returns : goal.returns
+returns g c = (
+  [],
+  record {
+    graph = graph_self g.B.PartialEq.eq g.met.B.Eq.laws.refl c.args.plant.graph;
+    net = refl;
+    capacities = c.in_order.ensures.capacities;
+    run = record { replies = refl; left = refl };
+    idle = c.requires;
+  },
+)

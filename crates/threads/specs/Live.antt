@@ -1,0 +1,60 @@
+-- How a run ends that callers made calls of.
+use Rattle.std.specs.Prelude.{⊤, ℕ, ◌≡◌, ◌<◌, ◌==◌, List, length, filter, get_or, [], Bool, true, false}
+use Rattle.stream_model.specs.Meaning.{Meaning}
+use Rattle.stream_model.specs.Machine.{is_idle, is_all_done, is_quiet}
+use Rattle.graph_model.specs.Rates.{Balanced, balance_of, capacities_of}
+use Rattle.machine_laws.specs.Stalls.{AreClosed}
+use Rattle.flowgraph.specs.Agreeing.{graphs_agree}
+use Rattle.flowgraph.specs.Flowgraph.{net_of}
+use Rattle.plant.specs.Handed.{OpeningState}
+use Rattle.plant.specs.Plant.{PlantState}
+use Rattle.threads.specs.declared.entry.CallerId.{CallerId}
+use Rattle.threads.specs.declared.entry.CallerId.TheVariants as caller
+use Rattle.threads.specs.declared.outcome.Outcome.{Outcome}
+use Rattle.threads.specs.declared.outcome.Outcome.TheVariants.{Done, Stopped, Stalled}
+use Rattle.threads.specs.declared.fault.RunFault.{RunFault}
+use Rattle.threads.specs.declared.fault.RunFault.TheVariants.{Memory, Thread, Foreign}
+use Rattle.threads.specs.History.{Noted, IsRunOf}
+use Rattle.threads.specs.Outcomes.{IsDone}
+
+-- where a plant stands before the run
+abbrev pub opening_of : {B : Type 0} → PlantState B → OpeningState B
+opening_of p = record { graph = p.graph; state = p.state }
+
+-- a plant came where a history leads from the opening: an equal graph, buffers as large as its rates ask, and no claim in flight
+pub record CameTo {B : Type 0} (meaning : B → Meaning) (eq : B → B → Bool) (o : OpeningState B) (history : List Noted) (p : PlantState B) : Type 0 where
+  pub graph : graphs_agree eq p.graph o.graph ≡ true
+  pub net : net_of meaning p.graph ≡ net_of meaning o.graph
+  pub capacities : p.capacities ≡ capacities_of (net_of meaning p.graph) (balance_of (net_of meaning p.graph))
+  pub run : IsRunOf (net_of meaning p.graph) p.capacities o.state history p.state
+  pub idle : is_idle p.state ≡ true
+
+-- some block is not done, and none can act. So the rates have no balance, or a tape is open
+pub record IsStuck {B : Type 0} (meaning : B → Meaning) (p : PlantState B) : Type 0 where
+  pub undone : is_all_done p.state ≡ false
+  pub quiet : is_quiet (net_of meaning p.graph) p.capacities p.state ≡ true
+  pub unbalanced : (q : List ℕ) → balance_of (net_of meaning p.graph) ≡ Balanced q → AreClosed (net_of meaning p.graph) p.state → ⊥
+
+-- the run ended so
+abbrev pub EndsLive : {B P : Type 0} → (B → Meaning) → (B → B → Bool) → OpeningState B → List Noted → Outcome B P → Type 0
+EndsLive meaning eq o history (Done p) = CameTo meaning eq o history p × IsDone meaning p
+EndsLive meaning eq o history (Stopped p) = CameTo meaning eq o history p × (is_all_done p.state ≡ false)
+EndsLive meaning eq o history (Stalled p) = CameTo meaning eq o history p × IsStuck meaning p
+
+-- a run that failed gives the plant back, where some history leads
+abbrev pub GivesBackLive : {B P : Type 0} → (B → Meaning) → (B → B → Bool) → OpeningState B → RunFault B P → Type 0
+GivesBackLive meaning eq o (Memory p) = (history : List Noted) × CameTo meaning eq o history p
+GivesBackLive meaning eq o (Thread p) = (history : List Noted) × CameTo meaning eq o history p
+GivesBackLive meaning eq o Foreign = ⊤
+
+-- what was noted of the caller at a desk
+abbrev pub is_at : ℕ → CallerId → Bool
+is_at n (caller.Desk m) = m == n
+is_at n (caller.Worker b) = false
+
+abbrev pub noted_at : ℕ → List Noted → List Noted
+noted_at n = filter (λ e. is_at n e.caller)
+
+-- each desk's log is what was noted of it, in that order
+abbrev pub AreLogs : List (List Noted) → List Noted → Type 0
+AreLogs logs history = (n : ℕ) → n < length logs → get_or logs n [] ≡ noted_at n history

@@ -1,0 +1,196 @@
+//! Callers, and the desks at which they make calls of a plant at work.
+
+ghost use Rattle.std.specs.Prelude.{◌≡◌, [], map};
+ghost use Rattle.std.specs.Arc.{arc_value};
+ghost use Rattle.stream_model.specs.Machine as machine;
+ghost use Rattle.items.specs.Items.{type_of, numbers_of};
+ghost use Rattle.settings.specs.Values.{value_of};
+ghost use Rattle.stores.specs.Stores.{mark_of};
+ghost use Rattle.plant.specs.Answers.{piece_reply, reply_of};
+ghost use Rattle.threads.specs.History.{Asks, noted_by};
+ghost use Rattle.threads.specs.Desk.{IsLogged};
+
+use crate::entry::{Answer, Call, CallerId, Entry, Feed, Setting, shared};
+use crate::gate::Gate;
+use crate::woken::Woken;
+use crate::worker::Shared;
+use flowgraph::{Block, BlockId};
+use items::{Items, Mark};
+use plant::{Closed, Fed, Piece, PlantFault, Taken};
+use settings::Value;
+use std::alloc::Global;
+use std::marker::Model;
+use std::sync::{Arc, Wait};
+
+/// Who makes calls of a plant while its workers run.
+pub trait Caller<B: Block> {
+    /// Makes its calls at the desk. It may take its time, and wait for its own input; the workers go on meanwhile. The run does not end before
+    /// it returns.
+    fn run<G: Gate + Drop, R: Wait>(&mut self, rt: &R, alloc: Global, desk: &mut Desk<B, G>);
+}
+
+/// Where one caller makes calls of a plant at work. Each call takes the lock, is answered as the plant answers it, and joins the desk's log with
+/// that reply; one that is refused memory changes nothing and joins no log. A contract sees the desk's number and its log.
+#[derive(Drop)]
+pub struct Desk<'a, B: Block, G: Gate + Drop> {
+    pub(crate) shared: &'a Shared<B, G>,
+    pub(crate) number: u32,
+    pub(crate) log: Vec<Entry>,
+}
+
+impl<'a, B: Block, G: Gate + Drop> Model for Desk<'a, B, G> {
+    ghost use Rattle.std.specs.Prelude.{map};
+    ghost use Rattle.threads.specs.History.{noted_by};
+    ghost use Rattle.threads.specs.Desk.{DeskState};
+
+    ghost Value = { DeskState };
+
+    ghost view = { λ d. record { number = d.number; log = map noted_by d.log.items } };
+}
+
+impl<'a, B: Block, G: Gate + Drop> Desk<'a, B, G> {
+    /// The calls that were made here so far, each with its reply.
+    pub fn log(&self) -> &[Entry]
+        ensures { map noted_by result.now ≡ self.now.log }
+    {
+        &self.log
+    }
+
+    /// Appends items to a source's tape, with marks on them, as `Plant::feed` does.
+    pub fn feed<R: Wait>(
+        &mut self,
+        rt: &R,
+        alloc: Global,
+        source: BlockId,
+        items: Items,
+        marks: &[Mark],
+    ) -> Result<Fed, PlantFault>
+        ensures { IsLogged (Asks (machine.Feed source.0 (type_of items) (numbers_of items) (map mark_of marks.now))) self.old self.new (reply_of (λ f. machine.Fed f.0) result) }
+    {
+        self.log.reserve(1)?;
+        let marks = Vec::from_slice(alloc, marks)?;
+        let feed = shared(
+            alloc,
+            Feed {
+                source,
+                items,
+                marks,
+            },
+        )?;
+        let call = Call::Feed(Arc::try_clone(&feed)?);
+        let mut woken = Woken::new();
+        let answer = self
+            .shared
+            .hall
+            .lock(rt)
+            .feed(self.number, feed, &mut woken);
+        self.shared.wake(&woken);
+        if let Some(reply) = Answer::of_feed(answer) {
+            self.log.push_reserved(Entry {
+                caller: CallerId::Desk(self.number),
+                call,
+                reply,
+            });
+        }
+        answer
+    }
+
+    /// Closes a source's tape, as `Plant::close` does. It takes memory for the log.
+    pub fn close<R: Wait>(&mut self, rt: &R, source: BlockId) -> Result<Closed, PlantFault>
+        ensures { IsLogged (Asks (machine.Close source.0)) self.old self.new (reply_of (λ c. machine.Closed c.0) result) }
+    {
+        self.log.reserve(1)?;
+        let mut woken = Woken::new();
+        let answer = self
+            .shared
+            .hall
+            .lock(rt)
+            .close(self.number, source, &mut woken);
+        self.shared.wake(&woken);
+        if let Some(reply) = Answer::of_close(answer) {
+            self.log.push_reserved(Entry {
+                caller: CallerId::Desk(self.number),
+                call: Call::Close(source),
+                reply,
+            });
+        }
+        answer
+    }
+
+    /// Sets the value of a block's setting from item `at` of its first input on, or from the first that is still open, as `Plant::set` does.
+    pub fn set<R: Wait>(
+        &mut self,
+        rt: &R,
+        alloc: Global,
+        block: BlockId,
+        at: Option<u64>,
+        value: Value,
+    ) -> Result<Taken, PlantFault>
+        ensures { IsLogged (Asks (machine.Set block.0 at (value_of value))) self.old self.new (reply_of (λ t. machine.Taken t.0) result) }
+    {
+        self.log.reserve(1)?;
+        let copy = value.copy(alloc)?;
+        let setting = shared(alloc, Setting { block, at, value })?;
+        let call = Call::Set(Arc::try_clone(&setting)?);
+        let answer = self.shared.hall.lock(rt).set(self.number, setting, copy);
+        if let Some(reply) = Answer::of_set(answer) {
+            self.log.push_reserved(Entry {
+                caller: CallerId::Desk(self.number),
+                call,
+                reply,
+            });
+        }
+        answer
+    }
+
+    /// What a sink holds from item `from` on, at most `max` items of it, with the tags on them, as `Plant::read` shows it.
+    pub fn read<R: Wait>(
+        &mut self,
+        rt: &R,
+        alloc: Global,
+        sink: BlockId,
+        from: u64,
+        max: u64,
+    ) -> Result<Arc<Piece, Global>, PlantFault>
+        ensures { IsLogged (Asks (machine.Read sink.0 from max)) self.old self.new (reply_of (λ p. piece_reply (arc_value p)) result) }
+    {
+        self.log.reserve(1)?;
+        let call = Call::Read(sink, from, max);
+        let caller = CallerId::Desk(self.number);
+        match self
+            .shared
+            .hall
+            .lock(rt)
+            .read(alloc, self.number, sink, from, max)
+        {
+            Ok((piece, noted)) => {
+                self.log.push_reserved(Entry {
+                    caller,
+                    call,
+                    reply: Answer::Piece(noted),
+                });
+                Ok(piece)
+            }
+            Err(fault) => match Answer::of_fault(fault) {
+                Some(reply) => {
+                    self.log.push_reserved(Entry {
+                        caller,
+                        call,
+                        reply,
+                    });
+                    Err(fault)
+                }
+                None => Err(fault),
+            },
+        }
+    }
+
+    /// Asks for the end of the run: each worker commits what it works on and claims no more. Callers go on until they return.
+    pub fn stop<R: Wait>(&mut self, rt: &R)
+        ensures { self.new ≡ self.old }
+    {
+        let mut woken = Woken::new();
+        self.shared.hall.lock(rt).stop(&mut woken);
+        self.shared.wake(&woken);
+    }
+}
