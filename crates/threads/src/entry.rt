@@ -86,22 +86,6 @@ pub struct Entry {
     pub reply: Answer,
 }
 
-impl Call {
-    /// The same call. It takes no memory.
-    pub fn share(&self) -> Result<Call, AllocError>
-        ensures { IfOk result (λ call. asked_by call ≡ asked_by self.now) }
-    {
-        Ok(match self {
-            Call::Feed(feed) => Call::Feed(Arc::try_clone(feed)?),
-            Call::Close(source) => Call::Close(*source),
-            Call::Set(setting) => Call::Set(Arc::try_clone(setting)?),
-            Call::Read(sink, from, max) => Call::Read(*sink, *from, *max),
-            Call::Claim(block, max) => Call::Claim(*block, *max),
-            Call::Commit(block) => Call::Commit(*block),
-        })
-    }
-}
-
 impl Entry {
     /// Whether the caller at this desk made the call.
     pub fn is_of(&self, desk: usize) -> bool
