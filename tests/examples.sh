@@ -1,5 +1,5 @@
 #!/usr/bin/env bash
-# The examples: each folder of examples/ has a graph file and what `check`, `run` or its script, whichever it has a file for, writes for it.
+# The examples: each folder of examples/ has a graph file and what `check`, `run`, its script or its live run, whichever it has a file for, writes for it.
 set -euo pipefail
 # shellcheck source=tests/cases.sh
 source "$(dirname -- "$(readlink -f -- "${BASH_SOURCE[0]}")")/cases.sh"
@@ -12,6 +12,10 @@ example() {
     if [[ -e $1/script ]]; then
         cp -- "$1/script" "$room/cases/$name.script"
         ends "$name.script" 0 "$(cat -- "$1/expected")\n" '' script "$name.toml"
+    fi
+    if [[ -e $1/live ]]; then
+        cp -- "$1/live" "$room/cases/$name.live"
+        ends "$name.live" 0 "$(cat -- "$1/expected_live")\n" '' live "$name.toml"
     fi
     if [[ -e $1/expected_check ]]; then
         ends "$name.check" 0 "$(cat -- "$1/expected_check")\n" '' check "$name.toml"

@@ -1,5 +1,5 @@
 #!/usr/bin/env bash
-# Graph files and scripts from bytes to bytes: what `check`, `run` and `script` write for each, and the exit status.
+# Graph files and scripts from bytes to bytes: what `check`, `run`, `live` and `script` write for each, and the exit status.
 set -euo pipefail
 # shellcheck source=tests/cases.sh
 source "$(dirname -- "$(readlink -f -- "${BASH_SOURCE[0]}")")/cases.sh"
@@ -18,6 +18,12 @@ run() { ends "$1" "${4:-0}" "$3" '' run "$2.toml"; }
 script() {
     printf '%b' "$3" >"$room/cases/$1"
     ends "$1" "${5:-0}" "$4" "$(refusal "${6-}")" script "$2.toml"
+}
+
+# live NAME GRAPH LINES OUTPUT [STATUS REFUSAL]: what `live` writes for it
+live() {
+    printf '%b' "$3" >"$room/cases/$1"
+    ends "$1" "${5:-0}" "$4" "$(refusal "${6-}")" live "$2.toml"
 }
 
 # file NAME TEXT: a graph file
@@ -252,6 +258,22 @@ bad name_too_long 'close abcdefghijklmnopqrstuvwxyz0123456'
 bad space_before_a_comment ' # x'
 bad byte '\xff'
 
+# Calls while the graph runs. Claims are the workers', and whether a run is quiet its own matter: such lines are bad.
+live calls_of_a_run plain 'feed src 250\nset a 1 20\nfeed src 1\nread out 9 1\nclose src\n' 'fed 1\ntaken 1\nfed 2\nrefused 31\nclosed 2\nsink out 2 4 21\ndone\n'
+live source_left_open plain 'feed src 250\n' 'fed 1\nsink out 1 4\nstalled\n' 3
+live no_calls fed '' 'sink out 2 4 11\nstalled\n' 3
+live feed_of_a_file_comes_first fed 'close src\n' 'closed 2\nsink out 2 4 11\ndone\n'
+live no_blocks_to_run no_blocks 'feed src 1\n' 'refused 20\ndone\n'
+live last_call_without_end plain '#\n\n  close src' 'closed 0\nsink out 0\ndone\n'
+live refused_calls plain \
+    'feed zzz 1\nfeed a 1\nfeed a 300\nfeed src 300\nfeed src 1 @5:k=1\nclose out\nset src now 1\nset a now 1 2\nset a now 256\nread src 0 1\nread out 1 1\nclose src\nclose src\nfeed src 1\nfeed src 300\nread zzz 0 1\n' \
+    'refused 20\nrefused 21\nrefused 21\nrefused 24\nrefused 25\nrefused 21\nrefused 28\nrefused 29\nrefused 29\nrefused 22\nrefused 31\nclosed 0\nrefused 23\nrefused 23\nrefused 24\nrefused 20\nsink out 0\ndone\n'
+live bad_call plain 'feed src 5\nfeed src x\nclose src\n' 'fed 1\n' 1 '50 BadLine 2'
+live bad_last_call plain '#\nfeed src 5\nstep a 1' 'fed 1\n' 1 '50 BadLine 3'
+for line in 'claim a 1' 'commit a' 'abandon a' 'step a 1' 'claim zzz 1' quiet; do
+    live "call_${line// /_}" plain "feed src 5\\n$line\\nclose src\\n" 'fed 1\n' 1 '50 BadLine 2'
+done
+
 # Graph files that are read.
 changed longest_name plain 's/"a"/"abcdefghijklmnopqrstuvwxyz012345"/'
 run longest_name longest_name 'sink out 0\ndone\n'
@@ -269,6 +291,7 @@ refuses_change no_toml '40 Syntax' plain '1s/.*/[[block]/'
 refuses_change no_text '40 Syntax' plain '2s/src/\xff/'
 refuses unknown_top_key '41 UnknownKey top' 'x = 1'
 refuses no_array '43 WrongType top block' 'block = 3'
+ends live_of_a_loop 1 '' "$(refusal '7 Loop x')" live looped.toml
 # Blocks.
 refuses no_name '42 MissingKey block 0 name' '[[block]]'
 refuses_change unknown_kind '44 UnknownKind block 1' plain 's/add_const/subtract_const/'

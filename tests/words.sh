@@ -12,6 +12,7 @@ Usage: flow <COMMAND>
 Commands:
   check   Reads the graph and tells of it
   run     Runs the graph and tells what its sinks hold
+  live    Runs the graph while the commands of standard input are done
   script  Runs the commands of standard input on the graph
   help    Print this message or the help of the given subcommand(s)
 
@@ -27,10 +28,12 @@ declare -A help_of=(
     [check]=$(help_text "Reads the graph and tells of it" "check <FILE>" "  -h, --help  Print help")
     [run]=$(help_text "Runs the graph and tells what its sinks hold" "run [OPTIONS] <FILE>" \
         "  -q, --quiet       Shows no progress on a terminal" "      --one-thread  Runs all blocks on one thread" "  -h, --help        Print help")
+    [live]=$(help_text "Runs the graph while the commands of standard input are done" "live [OPTIONS] <FILE>" \
+        "  -q, --quiet  Shows no progress on a terminal" "  -h, --help   Print help")
     [script]=$(help_text "Runs the commands of standard input on the graph" "script <FILE>" "  -h, --help  Print help")
 )
 
-for command in check run script; do
+for command in check run live script; do
     ends "${command}_of_a_missing_file" 4 '' "flow: refused 51 Read" "$command" no/such/file
     ends "${command}_of_a_folder" 4 '' "flow: refused 51 Read" "$command" /
     ends "${command}_of_no_file" 2 '' - "$command"
@@ -53,9 +56,12 @@ ends short_call_for_the_version 2 '' "flow 0.1.0" -V
 ends quiet_run 0 'sink out 0\ndone\n' '' run --quiet plain.toml
 ends quiet_run_by_a_letter 0 'sink out 0\ndone\n' '' run -q plain.toml
 ends quiet_behind_the_file 0 'sink out 0\ndone\n' '' run plain.toml --quiet
+ends quiet_live_run 3 'sink out 0\nstalled\n' '' live --quiet plain.toml
+ends quiet_live_run_by_a_letter 3 'sink out 0\nstalled\n' '' live -q plain.toml
 ends quiet_on_one_thread 0 'sink out 0\ndone\n' '' run --one-thread -q plain.toml
 ends one_thread_twice 2 '' - run --one-thread --one-thread plain.toml
 ends one_thread_for_a_check 2 '' - check --one-thread plain.toml
+ends one_thread_for_a_live_run 2 '' - live --one-thread plain.toml
 ends quiet_twice 2 '' - run -q --quiet plain.toml
 ends quiet_check 2 '' - check --quiet plain.toml
 ends quiet_script 2 '' - script -q plain.toml

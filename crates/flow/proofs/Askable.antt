@@ -28,3 +28,6 @@ some_command_last s o l c e i h = line_last s l c i (subst (λ (x : Option Line)
 
 pub some_bad_last : (s : Split) (o : Option Line) (l : Line) → o ≡ Some l → l ≡ line.Bad → option_to_list (option_map line_seen o) ≡ parsed_from (suc s.taken) (lines_of s.rest) → Bad ∷ [] ≡ parsed_from (suc s.taken) (lines_of s.rest)
 some_bad_last s o l e i h = subst (λ (x : Line). line_seen x ∷ [] ≡ parsed_from (suc s.taken) (lines_of s.rest)) i (subst (λ (x : Option Line). option_to_list (option_map line_seen x) ≡ parsed_from (suc s.taken) (lines_of s.rest)) e h)
+
+pub some_bad_next : (old new : Split) (o : Option Line) (l : Line) → o ≡ Some l → l ≡ line.Bad → Continues (option_map line_seen o) old new → SaysNext Bad old new
+some_bad_next old new o l e i h = subst (λ (x : Line). SaysNext (line_seen x) old new) i (subst (λ (x : Option Line). Continues (option_map line_seen x) old new) e h)

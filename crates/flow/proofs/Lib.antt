@@ -1,4 +1,6 @@
 mod Agreeing
+mod Descents
+mod Desks
 pub mod Flows
 pub mod Flying
 pub mod Sessions

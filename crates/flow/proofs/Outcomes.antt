@@ -1,6 +1,6 @@
 -- What a command does, from what it tells and whether that was written.
 use Rattle.std.proofs.Common.{◌≡◌, ℕ, ◌+◌, List, refl, ap, sym, ◌∙◌, subst, arith, Bool, true, false}
-use Rattle.std.specs.Prelude.{Option, Result, Ok, Err, IfOk, IfErr, if◌then◌else◌}
+use Rattle.std.specs.Prelude.{Option, Result, Ok, Err, IsOk, IfOk, IfErr, if◌then◌else◌}
 use Rattle.std.specs.Io.KnownBytes.{Appends}
 use Rattle.stream_model.specs.Network.{Network, State}
 use Rattle.stream_model.specs.Machine.{Capacities, is_all_done, IsWhole}
@@ -16,13 +16,20 @@ use Rattle.plant.specs.declared.answers.Settled.TheVariants.{Done, Quiet}
 use Rattle.graph_file.specs.Refusals.{Refusal}
 use Rattle.graph_file.specs.Blocks.{drafted}
 use Rattle.graph_file.specs.Opening.{Opened, opened_of}
+use Rattle.flowgraph.specs.Agreeing.{graphs_agree}
 use Rattle.threads.specs.Outcomes.{CameBack, handed_of}
+use Rattle.threads.specs.History.{Noted, IsRunOf}
+use Rattle.threads.specs.Live.{EndsLive, opening_of}
+use Rattle.threads.specs.declared.outcome.Outcome.{Outcome}
+use Rattle.threads.specs.declared.outcome.Outcome.TheVariants as outcome
+use Rattle.plant.specs.Handed.{OpeningState}
 use Rattle.top_block.specs.Closing.{with_all_closed}
 use Rattle.flow.proofs.Agreeing.{same_names}
 use Rattle.script_text.specs.Ends.{AppendsBeginning}
 use Rattle.flow.specs.Session.{in_state}
 use Rattle.flow.specs.Reports.{run_text}
-use Rattle.flow.specs.Serve.{Fails, Refuses, RunsNot, Writes, WritesNot, IsAtRest, IsRun, IsRunAlone, plant_in, turn, reads_in, writes_failed}
+use Rattle.flow.specs.Threads.{HasCome}
+use Rattle.flow.specs.Serve.{Fails, IsNoFile, Refuses, RunsNot, StopsLive, Writes, WritesNot, IsAtRest, IsLive, IsRun, IsRunAlone, plant_in, turn, reads_in, writes_failed}
 use Rattle.flow.specs.declared.fault.Fault.{Fault}
 use Rattle.flow.specs.declared.fault.Fault.TheVariants.{File, Script, Run}
 use Rattle.flow.specs.declared.script.ScriptFault.TheVariants.{BadLine, Read, Write, Memory}
@@ -128,23 +135,28 @@ module _ (file text : List ℕ) (p q r : PlantState Kind) where
         well = well ∙ ap (λ (b : Bool). if b then 0 else 3) all;
       }
 
--- a plant that ran in threads and came back is the one that was opened, elsewhere
-module _ (file text : List ℕ) (p r : PlantState Kind) (eq : Kind → Kind → Bool) (back : CameBack meaning_of eq (handed_of (with_all_closed meaning_of p)) r) where
+-- a plant with the same names and network, and with buffers as large as its rates ask, is the one that was opened, elsewhere
+module _ (p r : PlantState Kind) (eq : Kind → Kind → Bool) (agree : graphs_agree eq r.graph p.graph ≡ true) (net : net_of meaning_of r.graph ≡ net_of meaning_of p.graph)
+    (fits : r.capacities ≡ capacities_of (net_of meaning_of r.graph) (balance_of (net_of meaning_of r.graph))) where
   same_graph : drafted r.graph ≡ drafted p.graph
-  same_graph = let names = same_names eq r.graph p.graph back.graph in let net = back.net in λ i. record { names = names i; net = net i }
+  same_graph = let names = same_names eq r.graph p.graph agree in λ i. record { names = names i; net = net i }
+
+  same_capacities : p.capacities ≡ capacities_of (net_of meaning_of p.graph) (balance_of (net_of meaning_of p.graph)) → r.capacities ≡ p.capacities
+  same_capacities fit = fits ∙ ap (λ n. capacities_of n (balance_of n)) net ∙ sym fit
 
   same_plant : p.capacities ≡ capacities_of (net_of meaning_of p.graph) (balance_of (net_of meaning_of p.graph)) → opened_of r ≡ record (opened_of p) { state = r.state }
   same_plant fit =
-      let capacities : r.capacities ≡ p.capacities = back.capacities ∙ ap (λ n. capacities_of n (balance_of n)) back.net ∙ sym fit in
+      let capacities = same_capacities fit in
       let graph = same_graph in
       λ i. record { draft = graph i; capacities = capacities i; state = r.state }
 
-  pub ran_in_threads : (settled : Settled) (done : Bool) (status : ℕ) → plant_in file ≡ Ok (opened_of p) →
+module _ (file text : List ℕ) (p r : PlantState Kind) (eq : Kind → Kind → Bool) where
+  pub ran_in_threads : (settled : Settled) (done : Bool) (status : ℕ) → CameBack meaning_of eq (handed_of (with_all_closed meaning_of p)) r → plant_in file ≡ Ok (opened_of p) →
       p.capacities ≡ capacities_of (net_of meaning_of p.graph) (balance_of (net_of meaning_of p.graph)) → Sound (net_of meaning_of r.graph) r.capacities r.state →
       HasSettled (net_of meaning_of r.graph) r.capacities r.state settled → done ≡ is_all_done r.state → (done ≡ true → IsWhole (net_of meaning_of r.graph) r.state) →
       text ≡ run_text (drafted r.graph) r.state → status ≡ (if done then 0 else 3) → IsRun file text status
-  ran_in_threads settled done status opens fit sound rests all whole tells well =
-      let same = same_plant fit in
+  ran_in_threads settled done status back opens fit sound rests all whole tells well =
+      let same = same_plant p r eq back.graph back.net back.capacities fit in
       record {
         plant = opened_of p;
         opens = opens;
@@ -152,6 +164,39 @@ module _ (file text : List ℕ) (p r : PlantState Kind) (eq : Kind → Kind → 
         handed = back.handed;
         sound = subst (λ (x : Opened). Sound x.draft.net x.capacities x.state) same sound;
         rests = subst (λ (x : Opened). IsAtRest x.draft.net x.capacities x.state) same (at_rest (net_of meaning_of r.graph) r.capacities r.state settled rests (λ e. whole (all ∙ e)));
-        told = tells ∙ ap (λ d. run_text d r.state) same_graph;
+        told = tells ∙ ap (λ d. run_text d r.state) (same_graph p r eq back.graph back.net back.capacities);
         well = well ∙ ap (λ (b : Bool). if b then 0 else 3) all;
       }
+
+  -- calls were made meanwhile
+  pub ran_live : (settled : Settled) (done : Bool) (status : ℕ) → HasCome meaning_of eq (opening_of p) r → plant_in file ≡ Ok (opened_of p) →
+      p.capacities ≡ capacities_of (net_of meaning_of p.graph) (balance_of (net_of meaning_of p.graph)) →
+      HasSettled (net_of meaning_of r.graph) r.capacities r.state settled → done ≡ is_all_done r.state → (done ≡ true → IsWhole (net_of meaning_of r.graph) r.state) →
+      text ≡ run_text (drafted r.graph) r.state → status ≡ (if done then 0 else 3) → IsLive file text status
+  ran_live settled done status come opens fit rests all whole tells well =
+      let back = come.1 in
+      let same = same_plant p r eq back.graph back.net back.capacities fit in
+      record {
+        plant = opened_of p;
+        opens = opens;
+        history = come.0;
+        last = r.state;
+        run = subst (λ (x : Opened). IsRunOf x.draft.net x.capacities p.state come.0 r.state) same back.run;
+        rests = subst (λ (x : Opened). IsAtRest x.draft.net x.capacities x.state) same (at_rest (net_of meaning_of r.graph) r.capacities r.state settled rests (λ e. whole (all ∙ e)));
+        told = tells ∙ ap (λ d. run_text d r.state) (same_graph p r eq back.graph back.net back.capacities);
+        well = well ∙ ap (λ (b : Bool). if b then 0 else 3) all;
+      }
+
+-- how a live run ended that came to rest
+module _ (eq : Kind → Kind → Bool) (o : OpeningState Kind) (history : List Noted) {P : Type 0} (out : Outcome Kind P) (p : PlantState Kind) where
+  pub ended_done : out ≡ outcome.Done p → EndsLive meaning_of eq o history out → HasCome meaning_of eq o p × HasSettled (net_of meaning_of p.graph) p.capacities p.state Done
+  ended_done e h = let k = subst (EndsLive meaning_of eq o history) e h in ((history, k.0), k.1.done)
+
+  pub ended_stalled : out ≡ outcome.Stalled p → EndsLive meaning_of eq o history out → HasCome meaning_of eq o p × HasSettled (net_of meaning_of p.graph) p.capacities p.state Quiet
+  ended_stalled e h = let k = subst (EndsLive meaning_of eq o history) e h in ((history, k.0), (k.1.undone, k.1.quiet))
+
+-- what came of a live run of a file that is good
+pub live_failed : (file : List ℕ) (i i' o o' : Option (List ℕ)) (fault : Fault) (p : Opened) → plant_in file ≡ Ok p → IsNoFile fault → StopsLive file i i' o o' fault
+live_failed file i i' o o' (File fault) p opens h = absurd h
+live_failed file i i' o o' (Script fault) p opens h = subst IsOk (sym opens) refl
+live_failed file i i' o o' (Run fault) p opens h = subst IsOk (sym opens) refl

@@ -1,7 +1,7 @@
 -- From a graph file to its plant, and the line that tells a fault.
-use Rattle.std.proofs.Common.{◌≡◌, ℕ, zero, suc, ◌+◌, List, [], ◌∷◌, ◌++◌, length, length-append, take, drop, get_or, ◌<◌, append_assoc, arith, map, Some, None, Bool, true, refl, ap, sym, ◌∙◌, subst, add-one, not, inl, inr, ℤ}
-use Rattle.std.specs.Prelude.{Option, Result, Ok, Err, nat_lt, ◌&&◌, position, bytes_eq, ◌==◌, OnOk, OnErr, is_ok, if◌then◌else◌}
-use Rattle.std.specs.List.{list_all, flat_map}
+use Rattle.std.proofs.Common.{◌≡◌, ℕ, suc, ◌+◌, List, [], ◌∷◌, ◌++◌, length, length-append, take, drop, get_or, ◌<◌, append_assoc, arith, map, Some, None, Bool, true, refl, ap, sym, ◌∙◌, subst, not, inl, inr, ℤ}
+use Rattle.std.specs.Prelude.{Option, Result, Ok, Err, nat_lt, ◌&&◌, position, bytes_eq, OnOk, OnErr, is_ok, if◌then◌else◌}
+use Rattle.std.specs.List.{flat_map}
 use Rattle.std.specs.Str.{IsUtf8, is_utf8}
 use Rattle.std.specs.Io.KnownBytes.{Appends}
 use Rattle.std.proofs.Math.Seq.{take-append-add}
@@ -9,12 +9,10 @@ use Rattle.std.proofs.lemmas.List.{take-append-le, drop_more}
 use Rattle.flow.proofs.Flows.{appends_both}
 use Rattle.std.proofs.lemmas.Str.{IsUtf8-from_is_utf8, is_utf8-from_IsUtf8}
 use Rattle.toml.specs.Parse.{parse_document}
-use Rattle.stream_model.specs.Network.{Network, Node, State, Progress, node_at, role_at, handed_at, no_progress, is_source, opening}
-use Rattle.stream_model.specs.Numbers.{types_agree}
+use Rattle.stream_model.specs.Network.{Network, State, role_at, is_source, opening}
 use Rattle.stream_model.specs.Machine as machine
 use Rattle.stream_model.specs.Machine.{Reply, Refused, close_of, feed_of, is_idle, marks_fit, longest_tape}
 use Rattle.stream_model.specs.Tags.{Mark}
-use Rattle.stream_model.specs.declared.vocabulary.ItemType.{ItemType}
 use Rattle.machine_laws.proofs.Choices.{if_both}
 use Rattle.plant.specs.Feeding.{are_items, given_type, feed_numbers}
 use Rattle.graph_file.specs.declared.fault.FileFault.{FileFault}

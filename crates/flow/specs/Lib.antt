@@ -1,3 +1,4 @@
+pub mod AtDesk
 pub mod Session
 pub mod Script
 pub mod Faults

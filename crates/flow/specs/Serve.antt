@@ -1,5 +1,5 @@
 -- What the program does with a graph file and its streams.
-use Rattle.std.specs.Prelude.{ℕ, zero, suc, ◌+◌, ◌≡◌, ◌⊎◌, List, length, Option, true, false, Result, Ok, Err, IsOk, if◌then◌else◌}
+use Rattle.std.specs.Prelude.{⊤, ℕ, ◌+◌, ◌≡◌, ◌⊎◌, List, Option, true, false, Result, Ok, Err, IsOk, if◌then◌else◌}
 use Rattle.std.specs.Str.{is_utf8}
 use Rattle.std.specs.Io.KnownBytes.{Appends}
 use Rattle.toml.specs.Parse.{parse_document}
@@ -15,9 +15,10 @@ use Rattle.graph_file.specs.Steps.{then}
 use Rattle.graph_file.specs.Blocks.{Draft}
 use Rattle.graph_file.specs.File.{Content, file_of}
 use Rattle.graph_file.specs.Opening.{Opened, opened, opened_of, validated}
+use Rattle.threads.specs.History.{Noted, IsRunOf}
 use Rattle.script_text.specs.Ends.{AppendsBeginning}
 use Rattle.top_block.specs.Closing.{closed}
-use Rattle.flow.specs.Session.{graph_of, standing_of, none_kept}
+use Rattle.flow.specs.Session.{Answers, graph_of, standing_of, none_kept}
 use Rattle.flow.specs.Script.{EndsIn, Breaks, failed_reads, failed_writes}
 use Rattle.flow.specs.Faults.{fault_line, status_of}
 use Rattle.flow.specs.Reports.{check_text, run_text}
@@ -99,6 +100,18 @@ pub record IsRunAlone (file text : List ℕ) (status : ℕ) : Type 0 where
   pub told : text ≡ run_text plant.draft last
   pub well : status ≡ (if is_all_done last then 0 else 3)
 
+-- a run of a file in threads with its sources left open, of which calls were made meanwhile: its plant came where a history of calls leads, to rest, and
+-- what is told of it then
+pub record IsLive (file text : List ℕ) (status : ℕ) : Type 0 where
+  pub plant : Opened
+  pub opens : plant_in file ≡ Ok plant
+  pub history : List Noted
+  pub last : State
+  pub run : IsRunOf plant.draft.net plant.capacities plant.state history last
+  pub rests : IsAtRest plant.draft.net plant.capacities last
+  pub told : text ≡ run_text plant.draft last
+  pub well : status ≡ (if is_all_done last then 0 else 3)
+
 -- a text was written, with a status
 abbrev pub Writes : (List ℕ → ℕ → Type 0) → Option (List ℕ) → Option (List ℕ) → ℕ → Type 0
 Writes IsDone out out' status = (text : List ℕ) × IsDone text status × Appends out out' text
@@ -130,14 +143,27 @@ abbrev pub StopsScript : List ℕ → Option (List ℕ) → Option (List ℕ) �
 StopsScript file input input' out out' (File fault) = IsRefused (plant_in file) fault × (input' ≡ input) × (out' ≡ out)
 StopsScript file input input' out out' (Script fault) =
     (plant : PlantState Kind) × (plant_in file ≡ Ok (opened_of plant))
-    × Breaks (graph_of meaning_of plant) (standing_of plant (none_kept plant)) input input' out out' fault
+    × Breaks (Answers (graph_of meaning_of plant)) (standing_of plant (none_kept plant)) input input' out out' fault
 StopsScript file input input' out out' (Run fault) = ⊥
 
--- a command was done, with a status; only a script reads its input
+-- the file was not refused
+abbrev pub IsNoFile : Fault → Type 0
+IsNoFile (File fault) = ⊥
+IsNoFile (Script fault) = ⊤
+IsNoFile (Run fault) = ⊤
+
+-- a file was refused, before anything was read or written; or it was not, and what came of its streams a thread of its own knows
+abbrev pub StopsLive : List ℕ → Option (List ℕ) → Option (List ℕ) → Option (List ℕ) → Option (List ℕ) → Fault → Type 0
+StopsLive file input input' out out' (File fault) = IsRefused (plant_in file) fault × (input' ≡ input) × (out' ≡ out)
+StopsLive file input input' out out' (Script fault) = IsOk (plant_in file)
+StopsLive file input input' out out' (Run fault) = IsOk (plant_in file)
+
+-- a command was done, with a status; only a script and a live run read their input
 abbrev pub Does : Command → List ℕ → Option (List ℕ) → Option (List ℕ) → Option (List ℕ) → Option (List ℕ) → ℕ → Type 0
 Does command.Check file input input' out out' status = (input' ≡ input) × Writes (IsCheck file) out out' status
 Does command.Run file input input' out out' status = (input' ≡ input) × Writes (IsRun file) out out' status
 Does command.RunAlone file input input' out out' status = (input' ≡ input) × Writes (IsRunAlone file) out out' status
+Does command.Live file input input' out out' status = (between : Option (List ℕ)) × Writes (IsLive file) between out' status
 Does command.Script file input input' out out' status = IsScript file input input' out out' × (status ≡ 0)
 
 -- a command was not done, for a fault
@@ -145,6 +171,7 @@ abbrev pub DoesNot : Command → List ℕ → Option (List ℕ) → Option (List
 DoesNot command.Check file input input' out out' fault = (input' ≡ input) × WritesNot (IsCheck file) (graph_in file) out out' fault
 DoesNot command.Run file input input' out out' fault = (input' ≡ input) × RunsNot (IsRun file) (plant_in file) out out' fault
 DoesNot command.RunAlone file input input' out out' fault = (input' ≡ input) × WritesNot (IsRunAlone file) (plant_in file) out out' fault
+DoesNot command.Live file input input' out out' fault = StopsLive file input input' out out' fault
 DoesNot command.Script file input input' out out' fault = StopsScript file input input' out out' fault
 
 -- how many reads failed by a fault, and how many writes
@@ -167,6 +194,14 @@ abbrev pub writes_in : {X : Type 0} → Result X Fault → ℕ
 writes_in (Ok x) = 0
 writes_in (Err fault) = writes_failed fault
 
+-- a count of failed calls grew by so many; of those that a live run makes nothing is said, since a thread of its own makes them
+abbrev pub Grows : Command → ℕ → ℕ → ℕ → Type 0
+Grows command.Check old new n = new ≡ old + n
+Grows command.Run old new n = new ≡ old + n
+Grows command.RunAlone old new n = new ≡ old + n
+Grows command.Live old new n = ⊤
+Grows command.Script old new n = new ≡ old + n
+
 -- a line was written, or a beginning of it where the write failed
 abbrev pub Tries : Stream → Stream → List ℕ → Type 0
 Tries old new line = (Appends old.bytes new.bytes line × (new.failed ≡ old.failed)) ⊎ (AppendsBeginning old.bytes new.bytes line × (new.failed ≡ old.failed + 1))
@@ -174,7 +209,7 @@ Tries old new line = (Appends old.bytes new.bytes line × (new.failed ≡ old.fa
 -- a command was done, and nothing is told of a fault; or it was not, the fault is told, and the status is the one that it brings
 pub data Serves (c : Command) (file : List ℕ) (input input' output output' errors errors' : Stream) : ℕ → Type 0 where
   Well : (status : ℕ) → Does c file input.bytes input'.bytes output.bytes output'.bytes status →
-      input'.failed ≡ input.failed → output'.failed ≡ output.failed → errors' ≡ errors → Serves c file input input' output output' errors errors' status
+      Grows c input.failed input'.failed 0 → Grows c output.failed output'.failed 0 → errors' ≡ errors → Serves c file input input' output output' errors errors' status
   Badly : (fault : Fault) → DoesNot c file input.bytes input'.bytes output.bytes output'.bytes fault →
-      input'.failed ≡ input.failed + reads_failed fault → output'.failed ≡ output.failed + writes_failed fault → Tries errors errors' (fault_line fault) →
+      Grows c input.failed input'.failed (reads_failed fault) → Grows c output.failed output'.failed (writes_failed fault) → Tries errors errors' (fault_line fault) →
       Serves c file input input' output output' errors errors' (status_of fault)

@@ -201,6 +201,10 @@ Gives a old new line = ((line ≡ line_text a.text) × (new ≡ a.after)) ⊎ ((
 abbrev pub Answers : Graph → Command → Standing → Standing → List ℕ → Type 0
 Answers g c old new line = Gives (next_of g old c) old new line
 
+-- the same of a session, which stays the same elsewhere
+abbrev pub IsAnswered : {B : Type 0} → (B → Meaning) → Command → SessionState B → SessionState B → List ℕ → Type 0
+IsAnswered meaning c old new line = (new ≡ in_standing old (standing new)) × Answers (graph_of meaning old.plant) c (standing old) (standing new) line
+
 -- a refusal of the plant as a line
 abbrev pub refusal_reply : PlantFault → Reply
 refusal_reply (fault.Late floor) = machine.Late floor
@@ -227,9 +231,9 @@ abbrev pub are_taps : Wanted → Bool
 are_taps (wanted.Number least greatest) = false
 are_taps (wanted.Taps count) = true
 
--- numbers are this value; or they are none that the setting may have, or no memory was there for the taps that they are
+-- numbers are this value, which the setting may have; or they are none that it may have, or no memory was there for the taps that they are
 abbrev pub IsValueFor : Wanted → List ℤ → Result settings.Value PlantFault → Type 0
-IsValueFor w zs (Ok v) = value_for w zs ≡ Some (value_of v)
+IsValueFor w zs (Ok v) = (value_for w zs ≡ Some (value_of v)) × (is_fit w (value_for w zs) ≡ true)
 IsValueFor w zs (Err fault.WrongSetting) = is_fit w (value_for w zs) ≡ false
 IsValueFor w zs (Err fault.Memory) = (are_taps w ≡ true) × (is_fit w (value_for w zs) ≡ true)
 IsValueFor w zs (Err _) = ⊥

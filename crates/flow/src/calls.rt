@@ -79,13 +79,13 @@ pub(crate) fn set<B: Block>(
     }
 }
 
-// The value that numbers are for a setting. Taps of another number are refused before they take memory.
-fn value_for(alloc: Global, wanted: Wanted, numbers: &[i64]) -> Result<Value, PlantFault>
+/// The value that numbers are for a setting. Taps of another number are refused before they take memory.
+pub(crate) fn value_for(alloc: Global, wanted: Wanted, numbers: &[i64]) -> Result<Value, PlantFault>
     ensures { IsValueFor wanted numbers.now result }
 {
     match wanted {
-        Wanted::Number(_, _) => match numbers {
-            [number] => Ok(Value::Number(*number)),
+        Wanted::Number(least, greatest) => match numbers {
+            [number] if least <= *number && *number <= greatest => Ok(Value::Number(*number)),
             _ => Err(PlantFault::WrongSetting),
         },
         Wanted::Taps(count) => {
@@ -140,8 +140,8 @@ pub(crate) fn read<B: Block>(
     }
 }
 
-// What a sink shows, as a line.
-fn shown(alloc: Global, piece: &Piece) -> Result<Vec<u8>, AllocError>
+/// What a sink shows, as a line.
+pub(crate) fn shown(alloc: Global, piece: &Piece) -> Result<Vec<u8>, AllocError>
     ensures { IfOk result (λ line. line.items ≡ reply_line (piece_reply piece.now)) }
 {
     let reply = Reply::Piece {

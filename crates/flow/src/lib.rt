@@ -1,9 +1,13 @@
 //! What the program `flow` does with a graph file and its standard streams, over any source and place of bytes.
 #![tactic(auto)]
 
+mod answerer;
 mod calls;
 mod claims;
+mod desk_calls;
 pub mod fault;
+mod line_caller;
+mod live;
 mod reports;
 mod running;
 pub mod script;

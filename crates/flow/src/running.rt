@@ -43,7 +43,8 @@ pub(crate) fn run_plant<R: Threads + Wait + Copy + Send + 'static, W: Watch>(
     }
 }
 
-fn turns() -> Turns {
+/// The turns of a run's workers.
+pub(crate) fn turns() -> Turns {
     match Turns::new(TURN) {
         Some(turns) => turns,
         None => Turns::default(),

@@ -6,10 +6,11 @@ ghost use Rattle.script_text.specs.Splits.{IsUnfinished};
 ghost use Rattle.script_text.specs.Scripts.{said_of};
 ghost use Rattle.script_text.specs.Grammar.{Says, IsAskable};
 ghost use Rattle.script_text.specs.Commands.{command_seen};
-ghost use Rattle.flow.specs.Session.{graph_of, standing, standing_of, in_standing, in_state, none_kept};
+ghost use Rattle.flow.specs.Session.{Answers, graph_of, standing_of, in_state, none_kept};
 ghost use Rattle.flow.specs.Script.{Answered, Stops, Unwritten, Proceeds, Went, Ends, EndsIn, Breaks, failed_reads, failed_writes};
 ghost use Rattle.flow.specs.declared.script.ScriptFault.TheVariants.{Memory};
 
+use crate::answerer::Answerer;
 use crate::session::Session;
 use block_kinds::Block;
 use graph_file::Pieces;
@@ -84,20 +85,21 @@ pub fn script<B: Block, I: ByteIn, O: ByteOut>(
     requires writes { O.failed output.old < 2 ^ 64 - 1 }
     ensures ends { IfOk result (λ p. EndsIn (graph_of B.meaning plant) (standing_of plant (none_kept plant)) p.state (I.remaining input.old) (I.remaining input.new) (O.contents output.old) (O.contents output.new)) }
     ensures same { IfOk result (λ p. p ≡ in_state plant p.state) }
-    ensures breaks { IfErr result (λ fault. Breaks (graph_of B.meaning plant) (standing_of plant (none_kept plant)) (I.remaining input.old) (I.remaining input.new) (O.contents output.old) (O.contents output.new) fault) }
+    ensures breaks { IfErr result (λ fault. Breaks (Answers (graph_of B.meaning plant)) (standing_of plant (none_kept plant)) (I.remaining input.old) (I.remaining input.new) (O.contents output.old) (O.contents output.new) fault) }
     ensures failed_reads { I.failed input.new ≡ I.failed input.old + failed_reads result }
     ensures failed_writes { O.failed output.new ≡ O.failed output.old + failed_writes result }
 {
     let mut session = Session::new(alloc, plant)?;
     let mut lines = LineSplitter::new(alloc)?;
-    answer_all(alloc, &mut session, &mut lines, input, output)?;
+    answer_all(&(), alloc, &mut session, &mut lines, input, output)?;
     Ok(session.into_plant())
 }
 
-// Answers all lines, up to the end of the reader.
-fn answer_all<B: Block, I: ByteIn, O: ByteOut>(
+/// Answers all lines, up to the end of the reader.
+pub(crate) fn answer_all<H, A: Answerer<H>, I: ByteIn, O: ByteOut>(
+    handle: &H,
     alloc: Global,
-    session: &mut Session<B>,
+    session: &mut A,
     lines: &mut LineSplitter,
     input: &mut I,
     output: &mut O,
@@ -105,9 +107,8 @@ fn answer_all<B: Block, I: ByteIn, O: ByteOut>(
     requires none { lines.old ≡ record { rest = []; line = []; taken = 0 } }
     requires reads { I.failed input.old < 2 ^ 64 - 1 }
     requires writes { O.failed output.old < 2 ^ 64 - 1 }
-    ensures same { session.new ≡ in_standing session.old (standing session.new) }
-    ensures ends { OnOk result (Ends (graph_of B.meaning session.old.plant) (standing session.old) (standing session.new) (I.remaining input.old) (I.remaining input.new) (O.contents output.old) (O.contents output.new)) }
-    ensures breaks { IfErr result (λ fault. Breaks (graph_of B.meaning session.old.plant) (standing session.old) (I.remaining input.old) (I.remaining input.new) (O.contents output.old) (O.contents output.new) fault) }
+    ensures ends { OnOk result (Ends A.answers session.old session.new (I.remaining input.old) (I.remaining input.new) (O.contents output.old) (O.contents output.new)) }
+    ensures breaks { IfErr result (λ fault. Breaks A.answers session.old (I.remaining input.old) (I.remaining input.new) (O.contents output.old) (O.contents output.new) fault) }
     ensures failed_reads { I.failed input.new ≡ I.failed input.old + failed_reads result }
     ensures failed_writes { O.failed output.new ≡ O.failed output.old + failed_writes result }
 {
@@ -117,33 +118,33 @@ fn answer_all<B: Block, I: ByteIn, O: ByteOut>(
             return Err(ScriptFault::Read);
         };
         if read == 0 {
-            return answer_last(alloc, session, lines, output);
+            return answer_last(handle, alloc, session, lines, output);
         }
         lines.push(&buffer[..read]);
-        answer_lines(alloc, session, lines, output)?;
+        answer_lines(handle, alloc, session, lines, output)?;
     }
     // So many pieces have a bad line among them, since there may be only so many lines and none may be long.
     Err(ScriptFault::Memory)
 }
 
 // Answers each line whose end has come.
-fn answer_lines<B: Block, O: ByteOut>(
+fn answer_lines<H, A: Answerer<H>, O: ByteOut>(
+    handle: &H,
     alloc: Global,
-    session: &mut Session<B>,
+    session: &mut A,
     lines: &mut LineSplitter,
     output: &mut O,
 ) -> Result<(), ScriptFault>
     requires low { lines.old.taken ≤ most_lines }
     requires writes { O.failed output.old < 2 ^ 64 - 1 }
-    ensures same { session.new ≡ in_standing session.old (standing session.new) }
-    ensures went { OnOk result (Went (graph_of B.meaning session.old.plant) (standing session.old) (standing session.new) (O.contents output.old) (O.contents output.new) lines.old lines.new) }
+    ensures went { OnOk result (Went A.answers session.old session.new (O.contents output.old) (O.contents output.new) lines.old lines.new) }
     ensures unfinished { OnOk result (IsUnfinished lines.new.rest) }
-    ensures stops { IfErr result (λ fault. Stops (graph_of B.meaning session.old.plant) (standing session.old) (O.contents output.old) (O.contents output.new) (said_of lines.old) lines.old.taken fault) }
+    ensures stops { IfErr result (λ fault. Stops A.answers session.old (O.contents output.old) (O.contents output.new) (said_of lines.old) lines.old.taken fault) }
     ensures failed_reads { failed_reads result ≡ 0 }
     ensures failed_writes { O.failed output.new ≡ O.failed output.old + failed_writes result }
 {
     loop {
-        match answer_next(alloc, session, lines, output) {
+        match answer_next(handle, alloc, session, lines, output) {
             Ok(true) => {}
             Ok(false) => return Ok(()),
             Err(fault) => return Err(fault),
@@ -152,17 +153,17 @@ fn answer_lines<B: Block, O: ByteOut>(
 }
 
 // Answers the next line, if its end has come, and tells whether it has.
-fn answer_next<B: Block, O: ByteOut>(
+fn answer_next<H, A: Answerer<H>, O: ByteOut>(
+    handle: &H,
     alloc: Global,
-    session: &mut Session<B>,
+    session: &mut A,
     lines: &mut LineSplitter,
     output: &mut O,
 ) -> Result<bool, ScriptFault>
     requires low { lines.old.taken ≤ most_lines }
     requires writes { O.failed output.old < 2 ^ 64 - 1 }
-    ensures same { session.new ≡ in_standing session.old (standing session.new) }
-    ensures proceeds { IfOk result (λ came. Proceeds (graph_of B.meaning session.old.plant) (standing session.old) (standing session.new) (O.contents output.old) (O.contents output.new) lines.old lines.new came) }
-    ensures stops { IfErr result (λ fault. Stops (graph_of B.meaning session.old.plant) (standing session.old) (O.contents output.old) (O.contents output.new) (said_of lines.old) lines.old.taken fault) }
+    ensures proceeds { IfOk result (λ came. Proceeds A.answers session.old session.new (O.contents output.old) (O.contents output.new) lines.old lines.new came) }
+    ensures stops { IfErr result (λ fault. Stops A.answers session.old (O.contents output.old) (O.contents output.new) (said_of lines.old) lines.old.taken fault) }
     ensures failed_reads { failed_reads result ≡ 0 }
     ensures failed_writes { O.failed output.new ≡ O.failed output.old + failed_writes result }
 {
@@ -171,52 +172,60 @@ fn answer_next<B: Block, O: ByteOut>(
         None => Ok(false),
         Some(Line::Nothing) => Ok(true),
         Some(Line::Bad) => Err(ScriptFault::BadLine(number)),
-        Some(Line::Command(command)) => match answer_command(alloc, session, &command, output) {
-            Ok(()) => Ok(true),
-            Err(fault) => Err(fault),
-        },
+        Some(Line::Command(command)) => {
+            match answer_command(handle, alloc, session, &command, number, output) {
+                Ok(()) => Ok(true),
+                Err(fault) => Err(fault),
+            }
+        }
     }
 }
 
 // Answers the line that the end of the bytes ends, if there is one.
-fn answer_last<B: Block, O: ByteOut>(
+fn answer_last<H, A: Answerer<H>, O: ByteOut>(
+    handle: &H,
     alloc: Global,
-    session: &mut Session<B>,
+    session: &mut A,
     lines: &LineSplitter,
     output: &mut O,
 ) -> Result<(), ScriptFault>
     requires low { lines.now.taken ≤ most_lines }
     requires unfinished { IsUnfinished lines.now.rest }
     requires writes { O.failed output.old < 2 ^ 64 - 1 }
-    ensures same { session.new ≡ in_standing session.old (standing session.new) }
-    ensures answered { OnOk result (Answered (graph_of B.meaning session.old.plant) (standing session.old) (standing session.new) (O.contents output.old) (O.contents output.new) (said_of lines.now [])) }
-    ensures stops { IfErr result (λ fault. Stops (graph_of B.meaning session.old.plant) (standing session.old) (O.contents output.old) (O.contents output.new) (λ more. said_of lines.now []) lines.now.taken fault) }
+    ensures answered { OnOk result (Answered A.answers session.old session.new (O.contents output.old) (O.contents output.new) (said_of lines.now [])) }
+    ensures stops { IfErr result (λ fault. Stops A.answers session.old (O.contents output.old) (O.contents output.new) (λ more. said_of lines.now []) lines.now.taken fault) }
     ensures failed_reads { failed_reads result ≡ 0 }
     ensures failed_writes { O.failed output.new ≡ O.failed output.old + failed_writes result }
 {
+    let last = lines.taken() + 1;
     match last_line(alloc, lines)? {
         None | Some(Line::Nothing) => Ok(()),
-        Some(Line::Bad) => Err(ScriptFault::BadLine(lines.taken() + 1)),
-        Some(Line::Command(command)) => answer_command(alloc, session, &command, output),
+        Some(Line::Bad) => Err(ScriptFault::BadLine(last)),
+        Some(Line::Command(command)) => {
+            answer_command(handle, alloc, session, &command, last, output)
+        }
     }
 }
 
-// Does what a command asks, and writes its reply.
-fn answer_command<B: Block, O: ByteOut>(
+// Does what the command of the line of this number asks, and writes its reply.
+fn answer_command<H, A: Answerer<H>, O: ByteOut>(
+    handle: &H,
     alloc: Global,
-    session: &mut Session<B>,
+    session: &mut A,
     command: &Command,
+    number: u64,
     output: &mut O,
 ) -> Result<(), ScriptFault>
     requires askable { IsAskable (command_seen command.now) }
     requires writes { O.failed output.old < 2 ^ 64 - 1 }
-    ensures same { session.new ≡ in_standing session.old (standing session.new) }
-    ensures answered { OnOk result (Answered (graph_of B.meaning session.old.plant) (standing session.old) (standing session.new) (O.contents output.old) (O.contents output.new) (Says (command_seen command.now) ∷ [])) }
-    ensures unwritten { IfErr result (λ fault. Unwritten (graph_of B.meaning session.old.plant) (command_seen command.now) (standing session.old) (standing session.new) (O.contents output.old) (O.contents output.new) fault) }
+    ensures answered { OnOk result (Answered A.answers session.old session.new (O.contents output.old) (O.contents output.new) (Says (command_seen command.now) ∷ [])) }
+    ensures unwritten { IfErr result (λ fault. Unwritten A.answers (command_seen command.now) number session.old session.new (O.contents output.old) (O.contents output.new) fault) }
     ensures failed_reads { failed_reads result ≡ 0 }
     ensures failed_writes { O.failed output.new ≡ O.failed output.old + failed_writes result }
 {
-    let line = session.answer(alloc, command)?;
+    let Some(line) = session.answer(handle, alloc, command)? else {
+        return Err(ScriptFault::BadLine(number));
+    };
     match output.write(&line) {
         Ok(()) => Ok(()),
         Err(_) => Err(ScriptFault::Write),

@@ -1,6 +1,6 @@
 //! What the program does with a graph file and its standard streams, over any source and place of bytes.
 
-ghost use Rattle.std.specs.Prelude.{◌≡◌, ◌+◌, ◌<◌, ◌-◌, ◌^◌, true, IfOk, IfErr, if◌then◌else◌};
+ghost use Rattle.std.specs.Prelude.{List, ℕ, Option, ◌≡◌, ◌+◌, ◌<◌, ◌-◌, ◌^◌, true, IfOk, IfErr, if◌then◌else◌};
 ghost use Rattle.std.specs.Io.KnownBytes.{Appends};
 ghost use Rattle.stream_model.specs.Machine.{is_idle};
 ghost use Rattle.graph_file.specs.Refusals.{IsRefused};
@@ -8,11 +8,12 @@ ghost use Rattle.graph_file.specs.Blocks.{drafted};
 ghost use Rattle.graph_file.specs.Opening.{opened_of};
 ghost use Rattle.script_text.specs.Ends.{AppendsBeginning};
 ghost use Rattle.flow.specs.Reports.{check_text};
-ghost use Rattle.flow.specs.Serve.{Serves, stream, Does, DoesNot, Fails, IsCheck, IsRun, IsRunAlone, Refuses, RunsNot, Writes, WritesNot, IsScript, StopsScript, graph_in, plant_in, reads_in, writes_in};
+ghost use Rattle.flow.specs.Serve.{Serves, stream, Does, DoesNot, Fails, Grows, IsCheck, IsLive, IsRun, IsRunAlone, Refuses, StopsLive, RunsNot, Writes, WritesNot, IsScript, StopsScript, graph_in, plant_in, reads_in, writes_in};
 ghost use Rattle.flow.specs.declared.fault.Fault.TheVariants.{Script};
 ghost use Rattle.flow.specs.declared.script.ScriptFault.TheVariants.{Write};
 
 use crate::fault::Fault;
+use crate::live::live_plant;
 use crate::reports::{checked, ended};
 use crate::running::run_plant;
 use crate::script::{ScriptFault, script};
@@ -42,6 +43,8 @@ pub enum Command {
     Run,
     /// The same on one thread, block by block.
     RunAlone,
+    /// To feed it, let it run in threads while the lines of standard input make calls of it, and tell what its sinks hold at the end.
+    Live,
     /// To feed it and do the commands of standard input.
     Script,
 }
@@ -57,9 +60,9 @@ struct Outcome {
 /// 1 and 4 one line on `errors` says why, and whether that write succeeds changes nothing. A run is shown to `watch` while it goes on, and is over
 /// for it before anything is written.
 pub fn serve<
-    R: Threads + Wait + Copy + Send + 'static,
-    I: ByteIn,
-    O: ByteOut,
+    R: Threads + Wait + Copy + Send + Sync + 'static,
+    I: ByteIn + Send,
+    O: ByteOut + Send,
     E: ByteOut,
     W: Watch,
 >(
@@ -88,7 +91,12 @@ pub fn serve<
 }
 
 // Does a command, and gives its status.
-fn obey<R: Threads + Wait + Copy + Send + 'static, I: ByteIn, O: ByteOut, W: Watch>(
+fn obey<
+    R: Threads + Wait + Copy + Send + Sync + 'static,
+    I: ByteIn + Send,
+    O: ByteOut + Send,
+    W: Watch,
+>(
     rt: R,
     alloc: Global,
     command: Command,
@@ -101,13 +109,14 @@ fn obey<R: Threads + Wait + Copy + Send + 'static, I: ByteIn, O: ByteOut, W: Wat
     requires writes { O.failed output.old < 2 ^ 64 - 1 }
     ensures does { IfOk result (Does command file.now (I.remaining input.old) (I.remaining input.new) (O.contents output.old) (O.contents output.new)) }
     ensures does_not { IfErr result (DoesNot command file.now (I.remaining input.old) (I.remaining input.new) (O.contents output.old) (O.contents output.new)) }
-    ensures failed_reads { I.failed input.new ≡ I.failed input.old + reads_in result }
-    ensures failed_writes { O.failed output.new ≡ O.failed output.old + writes_in result }
+    ensures failed_reads { Grows command (I.failed input.old) (I.failed input.new) (reads_in result) }
+    ensures failed_writes { Grows command (O.failed output.old) (O.failed output.new) (writes_in result) }
 {
     match command {
         Command::Check => check(alloc, file, output),
         Command::Run => run(rt, alloc, file, output, watch),
         Command::RunAlone => run_alone(alloc, file, output, watch),
+        Command::Live => run_live(&rt, alloc, file, input, output, watch),
         Command::Script => run_script(alloc, file, input, output),
     }
 }
@@ -180,6 +189,33 @@ fn run_script<I: ByteIn, O: ByteOut>(
         Ok(_done) => Ok(0),
         Err(fault) => Err(Fault::Script(fault)),
     }
+}
+
+fn run_live<R: Threads + Wait + Sync, I: ByteIn + Send, O: ByteOut + Send, W: Watch>(
+    rt: &R,
+    alloc: Global,
+    file: &[u8],
+    input: &mut I,
+    output: &mut O,
+    watch: &mut W,
+) -> Result<u8, Fault>
+    ensures does { IfOk result (λ status. (between : Option (List ℕ)) × Writes (IsLive file.now) between (O.contents output.new) status) }
+    ensures does_not { IfErr result (StopsLive file.now (I.remaining input.old) (I.remaining input.new) (O.contents output.old) (O.contents output.new)) }
+{
+    let plant = match open_plant(alloc, file) {
+        Ok(plant) => plant,
+        Err(fault) => return Err(Fault::File(fault)),
+    };
+    plant.in_order();
+    let (plant, settled) = live_plant(rt, alloc, plant, input, output, watch)?;
+    plant.in_order();
+    let text = ended(alloc, &plant, settled)?;
+    let status = status_of(plant.all_done());
+    // (the caller's thread may have left it so that no failure more can be counted)
+    if output.failures() == u64::MAX {
+        return Err(Fault::Script(ScriptFault::Write));
+    }
+    written(output, &Outcome { text, status })
 }
 
 // What is told of the graph of a file.

@@ -1,18 +1,19 @@
 //! A plant with the claims that the lines of a script made.
 
-ghost use Rattle.std.specs.Prelude.{◌≡◌, ◌<◌, length, map, false, replicate, None, IfOk, IfSome};
+ghost use Rattle.std.specs.Prelude.{◌≡◌, ◌<◌, length, map, false, position, bytes_eq, replicate, None, IfOk, IfSome};
 ghost use Rattle.std.specs.Option.{option_map};
 ghost use Rattle.flowgraph.specs.Flowgraph.{net_of};
 ghost use Rattle.flowgraph.specs.Fault.{id};
 ghost use Rattle.script_text.specs.Grammar.{IsAskable};
 ghost use Rattle.script_text.specs.Commands.{command_seen};
-ghost use Rattle.flow.specs.Session.{graph_of, standing, standing_of, in_state, in_standing, none_kept, kept_in, block_of, name_in, answer_on, KeepsJobs, Gives, Answers};
+ghost use Rattle.flow.specs.Session.{graph_of, standing, standing_of, in_state, in_standing, none_kept, kept_in, name_in, answer_on, Answers, IsAnswered, KeepsJobs, Gives};
 
+use crate::answerer::Answerer;
 use crate::calls::{close, feed, read, refused, set, step};
 use crate::claims::{abandon, claim, commit};
 use block_kinds::Block;
 use items::BlockName;
-use plant::{BlockId, Job, Plant, PlantFault};
+use plant::{BlockId, Job, Plant, PlantFault, Valid};
 use script_text::{Command, Reply};
 use std::alloc::{AllocError, Global};
 use std::marker::Model;
@@ -52,9 +53,28 @@ impl<B: Block> Session<B> {
     {
         self.plant
     }
+}
+
+impl<B: Block> Answerer<()> for Session<B> {
+    ghost answers = { λ c old new line. IsAnswered (B.meaning) c old new line };
 
     /// Makes the call that a command asks for, and gives its reply as a line.
-    pub fn answer(&mut self, alloc: Global, command: &Command) -> Result<Vec<u8>, AllocError>
+    fn answer(
+        &mut self,
+        _handle: &(),
+        alloc: Global,
+        command: &Command,
+    ) -> Result<Option<Vec<u8>>, AllocError> {
+        match self.line_for(alloc, command) {
+            Ok(line) => Ok(Some(line)),
+            Err(refusal) => Err(refusal),
+        }
+    }
+}
+
+impl<B: Block> Session<B> {
+    // The line that answers a command.
+    fn line_for(&mut self, alloc: Global, command: &Command) -> Result<Vec<u8>, AllocError>
         requires { IsAskable (command_seen command.now) }
         ensures same { self.new ≡ in_standing self.old (standing self.new) }
         ensures answers { IfOk result (λ line. Answers (graph_of B.meaning self.old.plant) (command_seen command.now) (standing self.old) (standing self.new) line.items) }
@@ -62,7 +82,7 @@ impl<B: Block> Session<B> {
         let Some(name) = name_of(command) else {
             return Reply::Quiet(self.plant.quiet()).to_line(alloc);
         };
-        match find(&self.plant, name) {
+        match find(self.plant.graph(), name) {
             Some(block) => answer_on(alloc, &mut self.plant, &mut self.jobs, block, command),
             None => refused(alloc, PlantFault::NoSuchBlock),
         }
@@ -97,12 +117,11 @@ fn name_of(command: &Command) -> Option<&BlockName>
     }
 }
 
-// The number of the block of this name.
-fn find<B: Block>(plant: &Plant<B>, name: &BlockName) -> Option<BlockId>
-    ensures named { option_map (λ block. block.0) result ≡ block_of (graph_of B.meaning plant.now) name.now }
-    ensures inside { IfSome result (λ block. block.0 < length plant.now.graph.blocks) }
+/// The number of the block of this name.
+pub(crate) fn find<B: Block>(graph: &Valid<B>, name: &BlockName) -> Option<BlockId>
+    ensures named { option_map (λ block. block.0) result ≡ position (bytes_eq name.now) graph.now.names }
+    ensures inside { IfSome result (λ block. block.0 < length graph.now.blocks) }
 {
-    let graph = plant.graph();
     graph.in_order();
     graph.find(name.bytes())
 }

@@ -21,7 +21,7 @@ fn main(rt: HostRuntime) -> ExitCode {
 }
 
 // Only `main` may hand on the leave to start threads: `threads` is the same runtime with it.
-fn status<R: Threads + Wait + Copy + Send + 'static>(threads: R, rt: &HostRuntime) -> u8 {
+fn status<R: Threads + Wait + Copy + Send + Sync + 'static>(threads: R, rt: &HostRuntime) -> u8 {
     let arguments = match env::args(rt) {
         Ok(arguments) => arguments,
         Err(error) => return begins_none(rt, StartFault::of_words(error.kind())),
@@ -49,7 +49,7 @@ fn begins_none(rt: &HostRuntime, fault: StartFault) -> u8 {
     fault.status()
 }
 
-fn run<R: Threads + Wait + Copy + Send + 'static>(
+fn run<R: Threads + Wait + Copy + Send + Sync + 'static>(
     threads: R,
     rt: &HostRuntime,
     call: Call<'_>,

@@ -35,6 +35,7 @@ pub fn call_of<'a>(alloc: Global, words: &'a [String]) -> Result<Call<'a>, clap:
         "check" => Command::Check,
         "run" if inner.get_flag("one-thread") => Command::RunAlone,
         "run" => Command::Run,
+        "live" => Command::Live,
         _ => Command::Script,
     };
     match inner.get_str("FILE") {
@@ -49,17 +50,17 @@ pub fn call_of<'a>(alloc: Global, words: &'a [String]) -> Result<Call<'a>, clap:
 
 // The words that the program knows.
 fn commands<'a>(alloc: Global) -> Result<clap::Command<'a>, clap::Error> {
-    let quiet = Arg::new(alloc, "quiet")
-        .short('q')
-        .long("quiet")
-        .action(ArgAction::SetTrue)
-        .help("Shows no progress on a terminal");
     let one_thread = Arg::new(alloc, "one-thread")
         .long("one-thread")
         .action(ArgAction::SetTrue)
         .help("Runs all blocks on one thread");
     let check = subcommand(alloc, "check", "Reads the graph and tells of it")?;
     let run = subcommand(alloc, "run", "Runs the graph and tells what its sinks hold")?;
+    let live = subcommand(
+        alloc,
+        "live",
+        "Runs the graph while the commands of standard input are done",
+    )?;
     let script = subcommand(
         alloc,
         "script",
@@ -73,9 +74,19 @@ fn commands<'a>(alloc: Global) -> Result<clap::Command<'a>, clap::Error> {
             .about("Runs a flowgraph that a file describes")
             .subcommand_required(true)
             .subcommand(check)?
-            .subcommand(run.arg(quiet)?.arg(one_thread)?)?
+            .subcommand(run.arg(quiet(alloc))?.arg(one_thread)?)?
+            .subcommand(live.arg(quiet(alloc))?)?
             .subcommand(script)?,
     )
+}
+
+// The word that says no to progress.
+fn quiet<'a>(alloc: Global) -> Arg<'a> {
+    Arg::new(alloc, "quiet")
+        .short('q')
+        .long("quiet")
+        .action(ArgAction::SetTrue)
+        .help("Shows no progress on a terminal")
 }
 
 // A subcommand that takes a graph file, with its line of help.

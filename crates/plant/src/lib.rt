@@ -21,5 +21,6 @@ pub use firings::Need;
 pub use flowgraph::{Block, BlockId, Valid};
 pub use handed::{Handed, Opening};
 pub use jobs::{Job, Worked};
+pub use looks::source_type;
 pub use plant::Plant;
 pub use settle::{Unwatched, Watch};

@@ -16,7 +16,7 @@ use items::{ItemType, Mark};
 use settings::Value;
 use stream_model::{Role, Wanted};
 
-/// The type of the items that a source gives, where the block is one.
+/// The type of the items that a source of the graph gives: what it is fed has this type. Other blocks are refused as `feed` refuses them.
 pub fn source_type<B: Block>(graph: &Valid<B>, block: BlockId) -> Result<ItemType, PlantFault>
     ensures { result ≡ source_type_of (net_of B.meaning graph.now) block.0 }
 {

@@ -1,6 +1,7 @@
 //! The plant.
 
 ghost use Rattle.std.specs.Prelude.{◌≡◌, ◌≤◌, ℕ, List, map, ◌↔◌, true, IsOk, IsTrue, IfOk, IfErr};
+ghost use Rattle.std.specs.Arc.{arc_value};
 ghost use Rattle.std.specs.List.{Any};
 ghost use Rattle.stream_model.specs.Machine as machine;
 ghost use Rattle.stream_model.specs.Machine.{next, step_of, commit_of, abandon_of, feed_of, close_of, set_of, read_of, is_idle, is_all_done, is_quiet, IsWhole, HoldsAll};
@@ -39,6 +40,7 @@ use rates::Rates;
 use settings::Value;
 use std::alloc::{AllocError, Global};
 use std::marker::Model;
+use std::sync::Arc;
 
 /// A flowgraph with what it was handed and how far it is. A contract sees the graph, the capacities, and the machine's state.
 pub struct Plant<B: Block> {
@@ -80,6 +82,13 @@ impl<B: Block> Plant<B> {
         ensures { result.now ≡ self.now.graph }
     {
         &self.parts.graph
+    }
+
+    /// A share of the graph, for who looks up blocks while the plant is at work elsewhere. An `Err` tells that no more shares can be counted.
+    pub fn share_graph(&self) -> Result<Arc<Valid<B>, Global>, AllocError>
+        ensures { IfOk result (λ graph. arc_value graph ≡ self.now.graph) }
+    {
+        Arc::try_clone(&self.parts.graph)
     }
 
     /// The type of the items that a source takes.

@@ -1,16 +1,18 @@
 -- What a contract sees of a desk.
 use Rattle.std.specs.Prelude.{ℕ, ◌≡◌, List, [], ◌∷◌, ◌++◌, Option, Some, None}
 use Rattle.stream_model.specs.Machine.{Reply}
+use Rattle.flowgraph.specs.Flowgraph.{Flowgraph}
 use Rattle.threads.specs.declared.entry.CallerId.TheVariants as caller
 use Rattle.threads.specs.History.{Asked, Noted}
 use Rattle.threads.specs.Recorded.{note_of}
 
--- its number, and the calls that were made at it
-pub record DeskState : Type 0 where
+-- the plant's graph, its number, and the calls that were made at it
+pub record DeskState (B : Type 0) : Type 0 where
+  pub graph : Flowgraph B
   pub number : ℕ
   pub log : List Noted
 
 -- a call with its reply joined the log; or memory ran out, and nothing did
-abbrev pub IsLogged : Asked → DeskState → DeskState → Option Reply → Type 0
+abbrev pub IsLogged : {B : Type 0} → Asked → DeskState B → DeskState B → Option Reply → Type 0
 IsLogged asked old new None = new ≡ old
 IsLogged asked old new (Some reply) = new ≡ record old { log = old.log ++ note_of (caller.Desk old.number) asked reply ∷ [] }

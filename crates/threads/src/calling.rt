@@ -1,9 +1,9 @@
 //! A run in threads of which callers make calls meanwhile.
 
-ghost use Rattle.std.specs.Prelude.{◌≡◌, ◌≤◌, map, true, IfOk, IfErr, IsTrue, vec_len};
+ghost use Rattle.std.specs.Prelude.{◌≡◌, ◌≤◌, map, true, IfOk, IfErr, vec_len};
 ghost use Rattle.stream_model.specs.Machine.{is_idle};
 ghost use Rattle.threads.specs.History.{noted_by};
-ghost use Rattle.threads.specs.Live.{AreLogs, EndsLive, GivesBackLive, noted_at, opening_of};
+ghost use Rattle.threads.specs.Live.{AreLogs, EndsLive, GivesBackLive, opening_of};
 
 use crate::desk::{Caller, Desk};
 use crate::engine::Engine;
@@ -12,14 +12,15 @@ use crate::fault::RunFault;
 use crate::gate::Gate;
 use crate::hall::Hall;
 use crate::launching::make_beds;
+use crate::logs::are_logs;
 use crate::outcome::Outcome;
 use crate::recorded::Recorded;
 use crate::seats::Seats;
 use crate::turns::Turns;
 use crate::woken::Woken;
 use crate::worker::{Shared, work};
-use flowgraph::{Block, BlockId};
-use plant::{Opening, Plant};
+use flowgraph::{Block, BlockId, Valid};
+use plant::{Opening, Plant, Unwatched, Watch};
 use std::alloc::{AllocError, Global};
 use std::sync::{Arc, Mutex, Wait};
 use std::thread;
@@ -60,14 +61,47 @@ where
     ensures logs { IfOk result (λ f. AreLogs (map (λ l. map noted_by l.items) f.logs.items) (map noted_by f.history.items)) }
     ensures err { IfErr result (GivesBackLive B.meaning B.eq (opening_of plant)) }
 {
-    let (hall, opening, beds, came) = prepare(alloc, plant, callers.len())?;
+    live_watched(rt, alloc, plant, gate, callers, turns, &mut Unwatched)
+}
+
+/// As `live`, and once all callers have returned it shows `watch` how far the plant is, each time that its pause is over, until the workers leave.
+pub fn live_watched<
+    B: Block + Send + Sync,
+    G: Gate + Drop + Send + Sync,
+    C: Caller<B> + Drop + Send,
+    R: Threads + Wait + Sync,
+    W: Watch,
+>(
+    rt: &R,
+    alloc: Global,
+    plant: Plant<B>,
+    gate: Arc<G, Global>,
+    callers: Vec<C>,
+    turns: Turns,
+    watch: &mut W,
+) -> Result<Finished<B, C>, RunFault<B>>
+where
+    B::Places: Send + Sync,
+    requires idle { is_idle plant.state ≡ true }
+    requires few { vec_len callers ≤ 16 }
+    ensures ends { IfOk result (λ f. EndsLive B.meaning B.eq (opening_of plant) (map noted_by f.history.items) f.outcome) }
+    ensures logs { IfOk result (λ f. AreLogs (map (λ l. map noted_by l.items) f.logs.items) (map noted_by f.history.items)) }
+    ensures err { IfErr result (GivesBackLive B.meaning B.eq (opening_of plant)) }
+{
+    let (hall, rooms) = prepare(alloc, plant, callers.len())?;
+    let Rooms {
+        opening,
+        graph,
+        beds,
+        came,
+    } = rooms;
     let shared = Shared {
         hall: Mutex::new(hall),
         beds,
         lookout: Parker::new(),
         gate,
     };
-    let came = in_scope(rt, alloc, &shared, callers, came, turns);
+    let came = in_scope(rt, alloc, &shared, &graph, callers, came, turns, watch);
     let Shared { hall, .. } = shared;
     ended(hall.into_inner(), &opening, came)
 }
@@ -82,28 +116,50 @@ struct Came<C: Drop> {
     all: bool,
 }
 
-// What a run needs, beside its opening.
+impl<C: Drop + Send> Came<C> {
+    // Room for what so many callers bring.
+    fn new(alloc: Global, callers: usize) -> Result<Came<C>, AllocError> {
+        Ok(Came {
+            callers: Vec::with_capacity(alloc, callers)?,
+            logs: Vec::with_capacity(alloc, callers)?,
+            desks: Vec::with_capacity(alloc, callers)?,
+            all: true,
+        })
+    }
+}
+
+// What a run needs that lies beside its lock.
+#[derive(Drop)]
+struct Rooms<B: Block, C: Drop> {
+    opening: Opening<B>,
+    graph: Arc<Valid<B>, Global>,
+    beds: Vec<Parker>,
+    came: Came<C>,
+}
+
+// All that a run needs.
 fn prepare<B: Block, C: Drop + Send>(
     alloc: Global,
     plant: Plant<B>,
     callers: usize,
-) -> Result<(Hall<B>, Opening<B>, Vec<Parker>, Came<C>), RunFault<B>>
+) -> Result<(Hall<B>, Rooms<B, C>), RunFault<B>>
     requires idle { is_idle plant.state ≡ true }
-    ensures ok { IfOk result (λ p. p.1 ≡ opening_of plant) }
+    ensures ok { IfOk result (λ p. p.1.opening ≡ opening_of plant) }
     ensures err { IfErr result (GivesBackLive B.meaning B.eq (opening_of plant)) }
 {
-    match rooms_of(alloc, &plant, callers) {
-        Ok((first, opening, seats, beds, came)) => Ok((
+    match (
+        rooms_of(alloc, &plant, callers),
+        locked_rooms_of(alloc, &plant),
+    ) {
+        (Ok(rooms), Ok((opening, seats))) => Ok((
             Hall::new(
-                Engine::Noted(Recorded::new(alloc, plant, first)),
+                Engine::Noted(Recorded::new(alloc, plant, opening)),
                 seats,
                 callers,
             ),
-            opening,
-            beds,
-            came,
+            rooms,
         )),
-        Err(_) => Err(out_of_memory(plant)),
+        _ => Err(out_of_memory(plant)),
     }
 }
 
@@ -116,26 +172,32 @@ fn out_of_memory<B: Block>(plant: Plant<B>) -> RunFault<B>
     RunFault::Memory(plant)
 }
 
-// What a run needs beside its plant, of which it notes twice where it begins: what lies under the lock is compared with the other.
+// What a run needs beside its lock.
 fn rooms_of<B: Block, C: Drop + Send>(
     alloc: Global,
     plant: &Plant<B>,
     callers: usize,
-) -> Result<(Opening<B>, Opening<B>, Seats, Vec<Parker>, Came<C>), AllocError>
-    ensures { IfOk result (λ r. (r.0 ≡ opening_of plant.now) × (r.1 ≡ opening_of plant.now)) }
+) -> Result<Rooms<B, C>, AllocError>
+    ensures { IfOk result (λ rooms. rooms.opening ≡ opening_of plant.now) }
 {
-    let blocks = plant.graph().len();
+    Ok(Rooms {
+        opening: plant.opening(alloc)?,
+        graph: plant.share_graph()?,
+        beds: make_beds(alloc, plant.graph().len())?,
+        came: Came::new(alloc, callers)?,
+    })
+}
+
+// What a run needs under its lock. It notes where the plant begins once more: what comes out from under the lock is compared with the other.
+fn locked_rooms_of<B: Block>(
+    alloc: Global,
+    plant: &Plant<B>,
+) -> Result<(Opening<B>, Seats), AllocError>
+    ensures { IfOk result (λ r. r.0 ≡ opening_of plant.now) }
+{
     Ok((
         plant.opening(alloc)?,
-        plant.opening(alloc)?,
-        Seats::new(alloc, blocks)?,
-        make_beds(alloc, blocks)?,
-        Came {
-            callers: Vec::with_capacity(alloc, callers)?,
-            logs: Vec::with_capacity(alloc, callers)?,
-            desks: Vec::with_capacity(alloc, callers)?,
-            all: true,
-        },
+        Seats::new(alloc, plant.graph().len())?,
     ))
 }
 
@@ -145,19 +207,24 @@ fn in_scope<
     G: Gate + Drop + Send + Sync,
     C: Caller<B> + Drop + Send,
     R: Threads + Wait + Sync,
+    W: Watch,
 >(
     rt: &R,
     alloc: Global,
     shared: &Shared<B, G>,
+    graph: &Valid<B>,
     callers: Vec<C>,
     came: Came<C>,
     turns: Turns,
+    watch: &mut W,
 ) -> Came<C>
 where
     B::Places: Send + Sync,
 {
     thread::scope(thread::scope_env(), rt, move |scope| {
-        run_all(rt, alloc, scope, shared, callers, came, turns)
+        let came = run_all(rt, alloc, scope, shared, graph, callers, came, turns);
+        shared.show(rt, watch);
+        came
     })
 }
 
@@ -176,6 +243,7 @@ fn run_all<
     alloc: Global,
     scope: &Scope<'s, E>,
     shared: &'h Shared<B, G>,
+    graph: &'h Valid<B>,
     callers: Vec<C>,
     came: Came<C>,
     turns: Turns,
@@ -199,7 +267,7 @@ where
         }
     }
     for (number, caller) in (0..u32::MAX).zip(callers) {
-        match scope.spawn(move || at_desk(rt, alloc, shared, number, caller)) {
+        match scope.spawn(move || at_desk(rt, alloc, shared, graph, number, caller)) {
             Ok(desk) => {
                 if desks.push(desk).is_err() {
                     all = false;
@@ -230,11 +298,13 @@ fn at_desk<B: Block, G: Gate + Drop, C: Caller<B>, R: Wait>(
     rt: &R,
     alloc: Global,
     shared: &Shared<B, G>,
+    graph: &Valid<B>,
     number: u32,
     mut caller: C,
 ) -> (C, Vec<Entry>) {
     let mut desk = Desk {
         shared,
+        graph,
         number,
         log: Vec::new(alloc),
     };
@@ -297,33 +367,4 @@ fn ended<B: Block, C: Drop>(
         logs,
         callers,
     })
-}
-
-// Whether each log is what was noted of its desk.
-fn are_logs(logs: &[Vec<Entry>], history: &[Entry]) -> bool
-    ensures { IsTrue result → AreLogs (map (λ l. map noted_by l.items) logs.now) (map noted_by history.now) }
-{
-    for (desk, log) in logs.iter().enumerate() {
-        if !is_log(log, history, desk) {
-            return false;
-        }
-    }
-    true
-}
-
-// Whether a log is what was noted of a desk.
-fn is_log(log: &[Entry], history: &[Entry], desk: usize) -> bool
-    ensures { IsTrue result → map noted_by log.now ≡ noted_at desk (map noted_by history.now) }
-{
-    let mut at = 0;
-    for entry in history {
-        if !entry.is_of(desk) {
-            continue;
-        }
-        if log.len() <= at || !log[at].is_same(entry) {
-            return false;
-        }
-        at += 1;
-    }
-    at == log.len()
 }

@@ -14,7 +14,7 @@ use crate::entry::{Answer, Call, CallerId, Entry, Feed, Setting, shared};
 use crate::gate::Gate;
 use crate::woken::Woken;
 use crate::worker::Shared;
-use flowgraph::{Block, BlockId};
+use flowgraph::{Block, BlockId, Valid};
 use items::{Items, Mark};
 use plant::{Closed, Fed, Piece, PlantFault, Taken};
 use settings::Value;
@@ -30,10 +30,11 @@ pub trait Caller<B: Block> {
 }
 
 /// Where one caller makes calls of a plant at work. Each call takes the lock, is answered as the plant answers it, and joins the desk's log with
-/// that reply; one that is refused memory changes nothing and joins no log. A contract sees the desk's number and its log.
+/// that reply; one that is refused memory changes nothing and joins no log. A contract sees the plant's graph, the desk's number and its log.
 #[derive(Drop)]
 pub struct Desk<'a, B: Block, G: Gate + Drop> {
     pub(crate) shared: &'a Shared<B, G>,
+    pub(crate) graph: &'a Valid<B>,
     pub(crate) number: u32,
     pub(crate) log: Vec<Entry>,
 }
@@ -43,12 +44,19 @@ impl<'a, B: Block, G: Gate + Drop> Model for Desk<'a, B, G> {
     ghost use Rattle.threads.specs.History.{noted_by};
     ghost use Rattle.threads.specs.Desk.{DeskState};
 
-    ghost Value = { DeskState };
+    ghost Value = { DeskState B };
 
-    ghost view = { λ d. record { number = d.number; log = map noted_by d.log.items } };
+    ghost view = { λ d. record { graph = d.graph.now; number = d.number; log = map noted_by d.log.items } };
 }
 
 impl<'a, B: Block, G: Gate + Drop> Desk<'a, B, G> {
+    /// The plant's graph, in which blocks are found by their names.
+    pub fn graph(&self) -> &Valid<B>
+        ensures { result.now ≡ self.now.graph }
+    {
+        self.graph
+    }
+
     /// The calls that were made here so far, each with its reply.
     pub fn log(&self) -> &[Entry]
         ensures { map noted_by result.now ≡ self.now.log }

@@ -11,6 +11,7 @@ mod hall;
 mod hall_calls;
 mod launching;
 mod lent_calls;
+mod logs;
 pub mod outcome;
 mod recorded;
 pub mod running;
@@ -19,7 +20,7 @@ pub mod turns;
 mod woken;
 mod worker;
 
-pub use calling::{Finished, live};
+pub use calling::{Finished, live, live_watched};
 pub use desk::{Caller, Desk};
 pub use entry::{Answer, Call, CallerId, Entry, Feed, Setting};
 pub use fault::RunFault;

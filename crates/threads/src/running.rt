@@ -19,7 +19,6 @@ use std::alloc::Global;
 use std::marker::Model;
 use std::sync::{Arc, Wait};
 use std::thread::{JoinHandle, Threads};
-use std::time::Duration;
 
 /// A plant at work in threads, one for each of its blocks. Where it is dropped its workers go on by themselves, and are cut off as the program
 /// ends; `wait` gives the plant back. A contract sees what was handed in, and whether a stop was asked for.
@@ -57,7 +56,7 @@ impl<B: Block, G: Gate + Drop> Running<B, G> {
 
     /// How many items all sources were fed, and how many of these they have given by now. It takes the lock, and looks at each block.
     pub fn headway<R: Wait>(&self, rt: &R) -> Headway {
-        self.shared.hall.lock(rt).engine.plant().headway()
+        self.shared.headway(rt)
     }
 
     /// As `wait`, and until the workers leave it shows `watch` how far the plant is, each time that its pause is over.
@@ -69,22 +68,8 @@ impl<B: Block, G: Gate + Drop> Running<B, G> {
         ensures ok { IfOk result (EndsIn B.meaning B.eq self.handed self.asked) }
         ensures err { IfErr result (GivesBack B.meaning B.eq self.handed) }
     {
-        if let Some(pause) = watch.pause() {
-            self.show(rt, watch, pause);
-        }
-        watch.end();
+        self.shared.show(rt, watch);
         self.wait(rt)
-    }
-
-    // Shows how far the plant is until the run is over.
-    fn show<R: Wait, W: Watch>(&self, rt: &R, watch: &mut W, pause: Duration) {
-        for _ in rt.forever() {
-            if self.shared.hall.lock(rt).is_over() {
-                return;
-            }
-            self.shared.lookout.park_timeout(rt, pause);
-            watch.show(self.headway(rt));
-        }
     }
 
     /// Waits until all workers have left, and tells how the run ended. Sinks hold what they got. A claim that was refused memory ends the run

@@ -8,6 +8,7 @@ use crate::turns::Turns;
 use crate::woken::{BITS, Woken};
 use flowgraph::{Block, BlockId};
 use jobs::Worked;
+use plant::{Headway, Watch};
 use std::alloc::Global;
 use std::hint::spin_loop;
 use std::sync::{Arc, Mutex, Wait};
@@ -45,6 +46,25 @@ impl<B: Block, G: Gate + Drop> Shared<B, G> {
         if woken.missed {
             self.gate.missed();
         }
+    }
+
+    /// How many items all sources were fed, and how many of these they have given by now. It takes the lock, and looks at each block.
+    pub fn headway<R: Wait>(&self, rt: &R) -> Headway {
+        self.hall.lock(rt).engine.plant().headway()
+    }
+
+    /// Shows `watch` how far the plant is until the run is over, each time that its pause is over.
+    pub fn show<R: Wait, W: Watch>(&self, rt: &R, watch: &mut W) {
+        if let Some(pause) = watch.pause() {
+            for _ in rt.forever() {
+                if self.hall.lock(rt).is_over() {
+                    break;
+                }
+                self.lookout.park_timeout(rt, pause);
+                watch.show(self.headway(rt));
+            }
+        }
+        watch.end();
     }
 
     /// Has the workers leave, each once it has committed what it works on.

@@ -1,6 +1,6 @@
 //! A graph of kinds, from its feeds to its end.
 
-ghost use Rattle.std.specs.Prelude.{◌≡◌, true, false, map, IfOk, IfErr};
+ghost use Rattle.std.specs.Prelude.{◌≡◌, ◌≤◌, true, false, map, vec_len, IfOk, IfErr};
 ghost use Rattle.stream_model.specs.Machine as machine;
 ghost use Rattle.stream_model.specs.Machine.{feed_of, is_idle};
 ghost use Rattle.items.specs.Items.{type_of, numbers_of};
@@ -11,6 +11,8 @@ ghost use Rattle.stores.specs.Stores.{mark_of};
 ghost use Rattle.plant.specs.Answers.{Answered, reply_of};
 ghost use Rattle.plant.specs.Opening.{opening_plant};
 ghost use Rattle.plant.specs.Plant.{PlantState};
+ghost use Rattle.threads.specs.History.{noted_by};
+ghost use Rattle.threads.specs.Live.{AreLogs, EndsLive, GivesBackLive, opening_of};
 ghost use Rattle.threads.specs.Outcomes.{EndsIn, GivesBack, handed_of};
 ghost use Rattle.top_block.specs.Closing.{with_all_closed};
 
@@ -18,12 +20,15 @@ use crate::closing::close_all;
 use flowgraph::{BlockId, Valid};
 use items::{Items, Mark};
 use kinds::Kind;
-use plant::{Fed, Plant, PlantFault};
+use plant::{Fed, Plant, PlantFault, Unwatched, Watch};
 use std::alloc::{AllocError, Global};
 use std::marker::Model;
 use std::sync::{Arc, Wait};
 use std::thread::Threads;
-use threads::{Gate, Open, Outcome, RunFault, Running, Turns, launch_open, run_with};
+use threads::{
+    Caller, Finished, Gate, Open, Outcome, RunFault, Running, Turns, launch_open, live_watched,
+    run_with,
+};
 
 /// A plant of kinds with no claim in flight, which is fed and then run in threads. It is the whole life of a flowgraph whose data are there from
 /// the start: `from_graph`, `feed`, and `run`, or `start` and `wait`. A contract sees the plant.
@@ -136,5 +141,50 @@ impl TopBlock {
         let TopBlock { mut plant } = self;
         close_all(&mut plant);
         run_with(rt, alloc, plant, gate, turns)
+    }
+
+    /// Starts a worker for each block and a thread for each caller, and waits until all callers have returned and the plant has come to rest. Sources
+    /// that are open stay open: callers feed and close them. A run that ends with one open is `Stalled`.
+    pub fn start_live<
+        G: Gate + Drop + Send + Sync,
+        C: Caller<Kind> + Drop + Send,
+        R: Threads + Wait + Sync,
+    >(
+        self,
+        rt: &R,
+        alloc: Global,
+        gate: Arc<G, Global>,
+        callers: Vec<C>,
+    ) -> Result<Finished<Kind, C>, RunFault<Kind>>
+        requires { vec_len callers ≤ 16 }
+        ensures ends { IfOk result (λ f. EndsLive meaning_of ⟦<Kind as PartialEq>⟧.eq (opening_of self) (map noted_by f.history.items) f.outcome) }
+        ensures logs { IfOk result (λ f. AreLogs (map (λ l. map noted_by l.items) f.logs.items) (map noted_by f.history.items)) }
+        ensures err { IfErr result (GivesBackLive meaning_of ⟦<Kind as PartialEq>⟧.eq (opening_of self)) }
+    {
+        self.start_live_watched(rt, alloc, gate, callers, Turns::default(), &mut Unwatched)
+    }
+
+    /// The same with turns of another length. Once all callers have returned, it shows `watch` how far the plant is.
+    pub fn start_live_watched<
+        G: Gate + Drop + Send + Sync,
+        C: Caller<Kind> + Drop + Send,
+        R: Threads + Wait + Sync,
+        W: Watch,
+    >(
+        self,
+        rt: &R,
+        alloc: Global,
+        gate: Arc<G, Global>,
+        callers: Vec<C>,
+        turns: Turns,
+        watch: &mut W,
+    ) -> Result<Finished<Kind, C>, RunFault<Kind>>
+        requires { vec_len callers ≤ 16 }
+        ensures ends { IfOk result (λ f. EndsLive meaning_of ⟦<Kind as PartialEq>⟧.eq (opening_of self) (map noted_by f.history.items) f.outcome) }
+        ensures logs { IfOk result (λ f. AreLogs (map (λ l. map noted_by l.items) f.logs.items) (map noted_by f.history.items)) }
+        ensures err { IfErr result (GivesBackLive meaning_of ⟦<Kind as PartialEq>⟧.eq (opening_of self)) }
+    {
+        let TopBlock { plant } = self;
+        live_watched(rt, alloc, plant, gate, callers, turns, watch)
     }
 }

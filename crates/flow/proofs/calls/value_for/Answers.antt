@@ -8,7 +8,10 @@ use Rattle.flow.proofs.calls.value_for.Goals as goal
 pub returns-in-Ok-Short : goal.returns-in-Ok-Short
 returns-in-Ok-Short c =
     let is : c.new.result ≡ c.args.numbers.now = c.new.ensures ∙ ap numbers_of (sym c.in-Ok-Short.field-0-is) ∙ c.in-Ok-Short.ensures.numbers in
-    rw c.in-Taps.is (taps_for c.in-Taps.count c.args.numbers.now c.in-Ok-Short.ensures.in_range ∙ ap (λ h. Some (Taps h)) (sym is))
+    rw c.in-Taps.is (
+      taps_for c.in-Taps.count c.args.numbers.now c.in-Ok-Short.ensures.in_range ∙ ap (λ h. Some (Taps h)) (sym is),
+      taps_fit c.in-Taps.count c.args.numbers.now c.in-Ok-Short.ensures.in_range (let n = c.if-numbers-count.false in grind (arith, nat_tests, n)),
+    )
 
 pub returns-in-Err-Memory : goal.returns-in-Err-Memory
 returns-in-Err-Memory c =

@@ -11,7 +11,8 @@ returns-in-Check-clause-does_not g c = rw c.in-Check.is (if_err c.check.result _
 
 pub returns-in-Check-clause-failed_reads : goal.returns-in-Check-clause-failed_reads
 returns-in-Check-clause-failed_reads g c =
-    no_more _ _ (no_reads (IsCheck c.args.file.now) (graph_in c.args.file.now) (g.O.ByteOut.contents c.args.output.now) (g.O.ByteOut.contents c.check.new.output) c.check.result c.check.ensures.does_not)
+    rw c.in-Check.is
+    (no_more _ _ (no_reads (IsCheck c.args.file.now) (graph_in c.args.file.now) (g.O.ByteOut.contents c.args.output.now) (g.O.ByteOut.contents c.check.new.output) c.check.result c.check.ensures.does_not))
 
 pub returns-in-Run-clause-does : goal.returns-in-Run-clause-does
 returns-in-Run-clause-does g c = rw c.in-Run.is (if_ok c.run.result _ _ c.run.ensures.does (λ status h. (refl, h)))
@@ -21,7 +22,8 @@ returns-in-Run-clause-does_not g c = rw c.in-Run.is (if_err c.run.result _ _ c.r
 
 pub returns-in-Run-clause-failed_reads : goal.returns-in-Run-clause-failed_reads
 returns-in-Run-clause-failed_reads g c =
-    no_more _ _ (no_reads_of_run (IsRun c.args.file.now) (plant_in c.args.file.now) (g.O.ByteOut.contents c.args.output.now) (g.O.ByteOut.contents c.run.new.output) c.run.result c.run.ensures.does_not)
+    rw c.in-Run.is
+    (no_more _ _ (no_reads_of_run (IsRun c.args.file.now) (plant_in c.args.file.now) (g.O.ByteOut.contents c.args.output.now) (g.O.ByteOut.contents c.run.new.output) c.run.result c.run.ensures.does_not))
 
 pub returns-in-RunAlone-clause-does : goal.returns-in-RunAlone-clause-does
 returns-in-RunAlone-clause-does g c = rw c.in-RunAlone.is (if_ok c.run_alone.result _ _ c.run_alone.ensures.does (λ status h. (refl, h)))
@@ -31,10 +33,23 @@ returns-in-RunAlone-clause-does_not g c = rw c.in-RunAlone.is (if_err c.run_alon
 
 pub returns-in-RunAlone-clause-failed_reads : goal.returns-in-RunAlone-clause-failed_reads
 returns-in-RunAlone-clause-failed_reads g c =
-    no_more _ _ (no_reads (IsRunAlone c.args.file.now) (plant_in c.args.file.now) (g.O.ByteOut.contents c.args.output.now) (g.O.ByteOut.contents c.run_alone.new.output) c.run_alone.result c.run_alone.ensures.does_not)
+    rw c.in-RunAlone.is
+    (no_more _ _ (no_reads (IsRunAlone c.args.file.now) (plant_in c.args.file.now) (g.O.ByteOut.contents c.args.output.now) (g.O.ByteOut.contents c.run_alone.new.output) c.run_alone.result c.run_alone.ensures.does_not))
 
 pub returns-in-Script-clause-does : goal.returns-in-Script-clause-does
 returns-in-Script-clause-does g c = rw c.in-Script.is c.run_script.ensures.does
 
 pub returns-in-Script-clause-does_not : goal.returns-in-Script-clause-does_not
 returns-in-Script-clause-does_not g c = rw c.in-Script.is c.run_script.ensures.does_not
+
+pub returns-in-Live-clause-does : goal.returns-in-Live-clause-does
+returns-in-Live-clause-does g c = rw c.in-Live.is c.run_live.ensures.does
+
+pub returns-in-Live-clause-does_not : goal.returns-in-Live-clause-does_not
+returns-in-Live-clause-does_not g c = rw c.in-Live.is c.run_live.ensures.does_not
+
+pub returns-in-Live-clause-failed_reads : goal.returns-in-Live-clause-failed_reads
+returns-in-Live-clause-failed_reads g c = rw c.in-Live.is tt
+
+pub returns-in-Live-clause-failed_writes : goal.returns-in-Live-clause-failed_writes
+returns-in-Live-clause-failed_writes g c = rw c.in-Live.is tt

@@ -1,9 +1,3 @@
-use Rattle.std.proofs.Common.{◌∙◌, ap}
-use Rattle.kinds.specs.declared.kind.Kind.{Kind}
-use Rattle.kinds.specs.Kind.{meaning_of}
-use Rattle.flowgraph.specs.Flowgraph.{net_of}
-use Rattle.stream_model.specs.Machine.{is_idle}
-use Rattle.plant.specs.Plant.{PlantState}
 use Rattle.flow.proofs.Outcomes.{ran}
 use Rattle.flow.proofs.serve.run_file_alone.Goals as goal
 

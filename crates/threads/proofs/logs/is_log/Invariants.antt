@@ -1,7 +1,7 @@
 use Rattle.std.proofs.Common.{◌≡◌, ◌≤◌, map, take, length}
 use Rattle.threads.specs.History.{noted_by}
 use Rattle.threads.specs.Live.{noted_at}
-use Rattle.threads.proofs.calling.is_log.Given as goal
+use Rattle.threads.proofs.logs.is_log.Given as goal
 
 abbrev pub invariant-loop-entry : goal.invariant-loop-entry
 invariant-loop-entry l = record {

@@ -1,0 +1,99 @@
+//! A run in threads of which an input makes calls, line by line.
+
+ghost use Rattle.std.specs.Prelude.{◌≡◌, ◌≤◌, map, true, vec_len, IfOk, IfErr};
+ghost use Rattle.stream_model.specs.Machine.{is_idle};
+ghost use Rattle.flowgraph.specs.Flowgraph.{net_of};
+ghost use Rattle.kinds.specs.Kind.{meaning_of};
+ghost use Rattle.kinds.specs.declared.kind.Kind.{Kind};
+ghost use Rattle.plant.specs.Handed.{OpeningState};
+ghost use Rattle.plant.specs.Settling.{HasSettled};
+ghost use Rattle.threads.specs.History.{noted_by};
+ghost use Rattle.threads.specs.Live.{EndsLive, opening_of};
+ghost use Rattle.flow.specs.Serve.{IsNoFile};
+ghost use Rattle.flow.specs.Threads.{HasCome};
+
+use crate::fault::Fault;
+use crate::line_caller::LineCaller;
+use crate::running::turns;
+use crate::thread_fault::ThreadFault;
+use kinds::Kind;
+use plant::{Plant, Settled, Watch};
+use script_text::{ByteIn, ByteOut, LineSplitter};
+use std::alloc::{AllocError, Global};
+use std::sync::{Arc, Wait};
+use std::thread::Threads;
+use threads::{Finished, Open, Outcome};
+use top_block::TopBlock;
+
+/// Runs a plant in threads while the lines of `input` make calls of it, each answered on `output` before the next is read. At the end of the input
+/// the run goes on until it comes to rest. It gives the plant back as it is then.
+pub(crate) fn live_plant<R: Threads + Wait + Sync, I: ByteIn + Send, O: ByteOut + Send, W: Watch>(
+    rt: &R,
+    alloc: Global,
+    plant: Plant<Kind>,
+    input: &mut I,
+    output: &mut O,
+    watch: &mut W,
+) -> Result<(Plant<Kind>, Settled), Fault>
+    requires { is_idle plant.state ≡ true }
+    ensures came { IfOk result (λ r. HasCome meaning_of ⟦<Kind as PartialEq>⟧.eq (opening_of plant) r.0) }
+    ensures no_file { IfErr result IsNoFile }
+    ensures settled { IfOk result (λ r. HasSettled (net_of meaning_of r.0.graph) r.0.capacities r.0.state r.1) }
+{
+    let gate = shared_gate(alloc)?;
+    let callers = one_caller(alloc, input, output)?;
+    match TopBlock::from_plant(plant).start_live_watched(rt, alloc, gate, callers, turns(), watch) {
+        Ok(finished) => came_to_rest(finished),
+        Err(fault) => Err(Fault::Run(ThreadFault::of(fault))),
+    }
+}
+
+fn shared_gate(alloc: Global) -> Result<Arc<Open, Global>, AllocError> {
+    match Arc::new(alloc, Open) {
+        Ok(gate) => Ok(gate),
+        Err(_) => Err(AllocError),
+    }
+}
+
+// The caller that does what the lines of an input say.
+fn one_caller<'a, I: ByteIn, O: ByteOut>(
+    alloc: Global,
+    input: &'a mut I,
+    output: &'a mut O,
+) -> Result<Vec<LineCaller<'a, I, O>>, AllocError>
+    ensures { IfOk result (λ callers. vec_len callers ≤ 16) }
+{
+    let mut callers = Vec::with_capacity(alloc, 1)?;
+    callers.push_reserved(LineCaller {
+        input,
+        output,
+        fault: None,
+    });
+    Ok(callers)
+}
+
+// The plant of a run that came to rest, where no line stopped it.
+fn came_to_rest<I: ByteIn, O: ByteOut>(
+    finished: Finished<Kind, LineCaller<'_, I, O>>,
+) -> Result<(Plant<Kind>, Settled), Fault>
+    ensures came { IfOk result (λ r. (o : OpeningState Kind) → EndsLive meaning_of ⟦<Kind as PartialEq>⟧.eq o (map noted_by finished.entry.history.items) finished.entry.outcome →
+        HasCome meaning_of ⟦<Kind as PartialEq>⟧.eq o r.0 × HasSettled (net_of meaning_of r.0.graph) r.0.capacities r.0.state r.1) }
+    ensures no_file { IfErr result IsNoFile }
+{
+    let Finished {
+        outcome,
+        callers,
+        ..
+    } = finished;
+    for caller in callers {
+        if let Some(fault) = caller.fault {
+            return Err(Fault::Script(fault));
+        }
+    }
+    match outcome {
+        Outcome::Done(plant) => Ok((plant, Settled::Done)),
+        Outcome::Stalled(plant) => Ok((plant, Settled::Quiet)),
+        // Only a fault asks for a stop.
+        Outcome::Stopped(_) => Err(Fault::Run(ThreadFault::Foreign)),
+    }
+}
