@@ -1,0 +1,5 @@
+pub mod Numbers
+pub mod Parts
+pub mod Pieces
+pub mod RoundTrips
+pub mod Steps
