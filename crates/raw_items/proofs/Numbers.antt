@@ -1,5 +1,5 @@
 -- A number and its bytes, and an item and its number.
-use Rattle.std.proofs.Common.{◌≡◌, ℕ, zero, suc, ◌+◌, ◌-◌, ◌*◌, ◌/◌, ◌%◌, ◌^◌, ◌<◌, ◌≤◌, ◌∙◌, ap, sym, refl, Bool, true, false, ltb, ltb-true, ltb-false, List, [], ◌∷◌, length, arith, ℤ, pos, negsuc, mod-eq_of_lt}
+use Rattle.std.proofs.Common.{◌≡◌, ℕ, zero, suc, ◌+◌, ◌-◌, ◌*◌, ◌/◌, ◌%◌, ◌^◌, ◌<◌, ◌≤◌, ◌∙◌, ap, refl, Bool, true, false, ltb, ltb-true, ltb-false, List, [], ◌∷◌, length, arith, ℤ, pos, negsuc, mod-eq_of_lt}
 use Rattle.std.proofs.Math.Nat.{pow-suc}
 use Rattle.std.specs.List.{All}
 use Rattle.std.proofs.lemmas.Int.{ints}

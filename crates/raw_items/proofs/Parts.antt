@@ -1,5 +1,5 @@
 -- Lists of bytes in parts of one length.
-use Rattle.std.proofs.Common.{◌≡◌, ℕ, zero, suc, ◌+◌, ◌-◌, ◌*◌, ◌/◌, ◌<◌, ◌≤◌, ◌∙◌, ap, sym, refl, ℤ, List, [], ◌∷◌, ◌++◌, length, map, take, drop, arith, append_assoc, length-append, length-drop}
+use Rattle.std.proofs.Common.{◌≡◌, ℕ, zero, suc, ◌+◌, ◌*◌, ◌/◌, ◌<◌, ◌≤◌, ◌∙◌, ap, sym, ℤ, List, [], ◌∷◌, ◌++◌, length, map, drop, arith, length-append, length-drop}
 use Rattle.std.specs.Simd.{first_chunks}
 use Rattle.std.proofs.Math.Nat.{add-mul-div_right, mul-div_cancel, div-eq_of_lt}
 use Rattle.std.proofs.Math.Seq.{drop-append-add}

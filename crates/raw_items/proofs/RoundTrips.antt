@@ -1,6 +1,6 @@
 -- Items made of bytes give the bytes, and bytes made of items give the items.
-use Rattle.std.proofs.Common.{◌≡◌, ℕ, zero, suc, ◌+◌, ◌-◌, ◌*◌, ◌/◌, ◌^◌, ◌<◌, ◌≤◌, ◌∙◌, ap, sym, refl, subst, ℤ, pos, List, [], ◌∷◌, ◌++◌, length, map, reverse, take, drop, get_or, arith, append_assoc, length-append, length-drop}
-use Rattle.std.specs.List.{flat_map, All}
+use Rattle.std.proofs.Common.{◌≡◌, ℕ, zero, suc, ◌+◌, ◌*◌, ◌/◌, ◌^◌, ◌<◌, ◌≤◌, ◌∙◌, ap, sym, refl, subst, ℤ, pos, List, [], ◌∷◌, ◌++◌, length, map, reverse, take, drop, arith, append_assoc, length-append, length-drop}
+use Rattle.std.specs.List.{All}
 use Rattle.std.specs.Simd.{first_chunks}
 use Rattle.std.proofs.Math.Nat.{mul-div_cancel, div-mul-le_self}
 use Rattle.std.proofs.lemmas.List.Elements.{All-head, All-tail, All-take, All-drop}
@@ -11,7 +11,7 @@ use Rattle.stream_model.specs.declared.vocabulary.ItemType.{ItemType}
 use Rattle.stream_model.specs.declared.vocabulary.ItemType.TheVariants.{Byte, Short, Int}
 use Rattle.raw_items.specs.declared.byte_order.ByteOrder.{ByteOrder}
 use Rattle.raw_items.specs.declared.byte_order.ByteOrder.TheVariants.{Little, Big}
-use Rattle.raw_items.specs.Layout.{size_of, count_of, parts_of, cut_of}
+use Rattle.raw_items.specs.Layout.{size_of, count_of, cut_of}
 use Rattle.raw_items.specs.Values.{number_of, low_bytes, in_order, item_of, bytes_of, items_of, all_bytes_of}
 use Rattle.raw_items.proofs.Numbers.{AreBytes, length-low_bytes, number_of-low_bytes, low_bytes-number_of, number_of-lt, residue-wrap, residue_below, wrap-residue}
 use Rattle.raw_items.proofs.Parts.{size_of-pos}

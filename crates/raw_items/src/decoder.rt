@@ -1,11 +1,11 @@
 //! Items of bytes that come in pieces.
-ghost use Rattle.std.specs.Prelude.{◌≡◌, ℕ, ◌+◌, ◌<◌, ◌≤◌, ◌↔◌, ℤ, List, [], ◌++◌, length, take, IsTrue, OnOk, OnErr, IsOk};
+ghost use Rattle.std.specs.Prelude.{◌≡◌, ℕ, ◌+◌, ◌<◌, ◌≤◌, ◌↔◌, ℤ, List, [], ◌++◌, length, IsTrue, OnOk, OnErr, IsOk};
 ghost use Rattle.stream_model.specs.declared.vocabulary.ItemType.{ItemType};
 ghost use Rattle.items.specs.Items.{type_of, numbers_of, spare_of};
 ghost use Rattle.raw_items.specs.Layout.{size_of, count_of, cut_of};
 ghost use Rattle.raw_items.specs.Values.{items_of, all_bytes_of};
 
-use crate::chunks::push_numbers;
+use crate::chunks::{push_numbers, write_at};
 use crate::{ByteOrder, item_size};
 use items::{ItemType, Items};
 use std::alloc::AllocError;
@@ -61,7 +61,8 @@ impl Decoder {
         ensures items { OnOk result (numbers_of out.new ≡ numbers_of out.old
             ++ items_of self.old.item_type self.old.order (self.old.cut ++ piece.now)) }
         ensures cut { OnOk result (self.new.cut ≡ cut_of self.old.item_type (self.old.cut ++ piece.now)) }
-        ensures err { OnErr result ((self.new ≡ self.old) × (numbers_of out.new ≡ numbers_of out.old)) }
+        ensures spare { OnOk result (spare_of out.old ≤ spare_of out.new + count_of self.old.item_type (self.old.cut ++ piece.now)) }
+        ensures err { OnErr result ((self.new ≡ self.old) × (numbers_of out.new ≡ numbers_of out.old) × (spare_of out.new ≡ spare_of out.old)) }
         ensures succeeds { count_of self.old.item_type (self.old.cut ++ piece.now) ≤ spare_of out.old → IsOk result }
 
         // Bytes that come in pieces are what they are at once.
@@ -103,19 +104,11 @@ fn push_items(out: &mut Items, bytes: &[u8], order: ByteOrder)
     requires { count_of (type_of out.old) bytes.now ≤ spare_of out.old }
     ensures item_type { type_of out.new ≡ type_of out.old }
     ensures items { numbers_of out.new ≡ numbers_of out.old ++ items_of (type_of out.old) order bytes.now }
-    ensures spare { spare_of out.old ≡ spare_of out.new + count_of (type_of out.old) bytes.now }
+    ensures spare { spare_of out.old ≤ spare_of out.new + count_of (type_of out.old) bytes.now }
 {
     match out {
         Items::Byte(numbers) => push_numbers(numbers, bytes, order),
         Items::Short(numbers) => push_numbers(numbers, bytes, order),
         Items::Int(numbers) => push_numbers(numbers, bytes, order),
     }
-}
-
-// Writes the bytes at the place.
-fn write_at(out: &mut [u8], place: usize, bytes: &[u8])
-    requires { place + length bytes.now ≤ length out.old }
-    ensures { take (place + length bytes.now) out.new ≡ take place out.old ++ bytes.now }
-{
-    out[place..place + bytes.len()].copy_from_slice(bytes);
 }

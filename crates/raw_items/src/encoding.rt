@@ -24,6 +24,7 @@ pub fn push_item_bytes(
         ++ all_bytes_of (type_of items.now) order (slice_range (numbers_of items.now) from to)) }
     ensures len { OnOk result (vec_len out.new ≡ vec_len out.old + (to - from) * size_of (type_of items.now)) }
     ensures err { OnErr result (out.new.items ≡ out.old.items) }
+    ensures capacity { vec_capacity out.old ≤ vec_capacity out.new }
     ensures succeeds { vec_len out.old + (to - from) * size_of (type_of items.now) ≤ vec_capacity out.old → IsOk result }
 
     // The bytes give the items back.

@@ -1,10 +1,10 @@
-use Rattle.std.proofs.Common.{rules, ◌≡◌, ℕ, ◌+◌, ◌-◌, ◌%◌, ◌<◌, ◌≤◌, ◌∙◌, ap, sym, ℤ, List, ◌++◌, length, get_or, take, drop, arith, append_assoc}
+use Rattle.std.proofs.Common.{rules, ◌≡◌, ℕ, ◌+◌, ◌-◌, ◌%◌, ◌<◌, ◌∙◌, ap, sym, ℤ, List, ◌++◌, length, get_or, take, drop, arith}
 use Rattle.std.proofs.lemmas.Grind.{common_steps}
 use Rattle.std.proofs.lemmas.List.{length-take-le, take-append-drop}
 use Rattle.std.proofs.lemmas.List.Elements.{All-from_get_or, All-append, All-take}
 use Rattle.stream_model.specs.declared.vocabulary.ItemType.{ItemType}
 use Rattle.items.specs.Items.{type_of, numbers_of}
-use Rattle.raw_items.specs.Layout.{size_of, cut_of}
+use Rattle.raw_items.specs.Layout.{size_of}
 use Rattle.raw_items.specs.Values.{items_of, all_bytes_of}
 use Rattle.raw_items.proofs.Numbers.{AreBytes}
 use Rattle.raw_items.proofs.Pieces.{HasDecoded-more, items_of-ended, cut_of-ended}
