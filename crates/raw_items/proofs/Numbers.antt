@@ -1,6 +1,7 @@
 -- A number and its bytes, and an item and its number.
-use Rattle.std.proofs.Common.{◌≡◌, ℕ, zero, suc, ◌+◌, ◌-◌, ◌*◌, ◌/◌, ◌%◌, ◌^◌, ◌<◌, ◌≤◌, ◌∙◌, ap, refl, Bool, true, false, ltb, ltb-true, ltb-false, List, [], ◌∷◌, length, arith, ℤ, pos, negsuc, mod-eq_of_lt}
+use Rattle.std.proofs.Common.{◌≡◌, ℕ, zero, suc, ◌+◌, ◌-◌, ◌*◌, ◌/◌, ◌%◌, ◌^◌, ◌<◌, ◌≤◌, ◌∙◌, ap, refl, Bool, true, false, ltb, ltb-true, ltb-false, List, [], ◌∷◌, length, reverse, arith, ℤ, pos, negsuc, mod-eq_of_lt}
 use Rattle.std.proofs.Math.Nat.{pow-suc}
+use Rattle.std.specs.Int.{w32, from_be_bytes}
 use Rattle.std.specs.List.{All}
 use Rattle.std.proofs.lemmas.Int.{ints}
 use Rattle.std.proofs.lemmas.List.Elements.{All-head, All-tail}
@@ -116,3 +117,12 @@ wrap-residue Int (negsuc n) h =
     let small : n < 4294967296 / 2 = omega (arith, ints, h.above, h.below) in
     let once : (4294967296 - 1 - n % 4294967296) % 4294967296 ≡ 4294967296 - 1 - n % 4294967296 = omega arith in
     ap (centred 4294967296) once ∙ centred-residue_neg 4294967296 n small
+
+-- four bytes, the highest first
+pub number_of-reverse-four : (bytes : List ℕ) → length bytes ≡ 4 → number_of (reverse bytes) ≡ from_be_bytes w32 bytes
+number_of-reverse-four [] e = absurd (omega arith)
+number_of-reverse-four (a ∷ []) e = absurd (omega arith)
+number_of-reverse-four (a ∷ b ∷ []) e = absurd (omega arith)
+number_of-reverse-four (a ∷ b ∷ c ∷ []) e = absurd (omega arith)
+number_of-reverse-four (a ∷ b ∷ c ∷ d ∷ []) e = omega arith
+number_of-reverse-four (a ∷ b ∷ c ∷ d ∷ x ∷ xs) e = absurd (omega arith)

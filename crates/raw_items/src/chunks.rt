@@ -26,7 +26,7 @@ pub(crate) fn push_numbers<const N: usize, T: RawNumber<N>>(
     write_numbers(parts, order, &mut out[start..]);
 }
 
-// Apart from the growth of the vector, so that the loop becomes one over vectors of the machine.
+// A loop over a slice, which nothing makes longer, so that the compiler takes many parts a turn.
 fn write_numbers<const N: usize, T: RawNumber<N>>(
     parts: &[[u8; N]],
     order: ByteOrder,
@@ -61,6 +61,7 @@ pub(crate) fn push_number_bytes<const N: usize, T: RawNumber<N>>(
     Ok(())
 }
 
+// The same for bytes.
 fn write_bytes<const N: usize, T: RawNumber<N>>(numbers: &[T], order: ByteOrder, out: &mut [u8])
     requires { length out.old ≡ length numbers.now * N }
     ensures bytes { out.new ≡ all_bytes_of T.kind order (map T.number numbers.now) }

@@ -14,8 +14,8 @@ use std::marker::Model;
 /// How many bytes an item has at most.
 const MOST: usize = 4;
 
-/// Makes items of one type of bytes that come in pieces of any length. A contract sees the type, the order, and the bytes of an item whose end has
-/// not come.
+/// Makes items of bytes that come in pieces of any length. A contract sees the type of the items, the order of their bytes, and the bytes of an item
+/// whose end has not come.
 #[derive(Debug, Drop)]
 pub struct Decoder {
     item_type: ItemType,
@@ -52,7 +52,7 @@ impl Decoder {
         }
     }
 
-    /// Appends the items that the bytes held and those of the next piece are, and holds the bytes behind the last of them. It fails only where there
+    /// Appends the items that the bytes held and those of the next piece are, and holds the bytes behind the last whole item. It fails only where there
     /// is no room for the items and the allocator refuses.
     pub fn push(&mut self, piece: &[u8], out: &mut Items) -> Result<(), AllocError>
         requires same_type { type_of out.old ≡ self.old.item_type }
@@ -91,6 +91,13 @@ impl Decoder {
         Ok(())
     }
 
+    /// The type of the items.
+    pub fn item_type(&self) -> ItemType
+        ensures { result ≡ self.now.item_type }
+    {
+        self.item_type
+    }
+
     /// Whether the bytes so far end within an item.
     pub fn is_cut(&self) -> bool
         ensures { IsTrue result ↔ (0 < length self.now.cut) }
@@ -99,7 +106,7 @@ impl Decoder {
     }
 }
 
-/// Appends the items that the bytes are, as many as are whole. It takes no memory.
+// Appends the items that the bytes are, as many as are whole. It takes no memory.
 fn push_items(out: &mut Items, bytes: &[u8], order: ByteOrder)
     requires { count_of (type_of out.old) bytes.now ≤ spare_of out.old }
     ensures item_type { type_of out.new ≡ type_of out.old }
