@@ -8,7 +8,7 @@ source "$(dirname -- "$(readlink -f -- "${BASH_SOURCE[0]}")")/apart.sh"
 # run_tests COUNT FOLDER..: so many tests stand in these folders, and all pass. They are one crate, so that what stands below them is compiled once.
 run_tests() {
     local folder own=$room/all/crates/all_tests status=0
-    put_apart all flow rates firings clap
+    put_apart all flow raw_items rates firings clap
     for folder in "${@:2}"; do
         mkdir "$own/src/$folder"
         put_tests "$folder" "$own/src/$folder"
@@ -38,7 +38,7 @@ run_bench() {
     echo "$1 wrote what its file stdout has"
 }
 
-run_tests 89 leaves kernels blocks flowgraphs plants threads graph_files streams terminal
+run_tests 91 leaves kernels blocks flowgraphs plants threads graph_files streams terminal
 run_bench kernel_bench
 run_bench graph_bench
 run_bench thread_bench
