@@ -1,12 +1,12 @@
 #!/usr/bin/env bash
-# measure.sh PROGRAM: proves a program of benches/ with the crates below it, builds it as LLVM compiles it, and prints what it measures. That happens
+# measure.sh PROGRAM [PART]: proves a program of benches/ with the crates below it, builds it as LLVM compiles it, and prints what it measures, or that part of it. That happens
 # in a copy of the checkout, which takes over what `rt` has kept in the crates' out/, and is gone afterwards.
 set -euo pipefail
 # shellcheck source=tests/apart.sh
 source "$(dirname -- "$(readlink -f -- "${BASH_SOURCE[0]}")")/../tests/apart.sh"
 
-if [[ $# != 1 || ! -d $top/benches/$1 ]]; then
-    echo "measure: it takes one word, the name of a program in benches/" >&2
+if [[ $# != 1 && $# != 2 || ! -d $top/benches/$1 ]]; then
+    echo "measure: it takes the name of a program in benches/, and perhaps that of a part" >&2
     exit 2
 fi
 put_bench "$1"
@@ -18,4 +18,4 @@ for crate in "$room/$1"/crates/*; do
         fi
     done
 done
-cd -- "$room/$1/crates/$1" && rt run -- measure
+cd -- "$room/$1/crates/$1" && rt run -- measure "${@:2}"
