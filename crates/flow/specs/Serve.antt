@@ -76,7 +76,7 @@ pub record IsAtRest (net : Network) (caps : Capacities) (st : State) : Type 0 wh
 
 -- how many firings of a block are stepped at once, at most
 abbrev pub turn : ℕ
-turn = 1024
+turn = 65536
 
 -- a run of a file in threads: its plant with all sources closed came to rest, with what it was handed, and what is told of it then. Which block fired
 -- when is nowhere said

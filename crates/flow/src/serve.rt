@@ -30,7 +30,7 @@ use std::thread::Threads;
 use top_block::close_all;
 
 // How many firings of a block a run steps at once, at most.
-const TURN: u32 = 1024;
+const TURN: u32 = 65_536;
 // The exit status of a run that came to rest before all blocks were done.
 const STALLED: u8 = 3;
 
