@@ -10,8 +10,8 @@ help='Runs a flowgraph that a file describes
 Usage: flow <COMMAND>
 
 Commands:
-  check   Reads the graph and tells of it
-  run     Runs the graph and tells what its sinks hold
+  check   Reads the graph and reports on it
+  run     Runs the graph and prints what its sinks hold
   live    Runs the graph while the commands of standard input are done
   script  Runs the commands of standard input on the graph
   help    Print this message or the help of the given subcommand(s)
@@ -25,8 +25,8 @@ help_text() {
     printf '%s\n' "${@:3}"
 }
 declare -A help_of=(
-    [check]=$(help_text "Reads the graph and tells of it" "check <FILE>" "  -h, --help  Print help")
-    [run]=$(help_text "Runs the graph and tells what its sinks hold" "run [OPTIONS] <FILE>" \
+    [check]=$(help_text "Reads the graph and reports on it" "check <FILE>" "  -h, --help  Print help")
+    [run]=$(help_text "Runs the graph and prints what its sinks hold" "run [OPTIONS] <FILE>" \
         "  -q, --quiet       Shows no progress on a terminal" "      --one-thread  Runs all blocks on one thread" "  -h, --help        Print help")
     [live]=$(help_text "Runs the graph while the commands of standard input are done" "live [OPTIONS] <FILE>" \
         "  -q, --quiet  Shows no progress on a terminal" "  -h, --help   Print help")

@@ -107,7 +107,7 @@ impl Firings {
         decision
     }
 
-    /// Commits the claim in flight of a block, and tells of how many firings it was.
+    /// Commits the claim in flight of a block, and returns how many firings it was of.
     pub fn commit(&mut self, block: BlockId) -> u32
         requires block { block.0 < length self.old }
         requires claimed { 0 < (progress_at self.old block.0).claimed }

@@ -54,8 +54,8 @@ fn commands<'a>(alloc: Global) -> Result<clap::Command<'a>, clap::Error> {
         .long("one-thread")
         .action(ArgAction::SetTrue)
         .help("Runs all blocks on one thread");
-    let check = subcommand(alloc, "check", "Reads the graph and tells of it")?;
-    let run = subcommand(alloc, "run", "Runs the graph and tells what its sinks hold")?;
+    let check = subcommand(alloc, "check", "Reads the graph and reports on it")?;
+    let run = subcommand(alloc, "run", "Runs the graph and prints what its sinks hold")?;
     let live = subcommand(
         alloc,
         "live",

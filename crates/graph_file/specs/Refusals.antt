@@ -50,7 +50,7 @@ IsTold r (Some refusal) = r ≡ Err refusal
 abbrev pub IsRefused : {A : Type 0} → Result A Refusal → FileFault → Type 0
 IsRefused r fault = IsTold r (told fault)
 
--- what is told of a fault of a table, and of a refusal of a feed; nothing where memory ran out
+-- the refusal that a fault of a table is, and a refused feed; none where memory ran out
 abbrev pub told_table : Place → KeyFault → Option Refusal
 told_table place key.UnknownKey = Some (at_table place key.UnknownKey)
 told_table place (key.MissingKey k) = Some (at_table place (key.MissingKey k))

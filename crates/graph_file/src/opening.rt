@@ -69,7 +69,7 @@ fn plant_of(alloc: Global, graph: Valid<Kind>) -> Result<Plant<Kind>, FileFault>
     }
 }
 
-// The refusal of a graph, with the name of the block that it tells of.
+// The refusal of a graph, with the name of the block that it is about.
 fn invalid(graph: &Graph<Kind>, fault: GraphFault) -> FileFault
     requires { fault ≢ GraphFault.Memory → told Blocks (graph_model.graph_fault (drafted graph.now).net) ≡ Some fault }
     ensures refused { IsRefused (validated (drafted graph.now)) result }

@@ -1,4 +1,4 @@
--- What is told of an output's buffer.
+-- What is reported of an output's buffer.
 use Rattle.std.specs.Prelude.{◌≡◌, ℕ, ◌-◌, ◌≤◌, min, length, map, Option, Some, None, not, nat_lt, if◌then◌else◌}
 use Rattle.stream_model.specs.Tags.{tags_within}
 use Rattle.stream_model.specs.Network.{Network, State, node_at, readers_of, used_outputs, given_by, tags_of}
@@ -10,7 +10,7 @@ use Rattle.plant.specs.declared.answers.Stored.{Stored}
 use Rattle.plant.specs.declared.fault.PlantFault.{PlantFault}
 use Rattle.plant.specs.declared.fault.PlantFault.TheVariants.{NoSuchBlock, NoSuchPort}
 
--- why nothing is told of output p of block b, if so: there is no such block, or it does not use such an output
+-- why nothing is reported of output p of block b, if so: there is no such block, or it does not use such an output
 abbrev pub port_fault : Network → ℕ → ℕ → Option PlantFault
 port_fault net b p = if not (nat_lt b (length net.nodes)) then Some NoSuchBlock else (if not (nat_lt p (used_outputs net b)) then Some NoSuchPort else None)
 

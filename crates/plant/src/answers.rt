@@ -23,7 +23,7 @@ pub struct Taken(pub u64);
 pub enum Claim<B: Block> {
     /// The firings that were claimed.
     Claimed(Job<B>),
-    /// The block is done, be it from now on.
+    /// The block is done, possibly as a result of this call.
     Done,
     /// A claim of the block is in flight.
     Busy,
@@ -36,7 +36,7 @@ pub enum Claim<B: Block> {
 pub enum Step {
     /// So many firings were done.
     Did(u32),
-    /// The block is done, be it from now on.
+    /// The block is done, possibly as a result of this call.
     Done,
     /// A claim of the block is in flight.
     Busy,

@@ -84,7 +84,7 @@ impl<B: Block> Plant<B> {
         &self.parts.graph
     }
 
-    /// A share of the graph, for who looks up blocks while the plant is at work elsewhere. An `Err` tells that no more shares can be counted.
+    /// A share of the graph, for looking up blocks while the plant is at work elsewhere. It fails where no more shares can be counted.
     pub fn share_graph(&self) -> Result<Arc<Valid<B>, Global>, AllocError>
         ensures { IfOk result (λ graph. arc_value graph ≡ self.now.graph) }
     {
@@ -303,7 +303,7 @@ impl<B: Block> Plant<B> {
         self.parts.opening(alloc)
     }
 
-    /// Commits a job that was done, and tells of how many firings it was. Work that is not that of the claim in flight of its block comes back,
+    /// Commits a job that was done, and returns how many firings it was of. Work that is not that of the claim in flight of its block comes back,
     /// and nothing changes: it has to agree with it in the block (by number, by the number of its used outputs, and as a block), first firing,
     /// count, windows, settings and opening state word. It takes no memory.
     pub fn commit(&mut self, worked: Worked<B>) -> Result<Did, Worked<B>>

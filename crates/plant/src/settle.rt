@@ -74,7 +74,7 @@ impl<B: Block> Parts<B> {
         }
     }
 
-    // Steps each block once, and tells whether one moved on.
+    // Steps each block once, and returns whether one moved on.
     fn round(&mut self, alloc: Global, max: u32) -> Result<bool, AllocError>
         requires right { IsRight B.meaning self.old }
         requires idle { is_idle (plant_of self.old).state ≡ true }
@@ -95,7 +95,7 @@ impl<B: Block> Parts<B> {
         Ok(moved)
     }
 
-    // Steps a block, and tells whether it fired or became done.
+    // Steps a block, and returns whether it fired or became done.
     fn moves(&mut self, alloc: Global, block: BlockId, max: u32) -> Result<bool, AllocError>
         requires right { IsRight B.meaning self.old }
         requires block { block.0 < length (arc_value self.old.graph).blocks }

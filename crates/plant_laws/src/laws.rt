@@ -98,7 +98,7 @@ pub fn readers_take_in_turn()
     ensures { ReadersTakeInTurn }
 {}
 
-/// A call whose reply tells of no change leaves the state as it was.
+/// A call whose reply reports no change leaves the state as it was.
 pub fn otherwise_nothing_changes()
     ensures { OtherwiseNothingChanges }
 {}

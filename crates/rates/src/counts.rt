@@ -46,7 +46,7 @@ fn allowed(shift: Shift, takes: u64, items: u64) -> u64
     }
 }
 
-/// What a connection tells in a step.
+/// What a connection says in a step.
 #[derive(Clone, Copy, Drop)]
 pub struct Lead {
     /// How many items the writer is ahead of the reader, which stands where it stood before the step.

@@ -58,7 +58,7 @@ fn next_ratio(links: &[Link], known: &[Option<Fraction>]) -> Option<(usize, Frac
     }
 }
 
-/// Finds the ratios, a block each turn, or tells that one is too large.
+/// Finds the ratios, a block each turn, or reports that one is too large.
 fn find_ratios(links: &[Link], known: &mut [Option<Fraction>]) -> bool
     ghost net: { Network }
     requires { CanStart net links.now known.old }

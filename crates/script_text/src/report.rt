@@ -1,11 +1,11 @@
-//! What is told of a graph and of a run, line by line.
+//! Reports on a graph and on a run, line by line.
 ghost use Rattle.std.specs.Prelude.{◌≡◌, ◌++◌, IfOk, OnOk};
 
 use crate::print::{push_counted, push_held};
 use items::{Items, Tag};
 use std::alloc::{AllocError, Global};
 
-/// A line that tells of a graph that was checked, or of a run at its end.
+/// A line of the report on a graph that was checked, or on a run at its end.
 #[derive(Clone, Copy)]
 pub enum Report<'a> {
     /// The graph has so many blocks.

@@ -12,7 +12,7 @@ use std::alloc::{AllocError, Global};
 
 const MOST_LINES: u64 = 4294967295;
 
-/// Takes the next line, where its end has come, and tells what it says. A line that is too long is told and stays. An `Err`
+/// Takes the next line, where its end has come, and returns what it says. A line that is too long is reported and stays. An `Err`
 /// has taken it too, which is a command with numbers or marks; what says a line to be bad needs no memory.
 pub fn next_line(alloc: Global, lines: &mut LineSplitter) -> Result<Option<Line>, AllocError>
     requires { lines.old.taken < 2 ^ 64 - 1 }

@@ -72,7 +72,7 @@ impl<B: Block, G: Gate + Drop> Running<B, G> {
         self.wait(rt)
     }
 
-    /// Waits until all workers have left, and tells how the run ended. Sinks hold what they got. A claim that was refused memory ends the run
+    /// Waits until all workers have left, and returns how the run ended. Sinks hold what they got. A claim that was refused memory ends the run
     /// with `RunFault::Memory`, and the plant may be run again.
     pub fn wait<R: Threads + Wait>(self, rt: &R) -> Result<Outcome<B>, RunFault<B>>
         ensures ok { IfOk result (EndsIn B.meaning B.eq self.handed self.asked) }
