@@ -7,7 +7,8 @@ use crate::register::Register;
 use block_kinds::{Block, ByPace, Held, Shape, Single, work_single};
 use items::{ItemType, Items};
 
-/// A block that adds the bits of a shift register with feedback to its input. Only the lowest bit of a byte counts.
+/// An additive scrambler: each output is the input plus the next bit of a shift register with feedback, modulo 2. Only the lowest bit of a byte
+/// counts. GNU Radio's `additive_scrambler_bb` has the bits of its register in front of this sequence.
 #[derive(Debug, Drop, PartialEq, Eq)]
 pub struct AdditiveScrambler {
     register: Register,

@@ -7,7 +7,8 @@ use crate::register::Register;
 use block_kinds::{Block, ByPace, Held, Shape, Single, work_single};
 use items::{ItemType, Items};
 
-/// A block that undoes a scrambler: each output is the input with earlier inputs. Only the lowest bit of a byte counts.
+/// A self-synchronizing descrambler, which undoes `Scrambler`: each output is the input plus earlier inputs, modulo 2. Only the lowest bit of a byte
+/// counts. As GNU Radio's `descrambler_bb`, with mask and register in the order of `Register`.
 #[derive(Debug, Drop, PartialEq, Eq)]
 pub struct Descrambler {
     register: Register,

@@ -7,7 +7,7 @@ use items::{ItemType, Items};
 use lane_filters::diff_decode;
 use lane_work::{ByteWork, make_bytes};
 
-/// A block that gives the difference of each byte and the one before it, modulo `modulus`.
+/// The difference of each byte and the one before it, modulo `modulus`, as GNU Radio's `diff_decoder_bb`.
 #[derive(Debug, Drop, PartialEq, Eq)]
 pub struct DiffDecoder {
     modulus: u32,
@@ -18,7 +18,7 @@ pub struct DiffDecoder {
 impl DiffDecoder {
     ghost use Rattle.bit_blocks.specs.Kinds.{diff_decoder_of};
 
-    /// The block with this parameter, from 2 to 256.
+    /// The block with this modulus; `BadParameter` outside 2 to 256.
     pub fn new(modulus: u32) -> Result<DiffDecoder, ParamFault>
         ensures meaning { IfOk result (λ block. diff_decoder_of block ≡ diff_decoder modulus) }
         ensures range { IsOk result ↔ ((2 ≤ modulus) × (modulus ≤ 256)) }

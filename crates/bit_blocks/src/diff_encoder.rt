@@ -6,7 +6,7 @@ use crate::code::{Coder, code};
 use block_kinds::{Block, ByPace, Held, ParamFault, Parameter, Shape, Single, work_single};
 use items::{ItemType, Items};
 
-/// A block that gives the sum of all bytes so far, modulo `modulus`.
+/// The sum of all bytes so far, modulo `modulus`, as GNU Radio's `diff_encoder_bb`.
 #[derive(Debug, Drop, PartialEq, Eq)]
 pub struct DiffEncoder {
     modulus: u32,
@@ -17,7 +17,7 @@ pub struct DiffEncoder {
 impl DiffEncoder {
     ghost use Rattle.bit_blocks.specs.Kinds.{diff_encoder_of};
 
-    /// The block with this modulus, from 2 to 256.
+    /// The block with this modulus; `BadParameter` outside 2 to 256.
     pub fn new(modulus: u32) -> Result<DiffEncoder, ParamFault>
         ensures meaning { IfOk result (λ block. diff_encoder_of block ≡ diff_encoder modulus) }
         ensures range { IsOk result ↔ ((2 ≤ modulus) × (modulus ≤ 256)) }

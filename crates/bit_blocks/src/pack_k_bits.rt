@@ -7,7 +7,7 @@ use items::{ItemType, Items};
 use lane_filters::pack_bits;
 use lane_work::{ByteWork, make_bytes};
 
-/// A block that packs the lowest bits of `k` bytes into one, the first the highest.
+/// The lowest bits of `k` bytes in one byte, the first bit the highest, as GNU Radio's `pack_k_bits_bb`.
 #[derive(Debug, Drop, PartialEq, Eq)]
 pub struct PackKBits {
     k: u32,
@@ -18,7 +18,7 @@ pub struct PackKBits {
 impl PackKBits {
     ghost use Rattle.bit_blocks.specs.Kinds.{pack_k_bits_of};
 
-    /// The block with this parameter, from 1 to 8.
+    /// The block with this `k`; `BadParameter` outside 1 to 8.
     pub fn new(k: u32) -> Result<PackKBits, ParamFault>
         ensures meaning { IfOk result (λ block. pack_k_bits_of block ≡ pack_k_bits k) }
         ensures range { IsOk result ↔ ((1 ≤ k) × (k ≤ 8)) }

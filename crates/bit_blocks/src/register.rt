@@ -5,18 +5,22 @@ ghost use Rattle.bit_blocks.specs.Registers.{IsRegister};
 
 use block_kinds::{ParamFault, Parameter};
 
-/// A shift register: how many bits it has, a mask of those that are summed, and what it holds at first.
+/// A shift register: how many bits it has, a mask of those that are summed, and what it holds at first. The lowest bit of both is the newest in the
+/// register; GNU Radio's mask and seed have the bits in reverse order, and its length is one less.
 #[derive(Debug, Drop, PartialEq, Eq)]
 pub struct Register {
+    /// How many bits: 2 to 32.
     pub bits: u32,
+    /// Which of them are summed.
     pub mask: u64,
+    /// What they are at first.
     pub init: u64,
     ghost is: { IsRegister bits mask init },
 }
 
 impl Register {
-    /// The register of 2 to 32 bits with a mask above 0, where mask and init have no more bits. Of several bad
-    /// parameters the first in the order of bits, mask and init is refused.
+    /// The register of 2 to 32 bits, with a mask of 1 to `2 ^ bits - 1` and an init of 0 to `2 ^ bits - 1`. `BadParameter` names the first that is
+    /// not so, in this order.
     pub fn new(bits: u32, mask: u64, init: u64) -> Result<Register, ParamFault>
         ensures bits { IfOk result (λ register. register.bits ≡ bits) }
         ensures mask { IfOk result (λ register. register.mask ≡ mask) }

@@ -7,7 +7,8 @@ use crate::register::Register;
 use block_kinds::{Block, ByPace, Held, Shape, Single, work_single};
 use items::{ItemType, Items};
 
-/// A block that scrambles bits: each output is the input with earlier outputs. Only the lowest bit of a byte counts.
+/// A multiplicative scrambler: each output is the input plus earlier outputs, modulo 2. Only the lowest bit of a byte counts. GNU Radio's
+/// `scrambler_bb` gives the bits of its register first.
 #[derive(Debug, Drop, PartialEq, Eq)]
 pub struct Scrambler {
     register: Register,

@@ -7,7 +7,7 @@ use items::{ItemType, Items};
 use lane_filters::unpack_bits;
 use lane_work::{ByteWork, make_bytes};
 
-/// A block that gives the `k` lowest bits of each byte, one in each byte, the highest first.
+/// The `k` lowest bits of each byte, one in each byte, the highest first, as GNU Radio's `unpack_k_bits_bb`.
 #[derive(Debug, Drop, PartialEq, Eq)]
 pub struct UnpackKBits {
     k: u32,
@@ -18,7 +18,7 @@ pub struct UnpackKBits {
 impl UnpackKBits {
     ghost use Rattle.bit_blocks.specs.Kinds.{unpack_k_bits_of};
 
-    /// The block with this parameter, from 1 to 8.
+    /// The block with this `k`; `BadParameter` outside 1 to 8.
     pub fn new(k: u32) -> Result<UnpackKBits, ParamFault>
         ensures meaning { IfOk result (λ block. unpack_k_bits_of block ≡ unpack_k_bits k) }
         ensures range { IsOk result ↔ ((1 ≤ k) × (k ≤ 8)) }

@@ -18,17 +18,17 @@ use tags::place;
 
 /// A block of a flowgraph.
 ///
-/// What it means is its ghost member `meaning`: its ports, counts and equation over whole streams. The methods answer
+/// What it means is its ghost member `meaning`: its ports, counts and equation over whole streams. The methods return
 /// the parts of the meaning, and `work` does some firings of it over windows of the streams. Counts are base firings:
 /// one firing is one use of the equation. Inputs are numbered from 0; of a source, input 0 is its tape.
 pub trait Block: Eq + Drop {
     /// What the block means.
     ghost meaning: { Self → Meaning };
 
-    /// Where the block puts tags, where its pace leaves that to it. Of most blocks the pace says it: `ByPace`.
+    /// Where the block puts tags, if its pace is `Placed`. A block with another pace uses `ByPace`.
     type Places: Placing<Self>;
 
-    /// Everything of the block but its equation, with the pace of an input. The other answers are read from it.
+    /// Everything of the block but its equation, with the pace of an input. The other methods read it. It takes no memory.
     fn shape(&self, input: usize) -> Shape<'_>
         ensures shape { IsShape (meaning self.now) input result }
         ensures placed { IsPlacedBy (meaning self.now) (Self.Places.place_of self.now) input result.pace };
@@ -106,7 +106,7 @@ pub trait Block: Eq + Drop {
         }
     }
 
-    /// After how many firings the block ends by itself.
+    /// After how many firings the block ends by itself; none where it does not.
     final fn limit(&self) -> Option<u64>
         ensures { result ≡ (meaning self.now).limit }
     {
@@ -131,7 +131,7 @@ pub trait Block: Eq + Drop {
         }
     }
 
-    /// The value of the block's own parameter, in memory of its own. It fails only where the allocator refuses.
+    /// A copy of the block's own parameter, which a setting may replace, if it has one. It fails only where the allocator refuses, and only of taps.
     final fn own(&self, alloc: Global) -> Result<Option<Value>, AllocError>
         ensures { IfOk result (λ own. option_map value_of own ≡ (meaning self.now).own) }
     {
@@ -149,9 +149,9 @@ pub trait Block: Eq + Drop {
         self.shape(0).start
     }
 
-    /// Does firings `first` to below `first + count`: writes what they give behind each output's place, and answers the
-    /// state word after them. `state` is the word before them, `windows` has for each used input the items that they
-    /// take behind the past that they read, and `held` the settings in force over these items. It takes no memory.
+    /// Does firings `first` to below `first + count`: writes what they give into the empty places `out`, one for each used output, and returns the
+    /// state word after them. `state` is the word before them, `windows` has for each used input the items that they take behind the past that they
+    /// read, and `held` the settings in force over these items. It takes no memory.
     fn work(
         &self,
         state: u64,

@@ -84,13 +84,13 @@ impl fmt::Display for Parameter {
     }
 }
 
-/// Why a block could not be made.
+/// Why a block could not be made. No parameter is bad where it is `Memory`.
 #[derive(Clone, Copy, Debug, PartialEq, Eq)]
 pub enum ParamFault {
     /// The parameter has a value that a block of this kind may not have. Of several such, it is the first in the
     /// order in which the kind lists its parameters.
     BadParameter(Parameter),
-    /// Memory ran out.
+    /// Out of memory for a table or for taps.
     Memory,
 }
 

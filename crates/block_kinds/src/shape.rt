@@ -7,11 +7,11 @@ use stream_model::{ItemType, Role, Signature};
 /// How the items that a block takes of an input go with those that it gives.
 #[derive(Clone, Copy, Debug, PartialEq, Eq)]
 pub enum Pace {
-    /// So many items taken and so many given in a firing. A tag goes to the nearest item.
+    /// So many items taken and so many given in a firing. A tag goes to the nearest item; ties round up.
     Rate(u64, u64),
     /// So many items taken, and so many given of which these are the next behind so many others. A tag stays on its item.
     Turns(u64, u64, u64),
-    /// So many items taken and so many given in a firing. A tag goes where the block's `Places` put it.
+    /// So many items taken and so many given in a firing. A tag goes where the block's `Places` puts it.
     Placed(u64, u64),
     /// The first items are left out, this many.
     Skip(u64),
@@ -69,11 +69,13 @@ pub struct Shape<'a> {
     pub role: Role,
     pub inputs: Signature,
     pub outputs: Signature,
+    /// How the items of the input that was asked for go with those given.
     pub pace: Pace,
     /// After how many firings the block ends by itself.
     pub limit: Option<u64>,
     /// How many items of the past a firing reads, the current one included.
     pub history: u32,
+    /// What may be set, and the block's own value of it.
     pub setting: Setting<'a>,
     /// The state word before the first firing.
     pub start: u64,

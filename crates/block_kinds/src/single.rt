@@ -14,7 +14,7 @@ pub trait Single {
     /// What the block means.
     ghost equation: { Self → Meaning };
 
-    /// Does firings `first` to below `first + count`: writes what they give into the empty `out`, and answers the state
+    /// Does firings `first` to below `first + count`: writes what they give into the empty `out`, and returns the state
     /// word after them. `state` is the word before them, `window` has the items that they take behind the past that they
     /// read, and `held` the settings in force over these items. It takes no memory.
     fn fill(

@@ -13,9 +13,9 @@ use items::{ItemType, Items};
 use numbers::vectors::narrowed;
 use std::alloc::Global;
 
-/// A filter of finite impulse response: it gives one item for each `decimation` of its input, the sum of the products of the
-/// taps and the items up to the newest, over `2 ^ shift`, rounded and saturated. Its taps are in force until a setting
-/// replaces them.
+/// A filter of finite impulse response, as GNU Radio's `fir_filter_xxx` over integers: it gives one item for each `decimation` of its input, the
+/// exact sum of the products of the taps and the items up to the newest (the first tap with the newest), over `2 ^ shift`, rounded to the nearest
+/// (ties round up) and clamped to the items' type. Its taps are in force until a setting replaces them.
 #[derive(Debug, Drop, PartialEq, Eq)]
 pub struct Fir {
     item: ItemType,
@@ -34,8 +34,8 @@ impl Fir {
     ghost use Rattle.fir_blocks.specs.Kinds.{fir_of};
     ghost use Rattle.fir_blocks.specs.Parameters.{AreParameters, IsRefusal};
 
-    /// The filter of shorts or ints with a copy of 1 to 256 taps, a decimation of 1 to 1,024 and a shift of 0 to 31. The first bad
-    /// parameter is named, and `Memory` comes only where the allocator refuses the copy.
+    /// The filter of shorts or ints with a copy of 1 to 256 taps of 16 bits, a decimation of 1 to 1,024 and a shift of 0 to 31. `BadParameter` names
+    /// the first that is not so, in this order; `Memory` comes only where the allocator refuses the copy.
     pub fn new(
         alloc: Global,
         item: ItemType,

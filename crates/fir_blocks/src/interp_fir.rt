@@ -13,8 +13,9 @@ use items::{ItemType, Items};
 use numbers::vectors::narrowed;
 use std::alloc::Global;
 
-/// An interpolating filter of finite impulse response: for each item it gives `interpolation` items, one by each branch of
-/// the taps, over `2 ^ shift`, rounded and saturated. Its taps are in force until a setting replaces them.
+/// An interpolating filter of finite impulse response, as GNU Radio's `interp_fir_filter_xxx` over integers: for each item it gives `interpolation`
+/// items, one by each branch of the taps (polyphase), over `2 ^ shift`, rounded and clamped as by `Fir`. Its taps are in force until a setting
+/// replaces them.
 #[derive(Debug, Drop, PartialEq, Eq)]
 pub struct InterpFir {
     item: ItemType,
@@ -33,8 +34,8 @@ impl InterpFir {
     ghost use Rattle.fir_blocks.specs.Kinds.{interp_fir_of};
     ghost use Rattle.fir_blocks.specs.Parameters.{AreParameters, IsRefusal};
 
-    /// The filter of shorts or ints with a copy of 1 to 256 taps, an interpolation of 1 to 1,024 and a shift of 0 to 31. The first bad
-    /// parameter is named, and `Memory` comes only where the allocator refuses the copy.
+    /// The filter of shorts or ints with a copy of 1 to 256 taps of 16 bits, an interpolation of 1 to 1,024 and a shift of 0 to 31. `BadParameter`
+    /// names the first that is not so, in this order; `Memory` comes only where the allocator refuses the copy.
     pub fn new(
         alloc: Global,
         item: ItemType,

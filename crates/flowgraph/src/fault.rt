@@ -11,7 +11,9 @@ use std::fmt;
 /// The sides of a block.
 #[derive(Clone, Copy, Debug, PartialEq, Eq)]
 pub enum Side {
+    /// The inputs.
     In,
+    /// The outputs.
     Out,
 }
 
@@ -20,7 +22,9 @@ pub enum Side {
 pub enum BlockOption {
     /// It is no name of 1 to 32 letters, digits, `_`, `.` and `-`.
     Name,
+    /// It lies outside 1 to 64, or is not 1 for a source, a sink, or a block with a limit or without a rate.
     Multiple,
+    /// It lies outside 1 to 65,536.
     Capacity,
 }
 
@@ -36,7 +40,7 @@ pub enum Limit {
 /// Why a graph is refused, or a block or a connection of it.
 #[derive(Clone, Copy, Debug, PartialEq, Eq)]
 pub enum GraphFault {
-    /// A block has this name.
+    /// Another block has this name.
     DuplicateName,
     /// An end of the connection is no block of the graph.
     UnknownBlock,
@@ -46,7 +50,7 @@ pub enum GraphFault {
         side: Side,
         port: usize,
     },
-    /// The input has a connection.
+    /// The input has a connection already.
     InputTaken {
         block: BlockId,
         port: usize,
@@ -57,7 +61,7 @@ pub enum GraphFault {
         side: Side,
         port: usize,
     },
-    /// The output gives items of another type than the input takes.
+    /// The output gives items of another type than the input takes, which is the port that is named.
     TypeMismatch {
         block: BlockId,
         port: usize,
@@ -70,7 +74,7 @@ pub enum GraphFault {
     TooFewPorts {
         block: BlockId,
     },
-    /// The graph would have too many.
+    /// The graph would have too many blocks or connections.
     TooLarge(Limit),
     /// The block may not have this name, this multiple or this capacity.
     BadParameter(BlockOption),

@@ -48,7 +48,7 @@ impl<B: Block> Model for Graph<B> {
 }
 
 impl<B: Block> Graph<B> {
-    /// A graph without blocks.
+    /// A graph without blocks. It takes no memory.
     pub fn new(alloc: Global) -> Graph<B>
         ensures { result ≡ graph_of [] [] [] }
     {
@@ -68,8 +68,8 @@ impl<B: Block> Graph<B> {
         &self.names[block.0 as usize]
     }
 
-    /// Adds a block, and answers its number. Refused are, in this order, a name that is none, a multiple and a capacity out of range, a name
-    /// that a block has, and a block beyond 256; then out of memory. A block that is refused is dropped.
+    /// Adds a block, and returns its number. Refused are, in this order, a name that is none, a multiple and a capacity out of range, a name
+    /// that a block has, and a block beyond 256; then out of memory. An `Err` changes nothing, and drops the block.
     pub fn add_block(
         &mut self,
         alloc: Global,
@@ -94,9 +94,10 @@ impl<B: Block> Graph<B> {
         Ok(BlockId(number as u32))
     }
 
-    /// Tests the graph. Refused are, each over all blocks before the next and with the lowest block, a port that is left out below a used one
-    /// (inputs first), fewer ports than a block asks for, tags from one to one where inputs and outputs are not equally many, a block that
-    /// reaches itself, and a path whose interpolations have a product above 16,777,216. A refused graph comes back as it was.
+    /// Tests the graph, and makes the tables of it. Refused are, each over all blocks before the next and with the lowest block, a port that is
+    /// left out below a used one (inputs first), fewer ports than a block asks for, tags from one to one where inputs and outputs are not equally
+    /// many, a block that reaches itself, and a path whose interpolations have a product above 16,777,216. `Memory` may come at any of these.
+    /// A graph that is refused comes back as it was.
     pub fn validate(self, alloc: Global) -> Result<Valid<B>, (Graph<B>, GraphFault)>
         ensures passed { OnOk result (graph_fault (net_of B.meaning self) ≡ None) }
         ensures valid { IfOk result (λ valid. valid ≡ self) }
@@ -117,7 +118,7 @@ impl<B: Block> Graph<B> {
     }
 
     /// Connects an output port to an input port. Refused are, in this order, a block that is not there, a port out of range (the output
-    /// first), an input that has a connection, ports of two types, and a connection beyond 1,024; then out of memory.
+    /// first), an input that has a connection, ports of two types, and a connection beyond 1,024; then out of memory. An `Err` changes nothing.
     pub fn connect(
         &mut self,
         from: BlockId,

@@ -13,15 +13,18 @@ pub struct Options {
     pub policy: Policy,
     /// How many base firings one firing is, from 1 to 64. It is 1 for sources and sinks, and for blocks with a limit or without a rate.
     pub multiple: u32,
-    /// How many unread items the buffer of each output holds at least, from 1 to 65,536.
+    /// How many unread items the buffer of each output holds at least, from 1 to 65,536. It holds more where one
+    /// firing of a block at its ends, or the rates, ask for more.
     pub capacity: u32,
 }
 
 /// A connection from an output port to an input port. Ports of each side are numbered from 0.
 #[derive(Clone, Copy, Debug, PartialEq, Eq)]
 pub struct Connection {
+    /// The block that gives the items.
     pub from: BlockId,
     pub out_port: usize,
+    /// The block that takes them.
     pub to: BlockId,
     pub in_port: usize,
 }

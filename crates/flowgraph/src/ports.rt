@@ -9,7 +9,7 @@ use crate::fault::Side;
 use crate::parts::Connection;
 use std::alloc::{AllocError, Global};
 
-/// The ports that a side of a block may have.
+/// The most ports that a side of a block may have.
 pub const MOST_PORTS: usize = 16;
 
 /// The ports of a side of a block.

@@ -21,7 +21,8 @@ use block_kinds::{Block, Pace, Role};
 use indexmap::IndexSet;
 use std::marker::Model;
 
-/// A valid graph, with the tables that tell how its blocks are wired. A contract sees the blocks with their names, and the connections.
+/// A valid graph, with tables of how its blocks are wired. No call of it takes memory. A contract sees the blocks with their names, and the
+/// connections.
 #[derive(Drop)]
 pub struct Valid<B: Block> {
     names: IndexSet<Vec<u8>>,
@@ -81,6 +82,7 @@ impl<B: Block> Valid<B> {
         self.blocks.len()
     }
 
+    /// Whether there is no block.
     pub fn is_empty(&self) -> bool
         ensures { result ≡ (length self.now.blocks == 0) }
     {
@@ -128,7 +130,7 @@ impl<B: Block> Valid<B> {
         self.asked[block.0 as usize].role
     }
 
-    /// After how many firings a block ends by itself.
+    /// After how many firings a block ends by itself; none where it does not.
     pub fn limit(&self, block: BlockId) -> Option<u64>
         requires { block.0 < length self.now.blocks }
         ensures { result ≡ (node_at (net_of B.meaning self.now) block.0).meaning.limit }
@@ -136,7 +138,7 @@ impl<B: Block> Valid<B> {
         self.asked[block.0 as usize].limit
     }
 
-    /// How the items that a block takes of an input, or of its tape, go with those that it gives.
+    /// How the items that a block takes of an input, or a source of its tape, go with those that it gives, for one base firing.
     pub fn pace(&self, block: BlockId, port: usize) -> Pace
         requires { block.0 < length self.now.blocks }
         ensures { HasPace (node_at (net_of B.meaning self.now) block.0).meaning port result }
@@ -171,7 +173,7 @@ impl<B: Block> Valid<B> {
         }
     }
 
-    /// How many items of an input the first `firings` firings of a block take.
+    /// How many items of an input the first `firings` firings of a block take. A firing is `multiple` base firings.
     pub fn taken(&self, block: BlockId, port: usize, firings: u64) -> u64
         requires block { block.0 < length self.now.blocks }
         requires firings { (node_at (net_of B.meaning self.now) block.0).multiple * firings < 2 ^ 62 }
@@ -193,7 +195,7 @@ impl<B: Block> Valid<B> {
         self.pace(block, 0).given(u64::from(multiple) * firings)
     }
 
-    /// The block of a name. It takes one look-up by hash.
+    /// The block of a name, if there is one. It takes one look-up by hash.
     pub fn find(&self, name: &[u8]) -> Option<BlockId>
         ensures { result ≡ option_map id (position (bytes_eq name.now) self.now.names) }
     {
@@ -242,7 +244,7 @@ impl<B: Block> Valid<B> {
             && self.connections == other.connections
     }
 
-    /// The graph is valid, its blocks keep the laws, and so it runs. The call is there for what its contract says.
+    /// Recalls that the graph is valid, that its blocks keep the laws, and that it can therefore run. It does nothing.
     pub fn in_order(&self)
         ensures valid { IsValidGraph self.now.names (net_of B.meaning self.now) }
         ensures lawful { AreLawful (net_of B.meaning self.now) }

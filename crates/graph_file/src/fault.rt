@@ -16,16 +16,22 @@ use thiserror::Error;
 /// A table of a graph file: the document itself, or one of its blocks, connections or feeds, counted from 0.
 #[derive(Clone, Copy, Debug, PartialEq, Eq)]
 pub enum Place {
+    /// The document.
     Top,
+    /// An entry of `block`.
     Block(usize),
+    /// An entry of `connect`.
     Connect(usize),
+    /// An entry of `feed`.
     Feed(usize),
 }
 
 /// The text at an end of a connection. One that may be the name of a block is held without memory.
 #[derive(Debug, Drop)]
 pub enum EndName {
+    /// Up to 32 bytes.
     Short(ArrayString<32>),
+    /// More.
     Long(String),
 }
 
@@ -34,7 +40,7 @@ pub enum EndName {
 pub enum FileFault {
     /// The text is not TOML in UTF-8.
     Syntax,
-    /// Something is wrong with a table.
+    /// A key of a table is unknown, missing, of another type, or has a bad value; or its kind is unknown.
     Table {
         place: Place,
         fault: KeyFault,
@@ -95,7 +101,7 @@ impl FileFault {
         }
     }
 
-    /// The text of the fault in pieces, for which no memory is asked.
+    /// The text of the fault in pieces. It takes no memory.
     pub fn pieces(&self) -> Pieces<'_>
         ensures { texts.joined result ≡ texts.fault_text self.now }
     {

@@ -5,9 +5,11 @@ use items::TagKey;
 /// A tag that a file feeds.
 #[derive(Clone, Copy, Debug, PartialEq, Eq)]
 pub struct FileMark {
-    /// The number of its item, as the file says it.
+    /// The number of its item, as the file says it: it may be negative, and lie on none of the items.
     pub at: i64,
+    /// What the value is about.
     pub key: TagKey,
+    /// The value.
     pub value: i64,
 }
 
@@ -16,7 +18,8 @@ pub struct FileMark {
 pub struct Feed {
     /// The name of the source, as the file says it.
     pub source: Vec<u8>,
-    /// The numbers of the items.
+    /// The numbers of the items, which may lie outside the source's type.
     pub items: Vec<i64>,
+    /// The tags on them.
     pub marks: Vec<FileMark>,
 }

@@ -23,12 +23,15 @@ use toml::Table;
 /// A graph, and what its sources are fed, in the order of the file.
 #[derive(Drop)]
 pub struct File {
+    /// The graph, not yet tested as a whole.
     pub graph: Graph<Kind>,
+    /// The feeds. Whether the sources take them is not yet known.
     pub feeds: Vec<Feed>,
 }
 
-/// The graph and the feeds of a graph file, or the first reason why it is refused: the text, the keys of the document,
-/// then each block, each connection and each feed in turn.
+/// The graph and the feeds of a graph file, or the first reason why it is refused: the text (UTF-8, then TOML), the keys of the document,
+/// then each block, each connection and each feed in turn; or out of memory. Whether the graph is valid, and whether sources take the feeds,
+/// `validate` and `open` say.
 pub fn read_graph(alloc: Global, text: &[u8]) -> Result<File, FileFault>
     ensures ok { IfOk result (λ file. IsUtf8 text.now × (file_of (parse_document text.now) ≡ Ok (seen file))) }
     ensures refused { IsUtf8 text.now → IfErr result (IsRefused (file_of (parse_document text.now))) }

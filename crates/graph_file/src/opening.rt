@@ -23,7 +23,7 @@ use plant::{Plant, PlantFault};
 use std::alloc::{AllocError, Global};
 
 impl File {
-    /// The valid graph of the file with its feeds, or what is wrong with the graph as a whole.
+    /// The valid graph of the file with its feeds, or what is wrong with the graph as a whole, or out of memory. The feeds are not tested.
     pub fn validate(self, alloc: Global) -> Result<(Valid<Kind>, Vec<Feed>), FileFault>
         ensures ok { IfOk result (λ valid. validated (seen self).graph ≡ Ok (drafted valid.0)) }
         ensures same { IfOk result (λ valid. (valid.0 ≡ self.graph) × (valid.1 ≡ self.feeds)) }
@@ -35,8 +35,8 @@ impl File {
         }
     }
 
-    /// The plant of the file's graph with its feeds on the tapes, in their order; or what is wrong with the graph as a whole, or the first feed
-    /// that is refused.
+    /// The plant of the file's graph with its feeds on the tapes, in their order, and its sources open; or what is wrong with the graph as a whole,
+    /// or the first feed that is refused, or out of memory.
     pub fn open(self, alloc: Global) -> Result<Plant<Kind>, FileFault>
         ensures ok { IfOk result (λ plant. opened (seen self) ≡ Ok (opened_of plant)) }
         ensures refused { IfErr result (IsRefused (opened (seen self))) }

@@ -1,4 +1,4 @@
-//! The texts of faults, in pieces, so that a fault can be told without memory.
+//! The texts of faults, in pieces, so that a fault can be reported without memory.
 ghost use Rattle.std.specs.Prelude.{◌≡◌, ◌++◌, codes};
 ghost use Rattle.std.specs.Fmt.{decimal};
 ghost use Rattle.flowgraph.specs.Fault.{side_text, limit_text, option_text};
@@ -14,8 +14,11 @@ use std::fmt;
 /// A piece of a text.
 #[derive(Clone, Copy)]
 pub enum Piece<'a> {
+    /// A text as it is.
     Text(&'a str),
+    /// A number in decimal.
     Number(u64),
+    /// A number in decimal, with its sign where it is negative.
     Signed(i64),
 }
 

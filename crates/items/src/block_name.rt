@@ -27,7 +27,7 @@ impl Model for BlockName {
 }
 
 impl BlockName {
-    /// The name of these bytes, or `None` where they are no name of 1 to 32 bytes.
+    /// The name of these bytes, or `None` where they are no name of 1 to 32 bytes. It takes no memory.
     pub fn new(bytes: &[u8]) -> Option<BlockName>
         ensures variant { IsSome result ↔ IsName 32 bytes.now }
         ensures value { IfSome result (λ name. name ≡ bytes.now) }

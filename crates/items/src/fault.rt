@@ -10,7 +10,7 @@ use std::fmt;
 /// Why items could not be made.
 #[derive(Clone, Copy, Debug, PartialEq, Eq)]
 pub enum ItemFault {
-    /// A number is outside its type's range, or a place is outside the items.
+    /// A number lies outside its type's range, or a place outside the items.
     ItemRange,
     /// Memory ran out.
     Memory,

@@ -2,7 +2,7 @@
 use crate::TagKey;
 use std::cmp::Ordering;
 
-/// A tag that is not yet in a stream.
+/// A tag that is not yet in a stream. Fed to a source, it becomes a tag of that source.
 #[derive(Clone, Copy, Debug, PartialEq, Eq, PartialOrd, Ord)]
 pub struct Mark {
     /// The number of the item that it is on, where the stream's first item is 0.

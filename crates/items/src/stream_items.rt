@@ -76,8 +76,8 @@ impl Items {
         of_type!(t, Vec::new(alloc))
     }
 
-    /// The items of these numbers. `ItemRange` comes before any memory is asked for, and `Memory`
-    /// only where the allocator refuses.
+    /// The items of these numbers. `ItemRange` where one lies outside the type's range, before any memory is asked for; `Memory` only where the
+    /// allocator refuses, and not without numbers.
     #[tactic(auto, using(crate::proofs::Numbers::map_same))]
     pub fn from_numbers(alloc: Global, t: ItemType, numbers: &[i64]) -> Result<Items, ItemFault>
         ensures item_type { IfOk result (λ items. type_of items ≡ t) }
@@ -119,7 +119,7 @@ impl Items {
         self.len() == 0
     }
 
-    /// How many more items fit before memory is needed.
+    /// How many more items fit before memory is needed. It counts items, not bytes.
     pub fn spare(&self) -> usize
         ensures value { result ≡ spare_of self.now }
         ensures small { length (numbers_of self.now) + result < 2 ^ 63 }
@@ -136,14 +136,14 @@ impl Items {
         on_type!(self, values => values[n].widen())
     }
 
-    /// Each number is in the range of the items' type. The call is there for what its contract says.
+    /// Recalls that each number is in the range of the items' type. It does nothing.
     pub fn in_range(&self)
         ensures { AreItems (type_of self.now) (numbers_of self.now) }
     {
         on_type!(self, values => are_in_range(values))
     }
 
-    /// Makes room for `n` more items. It fails only where the allocator refuses.
+    /// Makes room for `n` more items, with new memory where fewer fit. It fails only where the allocator refuses, and then changes nothing.
     pub fn reserve(&mut self, n: usize) -> Result<(), AllocError>
         ensures item_type { type_of self.new ≡ type_of self.old }
         ensures numbers { numbers_of self.new ≡ numbers_of self.old }
@@ -192,8 +192,8 @@ impl Items {
         on_type!(self, values => append_copies(values, n, 0))
     }
 
-    /// A copy of the items from place `from` to below place `to`. `ItemRange` comes before any memory
-    /// is asked for, and `Memory` only where the allocator refuses.
+    /// A copy of the items from place `from` to below place `to`. `ItemRange` where `to` is below `from` or above the number of items, before any
+    /// memory is asked for; `Memory` only where the allocator refuses, and not for no items.
     #[tactic(auto, using(crate::proofs::Numbers::map_slice_range))]
     pub fn slice(&self, alloc: Global, from: usize, to: usize) -> Result<Items, ItemFault>
         ensures item_type { IfOk result (λ items. type_of items ≡ type_of self.now) }

@@ -12,7 +12,7 @@ use std::marker::Model;
 /// How many bytes a key has at most.
 const MOST: usize = 16;
 
-/// The key of a tag: a name of 1 to 16 bytes. A contract sees it as its bytes.
+/// The key of a tag: 1 to 16 bytes, each an ASCII letter, a digit, `_`, `.` or `-`. A contract sees it as its bytes.
 #[derive(Clone, Copy, Debug)]
 pub struct TagKey {
     bytes: [u8; MOST],
@@ -42,7 +42,7 @@ impl Model for TagKey {
 }
 
 impl TagKey {
-    /// The key of these bytes, or `None` where they are no name of 1 to 16 bytes.
+    /// The key of these bytes, or `None` where they are no name of 1 to 16 bytes. It takes no memory.
     pub fn new(bytes: &[u8]) -> Option<TagKey>
         ensures variant { IsSome result ↔ IsName 16 bytes.now }
         ensures value { IfSome result (λ key. key ≡ bytes.now) }

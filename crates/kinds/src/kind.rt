@@ -30,19 +30,19 @@ pub enum Kind {
     Scale(Scale),
     /// Adds the items of its inputs.
     Add(Add),
-    /// Gives the bits that all its inputs have.
+    /// Gives the bitwise and of its inputs.
     And(And),
-    /// Gives the bits that any of its inputs has.
+    /// Gives the bitwise or of its inputs.
     Or(Or),
-    /// Gives the bits that an odd number of its inputs have.
+    /// Gives the bitwise exclusive or of its inputs.
     Xor(Xor),
-    /// Turns all bits of each item.
+    /// Inverts all bits of each item.
     Not(Not),
-    /// Gives items another type.
+    /// Converts items to another type.
     Convert(Convert),
     /// Looks bytes up in a table.
     MapBb(MapBb),
-    /// Gives the sum of the last items.
+    /// Gives the sum of the last `length` items.
     MovingSum(MovingSum),
     /// Filters items by taps, and keeps one in so many.
     Fir(Fir),
@@ -58,7 +58,7 @@ pub enum Kind {
     Interleave(Interleave),
     /// Gives an item to each output in turn.
     Deinterleave(Deinterleave),
-    /// Takes so many items of each input in turn.
+    /// Takes several items of each input in turn.
     StreamMux(StreamMux),
     /// Gives its first `n` items and ends.
     Head(Head),
@@ -78,7 +78,7 @@ pub enum Kind {
     Scrambler(Scrambler),
     /// Undoes a scrambler.
     Descrambler(Descrambler),
-    /// Adds the bits of a shift register.
+    /// Adds the bits of a shift register with feedback.
     AdditiveScrambler(AdditiveScrambler),
 }
 

@@ -5,7 +5,7 @@ ghost use Rattle.stream_model.specs.Kinds.Ends.{null_sink};
 use block_kinds::{Block, ByPace, Held, Role, Shape, ports};
 use items::{ItemType, Items};
 
-/// A block that drops its input. `work` writes nothing.
+/// A sink that drops its input, as GNU Radio's `null_sink`. `work` writes nothing.
 #[derive(Debug, Drop, PartialEq, Eq)]
 pub struct NullSink {
     item: ItemType,
@@ -14,7 +14,7 @@ pub struct NullSink {
 impl NullSink {
     ghost use Rattle.kinds.specs.Ends.{null_meaning};
 
-    /// The sink of a stream of such items.
+    /// The sink of items of this type.
     pub fn new(item: ItemType) -> NullSink
         ensures { null_meaning result ≡ null_sink item }
     {

@@ -5,7 +5,7 @@ ghost use Rattle.stream_model.specs.Kinds.Ends.{vector_sink};
 use block_kinds::{Block, ByPace, Held, Role, Shape, ports};
 use items::{ItemType, Items};
 
-/// A block that keeps its input. What it keeps is the stream that enters it: `work` writes nothing.
+/// A sink that keeps all items and tags of its input, which `Plant::read` shows; as GNU Radio's `vector_sink_x`. `work` writes nothing.
 #[derive(Debug, Drop, PartialEq, Eq)]
 pub struct VectorSink {
     item: ItemType,
@@ -14,7 +14,7 @@ pub struct VectorSink {
 impl VectorSink {
     ghost use Rattle.kinds.specs.Ends.{sink_meaning};
 
-    /// The sink of a stream of such items.
+    /// The sink of items of this type.
     pub fn new(item: ItemType) -> VectorSink
         ensures { sink_meaning result ≡ vector_sink item }
     {

@@ -5,7 +5,7 @@ ghost use Rattle.stream_model.specs.Kinds.Ends.{vector_source};
 use block_kinds::{Block, ByPace, Held, Role, Shape, Single, ports, work_single};
 use items::{ItemType, Items};
 
-/// A block that gives the tape that it is fed, item for item.
+/// The tape that the block is fed, item for item. As GNU Radio's `vector_source_x`, but it starts empty and does not repeat.
 #[derive(Debug, Drop, PartialEq, Eq)]
 pub struct VectorSource {
     item: ItemType,
@@ -14,7 +14,7 @@ pub struct VectorSource {
 impl VectorSource {
     ghost use Rattle.kinds.specs.Ends.{source_meaning};
 
-    /// The source of a tape of such items.
+    /// The source of items of this type.
     pub fn new(item: ItemType) -> VectorSource
         ensures { source_meaning result ≡ vector_source item }
     {

@@ -7,7 +7,7 @@ use block_kinds::{Block, ByPace, Held, Shape, any_ports, ports};
 use items::{ItemType, Items};
 use lane_kernels::{SimdLane, add_wrap};
 
-/// A block that adds the items of its inputs, wrapped to their type. It has 1 to 16 inputs.
+/// The sum of the items of its 1 to 16 inputs, wrapped to their type, as GNU Radio's `add_xx`.
 #[derive(Debug, Drop, PartialEq, Eq)]
 pub struct Add {
     item: ItemType,
@@ -16,7 +16,7 @@ pub struct Add {
 impl Add {
     ghost use Rattle.math_blocks.specs.Joined.{add_block_of};
 
-    /// The block for such items.
+    /// The block for items of this type.
     pub fn new(item: ItemType) -> Add
         ensures { add_block_of result ≡ add item }
     {

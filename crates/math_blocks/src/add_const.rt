@@ -12,8 +12,8 @@ use lane_kernels::{SimdLane, add_const_wrap};
 use numbers::Number;
 use numbers::range::{greatest, is_item, least};
 
-/// A block that adds to each item the number in force at it, wrapped to the items' type. Its parameter is in force
-/// until a setting replaces it.
+/// Each item plus the number in force at it, wrapped to the items' type, as GNU Radio's `add_const_xx`. Its parameter is in force until a setting
+/// replaces it.
 #[derive(Debug, Drop, PartialEq, Eq)]
 pub struct AddConst {
     item: ItemType,
@@ -24,7 +24,7 @@ pub struct AddConst {
 impl AddConst {
     ghost use Rattle.math_blocks.specs.Kinds.{add_const_of};
 
-    /// The block with this parameter, which has to lie in the range of the items' type.
+    /// The block with this parameter; `BadParameter` where it lies outside the range of the items' type.
     pub fn new(item: ItemType, value: i64) -> Result<AddConst, ParamFault>
         ensures meaning { IfOk result (λ block. add_const_of block ≡ add_const item value) }
         ensures range { IsOk result ↔ IsItem item value }

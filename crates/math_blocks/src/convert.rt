@@ -10,7 +10,8 @@ use lane_kernels::{NarrowsTo, SimdLane, WidensTo, narrow, widen};
 use numbers::Number;
 use numbers::vectors::append_copies;
 
-/// A block that gives each item as the item of another type that has the same lowest bits.
+/// Each item as the item of another type with the same lowest bits; a number that the other type can hold stays what it is. As GNU Radio's
+/// `char_to_short` and its kin, without their scaling.
 #[derive(Debug, Drop, PartialEq, Eq)]
 pub struct Convert {
     item: ItemType,
@@ -20,7 +21,7 @@ pub struct Convert {
 impl Convert {
     ghost use Rattle.math_blocks.specs.Kinds.{convert_of};
 
-    /// The block from the one type to the other.
+    /// The block from the type `item` to the type `to`.
     pub fn new(item: ItemType, to: ItemType) -> Convert
         ensures { convert_of result ≡ convert item to }
     {

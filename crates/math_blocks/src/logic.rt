@@ -7,7 +7,7 @@ use block_kinds::{Block, ByPace, Held, Shape, any_ports, ports};
 use items::{ItemType, Items};
 use lane_kernels::{SimdLane, and, or, xor};
 
-/// A block that gives the bits that the items of all its inputs have. It has 1 to 16 inputs.
+/// The bitwise and of the items of its 1 to 16 inputs, as GNU Radio's `and_xx`.
 #[derive(Debug, Drop, PartialEq, Eq)]
 pub struct And {
     item: ItemType,
@@ -16,7 +16,7 @@ pub struct And {
 impl And {
     ghost use Rattle.math_blocks.specs.Joined.{and_block_of};
 
-    /// The block for such items.
+    /// The block for items of this type.
     pub fn new(item: ItemType) -> And
         ensures { and_block_of result ≡ and_of item }
     {
@@ -70,7 +70,7 @@ impl Block for And {
     ghost same = { λ a b e i. and_of (same_item a.item b.item e i) };
 }
 
-/// A block that gives the bits that the item of any of its inputs has. It has 1 to 16 inputs.
+/// The bitwise or of the items of its 1 to 16 inputs, as GNU Radio's `or_xx`.
 #[derive(Debug, Drop, PartialEq, Eq)]
 pub struct Or {
     item: ItemType,
@@ -79,7 +79,7 @@ pub struct Or {
 impl Or {
     ghost use Rattle.math_blocks.specs.Joined.{or_block_of};
 
-    /// The block for such items.
+    /// The block for items of this type.
     pub fn new(item: ItemType) -> Or
         ensures { or_block_of result ≡ or_of item }
     {
@@ -133,7 +133,7 @@ impl Block for Or {
     ghost same = { λ a b e i. or_of (same_item a.item b.item e i) };
 }
 
-/// A block that gives the bits that an odd number of the items of its inputs have. It has 1 to 16 inputs.
+/// The bitwise exclusive or of the items of its 1 to 16 inputs, as GNU Radio's `xor_xx`.
 #[derive(Debug, Drop, PartialEq, Eq)]
 pub struct Xor {
     item: ItemType,
@@ -142,7 +142,7 @@ pub struct Xor {
 impl Xor {
     ghost use Rattle.math_blocks.specs.Joined.{xor_block_of};
 
-    /// The block for such items.
+    /// The block for items of this type.
     pub fn new(item: ItemType) -> Xor
         ensures { xor_block_of result ≡ xor_of item }
     {

@@ -10,7 +10,7 @@ use lane_work::{ByteWork, make_bytes};
 use numbers::vectors::narrowed;
 use std::alloc::Global;
 
-/// A block that gives for each byte the table's number at it, and bytes past the table's end as they are.
+/// For each byte the table's number at it, and bytes past the table's end as they are; as GNU Radio's `map_bb`.
 #[derive(Debug, Drop, PartialEq, Eq)]
 pub struct MapBb {
     table: Vec<u8>,
@@ -20,7 +20,8 @@ pub struct MapBb {
 impl MapBb {
     ghost use Rattle.math_blocks.specs.Kinds.{IsTable, map_bb_of};
 
-    /// The block with a copy of this table of at most 256 bytes. `Memory` comes only where the allocator refuses.
+    /// The block with a copy of this table. `BadParameter` where it has more than 256 numbers or one outside 0 to 255, before any memory is asked
+    /// for; `Memory` only where the allocator refuses the copy.
     pub fn new(alloc: Global, table: &[i64]) -> Result<MapBb, ParamFault>
         ensures meaning { IfOk result (λ block. map_bb_of block ≡ map_bb table.now) }
         ensures range { OnOk result (IsTable table.now) }

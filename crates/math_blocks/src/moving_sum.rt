@@ -8,7 +8,8 @@ use lane_kernels::SimdLane;
 use lane_work::{LaneWork, make_items, sum_of};
 use numbers::vectors::are_in_range;
 
-/// A block that gives for each item the sum of it and those before it, `length` in all, wrapped to the items' type.
+/// For each item the sum of it and those before it, `length` in all, wrapped to the items' type. As GNU Radio's `moving_average_xx` without its
+/// scale.
 #[derive(Debug, Drop, PartialEq, Eq)]
 pub struct MovingSum {
     item: ItemType,
@@ -20,7 +21,7 @@ pub struct MovingSum {
 impl MovingSum {
     ghost use Rattle.math_blocks.specs.Kinds.{moving_sum_of};
 
-    /// The block with this length, from 1 to 1,024.
+    /// The block with this length in items; `BadParameter` outside 1 to 1,024.
     pub fn new(item: ItemType, length: u32) -> Result<MovingSum, ParamFault>
         ensures meaning { IfOk result (λ block. moving_sum_of block ≡ moving_sum item length) }
         ensures range { IsOk result ↔ ((1 ≤ length) × (length ≤ 1024)) }

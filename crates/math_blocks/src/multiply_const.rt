@@ -12,8 +12,8 @@ use lane_kernels::{SimdLane, mul_wrap};
 use numbers::Number;
 use numbers::range::{greatest, is_item, least};
 
-/// A block that multiplies each item by the number in force at it, wrapped to the items' type. Its parameter is in force
-/// until a setting replaces it.
+/// Each item times the number in force at it, wrapped to the items' type, as GNU Radio's `multiply_const_xx`. Its parameter is in force until a
+/// setting replaces it.
 #[derive(Debug, Drop, PartialEq, Eq)]
 pub struct MultiplyConst {
     item: ItemType,
@@ -24,7 +24,7 @@ pub struct MultiplyConst {
 impl MultiplyConst {
     ghost use Rattle.math_blocks.specs.Kinds.{multiply_const_of};
 
-    /// The block with this parameter, which has to lie in the range of the items' type.
+    /// The block with this parameter; `BadParameter` where it lies outside the range of the items' type.
     pub fn new(item: ItemType, value: i64) -> Result<MultiplyConst, ParamFault>
         ensures meaning { IfOk result (λ block. multiply_const_of block ≡ multiply_const item value) }
         ensures range { IsOk result ↔ IsItem item value }

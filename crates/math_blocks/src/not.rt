@@ -1,4 +1,4 @@
-//! The block that turns all bits.
+//! The block that inverts all bits.
 ghost use Rattle.std.specs.Prelude.{◌≡◌};
 ghost use Rattle.stream_model.specs.Kinds.Math.{not_of};
 
@@ -7,7 +7,7 @@ use items::{ItemType, Items};
 use lane_kernels::{SimdLane, not};
 use lane_work::{LaneWork, make_items};
 
-/// A block that turns all bits of each item.
+/// Each item with all bits inverted, as GNU Radio's `not_xx`.
 #[derive(Debug, Drop, PartialEq, Eq)]
 pub struct Not {
     item: ItemType,
@@ -16,7 +16,7 @@ pub struct Not {
 impl Not {
     ghost use Rattle.math_blocks.specs.Kinds.{not_block_of};
 
-    /// The block for such items.
+    /// The block for items of this type.
     pub fn new(item: ItemType) -> Not
         ensures { not_block_of result ≡ not_of item }
     {

@@ -13,8 +13,8 @@ use lane_kernels::{SimdLane, scale_sat};
 use numbers::Number;
 use numbers::range::{greatest, is_item, least};
 
-/// A block that multiplies each item by the factor in force at it and divides by two to the power of `shift`, to the
-/// nearest number of the items' type, a half upwards. Its parameter `factor` is in force until a setting replaces it.
+/// Each item times the factor in force at it over `2 ^ shift`, rounded to the nearest whole number (ties round up) and clamped to the range of the
+/// items' type. Its parameter `factor` is in force until a setting replaces it. GNU Radio has no block like it.
 #[derive(Debug, Drop, PartialEq, Eq)]
 pub struct Scale {
     item: ItemType,
@@ -27,7 +27,7 @@ pub struct Scale {
 impl Scale {
     ghost use Rattle.math_blocks.specs.Kinds.{scale_of};
 
-    /// The block with these parameters: a factor in the range of shorts, and a shift up to 31.
+    /// The block with a factor of -32,768 to 32,767 and a shift of 0 to 31; `BadParameter` names the first that is outside, the factor first.
     pub fn new(item: ItemType, factor: i64, shift: u32) -> Result<Scale, ParamFault>
         ensures meaning { IfOk result (λ block. scale_of block ≡ scale item factor shift) }
         ensures range { IsOk result ↔ (IsItem types.Short factor × (shift ≤ 31)) }

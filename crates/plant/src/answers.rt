@@ -6,7 +6,7 @@ use items::Items;
 use jobs::Job;
 use tags::Tag;
 
-/// How many items a source's tape holds after a `feed`.
+/// How many items a source's tape holds in all after a `feed`.
 #[derive(Clone, Copy, Debug, PartialEq, Eq)]
 pub struct Fed(pub u64);
 
@@ -14,14 +14,14 @@ pub struct Fed(pub u64);
 #[derive(Clone, Copy, Debug, PartialEq, Eq)]
 pub struct Closed(pub u64);
 
-/// From which input item on a setting is in force.
+/// From which item of the block's first input on a setting is in force.
 #[derive(Clone, Copy, Debug, PartialEq, Eq)]
 pub struct Taken(pub u64);
 
-/// What a claim answers.
+/// What a claim returns.
 #[derive(Drop)]
 pub enum Claim<B: Block> {
-    /// The firings that were claimed.
+    /// The firings that were claimed: at least one, with all that their work needs.
     Claimed(Job<B>),
     /// The block is done, possibly as a result of this call.
     Done,
@@ -31,7 +31,7 @@ pub enum Claim<B: Block> {
     Waiting(Need),
 }
 
-/// What a step answers.
+/// What a step returns.
 #[derive(Clone, Copy, Debug, PartialEq, Eq)]
 pub enum Step {
     /// So many firings were done.
@@ -51,6 +51,7 @@ pub struct Did(pub u32);
 /// What the buffer of an output keeps.
 #[derive(Clone, Copy, Debug, PartialEq, Eq)]
 pub struct Stored {
+    /// The last items that were given.
     pub items: usize,
     /// The tags on items that were given and that a reader may still take.
     pub tags: usize,
@@ -63,8 +64,9 @@ pub struct Piece {
     pub from: u64,
     /// How many items the sink holds in all.
     pub held: u64,
+    /// The items from `from` on.
     pub items: Items,
-    /// The tags on these items.
+    /// The tags on these items, in order. Their offsets count from the first item of the stream.
     pub tags: Vec<Tag>,
     /// Whether the sink is done, so that it holds its whole stream.
     pub done: bool,
@@ -82,6 +84,8 @@ pub enum Settled {
 /// How far a plant is: how many items its sources were fed, and how many of these they have given.
 #[derive(Clone, Copy, Debug, PartialEq, Eq)]
 pub struct Headway {
+    /// The items that all sources together have given.
     pub given: u64,
+    /// The items that they were fed.
     pub fed: u64,
 }

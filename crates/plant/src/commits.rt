@@ -1,4 +1,4 @@
-//! Jobs that are brought back: done, or given up.
+//! Jobs that are given back: done, or given up.
 
 ghost use Rattle.std.specs.Prelude.{◌≡◌};
 ghost use Rattle.stream_model.specs.Machine as machine;

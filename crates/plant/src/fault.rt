@@ -16,7 +16,7 @@ pub enum PlantFault {
     NoSuchBlock,
     /// The block is no source.
     NotSource,
-    /// The block keeps no items.
+    /// The block is no sink that keeps its items.
     NotSink,
     /// The source's tape was closed before.
     Closed,
@@ -32,7 +32,7 @@ pub enum PlantFault {
     NoSetting,
     /// The block's setting is of another sort, range or length.
     WrongSetting,
-    /// The sink holds fewer items than are skipped.
+    /// The read begins behind the items that the sink holds.
     BeyondEnd,
     /// The block has no used output of this number.
     NoSuchPort,
@@ -41,7 +41,7 @@ pub enum PlantFault {
 }
 
 impl PlantFault {
-    /// The number by which the refusal is reported.
+    /// The number by which the refusal is reported: 20 to 29, or 31 to 33.
     pub fn number(&self) -> u32
         ensures { result ≡ number_of self.now }
     {

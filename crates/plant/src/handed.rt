@@ -52,7 +52,7 @@ impl<B: Block> Model for Opening<B> {
 
 impl<B: Block> Opening<B> {
     /// Whether another plant began with the same: an equal graph, the same tapes, closed marks and settings, and as far in each block. Graphs that
-    /// are so equal are one network.
+    /// are so equal are one network. It looks at each item once, and takes no memory.
     pub fn agrees(&self, other: &Opening<B>) -> bool
         ensures nets { IsTrue result → net_of B.meaning self.now.graph ≡ net_of B.meaning other.now.graph }
         ensures same { IsTrue result ↔ ((graphs_agree B.eq self.now.graph other.now.graph ≡ true) × (self.now.state ≡ other.now.state)) }

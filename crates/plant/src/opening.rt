@@ -38,7 +38,7 @@ impl<B: Block> Parts<B> {
     }
 }
 
-// The parts of a graph that is shared from now on.
+// The parts of a graph, which they hold under a shared pointer.
 fn shared<B: Block>(
     alloc: Global,
     graph: Valid<B>,

@@ -66,7 +66,8 @@ impl<B: Block> Model for Plant<B> {
 }
 
 impl<B: Block> Plant<B> {
-    /// The plant of a graph of which nothing is fed and nothing fired. Without memory for it the graph comes back.
+    /// The plant of a graph of which nothing is fed and nothing fired. It computes the rates and allocates the buffers. It fails only where the
+    /// allocator refuses, and then returns the graph.
     pub fn open(alloc: Global, graph: Valid<B>) -> Result<Plant<B>, (Valid<B>, AllocError)>
         ensures opens { IfOk result (λ plant. plant ≡ opening_plant B.meaning graph) }
         ensures back { IfErr result (λ refusal. refusal.0 ≡ graph) }
@@ -91,7 +92,7 @@ impl<B: Block> Plant<B> {
         Arc::try_clone(&self.parts.graph)
     }
 
-    /// The type of the items that a source takes.
+    /// The type of the items that a source takes. `NoSuchBlock`, and `NotSource` of any other block.
     pub fn source_type(&self, block: BlockId) -> Result<ItemType, PlantFault>
         ensures { result ≡ source_type_of (net_of B.meaning self.now.graph) block.0 }
     {
@@ -105,7 +106,7 @@ impl<B: Block> Plant<B> {
         self.parts.firings.idle()
     }
 
-    /// The rates of the graph.
+    /// The rates of the graph, as they were computed when it opened.
     pub fn rates(&self) -> &Rates
         ensures { AreRates (net_of B.meaning self.now.graph) result.now }
     {
@@ -136,21 +137,24 @@ impl<B: Block> Plant<B> {
         )
     }
 
-    /// Closes a source's tape: nothing more comes. It takes no memory.
+    /// Closes a source's tape, and returns how many items it holds: nothing more comes. Refused are, in this order, `NoSuchBlock`, `NotSource`, and
+    /// `Closed` where it was closed before. It takes no memory.
     pub fn close(&mut self, source: BlockId) -> Result<Closed, PlantFault>
         ensures { AnsweredAlways (close_of (net_of B.meaning self.old.graph) self.old.state source.0) self.old self.new (reply_of (λ c. machine.Closed c.0) result) }
     {
         self.parts.close(source)
     }
 
-    /// Appends items to a source's tape, with marks on them. The refusals come in the order of the machine; an `Err` changes nothing.
+    /// Appends items to a source's tape, with marks on them, at the offsets that these items get. Refused are, in this order, `NoSuchBlock`,
+    /// `NotSource`, `ItemRange` for items of another type, `Closed`, `TagPlace` for a mark on none of the items, `TapeFull` above 2^32 items, and
+    /// `Memory`. An `Err` changes nothing. A tape that a `Handed` or an `Opening` shares is copied first.
     pub fn feed(&mut self, source: BlockId, items: Items, marks: &[Mark]) -> Result<Fed, PlantFault>
         ensures { Answered (feed_of (net_of B.meaning self.old.graph) self.old.state source.0 (type_of items) (numbers_of items) (map mark_of marks.now)) self.old self.new (reply_of (λ f. machine.Fed f.0) result) }
     {
         self.feed_from(source, &items, marks)
     }
 
-    /// The same, of items that stay the caller's.
+    /// As `feed`, of items that stay the caller's. `feed` copies them, too.
     pub fn feed_from(
         &mut self,
         source: BlockId,
@@ -162,8 +166,8 @@ impl<B: Block> Plant<B> {
         self.parts.feed(source, items, marks)
     }
 
-    /// Appends whole numbers to a source's tape, as items of its type, with marks on them. A number that the type does not hold is refused as
-    /// items of another type are, before all that `feed` refuses else; an `Err` changes nothing.
+    /// Appends whole numbers to a source's tape, as items of its type, with marks on them. A number outside the type's range is refused
+    /// `ItemRange`, where `feed` refuses items of another type. It makes `Items` of them first, which takes memory. An `Err` changes nothing.
     pub fn feed_numbers(
         &mut self,
         alloc: Global,
@@ -176,8 +180,9 @@ impl<B: Block> Plant<B> {
         self.parts.feed_numbers(alloc, source, numbers, marks)
     }
 
-    /// Sets the value of a block's setting from item `at` of its first input on, or from the first that is still open. The refusals come in
-    /// the order of the machine; an `Err` changes nothing. A setting that takes the place of one of the same item needs no memory.
+    /// Sets the value of a block's setting from item `at` of its first input on, or from the first that is neither taken nor claimed. Refused are,
+    /// in this order, `NoSuchBlock`, `NoSetting`, `WrongSetting` for a value of another sort, range or length, `Late` for an item before that first
+    /// one, and `Memory`. An `Err` changes nothing. A setting that replaces one of the same item needs no memory.
     pub fn set(
         &mut self,
         block: BlockId,
@@ -191,7 +196,8 @@ impl<B: Block> Plant<B> {
         self.parts.set(block, at, value)
     }
 
-    /// What a sink holds from item `from` on, at most `max` items of it, with the tags on them. A piece that says done is of a whole stream.
+    /// A copy of what a sink holds from item `from` on, at most `max` items, with the tags on them. Refused are, in this order, `NoSuchBlock`,
+    /// `NotSink`, `BeyondEnd` where it holds fewer than `from` items, and `Memory`. A piece that says done comes from a sink that holds all.
     pub fn read(
         &self,
         alloc: Global,
@@ -206,7 +212,8 @@ impl<B: Block> Plant<B> {
         self.parts.read(alloc, sink, from, max)
     }
 
-    /// How much the buffer of an output keeps: no more than its capacity and the greatest past of its readers ask.
+    /// How much the buffer of an output keeps: no more than its capacity and the greatest history of its readers require. Refused are
+    /// `NoSuchBlock`, and `NoSuchPort` of an output without a connection. It takes no memory.
     pub fn stored(&self, block: BlockId, port: usize) -> Result<Stored, PlantFault>
         ensures refused { fault_in result ≡ port_fault (net_of B.meaning self.now.graph) block.0 port }
         ensures kept { IfOk result (IsKeptOf (net_of B.meaning self.now.graph) self.now.capacities self.now.state block.0 port) }
@@ -214,8 +221,8 @@ impl<B: Block> Plant<B> {
         self.parts.stored(block, port)
     }
 
-    /// Claims at most `max` firings of a block: as many as there are items for, room for, and left of its limit. All memory that their work
-    /// and their commit need is had from now on. An `Err` changes nothing.
+    /// Claims at most `max` firings of a block: as many as there are items for, room for, and left of its limit. It reserves all memory that
+    /// their work and their commit need, so that these take none. Refused are `NoSuchBlock` and `Memory`. An `Err` changes nothing.
     pub fn claim(&mut self, alloc: Global, block: BlockId, max: u32) -> Result<Claim<B>, PlantFault>
         requires { 1 ≤ max }
         ensures answered { Answered (next (net_of B.meaning self.old.graph) self.old.capacities self.old.state (machine.Claim block.0 max)) self.old self.new (reply_of claim_reply result) }
@@ -224,7 +231,7 @@ impl<B: Block> Plant<B> {
         self.parts.claim(alloc, block, max)
     }
 
-    /// Claims at most `max` firings of a block, does their work and commits it. An `Err` changes nothing.
+    /// Claims at most `max` firings of a block, does their work and commits it. Refused are `NoSuchBlock` and `Memory`. An `Err` changes nothing.
     pub fn step(&mut self, alloc: Global, block: BlockId, max: u32) -> Result<Step, PlantFault>
         requires { 1 ≤ max }
         ensures { Answered (step_of (net_of B.meaning self.old.graph) self.old.capacities self.old.state block.0 max) self.old self.new (reply_of step_reply result) }
@@ -234,7 +241,7 @@ impl<B: Block> Plant<B> {
 
     /// Steps all blocks in their order, at most `max` firings each, again and again, until all are done, or a whole round did nothing: the plant
     /// is then quiet. Once all are done each sink holds its whole stream, and so it ends where the rates are balanced and each tape is closed.
-    /// Want of memory stops it where it is.
+    /// Where it is out of memory it stops, and the plant stays where its steps took it.
     pub fn settle(&mut self, alloc: Global, max: u32) -> Result<Settled, AllocError>
         requires idle { is_idle self.old.state ≡ true }
         requires some { 1 ≤ max }
@@ -247,7 +254,7 @@ impl<B: Block> Plant<B> {
         self.settle_watched(alloc, max, &mut Unwatched)
     }
 
-    /// The same, where `watch` is shown how far the plant is each time that all blocks were stepped, and told when that is over, however it ends.
+    /// As `settle`; it calls `watch.show` after each round of all blocks, and `watch.end` when it is over, however it ends.
     pub fn settle_watched<W: Watch>(
         &mut self,
         alloc: Global,
@@ -267,7 +274,7 @@ impl<B: Block> Plant<B> {
         settled
     }
 
-    /// How many items all sources were fed, and how many of these they have given. It looks at each block.
+    /// How many items all sources were fed, and how many of these they have given. It looks at each block, and takes no memory.
     pub fn headway(&self) -> Headway
         ensures value { result ≡ headway_of (net_of B.meaning self.now.graph) self.now.state }
         ensures within { result.given ≤ result.fed }
@@ -320,8 +327,8 @@ impl<B: Block> Plant<B> {
         self.parts.abandon(job)
     }
 
-    /// The graph runs, the capacities are those of its rates, the state is one that calls lead to, and whatever list of calls is made, each answered as its contract says, replies and
-    /// state are a run of the machine. The call is there for what its contract says.
+    /// Recalls what every plant keeps: the graph can run, the capacities are those of its rates, the state is one that calls lead to, and whatever
+    /// list of calls is made, each answered as its contract says, replies and state are a run of the machine. It does nothing.
     pub fn in_order(&self)
         ensures runs { CanRun (net_of B.meaning self.now.graph) }
         ensures capacities { self.now.capacities ≡ capacities_of (net_of B.meaning self.now.graph) (balance_of (net_of B.meaning self.now.graph)) }

@@ -17,19 +17,19 @@ use flowgraph::{Block, BlockId};
 use std::alloc::{AllocError, Global};
 use std::time::Duration;
 
-/// What looks on while a plant runs. It promises nothing.
+/// What is shown the progress of a run. Nothing is required of it.
 pub trait Watch {
-    /// How long a run in threads goes on before it is shown again. With none it is never shown.
+    /// How long a run in threads goes on between two calls of `show`. With `None` there is no such call. `settle` does not ask.
     fn pause(&self) -> Option<Duration>;
 
-    /// The plant is so far: on one thread each block was stepped once more.
+    /// The plant is so far: after each round of all blocks on one thread, and after each pause in threads.
     fn show(&mut self, headway: Headway);
 
-    /// The run is over.
+    /// The run is over, however it ended.
     fn end(&mut self);
 }
 
-/// What looks away.
+/// A watch that does nothing.
 #[derive(Drop)]
 pub struct Unwatched;
 

@@ -7,7 +7,7 @@ use items::{ItemType, Items};
 use lane_kernels::SimdLane;
 use lane_work::{AppendWork, append_items};
 
-/// A block that gives an item to each of its outputs in turn.
+/// An item to each output in turn, as GNU Radio's `deinterleave` with a block size of 1.
 #[derive(Debug, Drop, PartialEq, Eq)]
 pub struct Deinterleave {
     item: ItemType,
@@ -19,7 +19,7 @@ pub struct Deinterleave {
 impl Deinterleave {
     ghost use Rattle.rate_blocks.specs.Mux.{deinterleave_of};
 
-    /// The block with this number of outputs, 1 to 16.
+    /// The block with this number of outputs, all of them used; `BadParameter` outside 1 to 16.
     pub fn new(item: ItemType, ports: u64) -> Result<Deinterleave, ParamFault>
         ensures meaning { IfOk result (λ block. deinterleave_of block ≡ deinterleave item ports) }
         ensures range { IsOk result ↔ ((1 ≤ ports) × (ports ≤ 16)) }

@@ -5,7 +5,7 @@ ghost use Rattle.stream_model.specs.Kinds.Rates.{delay};
 use block_kinds::{Block, ByPace, Held, Pace, ParamFault, Parameter, Shape, Single, work_single};
 use items::{ItemType, Items};
 
-/// A block that gives `n` zeros and then its input.
+/// `n` zeros, and then all of the input with its tags. GNU Radio's `delay` gives only as many items as come in.
 #[derive(Debug, Drop, PartialEq, Eq)]
 pub struct Delay {
     item: ItemType,
@@ -16,7 +16,7 @@ pub struct Delay {
 impl Delay {
     ghost use Rattle.rate_blocks.specs.Kinds.{delay_of};
 
-    /// The block with this `n`.
+    /// The block with this `n`; `BadParameter` above 65,536.
     pub fn new(item: ItemType, n: u64) -> Result<Delay, ParamFault>
         ensures meaning { IfOk result (λ block. delay_of block ≡ delay item n) }
         ensures range { IsOk result ↔ (n ≤ 65536) }

@@ -5,7 +5,7 @@ ghost use Rattle.stream_model.specs.Kinds.Rates.{head};
 use block_kinds::{Block, ByPace, Held, ParamFault, Parameter, Shape, Single, work_single};
 use items::{ItemType, Items};
 
-/// A block that gives its first `n` items and ends.
+/// The first `n` items; then the block is done. As GNU Radio's `head`.
 #[derive(Debug, Drop, PartialEq, Eq)]
 pub struct Head {
     item: ItemType,
@@ -16,7 +16,7 @@ pub struct Head {
 impl Head {
     ghost use Rattle.rate_blocks.specs.Kinds.{head_of};
 
-    /// The block with this `n`.
+    /// The block with this `n`; `BadParameter` above 2^32.
     pub fn new(item: ItemType, n: u64) -> Result<Head, ParamFault>
         ensures meaning { IfOk result (λ block. head_of block ≡ head item n) }
         ensures range { IsOk result ↔ (n ≤ 2 ^ 32) }

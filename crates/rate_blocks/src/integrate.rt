@@ -7,7 +7,7 @@ use items::{ItemType, Items};
 use lane_kernels::SimdLane;
 use lane_work::{LaneWork, make_items, sum_of};
 
-/// A block that gives the sum of each `n` items, wrapped to the items' type.
+/// The sum of each `n` items, wrapped to the items' type, as GNU Radio's `integrate_xx`.
 #[derive(Debug, Drop, PartialEq, Eq)]
 pub struct Integrate {
     item: ItemType,
@@ -19,7 +19,7 @@ pub struct Integrate {
 impl Integrate {
     ghost use Rattle.rate_blocks.specs.Kinds.{integrate_of};
 
-    /// The block with this `n`.
+    /// The block with this `n`; `BadParameter` outside 1 to 1,024.
     pub fn new(item: ItemType, n: u64) -> Result<Integrate, ParamFault>
         ensures meaning { IfOk result (λ block. integrate_of block ≡ integrate item n) }
         ensures range { IsOk result ↔ ((1 ≤ n) × (n ≤ 1024)) }

@@ -7,7 +7,7 @@ use items::{ItemType, Items};
 use lane_kernels::SimdLane;
 use lane_work::{InputWork, append_inputs};
 
-/// A block that gives an item of each of its inputs in turn.
+/// An item of each input in turn, as GNU Radio's `interleave` with a block size of 1.
 #[derive(Debug, Drop, PartialEq, Eq)]
 pub struct Interleave {
     item: ItemType,
@@ -19,7 +19,7 @@ pub struct Interleave {
 impl Interleave {
     ghost use Rattle.rate_blocks.specs.Mux.{interleave_of};
 
-    /// The block with this number of inputs, 1 to 16.
+    /// The block with this number of inputs, all of them used; `BadParameter` outside 1 to 16.
     pub fn new(item: ItemType, ports: u64) -> Result<Interleave, ParamFault>
         ensures meaning { IfOk result (λ block. interleave_of block ≡ interleave item ports) }
         ensures range { IsOk result ↔ ((1 ≤ ports) × (ports ≤ 16)) }

@@ -7,7 +7,7 @@ use items::{ItemType, Items};
 use lane_kernels::SimdLane;
 use lane_work::{LaneWork, make_items};
 
-/// A block that keeps the last of each `n` items.
+/// The last of each `n` items, as GNU Radio's `keep_one_in_n`.
 #[derive(Debug, Drop, PartialEq, Eq)]
 pub struct KeepOneInN {
     item: ItemType,
@@ -19,7 +19,7 @@ pub struct KeepOneInN {
 impl KeepOneInN {
     ghost use Rattle.rate_blocks.specs.Kinds.{keep_one_in_n_of};
 
-    /// The block with this `n`.
+    /// The block with this `n`; `BadParameter` outside 1 to 1,024.
     pub fn new(item: ItemType, n: u64) -> Result<KeepOneInN, ParamFault>
         ensures meaning { IfOk result (λ block. keep_one_in_n_of block ≡ keep_one_in_n item n) }
         ensures range { IsOk result ↔ ((1 ≤ n) × (n ≤ 1024)) }

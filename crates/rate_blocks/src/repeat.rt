@@ -7,7 +7,7 @@ use items::{ItemType, Items};
 use lane_kernels::SimdLane;
 use lane_work::{LaneWork, make_items};
 
-/// A block that gives each item `n` times.
+/// Each item `n` times, as GNU Radio's `repeat`.
 #[derive(Debug, Drop, PartialEq, Eq)]
 pub struct Repeat {
     item: ItemType,
@@ -19,7 +19,7 @@ pub struct Repeat {
 impl Repeat {
     ghost use Rattle.rate_blocks.specs.Kinds.{repeat_of};
 
-    /// The block with this `n`.
+    /// The block with this `n`; `BadParameter` outside 1 to 1,024.
     pub fn new(item: ItemType, n: u64) -> Result<Repeat, ParamFault>
         ensures meaning { IfOk result (λ block. repeat_of block ≡ repeat item n) }
         ensures range { IsOk result ↔ ((1 ≤ n) × (n ≤ 1024)) }

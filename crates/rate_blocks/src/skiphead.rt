@@ -5,7 +5,7 @@ ghost use Rattle.stream_model.specs.Kinds.Rates.{skiphead};
 use block_kinds::{Block, ByPace, Held, Pace, ParamFault, Parameter, Shape, Single, work_single};
 use items::{ItemType, Items};
 
-/// A block that leaves out its first `n` items.
+/// All but the first `n` items, as GNU Radio's `skiphead`. A tag on one of these goes to the first item that is given.
 #[derive(Debug, Drop, PartialEq, Eq)]
 pub struct SkipHead {
     item: ItemType,
@@ -16,7 +16,7 @@ pub struct SkipHead {
 impl SkipHead {
     ghost use Rattle.rate_blocks.specs.Kinds.{skiphead_of};
 
-    /// The block with this `n`.
+    /// The block with this `n`; `BadParameter` above 2^32.
     pub fn new(item: ItemType, n: u64) -> Result<SkipHead, ParamFault>
         ensures meaning { IfOk result (λ block. skiphead_of block ≡ skiphead item n) }
         ensures range { IsOk result ↔ (n ≤ 2 ^ 32) }

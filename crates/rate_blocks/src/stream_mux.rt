@@ -10,8 +10,8 @@ use items::{ItemType, Items};
 /// The most inputs.
 const MOST: usize = 16;
 
-/// A block that gives so many items of its first input, then so many of the next, and so on, round after round. Only
-/// whole rounds are given. A tag stays on its item.
+/// So many items of the first input, then so many of the next, and so on, round after round, as GNU Radio's `stream_mux`, which gives the beginning
+/// of a round too: here only whole rounds are given. A tag stays on its item.
 #[derive(Debug, Drop, PartialEq, Eq)]
 pub struct StreamMux {
     item: ItemType,
@@ -60,7 +60,8 @@ fn counts(lengths: &[i64]) -> [u32; MOST]
 impl StreamMux {
     ghost use Rattle.rate_blocks.specs.Mux.{lengths_of, stream_mux_of};
 
-    /// The block with an input for each of these lengths: 1 to 16 numbers from 1, of which the sum is at most 1,024.
+    /// The block with an input for each of these lengths in items; `BadParameter` where they are not 1 to 16 numbers of 1 or more, at most 1,024
+    /// together.
     pub fn new(item: ItemType, lengths: &[i64]) -> Result<StreamMux, ParamFault>
         ensures meaning { IfOk result (λ block. stream_mux_of block ≡ stream_mux item (unsigned lengths.now)) }
         ensures range { IsOk result ↔ AreLengths lengths.now }

@@ -24,7 +24,7 @@ pub struct Repetitions {
 }
 
 impl Repetitions {
-    /// The firings of each block in an iteration, in the order of the blocks.
+    /// The firings of each block in an iteration, in the order of the blocks; each is at least 1. A firing is `multiple` base firings.
     pub fn firings(&self) -> &[u32]
         ensures { result.now ≡ self.now.firings.items }
     {
@@ -37,9 +37,9 @@ impl Repetitions {
 pub enum Rates {
     /// The least firings of each block that leave every connection as it was.
     Balanced(Repetitions),
-    /// There are none.
+    /// No numbers of firings leave every connection as it was.
     Uneven,
-    /// A ratio, a count of firings, of items or of iterations, or a capacity needed is above the limit.
+    /// A ratio, a count of firings, of items or of iterations, or a capacity needed is above 65,536.
     TooLarge,
 }
 

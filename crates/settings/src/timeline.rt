@@ -61,7 +61,7 @@ impl Timeline {
         self.settings.is_empty()
     }
 
-    /// The value in force at the item.
+    /// The value in force at the item: that of the last setting made up to it, or the block's own parameter.
     pub fn in_force(&self, item: u64) -> &Value
         ensures { value_of result.now ≡ model.in_force self.now.own self.now.settings item }
     {
@@ -69,7 +69,7 @@ impl Timeline {
     }
 
     /// What is in force from item `from` on to below item `to`: the setting in force at `from`, then
-    /// those made after it. A copy of each is made, and no other item is looked at.
+    /// those made after it, as copies. `Memory` only where the allocator refuses one. Other settings are not looked at.
     pub fn between(&self, alloc: Global, from: u64, to: u64) -> Result<Vec<Held>, SettingFault>
         ensures value { IfOk result (λ held.
             map held_of held.items ≡ model.between self.now.own self.now.settings from to) }
@@ -80,8 +80,8 @@ impl Timeline {
         Ok(held)
     }
 
-    /// Makes `held` what is in force from item `from` on to below item `to`, as `between` has it, in the memory that it has where that is
-    /// enough. It fails only where the allocator refuses, and what `held` has is then left open.
+    /// Makes `held` what is in force from item `from` on to below item `to`, as `between` returns it, in the memory that it has where that is
+    /// enough. `Memory` only where the allocator refuses; what `held` then has is unspecified.
     pub fn copy_between(
         &self,
         alloc: Global,
@@ -110,7 +110,7 @@ impl Timeline {
         first.is_same(at, value) && are_same(others, self.made_between(from, to))
     }
 
-    /// All settings by their items, in memory of their own.
+    /// A copy of all settings by their items. It fails only where the allocator refuses.
     pub fn copy(&self, alloc: Global) -> Result<Vec<Held>, AllocError>
         ensures { IfOk result (λ copy. map held_of copy.items ≡ self.now.settings) }
     {
@@ -126,9 +126,8 @@ impl Timeline {
         are_same(held, self.settings.range(..))
     }
 
-    /// Sets the value from item `at` on. Below the floor it is refused as `Late`, before any memory
-    /// is asked for. `Memory` comes only where the allocator refuses, and not where it takes the place of a setting of the
-    /// same item.
+    /// Sets the value from item `at` on. `Late` where that is below `floor`, before any memory is asked for. `Memory` only where the allocator
+    /// refuses, and not where a setting of the same item is replaced.
     pub fn set(&mut self, at: u64, value: Value, floor: u64) -> Result<(), SettingFault>
         ensures own { self.new.own ≡ self.old.own }
         ensures ok { OnOk result (
@@ -148,7 +147,7 @@ impl Timeline {
         }
     }
 
-    /// Forgets the settings that no item from `before` on reads, which are those made before that in force there. It takes no memory.
+    /// Drops the settings that no item from `before` on reads, which are those made before the one in force there. It takes no memory.
     pub fn prune(&mut self, before: u64)
         ensures own { self.new.own ≡ self.old.own }
         ensures settings { self.new.settings ≡ kept_from

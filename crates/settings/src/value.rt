@@ -7,7 +7,7 @@ ghost use Rattle.settings.specs.Timelines.{held_at};
 use std::alloc::{AllocError, Global};
 use std::marker::Model;
 
-/// The taps of a filter, in the order in which they meet the newest item first.
+/// The taps of a filter. The first is multiplied with the newest item.
 #[derive(Debug, Drop)]
 pub struct Taps {
     taps: Vec<i16>,
@@ -22,12 +22,14 @@ impl Model for Taps {
 }
 
 impl Taps {
+    /// These taps, however many. It takes no memory; a block takes only as many as it was made with.
     pub fn new(taps: Vec<i16>) -> Taps
         ensures { result ≡ taps.items }
     {
         Taps { taps }
     }
 
+    /// All taps, in their order.
     pub fn as_slice(&self) -> &[i16]
         ensures { result.now ≡ self.now }
     {
@@ -52,7 +54,7 @@ impl Taps {
         self.taps.extend_from_slice(&other.taps)
     }
 
-    /// The same taps in memory of their own.
+    /// A copy of the taps. It fails only where the allocator refuses.
     pub fn copy(&self, alloc: Global) -> Result<Taps, AllocError>
         ensures { IfOk result (λ taps. taps ≡ self.now) }
     {
@@ -65,7 +67,9 @@ impl Taps {
 /// What a setting sets: one number, or the taps of a filter.
 #[derive(Debug, Drop)]
 pub enum Value {
+    /// A number, as of `add_const`, `multiply_const` and `scale`. Its range is that of the block.
     Number(i64),
+    /// The taps of a filter.
     Taps(Taps),
 }
 
@@ -93,7 +97,7 @@ impl Value {
         Ok(())
     }
 
-    /// The same value in memory of its own. A number takes none.
+    /// A copy of the value. It fails only where the allocator refuses, and never of a number.
     pub fn copy(&self, alloc: Global) -> Result<Value, AllocError>
         ensures same { IfOk result (λ value. value_of value ≡ value_of self.now) }
         ensures number { is_number self.now ≡ true → is_ok result ≡ true }
@@ -105,7 +109,7 @@ impl Value {
     }
 }
 
-/// A value that is in force from an input item on.
+/// A value that is in force from an input item on, counted from 0.
 #[derive(Debug, Drop)]
 pub struct Held {
     pub at: u64,

@@ -3,7 +3,7 @@ ghost use Rattle.std.specs.Prelude.{◌≡◌, ◌<◌, ◌^◌};
 ghost use Rattle.stream_model.specs.Tags.{place_at_rate};
 
 /// Where a tag on input item `offset` goes at a block that takes `taken` items for each `given` that it gives:
-/// `offset * given / taken` to the nearest whole number, a half upwards.
+/// `offset * given / taken` to the nearest whole number; ties round up. Offsets count items from 0. It takes no memory.
 #[tactic(auto, using(crate::proofs::Rounding::same_rate, crate::proofs::Rounding::rounds_down, crate::proofs::Rounding::rounds_up))]
 pub fn place(taken: u64, given: u64, offset: u64) -> u64
     requires rate { 0 < taken }

@@ -10,7 +10,7 @@ use items::Tag;
 use std::alloc::{AllocError, Global};
 use std::marker::Model;
 
-/// The tags of a stream, ordered by offset, key, value and source. Doubles are kept. A contract sees the list, and how many
+/// The tags of a stream, ordered by offset, key, value and source. Duplicates are kept. A contract sees the list, and how many
 /// more tags fit before memory is needed.
 #[derive(Debug, Drop)]
 pub struct Tags {
@@ -69,7 +69,7 @@ impl Tags {
         &self.row[self.gone..]
     }
 
-    /// Makes room for `n` more tags. It fails only where the allocator refuses.
+    /// Makes room for `n` more tags, with new memory where fewer fit. It fails only where the allocator refuses, and then changes nothing.
     pub fn reserve(&mut self, n: usize) -> Result<(), AllocError>
         ensures tags { self.new.tags ≡ self.old.tags }
         ensures ok { OnOk result (n ≤ self.new.spare) }
@@ -86,8 +86,7 @@ impl Tags {
         self.row.reserve(room - self.row.len())
     }
 
-    /// Adds a tag at its place, where there is room. It takes no memory. A tag that no other is behind, the common case, goes
-    /// last at once.
+    /// Adds a tag at its place, where there is room. It takes no memory. The common case, a tag that goes last, takes one comparison.
     pub fn insert_reserved(&mut self, tag: Tag)
         requires { 0 < self.old.spare }
         ensures tags { self.new.tags ≡ insert_tag (tag_of tag) self.old.tags }
@@ -104,7 +103,7 @@ impl Tags {
     }
 
     /// Adds tags at their places, where there is room. It takes no memory. Several are sorted at once, together with the tags
-    /// behind the least of them, and what is in order already is only looked at.
+    /// from the least of them on.
     pub fn insert_all(&mut self, more: &[Tag])
         requires { length more.now ≤ self.old.spare }
         ensures tags { self.new.tags ≡ insert_tags (map tag_of more.now) self.old.tags }
@@ -120,7 +119,7 @@ impl Tags {
         sort_in(&mut self.row[self.gone..], kept);
     }
 
-    /// The tags on items `from` to below `to`.
+    /// The tags on items `from` to below `to`; none where `to` is not above `from`. Both places are searched by halving.
     pub fn range(&self, from: u64, to: u64) -> &[Tag]
         ensures { map tag_of result.now ≡ tags_within from to self.now.tags }
     {
@@ -130,8 +129,8 @@ impl Tags {
         &tags[first..end.max(first)]
     }
 
-    /// Forgets the tags on items before `before`, and keeps the memory. It looks at one tag where there is none to forget,
-    /// and else takes as many steps as tags go, on the whole.
+    /// Drops the tags on items before `before`, and keeps the memory. It looks at one tag where there is none to drop; else it searches
+    /// by halving, and moving the rest is amortized over the tags dropped.
     pub fn prune(&mut self, before: u64)
         ensures tags { self.new.tags ≡ tags_from before self.old.tags }
         ensures spare { self.new.spare + length self.new.tags ≡ self.old.spare + length self.old.tags }
@@ -145,7 +144,7 @@ impl Tags {
         }
     }
 
-    /// Forgets each tag, and keeps the memory.
+    /// Drops each tag, and keeps the memory.
     pub fn clear(&mut self)
         ensures tags { self.new.tags ≡ [] }
         ensures spare { self.new.spare ≡ self.old.spare + length self.old.tags }
@@ -186,7 +185,7 @@ fn append(row: &mut Vec<Tag>, more: &[Tag])
     }
 }
 
-// Brings the tags from place `kept` on to their places among those before it, which are in order.
+// Moves the tags from place `kept` on to their places among those before it, which are in order.
 fn sort_in(tags: &mut [Tag], kept: usize)
     requires within { kept ≤ length tags.old }
     requires ordered { IsOrdered (map tag_of (take kept tags.old)) }

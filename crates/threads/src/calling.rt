@@ -1,4 +1,4 @@
-//! A run in threads of which callers make calls meanwhile.
+//! A run in threads in which callers make calls of the plant.
 
 ghost use Rattle.std.specs.Prelude.{◌≡◌, ◌≤◌, map, true, IfOk, IfErr, vec_len};
 ghost use Rattle.stream_model.specs.Machine.{is_idle};
@@ -26,20 +26,22 @@ use std::sync::{Arc, Mutex, Wait};
 use std::thread;
 use std::thread::{JoinHandle, Parker, Scope, Threads};
 
-/// How a run ended of which callers made calls.
+/// How a run with callers ended.
 #[derive(Drop)]
 pub struct Finished<B: Block, C: Drop> {
+    /// How it ended, with the plant.
     pub outcome: Outcome<B>,
-    /// Every call that changed the plant, and every call of a caller, one after another.
+    /// Each claim that handed out firings or found its block done, each commit, and each call of a caller that was not out of memory, in one order.
     pub history: Vec<Entry>,
-    /// For each caller its calls.
+    /// For each caller the entries of its calls, in their order.
     pub logs: Vec<Vec<Entry>>,
-    /// The callers, in the order in which they came.
+    /// The callers, in the order in which they were handed in.
     pub callers: Vec<C>,
 }
 
-/// Starts a worker for each block of a plant that has no claim in flight, and a thread for each caller, with a desk of its own. Once all callers
-/// have returned, the workers go on until all blocks are done, none can act, or a caller has asked for a stop.
+/// Starts a worker for each block of a plant that has no claim in flight, and a thread for each of at most 16 callers, with a desk of its own, and
+/// waits for all of them. Once all callers have returned, the workers go on until all blocks are done or none can act; where a caller asks for a
+/// stop, they leave after their commits. The history takes memory for each entry. Fails as `Running::wait` does, and with `RunFault::Thread`.
 pub fn live<
     B: Block + Send + Sync,
     G: Gate + Drop + Send + Sync,
@@ -64,7 +66,7 @@ where
     live_watched(rt, alloc, plant, gate, callers, turns, &mut Unwatched)
 }
 
-/// As `live`, and once all callers have returned it shows `watch` how far the plant is, each time that its pause is over, until the workers leave.
+/// As `live`; once all callers have returned it calls `watch.show` after each pause until the workers leave, and then `watch.end`.
 pub fn live_watched<
     B: Block + Send + Sync,
     G: Gate + Drop + Send + Sync,
@@ -106,7 +108,7 @@ where
     ended(hall.into_inner(), &opening, came)
 }
 
-// What the callers' threads brought back.
+// What the callers' threads returned.
 #[derive(Drop)]
 struct Came<C: Drop> {
     callers: Vec<C>,
@@ -117,7 +119,7 @@ struct Came<C: Drop> {
 }
 
 impl<C: Drop + Send> Came<C> {
-    // Room for what so many callers bring.
+    // Room for what so many callers return.
     fn new(alloc: Global, callers: usize) -> Result<Came<C>, AllocError> {
         Ok(Came {
             callers: Vec::with_capacity(alloc, callers)?,
@@ -316,7 +318,7 @@ fn at_desk<B: Block, G: Gate + Drop, C: Caller<B>, R: Wait>(
     (caller, log)
 }
 
-// How a run ended of which this came back.
+// How a run ended that left this.
 fn ended<B: Block, C: Drop>(
     hall: Hall<B>,
     opening: &Opening<B>,

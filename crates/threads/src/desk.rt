@@ -24,13 +24,14 @@ use std::sync::{Arc, Wait};
 
 /// Who makes calls of a plant while its workers run.
 pub trait Caller<B: Block> {
-    /// Makes its calls at the desk. It may take its time, and wait for its own input; the workers go on meanwhile. The run does not end before
+    /// Makes its calls at the desk, in a thread of its own. It may wait for its own input; the workers go on meanwhile. The run does not end before
     /// it returns.
     fn run<G: Gate + Drop, R: Wait>(&mut self, rt: &R, alloc: Global, desk: &mut Desk<B, G>);
 }
 
-/// Where one caller makes calls of a plant at work. Each call takes the lock, is answered as the plant answers it, and joins the desk's log with
-/// that reply; one that is refused memory changes nothing and joins no log. A contract sees the plant's graph, the desk's number and its log.
+/// Where one caller makes calls of a plant at work. Each call takes the lock, returns what the plant returns, and is added with that to the desk's
+/// log and to the history of the run; both take memory. A call that is out of memory returns `PlantFault::Memory`, changes nothing and is in
+/// neither. A contract sees the plant's graph, the desk's number and its log.
 #[derive(Drop)]
 pub struct Desk<'a, B: Block, G: Gate + Drop> {
     pub(crate) shared: &'a Shared<B, G>,
@@ -64,7 +65,7 @@ impl<'a, B: Block, G: Gate + Drop> Desk<'a, B, G> {
         &self.log
     }
 
-    /// Appends items to a source's tape, with marks on them, as `Plant::feed` does.
+    /// Appends items to a source's tape, with marks on them, as `Plant::feed` does, and wakes the source's worker. The log keeps the items and marks.
     pub fn feed<R: Wait>(
         &mut self,
         rt: &R,
@@ -103,7 +104,7 @@ impl<'a, B: Block, G: Gate + Drop> Desk<'a, B, G> {
         answer
     }
 
-    /// Closes a source's tape, as `Plant::close` does. It takes memory for the log.
+    /// Closes a source's tape, as `Plant::close` does, but with memory for the log, so that it may be refused `Memory`.
     pub fn close<R: Wait>(&mut self, rt: &R, source: BlockId) -> Result<Closed, PlantFault>
         ensures { IsLogged (Asks (machine.Close source.0)) self.old self.new (reply_of (λ c. machine.Closed c.0) result) }
     {
@@ -125,7 +126,8 @@ impl<'a, B: Block, G: Gate + Drop> Desk<'a, B, G> {
         answer
     }
 
-    /// Sets the value of a block's setting from item `at` of its first input on, or from the first that is still open, as `Plant::set` does.
+    /// Sets the value of a block's setting from item `at` of its first input on, or from the first that is neither taken nor claimed, as `Plant::set`
+    /// does. The log keeps a copy of the value.
     pub fn set<R: Wait>(
         &mut self,
         rt: &R,
@@ -151,7 +153,7 @@ impl<'a, B: Block, G: Gate + Drop> Desk<'a, B, G> {
         answer
     }
 
-    /// What a sink holds from item `from` on, at most `max` items of it, with the tags on them, as `Plant::read` shows it.
+    /// A copy of what a sink holds from item `from` on, at most `max` items, with the tags on them, as `Plant::read` returns it. The log shares it.
     pub fn read<R: Wait>(
         &mut self,
         rt: &R,
@@ -193,7 +195,8 @@ impl<'a, B: Block, G: Gate + Drop> Desk<'a, B, G> {
         }
     }
 
-    /// Asks for the end of the run: each worker commits what it works on and claims no more. Callers go on until they return.
+    /// Asks for the end of the run: each worker commits what it works on and claims no more. Callers go on until they return. It takes no memory, and
+    /// is in no log.
     pub fn stop<R: Wait>(&mut self, rt: &R)
         ensures { self.new ≡ self.old }
     {

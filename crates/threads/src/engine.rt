@@ -37,7 +37,7 @@ impl<B: Block> Engine<B> {
         }
     }
 
-    /// Commits what a worker brings.
+    /// Commits what a worker has done.
     pub fn commit(&mut self, worked: Worked<B>) -> Result<Did, Worked<B>> {
         match self {
             Engine::Plain(plant) => commit_in(plant, worked),

@@ -31,8 +31,11 @@ pub enum CallerId {
 /// What a source was fed with in one call.
 #[derive(Debug, Drop)]
 pub struct Feed {
+    /// The source.
     pub source: BlockId,
+    /// The items.
     pub items: Items,
+    /// The marks on them.
     pub marks: Vec<Mark>,
 }
 
@@ -40,7 +43,7 @@ pub struct Feed {
 #[derive(Debug, Drop)]
 pub struct Setting {
     pub block: BlockId,
-    /// From which item of its first input on, or from the first that was open.
+    /// From which item of its first input on; with `None` from the first that was neither taken nor claimed.
     pub at: Option<u64>,
     pub value: Value,
 }
@@ -48,8 +51,11 @@ pub struct Setting {
 /// A call of a plant with its arguments. What may be long is shared.
 #[derive(Drop)]
 pub enum Call {
+    /// Of a source.
     Feed(Arc<Feed, Global>),
+    /// Of a source.
     Close(BlockId),
+    /// Of a block with a setting.
     Set(Arc<Setting, Global>),
     /// Of a sink, from this item on, at most so many.
     Read(BlockId, u64, u64),
@@ -59,7 +65,7 @@ pub enum Call {
     Commit(BlockId),
 }
 
-/// What a call answered.
+/// What a call returned.
 #[derive(Drop)]
 pub enum Answer {
     /// How many items the tape holds then.
@@ -68,13 +74,15 @@ pub enum Answer {
     Closed(u64),
     /// From which item on the setting is in force.
     Taken(u64),
+    /// What a sink showed.
     Piece(Arc<Piece, Global>),
     /// The first firing, and how many there are.
     Claimed(u64, u32),
     /// The block is done.
     Done,
-    /// How many firings it was of.
+    /// How many firings the commit was of.
     Did(u32),
+    /// The call was refused, and changed nothing.
     Refused(PlantFault),
 }
 
@@ -97,7 +105,7 @@ impl Entry {
         }
     }
 
-    /// Whether another entry notes the same.
+    /// Whether another entry records the same. It looks at each item of a feed or a read once.
     pub fn is_same(&self, other: &Entry) -> bool
         ensures { IsTrue result → noted_by self.now ≡ noted_by other.now }
     {
@@ -187,7 +195,7 @@ fn same_piece(one: &Piece, other: &Piece) -> bool
 }
 
 impl Answer {
-    /// What a feed answered; none where memory ran out.
+    /// What a feed returned; `None` where it was out of memory.
     pub(crate) fn of_feed(answer: Result<Fed, PlantFault>) -> Option<Answer>
         ensures { option_map said_by result ≡ option_map said_of (reply_of (λ f. machine.Fed f.0) answer) }
     {
@@ -217,7 +225,7 @@ impl Answer {
         }
     }
 
-    /// A refusal; none where memory ran out.
+    /// A refusal; `None` for out of memory.
     pub(crate) fn of_fault(fault: PlantFault) -> Option<Answer>
         ensures { option_map said_by result ≡ option_map said_of (refusal_of fault) }
     {

@@ -7,19 +7,20 @@ use flowgraph::Block;
 use plant::Plant;
 use std::fmt;
 
-/// Why a run did not come to its end. A plant that is given back has what was handed in, with no claim in flight, and may be run again.
+/// Why a run did not come to its end. A plant that is returned has what was handed to it, after `live` by its callers too, with no claim in flight,
+/// and may be run again.
 #[derive(Drop)]
 pub enum RunFault<B: Block> {
-    /// Memory ran out: before the run, or for a claim in its midst.
+    /// Out of memory before the run, or for a claim during it.
     Memory(Plant<B>),
-    /// A thread could not be started.
+    /// A thread could not be started. Those that were started have been stopped.
     Thread(Plant<B>),
-    /// What came back does not hold what was handed in, or has a claim in flight, or no outcome fits it.
+    /// What the threads left does not hold what was handed in, or has a claim in flight, or no outcome fits it. This should never happen.
     Foreign,
 }
 
 impl<B: Block> RunFault<B> {
-    /// The number by which the fault is reported.
+    /// The number by which the fault is reported: 60, 61 or 62.
     pub fn number(&self) -> u32
         ensures { result ≡ number_of self.now }
     {

@@ -62,7 +62,7 @@ impl<B: Block> Hall<B> {
         }
     }
 
-    /// The next turn of a block's worker: what it brings is committed, and its next firings are claimed.
+    /// The next turn of a block's worker: what it has done is committed, and its next firings are claimed.
     pub fn turn(
         &mut self,
         alloc: Global,

@@ -19,7 +19,7 @@ use std::sync::{Arc, Mutex, Wait};
 use std::thread;
 use std::thread::{JoinHandle, Parker, Threads};
 
-/// The same with the gate that does nothing.
+/// As `launch_with`, with the gate that does nothing.
 pub fn launch_open<B: Block + Send + Sync + 'static, R: Threads + Wait + Copy + Send + 'static>(
     rt: R,
     alloc: Global,
@@ -69,8 +69,9 @@ struct Prepared<B: Block> {
     workers: Vec<JoinHandle<()>>,
 }
 
-/// Starts a worker for each block of a plant that has no claim in flight. The workers claim, work and commit until all blocks are done, none can
-/// act, or a stop is asked for; each claims at most 1,024 firings at a time. Before each work the gate is passed.
+/// Starts a worker for each block of a plant that has no claim in flight, and returns. The workers claim, work and commit until all blocks are done,
+/// none can act, or a stop is asked for; each claims at most 1,024 firings at a time. Before each work the gate is called. Open sources stay open.
+/// Fails with `RunFault::Memory` or `RunFault::Thread`, which return the plant.
 pub fn launch<
     B: Block + Send + Sync + 'static,
     G: Gate + Drop + Send + Sync + 'static,
@@ -85,7 +86,7 @@ where
     launch_with(rt, alloc, plant, gate, Turns::default())
 }
 
-/// The same with turns of another length.
+/// As `launch`, with turns of another length.
 pub fn launch_with<
     B: Block + Send + Sync + 'static,
     G: Gate + Drop + Send + Sync + 'static,

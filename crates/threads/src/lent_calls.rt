@@ -26,7 +26,7 @@ pub fn claim_in<B: Block>(
     plant.claim(alloc, block, max)
 }
 
-/// Commits what a worker brings, as the plant does.
+/// Commits what a worker has done, as the plant does.
 pub fn commit_in<B: Block>(plant: &mut Plant<B>, worked: Worked<B>) -> Result<Did, Worked<B>>
     ensures { IsTaken (λ d. machine.Did d.0) (commit_of (net_of B.meaning plant.old.graph) plant.old.state (is_own B.eq plant.old.graph worked.graph worked.job.block) worked.job) plant.old plant.new worked result }
 {

@@ -197,7 +197,7 @@ impl<B: Block> Recorded<B> {
         }
     }
 
-    /// Commits what a worker brings. It takes no memory.
+    /// Commits what a worker has done. It takes no memory.
     pub fn commit(&mut self, worked: Worked<B>) -> Result<Did, Worked<B>>
         ensures { IsBack B.meaning (commit_of (net_of B.meaning self.old.plant.graph) self.old.plant.state (is_own B.eq self.old.plant.graph worked.graph worked.job.block) worked.job) self.old self.new worked worked.job.block result }
     {

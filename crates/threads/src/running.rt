@@ -39,7 +39,7 @@ impl<B: Block, G: Gate + Drop> Model for Running<B, G> {
 }
 
 impl<B: Block, G: Gate + Drop> Running<B, G> {
-    /// Asks the workers to leave: each commits what it works on and claims no more. It returns before they have left.
+    /// Asks the workers to leave: each commits what it works on and claims no more. It does not wait for them.
     pub fn stop<R: Wait>(&mut self, rt: &R)
         ensures { self.new ≡ record self.old { asked = true } }
     {
@@ -54,12 +54,13 @@ impl<B: Block, G: Gate + Drop> Running<B, G> {
         self.asked
     }
 
-    /// How many items all sources were fed, and how many of these they have given by now. It takes the lock, and looks at each block.
+    /// How many items all sources were fed, and how many of these they have given by now. It takes the lock, and looks at each block. No contract
+    /// says what it returns.
     pub fn headway<R: Wait>(&self, rt: &R) -> Headway {
         self.shared.headway(rt)
     }
 
-    /// As `wait`, and until the workers leave it shows `watch` how far the plant is, each time that its pause is over.
+    /// As `wait`; until the workers leave it calls `watch.show` after each pause, and then `watch.end`.
     pub fn wait_watched<R: Threads + Wait, W: Watch>(
         self,
         rt: &R,
@@ -72,8 +73,8 @@ impl<B: Block, G: Gate + Drop> Running<B, G> {
         self.wait(rt)
     }
 
-    /// Waits until all workers have left, and returns how the run ended. Sinks hold what they got. A claim that was refused memory ends the run
-    /// with `RunFault::Memory`, and the plant may be run again.
+    /// Waits until all workers have left, and returns how the run ended. Sinks hold what they have taken. A claim that runs out of memory ends the
+    /// run with `RunFault::Memory`, and the plant may be run again.
     pub fn wait<R: Threads + Wait>(self, rt: &R) -> Result<Outcome<B>, RunFault<B>>
         ensures ok { IfOk result (EndsIn B.meaning B.eq self.handed self.asked) }
         ensures err { IfErr result (GivesBack B.meaning B.eq self.handed) }
@@ -137,7 +138,7 @@ pub(crate) fn came_back<B: Block>(plant: &Plant<B>, handed: &Handed<B>) -> bool
     plant.idle() && plant.agrees(handed)
 }
 
-/// Runs a plant to its end in threads, one for each block, and waits for that.
+/// Runs a plant to its end in threads, one for each block, and waits for that: `launch` and `wait`. It is never `Stopped`.
 pub fn run<
     B: Block + Send + Sync + 'static,
     G: Gate + Drop + Send + Sync + 'static,
@@ -152,7 +153,7 @@ where
     run_with(rt, alloc, plant, gate, Turns::default())
 }
 
-/// The same with turns of another length.
+/// As `run`, with turns of another length.
 pub fn run_with<
     B: Block + Send + Sync + 'static,
     G: Gate + Drop + Send + Sync + 'static,

@@ -3,9 +3,10 @@
 ghost use Rattle.std.specs.Prelude.{◌≡◌, ◌≤◌, Some, None, if◌then◌else◌, ◌&&◌, nat_le};
 ghost use Rattle.std.specs.Option.{option_map};
 
-/// How many firings a worker claims at most in one turn: it takes the lock, commits what it did and claims anew, lets the lock go, and works. A
-/// turn costs some microseconds in the lock and in waking others, whatever it moves; so long turns suit cheap blocks with large buffers, and short
-/// ones let a stop be seen soon. What the sinks hold does not depend on it.
+/// How many firings a worker claims at most in one turn: it takes the lock, commits what it did and claims anew, releases the lock, and works. A
+/// worker also claims no more than half of a buffer that its block fills or empties, but at least one firing. A turn costs some microseconds in the
+/// lock and in waking others, whatever it moves; so long turns suit cheap blocks with large buffers, and with short ones a stop takes effect sooner.
+/// What the sinks hold does not depend on it.
 #[derive(Clone, Copy, Debug)]
 pub struct Turns {
     most: u32,
@@ -13,13 +14,13 @@ pub struct Turns {
     ghost few: { most ≤ 65536 },
 }
 
-/// The firings of a turn where nobody asks for another number.
+/// The firings of a turn by default.
 const USUAL: u32 = 1024;
 /// The most firings of a turn.
 const MOST: u32 = 65_536;
 
 impl Turns {
-    /// Turns of at most so many firings, from 1 to 65,536; for any other number there are none.
+    /// Turns of at most so many firings, from 1 to 65,536; `None` for any other number.
     pub fn new(most: u32) -> Option<Turns>
         ensures { option_map (λ turns. turns.most) result ≡ (if nat_le 1 most && nat_le most 65536 then Some most else None) }
     {

@@ -9,7 +9,7 @@ use flowgraph::BlockId;
 use kinds::Kind;
 use plant::Plant;
 
-/// Closes each tape that is open. It takes no memory, and no claim.
+/// Closes each tape that is open. It takes no memory, makes no claim, and cannot fail.
 pub fn close_all(plant: &mut Plant<Kind>)
     ensures closed { plant.new ≡ with_all_closed meaning_of plant.old }
     ensures idle { is_idle plant.old.state ≡ true → is_idle plant.new.state ≡ true }

@@ -46,7 +46,7 @@ impl Model for TopBlock {
 }
 
 impl TopBlock {
-    /// The top block of a graph of which nothing is fed. Without memory for it the graph comes back.
+    /// The top block of a graph of which nothing is fed, as `Plant::open`. It fails only where the allocator refuses, and then returns the graph.
     pub fn from_graph(
         alloc: Global,
         graph: Valid<Kind>,
@@ -60,7 +60,7 @@ impl TopBlock {
         }
     }
 
-    /// The top block of a plant that has no claim in flight, wherever its blocks are.
+    /// The top block of a plant that has no claim in flight, however far its blocks are.
     pub fn from_plant(plant: Plant<Kind>) -> TopBlock
         requires { is_idle plant.state ≡ true }
         ensures { result ≡ plant }
@@ -75,14 +75,15 @@ impl TopBlock {
         &self.plant
     }
 
-    /// Appends items to a source's tape, with marks on them, as `Plant::feed` does.
+    /// Appends items to a source's tape, with marks on them, as `Plant::feed` does, with its refusals.
     pub fn feed(&mut self, source: BlockId, items: Items, marks: &[Mark]) -> Result<Fed, PlantFault>
         ensures { Answered (feed_of (net_of meaning_of self.old.graph) self.old.state source.0 (type_of items) (numbers_of items) (map mark_of marks.now)) self.old self.new (reply_of (λ f. machine.Fed f.0) result) }
     {
         self.plant.feed(source, items, marks)
     }
 
-    /// Closes each source that is open, and starts a thread for each block.
+    /// Closes each source that is open, starts a thread for each block, and returns. Fails with `RunFault::Memory` or `RunFault::Thread`, which
+    /// return the plant with its sources closed.
     pub fn start<R: Threads + Wait + Copy + Send + 'static>(
         self,
         rt: R,
@@ -94,7 +95,7 @@ impl TopBlock {
         self.start_turns(rt, alloc, Turns::default())
     }
 
-    /// The same with turns of another length.
+    /// As `start`, with turns of another length.
     pub fn start_turns<R: Threads + Wait + Copy + Send + 'static>(
         self,
         rt: R,
@@ -109,7 +110,8 @@ impl TopBlock {
         launch_open(rt, alloc, plant, turns)
     }
 
-    /// Closes each source that is open, runs the plant in threads, and waits for its end. Nobody asks it to stop.
+    /// Closes each source that is open, runs the plant in threads, and waits for its end, which is never `Stopped`. Fails as `start` and
+    /// `Running::wait` do.
     pub fn run<R: Threads + Wait + Copy + Send + 'static>(
         self,
         rt: R,
@@ -124,7 +126,7 @@ impl TopBlock {
         }
     }
 
-    /// The same past a gate, and with turns of any length.
+    /// As `run`, with a gate and turns of any length.
     pub fn run_with<
         G: Gate + Drop + Send + Sync + 'static,
         R: Threads + Wait + Copy + Send + 'static,
@@ -143,8 +145,9 @@ impl TopBlock {
         run_with(rt, alloc, plant, gate, turns)
     }
 
-    /// Starts a worker for each block and a thread for each caller, and waits until all callers have returned and the plant has come to rest. Sources
-    /// that are open stay open: callers feed and close them. A run that ends with one open is `Stalled`.
+    /// Starts a worker for each block and a thread for each of at most 16 callers, and waits until all callers have returned and the plant has come
+    /// to rest. Sources that are open stay open: callers feed and close them. A run that comes to rest while one is open and
+    /// still read is `Stalled`. Fails as `threads::live` does.
     pub fn start_live<
         G: Gate + Drop + Send + Sync,
         C: Caller<Kind> + Drop + Send,
@@ -164,7 +167,7 @@ impl TopBlock {
         self.start_live_watched(rt, alloc, gate, callers, Turns::default(), &mut Unwatched)
     }
 
-    /// The same with turns of another length. Once all callers have returned, it shows `watch` how far the plant is.
+    /// As `start_live`, with turns of another length. Once all callers have returned, it calls `watch.show` after each pause, and then `watch.end`.
     pub fn start_live_watched<
         G: Gate + Drop + Send + Sync,
         C: Caller<Kind> + Drop + Send,
