@@ -19,7 +19,7 @@ pub record IsSingle (m : Meaning) : Type 0 where
 abbrev pub IsFillOf : Meaning → List model.Held → List (List ℤ) → ℕ → ℕ → ℕ → Items → List Held → Type 0
 IsFillOf m ts xs first n state window held = IsFed m ts xs first n state (numbers_of window ∷ []) (map held_of held)
 
--- what some streams and settings bring, where each value that was set is one that the block takes, over counts that fit a word
+-- what comes from some streams and settings, where each value that was set is one that the block takes, over counts that fit a word
 pub record CanFill (m : Meaning) (first n state : ℕ) (window : Items) (held : List Held) (out : Items) : Type 0 where
   pub settings : List model.Held
   pub streams : List (List ℤ)

@@ -33,7 +33,7 @@ most_windows Work inputs = inputs.most
 most_windows Keep inputs = inputs.most
 most_windows Discard inputs = inputs.most
 
--- what `work` may be called with: what some streams and settings bring, where each value that was set is one that the block takes,
+-- what `work` may be called with: what comes from some streams and settings, where each value that was set is one that the block takes,
 -- over counts that fit a word
 pub record CanWork (m : Meaning) (first n state : ℕ) (windows : List Items) (held : List Held) (out : List Items) : Type 0 where
   pub settings : List model.Held

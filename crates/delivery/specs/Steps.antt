@@ -40,7 +40,7 @@ pub record CanLeaveAll (net : Network) (buffers : List (List OutputBuffer)) (b :
   pub inside : b < length net.nodes
   pub turns : (q : ℕ) → q < length (writers_of net b) → CanTake net (released_buffers net (take q (writers_of net b)) buffers) (writer_of net b q) 0
 
--- output p can be given these items with the tags that the firings bring, which have room in the buffer and in a list of this capacity
+-- output p can be given these items with the tags that the firings add, which have room in the buffer and in a list of this capacity
 pub record CanGiveTo (net : Network) (hs : List Intake) (rows : List (List BufferState)) (capacity b p k next : ℕ) (out : Items) : Type 0 where
   pub block : b < length rows
   pub port : p < length (slice_index_or rows b [])

@@ -28,7 +28,7 @@ impl TapLane for i32 {
     }
 }
 
-// The sum over `2 ^ shift`, a half upwards.
+// The sum over `2 ^ shift`, rounded to the nearest; ties round up.
 fn rounded(sum: i64, shift: u32) -> i64
     requires shift { shift ≤ 31 }
     requires sum { unsigned_abs sum ≤ 2 ^ 60 }

@@ -1,4 +1,4 @@
--- A job that is brought back, beside what is stored.
+-- A job that is given back, beside what is stored.
 use Rattle.std.specs.Prelude.{ℕ, ◌<◌, ◌≡◌, List, Option, Some, None, Bool, false, slice_get}
 use Rattle.stream_model.specs.Network.{Network, Progress, progress_at}
 use Rattle.stream_model.specs.Machine.{Capacities, Job}

@@ -64,7 +64,7 @@ side_of model.Out = Out
 abbrev pub id : ℕ → BlockId
 id b = record { 0 = b }
 
--- a refusal of the model, where this is what there are too many of. Where there is none, nothing but memory can be wanting
+-- a refusal of the model, where this is what there are too many of. Where there is none, it can only be out of memory
 abbrev pub reported : Limit → Option model.GraphFault → GraphFault
 reported l None = Memory
 reported l (Some model.DuplicateName) = DuplicateName

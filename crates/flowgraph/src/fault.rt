@@ -86,7 +86,7 @@ pub enum GraphFault {
     Gain {
         block: BlockId,
     },
-    /// Memory ran out.
+    /// Out of memory.
     Memory,
 }
 

@@ -89,7 +89,7 @@ fn interpolation_of<B: Block>(entry: &Entry<B>) -> u64
     }
 }
 
-// No product above the limit is told from the next number.
+// All products above the limit count as the next number.
 fn cap(gains: &mut [u64])
     ensures { (b : ℕ) → b < length gains.old → slice_index gains.new b ≡ min (most_gain + 1) (slice_index gains.old b) }
 {

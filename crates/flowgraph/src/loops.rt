@@ -14,7 +14,7 @@ use crate::ports::cleared;
 use crate::ranks::ranks;
 use std::alloc::{AllocError, Global};
 
-/// The lowest block that reaches itself. Ranks tell of most blocks at once that they do not.
+/// The lowest block that reaches itself. Ranks rule out most blocks at once.
 pub fn loop_fault(
     alloc: Global,
     blocks: usize,

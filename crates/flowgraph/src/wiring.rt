@@ -14,7 +14,7 @@ use crate::ports::MOST_PORTS;
 use crate::rows::Rows;
 use std::alloc::{AllocError, Global};
 
-/// The tables that tell how blocks are wired.
+/// Tables of how blocks are wired.
 #[derive(Drop)]
 pub struct Wiring {
     // For each block its inputs.

@@ -23,7 +23,7 @@ pub data Refusal : Type 0 where
   negative_port : List ℕ → Side → ℤ → Refusal
   of_feed : ℕ → ℕ → Refusal
 
--- a block's name has at most 32 bytes; a longer text is none, and is not told
+-- a block's name has at most 32 bytes; a longer text is none, and is not reported
 abbrev pub short : List ℕ → List ℕ
 short name = if nat_le (length name) 32 then name else []
 
@@ -32,7 +32,7 @@ abbrev pub end_text : EndName → List ℕ
 end_text (ends.Short name) = name.bytes
 end_text (ends.Long name) = string_bytes name
 
--- the refusal that a fault reports; none where memory ran out
+-- the refusal that a fault reports; none where it is out of memory
 abbrev pub told : FileFault → Option Refusal
 told file.Syntax = Some syntax
 told (file.Table place fault) = Some (at_table place fault)
@@ -50,7 +50,7 @@ IsTold r (Some refusal) = r ≡ Err refusal
 abbrev pub IsRefused : {A : Type 0} → Result A Refusal → FileFault → Type 0
 IsRefused r fault = IsTold r (told fault)
 
--- the refusal that a fault of a table is, and a refused feed; none where memory ran out
+-- the refusal that a fault of a table is, and a refused feed; none where it is out of memory
 abbrev pub told_table : Place → KeyFault → Option Refusal
 told_table place key.UnknownKey = Some (at_table place key.UnknownKey)
 told_table place (key.MissingKey k) = Some (at_table place (key.MissingKey k))

@@ -62,7 +62,7 @@ pub enum FileFault {
         feed: usize,
         fault: PlantFault,
     },
-    /// Memory ran out.
+    /// Out of memory.
     Memory,
 }
 

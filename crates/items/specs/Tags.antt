@@ -20,7 +20,7 @@ tag_order a b = model.tag_cmp (tag_of a) (tag_of b)
 pub tag_order-total : IsTotalOrder tag_order
 tag_order-total = on_total tag_of tag_total
 
--- and that it does not tell apart what is equal
+-- and that it does not distinguish what is equal
 abbrev pub tag_eq : Tag → Tag → Bool
 tag_eq a b = nat_eq a.offset b.offset && (pointwise nat_eq a.key b.key && (int_eq a.value b.value && nat_eq a.source b.source))
 

@@ -12,7 +12,7 @@ use std::fmt;
 pub enum ItemFault {
     /// A number lies outside its type's range, or a place outside the items.
     ItemRange,
-    /// Memory ran out.
+    /// Out of memory.
     Memory,
 }
 

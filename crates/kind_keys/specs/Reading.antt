@@ -19,12 +19,12 @@ abbrev pub carried : ParamFault → KeyFault
 carried (param.BadParameter p) = BadParameter p
 carried param.Memory = Memory
 
--- a fault names the bad parameter; or memory ran out, of a kind that takes some, for a block without a bad one
+-- a fault names the bad parameter; or it was out of memory, of a kind that takes some, for a block without a bad one
 abbrev pub IsBad : Bool → Result Meaning Parameter → ParamFault → Type 0
 IsBad takes r (param.BadParameter p) = r ≡ Err p
 IsBad takes r param.Memory = (takes && is_ok r) ≡ true
 
--- a fault is what is wrong with a table; or memory ran out, where making the block takes some
+-- a fault is what is wrong with a table; or it was out of memory, where making the block takes some
 abbrev pub IsRefused : {A : Type 0} → Bool → Result A KeyFault → KeyFault → Type 0
 IsRefused takes r UnknownKey = r ≡ Err UnknownKey
 IsRefused takes r (MissingKey k) = r ≡ Err (MissingKey k)

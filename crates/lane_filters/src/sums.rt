@@ -45,7 +45,7 @@ fn half_of(shift: u32) -> i64
     i64::from((1u32 << shift) / 2)
 }
 
-/// The sum over `2 ^ shift`, a half upwards.
+/// The sum over `2 ^ shift`, rounded to the nearest; ties round up.
 #[inline(always)]
 pub(crate) fn rounded(sum: i64, shift: u32) -> i64
     requires shift { shift ≤ 31 }
@@ -55,7 +55,7 @@ pub(crate) fn rounded(sum: i64, shift: u32) -> i64
     (sum + half_of(shift)) >> shift
 }
 
-/// Each sum over `2 ^ shift`, a half upwards.
+/// Each sum over `2 ^ shift`, rounded to the nearest; ties round up.
 #[inline(always)]
 pub(crate) fn rounded_lanes(sums: i64x8, shift: u32) -> i64x8
     requires shift { shift ≤ 31 }

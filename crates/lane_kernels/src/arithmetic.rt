@@ -113,7 +113,7 @@ pub fn mul_wrap<T: SimdLane>(a: &[T], c: T, out: &mut [T])
 }
 
 /// Multiplies each item by `factor` and divides by two to the power of `shift`, to the nearest
-/// number of the type, a half upwards.
+/// number of the type; ties round up.
 #[tactic(auto, using(crate::proofs::Listed::mapped_is_listed))]
 #[inline(always)]
 pub fn scale_sat<T: SimdLane>(a: &[T], factor: i16, shift: u32, out: &mut [T])

@@ -6,7 +6,7 @@ ghost use Rattle.lane_kernels.specs.Blocks.{IsWithin, clamped};
 
 use std::simd::prelude::*;
 
-/// Over 2 to the power of `shift`, a half upwards, and then the nearest number from `least` to
+/// Over 2 to the power of `shift` (ties round up), and then the nearest number from `least` to
 /// `greatest`. The half is added after all places but one are shifted out: before, the sum may be
 /// too large for a lane.
 #[inline(always)]

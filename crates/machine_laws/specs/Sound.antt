@@ -20,7 +20,7 @@ pub record MayBecome (hs hs' : List Handed) : Type 0 where
   pub stay_closed : (b : ℕ) → (handed_at hs b).closed ≡ true → (handed_at hs' b).closed ≡ true
   pub ended : (b : ℕ) → (handed_at hs b).closed ≡ true → (handed_at hs' b).tape ≡ (handed_at hs b).tape
 
--- k firings are all that the streams which enter block b will ever allow, whatever is handed from now on
+-- k firings are all that the streams which enter block b will ever allow, whatever is handed later
 abbrev pub AreAll : Network → List Handed → ℕ → ℕ → Type 0
 AreAll net hs b k = (hs' : List Handed) → MayBecome hs hs' → k ≡ fires (node_at net b) (map length (entering net hs' b))
 

@@ -49,7 +49,7 @@ CommitsAddTheirWork =
     ≡ take (given_by n (fired st b)) (items_of net st.handed b p)
     ++ given_items n.meaning (handed_at st.handed b).settings (entering net st.handed b) (n.multiple * fired st b) (n.multiple * (progress_at st.progress b).claimed) p
 
--- the tags too: in order, those that the firings before brought, with those that the claim's bring put in, are the output's on the items given so far
+-- the tags too: in order, those that the firings before added, with those that the claim's add put in, are the output's on the items given so far
 pub record AddsItsTags (net : Network) (st : State) (b p : ℕ) : Type 0 where
   pub before : tags_within 0 (given_by (node_at net b) (fired st b)) (sorted_tags (brought (node_at net b) p 0 (fired st b) (tags_in net st.handed b)))
       ≡ tags_within 0 (given_by (node_at net b) (fired st b)) (tags_of net st.handed b p)

@@ -21,7 +21,7 @@ use Rattle.plant.specs.declared.fault.PlantFault.TheVariants.{NoSuchBlock, NotSo
 use Rattle.plant.specs.Fault.{number_of}
 use Rattle.plant.specs.Plant.{PlantState}
 
--- a refusal is a reply, unless memory ran out
+-- a refusal is a reply, unless it is out of memory
 abbrev pub refusal_of : PlantFault → Option Reply
 refusal_of Memory = None
 refusal_of (Late floor) = Some (machine.Late floor)
@@ -52,7 +52,7 @@ takes_memory (machine.Did count) = true
 takes_memory (machine.Piece from held items tags done) = true
 takes_memory _ = false
 
--- a call took a plant from one state to the next: it answered as the machine does now, or memory ran out and nothing changed
+-- a call took a plant from one state to the next: it answered as the machine does now, or was out of memory, and nothing changed
 abbrev pub Answered : {B : Type 0} → Reply × State → PlantState B → PlantState B → Option Reply → Type 0
 Answered now old new None = (takes_memory now.0 ≡ true) × (new ≡ old)
 Answered now old new (Some reply) = (reply ≡ now.0) × (new ≡ record old { state = now.1 })
@@ -61,7 +61,7 @@ Answered now old new (Some reply) = (reply ≡ now.0) × (new ≡ record old { s
 abbrev pub AnsweredAlways : {B : Type 0} → Reply × State → PlantState B → PlantState B → Option Reply → Type 0
 AnsweredAlways now old new reply = (reply ≡ Some now.0) × (new ≡ record old { state = now.1 })
 
--- a call that only looks answered as the machine does, or memory ran out
+-- a call that only looks answered as the machine does, or was out of memory
 abbrev pub AnsweredBy : Reply × State → Option Reply → Type 0
 AnsweredBy now None = takes_memory now.0 ≡ true
 AnsweredBy now (Some reply) = reply ≡ now.0
@@ -98,7 +98,7 @@ IsOf g claim.Done = ⊤
 IsOf g claim.Busy = ⊤
 IsOf g (claim.Waiting need) = ⊤
 
--- a job that was brought was taken, or it comes back and nothing changed, as the machine says
+-- a job that was handed in was taken back, or it is returned and nothing changed, as the machine says
 abbrev pub IsTaken : {B R J : Type 0} → (R → Reply) → Reply × State → PlantState B → PlantState B → J → Result R J → Type 0
 IsTaken ok now old new job (Ok r) = (now.0 ≡ ok r) × (new ≡ record old { state = now.1 })
 IsTaken ok now old new job (Err back) = (now.0 ≡ Refused machine.foreign) × (back ≡ job) × (new ≡ old)

@@ -6,12 +6,12 @@ use Rattle.stream_model.specs.Machine.{Capacities, Call, Feed, Close, Set, Claim
 use Rattle.plant.specs.Plant.{PlantState}
 use Rattle.plant.specs.Answers.{Answered, AnsweredAlways, AnsweredBy}
 
--- a call that was made, and its reply: none where memory ran out
+-- a call that was made, and its reply: none where it is out of memory
 pub record Made : Type 0 where
   pub call : Call
   pub reply : Option Reply
 
--- work that was brought back was taken as the machine takes it, or came back and nothing changed
+-- work that was handed in was taken back as by the machine, or returned and nothing changed
 abbrev pub IsBroughtBack : {B : Type 0} → Reply × State → PlantState B → PlantState B → Option Reply → Type 0
 IsBroughtBack now old new reply = AnsweredAlways now old new reply ⊎ ((reply ≡ Some (Refused foreign)) × (now.0 ≡ Refused foreign) × (new ≡ old))
 
@@ -30,7 +30,7 @@ abbrev pub Leads : {B : Type 0} → Network → PlantState B → List Made → P
 Leads net old [] new = new ≡ old
 Leads {B} net old (m ∷ ms) new = (mid : PlantState B) × Says m.call (next net old.capacities old.state m.call) old mid m.reply × Leads net mid ms new
 
--- the calls that were not refused memory, and their replies
+-- the calls that were not out of memory, and their replies
 abbrev pub with_call : Option Reply → Call → List Call → List Call
 with_call None call calls = calls
 with_call (Some reply) call calls = call ∷ calls
@@ -47,7 +47,7 @@ abbrev pub replies_to : List Made → List Reply
 replies_to [] = []
 replies_to (m ∷ ms) = with_reply m.reply (replies_to ms)
 
--- they are a run of the machine: replies and state are those of the calls that were not refused memory
+-- they are a run of the machine: replies and state are those of the calls that were not out of memory
 pub record IsRun {B : Type 0} (net : Network) (old : PlantState B) (made : List Made) (new : PlantState B) : Type 0 where
   pub replies : replies_to made ≡ (run_of net old.capacities old.state (answered_calls made)).0
   pub left : new ≡ record old { state = (run_of net old.capacities old.state (answered_calls made)).1 }

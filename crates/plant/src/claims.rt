@@ -99,7 +99,7 @@ impl<B: Block> Parts<B> {
         decision
     }
 
-    // The job of the claim in flight of a block. Without memory for it the claim is given up.
+    // The job of the claim in flight of a block. If it is out of memory the claim is given up.
     fn job(
         &mut self,
         alloc: Global,
@@ -147,7 +147,7 @@ impl<B: Block> Parts<B> {
         Ok(Job::new(graph, block, first, count, word, lent))
     }
 
-    // Does the firings of the claim in flight of a block and commits them. Without memory for it the claim is given up.
+    // Does the firings of the claim in flight of a block and commits them. If it is out of memory the claim is given up.
     fn fire(
         &mut self,
         alloc: Global,

@@ -36,7 +36,7 @@ pub enum PlantFault {
     BeyondEnd,
     /// The block has no used output of this number.
     NoSuchPort,
-    /// Memory ran out.
+    /// Out of memory.
     Memory,
 }
 

@@ -25,7 +25,7 @@ struct Fresh {
 }
 
 impl<B: Block> Parts<B> {
-    /// The parts of a graph of which nothing is fed and nothing fired. Without memory for them the graph comes back.
+    /// The parts of a graph of which nothing is fed and nothing fired. If it is out of memory it returns the graph.
     pub fn open(alloc: Global, graph: Valid<B>) -> Result<Parts<B>, (Valid<B>, AllocError)>
         ensures right { IfOk result (IsRight B.meaning) }
         ensures opens { IfOk result (λ parts. plant_of parts ≡ opening_plant B.meaning graph) }

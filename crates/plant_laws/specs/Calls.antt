@@ -50,7 +50,7 @@ EndingHolds = WhereHolds (λ net caps st stored. (b max : ℕ) → b < length ne
 abbrev pub AbandoningHolds : Type 0
 AbandoningHolds = WhereHolds (λ net caps st stored. (own : Bool) (job : Job) → LeadsTo net caps st (Abandon own job) Abandoned stored)
 
--- the reply may tell of a change
+-- the reply may report a change
 abbrev pub tells_change : Reply → Bool
 tells_change (Fed total) = true
 tells_change (Closed total) = true

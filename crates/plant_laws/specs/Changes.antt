@@ -71,7 +71,7 @@ with_released net stored b = record stored { buffers = released_buffers net (wri
 abbrev pub tags_waiting : Network → Stored → ℕ → List (List Tag)
 tags_waiting net stored b = map (λ c. (buffer_at stored c.from c.out_port).tags) (writers_of net b)
 
--- the tags that firings from k up to the next ones bring to output p: a source's are those on its items
+-- the tags that firings from k up to the next ones add to output p: a source's are those on its items
 abbrev pub tags_brought : Network → Stored → ℕ → ℕ → ℕ → ℕ → List Tag
 tags_brought net stored b p k next =
     elim (is_source (role_at net b)) [
@@ -95,7 +95,7 @@ collected_sinks net stored job =
     (tags_within job.first (job.first + job.count) (slice_index_or (tags_waiting net stored job.block) 0 [])))
     else stored.sinks
 
--- a commit gives the outputs the job's items and the tags that its firings bring, takes what they took, and keeps the new state word
+-- a commit gives the outputs the job's items and the tags that its firings add, takes what they took, and keeps the new state word
 abbrev pub with_committed : Network → Capacities → State → Stored → Job → List (List ℤ) → ℕ → Stored
 with_committed net caps st stored job outputs word =
     let b = job.block in

@@ -58,7 +58,7 @@ pub record ServesInput (net : Network) (st : State) (stored : Stored) (b count p
       let c = writer_of net b p in
       tags_within from to (input_buffer net stored b p).tags ≡ tags_within from to (tags_of net st.handed c.from c.out_port)
 
--- an output that is still read has room for what these firings give, and the tags that they bring lie behind what it has
+-- an output that is still read has room for what these firings give, and the tags that they add lie behind what it has
 pub record ServesOutput (net : Network) (caps : Capacities) (st : State) (stored : Stored) (b count p : ℕ) : Type 0 where
   pub written : (buffer_at stored b p).ring.written ≡ given_by (node_at net b) (fired st b)
   pub room : given_by (node_at net b) (fired st b + count) - given_by (node_at net b) (fired st b) ≤ room_of (buffer_at stored b p).ring

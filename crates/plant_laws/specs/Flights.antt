@@ -1,4 +1,4 @@
--- What a claim in flight brings is settled when it is made.
+-- What a claim in flight will add is settled when it is made.
 use Rattle.std.specs.Prelude.{ℕ, ◌<◌, ◌≡◌, length}
 use Rattle.stream_model.specs.Tags.{tags_within}
 use Rattle.stream_model.specs.Network.{Network, node_at, progress_at, writers_of, used_outputs, taken_by}
@@ -10,7 +10,7 @@ use Rattle.plant_laws.specs.Changes.{tags_brought}
 use Rattle.plant_laws.specs.Claims.{input_buffer}
 use Rattle.plant_laws.specs.Calls.{WhereHolds}
 
--- the firings of block b from k up to the next ones take the same tags of each input, and bring the same to each output
+-- the firings of block b from k up to the next ones take the same tags of each input, and add the same to each output
 pub record BringsTheSame (net : Network) (old new : Stored) (b k next : ℕ) : Type 0 where
   pub taken : (q : ℕ) → q < length (writers_of net b) → let from = taken_by (node_at net b) q k in let to = taken_by (node_at net b) q next in
       tags_within from to (input_buffer net new b q).tags ≡ tags_within from to (input_buffer net old b q).tags

@@ -52,7 +52,7 @@ greatest_history net b p = fold (λ h (c : Connection). max h (node_at net c.to)
 abbrev pub has_no_reader : Network → Capacities → State → ℕ → ℕ → Bool
 has_no_reader net caps st b p = is_abandoned (output_counts net caps st b p)
 
--- the tags that the first k firings of block b brought to output p, in order: a source's are those on its first k items
+-- the tags that the first k firings of block b added to output p, in order: a source's are those on its first k items
 abbrev pub tags_given : Network → List Handed → ℕ → ℕ → ℕ → List Tag
 tags_given net hs b p k =
     elim (is_source (role_at net b)) [
@@ -61,7 +61,7 @@ tags_given net hs b p k =
     ]
 
 -- a buffer shows the items that its block's committed firings gave: their number, the last of them, and the tags that these firings
--- brought, from the slowest reader's place on
+-- added, from the slowest reader's place on
 pub record ShowsOutput (net : Network) (st : State) (b p : ℕ) (buffer : OutputBuffer) : Type 0 where
   pub written : buffer.ring.written ≡ given_by (node_at net b) (fired st b)
   pub items : buffer.ring.kept ≡ keep_last (most_kept buffer.ring.capacity buffer.ring.greatest) (take (given_by (node_at net b) (fired st b)) (items_of net st.handed b p))

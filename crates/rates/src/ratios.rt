@@ -35,7 +35,7 @@ fn first_unknown(known: &[Option<Fraction>]) -> Option<usize>
     known.iter().position(|f| f.is_none())
 }
 
-/// The next ratio and its block: the one that a connection tells, and where there is none 1 for the lowest block without a ratio.
+/// The next ratio and its block: the one that a connection gives, and where there is none 1 for the lowest block without a ratio.
 fn next_ratio(links: &[Link], known: &[Option<Fraction>]) -> Option<(usize, Fraction)>
     ghost net: { Network }
     requires { CanTell net links.now known.now }

@@ -7,7 +7,7 @@ pub record Settings : Type 0 where
   pub own : model.Value
   pub settings : List model.Held
 
--- from item first on, what is in force is what the settings ts bring
+-- from item first on, what is in force is what the settings ts put in force
 abbrev pub ReadsAs : Settings → ℕ → List model.Held → Type 0
 ReadsAs s first ts = (a : ℕ) → first ≤ a → model.setting_at s.own s.settings a ≡ model.setting_at s.own ts a
 

@@ -12,7 +12,7 @@ use std::fmt;
 pub enum SettingFault {
     /// The item lies below the first that may still be set.
     Late { floor: u64 },
-    /// Memory ran out.
+    /// Out of memory.
     Memory,
 }
 

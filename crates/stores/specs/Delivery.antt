@@ -23,7 +23,7 @@ is_read buffer = is_some (slowest_of buffer.ring.readers)
 abbrev pub delivered_to : OutputBuffer → List ℤ → List Tag → OutputBuffer
 delivered_to buffer xs ts = if is_read buffer then pushed buffer xs ts else buffer
 
--- the buffers, where the outputs of block b got these items and the tags that firings from k up to the next ones bring
+-- the buffers, where the outputs of block b got these items and the tags that firings from k up to the next ones add
 abbrev pub delivered_buffers : Network → Stored → ℕ → ℕ → ℕ → List (List ℤ) → List (List OutputBuffer)
 delivered_buffers net stored b k next outputs =
     slice_set stored.buffers b (map (λ p. delivered_to (buffer_at stored b p) (input outputs p) (tags_brought net stored b p k next)) (below (used_outputs net b)))
@@ -43,7 +43,7 @@ delivered net stored b k next windows outputs word = record stored {
   sinks = delivered_sinks net stored b k next windows;
 }
 
--- an output that is still read takes these items and the tags that the firings bring
+-- an output that is still read takes these items and the tags that the firings add
 pub record CanGive (net : Network) (stored : Stored) (b p k next : ℕ) (out : Items) : Type 0 where
   pub type : type_of out ≡ (buffer_at stored b p).item
   pub room : is_read (buffer_at stored b p) ≡ true → length (numbers_of out) ≤ room_of (buffer_at stored b p).ring

@@ -87,7 +87,7 @@ buffer_state s b p = slice_index_or (slice_index_or (rows_in s) b []) p no_buffe
 abbrev pub sink_state : Stores → ℕ → RecordingState
 sink_state s b = slice_index_or s.sinks.items b no_sink
 
--- there is room for all that the commit of these firings stores: for the tags that they bring to each output, and, of a sink, for their items
+-- there is room for all that the commit of these firings stores: for the tags that they add to each output, and, of a sink, for their items
 -- and the tags on them
 pub record HasRoom (net : Network) (s : Stores) (b first count : ℕ) : Type 0 where
   pub tags : (p : ℕ) → p < used_outputs net b → length (tags_brought net (stored_in s) b p first (first + count)) ≤ (buffer_state s b p).spare

@@ -16,6 +16,6 @@ pub record TapeState : Type 0 where
 abbrev pub blank_tape : ItemType → TapeState
 blank_tape t = record { item = t; items = []; tags = []; marks = [] }
 
--- with items more at its end, and marks on them, which are tags of source b from now on
+-- with items more at its end, and marks on them, which become tags of source b
 abbrev pub longer_tape : TapeState → ℕ → List ℤ → List Mark → TapeState
 longer_tape t b xs ms = let more = map (tag_of b) ms in record t { items = t.items ++ xs; tags = insert_tags more t.tags; marks = t.marks ++ more }

@@ -14,6 +14,6 @@ PuttingKeepsOrder = (h : Held) (ts : List Held) → IsRising ts → IsRising (pu
 abbrev pub PuttingReadsAsLast : Type 0
 PuttingReadsAsLast = (own : Value) (h : Held) (ts : List Held) → IsRising ts → (a : ℕ) → setting_at own (put_setting h ts) a ≡ setting_at own (ts ++ h ∷ []) a
 
--- so in force after any calls is what the list of all of them brings
+-- so in force after any calls is what the list of all of them puts in force
 abbrev pub CallsReadAsTheirList : Type 0
 CallsReadAsTheirList = (own : Value) (calls : List Held) (a : ℕ) → setting_at own (settings_after calls) a ≡ setting_at own calls a

@@ -24,7 +24,7 @@ abbrev pub tags_taken : Node → ℕ → ℕ → ℕ → List (List Tag) → Lis
 tags_taken n q from to [] = []
 tags_taken n q from to (t ∷ ts) = tags_within (taken_by n q from) (taken_by n q to) t ∷ tags_taken n (suc q) from to ts
 
--- the tags that these bring to output p
+-- the tags that these add to output p
 abbrev pub brought : Node → ℕ → ℕ → ℕ → List (List Tag) → List Tag
 brought n p from to ts = chosen n.policy n p 0 (tags_taken n 0 from to ts)
 
@@ -33,8 +33,8 @@ abbrev pub insert_tags : List Tag → List Tag → List Tag
 insert_tags [] us = us
 insert_tags (t ∷ ts) us = insert_tag t (insert_tags ts us)
 
--- a list of an output's tags that is kept in order by inserting what each stretch of firings brings: it starts empty, and what a stretch
--- brings may come in any order, doubles too. After k firings it is right below the items that they give, and what comes later lies behind
+-- a list of an output's tags that is kept in order by inserting what each stretch of firings adds: it starts empty, and what a stretch
+-- adds may come in any order, with duplicates. After k firings it is right below the items that they give, and what comes later lies behind
 pub record IsInTime (n : Node) (ts : List (List Tag)) (p : ℕ) (tags : List Tag) (items : ℕ) : Type 0 where
   pub none : brought n p 0 0 ts ≡ []
   pub next : (from to : ℕ) (us : List Tag) → from ≤ to → IsPermutation us (brought n p from to ts) →

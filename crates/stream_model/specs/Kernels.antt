@@ -24,7 +24,7 @@ add_const_wrap t a c = listed (length a) (λ n. wrap t (item a n +ℤ c))
 abbrev pub mul_wrap : ItemType → List ℤ → ℤ → List ℤ
 mul_wrap t a c = listed (length a) (λ n. wrap t (item a n *ℤ c))
 
--- z * factor / 2 ^ shift, rounded, a half upwards, and saturated (textbook fixed-point arithmetic)
+-- z * factor / 2 ^ shift, rounded (ties round up) and saturated (textbook fixed-point arithmetic)
 abbrev pub scaled : ItemType → ℤ → ℕ → ℤ → ℤ
 scaled t factor shift z = sat t (rnd (z *ℤ factor) shift)
 

@@ -25,7 +25,7 @@ pub record Job : Type 0 where
   pub held : List Held
   pub word : ℕ
 
--- the calls. A commit and an abandon bring a job, and whether the block in it is the network's own
+-- the calls. A commit and an abandon hand in a job, and whether the block in it is the network's own
 pub data Call : Type 0 where
   Feed : (block : ℕ) → ItemType → List ℤ → List Mark → Call
   Close : (block : ℕ) → Call

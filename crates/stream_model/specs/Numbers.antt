@@ -61,7 +61,7 @@ wrap Int z = centred 4294967296 (residue z 4294967296)
 abbrev pub sat : ItemType → ℤ → ℤ
 sat t z = if int_lt z (least_of t) then least_of t else if int_lt (greatest_of t) z then greatest_of t else z
 
--- z divided by 2 ^ s, rounded to the nearest whole number, a half upwards
+-- z divided by 2 ^ s, rounded to the nearest whole number; ties round up
 abbrev pub rnd : ℤ → ℕ → ℤ
 rnd z s = if s == 0 then z else floor_div (z +ℤ pos (2 ^ (s - 1))) (2 ^ s)
 

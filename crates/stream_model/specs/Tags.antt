@@ -23,12 +23,12 @@ tag_cmp a b =
     ordering_then (nat_cmp a.offset b.offset)
     (ordering_then (slice_cmp nat_cmp a.key b.key) (ordering_then (int_cmp a.value b.value) (nat_cmp a.source b.source)))
 
--- a sorted list of tags with one more, doubles kept
+-- a sorted list of tags with one more, duplicates kept
 abbrev pub insert_tag : Tag → List Tag → List Tag
 insert_tag t [] = t ∷ []
 insert_tag t (u ∷ us) = if is_gt (tag_cmp t u) then u ∷ insert_tag t us else t ∷ u ∷ us
 
--- tags in order, doubles kept
+-- tags in order, duplicates kept
 abbrev pub sorted_tags : List Tag → List Tag
 sorted_tags [] = []
 sorted_tags (t ∷ ts) = insert_tag t (sorted_tags ts)
@@ -41,6 +41,6 @@ IsOrdered ts = AllPairs (λ t u. is_gt (tag_cmp t u) ≡ false) ts
 abbrev pub tags_within : ℕ → ℕ → List Tag → List Tag
 tags_within from to ts = filter (λ t. nat_le from t.offset && nat_lt t.offset to) ts
 
--- where a tag on input item s goes, at a rate of i items for d: s * i / d to the nearest, a half upwards
+-- where a tag on input item s goes, at a rate of i items for d: s * i / d to the nearest; ties round up
 abbrev pub place_at_rate : ℕ → ℕ → ℕ → ℕ
 place_at_rate d i s = (2 * s * i + d) / (2 * d)

@@ -25,7 +25,7 @@ pub record IsRow (row : List Tag) (len capacity gone : ℕ) : Type 0 where
   pub few : gone ≤ len - gone
   pub fits : 2 * (len - gone) ≤ capacity
 
--- a list of tags in order with more of them, doubles kept
+-- a list of tags in order with more of them, duplicates kept
 abbrev pub insert_tags : List model.Tag → List model.Tag → List model.Tag
 insert_tags [] ts = ts
 insert_tags (t ∷ more) ts = insert_tags more (model.insert_tag t ts)

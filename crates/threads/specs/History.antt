@@ -1,4 +1,4 @@
--- What is noted of the calls that many callers make of one plant, and that it is a run of the machine.
+-- What is recorded of the calls that many callers make of one plant, and that it is a run of the machine.
 use Rattle.std.specs.Prelude.{ℕ, ◌≡◌, List, [], ◌∷◌, map, Option, Some, None, true}
 use Rattle.std.specs.Arc.{arc_value}
 use Rattle.stream_model.specs.Network.{Network, State}
@@ -32,7 +32,7 @@ pub record Noted : Type 0 where
   pub asked : Asked
   pub said : Said
 
--- what an entry notes
+-- what an entry records
 abbrev pub asked_by : Call → Asked
 asked_by (call.Feed f) = let feed = arc_value f in Asks (machine.Feed feed.source.0 (type_of feed.items) (numbers_of feed.items) (map mark_of feed.marks.items))
 asked_by (call.Close b) = Asks (machine.Close b.0)
@@ -58,7 +58,7 @@ said_by (answer.Refused fault) = refused_as (refusal_of fault)
 abbrev pub noted_by : Entry → Noted
 noted_by e = record { caller = e.caller; asked = asked_by e.call; said = said_by e.reply }
 
--- what is noted of a reply
+-- what is recorded of a reply
 abbrev pub said_of : Reply → Said
 said_of (machine.Claimed job) = Hands job.first job.count
 said_of (machine.Fed total) = Says (machine.Fed total)
@@ -79,7 +79,7 @@ abbrev pub call_in : Network → State → Asked → machine.Call
 call_in net st (Asks call) = call
 call_in net st (Brings b) = machine.Commit true (in_flight net st b)
 
--- the calls of the machine that a history notes, from a state on
+-- the calls of the machine that a history records, from a state on
 abbrev pub calls_from : Network → Capacities → State → List Noted → List machine.Call
 calls_from net caps st [] = []
 calls_from net caps st (n ∷ ns) = let call = call_in net st n.asked in call ∷ calls_from net caps (next net caps st call).1 ns

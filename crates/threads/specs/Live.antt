@@ -47,7 +47,7 @@ GivesBackLive meaning eq o (Memory p) = (history : List Noted) × CameTo meaning
 GivesBackLive meaning eq o (Thread p) = (history : List Noted) × CameTo meaning eq o history p
 GivesBackLive meaning eq o Foreign = ⊤
 
--- what was noted of the caller at a desk
+-- what was recorded of the caller at a desk
 abbrev pub is_at : ℕ → CallerId → Bool
 is_at n (caller.Desk m) = m == n
 is_at n (caller.Worker b) = false
@@ -55,6 +55,6 @@ is_at n (caller.Worker b) = false
 abbrev pub noted_at : ℕ → List Noted → List Noted
 noted_at n = filter (λ e. is_at n e.caller)
 
--- each desk's log is what was noted of it, in that order
+-- each desk's log is what was recorded of it, in that order
 abbrev pub AreLogs : List (List Noted) → List Noted → Type 0
 AreLogs logs history = (n : ℕ) → n < length logs → get_or logs n [] ≡ noted_at n history

@@ -1,4 +1,4 @@
--- A plant whose calls are noted.
+-- A plant whose calls are recorded.
 use Rattle.std.specs.Prelude.{ℕ, ◌≡◌, ◌==◌, List, [], ◌∷◌, ◌++◌, sum_by, cond, Option, Some, None, Result, Ok, Err}
 use Rattle.stream_model.specs.Meaning.{Meaning}
 use Rattle.stream_model.specs.Network.{State}
@@ -13,13 +13,13 @@ use Rattle.threads.specs.declared.entry.CallerId.{CallerId}
 use Rattle.threads.specs.declared.entry.CallerId.TheVariants as caller
 use Rattle.threads.specs.History.{Asked, Brings, Says, Noted, IsRunOf, call_in, said_of}
 
--- the plant, where it began, and what was noted since
+-- the plant, where it began, and what was recorded since
 pub record RecordedState (B : Type 0) : Type 0 where
   pub plant : PlantState B
   pub opening : OpeningState B
   pub history : List Noted
 
--- what was noted is a run of the machine from the opening to the plant's state
+-- what was recorded is a run of the machine from the opening to the plant's state
 pub record IsRecord {B : Type 0} (meaning : B → Meaning) (r : RecordedState B) : Type 0 where
   pub graph : r.plant.graph ≡ r.opening.graph
   pub run : IsRunOf (net_of meaning r.plant.graph) r.plant.capacities r.opening.state r.history r.plant.state
@@ -32,19 +32,19 @@ flights_in st = sum_by (λ s. cond (s.claimed == 0) 0 1) st.progress
 abbrev pub now_in : {B : Type 0} → (B → Meaning) → RecordedState B → Asked → Reply × State
 now_in meaning r asked = let net = net_of meaning r.plant.graph in next net r.plant.capacities r.plant.state (call_in net r.plant.state asked)
 
--- the plant is in another state, and more is noted
+-- the plant is in another state, and more is recorded
 abbrev pub moved_on : {B : Type 0} → RecordedState B → State → List Noted → RecordedState B
 moved_on r st more = record r { plant = record r.plant { state = st }; history = r.history ++ more }
 
 abbrev pub note_of : CallerId → Asked → Reply → Noted
 note_of caller asked reply = record { caller = caller; asked = asked; said = said_of reply }
 
--- a call was answered as the machine does now, and noted; or memory ran out and nothing changed
+-- a call was answered as the machine does now, and recorded; or it was out of memory, and nothing changed
 abbrev pub IsNoted : {B : Type 0} → (B → Meaning) → CallerId → Asked → RecordedState B → RecordedState B → Option Reply → Type 0
 IsNoted meaning caller asked old new None = new ≡ old
 IsNoted meaning caller asked old new (Some reply) = let now = now_in meaning old asked in (reply ≡ now.0) × (new ≡ moved_on old now.1 (note_of caller asked reply ∷ []))
 
--- of what a claim answers, only firings that it hands out and the end of the block are noted
+-- of what a claim answers, only firings that it hands out and the end of the block are recorded
 abbrev pub claim_notes : CallerId → Asked → Reply → List Noted
 claim_notes caller asked (machine.Claimed job) = note_of caller asked (machine.Claimed job) ∷ []
 claim_notes caller asked machine.Done = note_of caller asked machine.Done ∷ []
@@ -54,7 +54,7 @@ abbrev pub IsClaimNoted : {B : Type 0} → (B → Meaning) → CallerId → Aske
 IsClaimNoted meaning caller asked old new None = new ≡ old
 IsClaimNoted meaning caller asked old new (Some reply) = let now = now_in meaning old asked in (reply ≡ now.0) × (new ≡ moved_on old now.1 (claim_notes caller asked reply))
 
--- work that was brought back was taken as the machine takes it, and noted; or it comes back and nothing changed
+-- work that was handed in was taken back as by the machine, and recorded; or it is returned and nothing changed
 abbrev pub IsBack : {B J : Type 0} → (B → Meaning) → Reply × State → RecordedState B → RecordedState B → J → (block : ℕ) → Result Did J → Type 0
 IsBack meaning now old new work b (Ok did) = (now.0 ≡ machine.Did did.0) × (new ≡ moved_on old now.1 (record { caller = caller.Worker (id b); asked = Brings b; said = Says (machine.Did did.0) } ∷ []))
 IsBack meaning now old new work b (Err back) = (now.0 ≡ machine.Refused machine.foreign) × (back ≡ work) × (new ≡ old)

@@ -190,7 +190,7 @@ fn rooms_of<B: Block, C: Drop + Send>(
     })
 }
 
-// What a run needs under its lock. It notes where the plant begins once more: what comes out from under the lock is compared with the other.
+// What a run needs under its lock. It records where the plant begins once more: what comes out from under the lock is compared with the other.
 fn locked_rooms_of<B: Block>(
     alloc: Global,
     plant: &Plant<B>,

@@ -1,4 +1,4 @@
-//! What lies under the lock of a run: a plant, or a plant whose calls are noted.
+//! What lies under the lock of a run: a plant, or a plant whose calls are recorded.
 
 ghost use Rattle.std.specs.Prelude.{◌≤◌};
 
@@ -12,9 +12,9 @@ use std::alloc::Global;
 /// What workers make their calls of. What each call does is said by the functions that it calls.
 #[derive(Drop)]
 pub enum Engine<B: Block> {
-    /// Nothing is noted.
+    /// Nothing is recorded.
     Plain(Plant<B>),
-    /// Callers make calls too, and all are noted.
+    /// Callers make calls too, and all are recorded.
     Noted(Recorded<B>),
 }
 

@@ -33,7 +33,7 @@ pub struct Hall<B: Block> {
     pub asked: bool,
     /// Whether the workers are to leave.
     pub ends: bool,
-    /// Whether a claim was refused memory.
+    /// Whether a claim was out of memory.
     pub starved: bool,
 }
 

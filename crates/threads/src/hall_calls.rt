@@ -77,7 +77,7 @@ impl<B: Block> Hall<B> {
         let _ = self.end(woken);
     }
 
-    // A desk stands only where calls are noted.
+    // A desk stands only where calls are recorded.
     fn recorded(&mut self) -> Result<&mut Recorded<B>, PlantFault> {
         match &mut self.engine {
             Engine::Noted(recorded) => Ok(recorded),

@@ -122,7 +122,7 @@ where
     }
 }
 
-// All that a run needs, and a note of what its plant was handed.
+// All that a run needs, and a record of what its plant was handed.
 fn prepare<B: Block>(alloc: Global, plant: Plant<B>) -> Result<Prepared<B>, RunFault<B>>
     requires { is_idle plant.state ≡ true }
     ensures ok { IfOk result (λ p. p.handed ≡ handed_of plant) }

@@ -6,7 +6,7 @@ ghost use Rattle.threads.specs.Live.{AreLogs, noted_at};
 
 use crate::entry::Entry;
 
-/// Whether each log is what was noted of its desk.
+/// Whether each log is what was recorded of its desk.
 pub fn are_logs(logs: &[Vec<Entry>], history: &[Entry]) -> bool
     ensures { IsTrue result → AreLogs (map (λ l. map noted_by l.items) logs.now) (map noted_by history.now) }
 {
@@ -18,7 +18,7 @@ pub fn are_logs(logs: &[Vec<Entry>], history: &[Entry]) -> bool
     true
 }
 
-// Whether a log is what was noted of a desk.
+// Whether a log is what was recorded of a desk.
 fn is_log(log: &[Entry], history: &[Entry], desk: usize) -> bool
     ensures { IsTrue result → map noted_by log.now ≡ noted_at desk (map noted_by history.now) }
 {

@@ -1,4 +1,4 @@
-//! A plant whose calls are noted, as it lies under the lock while callers make calls of it.
+//! A plant whose calls are recorded, as it lies under the lock while callers make calls of it.
 
 ghost use Rattle.std.specs.Prelude.{◌≡◌, ◌≤◌, [], ◌∷◌, map, true, IfOk, IfSome};
 ghost use Rattle.std.specs.Arc.{arc_value};
@@ -23,7 +23,7 @@ use std::alloc::{AllocError, Global};
 use std::marker::Model;
 use std::sync::Arc;
 
-/// A plant, where it began, and the calls that were made since, each with its reply. What is noted is a run of the machine from there to the
+/// A plant, where it began, and the calls that were made since, each with its reply. What is recorded is a run of the machine from there to the
 /// plant's state. For the commit of each claim in flight there is room.
 #[derive(Drop)]
 pub struct Recorded<B: Block> {
@@ -166,7 +166,8 @@ impl<B: Block> Recorded<B> {
         }
     }
 
-    /// Claims at most `max` firings for a block's worker. What is handed out and the end of the block are noted, and so is the commit to come.
+    /// Claims at most `max` firings for a block's worker. What is handed out and the end of the block are recorded, and room is kept for the
+    /// commit to come.
     pub fn claim(&mut self, alloc: Global, block: BlockId, max: u32) -> Result<Claim<B>, PlantFault>
         requires { 1 ≤ max }
         ensures noted { IsClaimNoted B.meaning (caller.Worker block) (asked_by (call.Claim block max)) self.old self.new (reply_of claim_reply result) }
@@ -213,7 +214,7 @@ impl<B: Block> Recorded<B> {
         Ok(did)
     }
 
-    /// The plant with what was noted of it, where it has no claim in flight and began there.
+    /// The plant with what was recorded of it, where it has no claim in flight and began there.
     pub fn came_from(self, opening: &Opening<B>) -> Option<(Plant<B>, Vec<Entry>)>
         ensures { IfSome result (λ r. CameTo B.meaning B.eq opening.now (map noted_by r.1.items) r.0) }
     {

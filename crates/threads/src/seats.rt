@@ -20,7 +20,7 @@ const HALVES: u32 = 2;
 #[derive(Clone, Copy, Debug)]
 enum Seat {
     Works,
-    // It sleeps for want of items or room, of which so many have come since.
+    // It waits for items or room, of which so many have come since.
     Waits(Need, u64),
     Left,
 }

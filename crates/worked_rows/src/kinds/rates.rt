@@ -16,7 +16,7 @@ pub fn keeps_one()
         ≡ 2 }
 {}
 
-/// A tag goes to the nearest item, a half upwards: at one item for four, and at two for one.
+/// A tag goes to the nearest item (ties round up): at one item for four, and at two for one.
 pub fn places_by_rate()
     ensures down { (keep_one_in_n Byte 4).place 0 1 ≡ 0 }
     ensures up { (keep_one_in_n Byte 4).place 0 2 ≡ 1 }

@@ -10,7 +10,7 @@ ghost use Rattle.worked_rows.specs.Kinds.{numbers, alone};
 ghost use Rattle.stream_model.specs.Kinds.Math.{add};
 ghost use Rattle.stream_model.specs.Kinds.Rates.{stream_mux, keep_one_in_n, skiphead, delay, repeat};
 
-/// Every fourth item: a tag goes to the nearest item of the output, a half upwards, and shows once
+/// Every fourth item: a tag goes to the nearest item of the output (ties round up), and shows once
 /// that item is there.
 pub fn thins_tags()
     ensures { replies_of (through Byte (alone (keep_one_in_n Byte 4)))
