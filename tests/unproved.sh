@@ -38,7 +38,7 @@ run_bench() {
     echo "$1 wrote what its file stdout has"
 }
 
-run_tests 91 leaves kernels blocks flowgraphs plants threads graph_files streams terminal
+run_tests 100 leaves kernels blocks flowgraphs plants threads graph_files streams terminal
 run_bench kernel_bench
 run_bench graph_bench
 run_bench thread_bench
