@@ -1,0 +1,15 @@
+//! The kinds of blocks, and the values that they may be set to. A graph holds them as a [`Kind`].
+
+pub use bit_blocks::{
+    AdditiveScrambler, Descrambler, DiffDecoder, DiffEncoder, PackKBits, Register, Scrambler,
+    UnpackKBits,
+};
+pub use block_kinds::{ParamFault, Parameter, Taps, Value};
+pub use fir_blocks::{Fir, InterpFir};
+pub use kinds::{Kind, NullSink, VectorSink, VectorSource};
+pub use math_blocks::{
+    Add, AddConst, And, Convert, MapBb, MovingSum, MultiplyConst, Not, Or, Scale, Xor,
+};
+pub use rate_blocks::{
+    Deinterleave, Delay, Head, Integrate, Interleave, KeepOneInN, Repeat, SkipHead, StreamMux,
+};

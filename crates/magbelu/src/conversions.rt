@@ -1,0 +1,117 @@
+//! What `?` makes an error of: each fault, memory that ran out, and what a call that failed hands back, which is dropped.
+
+ghost use Rattle.std.specs.Prelude.{◌≡◌};
+ghost use Rattle.magbelu.specs.Errors.{number_of, text_of, run_error};
+ghost use Rattle.magbelu.specs.declared.error.Error.TheVariants.{Items, Block, Graph, Plant, NoJob, File, Run, Memory};
+ghost use Rattle.threads.specs.Fault as threads;
+
+use crate::error::{Error, RunError};
+use block_kinds::{Block, ParamFault};
+use flowgraph::{Graph, GraphFault, Valid};
+use graph_file::FileFault;
+use items::ItemFault;
+use plant::{Job, PlantFault, Worked};
+use std::alloc::{AllocError, AllocFailed};
+use threads::RunFault;
+
+impl From<ItemFault> for Error {
+    ghost from_gives = { λ fault e. e ≡ Items fault };
+
+    fn from(fault: ItemFault) -> Error {
+        Error::Items(fault)
+    }
+}
+
+impl From<ParamFault> for Error {
+    ghost from_gives = { λ fault e. e ≡ Block fault };
+
+    fn from(fault: ParamFault) -> Error {
+        Error::Block(fault)
+    }
+}
+
+impl From<GraphFault> for Error {
+    ghost from_gives = { λ fault e. e ≡ Graph fault };
+
+    fn from(fault: GraphFault) -> Error {
+        Error::Graph(fault)
+    }
+}
+
+/// A graph that is refused is dropped: who wants to mend it takes it from the pair.
+impl<B: Block> From<(Graph<B>, GraphFault)> for Error {
+    ghost from_gives = { λ refusal e. e ≡ Graph refusal.1 };
+
+    fn from(refusal: (Graph<B>, GraphFault)) -> Error {
+        Error::Graph(refusal.1)
+    }
+}
+
+/// A graph for whose plant there was no memory is dropped: who wants to try again takes it from the pair.
+impl<B: Block> From<(Valid<B>, AllocError)> for Error {
+    ghost from_gives = { λ _ e. e ≡ Memory };
+
+    fn from(_refusal: (Valid<B>, AllocError)) -> Error {
+        Error::Memory
+    }
+}
+
+impl From<PlantFault> for Error {
+    ghost from_gives = { λ fault e. e ≡ Plant fault };
+
+    fn from(fault: PlantFault) -> Error {
+        Error::Plant(fault)
+    }
+}
+
+/// Work that a commit refused is dropped: it is not that of the claim in flight.
+impl<B: Block> From<Worked<B>> for Error {
+    ghost from_gives = { λ _ e. e ≡ NoJob };
+
+    fn from(_refused: Worked<B>) -> Error {
+        Error::NoJob
+    }
+}
+
+/// A job that could not be abandoned is dropped: it is not the claim in flight.
+impl<B: Block> From<Job<B>> for Error {
+    ghost from_gives = { λ _ e. e ≡ NoJob };
+
+    fn from(_refused: Job<B>) -> Error {
+        Error::NoJob
+    }
+}
+
+impl From<FileFault> for Error {
+    ghost from_gives = { λ fault e. e ≡ File fault };
+
+    fn from(fault: FileFault) -> Error {
+        Error::File(fault)
+    }
+}
+
+/// The plant that a run gives back is dropped: who wants to run it again takes it from the fault.
+impl<B: Block> From<RunFault<B>> for Error {
+    ghost from_gives = { λ fault e. (e ≡ Run (run_error fault)) × (number_of e ≡ threads.number_of fault) × (text_of e ≡ threads.text_of fault) };
+
+    fn from(fault: RunFault<B>) -> Error {
+        Error::Run(RunError::of(fault))
+    }
+}
+
+impl From<AllocError> for Error {
+    ghost from_gives = { λ _ e. e ≡ Memory };
+
+    fn from(_refusal: AllocError) -> Error {
+        Error::Memory
+    }
+}
+
+/// What could not be stored is dropped.
+impl<T: Drop> From<AllocFailed<T>> for Error {
+    ghost from_gives = { λ _ e. e ≡ Memory };
+
+    fn from(_refusal: AllocFailed<T>) -> Error {
+        Error::Memory
+    }
+}

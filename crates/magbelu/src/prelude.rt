@@ -1,0 +1,10 @@
+//! What most programs name, for one `use magbelu::prelude::*;`.
+
+pub use crate::blocks::{
+    Add, AddConst, Fir, Kind, MultiplyConst, NullSink, Taps, Value, VectorSink, VectorSource,
+};
+pub use crate::error::Error;
+pub use crate::graphs::{BlockId, Graph, Options, Policy};
+pub use crate::plants::{Claim, Piece, Plant, Settled, Step};
+pub use crate::runs::{Outcome, TopBlock};
+pub use crate::streams::{ItemType, Items, Mark, Tag, TagKey};

@@ -1,0 +1,7 @@
+//! A graph at work in threads, one for each block: to its end, or live, with callers that feed, set and read meanwhile.
+
+pub use threads::{
+    Answer, Call, Caller, CallerId, Desk, Entry, Feed, Finished, Gate, Open, Outcome, RunFault,
+    Running, Setting, Turns, launch, launch_open, launch_with, live, live_watched, run, run_with,
+};
+pub use top_block::{TopBlock, close_all};
