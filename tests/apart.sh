@@ -1,6 +1,7 @@
 # shellcheck shell=bash
 # For scripts to source: crates that stand outside crates/ and run unproved, as rt try compiles them with checks, so that the gate has no proof of them
-# to make. Each is put together in a copy of the checkout: the tests of the folders of tests/ with .test files, and the programs of benches/.
+# to make. Each is put together in a copy of the checkout: the tests of the folders of tests/ with .test files, and the programs of
+# benches/ and examples/.
 # shellcheck source=scripts/program.sh
 source "$(dirname -- "$(readlink -f -- "${BASH_SOURCE[0]}")")/../scripts/program.sh"
 
@@ -57,4 +58,14 @@ put_bench() {
     while IFS= read -r file; do
         mv -- "$file" "${file%.apart}"
     done < <(find "$here/crates/$1" -name '*.apart')
+}
+
+# put_example PROGRAM LIBRARY..: a program of examples/ over these libraries, in the checkout $room/PROGRAM. Its source ends in .rs, for the gate wants no .rt
+# file outside crates/, and editors take Rattle for the Rust that it nearly is.
+put_example() {
+    local own=$room/$1/crates/$1 order=()
+    put_below "$@"
+    echo "$1: ${*:2}" >>"$room/$1/crates.txt"
+    cp -a -- "$top/examples/$1" "$own"
+    mv -- "$own/src/main.rs" "$own/src/main.rt"
 }

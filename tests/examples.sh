@@ -1,5 +1,5 @@
 #!/usr/bin/env bash
-# The examples: each folder of examples/ has a graph file and what `check`, `run`, its script or its live run, whichever it has a file for, writes for it.
+# The examples: each folder of examples/ with a graph file has what `check`, `run`, its script or its live run, whichever it has a file for, writes for it.
 set -euo pipefail
 # shellcheck source=tests/cases.sh
 source "$(dirname -- "$(readlink -f -- "${BASH_SOURCE[0]}")")/cases.sh"
@@ -28,7 +28,10 @@ example() {
 }
 
 for folder in "$top"/examples/*/; do
-    example "${folder%/}"
+    # (A folder without one has a program, which tests/unproved.sh runs.)
+    if [[ -e ${folder}graph.toml ]]; then
+        example "${folder%/}"
+    fi
 done
 
 run_cases "examples"

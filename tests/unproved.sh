@@ -1,6 +1,6 @@
 #!/usr/bin/env bash
-# Tests of libraries that run unproved, each folder of tests/ those of a layer, and tests/terminal those of files of the program; and the programs of
-# benches/, which without words print what was worked out by hand.
+# Tests of libraries that run unproved, each folder of tests/ those of a layer, and tests/terminal those of files of the program; the programs of
+# benches/, which without words print what was worked out by hand; and the program of examples/, which does too, and which README.md quotes.
 set -euo pipefail
 # shellcheck source=tests/apart.sh
 source "$(dirname -- "$(readlink -f -- "${BASH_SOURCE[0]}")")/apart.sh"
@@ -26,10 +26,9 @@ run_tests() {
     echo "$1 tests of ${*:2} passed"
 }
 
-# run_bench PROGRAM: it writes what its file stdout has
-run_bench() {
+# run_program PROGRAM: as it was put, it writes what its file stdout has
+run_program() {
     local own=$room/$1/crates/$1
-    put_bench "$1"
     if ! (cd "$own" && rt try) >"$room/wrote" 2>"$room/said" </dev/null || ! cmp -s "$room/wrote" "$own/stdout"; then
         echo "unproved: $1 does not write what its file stdout has:" >&2
         cat "$room/said" "$room/wrote" >&2
@@ -38,7 +37,21 @@ run_bench() {
     echo "$1 wrote what its file stdout has"
 }
 
+# is_quoted FILE: what README.md has as Rust is this file, word for word
+is_quoted() {
+    # shellcheck disable=SC2016
+    if ! cmp -s "$top/$1" <(sed -n '/^```rust$/,/^```$/{//!p}' "$top/README.md"); then
+        echo "unproved: README.md does not quote $1 word for word" >&2
+        exit 1
+    fi
+    echo "README.md quotes $1"
+}
+
 run_tests 100 leaves kernels blocks flowgraphs plants threads graph_files streams terminal
-run_bench kernel_bench
-run_bench graph_bench
-run_bench thread_bench
+for bench in kernel_bench graph_bench thread_bench; do
+    put_bench "$bench"
+    run_program "$bench"
+done
+is_quoted examples/embed/src/main.rs
+put_example embed magbelu
+run_program embed

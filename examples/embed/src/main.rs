@@ -1,0 +1,49 @@
+//! Four bytes with a tag go through a block that adds ten, and from item 2 on a hundred, in threads.
+#![tactic(auto)]
+
+use magbelu::prelude::*;
+use std::alloc::Global;
+
+fn chain(alloc: Global) -> Result<(Graph<Kind>, [BlockId; 3]), Error> {
+    let options = Options {
+        policy: Policy::All,
+        multiple: 1,
+        capacity: 4096,
+    };
+    let mut graph = Graph::new(alloc);
+    let source = Kind::VectorSource(VectorSource::new(ItemType::Byte));
+    let adder = Kind::AddConst(AddConst::new(ItemType::Byte, 10)?);
+    let sink = Kind::VectorSink(VectorSink::new(ItemType::Byte));
+    let source = graph.add_block(alloc, b"src", source, options)?;
+    let adder = graph.add_block(alloc, b"add", adder, options)?;
+    let sink = graph.add_block(alloc, b"out", sink, options)?;
+    graph.connect(source, 0, adder, 0)?;
+    graph.connect(adder, 0, sink, 0)?;
+    Ok((graph, [source, adder, sink]))
+}
+
+fn main(rt: HostRuntime) -> Result<(), Error> {
+    let alloc = rt.alloc();
+    let (graph, [source, adder, sink]) = chain(alloc)?;
+    let mut plant = Plant::open(alloc, graph.validate(alloc)?)?;
+    let items = Items::from_numbers(alloc, ItemType::Byte, &[250, 1, 2, 3])?;
+    let key = TagKey::new(b"burst").ok_or(ItemFault::ItemRange)?;
+    let mark = Mark {
+        offset: 1,
+        key,
+        value: 7,
+    };
+    plant.feed(source, items, &[mark])?;
+    plant.set(adder, Some(2), Value::Number(100))?;
+    if !plant.idle() {
+        return Err(Error::Run(RunError::Foreign));
+    }
+    let (Outcome::Done(plant) | Outcome::Stalled(plant) | Outcome::Stopped(plant)) =
+        TopBlock::from_plant(plant).run(rt, alloc)?;
+    let piece = plant.read(alloc, sink, 0, 100)?;
+    let _ = println!(rt; "{:?}", piece.items);
+    for tag in &piece.tags {
+        let _ = println!(rt; "tag {} on item {}", tag.value, tag.offset);
+    }
+    Ok(())
+}
