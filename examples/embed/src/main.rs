@@ -35,6 +35,7 @@ fn main(rt: HostRuntime) -> Result<(), Error> {
     };
     plant.feed(source, items, &[mark])?;
     plant.set(adder, Some(2), Value::Number(100))?;
+    // Threads start only where no claim is in flight: the prover knows that by this test.
     if !plant.idle() {
         return Err(Error::Run(RunError::Foreign));
     }
