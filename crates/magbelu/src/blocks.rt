@@ -1,4 +1,4 @@
-//! The kinds of blocks, and the values that they may be set to. A graph holds them as a [`Kind`].
+//! The kinds of blocks, and the values of their settings. A graph holds each block as a [`Kind`].
 
 pub use bit_blocks::{
     AdditiveScrambler, Descrambler, DiffDecoder, DiffEncoder, PackKBits, Register, Scrambler,

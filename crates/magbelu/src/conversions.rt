@@ -1,4 +1,4 @@
-//! What `?` makes an error of: each fault, memory that ran out, and what a call that failed hands back, which is dropped.
+//! Conversions into an error, for `?`: of each fault, of a failed allocation, and of what a call that failed hands back, which is dropped.
 
 ghost use Rattle.std.specs.Prelude.{◌≡◌};
 ghost use Rattle.magbelu.specs.Errors.{number_of, text_of, run_error};
@@ -38,7 +38,7 @@ impl From<GraphFault> for Error {
     }
 }
 
-/// A graph that is refused is dropped: who wants to mend it takes it from the pair.
+/// The refused graph is dropped. To correct it and try again, match on the pair instead.
 impl<B: Block> From<(Graph<B>, GraphFault)> for Error {
     ghost from_gives = { λ refusal e. e ≡ Graph refusal.1 };
 
@@ -47,7 +47,7 @@ impl<B: Block> From<(Graph<B>, GraphFault)> for Error {
     }
 }
 
-/// A graph for whose plant there was no memory is dropped: who wants to try again takes it from the pair.
+/// The graph is dropped. To try again, match on the pair instead.
 impl<B: Block> From<(Valid<B>, AllocError)> for Error {
     ghost from_gives = { λ _ e. e ≡ Memory };
 
@@ -64,7 +64,7 @@ impl From<PlantFault> for Error {
     }
 }
 
-/// Work that a commit refused is dropped: it is not that of the claim in flight.
+/// For `Plant::commit`. The refused work is dropped: it is not that of the claim in flight.
 impl<B: Block> From<Worked<B>> for Error {
     ghost from_gives = { λ _ e. e ≡ NoJob };
 
@@ -73,7 +73,7 @@ impl<B: Block> From<Worked<B>> for Error {
     }
 }
 
-/// A job that could not be abandoned is dropped: it is not the claim in flight.
+/// For `Plant::abandon`. The refused job is dropped: it is not the claim in flight.
 impl<B: Block> From<Job<B>> for Error {
     ghost from_gives = { λ _ e. e ≡ NoJob };
 
@@ -90,7 +90,7 @@ impl From<FileFault> for Error {
     }
 }
 
-/// The plant that a run gives back is dropped: who wants to run it again takes it from the fault.
+/// The plant in the fault is dropped. To run it again, match on the fault instead.
 impl<B: Block> From<RunFault<B>> for Error {
     ghost from_gives = { λ fault e. (e ≡ Run (run_error fault)) × (number_of e ≡ threads.number_of fault) × (text_of e ≡ threads.text_of fault) };
 
@@ -107,7 +107,7 @@ impl From<AllocError> for Error {
     }
 }
 
-/// What could not be stored is dropped.
+/// The value that could not be stored is dropped.
 impl<T: Drop> From<AllocFailed<T>> for Error {
     ghost from_gives = { λ _ e. e ≡ Memory };
 

@@ -1,4 +1,4 @@
-//! What a block of one's own is made of: a type that implements [`Block`], alone or by way of [`Single`], stands in a graph as a kind does.
+//! Blocks of your own: a graph takes any type that implements [`Block`]. [`Single`] makes that easier for one input and one output.
 
 pub use block_kinds::{
     Block, ByPace, Held, Pace, Placing, Role, Setting, Shape, Shift, Signature, Single, Wanted,

@@ -1,4 +1,4 @@
-//! One error for all that may be refused. `?` makes it of the fault of any call.
+//! One error type, to which `?` converts the fault of any call.
 
 ghost use Rattle.std.specs.Prelude.{◌≡◌, Some};
 ghost use Rattle.magbelu.specs.Errors.{number_of, text_of, name_of, run_error, run_number, run_text};
@@ -12,7 +12,7 @@ use plant::PlantFault;
 use std::fmt;
 use threads::RunFault;
 
-/// Why a call was refused, or why a run in threads did not come to its end. Number, name and text are those of the fault that it was made of.
+/// Why a call was refused, or why a run in threads failed. Number, name and text are those of the fault that it was converted from.
 #[derive(Debug, Drop, thiserror::Error)]
 pub enum Error {
     /// Items could not be made.
@@ -23,20 +23,20 @@ pub enum Error {
     Graph(GraphFault),
     /// A call of a plant, of a top block or at a desk is refused.
     Plant(PlantFault),
-    /// A job that is handed back is not the claim in flight of its block.
+    /// A job or its work that is handed in is not that of the claim in flight of its block.
     NoJob,
     /// A graph file is refused.
     File(FileFault),
-    /// A run in threads did not come to its end.
+    /// A run in threads failed.
     Run(RunError),
-    /// Memory ran out.
+    /// Out of memory.
     Memory,
 }
 
-/// Why a run in threads did not come to its end: a `RunFault` without the plant that it gives back.
+/// Why a run in threads failed: a `RunFault` without the plant that it gives back.
 #[derive(Clone, Copy, Debug, PartialEq, Eq)]
 pub enum RunError {
-    /// Memory ran out.
+    /// Out of memory.
     Memory,
     /// A thread could not be started.
     Thread,
@@ -45,7 +45,7 @@ pub enum RunError {
 }
 
 impl Error {
-    /// The number by which the fault is reported.
+    /// The number of the refusal: 1 to 12, 20 to 33, 40 to 44, or 60 to 62.
     pub fn number(&self) -> u32
         ensures { result ≡ number_of self.now }
     {
@@ -61,7 +61,7 @@ impl Error {
         }
     }
 
-    /// The name that stands beside the number.
+    /// The name of the refusal, as `Loop` or `Memory`.
     pub fn name(&self) -> &'static str
         ensures { result.now ≡ name_of self.now }
     {
@@ -90,7 +90,7 @@ impl RunError {
         }
     }
 
-    /// The number by which the fault is reported: 60, 61 or 62.
+    /// The number of the fault: 60, 61 or 62.
     pub fn number(&self) -> u32
         ensures { result ≡ run_number self.now }
     {

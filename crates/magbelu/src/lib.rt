@@ -1,13 +1,13 @@
-//! Magbelu's front door: all that a program needs to build flowgraphs, run them and read what they give, and one error for all that may be refused.
+//! Everything that a program needs of Magbelu, in one crate: to build flowgraphs, run them and read their sinks, with one error type for all calls.
 //!
 //! - [`streams`]: items, their types, tags, and items as raw bytes.
-//! - [`blocks`]: the kinds of blocks, and the values that they may be set to.
+//! - [`blocks`]: the kinds of blocks, and the values of their settings.
 //! - [`graphs`]: building and testing a graph, its rates and capacities.
-//! - [`plants`]: a graph at work, call by call.
-//! - [`runs`]: a graph at work in threads.
+//! - [`plants`]: running a graph call by call.
+//! - [`runs`]: running a graph in threads.
 //! - [`files`]: graph files.
-//! - [`custom`]: what a block of one's own is made of.
-//! - [`prelude`]: what most programs name.
+//! - [`custom`]: writing a block of your own.
+//! - [`prelude`]: what most programs use.
 #![tactic(auto)]
 
 pub mod blocks;

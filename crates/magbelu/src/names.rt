@@ -1,4 +1,4 @@
-//! The names of faults, as they stand beside their numbers.
+//! The names of faults.
 
 ghost use Rattle.std.specs.Prelude.{◌≡◌};
 ghost use Rattle.graph_file.specs.Texts.{feed_fault_text};

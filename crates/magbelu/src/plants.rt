@@ -1,4 +1,4 @@
-//! A plant: a graph at work, which is fed, stepped, set and read call by call. A block may also work apart from it, between a claim and its commit.
+//! A plant runs a graph call by call: feed, set, step, read. Between a claim and its commit a block works apart from the plant.
 
 pub use plant::{
     Claim, Closed, Did, Fed, Handed, Headway, Job, Need, Opening, Piece, Plant, PlantFault,

@@ -1,4 +1,4 @@
-//! What most programs name, for one `use magbelu::prelude::*;`.
+//! What most programs use, by `use magbelu::prelude::*;`.
 
 pub use crate::blocks::{
     Add, AddConst, Fir, Kind, MultiplyConst, NullSink, Taps, Value, VectorSink, VectorSource,

@@ -1,4 +1,4 @@
-//! A graph at work in threads, one for each block: to its end, or live, with callers that feed, set and read meanwhile.
+//! Running a graph with a thread for each block: to its end, or live, with callers that feed, set and read in the meantime.
 
 pub use threads::{
     Answer, Call, Caller, CallerId, Desk, Entry, Feed, Finished, Gate, Open, Outcome, RunFault,
