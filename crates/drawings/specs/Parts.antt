@@ -1,0 +1,89 @@
+-- What is drawn of a graph: a box for each block, and an arrow for each connection.
+use Rattle.std.specs.Prelude.{ℕ, List, [], length, Option, Some, None, slice_get, slice_index_or}
+use Rattle.std.specs.Option.{option_map}
+use Rattle.stream_model.specs.declared.vocabulary.ItemType.{ItemType}
+use Rattle.stream_model.specs.Network as model
+use Rattle.stream_model.specs.Network.{Network, no_connection, node_at, writers_of, used_outputs}
+use Rattle.stream_model.specs.Machine.{Capacities, capacity_at}
+use Rattle.graph_model.specs.Rates.{Balance, Balanced, Uneven, TooLarge}
+use Rattle.flowgraph.specs.Flowgraph.{Flowgraph, net_of}
+use Rattle.kinds.specs.declared.kind.Kind.{Kind}
+use Rattle.kinds.specs.Kind.{meaning_of}
+use Rattle.kind_keys.specs.Kinds.{kind_text}
+use Rattle.drawings.specs.KindNames.{kind_of}
+use Rattle.drawings.specs.declared.parts.DrawnBlock.{DrawnBlock}
+use Rattle.drawings.specs.declared.parts.DrawnEnd.{DrawnEnd}
+use Rattle.drawings.specs.declared.parts.DrawnConnection.{DrawnConnection}
+
+-- of a block its name, the name of its kind, how often it fires in an iteration where the rates are balanced, and how many of its inputs
+-- and outputs are connected
+pub record Box : Type 0 where
+  pub name : List ℕ
+  pub kind : List ℕ
+  pub firings : Option ℕ
+  pub inputs : ℕ
+  pub outputs : ℕ
+
+-- of an end of a connection its block, by number and by name, and the port
+pub record End : Type 0 where
+  pub block : ℕ
+  pub name : List ℕ
+  pub port : ℕ
+
+-- of a connection its ends, the type of its items, and the capacity of the output that it comes from
+pub record Arrow : Type 0 where
+  pub from : End
+  pub to : End
+  pub item : ItemType
+  pub capacity : ℕ
+
+-- the same in memory
+abbrev pub box_seen : DrawnBlock → Box
+box_seen b = record { name = b.name.now; kind = b.kind.now; firings = b.firings; inputs = b.inputs; outputs = b.outputs }
+
+abbrev pub end_seen : DrawnEnd → End
+end_seen e = record { block = e.block.0; name = e.name.now; port = e.port }
+
+abbrev pub arrow_seen : DrawnConnection → Arrow
+arrow_seen c = record { from = end_seen c.from; to = end_seen c.to; item = c.item; capacity = c.capacity }
+
+-- the name of block b, and the text of its kind
+abbrev pub name_at : Flowgraph Kind → ℕ → List ℕ
+name_at g b = slice_index_or g.names b []
+
+abbrev pub kind_shown : Option Kind → List ℕ
+kind_shown None = []
+kind_shown (Some k) = kind_text (kind_of k)
+
+abbrev pub kind_at : Flowgraph Kind → ℕ → List ℕ
+kind_at g b = kind_shown (option_map (λ e. e.block) (slice_get g.blocks b))
+
+-- how often block b fires in an iteration of a balance
+abbrev pub firings_at : Balance → ℕ → Option ℕ
+firings_at (Balanced q) b = slice_get q b
+firings_at Uneven b = None
+firings_at TooLarge b = None
+
+-- the box of block b, with these rates
+abbrev pub box_at : Flowgraph Kind → Balance → ℕ → Box
+box_at g rates b =
+    let net = net_of meaning_of g in
+    record { name = name_at g b; kind = kind_at g b; firings = firings_at rates b; inputs = length (writers_of net b); outputs = used_outputs net b }
+
+-- the end of a connection at a port of block b
+abbrev pub end_at : Flowgraph Kind → ℕ → ℕ → End
+end_at g b port = record { block = b; name = name_at g b; port = port }
+
+-- the arrow of a connection, with these capacities
+abbrev pub arrow_of : Flowgraph Kind → Capacities → model.Connection → Arrow
+arrow_of g caps c =
+    record {
+      from = end_at g c.from c.out_port;
+      to = end_at g c.to c.in_port;
+      item = (node_at (net_of meaning_of g) c.from).meaning.outputs.item;
+      capacity = capacity_at caps c.from c.out_port;
+    }
+
+-- that of connection n
+abbrev pub arrow_at : Flowgraph Kind → Capacities → ℕ → Arrow
+arrow_at g caps n = arrow_of g caps (slice_index_or (net_of meaning_of g).connections n no_connection)
