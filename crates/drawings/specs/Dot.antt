@@ -16,10 +16,11 @@ port_text side p = joined ((if p == 0 then codes "{<" else codes "|<") ∷ side 
 abbrev pub ports_text : List ℕ → ℕ → List ℕ
 ports_text side count = flat_map (port_text side) (below count) ++ codes "}"
 
--- a side without ports has no column
+-- the column of the inputs, and what parts it from the lines; without inputs there is none
 abbrev pub inputs_text : ℕ → List ℕ
 inputs_text count = if count == 0 then [] else ports_text (codes "i") count ++ codes "|"
 
+-- the same of the outputs
 abbrev pub outputs_text : ℕ → List ℕ
 outputs_text count = if count == 0 then [] else codes "|" ++ ports_text (codes "o") count
 

@@ -37,24 +37,28 @@ pub record Arrow : Type 0 where
   pub item : ItemType
   pub capacity : ℕ
 
--- the same in memory
+-- the box that code has of a block
 abbrev pub box_seen : DrawnBlock → Box
 box_seen b = record { name = b.name.now; kind = b.kind.now; firings = b.firings; inputs = b.inputs; outputs = b.outputs }
 
+-- the end that it has of a connection
 abbrev pub end_seen : DrawnEnd → End
 end_seen e = record { block = e.block.0; name = e.name.now; port = e.port }
 
+-- the arrow that it has of a connection
 abbrev pub arrow_seen : DrawnConnection → Arrow
 arrow_seen c = record { from = end_seen c.from; to = end_seen c.to; item = c.item; capacity = c.capacity }
 
--- the name of block b, and the text of its kind
+-- the name of block b
 abbrev pub name_at : Flowgraph Kind → ℕ → List ℕ
 name_at g b = slice_index_or g.names b []
 
+-- the name of the kind of a block, if there is one
 abbrev pub kind_shown : Option Kind → List ℕ
 kind_shown None = []
 kind_shown (Some k) = kind_text (kind_of k)
 
+-- the name of the kind of block b
 abbrev pub kind_at : Flowgraph Kind → ℕ → List ℕ
 kind_at g b = kind_shown (option_map (λ e. e.block) (slice_get g.blocks b))
 

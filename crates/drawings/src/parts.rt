@@ -1,6 +1,5 @@
 //! What is drawn of a graph: its blocks and its connections.
-ghost use Rattle.std.specs.Prelude.{◌≡◌, ◌<◌, length, slice_get};
-ghost use Rattle.std.specs.Option.{option_map};
+ghost use Rattle.std.specs.Prelude.{◌≡◌, ◌<◌, length};
 ghost use Rattle.stream_model.specs.Machine.{capacity_at};
 ghost use Rattle.flowgraph.specs.Flowgraph.{net_of, connection_of};
 ghost use Rattle.kinds.specs.Kind.{meaning_of};
