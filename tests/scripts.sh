@@ -1,5 +1,5 @@
 #!/usr/bin/env bash
-# Graph files and scripts from bytes to bytes: what `check`, `run`, `live` and `script` write for each, and the exit status.
+# Graph files and scripts from bytes to bytes: what `check`, `draw`, `run`, `live` and `script` write for each, and the exit status.
 set -euo pipefail
 # shellcheck source=tests/cases.sh
 source "$(dirname -- "$(readlink -f -- "${BASH_SOURCE[0]}")")/cases.sh"
@@ -257,6 +257,15 @@ bad item_behind_a_mark 'feed src 1 @0:k=1 2'
 bad name_too_long 'close abcdefghijklmnopqrstuvwxyz0123456'
 bad space_before_a_comment ' # x'
 bad byte '\xff'
+
+# Pictures.
+dot='digraph {\n  rankdir=LR;\n  node [shape=record];\n  "src" [label="{src\\\\nvector_source\\\\nq 1|{<o0> 0}}"];\n  "a" [label="{{<i0> 0}|a\\\\nadd_const\\\\nq 1|{<o0> 0}}"];\n  "out" [label="{{<i0> 0}|out\\\\nvector_sink\\\\nq 1}"];\n  "src":o0:e -> "a":i0:w [label="byte 4096", color="#9C27B0"];\n  "a":o0:e -> "out":i0:w [label="byte 4096", color="#9C27B0"];\n}\n'
+ends picture 0 "$dot" '' draw plain.toml
+ends picture_for_dot 0 "$dot" '' draw --format dot plain.toml
+ends picture_for_mermaid 0 'flowchart LR\n  b0["src<br/>vector_source<br/>q 1"]\n  b1["a<br/>add_const<br/>q 1"]\n  b2["out<br/>vector_sink<br/>q 1"]\n  b0 -->|"0 to 0: byte 4096"| b1\n  linkStyle 0 stroke:#9C27B0\n  b1 -->|"0 to 0: byte 4096"| b2\n  linkStyle 1 stroke:#9C27B0\n' '' \
+    draw --format=mermaid plain.toml
+ends picture_of_no_blocks 0 'digraph {\n  rankdir=LR;\n  node [shape=record];\n}\n' '' draw no_blocks.toml
+ends picture_of_a_loop 1 '' "$(refusal '7 Loop x')" draw looped.toml
 
 # Calls while the graph runs. Claims are the workers', and whether a run is quiet its own matter: such lines are bad.
 live calls_of_a_run plain 'feed src 250\nset a 1 20\nfeed src 1\nread out 9 1\nclose src\n' 'fed 1\ntaken 1\nfed 2\nrefused 31\nclosed 2\nsink out 2 4 21\ndone\n'

@@ -11,6 +11,7 @@ Usage: flow <COMMAND>
 
 Commands:
   check   Reads the graph and reports on it
+  draw    Writes the graph as text from which a picture is made
   run     Runs the graph and prints what its sinks hold
   live    Runs the graph while the commands of standard input are done
   script  Runs the commands of standard input on the graph
@@ -26,6 +27,8 @@ help_text() {
 }
 declare -A help_of=(
     [check]=$(help_text "Reads the graph and reports on it" "check <FILE>" "  -h, --help  Print help")
+    [draw]=$(help_text "Writes the graph as text from which a picture is made" "draw [OPTIONS] <FILE>" \
+        "      --format <FORMAT>  The language of the text [default: dot] [possible values: dot, mermaid]" "  -h, --help             Print help")
     [run]=$(help_text "Runs the graph and prints what its sinks hold" "run [OPTIONS] <FILE>" \
         "  -q, --quiet       Shows no progress on a terminal" "      --one-thread  Runs all blocks on one thread" "  -h, --help        Print help")
     [live]=$(help_text "Runs the graph while the commands of standard input are done" "live [OPTIONS] <FILE>" \
@@ -33,7 +36,7 @@ declare -A help_of=(
     [script]=$(help_text "Runs the commands of standard input on the graph" "script <FILE>" "  -h, --help  Print help")
 )
 
-for command in check run live script; do
+for command in check draw run live script; do
     ends "${command}_of_a_missing_file" 4 '' "flow: refused 51 Read" "$command" no/such/file
     ends "${command}_of_a_folder" 4 '' "flow: refused 51 Read" "$command" /
     ends "${command}_of_no_file" 2 '' - "$command"
@@ -63,6 +66,10 @@ ends one_thread_twice 2 '' - run --one-thread --one-thread plain.toml
 ends one_thread_for_a_check 2 '' - check --one-thread plain.toml
 ends one_thread_for_a_live_run 2 '' - live --one-thread plain.toml
 ends quiet_twice 2 '' - run -q --quiet plain.toml
+ends picture_in_no_format 2 '' - draw --format svg plain.toml
+ends format_without_a_word 2 '' - draw plain.toml --format
+ends format_of_a_check 2 '' - check --format dot plain.toml
+ends quiet_picture 2 '' - draw --quiet plain.toml
 ends quiet_check 2 '' - check --quiet plain.toml
 ends quiet_script 2 '' - script -q plain.toml
 ends file_behind_dashes 0 'sink out 0\ndone\n' '' run -- plain.toml

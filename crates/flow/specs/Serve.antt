@@ -6,16 +6,19 @@ use Rattle.toml.specs.Parse.{parse_document}
 use Rattle.stream_model.specs.Network.{Network, State}
 use Rattle.stream_model.specs.Machine.{Capacities, is_all_done, is_quiet, IsWhole}
 use Rattle.machine_laws.specs.Sound.{Sound}
+use Rattle.flowgraph.specs.Flowgraph.{Flowgraph}
 use Rattle.kinds.specs.declared.kind.Kind.{Kind}
 use Rattle.kinds.specs.Kind.{meaning_of}
 use Rattle.plant.specs.Plant.{PlantState}
 use Rattle.plant.specs.Settling.{StepsLead}
 use Rattle.graph_file.specs.Refusals.{Refusal, IsRefused, syntax}
 use Rattle.graph_file.specs.Steps.{then}
-use Rattle.graph_file.specs.Blocks.{Draft}
+use Rattle.graph_file.specs.Blocks.{Draft, drafted}
 use Rattle.graph_file.specs.File.{Content, file_of}
 use Rattle.graph_file.specs.Opening.{Opened, opened, opened_of, validated}
 use Rattle.threads.specs.History.{Noted, IsRunOf}
+use Rattle.drawings.specs.Drawings.{drawn_text}
+use Rattle.drawings.specs.declared.drawing.Format.{Format}
 use Rattle.script_text.specs.Ends.{AppendsBeginning}
 use Rattle.top_block.specs.Closing.{closed}
 use Rattle.flow.specs.Session.{Answers, graph_of, standing_of, none_kept}
@@ -67,6 +70,13 @@ pub record IsCheck (file text : List ℕ) (status : ℕ) : Type 0 where
   pub graph : Draft
   pub valid : graph_in file ≡ Ok graph
   pub told : text ≡ check_text graph
+  pub well : status ≡ 0
+
+-- a picture of a file's graph, as text in a format
+pub record IsPicture (format : Format) (file text : List ℕ) (status : ℕ) : Type 0 where
+  pub graph : Flowgraph Kind
+  pub valid : graph_in file ≡ Ok (drafted graph)
+  pub drawn : text ≡ drawn_text format graph
   pub well : status ≡ 0
 
 -- no block can act: each is done, and each sink holds its whole stream, or some block is not done
@@ -161,6 +171,7 @@ StopsLive file input input' out out' (Run fault) = IsOk (plant_in file)
 -- a command was done, with a status; only a script and a live run read their input
 abbrev pub Does : Command → List ℕ → Option (List ℕ) → Option (List ℕ) → Option (List ℕ) → Option (List ℕ) → ℕ → Type 0
 Does command.Check file input input' out out' status = (input' ≡ input) × Writes (IsCheck file) out out' status
+Does (command.Draw format) file input input' out out' status = (input' ≡ input) × Writes (IsPicture format file) out out' status
 Does command.Run file input input' out out' status = (input' ≡ input) × Writes (IsRun file) out out' status
 Does command.RunAlone file input input' out out' status = (input' ≡ input) × Writes (IsRunAlone file) out out' status
 Does command.Live file input input' out out' status = (between : Option (List ℕ)) × Writes (IsLive file) between out' status
@@ -169,6 +180,7 @@ Does command.Script file input input' out out' status = IsScript file input inpu
 -- a command was not done, for a fault
 abbrev pub DoesNot : Command → List ℕ → Option (List ℕ) → Option (List ℕ) → Option (List ℕ) → Option (List ℕ) → Fault → Type 0
 DoesNot command.Check file input input' out out' fault = (input' ≡ input) × WritesNot (IsCheck file) (graph_in file) out out' fault
+DoesNot (command.Draw format) file input input' out out' fault = (input' ≡ input) × WritesNot (IsPicture format file) (graph_in file) out out' fault
 DoesNot command.Run file input input' out out' fault = (input' ≡ input) × RunsNot (IsRun file) (plant_in file) out out' fault
 DoesNot command.RunAlone file input input' out out' fault = (input' ≡ input) × WritesNot (IsRunAlone file) (plant_in file) out out' fault
 DoesNot command.Live file input input' out out' fault = StopsLive file input input' out out' fault
@@ -197,6 +209,7 @@ writes_in (Err fault) = writes_failed fault
 -- a count of failed calls grew by so many; of those that a live run makes nothing is said, since a thread of its own makes them
 abbrev pub Grows : Command → ℕ → ℕ → ℕ → Type 0
 Grows command.Check old new n = new ≡ old + n
+Grows (command.Draw format) old new n = new ≡ old + n
 Grows command.Run old new n = new ≡ old + n
 Grows command.RunAlone old new n = new ≡ old + n
 Grows command.Live old new n = ⊤

@@ -7,8 +7,9 @@ ghost use Rattle.graph_file.specs.Refusals.{IsRefused};
 ghost use Rattle.graph_file.specs.Blocks.{drafted};
 ghost use Rattle.graph_file.specs.Opening.{opened_of};
 ghost use Rattle.script_text.specs.Ends.{AppendsBeginning};
+ghost use Rattle.drawings.specs.Drawings.{drawn_text};
 ghost use Rattle.flow.specs.Reports.{check_text};
-ghost use Rattle.flow.specs.Serve.{Serves, stream, Does, DoesNot, Fails, Grows, IsCheck, IsLive, IsRun, IsRunAlone, Refuses, StopsLive, RunsNot, Writes, WritesNot, IsScript, StopsScript, graph_in, plant_in, reads_in, writes_in};
+ghost use Rattle.flow.specs.Serve.{Serves, stream, Does, DoesNot, Fails, Grows, IsCheck, IsLive, IsPicture, IsRun, IsRunAlone, Refuses, StopsLive, RunsNot, Writes, WritesNot, IsScript, StopsScript, graph_in, plant_in, reads_in, writes_in};
 ghost use Rattle.flow.specs.declared.fault.Fault.TheVariants.{Script};
 ghost use Rattle.flow.specs.declared.script.ScriptFault.TheVariants.{Write};
 
@@ -18,6 +19,7 @@ use crate::reports::{checked, ended};
 use crate::running::run_plant;
 use crate::script::{ScriptFault, script};
 use crate::telling::report;
+use drawings::{Format, drawn};
 use flowgraph::Valid;
 use graph_file::{FileFault, read_graph};
 use kinds::Kind;
@@ -39,6 +41,8 @@ const STALLED: u8 = 3;
 pub enum Command {
     /// To tell of its graph.
     Check,
+    /// To write its graph as text from which a picture is made.
+    Draw(Format),
     /// To feed it, let it run to its end in threads, and tell what its sinks hold.
     Run,
     /// The same on one thread, block by block.
@@ -114,6 +118,7 @@ fn obey<
 {
     match command {
         Command::Check => check(alloc, file, output),
+        Command::Draw(format) => draw(alloc, format, file, output),
         Command::Run => run(rt, alloc, file, output, watch),
         Command::RunAlone => run_alone(alloc, file, output, watch),
         Command::Live => run_live(&rt, alloc, file, input, output, watch),
@@ -128,6 +133,18 @@ fn check<O: ByteOut>(alloc: Global, file: &[u8], output: &mut O) -> Result<u8, F
     ensures failed_writes { O.failed output.new ≡ O.failed output.old + writes_in result }
 {
     match check_file(alloc, file) {
+        Ok(outcome) => written(output, &outcome),
+        Err(fault) => Err(fault),
+    }
+}
+
+fn draw<O: ByteOut>(alloc: Global, format: Format, file: &[u8], output: &mut O) -> Result<u8, Fault>
+    requires writes { O.failed output.old < 2 ^ 64 - 1 }
+    ensures does { IfOk result (Writes (IsPicture format file.now) (O.contents output.old) (O.contents output.new)) }
+    ensures does_not { IfErr result (WritesNot (IsPicture format file.now) (graph_in file.now) (O.contents output.old) (O.contents output.new)) }
+    ensures failed_writes { O.failed output.new ≡ O.failed output.old + writes_in result }
+{
+    match draw_file(alloc, format, file) {
         Ok(outcome) => written(output, &outcome),
         Err(fault) => Err(fault),
     }
@@ -226,6 +243,24 @@ fn check_file(alloc: Global, file: &[u8]) -> Result<Outcome, Fault>
     let graph = valid_graph(alloc, file)?;
     let text = told_of(alloc, &graph)?;
     Ok(Outcome { text, status: 0 })
+}
+
+// The picture of the graph of a file.
+fn draw_file(alloc: Global, format: Format, file: &[u8]) -> Result<Outcome, Fault>
+    ensures ok { IfOk result (λ outcome. IsPicture format file.now outcome.text.items outcome.status) }
+    ensures refused { IfErr result (Refuses (graph_in file.now)) }
+{
+    let valid = valid_graph(alloc, file)?;
+    let text = picture_of(alloc, format, &valid)?;
+    Ok(Outcome { text, status: 0 })
+}
+
+// The picture of a valid graph.
+fn picture_of(alloc: Global, format: Format, graph: &Valid<Kind>) -> Result<Vec<u8>, AllocError>
+    ensures { IfOk result (λ text. text.items ≡ drawn_text format graph.now) }
+{
+    let rates = balance(alloc, graph)?;
+    drawn(alloc, graph, &rates, format)
 }
 
 // What is told of a valid graph.

@@ -3,6 +3,7 @@
 ghost use Rattle.std.specs.Prelude.{◌≡◌, ◌&&◌, not};
 
 use clap::{Arg, ArgAction};
+use drawings::Format;
 use flow::serve::Command;
 use std::alloc::{AllocError, Global};
 
@@ -33,6 +34,7 @@ pub fn call_of<'a>(alloc: Global, words: &'a [String]) -> Result<Call<'a>, clap:
     };
     let command = match name {
         "check" => Command::Check,
+        "draw" => Command::Draw(format_of(inner.get_str("format"))),
         "run" if inner.get_flag("one-thread") => Command::RunAlone,
         "run" => Command::Run,
         "live" => Command::Live,
@@ -48,24 +50,16 @@ pub fn call_of<'a>(alloc: Global, words: &'a [String]) -> Result<Call<'a>, clap:
     }
 }
 
+// The format of a picture. No other words are taken.
+fn format_of(word: Option<&str>) -> Format {
+    match word {
+        Some("mermaid") => Format::Mermaid,
+        _ => Format::Dot,
+    }
+}
+
 // The words that the program knows.
 fn commands<'a>(alloc: Global) -> Result<clap::Command<'a>, clap::Error> {
-    let one_thread = Arg::new(alloc, "one-thread")
-        .long("one-thread")
-        .action(ArgAction::SetTrue)
-        .help("Runs all blocks on one thread");
-    let check = subcommand(alloc, "check", "Reads the graph and reports on it")?;
-    let run = subcommand(alloc, "run", "Runs the graph and prints what its sinks hold")?;
-    let live = subcommand(
-        alloc,
-        "live",
-        "Runs the graph while the commands of standard input are done",
-    )?;
-    let script = subcommand(
-        alloc,
-        "script",
-        "Runs the commands of standard input on the graph",
-    )?;
     // The name of the built file is another.
     Ok(
         clap::Command::new(alloc, "flow")
@@ -73,11 +67,56 @@ fn commands<'a>(alloc: Global) -> Result<clap::Command<'a>, clap::Error> {
             .version(VERSION)
             .about("Runs a flowgraph that a file describes")
             .subcommand_required(true)
-            .subcommand(check)?
-            .subcommand(run.arg(quiet(alloc))?.arg(one_thread)?)?
-            .subcommand(live.arg(quiet(alloc))?)?
-            .subcommand(script)?,
+            .subcommand(subcommand(alloc, "check", "Reads the graph and reports on it")?)?
+            .subcommand(draw_command(alloc)?)?
+            .subcommand(run_command(alloc)?)?
+            .subcommand(live_command(alloc)?)?
+            .subcommand(subcommand(
+                alloc,
+                "script",
+                "Runs the commands of standard input on the graph",
+            )?)?,
     )
+}
+
+fn draw_command<'a>(alloc: Global) -> Result<clap::Command<'a>, clap::Error> {
+    let format = Arg::new(alloc, "format")
+        .long("format")
+        .value_name("FORMAT")
+        .value_parser(["dot", "mermaid"].as_slice())
+        .default_value("dot")
+        .help("The language of the text");
+    Ok(subcommand(
+        alloc,
+        "draw",
+        "Writes the graph as text from which a picture is made",
+    )?
+    .arg(format)?)
+}
+
+fn run_command<'a>(alloc: Global) -> Result<clap::Command<'a>, clap::Error> {
+    let one_thread = Arg::new(alloc, "one-thread")
+        .long("one-thread")
+        .action(ArgAction::SetTrue)
+        .help("Runs all blocks on one thread");
+    Ok(
+        subcommand(
+            alloc,
+            "run",
+            "Runs the graph and prints what its sinks hold",
+        )?
+        .arg(quiet(alloc))?
+        .arg(one_thread)?,
+    )
+}
+
+fn live_command<'a>(alloc: Global) -> Result<clap::Command<'a>, clap::Error> {
+    Ok(subcommand(
+        alloc,
+        "live",
+        "Runs the graph while the commands of standard input are done",
+    )?
+    .arg(quiet(alloc))?)
 }
 
 // The word that says no to progress.

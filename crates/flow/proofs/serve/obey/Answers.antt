@@ -1,5 +1,5 @@
 use Rattle.std.proofs.Common.{refl}
-use Rattle.flow.specs.Serve.{IsCheck, IsRun, IsRunAlone, graph_in, plant_in}
+use Rattle.flow.specs.Serve.{IsCheck, IsPicture, IsRun, IsRunAlone, graph_in, plant_in}
 use Rattle.flow.proofs.Outcomes.{if_ok, if_err, no_more, no_reads, no_reads_of_run}
 use Rattle.flow.proofs.serve.obey.Goals as goal
 
@@ -13,6 +13,17 @@ pub returns-in-Check-clause-failed_reads : goal.returns-in-Check-clause-failed_r
 returns-in-Check-clause-failed_reads g c =
     rw c.in-Check.is
     (no_more _ _ (no_reads (IsCheck c.args.file.now) (graph_in c.args.file.now) (g.O.ByteOut.contents c.args.output.now) (g.O.ByteOut.contents c.check.new.output) c.check.result c.check.ensures.does_not))
+
+pub returns-in-Draw-clause-does : goal.returns-in-Draw-clause-does
+returns-in-Draw-clause-does g c = rw c.in-Draw.is (if_ok c.draw.result _ _ c.draw.ensures.does (λ status h. (refl, h)))
+
+pub returns-in-Draw-clause-does_not : goal.returns-in-Draw-clause-does_not
+returns-in-Draw-clause-does_not g c = rw c.in-Draw.is (if_err c.draw.result _ _ c.draw.ensures.does_not (λ fault h. (refl, h)))
+
+pub returns-in-Draw-clause-failed_reads : goal.returns-in-Draw-clause-failed_reads
+returns-in-Draw-clause-failed_reads g c =
+    rw c.in-Draw.is
+    (no_more _ _ (no_reads (IsPicture c.in-Draw.format c.args.file.now) (graph_in c.args.file.now) (g.O.ByteOut.contents c.args.output.now) (g.O.ByteOut.contents c.draw.new.output) c.draw.result c.draw.ensures.does_not))
 
 pub returns-in-Run-clause-does : goal.returns-in-Run-clause-does
 returns-in-Run-clause-does g c = rw c.in-Run.is (if_ok c.run.result _ _ c.run.ensures.does (λ status h. (refl, h)))
