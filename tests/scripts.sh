@@ -259,7 +259,7 @@ bad space_before_a_comment ' # x'
 bad byte '\xff'
 
 # Pictures.
-dot='digraph {\n  rankdir=LR;\n  node [shape=record];\n  "src" [label="{src\\\\nvector_source\\\\nq 1|{<o0> 0}}"];\n  "a" [label="{{<i0> 0}|a\\\\nadd_const\\\\nq 1|{<o0> 0}}"];\n  "out" [label="{{<i0> 0}|out\\\\nvector_sink\\\\nq 1}"];\n  "src":o0:e -> "a":i0:w [label="byte 4096", color="#9C27B0"];\n  "a":o0:e -> "out":i0:w [label="byte 4096", color="#9C27B0"];\n}\n'
+dot='digraph {\n  rankdir=LR;\n  node [shape=record];\n  "src" [label="{src\\nvector_source\\nq 1|{<o0> 0}}"];\n  "a" [label="{{<i0> 0}|a\\nadd_const\\nq 1|{<o0> 0}}"];\n  "out" [label="{{<i0> 0}|out\\nvector_sink\\nq 1}"];\n  "src":o0:e -> "a":i0:w [label="byte 4096", color="#9C27B0"];\n  "a":o0:e -> "out":i0:w [label="byte 4096", color="#9C27B0"];\n}\n'
 ends picture 0 "$dot" '' draw plain.toml
 ends picture_for_dot 0 "$dot" '' draw --format dot plain.toml
 ends picture_for_mermaid 0 'flowchart LR\n  b0["src<br/>vector_source<br/>q 1"]\n  b1["a<br/>add_const<br/>q 1"]\n  b2["out<br/>vector_sink<br/>q 1"]\n  b0 -->|"0 to 0: byte 4096"| b1\n  linkStyle 0 stroke:#9C27B0\n  b1 -->|"0 to 0: byte 4096"| b2\n  linkStyle 1 stroke:#9C27B0\n' '' \
