@@ -1,6 +1,8 @@
 mod Agreeing
 mod Descents
 mod Desks
+pub mod RawFeeds
+pub mod FedBytes
 pub mod Flows
 pub mod Flying
 pub mod Sessions

@@ -6,3 +6,5 @@ pub mod Reports
 pub mod Serve
 pub mod Starts
 pub mod Threads
+pub mod RawFaults
+pub mod RawFeeds

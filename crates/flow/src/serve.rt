@@ -324,8 +324,8 @@ fn valid_graph(alloc: Global, file: &[u8]) -> Result<Valid<Kind>, FileFault>
     }
 }
 
-// The plant of a file, with its feeds on the tapes.
-fn open_plant(alloc: Global, file: &[u8]) -> Result<Plant<Kind>, FileFault>
+/// The plant of a file, with its feeds on the tapes.
+pub(crate) fn open_plant(alloc: Global, file: &[u8]) -> Result<Plant<Kind>, FileFault>
     ensures ok { IfOk result (λ plant. plant_in file.now ≡ Ok (opened_of plant)) }
     ensures idle { IfOk result (λ plant. is_idle plant.state ≡ true) }
     ensures refused { IfErr result (IsRefused (plant_in file.now)) }

@@ -122,8 +122,16 @@ pub(crate) fn find<B: Block>(graph: &Valid<B>, name: &BlockName) -> Option<Block
     ensures named { option_map (λ block. block.0) result ≡ position (bytes_eq name.now) graph.now.names }
     ensures inside { IfSome result (λ block. block.0 < length graph.now.blocks) }
 {
+    find_named(graph, name.bytes())
+}
+
+/// The same of any text.
+pub(crate) fn find_named<B: Block>(graph: &Valid<B>, name: &[u8]) -> Option<BlockId>
+    ensures named { option_map (λ block. block.0) result ≡ position (bytes_eq name.now) graph.now.names }
+    ensures inside { IfSome result (λ block. block.0 < length graph.now.blocks) }
+{
     graph.in_order();
-    graph.find(name.bytes())
+    graph.find(name)
 }
 
 // Makes the call that a command asks for on a block.

@@ -1,15 +1,18 @@
 //! How the program says why a command stopped. No memory is asked for, so that it is said of every fault.
 
-ghost use Rattle.std.specs.Prelude.{◌≡◌, ◌+◌, ◌-◌, ◌^◌, ◌<◌, ◌++◌, ◌∷◌, [], OnOk, OnErr, is_ok, if◌then◌else◌};
+ghost use Rattle.std.specs.Prelude.{◌≡◌, ◌+◌, ◌-◌, ◌^◌, ◌<◌, ◌++◌, ◌∷◌, [], codes, OnOk, OnErr, is_ok, if◌then◌else◌};
 ghost use Rattle.std.specs.List.{flat_map};
 ghost use Rattle.std.specs.Io.KnownBytes.{Appends};
 ghost use Rattle.script_text.specs.Ends.{AppendsBeginning};
-ghost use Rattle.graph_file.specs.Texts.{piece_text};
+ghost use Rattle.graph_file.specs.Texts.{joined, piece_text};
+ghost use Rattle.script_text.specs.Replies.{line_text};
 ghost use Rattle.flow.specs.Faults.{fault_line};
+ghost use Rattle.flow.specs.RawFaults.{raw_fault_line};
 ghost use Rattle.flow.specs.Serve.{Tries, stream};
 
 use crate::fault::Fault;
-use graph_file::Piece;
+use crate::raw_fault::RawFault;
+use graph_file::{Piece, Pieces};
 use itoa::Buffer;
 use script_text::{Broken, ByteOut};
 
@@ -18,7 +21,22 @@ pub(crate) fn report<E: ByteOut>(fault: &Fault, errors: &mut E)
     requires { E.failed errors.old < 2 ^ 64 - 1 }
     ensures { Tries (stream (E.contents errors.old) (E.failed errors.old)) (stream (E.contents errors.new) (E.failed errors.new)) (fault_line fault.now) }
 {
-    let pieces = fault.pieces();
+    report_pieces(fault.pieces(), errors);
+}
+
+/// The same of a run with raw items.
+pub fn report_raw<E: ByteOut>(fault: &RawFault, errors: &mut E)
+    requires { E.failed errors.old < 2 ^ 64 - 1 }
+    ensures { Tries (stream (E.contents errors.old) (E.failed errors.old)) (stream (E.contents errors.new) (E.failed errors.new)) (raw_fault_line fault.now) }
+{
+    report_pieces(fault.pieces(), errors);
+}
+
+// Writes the line of a refusal with this text.
+fn report_pieces<E: ByteOut>(pieces: Pieces<'_>, errors: &mut E)
+    requires { E.failed errors.old < 2 ^ 64 - 1 }
+    ensures { Tries (stream (E.contents errors.old) (E.failed errors.old)) (stream (E.contents errors.new) (E.failed errors.new)) (line_text (codes "flow: refused " ++ joined pieces.entry)) }
+{
     match errors.write(b"flow: refused ") {
         Ok(()) => tell(errors, pieces.list.as_slice()),
         Err(_) => {}

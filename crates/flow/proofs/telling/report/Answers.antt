@@ -1,17 +1,12 @@
-use Rattle.std.proofs.Common.{List, ℕ, ◌++◌, ◌∷◌, [], ◌∙◌, ap, subst}
+use Rattle.std.proofs.Common.{List, ℕ, ◌++◌, subst}
 use Rattle.std.specs.Prelude.{codes}
-use Rattle.std.specs.List.{flat_map}
-use Rattle.graph_file.specs.Texts.{piece_text}
-use Rattle.flow.specs.Faults.{fault_text}
+use Rattle.script_text.specs.Replies.{line_text}
 use Rattle.flow.specs.Serve.{Tries, stream}
-use Rattle.flow.proofs.Serving.{tries_on, tries_not}
 use Rattle.flow.proofs.telling.report.Goals as goal
 
-pub returns-in-Ok : goal.returns-in-Ok
-returns-in-Ok g c =
-    let text = ap (flat_map piece_text) c.as_slice.ensures ∙ c.pieces-pieces.ensures in
-    tries_on _ (g.E.ByteOut.contents c.write.new.self) _ _ (g.E.ByteOut.failed c.write.new.self) _ (codes "flow: refused ") (fault_text c.args.fault.now ++ 10 ∷ []) c.in-Ok.ensures.ok c.in-Ok.ensures.counted
-    (subst (λ (shown : List ℕ). Tries (stream (g.E.ByteOut.contents c.write.new.self) (g.E.ByteOut.failed c.write.new.self)) (stream (g.E.ByteOut.contents c.tell.new.errors) (g.E.ByteOut.failed c.tell.new.errors)) (shown ++ 10 ∷ [])) text c.tell.ensures)
-
-pub returns-in-Err : goal.returns-in-Err
-returns-in-Err g c = tries_not _ _ _ _ (codes "flow: refused ") (fault_text c.args.fault.now ++ 10 ∷ []) c.in-Err.ensures.err c.in-Err.ensures.counted
+pub returns : goal.returns
+returns g c =
+    subst
+    (λ (text : List ℕ). Tries (stream (g.E.ByteOut.contents c.args.errors.now) (g.E.ByteOut.failed c.args.errors.now))
+    (stream (g.E.ByteOut.contents c.report_pieces.new.errors) (g.E.ByteOut.failed c.report_pieces.new.errors)) (line_text (codes "flow: refused " ++ text)))
+    c.pieces.ensures c.report_pieces.ensures

@@ -1,0 +1,164 @@
+//! Why a run with raw items stops, and how it says so.
+
+ghost use Rattle.std.specs.Prelude.{◌≡◌, ◌++◌, codes};
+ghost use Rattle.flow.specs.declared.fault.Fault.TheVariants.{Script};
+ghost use Rattle.flow.specs.declared.raw_fault.RawFault.TheVariants.{Whole};
+ghost use Rattle.flow.specs.declared.script.ScriptFault.TheVariants.{Memory};
+ghost use Rattle.graph_file.specs.Texts.{joined};
+ghost use Rattle.flow.specs.RawFaults.{end_text, place_word, place_number, place_text};
+
+use crate::fault::Fault;
+use crate::script::ScriptFault;
+use graph_file::{Piece, Pieces};
+use std::alloc::AllocError;
+use std::fmt;
+use thiserror::Error;
+
+/// What is wrong at an end of a run: an input that feeds a source, or an output that takes what a sink holds.
+#[derive(Clone, Copy, Debug, PartialEq, Eq)]
+pub enum EndFault {
+    /// No block of the graph has the name.
+    NoSuchBlock,
+    /// The block is no source.
+    NotSource,
+    /// The block keeps no items.
+    NotSink,
+    /// The source's tape was closed before.
+    Closed,
+    /// The tape would be longer than 2^32 items.
+    TapeFull,
+    /// It could not be opened, or a read failed.
+    Read,
+    /// It could not be made, or a write failed.
+    Write,
+    /// The input ends within an item.
+    CutItem,
+}
+
+/// Which end of a run, each counted from 0.
+#[derive(Clone, Copy, Debug, PartialEq, Eq)]
+pub enum EndPlace {
+    /// An input of raw items.
+    Input(usize),
+    /// An output of raw items.
+    Output(usize),
+    /// An output of tags.
+    Tags(usize),
+}
+
+/// Why a run with raw items stopped. Its text is the number of the refusal, its name, and what the name alone does not say.
+#[derive(Debug, Drop, Error)]
+pub enum RawFault {
+    /// As without raw items: the graph file is refused, the run failed, or memory or the report did.
+    Whole(Fault),
+    /// An end of the run is refused, or its device failed.
+    End(EndPlace, EndFault),
+}
+
+impl EndFault {
+    /// The number of the refusal and its name.
+    pub fn text(self) -> &'static str
+        ensures { result.now ≡ end_text self }
+    {
+        match self {
+            EndFault::NoSuchBlock => "20 NoSuchBlock",
+            EndFault::NotSource => "21 NotSource",
+            EndFault::NotSink => "22 NotSink",
+            EndFault::Closed => "23 Closed",
+            EndFault::TapeFull => "26 TapeFull",
+            EndFault::Read => "51 Read",
+            EndFault::Write => "52 Write",
+            EndFault::CutItem => "53 CutItem",
+        }
+    }
+}
+
+impl EndPlace {
+    // The word for ends of its sort.
+    fn word(self) -> &'static str
+        ensures { result.now ≡ place_word self }
+    {
+        match self {
+            EndPlace::Input(_) => " input ",
+            EndPlace::Output(_) => " output ",
+            EndPlace::Tags(_) => " tags ",
+        }
+    }
+
+    fn number(self) -> usize
+        ensures { result ≡ place_number self }
+    {
+        match self {
+            EndPlace::Input(number) | EndPlace::Output(number) | EndPlace::Tags(number) => number,
+        }
+    }
+}
+
+impl RawFault {
+    ghost use Rattle.flow.specs.RawFaults.{raw_fault_text, raw_status_of};
+
+    /// The exit status that the fault brings: 4 for memory, devices and threads, 1 for every other refusal.
+    pub fn status(&self) -> u8
+        ensures { result ≡ raw_status_of self.now }
+    {
+        match self {
+            RawFault::Whole(fault) => fault.status(),
+            RawFault::End(_, EndFault::Read | EndFault::Write) => 4,
+            RawFault::End(_, _) => 1,
+        }
+    }
+
+    /// The text of the fault in pieces, for which no memory is asked.
+    pub fn pieces(&self) -> Pieces<'_>
+        ensures { joined result ≡ raw_fault_text self.now }
+    {
+        match self {
+            RawFault::Whole(fault) => fault.pieces(),
+            RawFault::End(place, fault) => placed(fault.text(), *place),
+        }
+    }
+}
+
+// A word and a place.
+fn placed(word: &'static str, place: EndPlace) -> Pieces<'static>
+    ensures { joined result ≡ word.now ++ place_text place }
+{
+    let none = Piece::Text("");
+    Pieces {
+        list: [
+            Piece::Text(word),
+            Piece::Text(place.word()),
+            Piece::Number(place.number() as u64),
+            none,
+            none,
+            none,
+        ],
+    }
+}
+
+impl From<Fault> for RawFault {
+    ghost from_gives = { λ fault e. e ≡ Whole fault };
+
+    fn from(fault: Fault) -> RawFault {
+        RawFault::Whole(fault)
+    }
+}
+
+impl From<AllocError> for RawFault {
+    ghost from_gives = { λ _ e. e ≡ Whole (Script Memory) };
+
+    fn from(_refusal: AllocError) -> RawFault {
+        RawFault::Whole(Fault::Script(ScriptFault::Memory))
+    }
+}
+
+impl fmt::Display for RawFault {
+    ghost use Rattle.std.specs.Prelude.{Some};
+    ghost use Rattle.flow.specs.RawFaults.{raw_fault_text};
+
+    ghost output = { λ fault. Some (raw_fault_text fault) };
+
+    fn fmt<W: fmt::Write>(&self, f: &mut fmt::Formatter<W>) -> fmt::Result {
+        write!(f, "{}", self.pieces())
+    }
+}
