@@ -3,6 +3,7 @@ mod Descents
 mod Desks
 pub mod RawFeeds
 pub mod FedBytes
+pub mod HeldPieces
 pub mod Flows
 pub mod Flying
 pub mod Sessions

@@ -8,3 +8,4 @@ pub mod Starts
 pub mod Threads
 pub mod RawFaults
 pub mod RawFeeds
+pub mod RawEnds

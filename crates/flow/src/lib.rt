@@ -9,6 +9,7 @@ pub mod fault;
 mod line_caller;
 mod live;
 pub mod raw_fault;
+mod raw_output;
 pub mod raw_run;
 mod reports;
 mod running;
