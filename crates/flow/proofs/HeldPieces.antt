@@ -1,27 +1,26 @@
 -- What a sink holds, piece by piece.
-use Rattle.std.proofs.Common.{◌≡◌, ℕ, ◌+◌, ◌-◌, ◌≤◌, ◌<◌, min, List, [], ◌∷◌, ◌++◌, length, map, take, drop, Bool, true, false, not, refl, ap, sym, ◌∙◌, subst, arith, nat_lt, ltb-true, ltb-false, append-nil, append_assoc, ℤ, zero, suc, Some, None, length-append, take_all, take-take}
+use Rattle.std.proofs.Common.{◌≡◌, ℕ, ◌+◌, ◌-◌, ◌≤◌, ◌<◌, min, List, [], ◌∷◌, ◌++◌, length, take, drop, not, refl, ap, sym, ◌∙◌, subst, arith, nat_lt, ltb-true, ltb-false, append_assoc, ℤ, zero, suc, length-append, take_all, take-take}
 use Rattle.std.proofs.Math.Seq.{take-append-add}
 use Rattle.std.proofs.lemmas.List.{length-take, length-drop, take-append-drop, take-append-le}
 use Rattle.std.proofs.lemmas.Grind.{flat_map-append}
-use Rattle.std.specs.Prelude.{Option, slice_range, if◌then◌else◌}
+use Rattle.std.specs.Prelude.{Option, slice_range}
 use Rattle.std.specs.List.{flat_map}
 use Rattle.std.specs.Io.KnownBytes.{Appends}
 use Rattle.std.proofs.KnownBytes.{Appends-nil, Appends-trans}
 use Rattle.stream_model.specs.declared.vocabulary.ItemType.{ItemType}
 use Rattle.stream_model.specs.Meaning.{input}
-use Rattle.stream_model.specs.Tags.{Tag, tags_within}
+use Rattle.stream_model.specs.Tags.{tags_within}
 use Rattle.stream_model.specs.Network.{Network, State, progress_at, role_at, is_keeper, entering, tags_entering}
 use Rattle.stream_model.specs.Machine as machine
 use Rattle.stream_model.specs.Machine.{Reply, read_of}
 use Rattle.machine_laws.proofs.Choices.{if_both}
-use Rattle.items.specs.Items.{numbers_of, type_of}
-use Rattle.items.specs.Tags.{tag_of}
+use Rattle.items.specs.Items.{type_of}
 use Rattle.plant.specs.declared.answers.Piece.{Piece}
 use Rattle.plant.specs.Answers.{piece_reply}
 use Rattle.raw_items.specs.declared.byte_order.ByteOrder.{ByteOrder}
-use Rattle.raw_items.specs.Values.{all_bytes_of, bytes_of}
+use Rattle.raw_items.specs.Values.{all_bytes_of}
 use Rattle.script_text.specs.Ends.{AppendsBeginning}
-use Rattle.flow.specs.RawEnds.{IsPieceOf, held_bytes, held_count, held_items, held_type}
+use Rattle.flow.specs.RawEnds.{IsPieceOf, held_type}
 
 module _ (net : Network) (st : State) (b from max : ℕ) where
   -- what a sink shows from an item on
@@ -140,6 +139,8 @@ module _ {X : Type 0} (text : X → List ℕ) (xs : List X) (n : ℕ) (out : Opt
       let low = w.within in
       let split : take n xs ≡ take from xs ++ drop from (take n xs) = sym (take-append-drop from (take n xs)) ∙ ap (λ (l : List X). l ++ drop from (take n xs)) (take-take from n xs low) in
       let is : flat_map text (take n xs) ≡ flat_map text (take from xs) ++ flat_map text (drop from (take n xs)) = ap (flat_map text) split ∙ flat_map-append text (take from xs) (drop from (take n xs)) in
-      let size = length-append (flat_map text (take from xs)) (flat_map text (drop from (take n xs))) in
-      (length (flat_map text (take from xs)), omega (arith, ap length is),
-      subst (Appends out out') (sym (ap (take (length (flat_map text (take from xs)))) is ∙ take-append-le (length (flat_map text (take from xs))) (flat_map text (take from xs)) (flat_map text (drop from (take n xs))) (omega arith) ∙ take_all (length (flat_map text (take from xs))) (flat_map text (take from xs)) (omega arith))) w.written)
+      let size = length-append (flat_map text (take from xs)) (flat_map text (drop from (take n xs))) in (
+        length (flat_map text (take from xs)),
+        omega (arith, ap length is),
+        subst (Appends out out') (sym (ap (take (length (flat_map text (take from xs)))) is ∙ take-append-le (length (flat_map text (take from xs))) (flat_map text (take from xs)) (flat_map text (drop from (take n xs))) (omega arith) ∙ take_all (length (flat_map text (take from xs))) (flat_map text (take from xs)) (omega arith))) w.written,
+      )

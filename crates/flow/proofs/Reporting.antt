@@ -22,6 +22,8 @@ use Rattle.plant.specs.declared.answers.Settled.TheVariants.{Done, Quiet}
 use Rattle.graph_file.specs.Blocks.{Draft}
 use Rattle.script_text.specs.Replies.{line_text}
 use Rattle.script_text.specs.Reports.{sink_text, done_text, stalled_text}
+use Rattle.stream_laws.proofs.InTime.{within-none}
+use Rattle.flow.specs.RawEnds.{count_line, held_count}
 use Rattle.flow.specs.Reports.{sink_line, held_line, name_at, settled_text}
 
 -- one block more
@@ -102,3 +104,26 @@ piece_line d st b max from held items tags done name few named e =
     ∙ ap (λ l. line_text (sink_text (name_at d b) s.firings l tags)) items_are
     ∙ ap (λ l. line_text (sink_text (name_at d b) s.firings (take s.firings taken) l)) tags_are
     ∙ sym (sink_kept d st b of.0)
+
+pub count_none : (d : Draft) (st : State) (b : ℕ) → is_keeper (role_at d.net b) ≡ false → count_line d st b ≡ []
+count_none d st b keeps = ap (λ (k : Bool). if k then line_text (sink_text (name_at d b) (held_count st b) [] []) else []) keeps
+
+-- a piece of nothing that a sink holds
+pub piece_count : (d : Draft) (st : State) (b from held : ℕ) (items : List ℤ) (tags : List Tag) (done : Bool) (name : List ℕ) → name_at d b ≡ name →
+    machine.Piece from held items tags done ≡ (read_of d.net st b 0 0).0 → line_text (sink_text name held items tags) ≡ count_line d st b
+piece_count d st b from held items tags done name named e =
+    let s = progress_at st.progress b in
+    let taken = input (entering d.net st.handed b) 0 in
+    let entered = tags_entering d.net st.handed b 0 in
+    let of = piece_of d.net st b 0 from held items tags done e in
+    let count : held ≡ s.firings = cc (of.1) in
+    let none : min (0 + 0) s.firings ≡ 0 = omega arith in
+    let shows : items ≡ slice_range taken 0 (min (0 + 0) s.firings) = cc (of.1) in
+    let tagged : tags ≡ tags_within 0 (min (0 + 0) s.firings) entered = cc (of.1) in
+    let items_are : items ≡ [] = shows ∙ ap (λ (k : ℕ). slice_range taken 0 k) none in
+    let tags_are : tags ≡ [] = tagged ∙ ap (λ (k : ℕ). tags_within 0 k entered) none ∙ within-none 0 entered in
+    ap (λ (l : List ℕ). line_text (sink_text l held items tags)) (sym named)
+    ∙ ap (λ k. line_text (sink_text (name_at d b) k items tags)) count
+    ∙ ap (λ l. line_text (sink_text (name_at d b) s.firings l tags)) items_are
+    ∙ ap (λ l. line_text (sink_text (name_at d b) s.firings [] l)) tags_are
+    ∙ sym (ap (λ (k : Bool). if k then line_text (sink_text (name_at d b) (held_count st b) [] []) else []) of.0)

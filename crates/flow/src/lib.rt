@@ -8,6 +8,7 @@ mod desk_calls;
 pub mod fault;
 mod line_caller;
 mod live;
+pub mod ran_raw;
 pub mod raw_fault;
 mod raw_output;
 pub mod raw_run;

@@ -31,8 +31,8 @@ use std::sync::Wait;
 use std::thread::Threads;
 use top_block::close_all;
 
-// How many firings of a block a run steps at once, at most.
-const TURN: u32 = 65_536;
+/// How many firings of a block a run on one thread steps at once, at most.
+pub(crate) const TURN: u32 = 65_536;
 // The exit status of a run that came to rest before all blocks were done.
 const STALLED: u8 = 3;
 
@@ -303,8 +303,8 @@ fn run_file_alone<W: Watch>(alloc: Global, file: &[u8], watch: &mut W) -> Result
     Ok(Outcome { text, status })
 }
 
-// The status of a run that came to rest.
-fn status_of(done: bool) -> u8
+/// The status of a run that came to rest.
+pub(crate) fn status_of(done: bool) -> u8
     ensures { result ≡ (if done then 0 else 3) }
 {
     if done { 0 } else { STALLED }

@@ -9,7 +9,7 @@ use Rattle.stream_model.specs.Network.{entering}
 use Rattle.raw_items.specs.Values.{bytes_of, all_bytes_of}
 use Rattle.items.specs.Items.{type_of, numbers_of}
 use Rattle.flow.specs.RawEnds.{held_count, held_type}
-use Rattle.flow.proofs.HeldPieces.{piece_bytes, written_all, written_more, written_part, written_so_far}
+use Rattle.flow.proofs.HeldPieces.{piece_bytes, written_more, written_part, written_so_far}
 use Rattle.flow.proofs.raw_output.write_items.Goals as goal
 
 pub returns-in_err-piece-clause-stops : goal.returns-in_err-piece-clause-stops
@@ -39,11 +39,12 @@ returns-in-Err-clause-stops g c =
     let ys = numbers_of c.in_ok-piece.piece.items in
     let shown : c.deref.result.now ≡ all_bytes_of (held_type net b) c.args.order ys =
     piece_bytes (held_type net b) (type_of c.in_ok-piece.piece.items) c.args.order ys c.len-count.result c.clear.new.self.items c.push_item_bytes.new.out.items c.deref.result.now piece.typed c.clear.ensures.items c.len-count.ensures.value
-    c.in_ok-push_item_bytes.ensures.bytes c.deref.ensures.value in
-    (refl,
-    written_part (bytes_of (held_type net b) c.args.order) (input (entering net st.handed b) 0) (held_count st b) (g.O.ByteOut.contents c.args.output.now) c.loop-bytes.from 65536 c.len-count.result (g.O.ByteOut.contents c.loop-bytes.output)
-    c.loop-bytes.invariant.written ys piece.items c.len-count.ensures.value (omega arith) (g.O.ByteOut.contents c.write.new.self)
-    (subst (AppendsBeginning (g.O.ByteOut.contents c.loop-bytes.output) (g.O.ByteOut.contents c.write.new.self)) shown c.in-Err.ensures.err))
+    c.in_ok-push_item_bytes.ensures.bytes c.deref.ensures.value in (
+      refl,
+      written_part (bytes_of (held_type net b) c.args.order) (input (entering net st.handed b) 0) (held_count st b) (g.O.ByteOut.contents c.args.output.now) c.loop-bytes.from 65536 c.len-count.result (g.O.ByteOut.contents c.loop-bytes.output)
+          c.loop-bytes.invariant.written ys piece.items c.len-count.ensures.value (omega arith) (g.O.ByteOut.contents c.write.new.self)
+          (subst (AppendsBeginning (g.O.ByteOut.contents c.loop-bytes.output) (g.O.ByteOut.contents c.write.new.self)) shown c.in-Err.ensures.err),
+    )
 
 pub loop-bytes-preserved : goal.loop-bytes-preserved
 loop-bytes-preserved g c =
