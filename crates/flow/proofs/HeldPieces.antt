@@ -81,6 +81,13 @@ beginning_more a b c front piece rest text is written (k, low, more) =
     ap (take (length front + k)) (is ∙ append_assoc front piece rest) ∙ take-append-add front (piece ++ rest) k ∙ ap (λ (l : List ℕ). front ++ l) (take-append-le k piece rest low) in
     (length front + k, omega (arith, ap length is), subst (Appends a c) (sym here) (Appends-trans a b c front (take k piece) written more))
 
+-- what was written is a beginning of a text that it and more are
+pub beginning_here : (a b : Option (List ℕ)) (front rest text : List ℕ) → text ≡ front ++ rest → Appends a b front → AppendsBeginning a b text
+beginning_here a b front rest text is written =
+    let size = length-append front rest in
+    let whole : take (length front) text ≡ front = ap (take (length front)) is ∙ take-append-le (length front) front rest (omega arith) ∙ take_all (length front) front (omega arith) in
+    (length front, omega (arith, ap length is), subst (Appends a b) (sym whole) written)
+
 -- the texts of a list's elements, written up to an element
 module _ {X : Type 0} (text : X → List ℕ) (xs : List X) (n : ℕ) (out : Option (List ℕ)) where
   pub record Written (from : ℕ) (out' : Option (List ℕ)) : Type 0 where
@@ -139,8 +146,4 @@ module _ {X : Type 0} (text : X → List ℕ) (xs : List X) (n : ℕ) (out : Opt
       let low = w.within in
       let split : take n xs ≡ take from xs ++ drop from (take n xs) = sym (take-append-drop from (take n xs)) ∙ ap (λ (l : List X). l ++ drop from (take n xs)) (take-take from n xs low) in
       let is : flat_map text (take n xs) ≡ flat_map text (take from xs) ++ flat_map text (drop from (take n xs)) = ap (flat_map text) split ∙ flat_map-append text (take from xs) (drop from (take n xs)) in
-      let size = length-append (flat_map text (take from xs)) (flat_map text (drop from (take n xs))) in (
-        length (flat_map text (take from xs)),
-        omega (arith, ap length is),
-        subst (Appends out out') (sym (ap (take (length (flat_map text (take from xs)))) is ∙ take-append-le (length (flat_map text (take from xs))) (flat_map text (take from xs)) (flat_map text (drop from (take n xs))) (omega arith) ∙ take_all (length (flat_map text (take from xs))) (flat_map text (take from xs)) (omega arith))) w.written,
-      )
+      beginning_here out out' (flat_map text (take from xs)) (flat_map text (drop from (take n xs))) (flat_map text (take n xs)) is w.written

@@ -4,6 +4,7 @@ mod Desks
 pub mod RawFeeds
 pub mod FedBytes
 pub mod HeldPieces
+pub mod HeldTags
 pub mod Flows
 pub mod Flying
 pub mod Sessions

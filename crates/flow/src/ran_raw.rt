@@ -7,11 +7,11 @@ ghost use Rattle.flowgraph.specs.Flowgraph.{net_of};
 ghost use Rattle.kinds.specs.Kind.{meaning_of};
 ghost use Rattle.plant.specs.Settling.{HasSettled};
 ghost use Rattle.graph_file.specs.Blocks.{drafted};
-ghost use Rattle.flow.specs.RawEnds.{held_bytes, raw_text, StopsWriting};
+ghost use Rattle.flow.specs.RawEnds.{held_bytes, held_lines, raw_text, StopsWriting};
 ghost use Rattle.flow.specs.RawFeeds.{raw_writes};
 
 use crate::raw_fault::{EndPlace, RawFault};
-use crate::raw_output::write_items;
+use crate::raw_output::{write_items, write_tags};
 use crate::reports::ended_but;
 use crate::serve::status_of;
 use flowgraph::{BlockId, Valid};
@@ -81,6 +81,22 @@ impl RanRaw {
         ensures failed_writes { O.failed output.new ≡ O.failed output.old + raw_writes result }
     {
         write_items(alloc, &self.plant, place, sink, order, output)
+    }
+
+    /// Writes a line for each tag on the items that a sink holds.
+    pub fn write_tags<O: ByteOut>(
+        &self,
+        alloc: Global,
+        place: EndPlace,
+        sink: BlockId,
+        output: &mut O,
+    ) -> Result<(), RawFault>
+        requires writes { O.failed output.old < 2 ^ 64 - 1 }
+        ensures written { OnOk result (Appends (O.contents output.old) (O.contents output.new) (held_lines (net_of meaning_of self.now.graph) self.now.state sink.0)) }
+        ensures stops { IfErr result (StopsWriting (net_of meaning_of self.now.graph) sink.0 place (O.contents output.old) (O.contents output.new) (held_lines (net_of meaning_of self.now.graph) self.now.state sink.0)) }
+        ensures failed_writes { O.failed output.new ≡ O.failed output.old + raw_writes result }
+    {
+        write_tags(alloc, &self.plant, place, sink, output)
     }
 
     /// The report on the run: what each sink holds, of those that are written elsewhere only how many items, and how the run ended.
