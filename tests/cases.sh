@@ -50,7 +50,7 @@ run_cases() {
     if [[ -v joined ]]; then
         return
     fi
-    for graph in "$room"/graphs/*.toml; do
+    for graph in "$room"/graphs/*; do
         data+=(--data "$(basename -- "$graph")=$graph")
     done
     (cd -- "$top/crates/$program_crate" && rt try --cases "$room/cases" "${data[@]}") >"$room/output" 2>"$room/said" </dev/null || true

@@ -30,7 +30,10 @@ declare -A help_of=(
     [draw]=$(help_text "Writes the graph as text from which a picture is made" "draw [OPTIONS] <FILE>" \
         "      --format <FORMAT>  The language of the text [default: dot] [possible values: dot, mermaid]" "  -h, --help             Print help")
     [run]=$(help_text "Runs the graph and prints what its sinks hold" "run [OPTIONS] <FILE>" \
-        "  -q, --quiet       Shows no progress on a terminal" "      --one-thread  Runs all blocks on one thread" "  -h, --help        Print help")
+        "  -q, --quiet                Shows no progress on a terminal" "      --one-thread           Runs all blocks on one thread" \
+        "      --big-endian           Takes the highest byte of a raw item as its first" "  -i, --input <BLOCK=PATH>   Feeds the raw items of a file to a source" \
+        "  -o, --output <BLOCK=PATH>  Writes the items of a sink to a file, raw" "      --tags <BLOCK=PATH>    Writes the tags of a sink to a file, a line each" \
+        "  -h, --help                 Print help")
     [live]=$(help_text "Runs the graph while the commands of standard input are done" "live [OPTIONS] <FILE>" \
         "  -q, --quiet  Shows no progress on a terminal" "  -h, --help   Print help")
     [script]=$(help_text "Runs the commands of standard input on the graph" "script <FILE>" "  -h, --help  Print help")

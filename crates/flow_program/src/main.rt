@@ -1,9 +1,12 @@
 //! The program `flow`: runs a flowgraph that a file describes.
 #![tactic(auto)]
 
+mod ends;
+mod raw;
 mod terminal;
 mod words;
 
+use crate::raw::run_raw;
 use crate::terminal::Terminal;
 use crate::words::{Call, call_of};
 use clap::error::ErrorKind;
@@ -60,6 +63,9 @@ fn run<R: Threads + Wait + Copy + Send + Sync + 'static>(
         Ok(file) => file,
         Err(error) => return begins_none(rt, StartFault::of_file(error.kind())),
     };
+    if !call.ends.are_none() {
+        return run_raw(threads, rt, call.command, &file, &call.ends, &mut terminal);
+    }
     let mut input = ReadEnd::new(rt.reader());
     let mut output = WriteEnd::new(std::io::writer(rt));
     let mut errors = WriteEnd::new(rt.stderr());

@@ -2,6 +2,8 @@
 
 ghost use Rattle.std.specs.Prelude.{◌≡◌, ◌&&◌, not};
 
+use super::ends::Ends;
+use clap::error::ErrorKind;
 use clap::{Arg, ArgAction};
 use drawings::Format;
 use flow::serve::Command;
@@ -10,11 +12,12 @@ use std::alloc::{AllocError, Global};
 const VERSION: &str = "0.1.0";
 
 /// What the words ask for.
-#[derive(Clone, Copy)]
+#[derive(Drop)]
 pub struct Call<'a> {
     pub command: Command,
     pub path: &'a str,
     pub is_quiet: bool,
+    pub ends: Ends<'a>,
 }
 
 impl Call<'_> {
@@ -28,7 +31,8 @@ impl Call<'_> {
 
 /// The call that the words ask for; the first word is none of them.
 pub fn call_of<'a>(alloc: Global, words: &'a [String]) -> Result<Call<'a>, clap::Error> {
-    let matches = commands(alloc)?.try_get_matches_from(words)?;
+    let mut flow = commands(alloc)?;
+    let matches = flow.try_get_matches_from_mut(words)?;
     let Some((name, inner)) = matches.subcommand() else {
         return Err(clap::Error::from(AllocError));
     };
@@ -40,11 +44,21 @@ pub fn call_of<'a>(alloc: Global, words: &'a [String]) -> Result<Call<'a>, clap:
         "live" => Command::Live,
         _ => Command::Script,
     };
+    let ends = match Ends::of_words(alloc, inner) {
+        Ok(ends) => ends,
+        Err(fault) => {
+            return Err(match fault.text() {
+                Some(text) => flow.error(ErrorKind::ValueValidation, text)?,
+                None => clap::Error::from(AllocError),
+            });
+        }
+    };
     match inner.get_str("FILE") {
         Some(path) => Ok(Call {
             command,
             path,
             is_quiet: inner.get_flag("quiet"),
+            ends,
         }),
         None => Err(clap::Error::from(AllocError)),
     }
@@ -99,15 +113,37 @@ fn run_command<'a>(alloc: Global) -> Result<clap::Command<'a>, clap::Error> {
         .long("one-thread")
         .action(ArgAction::SetTrue)
         .help("Runs all blocks on one thread");
-    Ok(
-        subcommand(
-            alloc,
-            "run",
-            "Runs the graph and prints what its sinks hold",
-        )?
-        .arg(quiet(alloc))?
-        .arg(one_thread)?,
-    )
+    let run = subcommand(
+        alloc,
+        "run",
+        "Runs the graph and prints what its sinks hold",
+    )?;
+    with_ends(alloc, run.arg(quiet(alloc))?.arg(one_thread)?)
+}
+
+// The words for files of raw items.
+fn with_ends<'a>(alloc: Global, run: clap::Command<'a>) -> Result<clap::Command<'a>, clap::Error> {
+    let big_endian = Arg::new(alloc, "big-endian")
+        .long("big-endian")
+        .action(ArgAction::SetTrue)
+        .help("Takes the highest byte of a raw item as its first");
+    let input = ends(alloc, "input", "Feeds the raw items of a file to a source").short('i');
+    let output = ends(alloc, "output", "Writes the items of a sink to a file, raw").short('o');
+    let tags = ends(
+        alloc,
+        "tags",
+        "Writes the tags of a sink to a file, a line each",
+    );
+    Ok(run.arg(big_endian)?.arg(input)?.arg(output)?.arg(tags)?)
+}
+
+// A word for files, each with its block.
+fn ends<'a>(alloc: Global, name: &'a str, help: &'a str) -> Arg<'a> {
+    Arg::new(alloc, name)
+        .long(name)
+        .action(ArgAction::Append)
+        .value_name("BLOCK=PATH")
+        .help(help)
 }
 
 fn live_command<'a>(alloc: Global) -> Result<clap::Command<'a>, clap::Error> {
