@@ -16,7 +16,7 @@ run_tests() {
         printf '#[cfg(test)]\nmod %s;\n' "$folder" >>"$own/src/lib.rt"
     done
     # (tests/terminal stands over these files of the program)
-    cp -- "$top/crates/$program_crate/src/"{terminal,words}.rt "$own/src/terminal"
+    cp -- "$top/crates/$program_crate/src/"{ends,terminal,words}.rt "$own/src/terminal"
     (cd "$own" && rt try --test) >"$room/said" 2>&1 </dev/null || status=$?
     if [[ $status != 0 ]] || ! grep -q "^test result: ok\. $1 passed" "$room/said"; then
         echo "unproved: the tests of ${*:2}:" >&2
@@ -47,7 +47,7 @@ is_quoted() {
     echo "README.md quotes $1"
 }
 
-run_tests 103 leaves kernels blocks flowgraphs plants threads graph_files streams terminal
+run_tests 111 leaves kernels blocks flowgraphs plants threads graph_files streams terminal
 for bench in kernel_bench graph_bench thread_bench; do
     put_bench "$bench"
     run_program "$bench"

@@ -1,5 +1,7 @@
 //! The files that the words of a run name for its sources and sinks.
 
+ghost use Rattle.std.specs.Prelude.{◌≡◌, ◌↔◌, IsTrue, codes, vec_len};
+
 use clap::ArgMatches;
 use raw_items::ByteOrder;
 use std::alloc::{AllocError, AllocFailed, Global};
@@ -13,7 +15,9 @@ pub struct NamedEnd<'a> {
 
 impl NamedEnd<'_> {
     /// Whether it is a standard stream.
-    pub fn is_standard(&self) -> bool {
+    pub fn is_standard(&self) -> bool
+        ensures { IsTrue result ↔ (self.now.path.now ≡ codes "-") }
+    {
         self.path == "-"
     }
 }
@@ -80,20 +84,25 @@ impl<'a> Ends<'a> {
         if names_twice(&ends.outputs) || names_twice(&ends.tags) {
             return Err(EndsFault::BlockTwice);
         }
-        if 1 < streams(&ends.inputs) || 1 < streams(&ends.outputs) + streams(&ends.tags) {
+        if is_twice(&ends.inputs, &[]) || is_twice(&ends.outputs, &ends.tags) {
             return Err(EndsFault::StreamTwice);
         }
         Ok(ends)
     }
 
     /// Whether there are none.
-    pub fn are_none(&self) -> bool {
+    pub fn are_none(&self) -> bool
+        ensures { IsTrue result ↔ ((vec_len self.now.inputs ≡ 0) × (vec_len self.now.outputs ≡ 0) × (vec_len self.now.tags ≡ 0)) }
+    {
         self.inputs.is_empty() && self.outputs.is_empty() && self.tags.is_empty()
     }
 
     /// Whether standard output has items or tags.
     pub fn use_output(&self) -> bool {
-        streams(&self.outputs) + streams(&self.tags) > 0
+        self.outputs
+            .iter()
+            .chain(&self.tags)
+            .any(|end| end.is_standard())
     }
 }
 
@@ -119,7 +128,8 @@ fn names_twice(ends: &[NamedEnd<'_>]) -> bool {
         .any(|other| other.block == end.block))
 }
 
-// How many of the ends are standard streams.
-fn streams(ends: &[NamedEnd<'_>]) -> usize {
-    ends.iter().filter(|end| end.is_standard()).count()
+// Whether more than one of all these ends is the standard stream.
+fn is_twice(ends: &[NamedEnd<'_>], more: &[NamedEnd<'_>]) -> bool {
+    let streams = ends.iter().chain(more).filter(|end| end.is_standard());
+    1 < streams.count()
 }

@@ -92,14 +92,16 @@ fn sinks(
     ends: &[NamedEnd<'_>],
     of_tags: bool,
 ) -> Result<Vec<BlockId>, RawFault> {
-    let mut sinks = Vec::with_capacity(rt.alloc(), ends.len())?;
+    let mut sinks = Vec::new(rt.alloc());
     for (number, end) in ends.iter().enumerate() {
         let place = if of_tags {
             EndPlace::Tags(number)
         } else {
             EndPlace::Output(number)
         };
-        sinks.push_reserved(sink_named(run.graph(), place, end.block)?);
+        let sink = sink_named(run.graph(), place, end.block)?;
+        sinks.reserve(1)?;
+        sinks.push_reserved(sink);
     }
     Ok(sinks)
 }
