@@ -131,6 +131,7 @@ impl RawRun {
     }
 }
 
+// The same of a plant.
 fn feed_plant<I: ByteIn>(
     alloc: Global,
     plant: &mut Plant<Kind>,
