@@ -1,5 +1,6 @@
 -- Lemmas on codes that go on from byte to byte.
-use Rattle.std.proofs.Common.{◌≡◌, ℕ, suc, ◌+◌, ◌-◌, ◌<◌, ◌≤◌, ℤ, pos, List, [], ◌∷◌, ◌++◌, length, map, refl, arith, ap, ap₂, sym, ◌∙◌}
+use Rattle.std.proofs.Common.{◌≡◌, ℕ, suc, ◌+◌, ◌-◌, ◌<◌, ◌≤◌, ℤ, pos, List, [], ◌∷◌, ◌++◌, length, map, take, get_or, refl, arith, ap, ap₂, sym, ◌∙◌}
+use Rattle.std.proofs.lemmas.List.{take_more, map-append}
 use Rattle.stream_model.specs.Lists.{item, numbers_from}
 use Rattle.stream_model.specs.Settings.{Held}
 use Rattle.stream_model.specs.Meaning.{Meaning, IsFed, input, given_items}
@@ -7,7 +8,16 @@ use Rattle.block_kinds.specs.Shape.{IsPaced}
 use Rattle.block_kinds.proofs.Fills.{there-fill, length-paced, item-paced}
 use Rattle.bit_blocks.specs.Codes.{coded, word_after}
 
+-- the numbers of the first bytes and one more
+pub one_read : (bytes : List ℕ) (i : ℕ) → i < length bytes → map pos (take (i + 1) bytes) ≡ map pos (take i bytes) ++ pos (get_or bytes i 0) ∷ []
+one_read bytes i within = ap (map pos) (take_more bytes i 0 within) ∙ map-append pos (take i bytes) (get_or bytes i 0 ∷ [])
+
 module _ (gives next : ℕ → ℤ → ℕ) where
+  -- one code behind the other
+  pub coded-append : (word : ℕ) (ys zs : List ℤ) → coded gives next word (ys ++ zs) ≡ coded gives next word ys ++ coded gives next (word_after next word ys) zs
+  coded-append word [] zs = refl
+  coded-append word (y ∷ ys) zs = ap (λ us. pos (gives word y) ∷ us) (coded-append (next word y) ys zs)
+
   -- one byte more
   pub word_after-push : (word : ℕ) (zs : List ℤ) (z : ℤ) → word_after next word (zs ++ z ∷ []) ≡ next (word_after next word zs) z
   word_after-push word [] z = refl

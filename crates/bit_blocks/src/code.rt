@@ -1,5 +1,5 @@
 //! Codes that go on from byte to byte.
-ghost use Rattle.std.specs.Prelude.{◌≡◌, ◌-◌, ◌≤◌, ℕ, ℤ, pos, [], map, length, vec_len, vec_capacity};
+ghost use Rattle.std.specs.Prelude.{◌≡◌, ◌+◌, ◌-◌, ◌≤◌, ℕ, ℤ, pos, [], map, length, vec_len, vec_capacity};
 ghost use Rattle.stream_model.specs.declared.vocabulary.ItemType.TheVariants.{Byte};
 ghost use Rattle.items.specs.Items.{type_of, numbers_of, spare_of};
 ghost use Rattle.bit_blocks.specs.Codes.{coded, word_after};
@@ -25,17 +25,33 @@ pub(crate) trait Coder {
         ensures word { is_word self.now result.1 };
 }
 
-fn code_bytes<C: Coder>(coder: &C, start: u64, items: &[u8], out: &mut Vec<u8>) -> u64
+/// Appends the code of the bytes to an empty `out` with room for it, and answers the word behind them.
+pub(crate) fn code_bytes<C: Coder>(coder: &C, start: u64, items: &[u8], out: &mut Vec<u8>) -> u64
     requires word { C.is_word coder.now start }
     requires empty { map pos out.old.items ≡ [] }
     requires room { length items.now ≤ vec_capacity out.old - vec_len out.old }
     ensures items { map pos out.new.items ≡ coded (C.gives coder.now) (C.next coder.now) start (map pos items.now) }
     ensures word { result ≡ word_after (C.next coder.now) start (map pos items.now) }
+    ensures len { vec_len out.new ≡ vec_len out.old + length items.now }
+    ensures capacity { vec_capacity out.new ≡ vec_capacity out.old }
 {
     let mut word = start;
     for byte in items {
         let (given, next) = coder.step(word, *byte);
         out.push_reserved(given);
+        word = next;
+    }
+    word
+}
+
+/// The word behind the bytes.
+pub(crate) fn follow<C: Coder>(coder: &C, start: u64, items: &[u8]) -> u64
+    requires { C.is_word coder.now start }
+    ensures { result ≡ word_after (C.next coder.now) start (map pos items.now) }
+{
+    let mut word = start;
+    for byte in items {
+        let (_given, next) = coder.step(word, *byte);
         word = next;
     }
     word

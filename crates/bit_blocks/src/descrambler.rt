@@ -1,9 +1,13 @@
 //! The block that undoes a scrambler: each output is the input with earlier inputs.
-ghost use Rattle.std.specs.Prelude.{◌≡◌};
+ghost use Rattle.std.specs.Prelude.{◌≡◌, ◌+◌, ◌-◌, ◌^◌, ◌<◌, ◌≤◌, ◌++◌, pos, [], map, length, vec_len, vec_capacity};
+ghost use Rattle.stream_model.specs.declared.vocabulary.ItemType.TheVariants.{Byte};
 ghost use Rattle.stream_model.specs.Kinds.Bits.{descrambler};
+ghost use Rattle.items.specs.Items.{type_of, numbers_of, spare_of};
+ghost use Rattle.bit_blocks.specs.Codes.{coded, word_after, unscrambled, followed};
 
-use crate::code::{Coder, code};
-use crate::register::Register;
+use crate::code::{Coder, code_bytes, follow};
+use crate::register::{MOST_BITS, Register};
+use crate::sums::sum_behind;
 use block_kinds::{Block, ByPace, Held, Shape, Single, work_single};
 use items::{ItemType, Items};
 
@@ -26,19 +30,65 @@ impl Descrambler {
 }
 
 impl Coder for Descrambler {
-    ghost use Rattle.std.specs.Prelude.{◌<◌, ◌^◌, ◌+◌, ◌*◌, ◌%◌};
-    ghost use Rattle.stream_model.specs.Numbers.{residue};
-    ghost use Rattle.stream_model.specs.Kinds.Bits.{masked, places_of};
+    ghost use Rattle.std.specs.Prelude.{◌<◌, ◌^◌};
+    ghost use Rattle.bit_blocks.specs.Codes.{unscrambled, followed};
 
     ghost is_word = { λ b word. word < 2 ^ b.register.bits };
 
-    ghost gives = { λ b word z. (residue z 2 + masked b.register.bits b.register.mask (places_of b.register.bits word)) % 2 };
+    ghost gives = { λ b. unscrambled b.register.bits b.register.mask };
 
-    ghost next = { λ b word z. (2 * word + residue z 2) % 2 ^ b.register.bits };
+    ghost next = { λ b. followed b.register.bits };
 
     fn step(&self, word: u64, byte: u8) -> (u8, u64) {
         let bit = (u64::from(byte) + self.register.sum(word)) % 2;
         (bit as u8, self.register.push(word, u64::from(byte % 2)))
+    }
+}
+
+// Appends bytes where the capacity has room.
+fn append(out: &mut Vec<u8>, more: &[u8])
+    requires { vec_len out.old + length more.now ≤ vec_capacity out.old }
+    ensures items { out.new.items ≡ out.old.items ++ more.now }
+{
+    match out.extend_from_slice(more) {
+        Ok(()) => {}
+        Err(_refusal) => unreachable!(),
+    }
+}
+
+// Appends what is given for the bytes to an empty `out` with room for it, and answers the word behind them. Behind the first bytes each sum is of bytes
+// alone, so that many are made at a time, and the last bytes are the register at the end.
+fn descramble(block: &Descrambler, start: u64, bytes: &[u8], out: &mut Vec<u8>) -> u64
+    requires word { start < 2 ^ block.now.register.bits }
+    requires empty { map pos out.old.items ≡ [] }
+    requires room { length bytes.now ≤ vec_capacity out.old - vec_len out.old }
+    ensures items { map pos out.new.items ≡ coded (unscrambled block.now.register.bits block.now.register.mask) (followed block.now.register.bits) start (map pos bytes.now) }
+    ensures word { result ≡ word_after (followed block.now.register.bits) start (map pos bytes.now) }
+{
+    let first = bytes.len().min(MOST_BITS);
+    let word = code_bytes(block, start, &bytes[..first], out);
+    if first == bytes.len() {
+        return word;
+    }
+    append(out, &bytes[MOST_BITS..]);
+    sum_behind(&block.register, bytes, out);
+    follow(block, 0, &bytes[bytes.len() - MOST_BITS..])
+}
+
+// The same of items.
+fn descramble_items(block: &Descrambler, start: u64, items: &Items, out: &mut Items) -> u64
+    requires word { start < 2 ^ block.now.register.bits }
+    requires from { type_of items.now ≡ Byte }
+    requires to { type_of out.old ≡ Byte }
+    requires empty { numbers_of out.old ≡ [] }
+    requires room { length (numbers_of items.now) ≤ spare_of out.old }
+    ensures item_type { type_of out.new ≡ Byte }
+    ensures items { numbers_of out.new ≡ coded (unscrambled block.now.register.bits block.now.register.mask) (followed block.now.register.bits) start (numbers_of items.now) }
+    ensures word { result ≡ word_after (followed block.now.register.bits) start (numbers_of items.now) }
+{
+    match (items, out) {
+        (Items::Byte(items), Items::Byte(out)) => descramble(block, start, items, out),
+        _ => unreachable!(),
     }
 }
 
@@ -57,7 +107,7 @@ impl Single for Descrambler {
         _held: &[Held],
         out: &mut Items,
     ) -> u64 {
-        code(self, state, window, out)
+        descramble_items(self, state, window, out)
     }
 
     ghost single = { λ b. record { in_least = refl; in_most = refl; out_least = refl; out_most = refl } };

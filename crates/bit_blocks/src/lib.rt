@@ -9,6 +9,7 @@ pub mod diff_encoder;
 pub mod pack_k_bits;
 pub mod register;
 pub mod scrambler;
+mod sums;
 pub mod unpack_k_bits;
 
 pub use additive_scrambler::AdditiveScrambler;

@@ -5,6 +5,9 @@ ghost use Rattle.bit_blocks.specs.Registers.{IsRegister};
 
 use block_kinds::{ParamFault, Parameter};
 
+/// No register has more bits.
+pub(crate) const MOST_BITS: usize = 32;
+
 /// A shift register: how many bits it has, a mask of those that are summed, and what it holds at first. The lowest bit of both is the newest in the
 /// register; GNU Radio's mask and seed have the bits in reverse order, and its length is one less.
 #[derive(Debug, Drop, PartialEq, Eq)]

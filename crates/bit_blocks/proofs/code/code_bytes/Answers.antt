@@ -1,7 +1,7 @@
-use Rattle.std.proofs.Common.{◌≡◌, ◌+◌, ◌∷◌, [], ◌++◌, ◌∙◌, pos, map, take, get_or, ap, sym, arith}
-use Rattle.std.proofs.lemmas.List.{take_more, map-append}
+use Rattle.std.proofs.Common.{◌∷◌, [], ◌++◌, ◌∙◌, pos, map, take, get_or, ap, sym, arith}
+use Rattle.std.proofs.lemmas.List.{map-append}
 use Rattle.bit_blocks.specs.Codes.{coded, word_after}
-use Rattle.bit_blocks.proofs.Codes.{coded-push, word_after-push}
+use Rattle.bit_blocks.proofs.Codes.{coded-push, word_after-push, one_read}
 use Rattle.bit_blocks.proofs.code.code_bytes.Goals as goal
 
 pub loop-byte-preserved : goal.loop-byte-preserved
@@ -11,8 +11,7 @@ loop-byte-preserved g c =
     let next = g.C.Coder.next c.args.coder.now in
     let byte = get_or c.args.items.now i 0 in
     let before = map pos (take i c.args.items.now) in
-    let more : map pos (take (i + 1) c.args.items.now) ≡ before ++ pos byte ∷ [] =
-    ap (map pos) (take_more c.args.items.now i 0 c.loop-byte-test.true) ∙ map-append pos (take i c.args.items.now) (byte ∷ []) in
+    let more = one_read c.args.items.now i c.loop-byte-test.true in
     record {
       is_word = c.step-given.ensures.word;
       items = ap (map pos) c.push_reserved.ensures.items
