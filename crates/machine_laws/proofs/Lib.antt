@@ -11,6 +11,8 @@ pub mod Sounds
 pub mod Wholes
 pub mod Rising
 pub mod Stalling
+pub mod Repeating
+pub mod Waiting
 pub mod Ending
 pub mod Staying
 pub mod Following

@@ -5,3 +5,4 @@ pub mod Steps
 pub mod Stays
 pub mod Runs
 pub mod Bounds
+pub mod Waits

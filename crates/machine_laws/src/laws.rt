@@ -6,6 +6,7 @@ ghost use Rattle.machine_laws.specs.Sound.{BegunIsSound, OpeningIsSound, CallsKe
 ghost use Rattle.machine_laws.specs.Stalls.{QuietIsDone, QuietIsWhole};
 ghost use Rattle.machine_laws.specs.Steps.{CallsComeToAnEnd, IdleStepsStay, StepsComeToAnEnd, StuckIsQuiet};
 ghost use Rattle.machine_laws.specs.Stays.{WhatIsShownStays, JobsAreFed, CommitsAddTheirTags, CommitsAddTheirWork};
+ghost use Rattle.machine_laws.specs.Waits.{WaitsComeBack};
 ghost use Rattle.machine_laws.specs.Whole.{AllDoneIsWhole, DonePieceIsWhole};
 
 /// A state before the first firing is sound, whatever blocks were handed that they may be handed.
@@ -67,6 +68,11 @@ pub fn quiet_is_done()
 /// With the capacities that are computed, balanced, closed and quiet give whole sinks.
 pub fn quiet_is_whole()
     ensures { QuietIsWhole }
+{}
+
+/// With all tapes closed, a network that rests before its end has a ring of blocks that wait for one another.
+pub fn waits_come_back()
+    ensures { WaitsComeBack }
 {}
 
 /// Only feeding gives a run more steps, and each call that moves on leaves fewer.
