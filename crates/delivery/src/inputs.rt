@@ -71,9 +71,7 @@ fn taken<B: Block>(graph: &Valid<B>, firings: Firings, port: usize) -> usize
     requires rises { firings.first ≤ firings.next }
     requires small { (node_at (net_of B.meaning graph.now) firings.block.0).multiple * firings.next < 2 ^ 62 }
     requires taken { taken_by (node_at (net_of B.meaning graph.now) firings.block.0) port firings.next < 2 ^ 62 }
-    requires more { taken_by (node_at (net_of B.meaning graph.now) firings.block.0) port firings.first ≤ taken_by (node_at (net_of B.meaning graph.now) firings.block.0) port firings.next }
     ensures { result ≡ takes_between (net_of B.meaning graph.now) firings.block.0 port firings.first firings.next }
 {
-    let before = graph.taken(firings.block, port, firings.first);
-    (graph.taken(firings.block, port, firings.next) - before) as usize
+    graph.takes(firings.block, port, firings.first, firings.next) as usize
 }

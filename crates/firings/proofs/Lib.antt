@@ -3,3 +3,4 @@ pub mod Looks
 pub mod Decides
 pub mod Running
 pub mod Counters
+pub mod Awaiting

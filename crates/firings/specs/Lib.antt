@@ -3,3 +3,4 @@ pub mod Small
 pub mod Counts
 pub mod Decision
 pub mod Firings
+pub mod Waits

@@ -4,14 +4,17 @@ ghost use Rattle.std.specs.Prelude.{◌≡◌, ◌+◌, ◌^◌, ◌<◌, List, 
 ghost use Rattle.stream_model.specs.Network.{Handed, no_progress, node_at, progress_at};
 ghost use Rattle.stream_model.specs.Claims as claims;
 ghost use Rattle.stream_model.specs.Machine.{counts_of, claim_of, is_quiet, is_idle, is_all_done};
+ghost use Rattle.machine_laws.specs.Waits.{wait_of};
 ghost use Rattle.flowgraph.specs.Flowgraph.{net_of};
 ghost use Rattle.firings.specs.State.{rows_of, state_of, progress_of, HasTapes, IsRunning, StaysRunning};
 ghost use Rattle.firings.specs.Decision.{answer_of, claimed_by};
 ghost use Rattle.firings.specs.Firings.{committed, abandoned};
+ghost use Rattle.firings.specs.Waits.{wait_seen};
 
 use crate::decide::{all_rest, decide};
 use crate::decision::Decision;
 use crate::progress::{Progress, Tapes};
+use crate::waits::{BlockNeed, need};
 use block_kinds::Block;
 use flowgraph::{BlockId, Valid};
 use std::alloc::{AllocError, Global};
@@ -152,6 +155,23 @@ impl Firings {
     {
         graph.in_order();
         self.idle() && all_rest(graph, capacities, tapes, &self.progress)
+    }
+
+    /// What a claim of a block would come to, or what it waits for. Nothing changes.
+    pub fn need<B: Block, T: Tapes>(
+        &self,
+        graph: &Valid<B>,
+        capacities: &[Vec<u32>],
+        tapes: &T,
+        block: BlockId,
+    ) -> BlockNeed
+        requires running { IsRunning (net_of B.meaning graph.now) (rows_of (λ row. row.items) capacities.now) (T.tapes tapes.now) self.now }
+        requires block { block.0 < length graph.now.blocks }
+        ensures { (hs : List Handed) → HasTapes (T.tapes tapes.now) hs →
+            wait_seen result ≡ wait_of (net_of B.meaning graph.now) (rows_of (λ row. row.items) capacities.now) (state_of hs self.now) block.0 }
+    {
+        graph.in_order();
+        need(graph, capacities, tapes, &self.progress, block)
     }
 
     // Puts other progress of a block in the place of the old.

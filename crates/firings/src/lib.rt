@@ -9,7 +9,9 @@ mod fitting;
 mod lacking;
 mod paces;
 pub mod progress;
+pub mod waits;
 
 pub use decision::{Decision, Need};
 pub use firings::Firings;
 pub use progress::{Progress, Tape, Tapes};
+pub use waits::BlockNeed;

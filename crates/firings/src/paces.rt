@@ -1,6 +1,6 @@
 //! How many firings of a block some items allow, in closed form.
 
-ghost use Rattle.std.specs.Prelude.{◌≡◌, ◌^◌, ◌<◌, min, length};
+ghost use Rattle.std.specs.Prelude.{◌≡◌, ◌/◌, ◌^◌, ◌<◌, min, length};
 ghost use Rattle.stream_model.specs.Network.{node_at};
 ghost use Rattle.stream_model.specs.Firings as closed;
 ghost use Rattle.stream_laws.specs.CanRun.{CanRun};
@@ -16,10 +16,10 @@ pub(crate) fn allowed_at<B: Block>(graph: &Valid<B>, block: BlockId, port: usize
     requires items { items < 2 ^ 62 }
     ensures { result ≡ closed.allowed (node_at (net_of B.meaning graph.now) block.0) port items }
 {
-    let multiple = u64::from(graph.options(block).multiple);
+    let multiple = u64::from(graph.multiple(block));
     match graph.pace(block, port) {
         Pace::Rate(taken, _) | Pace::Turns(taken, _, _) | Pace::Placed(taken, _) => {
-            items / (multiple * taken)
+            quotient(items, multiple * taken)
         }
         Pace::Skip(_) => items,
         Pace::Delay(count) => items + count,
@@ -32,13 +32,21 @@ pub(crate) fn fitting_at<B: Block>(graph: &Valid<B>, block: BlockId, items: u64,
     requires block { block.0 < length graph.now.blocks }
     ensures { result ≡ min (closed.fitting (node_at (net_of B.meaning graph.now) block.0) items) bound }
 {
-    let multiple = u64::from(graph.options(block).multiple);
+    let multiple = u64::from(graph.multiple(block));
     let count = match graph.pace(block, 0) {
-        Pace::Rate(_, given) => items / (multiple * given),
-        Pace::Turns(_, given, _) => items / (multiple * given),
-        Pace::Placed(_, given) => items / (multiple * given),
+        Pace::Rate(_, given) => quotient(items, multiple * given),
+        Pace::Turns(_, given, _) => quotient(items, multiple * given),
+        Pace::Placed(_, given) => quotient(items, multiple * given),
         Pace::Skip(count) => items.saturating_add(count),
         Pace::Delay(_) => items,
     };
     count.min(bound)
+}
+
+// The quotient of items by those of one firing. These are most often one, and then nothing has to be divided.
+fn quotient(items: u64, each: u64) -> u64
+    requires { 0 < each }
+    ensures { result ≡ items / each }
+{
+    if each == 1 { items } else { items / each }
 }

@@ -64,10 +64,7 @@ module _ (names : List (List ℕ)) (net : Network) (can : CanRun net) (valid : I
   pub words_there : b < length s.words.items
   words_there = let places = lend.places.words in omega arith
 
-  -- the counts of its firings fit a word
-  begun_small : (node_at net b).multiple * fired (st) b < 2 ^ 62
-  begun_small = let whole = mul-add (node_at net b).multiple (fired (st) b) (count) in let firings = lend.words.firings in omega arith
-
+  -- the items that its firings take fit a word
   first_small : taken_by (node_at net b) 0 (next) < 2 ^ 62
   first_small =
       elim (cases_Bool (is_source (role_at net b))) [
@@ -133,7 +130,7 @@ module _ (names : List (List ℕ)) (net : Network) (can : CanRun net) (valid : I
       has : HasInput net (stored_in s) b p (fired (st) b) (next)
       has = lend.inputs p used
 
-      pub can_see : CanSee (rows) (node_at net b).meaning ((node_at net b).multiple * fired (st) b) ((node_at net b).multiple * (next)) p (i)
+      pub can_see : CanSee (rows) (node_at net b) (fired (st) b) (next) p (i)
       can_see =
           let live : IsLive (ring_behind (rows) (i)) (i).reader = subst (λ r. IsLive r (i).reader) (sym ring_is) (subst (IsLive (ring)) (sym number) has.live) in
           let unread = ap (λ r. unread_of r (i).reader) ring_is ∙ ap (unread_of (ring)) number in
@@ -145,8 +142,8 @@ module _ (names : List (List ℕ)) (net : Network) (can : CanRun net) (valid : I
             type = ap (λ (o : plain.OutputBuffer). o.item) buffer_is ∙ has.type;
             live = live;
             unread = omega (arith, unread, there);
-            rises = has.rises;
-            small = omega (arith, few);
+            firings = lend.words.firings;
+            small = few;
           }
 
       pub ends : IsEndOf (ring_behind (rows) (i)) ((shown) p)
@@ -162,7 +159,7 @@ module _ (names : List (List ℕ)) (net : Network) (can : CanRun net) (valid : I
         abbrev to : ℕ
         to = taken_by (node_at net b) p (next)
 
-        pub seen_is : seen_of (rows) (node_at net b).meaning ((node_at net b).multiple * fired (st) b) ((node_at net b).multiple * (next)) p (i) ((shown) p) ≡ input (in_flight net (st) b).windows p
+        pub seen_is : seen_of (rows) (node_at net b) (fired (st) b) (next) p (i) ((shown) p) ≡ input (in_flight net (st) b).windows p
         seen_is =
             let c = writer_of net b p in
             let given = given_by (node_at net c.from) (fired (st) c.from) in
@@ -185,7 +182,7 @@ module _ (names : List (List ℕ)) (net : Network) (can : CanRun net) (valid : I
           let n = node_at net b in
           length-windows n.meaning 0 (entering net (st).handed b) (n.multiple * fired (st) b) (n.multiple * (count)) ∙ length-entering net (st).handed b worker
 
-      pub windows_are : (ws : List (List ℤ)) → AreSeen (rows) (node_at net b).meaning ((node_at net b).multiple * fired (st) b) ((node_at net b).multiple * (next)) is (shown) ws → ws ≡ (in_flight net (st) b).windows
+      pub windows_are : (ws : List (List ℤ)) → AreSeen (rows) (node_at net b) (fired (st) b) (next) is (shown) ws → ws ≡ (in_flight net (st) b).windows
       windows_are ws seen =
           same_lists ws (in_flight net (st) b).windows (seen.many ∙ inputs_long ∙ sym windows_long)
           (λ q d lt.
@@ -193,29 +190,19 @@ module _ (names : List (List ℕ)) (net : Network) (can : CanRun net) (valid : I
           let there : q < length (in_flight net (st) b).windows = (let long = inputs_long in let whole = windows_long in omega arith) in
           get_or_default ws q d [] lt ∙ seen.seen q no_input_there low ∙ seen_is q no_input_there low worker ∙ get_or_default (in_flight net (st) b).windows q [] d there)
 
-      pub are_windows : (ws : List (List ℤ)) → ws ≡ (in_flight net (st) b).windows → AreSeen (rows) (node_at net b).meaning ((node_at net b).multiple * fired (st) b) ((node_at net b).multiple * (next)) is (shown) ws
+      pub are_windows : (ws : List (List ℤ)) → ws ≡ (in_flight net (st) b).windows → AreSeen (rows) (node_at net b) (fired (st) b) (next) is (shown) ws
       are_windows ws e = record {
         many = ap length e ∙ windows_long ∙ sym inputs_long;
         seen = λ p d low. ap (λ us. input us p) e ∙ sym (seen_is p d low worker);
       }
 
-  -- the same of counts and of a meaning that code has read
-  module _ (m : Meaning) (multiple first claimed : ℕ) (means : m ≡ (node_at net b).meaning) (multiple_is : multiple ≡ (node_at net b).multiple)
-      (first_is : first ≡ (progress_at ps b).firings) (claimed_is : claimed ≡ (progress_at ps b).claimed) where
-    pub from_fits : multiple * first < 2 ^ 62
-    from_fits = rw (multiple_is, first_is) begun_small
+  -- the same of counts that code has read
+  module _ (first claimed : ℕ) (first_is : first ≡ (progress_at ps b).firings) (claimed_is : claimed ≡ (progress_at ps b).claimed) where
+    pub to_fits : (node_at net b).multiple * (first + claimed) < 2 ^ 62
+    to_fits = rw (first_is, claimed_is) lend.words.firings
 
-    pub to_fits : multiple * (first + claimed) < 2 ^ 62
-    to_fits = rw (multiple_is, first_is, claimed_is) lend.words.firings
-
-    pub from_small : m.taken 0 (multiple * first) < 2 ^ 63
-    from_small =
-        let rises = taken_by-rises (node_at net b) (can.sound b) 0 (fired (st) b) (next) (omega arith) in
-        let few = first_small in
-        rw (means, multiple_is, first_is) (omega arith)
-
-    pub to_small : m.taken 0 (multiple * (first + claimed)) < 2 ^ 63
-    to_small = let few = first_small in rw (means, multiple_is, first_is, claimed_is) (omega arith)
+    pub to_small : taken_by (node_at net b) 0 (first + claimed) < 2 ^ 62
+    to_small = rw (first_is, claimed_is) first_small
 
     -- what the block was handed
     module _ (h : Intake) (at : h ≡ get_or s.handed.items b h) where
@@ -225,8 +212,8 @@ module _ (names : List (List ℕ)) (net : Network) (can : CanRun net) (valid : I
       timeline_here : timeline_at (stored_in s) b ≡ h.timeline
       timeline_here = get_or-map (λ (h : Intake). h.timeline) s.handed.items b h None handed_there ∙ ap (λ (h : Intake). h.timeline) (sym at)
 
-      pub held_is : (t u : ℕ) → t ≡ m.taken 0 (multiple * first) → u ≡ m.taken 0 (multiple * (first + claimed)) → held_over h.timeline t u ≡ (in_flight net (st) b).held
-      held_is t u t_is u_is = rw (t_is, u_is, means, multiple_is, first_is, claimed_is, ← timeline_here) serves.held
+      pub held_is : held_over h.timeline (taken_by (node_at net b) 0 first) (taken_by (node_at net b) 0 (first + claimed)) ≡ (in_flight net (st) b).held
+      held_is = rw (first_is, claimed_is, ← timeline_here) serves.held
 
       -- the window of a source
       module _ (source : is_source (role_at net b) ≡ true) where
@@ -244,15 +231,15 @@ module _ (names : List (List ℕ)) (net : Network) (can : CanRun net) (valid : I
 
     -- its inputs
     module _ (is : List Input) (same : writers_in is ≡ writers_of net b) (known : All (IsItsReader net) is) where
-      pub can_see_all : CanSeeAll (rows) m (multiple * first) (multiple * (first + claimed)) is
-      can_see_all = rw (means, multiple_is, first_is, claimed_is) (can_see is same known)
+      pub can_see_all : CanSeeAll (rows) (node_at net b) first (first + claimed) is
+      can_see_all = rw (first_is, claimed_is) (can_see is same known)
 
       pub are_ends : AreEnds (rows) is (shown is same known)
       are_ends = ends is same known
 
       module _ (worker : is_source (role_at net b) ≡ false) (ws : List (List ℤ)) where
-        pub seen_are : AreSeen (rows) m (multiple * first) (multiple * (first + claimed)) is (shown is same known) ws → ws ≡ (in_flight net (st) b).windows
-        seen_are = rw (means, multiple_is, first_is, claimed_is) (windows_are is same known worker ws)
+        pub seen_are : AreSeen (rows) (node_at net b) first (first + claimed) is (shown is same known) ws → ws ≡ (in_flight net (st) b).windows
+        seen_are = rw (first_is, claimed_is) (windows_are is same known worker ws)
 
-        pub are_seen : ws ≡ (in_flight net (st) b).windows → AreSeen (rows) m (multiple * first) (multiple * (first + claimed)) is (shown is same known) ws
-        are_seen = rw (means, multiple_is, first_is, claimed_is) (are_windows is same known worker ws)
+        pub are_seen : ws ≡ (in_flight net (st) b).windows → AreSeen (rows) (node_at net b) first (first + claimed) is (shown is same known) ws
+        are_seen = rw (first_is, claimed_is) (are_windows is same known worker ws)

@@ -94,17 +94,15 @@ fn is_given<B: Block>(
         IsTrue result ↔ ((map held_of held.now ≡ job.held) × (map numbers_of windows.now ≡ job.windows)) }
 {
     graph.in_order();
-    let own = graph.block(block);
-    let multiple = u64::from(graph.options(block).multiple);
     let at = firings.progress(block);
-    let next = at.firings + u64::from(at.claimed);
-    let (from, to) = (multiple * at.firings, multiple * next);
+    let (first, next) = (at.firings, at.firings + u64::from(at.claimed));
     let handed = &stores.handed[block.0 as usize];
-    are_held(&handed.timeline, own.taken(0, from), own.taken(0, to), held)
-        && match own.role() {
-            Role::Source => is_cut(handed.tape.recording(), at.firings, next, windows),
+    are_held(graph, block, &handed.timeline, first, next, held)
+        && match graph.role(block) {
+            Role::Source => is_cut(handed.tape.recording(), first, next, windows),
             Role::Work | Role::Keep | Role::Discard => {
-                are_seen(&stores.buffers, own, graph.inputs(block), from, to, windows)
+                let inputs = graph.inputs(block);
+                are_seen(&stores.buffers, graph, block, inputs, first, next, windows)
             }
         }
 }

@@ -1,15 +1,17 @@
 //! Windows and settings, compared with what is stored without a copy.
 
-ghost use Rattle.std.specs.Prelude.{◌≡◌, ◌∷◌, [], ◌+◌, ◌-◌, ◌<◌, ◌≤◌, ◌^◌, ◌↔◌, ℕ, ℤ, List, length, map, slice_range, slice_index_or, All, IsTrue};
+ghost use Rattle.std.specs.Prelude.{◌≡◌, ◌∷◌, [], ◌*◌, ◌<◌, ◌≤◌, ◌^◌, ◌↔◌, ℕ, ℤ, List, length, map, slice_range, All, IsTrue};
+ghost use Rattle.stream_model.specs.Network.{node_at, taken_by};
 ghost use Rattle.items.specs.Items.{type_of, numbers_of};
 ghost use Rattle.settings.specs.Values.{held_of};
 ghost use Rattle.ring_readers.specs.State.{IsEndOf};
+ghost use Rattle.flowgraph.specs.Flowgraph.{net_of};
 ghost use Rattle.plant_laws.specs.Claims.{held_over};
 ghost use Rattle.flights.specs.Seen.{CanSee, CanSeeAll, AreEnds, AreSeen, ring_behind, seen_of};
 
 use block_kinds::Block;
 use buffers::{Buffer, Reader};
-use flowgraph::Input;
+use flowgraph::{BlockId, Input, Valid};
 use items::Items;
 use numbers::Number;
 use recordings::Recording;
@@ -41,12 +43,30 @@ pub(crate) fn is_cut(tape: &Recording, first: u64, next: u64, windows: &[Items])
     windows.len() == 1 && is_range(&windows[0], tape.items(), first as usize, next as usize)
 }
 
-/// Whether the settings are those in force over items `from` to below `to`: none without a timeline.
-pub(crate) fn are_held(timeline: &Option<Timeline>, from: u64, to: u64, held: &[Held]) -> bool
-    ensures { IsTrue result ↔ (map held_of held.now ≡ held_over timeline.now from to) }
+/// Whether the settings are those in force over the items that firings `first` to below `next` of a block take of its first input: none
+/// without a timeline.
+pub(crate) fn are_held<B: Block>(
+    graph: &Valid<B>,
+    block: BlockId,
+    timeline: &Option<Timeline>,
+    first: u64,
+    next: u64,
+    held: &[Held],
+) -> bool
+    requires block { block.0 < length graph.now.blocks }
+    requires firings { (node_at (net_of B.meaning graph.now) block.0).multiple * next < 2 ^ 62 }
+    requires ordered { first ≤ next }
+    requires taken { taken_by (node_at (net_of B.meaning graph.now) block.0) 0 next < 2 ^ 62 }
+    ensures { let n = node_at (net_of B.meaning graph.now) block.0 in
+        IsTrue result ↔ (map held_of held.now ≡ held_over timeline.now (taken_by n 0 first) (taken_by n 0 next)) }
 {
+    graph.in_order();
     match timeline {
-        Some(timeline) => timeline.is_between(from, to, held),
+        Some(timeline) => timeline.is_between(
+            graph.taken(block, 0, first),
+            graph.taken(block, 0, next),
+            held,
+        ),
         None => held.is_empty(),
     }
 }
@@ -54,19 +74,22 @@ pub(crate) fn are_held(timeline: &Option<Timeline>, from: u64, to: u64, held: &[
 // Whether the window on an input is what its reader sees with the items of these firings.
 fn is_seen<B: Block>(
     buffers: &[Vec<Buffer>],
-    block: &B,
+    graph: &Valid<B>,
+    block: BlockId,
     input: &Input,
     port: usize,
     first: u64,
     next: u64,
     window: &Items,
 ) -> bool
-    requires input { CanSee (map (λ row. row.items) buffers.now) (B.meaning block.now) first next port input.now }
-    requires same_type { type_of window.now ≡ (B.meaning block.now).inputs.item }
+    requires block { block.0 < length graph.now.blocks }
+    requires ordered { first ≤ next }
+    requires input { CanSee (map (λ row. row.items) buffers.now) (node_at (net_of B.meaning graph.now) block.0) first next port input.now }
+    requires same_type { type_of window.now ≡ (node_at (net_of B.meaning graph.now) block.0).meaning.inputs.item }
     ensures { (stream : List ℤ) → IsEndOf (ring_behind (map (λ row. row.items) buffers.now) input.now) stream →
-        IsTrue result ↔ (numbers_of window.now ≡ seen_of (map (λ row. row.items) buffers.now) (B.meaning block.now) first next port input.now stream) }
+        IsTrue result ↔ (numbers_of window.now ≡ seen_of (map (λ row. row.items) buffers.now) (node_at (net_of B.meaning graph.now) block.0) first next port input.now stream) }
 {
-    let count = block.taken(port, next) - block.taken(port, first);
+    let count = graph.takes(block, port, first, next);
     let writer = input.connection;
     buffers[writer.from.0 as usize][writer.out_port].is_window(
         Reader::numbered(input.reader),
@@ -75,25 +98,29 @@ fn is_seen<B: Block>(
     )
 }
 
-/// Whether the windows are what the readers at a block's inputs see with the items of base firings `first` to below `next`.
+/// Whether the windows are what the readers at a block's inputs see with the items of firings `first` to below `next`.
 pub(crate) fn are_seen<B: Block>(
     buffers: &[Vec<Buffer>],
-    block: &B,
+    graph: &Valid<B>,
+    block: BlockId,
     inputs: &[Input],
     first: u64,
     next: u64,
     windows: &[Items],
 ) -> bool
-    requires inputs { CanSeeAll (map (λ row. row.items) buffers.now) (B.meaning block.now) first next inputs.now }
-    requires types { All (λ w. type_of w ≡ (B.meaning block.now).inputs.item) windows.now }
+    requires block { block.0 < length graph.now.blocks }
+    requires ordered { first ≤ next }
+    requires inputs { CanSeeAll (map (λ row. row.items) buffers.now) (node_at (net_of B.meaning graph.now) block.0) first next inputs.now }
+    requires types { All (λ w. type_of w ≡ (node_at (net_of B.meaning graph.now) block.0).meaning.inputs.item) windows.now }
     ensures { (streams : ℕ → List ℤ) → AreEnds (map (λ row. row.items) buffers.now) inputs.now streams →
-        IsTrue result ↔ AreSeen (map (λ row. row.items) buffers.now) (B.meaning block.now) first next inputs.now streams (map numbers_of windows.now) }
+        IsTrue result ↔ AreSeen (map (λ row. row.items) buffers.now) (node_at (net_of B.meaning graph.now) block.0) first next inputs.now streams (map numbers_of windows.now) }
 {
     if windows.len() != inputs.len() {
         return false;
     }
     for (port, input) in inputs.iter().enumerate() {
-        if !is_seen(buffers, block, input, port, first, next, &windows[port]) {
+        let window = &windows[port];
+        if !is_seen(buffers, graph, block, input, port, first, next, window) {
             return false;
         }
     }

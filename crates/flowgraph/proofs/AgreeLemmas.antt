@@ -11,7 +11,6 @@ use Rattle.stream_model.specs.declared.vocabulary.Policy.{Policy}
 use Rattle.stream_model.specs.declared.vocabulary.Policy.TheVariants.{None, All, One}
 use Rattle.flowgraph.specs.declared.parts.Connection.{Connection}
 use Rattle.flowgraph.specs.declared.parts.Entry.{Entry}
-use Rattle.flowgraph.specs.declared.parts.Options.{Options}
 use Rattle.flowgraph.specs.Agreeing.{policies_agree, options_agree, entries_agree, connections_agree, graphs_agree}
 use Rattle.flowgraph.specs.Flowgraph.{Flowgraph, node_of, connection_of, net_of}
 

@@ -1,18 +1,25 @@
 //! What blocks are asked at each claim and commit, kept so that no shape has to be made for it.
 ghost use Rattle.std.specs.Prelude.{◌≡◌, ℕ, length, Some, slice_get, IfOk};
 ghost use Rattle.block_kinds.specs.Shape.{HasPace};
+ghost use Rattle.flowgraph.specs.Flowgraph.{node_of};
 ghost use Rattle.flowgraph.specs.Asked.{IsAsked, AreAsked};
 
 use crate::parts::Entry;
 use crate::ports::MOST_PORTS;
 use block_kinds::{Block, Pace, Role};
 use std::alloc::{AllocError, Global};
+use stream_model::ItemType;
 
 /// What is kept of a block.
 #[derive(Drop)]
 pub struct Asked {
     pub role: Role,
     pub limit: Option<u64>,
+    /// The types of the items that it takes and that it gives.
+    pub taken: ItemType,
+    pub given: ItemType,
+    /// How many base firings one firing is.
+    pub multiple: u32,
     /// Those of its inputs, of a source that of its tape.
     pub paces: Vec<Pace>,
 }
@@ -23,23 +30,26 @@ pub fn all_asked<B: Block>(alloc: Global, blocks: &[Entry<B>]) -> Result<Vec<Ask
 {
     let mut all = Vec::with_capacity(alloc, blocks.len())?;
     for entry in blocks {
-        all.push(keep_of(alloc, &entry.block)?)?;
+        all.push(keep_of(alloc, entry)?)?;
     }
     Ok(all)
 }
 
-fn keep_of<B: Block>(alloc: Global, block: &B) -> Result<Asked, AllocError>
-    ensures { IfOk result (IsAsked (B.meaning block.now)) }
+fn keep_of<B: Block>(alloc: Global, entry: &Entry<B>) -> Result<Asked, AllocError>
+    ensures { IfOk result (IsAsked (node_of B.meaning entry.now)) }
 {
-    let shape = block.shape(0);
+    let shape = entry.block.shape(0);
     let paces = paces(
         alloc,
-        block,
+        &entry.block,
         (shape.inputs.most as usize).clamp(1, MOST_PORTS),
     )?;
     Ok(Asked {
         role: shape.role,
         limit: shape.limit,
+        taken: shape.inputs.item,
+        given: shape.outputs.item,
+        multiple: entry.options.multiple,
         paces,
     })
 }

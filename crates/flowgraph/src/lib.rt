@@ -2,6 +2,7 @@
 #![tactic(auto)]
 
 mod asked;
+mod between;
 mod by_port;
 mod counts;
 pub mod fault;

@@ -1,5 +1,8 @@
 //! What a graph is made of.
 
+ghost use Rattle.std.specs.Prelude.{◌≡◌};
+ghost use Rattle.stream_model.specs.declared.vocabulary.Policy.TheVariants.{All};
+
 use stream_model::Policy;
 
 /// A block of a graph, by its number: blocks are numbered from 0 in the order in which they were added.
@@ -16,6 +19,19 @@ pub struct Options {
     /// How many unread items the buffer of each output holds at least, from 1 to 65,536. It holds more where one
     /// firing of a block at its ends, or the rates, ask for more.
     pub capacity: u32,
+}
+
+impl Default for Options {
+    /// What a graph file takes where it says nothing: all tags go through, firings one by one, and an output holds at least 4,096 unread items.
+    fn default() -> Options
+        ensures { result ≡ record { policy = All; multiple = 1; capacity = 4096 } }
+    {
+        Options {
+            policy: Policy::All,
+            multiple: 1,
+            capacity: 4096,
+        }
+    }
 }
 
 /// A connection from an output port to an input port. Ports of each side are numbered from 0.

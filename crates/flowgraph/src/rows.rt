@@ -7,7 +7,7 @@ use std::marker::Model;
 
 /// Where a row begins and ends.
 #[derive(Clone, Copy)]
-pub struct Place {
+pub struct Span {
     from: usize,
     to: usize,
 }
@@ -16,7 +16,7 @@ pub struct Place {
 #[derive(Drop)]
 pub struct Rows<T> {
     items: Vec<T>,
-    places: Vec<Place>,
+    spans: Vec<Span>,
 }
 
 impl<T> Model for Rows<T> {
@@ -26,9 +26,9 @@ impl<T> Model for Rows<T> {
 
     ghost use Rattle.flowgraph.specs.Rows.{rows_of, AreRows};
 
-    ghost view = { λ r. rows_of r.items.items r.places.items };
+    ghost view = { λ r. rows_of r.items.items r.spans.items };
 
-    ghost invariant = { λ r. AreRows r.items.items r.places.items };
+    ghost invariant = { λ r. AreRows r.items.items r.spans.items };
 }
 
 impl<T> Rows<T> {
@@ -38,7 +38,7 @@ impl<T> Rows<T> {
     {
         Rows {
             items: Vec::new(alloc),
-            places: Vec::new(alloc),
+            spans: Vec::new(alloc),
         }
     }
 
@@ -47,8 +47,8 @@ impl<T> Rows<T> {
         requires { row < length self.now }
         ensures { result.now ≡ slice_index_or self.now row [] }
     {
-        let place = self.places[row];
-        &self.items[place.from..place.to]
+        let span = self.spans[row];
+        &self.items[span.from..span.to]
     }
 }
 
@@ -57,11 +57,11 @@ impl<T: Copy> Rows<T> {
     pub fn push(&mut self, row: &[T]) -> Result<(), AllocError>
         ensures { OnOk result (self.new ≡ self.old ++ row.now ∷ []) }
     {
-        self.places.reserve(1)?;
+        self.spans.reserve(1)?;
         let from = self.items.len();
         self.items.extend_from_slice(row)?;
         let to = self.items.len();
-        self.places.push(Place { from, to })?;
+        self.spans.push(Span { from, to })?;
         Ok(())
     }
 }

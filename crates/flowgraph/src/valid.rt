@@ -1,5 +1,5 @@
 //! Graphs that were tested.
-ghost use Rattle.std.specs.Prelude.{◌≡◌, ◌*◌, ◌^◌, ◌<◌, ◌≤◌, ◌==◌, length, map, All, IsTrue, Some, slice_get, position, bytes_eq};
+ghost use Rattle.std.specs.Prelude.{◌≡◌, ◌*◌, ◌-◌, ◌^◌, ◌<◌, ◌≤◌, ◌==◌, length, map, All, IsTrue, Some, slice_get, position, bytes_eq};
 ghost use Rattle.std.specs.Option.{option_map};
 ghost use Rattle.stream_model.specs.Network.{node_at, role_at, is_source, is_keeper, taken_by, given_by, writers_of, readers_of, used_outputs};
 ghost use Rattle.stream_laws.specs.CanRun.{CanRun};
@@ -14,12 +14,14 @@ ghost use Rattle.flowgraph.specs.Flowgraph.{net_of, graph_of, connection_of, Has
 ghost use Rattle.flowgraph.specs.Wiring.{writers_in, IsItsReader, IsWired};
 
 use crate::asked::Asked;
+use crate::between::{given_between, taken_between};
 use crate::parts::{BlockId, Connection, Entry, Input, Options};
 use crate::ports::MOST_PORTS;
 use crate::wiring::Wiring;
 use block_kinds::{Block, Pace, Role};
 use indexmap::IndexSet;
 use std::marker::Model;
+use stream_model::ItemType;
 
 /// A valid graph, with tables of how its blocks are wired. No call of it takes memory. A contract sees the blocks with their names, and the
 /// connections.
@@ -147,7 +149,7 @@ impl<B: Block> Valid<B> {
         if port < paces.len() {
             paces[port]
         } else {
-            self.block(block).shape(port).pace
+            pace_of(self.block(block), port)
         }
     }
 
@@ -173,6 +175,30 @@ impl<B: Block> Valid<B> {
         }
     }
 
+    /// The type of the items that a block takes.
+    pub fn input_type(&self, block: BlockId) -> ItemType
+        requires { block.0 < length self.now.blocks }
+        ensures { result ≡ (node_at (net_of B.meaning self.now) block.0).meaning.inputs.item }
+    {
+        self.asked[block.0 as usize].taken
+    }
+
+    /// The type of the items that a block gives.
+    pub fn output_type(&self, block: BlockId) -> ItemType
+        requires { block.0 < length self.now.blocks }
+        ensures { result ≡ (node_at (net_of B.meaning self.now) block.0).meaning.outputs.item }
+    {
+        self.asked[block.0 as usize].given
+    }
+
+    /// How many base firings one firing of a block is.
+    pub fn multiple(&self, block: BlockId) -> u32
+        requires { block.0 < length self.now.blocks }
+        ensures { result ≡ (node_at (net_of B.meaning self.now) block.0).multiple }
+    {
+        self.asked[block.0 as usize].multiple
+    }
+
     /// How many items of an input the first `firings` firings of a block take. A firing is `multiple` base firings.
     pub fn taken(&self, block: BlockId, port: usize, firings: u64) -> u64
         requires block { block.0 < length self.now.blocks }
@@ -180,8 +206,21 @@ impl<B: Block> Valid<B> {
         requires taken { taken_by (node_at (net_of B.meaning self.now) block.0) port firings < 2 ^ 62 }
         ensures { result ≡ taken_by (node_at (net_of B.meaning self.now) block.0) port firings }
     {
-        let multiple = self.options(block).multiple;
+        let multiple = self.multiple(block);
         self.pace(block, port).taken(u64::from(multiple) * firings)
+    }
+
+    /// How many items of an input firings `first` to below `next` of a block take.
+    pub fn takes(&self, block: BlockId, port: usize, first: u64, next: u64) -> u64
+        requires block { block.0 < length self.now.blocks }
+        requires ordered { first ≤ next }
+        requires firings { (node_at (net_of B.meaning self.now) block.0).multiple * next < 2 ^ 62 }
+        requires taken { taken_by (node_at (net_of B.meaning self.now) block.0) port next < 2 ^ 62 }
+        ensures { let n = node_at (net_of B.meaning self.now) block.0 in
+            result ≡ taken_by n port next - taken_by n port first }
+    {
+        let multiple = u64::from(self.multiple(block));
+        taken_between(self.pace(block, port), multiple * first, multiple * next)
     }
 
     /// How many items the first `firings` firings of a block give on each output.
@@ -191,8 +230,21 @@ impl<B: Block> Valid<B> {
         requires given { given_by (node_at (net_of B.meaning self.now) block.0) firings < 2 ^ 62 }
         ensures { result ≡ given_by (node_at (net_of B.meaning self.now) block.0) firings }
     {
-        let multiple = self.options(block).multiple;
+        let multiple = self.multiple(block);
         self.pace(block, 0).given(u64::from(multiple) * firings)
+    }
+
+    /// How many items firings `first` to below `next` of a block give on each output.
+    pub fn gives(&self, block: BlockId, first: u64, next: u64) -> u64
+        requires block { block.0 < length self.now.blocks }
+        requires ordered { first ≤ next }
+        requires firings { (node_at (net_of B.meaning self.now) block.0).multiple * next < 2 ^ 62 }
+        requires given { given_by (node_at (net_of B.meaning self.now) block.0) next < 2 ^ 62 }
+        ensures { let n = node_at (net_of B.meaning self.now) block.0 in
+            result ≡ given_by n next - given_by n first }
+    {
+        let multiple = u64::from(self.multiple(block));
+        given_between(self.pace(block, 0), multiple * first, multiple * next)
     }
 
     /// The block of a name, if there is one. It takes one look-up by hash.
@@ -253,4 +305,12 @@ impl<B: Block> Valid<B> {
     {
         let _ = &self.blocks;
     }
+}
+
+// The pace of an input beyond those that are kept. Inlined, it would have each caller clear the memory of a shape.
+#[inline(never)]
+fn pace_of<B: Block>(block: &B, port: usize) -> Pace
+    ensures { HasPace (B.meaning block.now) port result }
+{
+    block.shape(port).pace
 }

@@ -52,8 +52,7 @@ pub(crate) fn takes<B: Block>(
     ensures small { result < 2 ^ 62 }
 {
     graph.in_order();
-    let before = graph.taken(block, port, first);
-    (graph.taken(block, port, first + u64::from(count)) - before) as usize
+    graph.takes(block, port, first, first + u64::from(count)) as usize
 }
 
 /// The tags on the items of an input that the firings take.

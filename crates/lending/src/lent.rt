@@ -1,5 +1,6 @@
 //! What a job is lent.
-ghost use Rattle.std.specs.Prelude.{◌≡◌, map, OnOk};
+ghost use Rattle.std.specs.Prelude.{◌≡◌, ◌*◌, ◌^◌, ◌<◌, ◌≤◌, length, map, OnOk};
+ghost use Rattle.stream_model.specs.Network.{node_at, taken_by};
 ghost use Rattle.settings.specs.Values.{held_of};
 ghost use Rattle.flowgraph.specs.Flowgraph.{net_of};
 ghost use Rattle.plant_laws.specs.Claims.{held_over};
@@ -34,40 +35,55 @@ pub fn lend<B: Block>(
     let next = first + u64::from(count);
     lend_settings(
         alloc,
+        graph,
         &stores.handed[block.0 as usize].timeline,
-        graph.taken(block, 0, first),
-        graph.taken(block, 0, next),
+        block,
+        first,
+        next,
         &mut lent.held,
     )?;
-    let room = graph.given(block, next) - graph.given(block, first);
+    let room = graph.gives(block, first, next);
     ready_places(
         alloc,
         &mut lent.outputs,
         graph.outputs(block),
-        graph.block(block).outputs().item,
+        graph.output_type(block),
         room as usize,
     )
 }
 
-// Makes `held` the settings in force over items `from` to below `to`, none where the block has no timeline.
-fn lend_settings(
+// Makes `held` the settings in force over the items that firings `first` to below `next` of a block take of its first input, none where it
+// has no timeline.
+fn lend_settings<B: Block>(
     alloc: Global,
+    graph: &Valid<B>,
     timeline: &Option<Timeline>,
-    from: u64,
-    to: u64,
+    block: BlockId,
+    first: u64,
+    next: u64,
     held: &mut Vec<Held>,
 ) -> Result<(), AllocError>
-    ensures { OnOk result (map held_of held.new.items ≡ held_over timeline.now from to) }
+    requires block { block.0 < length graph.now.blocks }
+    requires ordered { first ≤ next }
+    requires firings { (node_at (net_of B.meaning graph.now) block.0).multiple * next < 2 ^ 62 }
+    requires taken { taken_by (node_at (net_of B.meaning graph.now) block.0) 0 next < 2 ^ 62 }
+    ensures { let n = node_at (net_of B.meaning graph.now) block.0 in
+        OnOk result (map held_of held.new.items ≡ held_over timeline.now (taken_by n 0 first) (taken_by n 0 next)) }
 {
     match timeline {
         None => {
             held.clear();
             Ok(())
         }
-        Some(timeline) => match timeline.copy_between(alloc, from, to, held) {
-            Ok(()) => Ok(()),
-            Err(SettingFault::Memory) => Err(AllocError),
-            Err(SettingFault::Late { .. }) => unreachable!(),
-        },
+        Some(timeline) => {
+            graph.in_order();
+            let from = graph.taken(block, 0, first);
+            let to = graph.taken(block, 0, next);
+            match timeline.copy_between(alloc, from, to, held) {
+                Ok(()) => Ok(()),
+                Err(SettingFault::Memory) => Err(AllocError),
+                Err(SettingFault::Late { .. }) => unreachable!(),
+            }
+        }
     }
 }

@@ -15,6 +15,22 @@ pub(crate) fn resize(
 ) -> Result<(), AllocError>
     ensures { OnOk result (length places.new.items ≡ count) }
 {
+    // Each claim comes here, and all but the first of a block find as many as they need.
+    if places.len() == count {
+        return Ok(());
+    }
+    cut_or_grow(alloc, places, count, item)
+}
+
+#[inline(never)]
+fn cut_or_grow(
+    alloc: Global,
+    places: &mut Vec<Items>,
+    count: usize,
+    item: ItemType,
+) -> Result<(), AllocError>
+    ensures { OnOk result (length places.new.items ≡ count) }
+{
     places.truncate(count);
     for _ in places.len()..count {
         places.push(Items::empty(alloc, item))?;

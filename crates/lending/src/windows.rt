@@ -31,7 +31,7 @@ pub(crate) fn lend_windows<B: Block>(
     ensures windows { OnOk result (AreWindows (net_of B.meaning graph.now) (stored_in stores.now) block.0 first count (map numbers_of windows.new.items)) }
     ensures types { OnOk result (All (λ w. type_of w ≡ (node_at (net_of B.meaning graph.now) block.0).meaning.inputs.item) windows.new.items) }
 {
-    let item = graph.block(block).inputs().item;
+    let item = graph.input_type(block);
     if graph.is_source(block) {
         resize(alloc, windows, 1, item)?;
         let tape = stores.handed[block.0 as usize].tape.recording();

@@ -1,6 +1,6 @@
 //! A plant runs a graph call by call: feed, set, step, read. Between a claim and its commit a block works apart from the plant.
 
 pub use plant::{
-    Claim, Closed, Did, Fed, Handed, Headway, Job, Need, Opening, Piece, Plant, PlantFault,
-    Settled, Step, Stored, Taken, Unwatched, Watch, Worked, source_type,
+    BlockNeed, Claim, Closed, Did, Fed, Handed, Headway, Job, Need, Opening, Piece, Plant,
+    PlantFault, Settled, Step, Stored, Taken, Unwatched, Watch, Worked, source_type,
 };

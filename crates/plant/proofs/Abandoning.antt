@@ -7,7 +7,6 @@ use Rattle.stream_model.specs.Machine.{Capacities, Job, Reply, next, is_in_fligh
 use Rattle.stream_laws.specs.CanRun.{CanRun}
 use Rattle.machine_laws.specs.Sound.{Sound}
 use Rattle.machine_laws.proofs.Sounds.{calls_keep_sound}
-use Rattle.firings.specs.declared.progress.Tape.{Tape}
 use Rattle.firings.specs.Firings.{abandoned}
 use Rattle.plant_laws.specs.Holds.{Holds}
 use Rattle.plant_laws.proofs.Handing.{abandoning_holds}

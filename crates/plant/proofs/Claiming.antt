@@ -1,5 +1,5 @@
 -- What a plant keeps stays true as a claim is made, given up, and given room.
-use Rattle.std.proofs.Common.{◌≡◌, ◌≢◌, ℕ, ◌<◌, ◌+◌, List, map, length, true, false, refl, arith, ap, sym, ◌∙◌, subst, inl, inr, lt-ltb, ne_eqb, get_or-set_same}
+use Rattle.std.proofs.Common.{◌≡◌, ◌≢◌, ℕ, ◌<◌, ◌+◌, List, length, true, false, refl, arith, ap, sym, ◌∙◌, subst, inl, inr, lt-ltb, ne_eqb, get_or-set_same}
 use Rattle.std.proofs.lemmas.Bool.{cases_eq, cond-true}
 use Rattle.std.specs.Prelude.{nat_lt, Vec}
 use Rattle.std.specs.Global.{Global}
@@ -17,12 +17,10 @@ use Rattle.plant_laws.specs.Holds.{Holds}
 use Rattle.plant_laws.proofs.Ending.{ending_holds}
 use Rattle.plant_laws.proofs.Handing.{claiming_holds}
 use Rattle.firings.specs.Decision.{answer_of}
-use Rattle.firings.specs.State as firings
 use Rattle.firings.specs.declared.decision.Decision.TheVariants as decision
-use Rattle.firings.specs.declared.progress.Tape.{Tape}
 use Rattle.stores.specs.declared.intake.Intake.{Intake}
 use Rattle.stores.specs.declared.stores.Stores.{Stores}
-use Rattle.stores.specs.Stores.{handed_of, state_of, stored_in}
+use Rattle.stores.specs.Stores.{state_of, stored_in}
 use Rattle.stores.specs.Delivery.{CanRelease}
 use Rattle.stores.specs.Lending.{HasRoom, KeepsAllRoom}
 use Rattle.stores.proofs.Flights.{is_claim_of, flight_was, flight_room}

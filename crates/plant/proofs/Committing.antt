@@ -11,15 +11,13 @@ use Rattle.machine_laws.specs.Stays.{in_flight}
 use Rattle.machine_laws.proofs.Sounds.{calls_keep_sound}
 use Rattle.items.specs.declared.stream_items.Items.{Items}
 use Rattle.items.specs.Items.{numbers_of}
-use Rattle.firings.specs.declared.progress.Tape.{Tape}
-use Rattle.firings.specs.State as firings
 use Rattle.firings.specs.Firings.{committed}
 use Rattle.plant_laws.specs.Holds.{Holds}
 use Rattle.plant_laws.specs.Calls.{IsWorked}
 use Rattle.plant_laws.proofs.Committing.{committing_holds}
 use Rattle.stores.specs.declared.intake.Intake.{Intake}
 use Rattle.stores.specs.declared.stores.Stores.{Stores}
-use Rattle.stores.specs.Stores.{handed_of, state_of, stored_in}
+use Rattle.stores.specs.Stores.{state_of, stored_in}
 use Rattle.stores.specs.Lending.{HasRoom, KeepsRoom}
 use Rattle.stores.specs.Delivery.{CanDeliver, delivered}
 use Rattle.stores.proofs.Deliverable.{can_deliver}

@@ -17,7 +17,6 @@ use Rattle.firings.specs.Decision.{answer_of}
 use Rattle.firings.specs.Firings.{abandoned}
 use Rattle.firings.specs.declared.decision.Decision.{Decision}
 use Rattle.firings.specs.declared.decision.Decision.TheVariants as decision
-use Rattle.firings.specs.declared.progress.Tape.{Tape}
 use Rattle.flights.proofs.Agreeing.{jobs_agree-same}
 use Rattle.stores.specs.declared.stores.Stores.{Stores}
 use Rattle.stores.specs.Stores.{state_of, stored_in}

@@ -11,7 +11,6 @@ use Rattle.machine_laws.specs.Stays.{in_flight}
 use Rattle.plant_laws.specs.Stored.{word_at}
 use Rattle.plant_laws.specs.Claims.{MayFire, Serves}
 use Rattle.plant_laws.proofs.Serving.{flights_may_fire, firings_are_served}
-use Rattle.firings.specs.declared.progress.Tape.{Tape}
 use Rattle.items.specs.declared.stream_items.Items.{Items}
 use Rattle.items.specs.Items.{numbers_of}
 use Rattle.settings.specs.declared.value.Held.{Held}

@@ -25,3 +25,5 @@ pub mod Counting
 pub mod Runs
 pub mod Sames
 pub mod Tapes
+pub mod Places
+pub mod Following

@@ -1,5 +1,5 @@
 -- What a plant keeps stays true as a block is handed something.
-use Rattle.std.proofs.Common.{◌≡◌, ℕ, ℤ, zero, suc, ◌<◌, ◌≤◌, ◌+◌, List, length-append, ◌++◌, [], ◌∷◌, map, length, get_or, set, refl, arith, ap, sym, ◌∙◌, subst, true, false, Option, Some, Ok, Err}
+use Rattle.std.proofs.Common.{◌≡◌, ℕ, ℤ, zero, suc, ◌<◌, ◌≤◌, ◌+◌, List, ◌++◌, [], ◌∷◌, map, length, get_or, set, refl, arith, ap, sym, ◌∙◌, subst, true, false, Option, Some, Ok, Err}
 use Rattle.std.specs.Arc.{arc_value}
 use Rattle.std.proofs.lemmas.List.{map-set, length-map}
 use Rattle.std.proofs.Math.Seq.{map-set_same}
@@ -33,7 +33,7 @@ use Rattle.plant.specs.Plant.{PlantState, Keeps}
 use Rattle.plant.specs.Answers.{refusal_of}
 use Rattle.plant.specs.Feeding.{length_with}
 use Rattle.plant.specs.declared.fault.PlantFault.{PlantFault}
-use Rattle.plant.proofs.Refusals.{IsSource, close-again, close-open, feed-stopped, feed-fits, length_with-ok}
+use Rattle.plant.proofs.Refusals.{IsSource, close-again, close-open, feed-stopped, feed-fits}
 
 -- of all that is stored, only what block b was handed is another
 pub record IsHanded (s s' : Stores) (b : ℕ) (h : Intake) : Type 0 where

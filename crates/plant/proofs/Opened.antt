@@ -6,7 +6,6 @@ use Rattle.stream_model.specs.Network.{Network, Progress, State, no_progress, no
 use Rattle.stream_laws.specs.CanRun.{CanRun}
 use Rattle.machine_laws.specs.Sound.{Sound}
 use Rattle.machine_laws.proofs.Moving.{opening_sound}
-use Rattle.firings.specs.State as firings
 use Rattle.plant_laws.specs.Holds.{Holds}
 use Rattle.plant_laws.specs.Opening.{stored_opening}
 use Rattle.plant_laws.proofs.Opening.{opening_holds}

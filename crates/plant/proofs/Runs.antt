@@ -4,12 +4,12 @@ use Rattle.std.specs.Prelude.{min, slice_range}
 use Rattle.stream_model.specs.Tags.{tags_within}
 use Rattle.stream_model.specs.Meaning.{input}
 use Rattle.stream_model.specs.Network.{Network, State, progress_at, role_at, is_keeper, entering, tags_entering}
-use Rattle.stream_model.specs.Machine.{Capacities, Call, Feed, Close, Set, Claim, Commit, Abandon, Read, Reply, Refused, Piece, foreign, no_such_block, not_sink, beyond_end, next, run_of, read_of}
+use Rattle.stream_model.specs.Machine.{Call, Feed, Close, Set, Claim, Commit, Abandon, Read, Reply, Refused, Piece, no_such_block, not_sink, beyond_end, next, read_of}
 use Rattle.plant_laws.specs.Calls.{tells_change}
 use Rattle.plant_laws.proofs.Resting.{otherwise_nothing_changes}
 use Rattle.plant.specs.Plant.{PlantState}
-use Rattle.plant.specs.Answers.{Answered, AnsweredAlways, AnsweredBy}
-use Rattle.plant.specs.Runs.{Made, IsBroughtBack, Says, Leads, answered_calls, replies_to, IsRun}
+use Rattle.plant.specs.Answers.{AnsweredAlways}
+use Rattle.plant.specs.Runs.{Made, IsBroughtBack, Says, Leads, IsRun}
 
 three_stay : (x y z : Bool) (a b c d : Reply) (st : State) → (cond {A = Reply × State} x (a, st) (cond y (b, st) (cond z (c, st) (d, st)))).1 ≡ st
 three_stay true y z a b c d st = refl

@@ -1,5 +1,5 @@
 -- A block's setting: why it is refused, what it makes, and that what a plant keeps stays true.
-use Rattle.std.proofs.Common.{◌≡◌, ℕ, ◌<◌, ◌≤◌, ◌+◌, ◌*◌, ◌++◌, List, [], ◌∷◌, map, length, get_or, set, refl, ap, sym, ◌∙◌, subst, true, false, Bool, Option, Some, None, not, nat_lt, lt-ltb, le-ltb, ltb-true, if◌then◌else◌}
+use Rattle.std.proofs.Common.{◌≡◌, ℕ, ◌<◌, ◌≤◌, ◌+◌, ◌*◌, List, map, length, get_or, set, refl, ap, sym, ◌∙◌, subst, true, false, Bool, Option, Some, None, not, nat_lt, lt-ltb, le-ltb, ltb-true, if◌then◌else◌}
 use Rattle.std.proofs.lemmas.List.{map-set}
 use Rattle.std.specs.Option.{unwrap_or}
 use Rattle.std.specs.Prelude.{IsSome}

@@ -9,7 +9,6 @@ use Rattle.stream_model.specs.Machine.{Capacities, Reply, Refused, Piece, HoldsA
 use Rattle.stream_laws.specs.CanRun.{CanRun}
 use Rattle.machine_laws.specs.Sound.{fired}
 use Rattle.machine_laws.proofs.Wholes.{done_piece_is_whole}
-use Rattle.firings.specs.declared.progress.Tape.{Tape}
 use Rattle.firings.specs.declared.progress.Progress.{Progress}
 use Rattle.firings.specs.State.{progress_of}
 use Rattle.plant_laws.specs.Stored.{Collected, sink_at}

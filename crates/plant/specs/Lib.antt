@@ -10,3 +10,4 @@ pub mod Settling
 pub mod Headway
 pub mod Runs
 pub mod Handed
+pub mod Waits

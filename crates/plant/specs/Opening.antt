@@ -1,5 +1,5 @@
 -- A plant as it opens.
-use Rattle.std.specs.Prelude.{◌≡◌, length, map, replicate, false}
+use Rattle.std.specs.Prelude.{◌≡◌, length, map, replicate}
 use Rattle.stream_model.specs.Meaning.{Meaning}
 use Rattle.stream_model.specs.Network.{Network, no_progress, nothing_handed, opening}
 use Rattle.graph_model.specs.Rates.{balance_of, capacities_of}

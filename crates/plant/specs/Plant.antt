@@ -1,5 +1,5 @@
 -- What a contract sees of a plant, and what its parts keep.
-use Rattle.std.specs.Prelude.{ℕ, ◌≡◌, ◌<◌, ◌+◌, List, length, map, All, true}
+use Rattle.std.specs.Prelude.{ℕ, ◌≡◌, ◌<◌, ◌+◌, List, length, map, All, true, slice_index_or}
 use Rattle.std.specs.Arc.{arc_value}
 use Rattle.stream_model.specs.Meaning.{Meaning}
 use Rattle.stream_model.specs.Network.{Network, Progress, State, node_at, progress_at}
@@ -11,12 +11,13 @@ use Rattle.machine_laws.specs.Stalls.{AreClosed}
 use Rattle.items.specs.declared.stream_items.Items.{Items}
 use Rattle.items.specs.Items.{type_of, numbers_of}
 use Rattle.flowgraph.specs.Flowgraph.{Flowgraph, net_of}
+use Rattle.jobs.specs.declared.job.Lent.{Lent}
 use Rattle.rates.specs.Answer.{AreRates, answer_of, sizes_of}
 use Rattle.plant_laws.specs.Holds.{Holds}
 use Rattle.plant_laws.specs.Calls.{IsWorked}
 use Rattle.stores.specs.declared.stores.Stores.{Stores}
 use Rattle.stores.specs.Stores.{state_of, stored_in}
-use Rattle.stores.specs.Lending.{HasRoom}
+use Rattle.stores.specs.Lending.{HasRoom, IsLent}
 use Rattle.plant.specs.declared.parts.Parts.{Parts}
 
 -- the graph, the capacity of each output of each block, and the machine's state
@@ -71,6 +72,18 @@ pub record IsItsWork (net : Network) (st : State) (b : ℕ) (windows outputs : L
   pub taken_types : All (λ w. type_of w ≡ (node_at net b).meaning.inputs.item) windows
   pub worked : IsWorked net st b (map numbers_of outputs) word
   pub given_types : All (λ o. type_of o ≡ (node_at net b).meaning.outputs.item) outputs
+
+-- where block b has its place, it was lent what a job of these firings needs
+abbrev pub IsLentTo : {B P : Type 0} → (B → Meaning) → Parts B P → ℕ → ℕ → ℕ → Type 0
+IsLentTo meaning p b first count =
+    (d : Lent) → let lent = slice_index_or p.lent.items b d in
+    IsLent (net_of meaning (arc_value p.graph)) (stored_in p.stores) b first count lent.windows.items lent.held.items lent.outputs.items
+
+-- there lies what came of the work of its claim in flight
+abbrev pub IsDoneBy : {B P : Type 0} → (B → Meaning) → Parts B P → ℕ → ℕ → Type 0
+IsDoneBy meaning p b word =
+    (d : Lent) → let lent = slice_index_or p.lent.items b d in
+    IsItsWork (net_of meaning (arc_value p.graph)) (plant_of p).state b lent.windows.items lent.outputs.items word
 
 -- the state once the claim in flight of block b is committed, or given up
 abbrev pub with_claim_done : State → ℕ → State

@@ -1,8 +1,7 @@
 -- Calls of a plant, one after another.
 use Rattle.std.specs.Prelude.{◌≡◌, ◌⊎◌, List, [], ◌∷◌, Option, Some, None}
 use Rattle.stream_model.specs.Network.{Network, State}
-use Rattle.stream_model.specs.Machine as machine
-use Rattle.stream_model.specs.Machine.{Capacities, Call, Feed, Close, Set, Claim, Commit, Abandon, Read, Reply, Refused, foreign, next, run_of}
+use Rattle.stream_model.specs.Machine.{Call, Feed, Close, Set, Claim, Commit, Abandon, Read, Reply, Refused, foreign, next, run_of}
 use Rattle.plant.specs.Plant.{PlantState}
 use Rattle.plant.specs.Answers.{Answered, AnsweredAlways, AnsweredBy}
 

@@ -9,9 +9,7 @@ ghost use Rattle.stream_model.specs.Machine.{counts_of, claim_of, next, step_of}
 ghost use Rattle.machine_laws.specs.Stays.{in_flight};
 ghost use Rattle.flowgraph.specs.Flowgraph.{net_of};
 ghost use Rattle.firings.specs.Decision.{answer_of};
-ghost use Rattle.stores.specs.Stores.{stored_in};
-ghost use Rattle.stores.specs.Lending.{IsLent};
-ghost use Rattle.plant.specs.Plant.{IsRight, IsRightBut, IsFlight, IsItsWork, plant_of, with_claim_done, without_claim};
+ghost use Rattle.plant.specs.Plant.{IsRight, IsRightBut, IsFlight, IsLentTo, IsDoneBy, plant_of, with_claim_done, without_claim};
 ghost use Rattle.plant.specs.Answers.{Answered, IsOf, is_claimed, claim_reply, reply_of, step_reply};
 
 use crate::answers::{Claim, Step};
@@ -142,7 +140,8 @@ impl<B: Block> Parts<B> {
     {
         self.graph.in_order();
         let graph = Arc::try_clone(&self.graph)?;
-        let lent = self.lend(alloc, block, first, count)?;
+        self.lend(alloc, block, first, count)?;
+        let lent = replace(&mut self.lent[block.0 as usize], Lent::new(alloc));
         let word = self.stores.words[block.0 as usize];
         Ok(Job::new(graph, block, first, count, word, lent))
     }
@@ -163,10 +162,9 @@ impl<B: Block> Parts<B> {
     {
         self.graph.in_order();
         match self.lend(alloc, block, first, count) {
-            Ok(mut lent) => {
-                let word = self.work(block, first, count, &mut lent);
-                self.store(block, first, count, &lent.windows, &lent.outputs, word);
-                self.lent[block.0 as usize] = lent;
+            Ok(()) => {
+                let word = self.work(block, first, count);
+                self.store(block, first, count, word);
                 Ok(())
             }
             Err(refusal) => {
@@ -176,15 +174,18 @@ impl<B: Block> Parts<B> {
         }
     }
 
-    // Does the work of the claim in flight of a block, and answers the state word after it.
-    fn work(&self, block: BlockId, first: u64, count: u32, lent: &mut Lent) -> u64
-        requires right { IsRight B.meaning self.now }
-        requires flight { let plant = plant_of self.now in IsFlight (net_of B.meaning plant.graph) plant.state block.0 first count }
-        requires lent { IsLent (net_of B.meaning (plant_of self.now).graph) (stored_in self.now.stores) block.0 first count lent.old.windows.items lent.old.held.items lent.old.outputs.items }
-        ensures work { let plant = plant_of self.now in IsItsWork (net_of B.meaning plant.graph) plant.state block.0 lent.new.windows.items lent.new.outputs.items result }
+    // Does the work of the claim in flight of a block on what the block was lent, and answers the state word after it.
+    fn work(&mut self, block: BlockId, first: u64, count: u32) -> u64
+        requires right { IsRight B.meaning self.old }
+        requires flight { let old = plant_of self.old in IsFlight (net_of B.meaning old.graph) old.state block.0 first count }
+        requires lent { IsLentTo B.meaning self.old block.0 first count }
+        ensures right { IsRight B.meaning self.new }
+        ensures same { plant_of self.new ≡ plant_of self.old }
+        ensures work { IsDoneBy B.meaning self.new block.0 result }
     {
         self.graph.in_order();
         let multiple = u64::from(self.graph.options(block).multiple);
+        let lent = &mut self.lent[block.0 as usize];
         self.graph.block(block).work(
             self.stores.words[block.0 as usize],
             multiple * first,
@@ -195,24 +196,23 @@ impl<B: Block> Parts<B> {
         )
     }
 
-    // Lends what a job of the claim in flight needs, in the memory of the block's last job, and makes room for its commit.
+    // Lends a block what a job of its claim in flight needs, in the memory of its last job, and makes room for the commit.
     fn lend(
         &mut self,
         alloc: Global,
         block: BlockId,
         first: u64,
         count: u32,
-    ) -> Result<Lent, AllocError>
+    ) -> Result<(), AllocError>
         requires right { IsRightBut B.meaning self.old block.0 }
         requires flight { let old = plant_of self.old in IsFlight (net_of B.meaning old.graph) old.state block.0 first count }
         ensures same { plant_of self.new ≡ plant_of self.old }
         ensures right { IsRightBut B.meaning self.new block.0 }
         ensures room { OnOk result (IsRight B.meaning self.new) }
-        ensures lent { IfOk result (λ lent. IsLent (net_of B.meaning (plant_of self.old).graph) (stored_in self.new.stores) block.0 first count lent.windows.items lent.held.items lent.outputs.items) }
+        ensures lent { OnOk result (IsLentTo B.meaning self.new block.0 first count) }
     {
         self.graph.in_order();
         make_room(&mut self.stores, &self.graph, block, first, count)?;
-        let mut lent = replace(&mut self.lent[block.0 as usize], Lent::new(alloc));
         lend(
             alloc,
             &self.stores,
@@ -220,8 +220,7 @@ impl<B: Block> Parts<B> {
             block,
             first,
             count,
-            &mut lent,
-        )?;
-        Ok(lent)
+            &mut self.lent[block.0 as usize],
+        )
     }
 }

@@ -5,7 +5,7 @@ ghost use Rattle.stream_model.specs.Machine as machine;
 ghost use Rattle.stream_model.specs.Machine.{commit_of, abandon_of};
 ghost use Rattle.flowgraph.specs.Flowgraph.{net_of};
 ghost use Rattle.flights.specs.Flight.{is_own};
-ghost use Rattle.plant.specs.Plant.{IsRight, IsFlight, IsItsWork, plant_of, with_claim_done};
+ghost use Rattle.plant.specs.Plant.{IsRight, IsFlight, IsDoneBy, plant_of, with_claim_done};
 ghost use Rattle.plant.specs.Answers.{IsTaken};
 
 use crate::answers::Did;
@@ -13,7 +13,6 @@ use crate::parts::Parts;
 use delivery::deliver;
 use flights::{Brought, is_in_flight};
 use flowgraph::{Block, BlockId};
-use items::Items;
 use jobs::{Job, Worked};
 
 impl<B: Block> Parts<B> {
@@ -35,16 +34,10 @@ impl<B: Block> Parts<B> {
         }
         worked.graph().in_order();
         worked.in_order();
-        let (block, count) = (worked.block(), worked.count());
-        self.store(
-            block,
-            worked.first(),
-            count,
-            worked.windows(),
-            worked.outputs(),
-            worked.next_word(),
-        );
+        let (block, first, count) = (worked.block(), worked.first(), worked.count());
+        let word = worked.next_word();
         self.lent[block.0 as usize] = worked.into_lent();
+        self.store(block, first, count, word);
         Ok(Did(count))
     }
 
@@ -70,31 +63,24 @@ impl<B: Block> Parts<B> {
         Ok(())
     }
 
-    /// Commits the claim in flight of a block, with what came of its work.
-    pub fn store(
-        &mut self,
-        block: BlockId,
-        first: u64,
-        count: u32,
-        windows: &[Items],
-        outputs: &[Items],
-        word: u64,
-    )
+    /// Commits the claim in flight of a block, with what came of its work, which lies where the block was lent what that needed.
+    pub fn store(&mut self, block: BlockId, first: u64, count: u32, word: u64)
         requires right { IsRight B.meaning self.old }
         requires flight { let old = plant_of self.old in IsFlight (net_of B.meaning old.graph) old.state block.0 first count }
-        requires work { let old = plant_of self.old in IsItsWork (net_of B.meaning old.graph) old.state block.0 windows.now outputs.now word }
+        requires work { IsDoneBy B.meaning self.old block.0 word }
         ensures right { IsRight B.meaning self.new }
         ensures state { let old = plant_of self.old in plant_of self.new ≡ record old { state = with_claim_done old.state block.0 } }
     {
         self.graph.in_order();
+        let lent = &self.lent[block.0 as usize];
         deliver(
             &mut self.stores,
             &self.graph,
             block,
             first,
             count,
-            windows,
-            outputs,
+            &lent.windows,
+            &lent.outputs,
             word,
         );
         self.firings.commit(block);

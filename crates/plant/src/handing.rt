@@ -15,8 +15,8 @@ ghost use Rattle.plant.specs.Answers.{Answered, AnsweredAlways, reply_of};
 ghost use Rattle.plant.specs.Feeding.{feed_numbers, length_with};
 
 use crate::answers::{Closed, Fed, Taken};
+use crate::checks::{fit, same_type, source_type, wanted};
 use crate::fault::PlantFault;
-use crate::looks::{fit, same_type, source_type, wanted};
 use crate::parts::Parts;
 use crate::source_tapes::counts_of;
 use firings::Tape;

@@ -1,10 +1,11 @@
 //! The plant.
 
-ghost use Rattle.std.specs.Prelude.{◌≡◌, ◌≤◌, ℕ, List, map, ◌↔◌, true, IsOk, IsTrue, IfOk, IfErr};
+ghost use Rattle.std.specs.Prelude.{◌≡◌, ◌≤◌, ℕ, List, map, ◌↔◌, true, IsOk, IsTrue, IfOk, IfErr, IfSome};
+ghost use Rattle.std.specs.Option.{option_map};
 ghost use Rattle.std.specs.Arc.{arc_value};
 ghost use Rattle.std.specs.List.{Any};
 ghost use Rattle.stream_model.specs.Machine as machine;
-ghost use Rattle.stream_model.specs.Machine.{next, step_of, commit_of, abandon_of, feed_of, close_of, set_of, read_of, is_idle, is_all_done, is_quiet, IsWhole, HoldsAll};
+ghost use Rattle.stream_model.specs.Machine.{capacity_at, next, step_of, commit_of, abandon_of, feed_of, close_of, set_of, read_of, is_idle, is_all_done, is_quiet, IsWhole, HoldsAll};
 ghost use Rattle.rates.specs.Answer.{AreRates};
 ghost use Rattle.stream_model.specs.Network.{node_at, handed_at};
 ghost use Rattle.plant.specs.Plant.{PlantState, IsSettled};
@@ -16,6 +17,8 @@ ghost use Rattle.flights.specs.Flight.{is_own};
 ghost use Rattle.stream_laws.specs.CanRun.{CanRun};
 ghost use Rattle.graph_model.specs.Rates.{balance_of, capacities_of};
 ghost use Rattle.machine_laws.specs.Sound.{Sound};
+ghost use Rattle.machine_laws.specs.Stalls.{AreClosed};
+ghost use Rattle.machine_laws.specs.Waits.{IsOnRing, ring_of};
 ghost use Rattle.stores.specs.Stores.{mark_of};
 ghost use Rattle.plant.specs.Answers.{Answered, AnsweredAlways, AnsweredBy, IsOf, IsTaken, claim_reply, piece_reply, reply_of, source_type_of, step_reply};
 ghost use Rattle.plant.specs.Keeping.{IsKeptOf, port_fault};
@@ -25,14 +28,16 @@ ghost use Rattle.plant.specs.Feeding.{feed_numbers};
 ghost use Rattle.plant.specs.Settling.{StepsLead, HasSettled, HoldsSettled};
 ghost use Rattle.plant.specs.Headway.{headway_of};
 ghost use Rattle.plant.specs.Runs.{Made, Leads, IsRun};
+ghost use Rattle.plant.specs.Waits.{need_of, wait_in};
 
 use crate::answers::{Claim, Closed, Did, Fed, Headway, Piece, Settled, Step, Stored, Taken};
+use crate::checks::source_type;
 use crate::fault::PlantFault;
 use crate::handed::{Handed, Opening};
-use crate::looks::source_type;
 use crate::parts::Parts;
 use crate::settle::{Unwatched, Watch};
 use crate::source_tapes::SourceTapes;
+use firings::BlockNeed;
 use flowgraph::{Block, BlockId, Valid};
 use items::{ItemType, Items, Mark};
 use jobs::{Job, Worked};
@@ -212,6 +217,15 @@ impl<B: Block> Plant<B> {
         self.parts.read(alloc, sink, from, max)
     }
 
+    /// How many unread items the buffer of an output holds at most: the capacity that was asked for, or more where the graph needs more. Refused
+    /// are `NoSuchBlock`, and `NoSuchPort` of an output without a connection. It takes no memory.
+    pub fn capacity(&self, block: BlockId, port: usize) -> Result<u32, PlantFault>
+        ensures refused { fault_in result ≡ port_fault (net_of B.meaning self.now.graph) block.0 port }
+        ensures value { IfOk result (λ items. items ≡ capacity_at self.now.capacities block.0 port) }
+    {
+        self.parts.capacity(block, port)
+    }
+
     /// How much the buffer of an output keeps: no more than its capacity and the greatest history of its readers require. Refused are
     /// `NoSuchBlock`, and `NoSuchPort` of an output without a connection. It takes no memory.
     pub fn stored(&self, block: BlockId, port: usize) -> Result<Stored, PlantFault>
@@ -308,6 +322,24 @@ impl<B: Block> Plant<B> {
     {
         self.parts.graph.in_order();
         self.parts.opening(alloc)
+    }
+
+    /// What a claim of a block would come to, or what it waits for, and of which block. `NoSuchBlock` is refused. Nothing changes, and it takes no
+    /// memory.
+    pub fn need(&self, block: BlockId) -> Result<BlockNeed, PlantFault>
+        ensures { wait_in result ≡ need_of (net_of B.meaning self.now.graph) self.now.capacities self.now.state block.0 }
+    {
+        self.parts.need(block)
+    }
+
+    /// Where as many waits lead as there are blocks, from the lowest block that is not done; none where all are done. Where each tape is closed and
+    /// the plant is quiet, the block is on a ring: the waits lead from it back to it, and on the way each block waits for another.
+    pub fn ring(&self) -> Option<BlockId>
+        ensures value { option_map (λ block. block.0) result ≡ ring_of (net_of B.meaning self.now.graph) self.now.capacities self.now.state }
+        ensures comes_back { AreClosed (net_of B.meaning self.now.graph) self.now.state → is_quiet (net_of B.meaning self.now.graph) self.now.capacities self.now.state ≡ true →
+            IfSome result (λ block. IsOnRing (net_of B.meaning self.now.graph) self.now.capacities self.now.state block.0) }
+    {
+        self.parts.ring()
     }
 
     /// Commits a job that was done, and returns how many firings it was of. Work that is not that of the claim in flight of its block comes back,

@@ -1,7 +1,7 @@
 //! What a plant shows.
 
 ghost use Rattle.std.specs.Prelude.{◌≡◌, true, IfOk};
-ghost use Rattle.stream_model.specs.Machine.{read_of, HoldsAll};
+ghost use Rattle.stream_model.specs.Machine.{capacity_at, read_of, HoldsAll};
 ghost use Rattle.stream_model.specs.Network.{node_at};
 ghost use Rattle.items.specs.Items.{type_of};
 ghost use Rattle.flowgraph.specs.Flowgraph.{net_of};
@@ -51,6 +51,23 @@ impl<B: Block> Parts<B> {
             tags,
             done: own.done,
         })
+    }
+
+    /// How many unread items the buffer of an output holds at most.
+    pub fn capacity(&self, block: BlockId, port: usize) -> Result<u32, PlantFault>
+        requires { IsRight B.meaning self.now }
+        ensures refused { let plant = plant_of self.now in fault_in result ≡ port_fault (net_of B.meaning plant.graph) block.0 port }
+        ensures value { IfOk result (λ items. items ≡ capacity_at (plant_of self.now).capacities block.0 port) }
+    {
+        // An output that keeps something is one that is used.
+        if let Err(fault) = self.stored(block, port) {
+            return Err(fault);
+        }
+        let rows = self.capacities.rows();
+        match rows.get(block.0 as usize) {
+            Some(row) => Ok(row.get(port).copied().unwrap_or(0)),
+            None => Ok(0),
+        }
     }
 
     /// How much the buffer of an output keeps.

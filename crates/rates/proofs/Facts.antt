@@ -7,8 +7,8 @@ use Rattle.stream_model.specs.Firings.{taken_at, given_at, takes, gives}
 use Rattle.stream_model.specs.Network.{Network, Node, IsSound, no_connection, no_node, node_at}
 use Rattle.stream_model.specs.declared.vocabulary.Shift.TheVariants.{No}
 use Rattle.rates.specs.declared.tables.Link.{Link}
-use Rattle.rates.specs.declared.tables.Pace.{Pace}
-use Rattle.rates.specs.Tables.{HasRates, pace_of, link_of, paces_of, links_of, connection_at}
+use Rattle.rates.specs.declared.tables.Supply.{Supply}
+use Rattle.rates.specs.Tables.{HasRates, supply_of, link_of, supplies_of, links_of, connection_at}
 
 abbrev pub no_link : Link
 no_link = record { from = 0; to = 0; gives = 0; takes = 0 }
@@ -21,11 +21,11 @@ pub record FitsLink (blocks : ℕ) (l : Link) : Type 0 where
   pub takes_some : 1 ≤ l.takes
   pub takes_few : l.takes ≤ 65536
 
-abbrev pub no_pace : Pace
-no_pace = record { source = false; gives = 0; shift = No }
+abbrev pub no_supply : Supply
+no_supply = record { source = false; gives = 0; shift = No }
 
-pub pace_is : (net : Network) (paces : List Pace) → paces ≡ paces_of net → (b : ℕ) → b < length net.nodes → get_or paces b no_pace ≡ pace_of (node_at net b)
-pace_is net paces e b h = ap (λ l. get_or l b no_pace) e ∙ get_or-map pace_of net.nodes b no_node no_pace h
+pub supply_is : (net : Network) (supplies : List Supply) → supplies ≡ supplies_of net → (b : ℕ) → b < length net.nodes → get_or supplies b no_supply ≡ supply_of (node_at net b)
+supply_is net supplies e b h = ap (λ l. get_or l b no_supply) e ∙ get_or-map supply_of net.nodes b no_node no_supply h
 
 module _ (n : Node) (sound : IsSound n) (few : n.multiple ≤ 64) where
   taken_within : (p : ℕ) (o : Option (ℕ × ℕ)) → HasCounts n.meaning p o → (1 ≤ taken_at o) × (taken_at o ≤ 1024)

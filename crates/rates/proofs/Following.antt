@@ -9,17 +9,17 @@ use Rattle.stream_model.specs.Network.{Network, Connection, no_connection, node_
 use Rattle.graph_model.specs.Rates.{count_after, count_before, ahead, gives_on, takes_on}
 use Rattle.graph_model.proofs.FiringCounts.{source_unfolds}
 use Rattle.rates.specs.declared.tables.Link.{Link}
-use Rattle.rates.specs.declared.tables.Pace.{Pace}
+use Rattle.rates.specs.declared.tables.Supply.{Supply}
 use Rattle.rates.specs.declared.counts.Lead.{Lead}
-use Rattle.rates.specs.Tables.{HasRates, link_of, pace_of, connection_at}
+use Rattle.rates.specs.Tables.{HasRates, link_of, supply_of, connection_at}
 use Rattle.rates.specs.Counts.{given_of, taken_of, delay_of, unlimited, CanPass, HasAdvanced, AreHeld, IsLead}
-use Rattle.rates.proofs.Facts.{no_link, no_pace, FitsLink, link_is, table_fits, pace_is}
+use Rattle.rates.proofs.Facts.{no_link, no_supply, FitsLink, link_is, table_fits, supply_is}
 use Rattle.rates.proofs.Passing.{allows_on, IsPassed, given_closed, taken_closed, delay_few, allows_least, allows_most, some_writer, fires_few, before_few}
 
 pub true_false : (b : Bool) → b ≡ true → b ≡ false → ⊥
 true_false b e f = cc
 
-module _ (net : Network) (paces : List Pace) (links : List Link) (order q : List ℕ) (step : ℕ) (before started noted : List ℕ) (can : CanPass net paces links order q step before started noted) where
+module _ (net : Network) (supplies : List Supply) (links : List Link) (order q : List ℕ) (step : ℕ) (before started noted : List ℕ) (can : CanPass net supplies links order q step before started noted) where
   abbrev rates : HasRates net
   rates = can.tables.rates
 
@@ -38,8 +38,8 @@ module _ (net : Network) (paces : List Pace) (links : List Link) (order q : List
   pub fits_at : (i : ℕ) → i < length order → FitsLink (length net.nodes) (get_or links (get_or order i 0) no_link)
   fits_at i h = table_fits net rates links can.tables.table (get_or order i 0) (let n = number_in i h in let l = links_long in omega arith)
 
-  pub paces_long : length paces ≡ length net.nodes
-  paces_long = ap length can.tables.blocks ∙ length-map net.nodes pace_of
+  pub supplies_long : length supplies ≡ length net.nodes
+  supplies_long = ap length can.tables.blocks ∙ length-map net.nodes supply_of
 
   source_few : (b : ℕ) → b < length net.nodes → step * get_or q b 0 ≤ 8589934592
   source_few b in' =
@@ -117,13 +117,13 @@ module _ (net : Network) (paces : List Pace) (links : List Link) (order q : List
     to_is : l.to ≡ c.to
     to_is = ap (λ (l : Link). l.to) (link_at count in')
 
-    writer_is : (get_or paces l.from no_pace).shift ≡ (node_at net c.from).meaning.shift
-    writer_is = ap (λ b. (get_or paces b no_pace).shift) from_is ∙ ap (λ (p : Pace). p.shift) (pace_is net paces can.tables.blocks c.from ends.0)
+    writer_is : (get_or supplies l.from no_supply).shift ≡ (node_at net c.from).meaning.shift
+    writer_is = ap (λ b. (get_or supplies b no_supply).shift) from_is ∙ ap (λ (p : Supply). p.shift) (supply_is net supplies can.tables.blocks c.from ends.0)
 
-    reader_is : (get_or paces l.to no_pace).shift ≡ (node_at net c.to).meaning.shift
-    reader_is = ap (λ b. (get_or paces b no_pace).shift) to_is ∙ ap (λ (p : Pace). p.shift) (pace_is net paces can.tables.blocks c.to ends.1)
+    reader_is : (get_or supplies l.to no_supply).shift ≡ (node_at net c.to).meaning.shift
+    reader_is = ap (λ b. (get_or supplies b no_supply).shift) to_is ∙ ap (λ (p : Supply). p.shift) (supply_is net supplies can.tables.blocks c.to ends.1)
 
-    given_is : given_of (get_or paces l.from no_pace).shift l.gives (get_or after l.from 0) ≡ given_by (node_at net c.from) (count_after net q c.from step)
+    given_is : given_of (get_or supplies l.from no_supply).shift l.gives (get_or after l.from 0) ≡ given_by (node_at net c.from) (count_after net q c.from step)
     given_is =
         ap (λ s. given_of s l.gives (get_or after l.from 0)) writer_is
         ∙ ap (λ n. given_of (node_at net c.from).meaning.shift n (get_or after l.from 0)) (ap (λ (l : Link). l.gives) (link_at count in'))
@@ -133,14 +133,14 @@ module _ (net : Network) (paces : List Pace) (links : List Link) (order q : List
     before_is : get_or before l.to 0 ≡ count_before net q c.to step
     before_is = ap (λ b. get_or before b 0) to_is ∙ can.counts.counts c.to ends.1
 
-    taken_is : taken_of (get_or paces l.to no_pace).shift l.takes (get_or before l.to 0) ≡ taken_by (node_at net c.to) c.in_port (count_before net q c.to step)
+    taken_is : taken_of (get_or supplies l.to no_supply).shift l.takes (get_or before l.to 0) ≡ taken_by (node_at net c.to) c.in_port (count_before net q c.to step)
     taken_is =
         ap (λ s. taken_of s l.takes (get_or before l.to 0)) reader_is
         ∙ ap (λ n. taken_of (node_at net c.to).meaning.shift n (get_or before l.to 0)) (ap (λ (l : Link). l.takes) (link_at count in'))
         ∙ ap (taken_of (node_at net c.to).meaning.shift (takes_on net c)) before_is
         ∙ sym (taken_closed (node_at net c.to) (rates.can.sound c.to) (rates.can.single c.to) c.in_port (count_before net q c.to step))
 
-    pub held : AreHeld (get_or paces l.from no_pace).shift (get_or paces l.to no_pace).shift l (get_or before l.to 0) (get_or after l.from 0)
+    pub held : AreHeld (get_or supplies l.from no_supply).shift (get_or supplies l.to no_supply).shift l (get_or before l.to 0) (get_or after l.from 0)
     held =
         let fits = fits_at count in' in
         let steps = can.counts.step_few in
@@ -155,14 +155,14 @@ module _ (net : Network) (paces : List Pace) (links : List Link) (order q : List
           after_few = subst (λ n. n ≤ 8589934592) (sym (ap (λ b. get_or after b 0) from_is ∙ final)) late;
         }
 
-    module _ (f : Lead) (is : IsLead (get_or paces l.from no_pace).shift (get_or paces l.to no_pace).shift l (get_or before l.to 0) (get_or after l.from 0) f) where
+    module _ (f : Lead) (is : IsLead (get_or supplies l.from no_supply).shift (get_or supplies l.to no_supply).shift l (get_or before l.to 0) (get_or after l.from 0) f) where
       pub ahead_is : f.ahead ≡ ahead net q c step
-      ahead_is = is.ahead ∙ ap (λ n. n - taken_of (get_or paces l.to no_pace).shift l.takes (get_or before l.to 0)) given_is
+      ahead_is = is.ahead ∙ ap (λ n. n - taken_of (get_or supplies l.to no_supply).shift l.takes (get_or before l.to 0)) given_is
           ∙ ap (λ n. given_by (node_at net c.from) (count_after net q c.from step) - n) taken_is
 
       allowed_is : f.allowed ≡ allows_on net q step c
       allowed_is =
-          is.allowed ∙ ap (allowed_by (get_or paces l.to no_pace).shift l.takes) given_is
+          is.allowed ∙ ap (allowed_by (get_or supplies l.to no_supply).shift l.takes) given_is
           ∙ ap (λ s. allowed_by s l.takes (given_by (node_at net c.from) (count_after net q c.from step))) reader_is
           ∙ ap (λ n. allowed_by (node_at net c.to).meaning.shift n (given_by (node_at net c.from) (count_after net q c.from step))) (ap (λ (l : Link). l.takes) (link_at count in'))
 

@@ -11,7 +11,7 @@ use Rattle.graph_laws.proofs.Finding.{ratios-Some}
 use Rattle.graph_laws.proofs.Wholes.{answer_is}
 use Rattle.rates.specs.declared.fraction.Fraction.{Fraction}
 use Rattle.rates.specs.declared.tables.Link.{Link}
-use Rattle.rates.specs.declared.tables.Pace.{Pace}
+use Rattle.rates.specs.declared.tables.Supply.{Supply}
 use Rattle.rates.specs.Tables.{HasRates, ratio_of, AreFirings}
 use Rattle.rates.specs.Answer.{AreTables, HaveFirings}
 use Rattle.rates.proofs.Facts.{takes_within, gives_within}
@@ -68,9 +68,9 @@ module _ (net : Network) (rs : List Ratio) (solved : ratios_of net ≡ Some rs) 
   pub few_not : are_few net q ≡ false → balance_of net ≡ TooLarge
   few_not few = begins ∙ ap (λ b. elim b [ false ↦ TooLarge | true ↦ elim (fits_limit net q (past_skips net q)) [ false ↦ TooLarge | true ↦ Balanced q ] ]) few
 
-pub have_firings : (net : Network) (rates : HasRates net) (paces : List Pace) (links : List Link) (fs : List Fraction) (firings : List ℕ) → AreTables net paces links → ratios_of net ≡ Some (map ratio_of fs) →
-    list_all (holds_on net (map ratio_of fs)) net.connections ≡ true → AreFirings net fs firings → HaveFirings net paces links firings
-have_firings net rates paces links fs firings tables solved holds found =
+pub have_firings : (net : Network) (rates : HasRates net) (supplies : List Supply) (links : List Link) (fs : List Fraction) (firings : List ℕ) → AreTables net supplies links → ratios_of net ≡ Some (map ratio_of fs) →
+    list_all (holds_on net (map ratio_of fs)) net.connections ≡ true → AreFirings net fs firings → HaveFirings net supplies links firings
+have_firings net rates supplies links fs firings tables solved holds found =
     let balanced = balance_is net rates (map ratio_of fs) solved holds in
     let same = sym found.are in
     record {

@@ -10,8 +10,8 @@ use Rattle.std.specs.Global.{Global}
 use Rattle.rates.specs.declared.answers.Rates.TheVariants as rates
 use Rattle.rates.specs.declared.fraction.Fraction.{Fraction}
 use Rattle.rates.specs.declared.tables.Link.{Link}
-use Rattle.rates.specs.declared.tables.Pace.{Pace}
-use Rattle.rates.specs.Tables.{HasRates, HaveRatios, paces_of, links_of, ratio_of}
+use Rattle.rates.specs.declared.tables.Supply.{Supply}
+use Rattle.rates.specs.Tables.{HasRates, HaveRatios, supplies_of, links_of, ratio_of}
 use Rattle.rates.specs.Counts.{AreNeeded}
 
 -- the answer that they are
@@ -37,20 +37,20 @@ pub record IsNamed (net of : Network) : Type 0 where
   pub rates : HasRates of
 
 -- the tables of a network
-pub record AreTables (net : Network) (paces : List Pace) (links : List Link) : Type 0 where
+pub record AreTables (net : Network) (supplies : List Supply) (links : List Link) : Type 0 where
   pub rates : HasRates net
-  pub blocks : paces ≡ paces_of net
+  pub blocks : supplies ≡ supplies_of net
   pub table : links ≡ links_of net
 
 -- with its ratios
-pub record HaveSolved (net : Network) (paces : List Pace) (links : List Link) (ratios : List Fraction) : Type 0 where
-  pub tables : AreTables net paces links
+pub record HaveSolved (net : Network) (supplies : List Supply) (links : List Link) (ratios : List Fraction) : Type 0 where
+  pub tables : AreTables net supplies links
   pub have : HaveRatios net ratios
   pub solved : ratios_of net ≡ Some (map ratio_of ratios)
 
 -- and with firings in these ratios, which make a balance
-pub record HaveFirings (net : Network) (paces : List Pace) (links : List Link) (firings : List ℕ) : Type 0 where
-  pub tables : AreTables net paces links
+pub record HaveFirings (net : Network) (supplies : List Supply) (links : List Link) (firings : List ℕ) : Type 0 where
+  pub tables : AreTables net supplies links
   pub balanced : IsBalanced net firings
   pub few : All (λ n. n ≤ count_limit) firings
   pub left : balance_of net ≡ (if fits_limit net firings (past_skips net firings) then Balanced firings else TooLarge)

@@ -6,10 +6,10 @@ use Rattle.stream_model.specs.declared.vocabulary.Shift.TheVariants.{No, Skip, D
 use Rattle.stream_model.specs.Network.{Network, node_at, role_at, is_source, given_by}
 use Rattle.stream_model.specs.Firings.{allowed_by}
 use Rattle.graph_model.specs.Rates.{count_limit, IsBalanced, count_before, count_after, ahead, past_skips, needed_by, fits_limit}
-use Rattle.rates.specs.declared.tables.Pace.{Pace}
+use Rattle.rates.specs.declared.tables.Supply.{Supply}
 use Rattle.rates.specs.declared.tables.Link.{Link}
 use Rattle.rates.specs.declared.counts.Lead.{Lead}
-use Rattle.rates.specs.Tables.{HasRates, paces_of, links_of, connection_at}
+use Rattle.rates.specs.Tables.{HasRates, supplies_of, links_of, connection_at}
 
 -- the items that so many firings give, and that they take, where each has so many
 abbrev pub given_of : Shift → ℕ → ℕ → ℕ
@@ -54,9 +54,9 @@ pub record IsOrder (net : Network) (order : List ℕ) : Type 0 where
       (i k : ℕ) → i < length order → k < length net.connections → (connection_at net k).to ≡ (connection_at net (slice_index order i)).from → IsAmong order i k
 
 -- a network's tables, with its connections in order
-pub record AreOrdered (net : Network) (paces : List Pace) (links : List Link) (order : List ℕ) : Type 0 where
+pub record AreOrdered (net : Network) (supplies : List Supply) (links : List Link) (order : List ℕ) : Type 0 where
   pub rates : HasRates net
-  pub blocks : paces ≡ paces_of net
+  pub blocks : supplies ≡ supplies_of net
   pub table : links ≡ links_of net
   pub ordered : IsOrder net order
 
@@ -94,22 +94,22 @@ pub record AreStarted (net : Network) (q : List ℕ) (step : ℕ) (after : List 
   pub sources : (b : ℕ) → b < length net.nodes → is_source (role_at net b) ≡ true → slice_index after b ≡ step * slice_index q b
   pub others : (b : ℕ) → b < length net.nodes → is_source (role_at net b) ≡ false → slice_index after b ≡ unlimited
 
-pub record CanStep (net : Network) (paces : List Pace) (q : List ℕ) (step : ℕ) (after : List ℕ) : Type 0 where
-  pub blocks : paces ≡ paces_of net
+pub record CanStep (net : Network) (supplies : List Supply) (q : List ℕ) (step : ℕ) (after : List ℕ) : Type 0 where
+  pub blocks : supplies ≡ supplies_of net
   pub firings_long : length q ≡ length net.nodes
   pub few : All (λ n. n ≤ count_limit) q
   pub step_few : step ≤ count_limit + 1
   pub long : length after ≡ length net.nodes
 
 -- all that a pass over the connections starts from
-pub record CanPass (net : Network) (paces : List Pace) (links : List Link) (order q : List ℕ) (step : ℕ) (before after needed : List ℕ) : Type 0 where
-  pub tables : AreOrdered net paces links order
+pub record CanPass (net : Network) (supplies : List Supply) (links : List Link) (order q : List ℕ) (step : ℕ) (before after needed : List ℕ) : Type 0 where
+  pub tables : AreOrdered net supplies links order
   pub counts : CanAdvance net q step before after needed
   pub started : AreStarted net q step after
 
 -- the counts of a block without a step yet, and what connections need without one: all 0
-pub record CanRun (net : Network) (paces : List Pace) (links : List Link) (order q before after needed : List ℕ) : Type 0 where
-  pub tables : AreOrdered net paces links order
+pub record CanRun (net : Network) (supplies : List Supply) (links : List Link) (order q before after needed : List ℕ) : Type 0 where
+  pub tables : AreOrdered net supplies links order
   pub balanced : IsBalanced net q
   pub few : All (λ n. n ≤ count_limit) q
   pub before_long : length before ≡ length net.nodes
@@ -119,8 +119,8 @@ pub record CanRun (net : Network) (paces : List Pace) (links : List Link) (order
   pub needed_none : (k : ℕ) → slice_index needed k ≡ 0
 
 -- counts after some iterations, with the blocks that they are of
-pub record AreCounted (net : Network) (paces : List Pace) (counts : List ℕ) : Type 0 where
-  pub blocks : paces ≡ paces_of net
+pub record AreCounted (net : Network) (supplies : List Supply) (counts : List ℕ) : Type 0 where
+  pub blocks : supplies ≡ supplies_of net
   pub long : length counts ≡ length net.nodes
 
 -- what each connection needs, none of which is above the limit
@@ -171,9 +171,9 @@ pub record CanOrder (net : Network) (links : List Link) (placed ready : List Boo
   pub long : length ready ≡ length net.nodes
   pub empty : order ≡ []
 
-pub record CanNeed (net : Network) (paces : List Pace) (links : List Link) (q : List ℕ) : Type 0 where
+pub record CanNeed (net : Network) (supplies : List Supply) (links : List Link) (q : List ℕ) : Type 0 where
   pub rates : HasRates net
-  pub blocks : paces ≡ paces_of net
+  pub blocks : supplies ≡ supplies_of net
   pub table : links ≡ links_of net
   pub balanced : IsBalanced net q
   pub few : All (λ n. n ≤ count_limit) q

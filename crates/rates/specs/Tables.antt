@@ -5,7 +5,7 @@ use Rattle.std.specs.Option.{option_map}
 use Rattle.stream_model.specs.Firings.{gives}
 use Rattle.stream_model.specs.Network.{Node, Connection, Network, HasLevels, no_connection, node_at, role_at, is_source}
 use Rattle.graph_model.specs.Rates.{Ratio, Known, CanCount, count_limit, gives_on, takes_on, ratios_of, whole_of, firings_of, are_few}
-use Rattle.rates.specs.declared.tables.Pace.{Pace}
+use Rattle.rates.specs.declared.tables.Supply.{Supply}
 use Rattle.rates.specs.declared.tables.Link.{Link}
 use Rattle.rates.specs.declared.fraction.Fraction.{Fraction}
 
@@ -19,14 +19,14 @@ pub record HasRates (net : Network) : Type 0 where
   pub entered : All (λ c. is_source (role_at net c.to) ≡ false) net.connections
 
 -- of a block, what its counts depend on, and of a connection its ends with what they give and take
-abbrev pub pace_of : Node → Pace
-pace_of n = record { source = is_source n.meaning.role; gives = gives n; shift = n.meaning.shift }
+abbrev pub supply_of : Node → Supply
+supply_of n = record { source = is_source n.meaning.role; gives = gives n; shift = n.meaning.shift }
 
 abbrev pub link_of : Network → Connection → Link
 link_of net c = record { from = c.from; to = c.to; gives = gives_on net c; takes = takes_on net c }
 
-abbrev pub paces_of : Network → List Pace
-paces_of net = map pace_of net.nodes
+abbrev pub supplies_of : Network → List Supply
+supplies_of net = map supply_of net.nodes
 
 abbrev pub links_of : Network → List Link
 links_of net = map (link_of net) net.connections
@@ -104,8 +104,8 @@ pub record AreWholes (net : Network) (ratios : List Fraction) (wholes : List ℕ
   pub each : (p : ℕ) → p < length net.nodes → slice_index wholes p ≡ whole_of (map ratio_of ratios) p
   pub few : (p : ℕ) → p < length net.nodes → slice_index wholes p ≤ 2 ^ 33
 
-pub record CanFire (net : Network) (paces : List Pace) (ratios : List Fraction) (wholes firings : List ℕ) : Type 0 where
-  pub table : paces ≡ paces_of net
+pub record CanFire (net : Network) (supplies : List Supply) (ratios : List Fraction) (wholes firings : List ℕ) : Type 0 where
+  pub table : supplies ≡ supplies_of net
   pub have : HaveRatios net ratios
   pub parts : AreWholes net ratios wholes
   pub room : length firings ≡ length net.nodes
@@ -121,12 +121,12 @@ pub record AreMeasured (u v : Fraction) (l : Link) : Type 0 where
   pub under : (u.under ≤ count_limit) × (v.under ≤ count_limit)
   pub items : (l.gives ≤ count_limit) × (l.takes ≤ count_limit)
 
-pub record CanTotal (net : Network) (paces : List Pace) (ratios : List Fraction) : Type 0 where
-  pub table : paces ≡ paces_of net
+pub record CanTotal (net : Network) (supplies : List Supply) (ratios : List Fraction) : Type 0 where
+  pub table : supplies ≡ supplies_of net
   pub have : HaveRatios net ratios
 
-pub record CanFill (net : Network) (paces : List Pace) (ratios : List Fraction) (wholes firings : List ℕ) : Type 0 where
-  pub table : paces ≡ paces_of net
+pub record CanFill (net : Network) (supplies : List Supply) (ratios : List Fraction) (wholes firings : List ℕ) : Type 0 where
+  pub table : supplies ≡ supplies_of net
   pub have : HaveRatios net ratios
   pub ones : wholes ≡ replicate (length ratios) 1
   pub room : length firings ≡ length net.nodes

@@ -9,7 +9,7 @@ use crate::firings::{all_hold, firings};
 use crate::fraction::Fraction;
 use crate::needs::needs;
 use crate::ratios::ratios;
-use crate::tables::{Link, Pace, links, paces};
+use crate::tables::{Link, Supply, links, supplies};
 use block_kinds::Block;
 use flowgraph::Valid;
 use std::alloc::{AllocError, Global};
@@ -46,15 +46,15 @@ pub enum Rates {
 /// The answer where each block's firings are known, and few: a balance, if no buffer for it is too large.
 fn sized(
     alloc: Global,
-    paces: &[Pace],
+    supplies: &[Supply],
     links: &[Link],
     firings: Vec<u32>,
 ) -> Result<Rates, AllocError>
     ghost net: { Network }
-    requires { HaveFirings net paces.now links.now firings.items }
+    requires { HaveFirings net supplies.now links.now firings.items }
     ensures { IfOk result (AreRates net) }
 {
-    match needs(alloc, paces, links, &firings)? {
+    match needs(alloc, supplies, links, &firings)? {
         Some(needed) => Ok(Rates::Balanced(Repetitions { firings, needed })),
         None => Ok(Rates::TooLarge),
     }
@@ -63,31 +63,31 @@ fn sized(
 /// The answer where each block has a ratio.
 fn solved(
     alloc: Global,
-    paces: &[Pace],
+    supplies: &[Supply],
     links: &[Link],
     ratios: &[Fraction],
 ) -> Result<Rates, AllocError>
     ghost net: { Network }
-    requires { HaveSolved net paces.now links.now ratios.now }
+    requires { HaveSolved net supplies.now links.now ratios.now }
     ensures { IfOk result (AreRates net) }
 {
     if !all_hold(links, ratios) {
         return Ok(Rates::Uneven);
     }
-    match firings(alloc, paces, ratios)? {
-        Some(firings) => sized(alloc, paces, links, firings),
+    match firings(alloc, supplies, ratios)? {
+        Some(firings) => sized(alloc, supplies, links, firings),
         None => Ok(Rates::TooLarge),
     }
 }
 
 /// The answer on a network, read from its tables.
-fn answer(alloc: Global, paces: &[Pace], links: &[Link]) -> Result<Rates, AllocError>
+fn answer(alloc: Global, supplies: &[Supply], links: &[Link]) -> Result<Rates, AllocError>
     ghost net: { Network }
-    requires { AreTables net paces.now links.now }
+    requires { AreTables net supplies.now links.now }
     ensures { IfOk result (AreRates net) }
 {
-    match ratios(alloc, links, paces.len())? {
-        Some(ratios) => solved(alloc, paces, links, &ratios),
+    match ratios(alloc, links, supplies.len())? {
+        Some(ratios) => solved(alloc, supplies, links, &ratios),
         None => Ok(Rates::TooLarge),
     }
 }
@@ -98,9 +98,9 @@ fn rates_of<B: Block>(alloc: Global, graph: &Valid<B>) -> Result<Rates, AllocErr
     requires { IsNamed net (net_of B.meaning graph.now) }
     ensures { IfOk result (AreRates net) }
 {
-    let paces = paces(alloc, graph)?;
+    let supplies = supplies(alloc, graph)?;
     let links = links(alloc, graph)?;
-    answer(alloc, &paces, &links)
+    answer(alloc, &supplies, &links)
 }
 
 /// The rates of a graph: the least balance, that there is none, or that it would pass the limits. It fails only where the allocator refuses.

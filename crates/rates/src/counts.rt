@@ -6,7 +6,7 @@ ghost use Rattle.stream_model.specs.Firings.{allowed_by};
 ghost use Rattle.rates.specs.Counts.{given_of, taken_of, delay_of, AreHeld, IsLead, AreOrdered, CanAdvance, HasAdvanced, IsFar, AreStarted, CanStep, CanPass};
 
 use crate::LIMIT;
-use crate::tables::{Link, Pace};
+use crate::tables::{Link, Supply};
 use stream_model::Shift;
 
 /// How many items so many firings give.
@@ -68,13 +68,13 @@ fn follow(writer: Shift, reader: Shift, link: Link, before: u64, after: u64) -> 
 }
 
 /// Begins a step: a source has fired as often as its iterations ask, and nothing is known yet of other blocks.
-pub fn start(paces: &[Pace], firings: &[u32], step: u64, after: &mut [u64])
+pub fn start(supplies: &[Supply], firings: &[u32], step: u64, after: &mut [u64])
     ghost net: { Network }
-    requires { CanStep net paces.now firings.now step after.old }
+    requires { CanStep net supplies.now firings.now step after.old }
     ensures { AreStarted net firings.now step after.new }
 {
-    for (block, pace) in paces.iter().enumerate() {
-        after[block] = if pace.source {
+    for (block, supply) in supplies.iter().enumerate() {
+        after[block] = if supply.source {
             step * u64::from(firings[block])
         } else {
             u64::MAX
@@ -84,7 +84,7 @@ pub fn start(paces: &[Pace], firings: &[u32], step: u64, after: &mut [u64])
 
 /// Follows the connections in order: each reader fires as often as all its writers allow. It ends where a writer is too far ahead.
 pub fn pass(
-    paces: &[Pace],
+    supplies: &[Supply],
     links: &[Link],
     order: &[usize],
     firings: &[u32],
@@ -94,15 +94,15 @@ pub fn pass(
     needed: &mut [u64],
 ) -> bool
     ghost net: { Network }
-    requires { CanPass net paces.now links.now order.now firings.now step before.now after.old needed.old }
+    requires { CanPass net supplies.now links.now order.now firings.now step before.now after.old needed.old }
     ensures done { IsTrue result → HasAdvanced net firings.now step after.new needed.old needed.new }
     ensures far { result ≡ false → IsFar net firings.now step }
 {
     for number in order {
         let link = links[*number];
         let f = follow(
-            paces[link.from].shift,
-            paces[link.to].shift,
+            supplies[link.from].shift,
+            supplies[link.to].shift,
             link,
             before[link.to],
             after[link.from],

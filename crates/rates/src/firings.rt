@@ -8,7 +8,7 @@ ghost use Rattle.rates.specs.Tables.{ratio_of, AreMeasured, AreAgreed, CanBeWhol
 
 use crate::LIMIT;
 use crate::fraction::{Fraction, gcd};
-use crate::tables::{Link, Pace};
+use crate::tables::{Link, Supply};
 use std::alloc::{AllocError, Global};
 
 /// With a greater whole number a block of the part fires more often than the limit, since no denominator is above the limit.
@@ -72,15 +72,20 @@ fn count(whole: u64, ratio: Fraction) -> u64
 }
 
 /// The firings of each block, or that they or the items that they give are more than the limit.
-fn find_firings(paces: &[Pace], ratios: &[Fraction], wholes: &[u64], firings: &mut [u32]) -> bool
+fn find_firings(
+    supplies: &[Supply],
+    ratios: &[Fraction],
+    wholes: &[u64],
+    firings: &mut [u32],
+) -> bool
     ghost net: { Network }
-    requires { CanFire net paces.now ratios.now wholes.now firings.old }
+    requires { CanFire net supplies.now ratios.now wholes.now firings.old }
     ensures found { IsTrue result → AreFirings net ratios.now firings.new }
     ensures large { result ≡ false → are_few net (firings_of (map ratio_of ratios.now)) ≡ false }
 {
     for (block, ratio) in ratios.iter().enumerate() {
         let fires = count(wholes[ratio.part], *ratio);
-        if fires > LIMIT || fires * paces[block].gives > LIMIT {
+        if fires > LIMIT || fires * supplies[block].gives > LIMIT {
             return false;
         }
         firings[block] = fires as u32;
@@ -89,28 +94,28 @@ fn find_firings(paces: &[Pace], ratios: &[Fraction], wholes: &[u64], firings: &m
 }
 
 /// The firings of each block, with the whole numbers of the parts beside them.
-fn fill(paces: &[Pace], ratios: &[Fraction], wholes: &mut [u64], firings: &mut [u32]) -> bool
+fn fill(supplies: &[Supply], ratios: &[Fraction], wholes: &mut [u64], firings: &mut [u32]) -> bool
     ghost net: { Network }
-    requires { CanFill net paces.now ratios.now wholes.old firings.old }
+    requires { CanFill net supplies.now ratios.now wholes.old firings.old }
     ensures found { IsTrue result → AreFirings net ratios.now firings.new }
     ensures large { result ≡ false → are_few net (firings_of (map ratio_of ratios.now)) ≡ false }
 {
-    find_wholes(ratios, wholes) && find_firings(paces, ratios, wholes, firings)
+    find_wholes(ratios, wholes) && find_firings(supplies, ratios, wholes, firings)
 }
 
 /// The firings of each block in an iteration, or nothing where they or the items that they give are too many.
 pub fn firings(
     alloc: Global,
-    paces: &[Pace],
+    supplies: &[Supply],
     ratios: &[Fraction],
 ) -> Result<Option<Vec<u32>>, AllocError>
     ghost net: { Network }
-    requires { CanTotal net paces.now ratios.now }
+    requires { CanTotal net supplies.now ratios.now }
     ensures { IfOk result (AreFound net ratios.now) }
 {
     let mut wholes: Vec<u64> = vec![in alloc; 1; ratios.len()]?;
     let mut firings: Vec<u32> = vec![in alloc; 0; ratios.len()]?;
-    if fill(paces, ratios, &mut wholes, &mut firings) {
+    if fill(supplies, ratios, &mut wholes, &mut firings) {
         Ok(Some(firings))
     } else {
         Ok(None)

@@ -10,7 +10,7 @@ ghost use Rattle.rates.specs.Counts.{AreCounted, CanRun, CanNeed, AreNeeded, Are
 use crate::LIMIT;
 use crate::counts::{pass, start};
 use crate::order::order;
-use crate::tables::{Link, Pace};
+use crate::tables::{Link, Supply};
 use std::alloc::{AllocError, Global};
 use stream_model::Shift;
 
@@ -26,13 +26,13 @@ fn is_past(shift: Shift, firings: u64) -> bool
 }
 
 /// Whether each such block has.
-fn are_past(paces: &[Pace], counts: &[u64]) -> bool
+fn are_past(supplies: &[Supply], counts: &[u64]) -> bool
     ghost net: { Network }
-    requires { AreCounted net paces.now counts.now }
+    requires { AreCounted net supplies.now counts.now }
     ensures { result ≡ list_all (λ b. is_past_skip (node_at net b).meaning.shift (slice_index counts.now b)) (below (length net.nodes)) }
 {
-    for (block, pace) in paces.iter().enumerate() {
-        if !is_past(pace.shift, counts[block]) {
+    for (block, supply) in supplies.iter().enumerate() {
+        if !is_past(supply.shift, counts[block]) {
             return false;
         }
     }
@@ -41,7 +41,7 @@ fn are_past(paces: &[Pace], counts: &[u64]) -> bool
 
 /// Steps until all first items that are left out are past, and one more. It ends early where a writer is too far ahead of a reader.
 pub fn run(
-    paces: &[Pace],
+    supplies: &[Supply],
     links: &[Link],
     order: &[usize],
     firings: &[u32],
@@ -50,14 +50,14 @@ pub fn run(
     needed: &mut [u64],
 ) -> bool
     ghost net: { Network }
-    requires { CanRun net paces.now links.now order.now firings.now before.old after.old needed.old }
+    requires { CanRun net supplies.now links.now order.now firings.now before.old after.old needed.old }
     ensures found { IsTrue result → AreNeeded net firings.now needed.new }
     ensures far { result ≡ false → fits_limit net firings.now (past_skips net firings.now) ≡ false }
 {
     for step in 0..LIMIT + 2 {
-        let past = step > 0 && are_past(paces, before);
-        start(paces, firings, step, after);
-        if !pass(paces, links, order, firings, step, before, after, needed) {
+        let past = step > 0 && are_past(supplies, before);
+        start(supplies, firings, step, after);
+        if !pass(supplies, links, order, firings, step, before, after, needed) {
             return false;
         }
         if past {
@@ -71,20 +71,20 @@ pub fn run(
 /// What each connection needs, or nothing where it or the iterations until the skips are past are too many.
 pub fn needs(
     alloc: Global,
-    paces: &[Pace],
+    supplies: &[Supply],
     links: &[Link],
     firings: &[u32],
 ) -> Result<Option<Vec<u64>>, AllocError>
     ghost net: { Network }
-    requires { CanNeed net paces.now links.now firings.now }
+    requires { CanNeed net supplies.now links.now firings.now }
     ensures { IfOk result (AreMet net firings.now) }
 {
-    let order = order(alloc, links, paces.len())?;
-    let mut before: Vec<u64> = vec![in alloc; 0; paces.len()]?;
-    let mut after: Vec<u64> = vec![in alloc; 0; paces.len()]?;
+    let order = order(alloc, links, supplies.len())?;
+    let mut before: Vec<u64> = vec![in alloc; 0; supplies.len()]?;
+    let mut after: Vec<u64> = vec![in alloc; 0; supplies.len()]?;
     let mut needed: Vec<u64> = vec![in alloc; 0; links.len()]?;
     if run(
-        paces,
+        supplies,
         links,
         &order,
         firings,

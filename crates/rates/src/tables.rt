@@ -4,16 +4,16 @@ ghost use Rattle.std.specs.Prelude.{◌≡◌, ◌<◌, length, IfOk};
 ghost use Rattle.stream_model.specs.Network.{node_at, is_source as source_role};
 ghost use Rattle.stream_model.specs.Firings.{gives as gives_of, takes as takes_of};
 ghost use Rattle.flowgraph.specs.Flowgraph.{net_of, connection_of};
-ghost use Rattle.rates.specs.Tables.{HasRates, pace_of, link_of, paces_of, links_of};
+ghost use Rattle.rates.specs.Tables.{HasRates, supply_of, link_of, supplies_of, links_of};
 
 use block_kinds::Block;
 use flowgraph::{BlockId, Connection, Valid};
 use std::alloc::{AllocError, Global};
 use stream_model::{Role, Shift};
 
-/// What the counts of a block depend on.
+/// What a block gives, which the counts of its firings depend on.
 #[derive(Clone, Copy, Drop)]
-pub struct Pace {
+pub struct Supply {
     /// Whether it is a source.
     pub source: bool,
     /// How many items a firing gives on each output.
@@ -71,15 +71,15 @@ fn is_source(role: Role) -> bool
     }
 }
 
-/// What the counts of a block depend on.
-fn pace_at<B: Block>(graph: &Valid<B>, block: BlockId) -> Pace
+/// What a block gives, which the counts of its firings depend on.
+fn supply_at<B: Block>(graph: &Valid<B>, block: BlockId) -> Supply
     requires there { block.0 < length graph.now.blocks }
     requires rates { HasRates (net_of B.meaning graph.now) }
-    ensures { result ≡ pace_of (node_at (net_of B.meaning graph.now) block.0) }
+    ensures { result ≡ supply_of (node_at (net_of B.meaning graph.now) block.0) }
 {
     let gives = gives(graph, block);
     let kind = graph.block(block);
-    Pace {
+    Supply {
         source: is_source(kind.role()),
         gives,
         shift: kind.shift(),
@@ -101,15 +101,15 @@ fn link_on<B: Block>(graph: &Valid<B>, c: Connection) -> Link
 }
 
 /// A table of the blocks of a graph.
-pub fn paces<B: Block>(alloc: Global, graph: &Valid<B>) -> Result<Vec<Pace>, AllocError>
+pub fn supplies<B: Block>(alloc: Global, graph: &Valid<B>) -> Result<Vec<Supply>, AllocError>
     requires { HasRates (net_of B.meaning graph.now) }
-    ensures { IfOk result (λ paces. paces.items ≡ paces_of (net_of B.meaning graph.now)) }
+    ensures { IfOk result (λ supplies. supplies.items ≡ supplies_of (net_of B.meaning graph.now)) }
 {
-    let mut paces = Vec::with_capacity(alloc, graph.len())?;
+    let mut supplies = Vec::with_capacity(alloc, graph.len())?;
     for block in 0..graph.len() {
-        paces.push(pace_at(graph, BlockId(block as u32)))?;
+        supplies.push(supply_at(graph, BlockId(block as u32)))?;
     }
-    Ok(paces)
+    Ok(supplies)
 }
 
 /// A table of the connections of a graph, in the order of connecting.

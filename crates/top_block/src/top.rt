@@ -2,13 +2,14 @@
 
 ghost use Rattle.std.specs.Prelude.{◌≡◌, ◌≤◌, true, false, map, vec_len, IfOk, IfErr};
 ghost use Rattle.stream_model.specs.Machine as machine;
-ghost use Rattle.stream_model.specs.Machine.{feed_of, is_idle};
+ghost use Rattle.stream_model.specs.Machine.{close_of, feed_of, is_idle, set_of};
 ghost use Rattle.items.specs.Items.{type_of, numbers_of};
 ghost use Rattle.flowgraph.specs.Flowgraph.{net_of};
 ghost use Rattle.kinds.specs.Kind.{meaning_of};
 ghost use Rattle.kinds.specs.declared.kind.Kind.{Kind};
 ghost use Rattle.stores.specs.Stores.{mark_of};
-ghost use Rattle.plant.specs.Answers.{Answered, reply_of};
+ghost use Rattle.plant.specs.Answers.{Answered, AnsweredAlways, reply_of};
+ghost use Rattle.settings.specs.Values.{value_of};
 ghost use Rattle.plant.specs.Opening.{opening_plant};
 ghost use Rattle.plant.specs.Plant.{PlantState};
 ghost use Rattle.threads.specs.History.{noted_by};
@@ -20,7 +21,8 @@ use crate::closing::close_all;
 use flowgraph::{BlockId, Valid};
 use items::{Items, Mark};
 use kinds::Kind;
-use plant::{Fed, Plant, PlantFault, Unwatched, Watch};
+use plant::{Closed, Fed, Plant, PlantFault, Taken, Unwatched, Watch};
+use settings::Value;
 use std::alloc::{AllocError, Global};
 use std::marker::Model;
 use std::sync::{Arc, Wait};
@@ -80,6 +82,26 @@ impl TopBlock {
         ensures { Answered (feed_of (net_of meaning_of self.old.graph) self.old.state source.0 (type_of items) (numbers_of items) (map mark_of marks.now)) self.old self.new (reply_of (λ f. machine.Fed f.0) result) }
     {
         self.plant.feed(source, items, marks)
+    }
+
+    /// Closes a source's tape, as `Plant::close` does, with its refusals: nothing more can be fed. A run closes all that are open.
+    pub fn close(&mut self, source: BlockId) -> Result<Closed, PlantFault>
+        ensures { AnsweredAlways (close_of (net_of meaning_of self.old.graph) self.old.state source.0) self.old self.new (reply_of (λ c. machine.Closed c.0) result) }
+    {
+        self.plant.close(source)
+    }
+
+    /// Sets the value of a block's setting from item `at` of its first input on, or from the first that it has not taken, as `Plant::set` does,
+    /// with its refusals.
+    pub fn set(
+        &mut self,
+        block: BlockId,
+        at: Option<u64>,
+        value: Value,
+    ) -> Result<Taken, PlantFault>
+        ensures { Answered (set_of (net_of meaning_of self.old.graph) self.old.state block.0 at (value_of value)) self.old self.new (reply_of (λ t. machine.Taken t.0) result) }
+    {
+        self.plant.set(block, at, value)
     }
 
     /// Closes each source that is open, starts a thread for each block, and returns. Fails with `RunFault::Memory` or `RunFault::Thread`, which

@@ -25,8 +25,8 @@ returns-clause-windows g c =
     (on_ok_weaker c.read_inputs.result
     (windows_read net (stored_in c.args.stores.now) c.args.block.0 c.args.first c.args.count read (sym c.is_source.ensures ∙ c.if-is_source.false) many) c.read_inputs.ensures)
 
-pub block-requires : goal.block-requires
-block-requires g c = omega (arith, c.requires.inside, length-map c.args.graph.now.blocks (node_of g.B.Block.meaning))
+pub input_type-item-requires : goal.input_type-item-requires
+input_type-item-requires g c = omega (arith, c.requires.inside, length-map c.args.graph.now.blocks (node_of g.B.Block.meaning))
 
 pub is_source-requires : goal.is_source-requires
 is_source-requires g c = omega (arith, c.requires.inside, length-map c.args.graph.now.blocks (node_of g.B.Block.meaning))

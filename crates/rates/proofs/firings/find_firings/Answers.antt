@@ -3,20 +3,20 @@ use Rattle.stream_model.specs.Firings.{gives as gives_of}
 use Rattle.std.proofs.lemmas.List.{length-set, length-map, get_or-set_same, get_or-set_other, same_lists, get_or_default}
 use Rattle.graph_model.specs.Rates.{Ratio, whole_of, firings_of}
 use Rattle.stream_model.specs.Network.{node_at}
-use Rattle.rates.specs.declared.tables.Pace.{Pace}
+use Rattle.rates.specs.declared.tables.Supply.{Supply}
 use Rattle.rates.specs.Tables.{ratio_of}
-use Rattle.rates.proofs.Facts.{no_pace, pace_is, gives_within}
+use Rattle.rates.proofs.Facts.{no_supply, supply_is, gives_within}
 use Rattle.rates.proofs.Wholes.{no_fraction, twice, firings_at, many_firings, many_items, few_all}
 use Rattle.rates.proofs.firings.find_firings.Goals as goal
-use Rattle.rates.proofs.firings.find_firings.Goals.{then-fires-gt-LIMIT-via-then-fires-gt-LIMIT, then-fires-gt-LIMIT-via-else-fires-gt-LIMIT+then-fires-paces-gt-LIMIT}
+use Rattle.rates.proofs.firings.find_firings.Goals.{then-fires-gt-LIMIT-via-then-fires-gt-LIMIT, then-fires-gt-LIMIT-via-else-fires-gt-LIMIT+then-fires-supplies-gt-LIMIT}
 
 pub overflow_mul-fires : goal.overflow_mul-fires
 overflow_mul-fires g c =
     let k = c.loop-block.block in
     let long = c.requires.have.long in
-    let gives = ap (λ (p : Pace). p.gives) (pace_is g.net c.args.paces.now c.requires.table k (omega arith)) in
+    let gives = ap (λ (p : Supply). p.gives) (supply_is g.net c.args.supplies.now c.requires.table k (omega arith)) in
     let few = (gives_within (node_at g.net k) (c.requires.have.rates.can.sound k) (c.requires.have.rates.few k)).1 in
-    let most = twice c.count-fires.result (get_or c.args.paces.now k no_pace).gives (omega arith) (omega arith) in
+    let most = twice c.count-fires.result (get_or c.args.supplies.now k no_supply).gives (omega arith) (omega arith) in
     omega arith
 
 pub returns-then-fires-gt-LIMIT-clause-large : goal.returns-then-fires-gt-LIMIT-clause-large
@@ -28,11 +28,11 @@ returns-then-fires-gt-LIMIT-clause-large g c = λ _.
     let small = c.requires.have.small k no_fraction in' in
     let fires : c.count-fires.result ≡ get_or (firings_of (map ratio_of c.args.ratios.now)) k 0 =
     c.count-fires.ensures ∙ ap (λ w. w / f.under * f.over) (c.requires.parts.each f.part small.part) ∙ sym (firings_at c.args.ratios.now k in') in
-    let gives = ap (λ (p : Pace). p.gives) (pace_is g.net c.args.paces.now c.requires.table k (omega arith)) in
+    let gives = ap (λ (p : Supply). p.gives) (supply_is g.net c.args.supplies.now c.requires.table k (omega arith)) in
     elim c.then-fires-gt-LIMIT.branch [
       | then-fires-gt-LIMIT-via-then-fires-gt-LIMIT w ↦ many_firings g.net (firings_of (map ratio_of c.args.ratios.now)) k (omega arith) (let t = w.if-fires-gt-LIMIT.true in omega arith)
-      | then-fires-gt-LIMIT-via-else-fires-gt-LIMIT+then-fires-paces-gt-LIMIT w ↦ many_items g.net (firings_of (map ratio_of c.args.ratios.now)) k (omega arith)
-          (subst (λ x. 65536 < x) (ap (λ x. x * (get_or c.args.paces.now k no_pace).gives) fires ∙ ap (λ x. get_or (firings_of (map ratio_of c.args.ratios.now)) k 0 * x) gives) w.if-fires-paces-gt-LIMIT.true)
+      | then-fires-gt-LIMIT-via-else-fires-gt-LIMIT+then-fires-supplies-gt-LIMIT w ↦ many_items g.net (firings_of (map ratio_of c.args.ratios.now)) k (omega arith)
+          (subst (λ x. 65536 < x) (ap (λ x. x * (get_or c.args.supplies.now k no_supply).gives) fires ∙ ap (λ x. get_or (firings_of (map ratio_of c.args.ratios.now)) k 0 * x) gives) w.if-fires-supplies-gt-LIMIT.true)
     ]
 
 pub loop-block-preserved : goal.loop-block-preserved
@@ -45,10 +45,10 @@ loop-block-preserved g c =
     let small = c.requires.have.small k no_fraction in' in
     let fires : c.count-fires.result ≡ get_or (firings_of (map ratio_of c.args.ratios.now)) k 0 =
     c.count-fires.ensures ∙ ap (λ w. w / f.under * f.over) (c.requires.parts.each f.part small.part) ∙ sym (firings_at c.args.ratios.now k in') in
-    let gives = ap (λ (p : Pace). p.gives) (pace_is g.net c.args.paces.now c.requires.table k (omega arith)) in
+    let gives = ap (λ (p : Supply). p.gives) (supply_is g.net c.args.supplies.now c.requires.table k (omega arith)) in
     let same = get_or-set_same c.loop-block.firings k c.count-fires.result 0 (omega arith) in
     let few : c.count-fires.result ≤ 65536 = omega arith in
-    let items : c.count-fires.result * (get_or c.args.paces.now k no_pace).gives ≤ 65536 = omega arith in
+    let items : c.count-fires.result * (get_or c.args.supplies.now k no_supply).gives ≤ 65536 = omega arith in
     record {
       long = length-set c.loop-block.firings k c.count-fires.result ∙ room;
       each = below_more _ _ (λ j h. get_or-set_other c.loop-block.firings k j c.count-fires.result 0 (λ e. omega arith) ∙ c.loop-block.invariant.each j h) (same ∙ fires);

@@ -1,7 +1,9 @@
-use Rattle.std.proofs.Common.{sym, ◌∙◌, subst}
+use Rattle.std.proofs.Common.{◌<◌, length, refl, arith, sym, ◌∙◌, subst}
+use Rattle.std.proofs.lemmas.List.{get_or-set_same}
 use Rattle.flowgraph.specs.Flowgraph.{net_of}
+use Rattle.jobs.specs.declared.job.Lent.{Lent}
 use Rattle.flights.specs.Flight.{is_own}
-use Rattle.plant.specs.Plant.{IsFlight, IsItsWork, plant_of, with_claim_done}
+use Rattle.plant.specs.Plant.{IsFlight, IsItsWork, plant_of}
 use Rattle.plant.proofs.Returning.{asked, commit_refused, commit_taken, place_there, inside, flight, work}
 use Rattle.plant.proofs.parts.Parts.commit.Goals as goal
 
@@ -18,29 +20,35 @@ store-requires-clause-flight g c =
     let net = net_of g.B.Block.meaning old.graph in
     let job = c.args.worked.job in
     let is = sym (asked g.B.PartialEq.eq g.B.Block.meaning old.state _ old.graph _ c.args.worked.graph _ job c.is_in_flight.result (sym c.deref-2.ensures) c.worked.ensures.graph c.worked.ensures.job c.is_in_flight.ensures) ∙ c.if-not-is_in_flight.false in
-    subst (λ b. IsFlight net old.state b c.first.result c.count-count.result) (sym c.block-block.ensures.value)
-    (subst (λ k. IsFlight net old.state job.block k c.count-count.result) (sym c.first.ensures)
+    subst (λ b. IsFlight net old.state b c.first-first.result c.count-count.result) (sym c.block-block.ensures.value)
+    (subst (λ k. IsFlight net old.state job.block k c.count-count.result) (sym c.first-first.ensures)
     (subst (λ n. IsFlight net old.state job.block job.first n) (sym c.count-count.ensures)
     (flight g.B.PartialEq.eq g.B.Block.meaning g.met.B.Block.same old.graph c.args.worked.graph c.args.self.now.stores c.args.self.now.firings job is)))
 
 pub store-requires-clause-work : goal.store-requires-clause-work
-store-requires-clause-work g c =
+store-requires-clause-work g c d =
     let old = plant_of c.args.self.now in
     let net = net_of g.B.Block.meaning old.graph in
     let job = c.args.worked.job in
     let is = sym (asked g.B.PartialEq.eq g.B.Block.meaning old.state _ old.graph _ c.args.worked.graph _ job c.is_in_flight.result (sym c.deref-2.ensures) c.worked.ensures.graph c.worked.ensures.job c.is_in_flight.ensures) ∙ c.if-not-is_in_flight.false in
-    subst (λ b. IsItsWork net old.state b c.windows.result.now c.outputs.result.now c.next_word.result) (sym c.block-block.ensures.value)
-    (subst (λ w. IsItsWork net old.state job.block c.windows.result.now c.outputs.result.now w) (sym c.next_word.ensures)
+    let lent = c.into_lent.result in
+    let b = c.block-block.result.0 in
+    let all = c.args.self.now.lent.items in
+    let low = inside g.B.PartialEq.eq g.B.Block.meaning g.met.B.Block.same old.graph c.args.worked.graph c.args.self.now.stores c.args.self.now.firings job is in
+    let there : b < length all = (let places = c.requires.built.places in rw (c.block-block.ensures.value) (omega arith)) in
+    subst (λ (l : Lent). IsItsWork net old.state b l.windows.items l.outputs.items c.next_word-word.result) (sym (get_or-set_same all b lent d there))
+    (subst (λ b. IsItsWork net old.state b lent.windows.items lent.outputs.items c.next_word-word.result) (sym c.block-block.ensures.value)
+    (subst (λ w. IsItsWork net old.state job.block lent.windows.items lent.outputs.items w) (sym c.next_word-word.ensures)
     (work g.B.PartialEq.eq g.B.Block.meaning g.met.B.Block.same old.graph c.args.worked.graph c.args.self.now.stores c.args.self.now.firings job is
     (rw (← c.graph.ensures) c.in_order-2.ensures.runs) (rw (← c.deref.ensures) c.in_order.ensures.runs) _ c.requires.keeps.sound c.in_order-3.ensures.fed
-    c.windows.result.now c.outputs.result.now _ _ c.in_order-3.ensures.done c.windows.ensures.items c.outputs.ensures.items c.windows.ensures.types c.outputs.ensures.types))
+    lent.windows.items lent.outputs.items _ _ c.in_order-3.ensures.done c.into_lent.ensures.windows c.into_lent.ensures.outputs c.into_lent.ensures.taken c.into_lent.ensures.given)))
 
 pub index_mut-requires : goal.index_mut-requires
 index_mut-requires g c =
     let old = plant_of c.args.self.now in
     let job = c.args.worked.job in
     let is = sym (asked g.B.PartialEq.eq g.B.Block.meaning old.state _ old.graph _ c.args.worked.graph _ job c.is_in_flight.result (sym c.deref-2.ensures) c.worked.ensures.graph c.worked.ensures.job c.is_in_flight.ensures) ∙ c.if-not-is_in_flight.false in
-    place_there g.B.Block.meaning c.store.new.self old (with_claim_done old.state c.block-block.result.0) c.block-block.result.0 c.store.ensures.right c.store.ensures.state
+    place_there g.B.Block.meaning c.args.self.now old old.state c.block-block.result.0 c.requires refl
     (rw (c.block-block.ensures.value) (inside g.B.PartialEq.eq g.B.Block.meaning g.met.B.Block.same old.graph c.args.worked.graph c.args.self.now.stores c.args.self.now.firings job is))
 
 pub returns-clause-taken : goal.returns-clause-taken

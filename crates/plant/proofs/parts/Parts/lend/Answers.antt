@@ -1,5 +1,11 @@
-use Rattle.std.proofs.Common.{refl}
-use Rattle.std.proofs.lemmas.List.{length-set}
+use Rattle.std.proofs.Common.{◌<◌, length, refl, arith, sym, subst}
+use Rattle.std.specs.Arc.{arc_value}
+use Rattle.std.proofs.lemmas.List.{length-set, get_or-set_same}
+use Rattle.std.proofs.lemmas.Result.{on_ok_weaker}
+use Rattle.flowgraph.specs.Flowgraph.{Flowgraph, net_of}
+use Rattle.jobs.specs.declared.job.Lent.{Lent}
+use Rattle.stores.specs.Stores.{stored_in}
+use Rattle.stores.specs.Lending.{IsLent}
 use Rattle.plant.proofs.Roomy.{may_lend_from, right_but_roomy, right_roomy}
 use Rattle.plant.proofs.parts.Parts.lend.Goals as goal
 
@@ -20,20 +26,28 @@ lend-requires g c =
     may_lend_from g.B.Block.meaning c.args.self.now c.args.block.0 c.args.first c.args.count c.deref.result.now c.deref.ensures c.in_order.ensures.valid c.in_order.ensures.runs c.requires.right c.requires.flight
     c.deref-3.result.now c.deref-3.ensures c.make_room.new.stores made.stored
 
-pub returns-in_err-lend-clause-right : goal.returns-in_err-lend-clause-right
-returns-in_err-lend-clause-right g c =
-    let made = c.in_ok-make_room.ensures in
-    right_but_roomy g.B.Block.meaning c.args.self.now c.args.block.0 c.args.first c.args.count c.deref.result.now c.deref.ensures c.in_order.ensures.valid c.in_order.ensures.runs c.requires.right c.requires.flight
-    c.make_room.new.stores made.stored made.handed made.keeps _ (length-set c.args.self.now.lent.items c.args.block.0 c.replace-lent.new.dest)
-
 pub returns-clause-right : goal.returns-clause-right
 returns-clause-right g c =
     let made = c.in_ok-make_room.ensures in
     right_but_roomy g.B.Block.meaning c.args.self.now c.args.block.0 c.args.first c.args.count c.deref.result.now c.deref.ensures c.in_order.ensures.valid c.in_order.ensures.runs c.requires.right c.requires.flight
-    c.make_room.new.stores made.stored made.handed made.keeps _ (length-set c.args.self.now.lent.items c.args.block.0 c.replace-lent.new.dest)
+    c.make_room.new.stores made.stored made.handed made.keeps _ (length-set c.args.self.now.lent.items c.args.block.0 c.lend.new.lent)
 
 pub returns-clause-room : goal.returns-clause-room
 returns-clause-room g c =
     let made = c.in_ok-make_room.ensures in
-    right_roomy g.B.Block.meaning c.args.self.now c.args.block.0 c.args.first c.args.count c.deref.result.now c.deref.ensures c.in_order.ensures.valid c.in_order.ensures.runs c.requires.right c.requires.flight
-    c.make_room.new.stores made.stored made.handed made.keeps _ (length-set c.args.self.now.lent.items c.args.block.0 c.replace-lent.new.dest) c.deref-2.result.now c.deref-2.ensures made.room
+    on_ok_weaker c.lend.result
+    (λ _. right_roomy g.B.Block.meaning c.args.self.now c.args.block.0 c.args.first c.args.count c.deref.result.now c.deref.ensures c.in_order.ensures.valid c.in_order.ensures.runs c.requires.right c.requires.flight
+    c.make_room.new.stores made.stored made.handed made.keeps _ (length-set c.args.self.now.lent.items c.args.block.0 c.lend.new.lent) c.deref-2.result.now c.deref-2.ensures made.room)
+    c.lend.ensures
+
+pub returns-clause-lent : goal.returns-clause-lent
+returns-clause-lent g c =
+    let stored = stored_in c.make_room.new.stores in
+    let b = c.args.block.0 in
+    let all = c.args.self.now.lent.items in
+    let there : b < length all = (let places = c.requires.right.built.places in let inside = c.requires.flight.inside in omega arith) in
+    on_ok_weaker c.lend.result
+    (λ lent d. subst (λ (l : Lent). IsLent (net_of g.B.Block.meaning (arc_value c.args.self.now.graph)) stored b c.args.first c.args.count l.windows.items l.held.items l.outputs.items)
+    (sym (get_or-set_same all b c.lend.new.lent d there))
+    (subst (λ (x : Flowgraph g.row.B.Denot). IsLent (net_of g.B.Block.meaning x) stored b c.args.first c.args.count c.lend.new.lent.windows.items c.lend.new.lent.held.items c.lend.new.lent.outputs.items) c.deref-3.ensures lent))
+    c.lend.ensures

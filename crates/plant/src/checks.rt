@@ -1,4 +1,4 @@
-//! What calls ask before they act.
+//! What calls test before they act.
 
 ghost use Rattle.std.specs.Prelude.{◌≡◌, ◌&&◌, nat_le, nat_lt, map};
 ghost use Rattle.stream_model.specs.Machine.{is_wanted};

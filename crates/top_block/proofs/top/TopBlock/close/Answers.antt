@@ -1,0 +1,10 @@
+use Rattle.stream_model.specs.Machine.{close_of}
+use Rattle.flowgraph.specs.Flowgraph.{net_of}
+use Rattle.kinds.specs.Kind.{meaning_of}
+use Rattle.top_block.proofs.Idles.{always-idle, close-progress}
+use Rattle.top_block.proofs.top.TopBlock.close.Goals as goal
+
+pub invariant_of-self : goal.invariant_of-self
+invariant_of-self c =
+    let p = c.self.inside.plant in let net = net_of meaning_of p.graph in
+    always-idle (close_of net p.state c.args.source.0) p c.close.new.self _ (close-progress net p.state c.args.source.0) c.close.ensures c.self.invariant

@@ -1,0 +1,11 @@
+use Rattle.stream_model.specs.Machine.{set_of}
+use Rattle.settings.specs.Values.{value_of}
+use Rattle.flowgraph.specs.Flowgraph.{net_of}
+use Rattle.kinds.specs.Kind.{meaning_of}
+use Rattle.top_block.proofs.Idles.{answered-idle, set-progress}
+use Rattle.top_block.proofs.top.TopBlock.set.Goals as goal
+
+pub invariant_of-self : goal.invariant_of-self
+invariant_of-self c =
+    let p = c.self.inside.plant in let net = net_of meaning_of p.graph in let v = value_of c.args.value in
+    answered-idle (set_of net p.state c.args.block.0 c.args.at v) p c.set.new.self _ (set-progress net p.state c.args.block.0 c.args.at v) c.set.ensures.answered c.self.invariant
