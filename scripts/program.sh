@@ -1,14 +1,18 @@
 # shellcheck shell=bash disable=SC2034
-# For ./flow, ./build and the scripts of tests/ to source: which crate is the program, and which crates it stands on.
+# For ./flow, ./build and the scripts of tests/ to source: which crates are the program and the library for C, and which crates they stand on.
 
 # The crate of the program.
 program_crate=flow_program
+# The crate of the static library for C.
+c_crate=magbelu_c
 # The minutes that a first ./build takes on four cores.
 build_minutes=35
 
 # (`cd` would go by CDPATH, and a link to a script does not stand in this checkout.)
 top=$(dirname -- "$(dirname -- "$(readlink -f -- "${BASH_SOURCE[0]}")")")
 program=$top/crates/$program_crate/out/built/$program_crate
+# Where the library for C stands: libmagbelu.a, and libmagbelu.so.
+c_folder=$top/crates/$c_crate/out/built
 
 # The line of each crate in crates.txt, and the libraries that it names, of this repository and of the toolchain.
 declare -A line_of=() uses=()
@@ -43,10 +47,15 @@ put_in_order() {
     order+=("$1")
 }
 
-# Whether the program is built, and newer than each file that it is made of, and each folder of them: a file may go or be renamed.
+# is_fresh [FILE CRATE]: whether the file, or the program, is built, and newer than each file that its crate is made of, and each folder of them: a file may go
+# or be renamed.
 is_fresh() {
-    local crate part newer sources=("$top/crates.txt")
-    [[ -x $program ]] || return 1
+    local crate part newer made=${1-$program} sources=("$top/crates.txt")
+    [[ -e $made ]] || return 1
+    if (($# > 0)); then
+        local order=()
+        put_in_order "$2"
+    fi
     for crate in "${order[@]}"; do
         for part in src specs proofs; do
             if [[ -d $top/crates/$crate/$part ]]; then
@@ -57,7 +66,7 @@ is_fresh() {
     if [[ -e $top/HANDLES ]]; then
         sources+=("$top/HANDLES")
     fi
-    newer=$(find "${sources[@]}" -newer "$program" -print -quit) && [[ -z $newer ]]
+    newer=$(find "${sources[@]}" -newer "$made" -print -quit) && [[ -z $newer ]]
 }
 
 # needs_rt NAME: ends the script of this name where the toolchain is not to be found

@@ -27,11 +27,29 @@ example() {
     fi
 }
 
+# The recording of examples/signal through its filter, beside what make.py computes from the filter's equation. The files have the sums that the example
+# shows.
+signal() {
+    local made=$room/signal maker=$top/examples/signal/make.py
+    mkdir "$made"
+    "$maker" recording "$made/recording.s16"
+    "$maker" filtered "$made/filtered.s16"
+    (cd -- "$made" && sha256sum --check --quiet "$top/examples/signal/SHA256SUMS") || wrong "make.py makes other files"
+    cp -- "$made/recording.s16" "$room/graphs"
+    ends signal.recorded 0 "sink out 10002 $(od -An -v -td2 "$made/filtered.s16" | xargs) @0:rx_rate=480000/0 @2:lead=20/0\ndone\n" '' \
+        run -i adc=recording.s16 signal.toml
+}
+
 for folder in "$top"/examples/*/; do
     # (A folder without one has a program, which tests/unproved.sh runs.)
     if [[ -e ${folder}graph.toml ]]; then
         example "${folder%/}"
     fi
 done
+if command -v python3 >/dev/null; then
+    signal
+else
+    echo "examples: skipped: the recording of examples/signal, since there is no python3"
+fi
 
 run_cases "examples"

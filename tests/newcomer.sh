@@ -30,6 +30,11 @@ copy_tree() {
     cp "$top/tests/rt_in_its_place" "$room/bin/rt"
     cp "$top/tests/rt_in_its_place" "$room/bin/a kit/bin/rattle"
     cp "$top/tests/rt_in_its_place" "$room/bin/a kit/bin/rattle-link"
+    mkdir -p "$room/bin/a kit/toolchain/bin" "$room/bin/a kit/c"
+    cp "$top/tests/rt_in_its_place" "$room/bin/a kit/toolchain/bin/llvm-ar"
+    cp "$top/tests/rt_in_its_place" "$room/bin/cc"
+    echo "the C of the system" >"$room/bin/a kit/c/libos_c.a"
+    echo "the C of the heap" >"$room/bin/a kit/c/liblibc_c.a"
     echo "a toolchain" >"$room/bin/version"
     cp "$tree/examples/add_const/graph.toml" "$elsewhere/a graph.toml"
     ln -s "$tree/flow" "$elsewhere/flow_by_link"
@@ -71,125 +76,14 @@ wait_for() {
     wrong "this never came: $*"
 }
 
-# By the toolchain, through a link, with a relative path, CDPATH, and input that comes later than rt try waits for it.
-real_run_is_unproved() {
-    (sleep 2.5 && cat "$tree/examples/add_const/script") |
-        calls 0 env CDPATH="$room:$tree" ./flow_by_link script "a graph.toml"
-    cmp -s "$room/output" "$tree/examples/add_const/expected" || wrong "a real run unproved writes something else"
-    writes errors "$unproved"
-}
-
-# From here on rt, with the toolchain that it names, is the one in its place. It writes its words, its input and what FILE holds.
-unproved_runs_pass_all_on() {
-    PATH=$room/bin:$PATH
-    printf 'two\nlines\n' >"$room/given"
-    calls 0 ../a\ checkout/flow script "a graph.toml" <"$room/given"
-    writes errors "$unproved"
-    writes output "words: script FILE" "$(cat "$elsewhere/a graph.toml")" "input: two lines"
-    calls 0 ./flow_by_link script -- "a graph.toml" <"$room/given"
-    writes output "words: script -- FILE" "$(cat "$elsewhere/a graph.toml")" "input: two lines"
-    calls 0 ./flow_by_link check /dev/stdin <"$room/given"
-    writes output "words: check FILE" "$(cat "$room/given")" "input: "
-    calls 0 ./flow_by_link run --quiet "a graph.toml" <"$room/given"
-    writes output "words: run --quiet FILE" "$(cat "$elsewhere/a graph.toml")" "input: "
-    calls 0 ./flow_by_link run -q -- "a graph.toml" <"$room/given"
-    writes output "words: run -q -- FILE" "$(cat "$elsewhere/a graph.toml")" "input: "
-    calls 0 ./flow_by_link run "a graph.toml" -q <"$room/given"
-    writes output "words: run -q FILE" "$(cat "$elsewhere/a graph.toml")" "input: "
-    calls 0 ./flow_by_link --help "a b" <"$room/given"
-    writes output "words: --help a b" "input: "
-}
-
-failures_pass_on() {
-    echo "flow: refused 51 Read" >"$room/bin/says"
-    echo 4 >"$room/bin/status"
-    calls 4 ./flow_by_link script no/such
-    writes errors "$unproved" "flow: refused 51 Read"
-    writes output "words: script $elsewhere/no/such" "input: "
-    echo 6 >"$room/bin/no_answer"
-    calls 125 ./flow_by_link script no/such
-    grep -qx "run=no-answer proved=no" "$room/errors" || wrong "what rt says of no answer is lost"
-    rm "$room"/bin/{says,status,no_answer}
-}
-
-without_rt_nothing_is_lost_but_a_line() {
-    calls 127 env PATH="$room/tools" "$tree/flow" script "a graph.toml"
-    writes errors "flow: $lacks"
-    calls 127 env PATH="$room/tools" CDPATH=/ ./build_by_link
-    writes errors "build: $lacks"
-}
-
-# is_fresh_after WHAT, is_stale_after WHAT: whether ./flow runs the program that is built, or would run the sources
-is_fresh_after() {
-    calls 0 env PATH="$room/tools" ./flow_by_link "$1" "a b"
-    writes output "built: $1,a b"
-}
-
-is_stale_after() {
-    calls 127 env PATH="$room/tools" ./flow_by_link "$1"
-    touch "$built"
-    # (a file system's clock goes by ticks)
-    sleep 0.02
-}
-
-# put_program: a program as if built now
-put_program() {
-    mkdir -p "${built%/*}"
-    # shellcheck disable=SC2016
-    printf '#!/bin/sh\nIFS=,\necho "built: $*"\nexit "${ENDS_IN-0}"\n' >"$built"
-    chmod +x "$built"
-}
-
-edits_are_seen() {
-    local below=$tree/crates/${order[0]} apart
-    put_program
-    is_fresh_after "the build"
-    calls 3 env ENDS_IN=3 ./flow_by_link fails
-    writes errors
-    sleep 0.02
-    touch "$own/src/main.rt"
-    is_stale_after "an edit of the program"
-    touch "$below/specs/Lib.antt"
-    is_stale_after "an edit of a definition in the lowest crate"
-    touch "$below/src/passing"
-    is_stale_after "a new file"
-    rm "$below/src/passing"
-    is_stale_after "a file that went"
-    touch "$tree/crates.txt"
-    is_stale_after "an edit of crates.txt"
-    touch "$tree/HANDLES"
-    is_stale_after "an edit of HANDLES"
-    for apart in "${!uses[@]}"; do
-        if [[ " ${order[*]} " != *" $apart "* ]]; then
-            touch "$tree/crates/$apart/src" "$tree/crates/$apart/src/"*
-        fi
-    done
-    touch "$tree/README.md"
-    is_fresh_after "an edit of what is no part of it"
-    rm -r "$own/out"
-}
-
-# Root may write whatever the bits say, so the checkout is mounted anew, to be read alone.
-without_writing_flow_runs() {
-    local mount=(unshare --map-root-user --mount)
-    local script="mount --bind \"\$1\" \"\$1\" && mount -o remount,bind,ro \"\$1\" && shift && exec \"\$@\""
-    if ! "${mount[@]}" sh -c "$script" sh "$tree" true 2>/dev/null; then
-        echo "newcomer: skipped: a checkout that cannot be written, since nothing can be mounted here"
-        return
-    fi
-    mv "$own/out" "$room/out"
-    calls 0 "${mount[@]}" sh -c "$script" sh "$tree" ./flow_by_link --help
-    writes errors "$unproved"
-    calls 1 "${mount[@]}" sh -c "$script" sh "$tree" ./build_by_link
-    writes errors "build: $tree/crates cannot be written"
-    mv "$room/out" "$own/out"
-    touch "$built"
-    calls 0 "${mount[@]}" sh -c "$script" sh "$tree" ./flow_by_link read only
-    writes output "built: read,only"
-}
-
-# shellcheck source=tests/newcomer_builds.sh
-source "$top/tests/newcomer_builds.sh"
+# shellcheck source=tests/newcomer/runs.sh
+source "$top/tests/newcomer/runs.sh"
+# shellcheck source=tests/newcomer/builds.sh
+source "$top/tests/newcomer/builds.sh"
+# shellcheck source=tests/newcomer/library_for_c.sh
+source "$top/tests/newcomer/library_for_c.sh"
+# shellcheck source=tests/newcomer/stopped_builds.sh
+source "$top/tests/newcomer/stopped_builds.sh"
 
 : >"$room/output"
 : >"$room/errors"
@@ -198,10 +92,14 @@ link_tools
 real_run_is_unproved
 unproved_runs_pass_all_on
 failures_pass_on
+limits_are_told
+places_are_shown
 without_rt_nothing_is_lost_but_a_line
 edits_are_seen
 build_proves_each_crate_once
+build_makes_the_library_for_c
 edit_proves_what_stands_on_it
+install_puts_all_in_place
 crates_are_proved_side_by_side
 failed_build_leaves_no_half_program
 end_without_verdict_is_no_proof

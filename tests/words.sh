@@ -25,18 +25,22 @@ help_text() {
     printf '%s\n\nUsage: flow %s\n\nArguments:\n  <FILE>  The graph file\n\nOptions:\n' "$1" "$2"
     printf '%s\n' "${@:3}"
 }
+explain="      --explain  Shows the place of what is refused"
 declare -A help_of=(
-    [check]=$(help_text "Reads the graph and reports on it" "check <FILE>" "  -h, --help  Print help")
+    [check]=$(help_text "Reads the graph and reports on it" "check [OPTIONS] <FILE>" "$explain" "  -h, --help     Print help")
     [draw]=$(help_text "Writes the graph as text from which a picture is made" "draw [OPTIONS] <FILE>" \
+        "      --explain          Shows the place of what is refused" \
         "      --format <FORMAT>  The language of the text [default: dot] [possible values: dot, mermaid]" "  -h, --help             Print help")
     [run]=$(help_text "Runs the graph and prints what its sinks hold" "run [OPTIONS] <FILE>" \
+        "      --explain              Shows the place of what is refused" \
         "  -q, --quiet                Shows no progress on a terminal" "      --one-thread           Runs all blocks on one thread" \
         "      --big-endian           Takes the highest byte of a raw item as its first" "  -i, --input <BLOCK=PATH>   Feeds the raw items of a file to a source" \
         "  -o, --output <BLOCK=PATH>  Writes the items of a sink to a file, raw" "      --tags <BLOCK=PATH>    Writes the tags of a sink to a file, a line each" \
         "  -h, --help                 Print help")
     [live]=$(help_text "Runs the graph while the commands of standard input are done" "live [OPTIONS] <FILE>" \
-        "  -q, --quiet  Shows no progress on a terminal" "  -h, --help   Print help")
-    [script]=$(help_text "Runs the commands of standard input on the graph" "script <FILE>" "  -h, --help  Print help")
+        "$explain" "  -q, --quiet    Shows no progress on a terminal" "  -h, --help     Print help")
+    [script]=$(help_text "Runs the commands of standard input on the graph" "script [OPTIONS] <FILE>" "$explain" \
+        "  -h, --help     Print help")
 )
 
 for command in check draw run live script; do
@@ -75,6 +79,8 @@ ends format_of_a_check 2 '' - check --format dot plain.toml
 ends quiet_picture 2 '' - draw --quiet plain.toml
 ends quiet_check 2 '' - check --quiet plain.toml
 ends quiet_script 2 '' - script -q plain.toml
+ends explain_twice 2 '' - check --explain --explain plain.toml
+ends explain_with_a_word 2 '' - check --explain=yes plain.toml
 ends file_behind_dashes 0 'sink out 0\ndone\n' '' run -- plain.toml
 
 run_cases "calls"

@@ -16,3 +16,4 @@ pub mod Claiming
 pub mod Reporting
 pub mod Serving
 pub mod Outcomes
+pub mod Resting

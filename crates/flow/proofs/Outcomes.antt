@@ -26,13 +26,13 @@ use Rattle.plant.specs.Handed.{OpeningState}
 use Rattle.top_block.specs.Closing.{with_all_closed}
 use Rattle.flow.proofs.Agreeing.{same_names}
 use Rattle.script_text.specs.Ends.{AppendsBeginning}
-use Rattle.flow.specs.Session.{in_state}
+use Rattle.flow.specs.Session.{in_state, turn}
 use Rattle.flow.specs.Reports.{run_text}
 use Rattle.flow.specs.Threads.{HasCome}
 use Rattle.stream_laws.specs.CanRun.{CanRun}
 use Rattle.machine_laws.proofs.Wholes.{all_done_is_whole}
 use Rattle.flow.specs.RawEnds.{ComesToRest}
-use Rattle.flow.specs.Serve.{Fails, IsNoFile, Refuses, RunsNot, StopsLive, Writes, WritesNot, IsAtRest, IsLive, IsRun, IsRunAlone, plant_in, turn, reads_in, writes_failed}
+use Rattle.flow.specs.Serve.{Fails, IsNoFile, Refuses, RunsNot, StopsLive, Writes, WritesNot, IsAtRest, IsLive, IsRun, IsRunAlone, plant_in, reads_in, writes_failed}
 use Rattle.flow.specs.declared.fault.Fault.{Fault}
 use Rattle.flow.specs.declared.fault.Fault.TheVariants.{File, Script, Run}
 use Rattle.flow.specs.declared.script.ScriptFault.TheVariants.{BadLine, Read, Write, Memory}

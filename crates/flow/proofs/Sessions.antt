@@ -14,8 +14,9 @@ use Rattle.plant.specs.declared.fault.PlantFault.TheVariants.{NoSuchBlock, NotSo
 use Rattle.plant.specs.Plant.{PlantState}
 use Rattle.plant.specs.Answers.{Answered, AnsweredBy, refusal_of, takes_memory}
 use Rattle.plant.proofs.Feeding.{are_items_pass}
+use Rattle.script_text.specs.Grammar.{Command}
 use Rattle.script_text.specs.Replies.{quiet_text, line_text}
-use Rattle.flow.specs.Session.{Graph, Standing, Answer, Gives, Tells, Moves, value_for, is_fit, told, quiet_answer, refusal_reply, refusal_line, reply_line, in_state}
+use Rattle.flow.specs.Session.{Graph, Standing, Answer, AnswersOn, Gives, Tells, Moves, value_for, is_fit, told, quiet_answer, refusal_reply, refusal_line, reply_line, in_state}
 
 -- a fact of what comes at `Ok`, from another
 pub if_ok : {A E : Type 0} (P Q : A → Type 0) (r : Result A E) → IfOk r P → ((x : A) → P x → Q x) → IfOk r Q
@@ -27,6 +28,10 @@ pub gives : (wants : Bool) (now : Reply × State) (old new : State) (kept : List
     Gives (told wants kept now) (record { state = old; kept = kept }) (record { state = new; kept = kept }) line
 gives wants now old new kept line (inl h) = inl (h.0, ap (λ (st : State). record { state = st; kept = kept }) h.1)
 gives wants now old new kept line (inr h) = inr (h.0, h.1, ap (λ (st : State). record { state = st; kept = kept }) h.2)
+
+-- what is answered to a command is answered to one that is the same
+pub on_as : (g : Graph) (b : ℕ) (c d : Command) (old new : Standing) (line : List ℕ) → c ≡ d → AnswersOn g b d old new line → AnswersOn g b c old new line
+on_as g b c d old new line e h = subst (λ (x : Command). AnswersOn g b x old new line) (sym e) h
 
 pub gives_as : (a b : Answer) (old new : Standing) (line : List ℕ) → a ≡ b → Gives b old new line → Gives a old new line
 gives_as a b old new line e h = subst (λ (x : Answer). Gives x old new line) (sym e) h

@@ -9,7 +9,19 @@ use Rattle.flow.specs.declared.fault.Fault.{Fault}
 use Rattle.flow.specs.declared.fault.Fault.TheVariants.{File, Script, Run}
 use Rattle.flow.specs.declared.script.ScriptFault.{ScriptFault}
 use Rattle.flow.specs.declared.script.ScriptFault.TheVariants as script
-use Rattle.flow.specs.Threads.{thread_fault_text}
+use Rattle.flow.specs.Threads.{thread_fault_number, thread_fault_text}
+
+-- the number of a script's fault, and of any
+abbrev pub script_fault_number : ScriptFault → ℕ
+script_fault_number (script.BadLine n) = 50
+script_fault_number script.Read = 51
+script_fault_number script.Write = 52
+script_fault_number script.Memory = 32
+
+abbrev pub fault_number : Fault → ℕ
+fault_number (File fault) = number_of fault
+fault_number (Script fault) = script_fault_number fault
+fault_number (Run fault) = thread_fault_number fault
 
 -- number, name and detail of a script's fault
 abbrev pub script_fault_text : ScriptFault → List ℕ

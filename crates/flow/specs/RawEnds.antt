@@ -30,7 +30,8 @@ use Rattle.flow.specs.declared.raw_fault.EndPlace.{EndPlace}
 use Rattle.flow.specs.declared.raw_fault.RawFault.{RawFault}
 use Rattle.flow.specs.declared.raw_fault.RawFault.TheVariants.{Whole, End}
 use Rattle.flow.specs.Reports.{each_block, name_at, sink_line}
-use Rattle.flow.specs.Serve.{IsAtRest, turn}
+use Rattle.flow.specs.Serve.{IsAtRest}
+use Rattle.flow.specs.Session.{turn}
 
 -- a plant whose sources were closed came to rest in threads, with what it was handed. Which block fired when is nowhere said
 pub record ComesToRest (old new : Opened) : Type 0 where

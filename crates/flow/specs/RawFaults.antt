@@ -2,13 +2,24 @@
 use Rattle.std.specs.Prelude.{ℕ, List, ◌++◌, codes}
 use Rattle.std.specs.Fmt.{decimal}
 use Rattle.script_text.specs.Replies.{line_text}
-use Rattle.flow.specs.Faults.{fault_text, status_of}
+use Rattle.flow.specs.Faults.{fault_number, fault_text, status_of}
 use Rattle.flow.specs.declared.raw_fault.EndFault.{EndFault}
 use Rattle.flow.specs.declared.raw_fault.EndFault.TheVariants.{NoSuchBlock, NotSource, NotSink, Closed, TapeFull, Read, Write, CutItem}
 use Rattle.flow.specs.declared.raw_fault.EndPlace.{EndPlace}
 use Rattle.flow.specs.declared.raw_fault.EndPlace.TheVariants.{Input, Output, Tags}
 use Rattle.flow.specs.declared.raw_fault.RawFault.{RawFault}
 use Rattle.flow.specs.declared.raw_fault.RawFault.TheVariants.{Whole, End}
+
+-- the number of what is wrong at an end
+abbrev pub end_number : EndFault → ℕ
+end_number NoSuchBlock = 20
+end_number NotSource = 21
+end_number NotSink = 22
+end_number Closed = 23
+end_number TapeFull = 26
+end_number Read = 51
+end_number Write = 52
+end_number CutItem = 53
 
 -- number and name of what is wrong at an end
 abbrev pub end_text : EndFault → List ℕ
@@ -34,6 +45,11 @@ place_number (Tags n) = n
 
 abbrev pub place_text : EndPlace → List ℕ
 place_text place = place_word place ++ decimal (place_number place)
+
+-- the number of a fault
+abbrev pub raw_fault_number : RawFault → ℕ
+raw_fault_number (Whole fault) = fault_number fault
+raw_fault_number (End place fault) = end_number fault
 
 -- number, name and detail of a fault
 abbrev pub raw_fault_text : RawFault → List ℕ

@@ -21,7 +21,7 @@ use Rattle.drawings.specs.Drawings.{drawn_text}
 use Rattle.drawings.specs.declared.drawing.Format.{Format}
 use Rattle.script_text.specs.Ends.{AppendsBeginning}
 use Rattle.top_block.specs.Closing.{closed}
-use Rattle.flow.specs.Session.{Answers, graph_of, standing_of, none_kept}
+use Rattle.flow.specs.Session.{Answers, graph_of, standing_of, none_kept, turn}
 use Rattle.flow.specs.Script.{EndsIn, Breaks, failed_reads, failed_writes}
 use Rattle.flow.specs.Faults.{fault_line, status_of}
 use Rattle.flow.specs.Reports.{check_text, run_text}
@@ -83,10 +83,6 @@ pub record IsPicture (format : Format) (file text : List ℕ) (status : ℕ) : T
 pub record IsAtRest (net : Network) (caps : Capacities) (st : State) : Type 0 where
   pub whole : is_all_done st ≡ true → IsWhole net st
   pub quiet : is_all_done st ≡ false → is_quiet net caps st ≡ true
-
--- how many firings of a block are stepped at once, at most
-abbrev pub turn : ℕ
-turn = 65536
 
 -- a run of a file in threads: its plant with all sources closed came to rest, with what it was handed, and what is told of it then. Which block fired
 -- when is nowhere said

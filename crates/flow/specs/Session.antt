@@ -19,8 +19,11 @@ use Rattle.plant.specs.Fault.{number_of}
 use Rattle.plant.specs.Answers.{takes_memory}
 use Rattle.plant.specs.Feeding.{are_items, feed_numbers}
 use Rattle.plant.specs.Plant.{PlantState}
-use Rattle.script_text.specs.Grammar.{Command, Feed, Close, Set, Claim, Commit, Abandon, Step, Read, Quiet}
-use Rattle.script_text.specs.Replies.{reply_text, quiet_text, line_text}
+use Rattle.plant.specs.Settling.{StepsLead, HasSettled, HoldsSettled}
+use Rattle.plant.specs.declared.answers.Settled.{Settled}
+use Rattle.plant.specs.declared.answers.Settled.TheVariants as rest
+use Rattle.script_text.specs.Grammar.{Command, Feed, Close, Set, Claim, Commit, Abandon, Step, Read, Quiet, Settle}
+use Rattle.script_text.specs.Replies.{reply_text, quiet_text, settle_text, line_text}
 
 -- what a script speaks to: the names of the blocks, their network and its capacities
 pub record Graph : Type 0 where
@@ -148,19 +151,59 @@ abandon_answer net s b = give_back s b (machine.abandon_of net s.state true (in_
 abbrev pub quiet_answer : Graph → Standing → Answer
 quiet_answer g s = record { text = quiet_text (machine.is_quiet g.net g.caps s.state); wants_memory = false; after = s }
 
--- what a command is answered, where block b has the name in it
-unfoldable pub answer_on : Graph → Standing → ℕ → Command → Answer
-answer_on g s b (Feed name xs ms) = called s.kept (feed_numbers g.net s.state b xs ms)
-answer_on g s b (Close name) = called s.kept (machine.close_of g.net s.state b)
-answer_on g s b (Set name at zs) = set_answer g.net s b (set_numbers g.net s.state b at zs)
-answer_on g s b (Claim name max) = claim_answer g.net g.caps s b max
-answer_on g s b (Commit name) = commit_answer g.net s b
-answer_on g s b (Abandon name) = abandon_answer g.net s b
-answer_on g s b (Step name max) = called s.kept (machine.step_of g.net g.caps s.state b max)
-answer_on g s b (Read name from max) = called s.kept (machine.read_of g.net s.state b from max)
-answer_on g s b Quiet = quiet_answer g s
+-- the reply where memory ran out
+abbrev pub no_memory : Reply
+no_memory = Refused 32
 
--- the name in a command; the question whether the plant is quiet has none
+-- the line of a reply
+abbrev pub reply_line : Reply → List ℕ
+reply_line reply = line_text (reply_text reply)
+
+-- an answer was given; or memory ran out where it may, and all is as before
+abbrev pub Gives : Answer → Standing → Standing → List ℕ → Type 0
+Gives a old new line = ((line ≡ line_text a.text) × (new ≡ a.after)) ⊎ ((a.wants_memory ≡ true) × (line ≡ reply_line no_memory) × (new ≡ old))
+
+-- how many firings of a block are stepped at once where all blocks are, at most
+abbrev pub turn : ℕ
+turn = 65536
+
+abbrev pub settled_line : Settled → List ℕ
+settled_line rest.Done = line_text (settle_text true)
+settled_line rest.Quiet = line_text (settle_text false)
+
+-- the network settled so, and that is told
+pub record Rests (g : Graph) (st : State) (line : List ℕ) : Type 0 where
+  pub how : Settled
+  pub settled : HasSettled g.net g.caps st how
+  pub whole : HoldsSettled g.net st how
+  pub told : line ≡ settled_line how
+
+-- steps of blocks led on, and no block can act any more; or memory ran out, and all is where they led
+pub record Stepped (g : Graph) (old new : Standing) (line : List ℕ) : Type 0 where
+  pub kept : new.kept ≡ old.kept
+  pub steps : StepsLead g.net g.caps turn old.state new.state
+  pub idle : machine.is_idle new.state ≡ true
+  pub rests : Rests g new.state line ⊎ (line ≡ reply_line no_memory)
+
+-- all blocks are stepped until none can act; while a claim is in flight they are not
+abbrev pub Settles : Bool → Graph → Standing → Standing → List ℕ → Type 0
+Settles true g old new line = Stepped g old new line
+Settles false g old new line = (line ≡ reply_line machine.Busy) × (new ≡ old)
+
+-- a command was answered, where block b has the name in it, and the script went from one standing to the next. One without a name is for all blocks
+unfoldable pub AnswersOn : Graph → ℕ → Command → Standing → Standing → List ℕ → Type 0
+AnswersOn g b (Feed name xs ms) old new line = Gives (called old.kept (feed_numbers g.net old.state b xs ms)) old new line
+AnswersOn g b (Close name) old new line = Gives (called old.kept (machine.close_of g.net old.state b)) old new line
+AnswersOn g b (Set name at zs) old new line = Gives (set_answer g.net old b (set_numbers g.net old.state b at zs)) old new line
+AnswersOn g b (Claim name max) old new line = Gives (claim_answer g.net g.caps old b max) old new line
+AnswersOn g b (Commit name) old new line = Gives (commit_answer g.net old b) old new line
+AnswersOn g b (Abandon name) old new line = Gives (abandon_answer g.net old b) old new line
+AnswersOn g b (Step name max) old new line = Gives (called old.kept (machine.step_of g.net g.caps old.state b max)) old new line
+AnswersOn g b (Read name from max) old new line = Gives (called old.kept (machine.read_of g.net old.state b from max)) old new line
+AnswersOn g b Quiet old new line = Gives (quiet_answer g old) old new line
+AnswersOn g b Settle old new line = Settles (machine.is_idle old.state) g old new line
+
+-- the name in a command; the two for all blocks have none
 abbrev pub name_in : Command → Option (List ℕ)
 name_in (Feed name xs ms) = Some name
 name_in (Close name) = Some name
@@ -171,35 +214,21 @@ name_in (Abandon name) = Some name
 name_in (Step name max) = Some name
 name_in (Read name from max) = Some name
 name_in Quiet = None
+name_in Settle = None
 
--- the answer on a block, or that there is none
-abbrev pub answer_found : Graph → Standing → Command → Option ℕ → Answer
-answer_found g s c None = told false s.kept (Refused machine.no_such_block, s.state)
-answer_found g s c (Some b) = answer_on g s b c
+-- on a block, or there is none
+abbrev pub AnswersFound : Graph → Command → Option ℕ → Standing → Standing → List ℕ → Type 0
+AnswersFound g c None old new line = Gives (told false old.kept (Refused machine.no_such_block, old.state)) old new line
+AnswersFound g c (Some b) old new line = AnswersOn g b c old new line
 
-abbrev pub answer_named : Graph → Standing → Command → Option (List ℕ) → Answer
-answer_named g s c None = quiet_answer g s
-answer_named g s c (Some name) = answer_found g s c (block_of g name)
-
--- what a command is answered, and how far the script is then
-abbrev pub next_of : Graph → Standing → Command → Answer
-next_of g s c = answer_named g s c (name_in c)
-
--- the line of a reply
-abbrev pub reply_line : Reply → List ℕ
-reply_line reply = line_text (reply_text reply)
-
--- the reply where memory ran out
-abbrev pub no_memory : Reply
-no_memory = Refused 32
-
--- an answer was given; or memory ran out where it may, and all is as before
-abbrev pub Gives : Answer → Standing → Standing → List ℕ → Type 0
-Gives a old new line = ((line ≡ line_text a.text) × (new ≡ a.after)) ⊎ ((a.wants_memory ≡ true) × (line ≡ reply_line no_memory) × (new ≡ old))
+-- a command without a name is answered whichever block it is asked on
+abbrev pub AnswersNamed : Graph → Command → Option (List ℕ) → Standing → Standing → List ℕ → Type 0
+AnswersNamed g c None old new line = AnswersOn g 0 c old new line
+AnswersNamed g c (Some name) old new line = AnswersFound g c (block_of g name) old new line
 
 -- a command was answered, and the script went from one standing to the next
 abbrev pub Answers : Graph → Command → Standing → Standing → List ℕ → Type 0
-Answers g c old new line = Gives (next_of g old c) old new line
+Answers g c old new line = AnswersNamed g c (name_in c) old new line
 
 -- the same of a session, which stays the same elsewhere
 abbrev pub IsAnswered : {B : Type 0} → (B → Meaning) → Command → SessionState B → SessionState B → List ℕ → Type 0

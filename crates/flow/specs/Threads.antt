@@ -16,6 +16,12 @@ fault_of (run.Memory p) = Memory
 fault_of (run.Thread p) = Thread
 fault_of run.Foreign = Foreign
 
+-- its number
+abbrev pub thread_fault_number : ThreadFault → ℕ
+thread_fault_number Memory = 60
+thread_fault_number Thread = 61
+thread_fault_number Foreign = 62
+
 -- number and name
 abbrev pub thread_fault_text : ThreadFault → List ℕ
 thread_fault_text Memory = codes "60 Memory"

@@ -37,7 +37,8 @@ impl<B: Block, G: Gate + Drop, R: Wait> Answerer<R> for Desk<'_, B, G> {
             | Command::Commit { .. }
             | Command::Abandon { .. }
             | Command::Step { .. }
-            | Command::Quiet => return Ok(None),
+            | Command::Quiet
+            | Command::Settle => return Ok(None),
         };
         match line {
             Ok(line) => Ok(Some(line)),

@@ -26,7 +26,18 @@ pub enum Fault {
 }
 
 impl Fault {
-    ghost use Rattle.flow.specs.Faults.{status_of};
+    ghost use Rattle.flow.specs.Faults.{fault_number, status_of};
+
+    /// The number of the refusal, with which its text begins.
+    pub fn number(&self) -> u32
+        ensures { result ≡ fault_number self.now }
+    {
+        match self {
+            Fault::File(fault) => fault.number(),
+            Fault::Script(fault) => fault.number(),
+            Fault::Run(fault) => fault.number(),
+        }
+    }
 
     /// The exit status that the fault brings: 4 for memory, devices and threads, 1 for every other refusal.
     pub fn status(&self) -> u8

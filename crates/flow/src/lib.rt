@@ -17,6 +17,7 @@ mod running;
 pub mod script;
 pub mod serve;
 pub mod session;
+mod settling;
 pub mod start;
 pub mod telling;
 pub mod thread_fault;

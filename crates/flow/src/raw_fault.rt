@@ -5,7 +5,7 @@ ghost use Rattle.flow.specs.declared.fault.Fault.TheVariants.{Script};
 ghost use Rattle.flow.specs.declared.raw_fault.RawFault.TheVariants.{Whole};
 ghost use Rattle.flow.specs.declared.script.ScriptFault.TheVariants.{Memory};
 ghost use Rattle.graph_file.specs.Texts.{joined};
-ghost use Rattle.flow.specs.RawFaults.{end_text, place_word, place_number, place_text};
+ghost use Rattle.flow.specs.RawFaults.{end_number, end_text, place_word, place_number, place_text};
 
 use crate::fault::Fault;
 use crate::script::ScriptFault;
@@ -56,6 +56,22 @@ pub enum RawFault {
 }
 
 impl EndFault {
+    /// The number of the refusal.
+    pub fn number(self) -> u32
+        ensures { result ≡ end_number self }
+    {
+        match self {
+            EndFault::NoSuchBlock => 20,
+            EndFault::NotSource => 21,
+            EndFault::NotSink => 22,
+            EndFault::Closed => 23,
+            EndFault::TapeFull => 26,
+            EndFault::Read => 51,
+            EndFault::Write => 52,
+            EndFault::CutItem => 53,
+        }
+    }
+
     /// The number of the refusal and its name.
     pub fn text(self) -> &'static str
         ensures { result.now ≡ end_text self }
@@ -95,7 +111,17 @@ impl EndPlace {
 }
 
 impl RawFault {
-    ghost use Rattle.flow.specs.RawFaults.{raw_fault_text, raw_status_of};
+    ghost use Rattle.flow.specs.RawFaults.{raw_fault_number, raw_fault_text, raw_status_of};
+
+    /// The number of the refusal, with which its text begins.
+    pub fn number(&self) -> u32
+        ensures { result ≡ raw_fault_number self.now }
+    {
+        match self {
+            RawFault::Whole(fault) => fault.number(),
+            RawFault::End(_, fault) => fault.number(),
+        }
+    }
 
     /// The exit status that the fault brings: 4 for memory, devices and threads, 1 for every other refusal.
     pub fn status(&self) -> u8

@@ -229,10 +229,10 @@ fn whole(decoder: &Decoder, number: usize) -> Result<(), RawFault>
 }
 
 /// The source of this name, which an input is to feed.
-pub fn source_named(graph: &Valid<Kind>, place: EndPlace, name: &str) -> Result<BlockId, RawFault>
+pub fn source_named(graph: &Valid<Kind>, place: EndPlace, name: &[u8]) -> Result<BlockId, RawFault>
     ensures { result ≡ source_at (net_of meaning_of graph.now) place (position (bytes_eq name.now) graph.now.names) }
 {
-    match find_named(graph, name.as_bytes()) {
+    match find_named(graph, name) {
         None => Err(RawFault::End(place, EndFault::NoSuchBlock)),
         Some(block) if graph.is_source(block) => Ok(block),
         Some(_) => Err(RawFault::End(place, EndFault::NotSource)),
@@ -240,10 +240,10 @@ pub fn source_named(graph: &Valid<Kind>, place: EndPlace, name: &str) -> Result<
 }
 
 /// The sink of this name, of which an output is to have what it holds.
-pub fn sink_named(graph: &Valid<Kind>, place: EndPlace, name: &str) -> Result<BlockId, RawFault>
+pub fn sink_named(graph: &Valid<Kind>, place: EndPlace, name: &[u8]) -> Result<BlockId, RawFault>
     ensures { result ≡ sink_at (net_of meaning_of graph.now) place (position (bytes_eq name.now) graph.now.names) }
 {
-    match find_named(graph, name.as_bytes()) {
+    match find_named(graph, name) {
         None => Err(RawFault::End(place, EndFault::NoSuchBlock)),
         Some(block) if graph.is_keeper(block) => Ok(block),
         Some(_) => Err(RawFault::End(place, EndFault::NotSink)),

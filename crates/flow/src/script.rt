@@ -37,7 +37,19 @@ pub enum ScriptFault {
 
 impl ScriptFault {
     ghost use Rattle.graph_file.specs.Texts.{joined};
-    ghost use Rattle.flow.specs.Faults.{script_fault_text};
+    ghost use Rattle.flow.specs.Faults.{script_fault_number, script_fault_text};
+
+    /// The number of the fault, with which its text begins.
+    pub fn number(&self) -> u32
+        ensures { result ≡ script_fault_number self.now }
+    {
+        match self {
+            ScriptFault::BadLine(_) => 50,
+            ScriptFault::Read => 51,
+            ScriptFault::Write => 52,
+            ScriptFault::Memory => 32,
+        }
+    }
 
     /// The text of the fault in pieces, for which no memory is asked.
     pub fn pieces(&self) -> Pieces<'static>

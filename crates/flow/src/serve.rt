@@ -126,7 +126,8 @@ fn obey<
     }
 }
 
-fn check<O: ByteOut>(alloc: Global, file: &[u8], output: &mut O) -> Result<u8, Fault>
+/// Writes what is told of the graph of a file, and gives the status.
+pub fn check<O: ByteOut>(alloc: Global, file: &[u8], output: &mut O) -> Result<u8, Fault>
     requires writes { O.failed output.old < 2 ^ 64 - 1 }
     ensures does { IfOk result (Writes (IsCheck file.now) (O.contents output.old) (O.contents output.new)) }
     ensures does_not { IfErr result (WritesNot (IsCheck file.now) (graph_in file.now) (O.contents output.old) (O.contents output.new)) }
@@ -168,7 +169,8 @@ fn run<R: Threads + Wait + Copy + Send + 'static, O: ByteOut, W: Watch>(
     }
 }
 
-fn run_alone<O: ByteOut, W: Watch>(
+/// Runs the plant of a file on one thread until it comes to rest, writes what its sinks hold, and gives the status. It starts no thread and waits for none.
+pub fn run_alone<O: ByteOut, W: Watch>(
     alloc: Global,
     file: &[u8],
     output: &mut O,
@@ -185,7 +187,8 @@ fn run_alone<O: ByteOut, W: Watch>(
     }
 }
 
-fn run_script<I: ByteIn, O: ByteOut>(
+/// Does the commands of the input on the plant of a file, and writes their replies. It starts no thread and waits for none.
+pub fn run_script<I: ByteIn, O: ByteOut>(
     alloc: Global,
     file: &[u8],
     input: &mut I,

@@ -6,11 +6,12 @@ ghost use Rattle.flowgraph.specs.Flowgraph.{net_of};
 ghost use Rattle.flowgraph.specs.Fault.{id};
 ghost use Rattle.script_text.specs.Grammar.{IsAskable};
 ghost use Rattle.script_text.specs.Commands.{command_seen};
-ghost use Rattle.flow.specs.Session.{graph_of, standing, standing_of, in_state, in_standing, none_kept, kept_in, name_in, answer_on, Answers, IsAnswered, KeepsJobs, Gives};
+ghost use Rattle.flow.specs.Session.{graph_of, standing, standing_of, in_state, in_standing, none_kept, kept_in, name_in, Answers, AnswersOn, IsAnswered, KeepsJobs};
 
 use crate::answerer::Answerer;
 use crate::calls::{close, feed, read, refused, set, step};
 use crate::claims::{abandon, claim, commit};
+use crate::settling::settle;
 use block_kinds::Block;
 use items::BlockName;
 use plant::{BlockId, Job, Plant, PlantFault, Valid};
@@ -80,7 +81,7 @@ impl<B: Block> Session<B> {
         ensures answers { IfOk result (λ line. Answers (graph_of B.meaning self.old.plant) (command_seen command.now) (standing self.old) (standing self.new) line.items) }
     {
         let Some(name) = name_of(command) else {
-            return Reply::Quiet(self.plant.quiet()).to_line(alloc);
+            return answer_all(alloc, &mut self.plant, &self.jobs, command);
         };
         match find(self.plant.graph(), name) {
             Some(block) => answer_on(alloc, &mut self.plant, &mut self.jobs, block, command),
@@ -113,7 +114,7 @@ fn name_of(command: &Command) -> Option<&BlockName>
         | Command::Abandon { name }
         | Command::Step { name, .. }
         | Command::Read { name, .. } => Some(name),
-        Command::Quiet => None,
+        Command::Quiet | Command::Settle => None,
     }
 }
 
@@ -134,6 +135,34 @@ pub(crate) fn find_named<B: Block>(graph: &Valid<B>, name: &[u8]) -> Option<Bloc
     graph.find(name)
 }
 
+// Does what a command asks of all blocks. One with the name of a block is none of these.
+fn answer_all<B: Block>(
+    alloc: Global,
+    plant: &mut Plant<B>,
+    jobs: &[Option<Job<B>>],
+    command: &Command,
+) -> Result<Vec<u8>, AllocError>
+    requires all { name_in (command_seen command.now) ≡ None }
+    requires jobs { KeepsJobs (net_of B.meaning plant.old.graph) plant.old.graph plant.old.state jobs.now }
+    ensures same { plant.new ≡ in_state plant.old plant.new.state }
+    ensures jobs { KeepsJobs (net_of B.meaning plant.new.graph) plant.new.graph plant.new.state jobs.now }
+    ensures answers { let old = standing_of plant.old (kept_in jobs.now) in
+        IfOk result (λ line. AnswersOn (graph_of B.meaning plant.old) 0 (command_seen command.now) old (standing_of plant.new (kept_in jobs.now)) line.items) }
+{
+    match command {
+        Command::Quiet => Reply::Quiet(plant.quiet()).to_line(alloc),
+        Command::Settle => settle(alloc, plant, jobs),
+        Command::Feed { .. }
+        | Command::Close { .. }
+        | Command::Set { .. }
+        | Command::Claim { .. }
+        | Command::Commit { .. }
+        | Command::Abandon { .. }
+        | Command::Step { .. }
+        | Command::Read { .. } => unreachable!(),
+    }
+}
+
 // Makes the call that a command asks for on a block.
 fn answer_on<B: Block>(
     alloc: Global,
@@ -147,8 +176,8 @@ fn answer_on<B: Block>(
     requires jobs { KeepsJobs (net_of B.meaning plant.old.graph) plant.old.graph plant.old.state jobs.old }
     ensures same { plant.new ≡ in_state plant.old plant.new.state }
     ensures jobs { KeepsJobs (net_of B.meaning plant.new.graph) plant.new.graph plant.new.state jobs.new }
-    ensures gives { let old = standing_of plant.old (kept_in jobs.old) in
-        IfOk result (λ line. Gives (answer_on (graph_of B.meaning plant.old) old block.0 (command_seen command.now)) old (standing_of plant.new (kept_in jobs.new)) line.items) }
+    ensures answers { let old = standing_of plant.old (kept_in jobs.old) in
+        IfOk result (λ line. AnswersOn (graph_of B.meaning plant.old) block.0 (command_seen command.now) old (standing_of plant.new (kept_in jobs.new)) line.items) }
 {
     plant.in_order();
     match command {
@@ -161,5 +190,6 @@ fn answer_on<B: Block>(
         Command::Step { max, .. } => step(alloc, plant, block, *max),
         Command::Read { from, max, .. } => read(alloc, plant, block, *from, u64::from(*max)),
         Command::Quiet => Reply::Quiet(plant.quiet()).to_line(alloc),
+        Command::Settle => settle(alloc, plant, jobs),
     }
 }

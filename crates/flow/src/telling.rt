@@ -17,7 +17,7 @@ use itoa::Buffer;
 use script_text::{Broken, ByteOut};
 
 /// Writes the line that says why a command stopped. Whether that succeeds is nothing to the command.
-pub(crate) fn report<E: ByteOut>(fault: &Fault, errors: &mut E)
+pub fn report<E: ByteOut>(fault: &Fault, errors: &mut E)
     requires { E.failed errors.old < 2 ^ 64 - 1 }
     ensures { Tries (stream (E.contents errors.old) (E.failed errors.old)) (stream (E.contents errors.new) (E.failed errors.new)) (fault_line fault.now) }
 {

@@ -2,7 +2,7 @@
 
 ghost use Rattle.std.specs.Prelude.{◌≡◌, Some};
 ghost use Rattle.graph_file.specs.Texts.{joined};
-ghost use Rattle.flow.specs.Threads.{fault_of, thread_fault_text};
+ghost use Rattle.flow.specs.Threads.{fault_of, thread_fault_number, thread_fault_text};
 
 use graph_file::Pieces;
 use kinds::Kind;
@@ -30,6 +30,17 @@ impl ThreadFault {
             RunFault::Memory(_) => ThreadFault::Memory,
             RunFault::Thread(_) => ThreadFault::Thread,
             RunFault::Foreign => ThreadFault::Foreign,
+        }
+    }
+
+    /// The number of the fault, with which its text begins.
+    pub fn number(&self) -> u32
+        ensures { result ≡ thread_fault_number self.now }
+    {
+        match self {
+            ThreadFault::Memory => 60,
+            ThreadFault::Thread => 61,
+            ThreadFault::Foreign => 62,
         }
     }
 

@@ -2,14 +2,17 @@
 #![tactic(auto)]
 
 mod ends;
+mod explaining;
 mod raw;
 mod terminal;
 mod words;
 
+use crate::explaining::{REFUSED, explain_device, explain_file, explain_line};
 use crate::raw::run_raw;
 use crate::terminal::Terminal;
 use crate::words::{Call, call_of};
 use clap::error::ErrorKind;
+use explanations::{KeptLines, Noted};
 use flow::serve::serve;
 use flow::start::StartFault;
 use script_text::{ReadEnd, WriteEnd};
@@ -61,15 +64,22 @@ fn run<R: Threads + Wait + Copy + Send + Sync + 'static>(
     let mut terminal = Terminal::new(rt, rt.stderr(), may_show);
     let file = match fs::read(rt, call.path) {
         Ok(file) => file,
-        Err(error) => return begins_none(rt, StartFault::of_file(error.kind())),
+        Err(error) => {
+            let status = begins_none(rt, StartFault::of_file(error.kind()));
+            if call.explains {
+                explain_device(rt, call.path, &error);
+            }
+            return status;
+        }
     };
     if !call.ends.are_none() {
-        return run_raw(threads, rt, call.command, &file, &call.ends, &mut terminal);
+        return run_raw(threads, rt, &call, &file, &mut terminal);
     }
-    let mut input = ReadEnd::new(rt.reader());
-    let mut output = WriteEnd::new(std::io::writer(rt));
+    let reader = ReadEnd::new(Noted::new(rt.reader()));
+    let mut input = KeptLines::new(rt.alloc(), reader, call.explains);
+    let mut output = WriteEnd::new(Noted::new(std::io::writer(rt)));
     let mut errors = WriteEnd::new(rt.stderr());
-    serve(
+    let status = serve(
         threads,
         rt.alloc(),
         call.command,
@@ -78,5 +88,17 @@ fn run<R: Threads + Wait + Copy + Send + Sync + 'static>(
         &mut output,
         &mut errors,
         &mut terminal,
-    )
+    );
+    if call.explains {
+        if status == REFUSED && !explain_file(rt, &call, &file) {
+            explain_line(rt, &call, &input);
+        }
+        if let Some(error) = &input.inner.reader.reason {
+            explain_device(rt, "standard input", error);
+        }
+        if let Some(error) = &output.writer.reason {
+            explain_device(rt, "standard output", error);
+        }
+    }
+    status
 }

@@ -1,6 +1,9 @@
 //! Runs that are fed raw items from files, and write what their sinks hold to files.
 
 use crate::ends::{Ends, NamedEnd};
+use crate::explaining::{explain_device, explain_end, explain_file};
+use crate::words::Call;
+use explanations::Noted;
 use flow::fault::Fault;
 use flow::ran_raw::RanRaw;
 use flow::raw_fault::{EndFault, EndPlace, RawFault};
@@ -11,7 +14,7 @@ use flow::telling::report_raw;
 use plant::{BlockId, Watch};
 use script_text::{ByteOut, ReadEnd, WriteEnd};
 use std::fs;
-use std::io::ErrorKind;
+use std::io::{Error, ErrorKind};
 use std::sync::Wait;
 use std::thread::Threads;
 
@@ -19,15 +22,18 @@ use std::thread::Threads;
 pub fn run_raw<R: Threads + Wait + Copy + Send + 'static, W: Watch>(
     threads: R,
     rt: &HostRuntime,
-    command: Command,
+    call: &Call<'_>,
     file: &[u8],
-    ends: &Ends<'_>,
     watch: &mut W,
 ) -> u8 {
-    match obey(threads, rt, command, file, ends, watch) {
+    let mut reason = None;
+    match obey(threads, rt, call, file, watch, &mut reason) {
         Ok(status) => status,
         Err(fault) => {
             report_raw(&fault, &mut WriteEnd::new(rt.stderr()));
+            if call.explains {
+                explain(rt, call, file, &fault, reason);
+            }
             fault.status()
         }
     }
@@ -36,30 +42,79 @@ pub fn run_raw<R: Threads + Wait + Copy + Send + 'static, W: Watch>(
 fn obey<R: Threads + Wait + Copy + Send + 'static, W: Watch>(
     threads: R,
     rt: &HostRuntime,
-    command: Command,
+    call: &Call<'_>,
     file: &[u8],
-    ends: &Ends<'_>,
     watch: &mut W,
+    reason: &mut Option<Error>,
 ) -> Result<u8, RawFault> {
+    let ends = &call.ends;
     let mut run = RawRun::open(rt.alloc(), file)?;
     for (number, end) in ends.inputs.iter().enumerate() {
-        feed(rt, &mut run, ends, number, end)?;
+        feed(rt, &mut run, ends, number, end, reason)?;
     }
     // A name that is none is told before the run.
     let outputs = sinks(rt, &run, &ends.outputs, false)?;
     let tags = sinks(rt, &run, &ends.tags, true)?;
-    let ran = match command {
+    let ran = match call.command {
         Command::RunAlone => run.run_alone(rt.alloc(), watch)?,
         _ => run.run(threads, rt.alloc(), watch)?,
     };
     for (number, (end, sink)) in ends.outputs.iter().zip(&outputs).enumerate() {
-        write_items(rt, &ran, ends, number, end, *sink)?;
+        write_items(rt, &ran, ends, number, end, *sink, reason)?;
     }
     for (number, (end, sink)) in ends.tags.iter().zip(&tags).enumerate() {
-        write_tags(rt, &ran, number, end, *sink)?;
+        write_tags(rt, &ran, number, end, *sink, reason)?;
     }
     tell(rt, &ran, ends, &outputs)?;
     Ok(ran.status())
+}
+
+// Shows what stands behind a fault, at which a device may have failed for a reason.
+fn explain(
+    rt: &HostRuntime,
+    call: &Call<'_>,
+    file: &[u8],
+    fault: &RawFault,
+    reason: Option<Error>,
+) {
+    let (place, fault) = match fault {
+        RawFault::Whole(Fault::File(_)) => {
+            let _is_refused = explain_file(rt, call, file);
+            return;
+        }
+        RawFault::Whole(_) => return,
+        RawFault::End(place, fault) => (*place, *fault),
+    };
+    let ends = &call.ends;
+    let end = match place {
+        EndPlace::Input(number) => ends.inputs.get(number),
+        EndPlace::Output(number) => ends.outputs.get(number),
+        EndPlace::Tags(number) => ends.tags.get(number),
+    };
+    let Some(NamedEnd { block, path }) = end else {
+        return;
+    };
+    let Ok(word) = format!(in rt.alloc(); "{block}={path}") else {
+        return;
+    };
+    match reason {
+        Some(error) => explain_device(rt, word.as_str(), &error),
+        None => explain_end(rt, word.as_str(), meaning(fault)),
+    }
+}
+
+// What is wrong with what a word names.
+fn meaning(fault: EndFault) -> &'static str {
+    match fault {
+        EndFault::NoSuchBlock => "no block of the graph has this name",
+        EndFault::NotSource => "the block is no vector_source",
+        EndFault::NotSink => "the block is no vector_sink",
+        EndFault::Closed => "the source is closed",
+        EndFault::TapeFull => "the tape would be longer than 4294967296 items",
+        EndFault::Read => "it cannot be read",
+        EndFault::Write => "it cannot be written",
+        EndFault::CutItem => "it ends within an item of the source's type",
+    }
 }
 
 // Feeds a source what a file has.
@@ -69,19 +124,27 @@ fn feed(
     ends: &Ends<'_>,
     number: usize,
     end: &NamedEnd<'_>,
+    reason: &mut Option<Error>,
 ) -> Result<(), RawFault> {
     let place = EndPlace::Input(number);
-    let source = source_named(run.graph(), place, end.block)?;
+    let source = source_named(run.graph(), place, end.block.as_bytes())?;
     if end.is_standard() {
-        let mut input = ReadEnd::new(rt.reader());
-        return run.feed_from(rt.alloc(), number, source, ends.order, &mut input);
+        let mut input = ReadEnd::new(Noted::new(rt.reader()));
+        let fed = run.feed_from(rt.alloc(), number, source, ends.order, &mut input);
+        *reason = input.reader.reason;
+        return fed;
     }
     match fs::open(rt, end.path) {
         Ok(file) => {
-            let mut input = ReadEnd::new(file);
-            run.feed_from(rt.alloc(), number, source, ends.order, &mut input)
+            let mut input = ReadEnd::new(Noted::new(file));
+            let fed = run.feed_from(rt.alloc(), number, source, ends.order, &mut input);
+            *reason = input.reader.reason;
+            fed
         }
-        Err(error) => Err(unopened(error.kind(), place, EndFault::Read)),
+        Err(error) => {
+            *reason = Some(error);
+            Err(unopened(error.kind(), place, EndFault::Read))
+        }
     }
 }
 
@@ -99,7 +162,7 @@ fn sinks(
         } else {
             EndPlace::Output(number)
         };
-        let sink = sink_named(run.graph(), place, end.block)?;
+        let sink = sink_named(run.graph(), place, end.block.as_bytes())?;
         sinks.reserve(1)?;
         sinks.push_reserved(sink);
     }
@@ -114,21 +177,26 @@ fn write_items(
     number: usize,
     end: &NamedEnd<'_>,
     sink: BlockId,
+    reason: &mut Option<Error>,
 ) -> Result<(), RawFault> {
     let place = EndPlace::Output(number);
     if end.is_standard() {
-        let mut output = WriteEnd::new(std::io::writer(rt));
-        return ran.write_items(rt.alloc(), place, sink, ends.order, &mut output);
+        let mut output = WriteEnd::new(Noted::new(std::io::writer(rt)));
+        let written = ran.write_items(rt.alloc(), place, sink, ends.order, &mut output);
+        *reason = output.writer.reason;
+        return written;
     }
     match fs::create(rt, end.path) {
-        Ok(file) => ran.write_items(
-            rt.alloc(),
-            place,
-            sink,
-            ends.order,
-            &mut WriteEnd::new(file),
-        ),
-        Err(error) => Err(unopened(error.kind(), place, EndFault::Write)),
+        Ok(file) => {
+            let mut output = WriteEnd::new(Noted::new(file));
+            let written = ran.write_items(rt.alloc(), place, sink, ends.order, &mut output);
+            *reason = output.writer.reason;
+            written
+        }
+        Err(error) => {
+            *reason = Some(error);
+            Err(unopened(error.kind(), place, EndFault::Write))
+        }
     }
 }
 
@@ -139,15 +207,26 @@ fn write_tags(
     number: usize,
     end: &NamedEnd<'_>,
     sink: BlockId,
+    reason: &mut Option<Error>,
 ) -> Result<(), RawFault> {
     let place = EndPlace::Tags(number);
     if end.is_standard() {
-        let mut output = WriteEnd::new(std::io::writer(rt));
-        return ran.write_tags(rt.alloc(), place, sink, &mut output);
+        let mut output = WriteEnd::new(Noted::new(std::io::writer(rt)));
+        let written = ran.write_tags(rt.alloc(), place, sink, &mut output);
+        *reason = output.writer.reason;
+        return written;
     }
     match fs::create(rt, end.path) {
-        Ok(file) => ran.write_tags(rt.alloc(), place, sink, &mut WriteEnd::new(file)),
-        Err(error) => Err(unopened(error.kind(), place, EndFault::Write)),
+        Ok(file) => {
+            let mut output = WriteEnd::new(Noted::new(file));
+            let written = ran.write_tags(rt.alloc(), place, sink, &mut output);
+            *reason = output.writer.reason;
+            written
+        }
+        Err(error) => {
+            *reason = Some(error);
+            Err(unopened(error.kind(), place, EndFault::Write))
+        }
     }
 }
 

@@ -17,6 +17,8 @@ pub struct Call<'a> {
     pub command: Command,
     pub path: &'a str,
     pub is_quiet: bool,
+    /// Whether a refusal is explained.
+    pub explains: bool,
     pub ends: Ends<'a>,
 }
 
@@ -58,6 +60,7 @@ pub fn call_of<'a>(alloc: Global, words: &'a [String]) -> Result<Call<'a>, clap:
             command,
             path,
             is_quiet: inner.get_flag("quiet"),
+            explains: inner.get_flag("explain"),
             ends,
         }),
         None => Err(clap::Error::from(AllocError)),
@@ -174,5 +177,14 @@ fn subcommand<'a>(
         .required(true)
         .action(ArgAction::Set)
         .help("The graph file");
-    Ok(clap::Command::new(alloc, name).about(help).arg(file)?)
+    let explain = Arg::new(alloc, "explain")
+        .long("explain")
+        .action(ArgAction::SetTrue)
+        .help("Shows the place of what is refused");
+    Ok(
+        clap::Command::new(alloc, name)
+            .about(help)
+            .arg(file)?
+            .arg(explain)?,
+    )
 }

@@ -7,7 +7,7 @@ use Rattle.script_text.specs.Splits.{Split, TakesLine, StartsTooLong}
 use Rattle.script_text.specs.Fields.{fields_of}
 use Rattle.script_text.specs.Numbers.{integer_of}
 use Rattle.stream_model.specs.Tags.{Mark}
-use Rattle.script_text.specs.Grammar.{Command, Parsed, Nothing, Bad, Says, Feed, SaysList, ◌>>=◌, says, command_of, feed_of, block_of, given_of, marks_of, mark_of, with_items, at_sign, number_sign, parsed_line, parsed_at, parsed_from}
+use Rattle.script_text.specs.Grammar.{Parsed, Nothing, Bad, Says, Feed, SaysList, ◌>>=◌, says, command_of, feed_of, block_of, given_of, marks_of, mark_of, with_items, at_sign, number_sign, parsed_line, parsed_at, parsed_from}
 use Rattle.script_text.specs.Scripts.{said_of, GoesOn, SaysNext}
 
 pub on_err : {X E P : Type 0} (r : Result X E) → P → OnErr r P

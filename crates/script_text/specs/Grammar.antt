@@ -9,7 +9,7 @@ use Rattle.script_text.specs.Lines.{begins_with, longest_line, most_lines}
 use Rattle.script_text.specs.Numbers.{offset_of, max_of, integer_of}
 use Rattle.script_text.specs.Fields.{fields_of, cut_at}
 
--- a command, with the name of the block that it is for. A setting holds from an item on; where none is given, from the first that is open
+-- a command, with the name of the block that it is for; the last two are for all blocks. A setting holds from an item on; where none is given, from the first that is open
 pub data Command : Type 0 where
   Feed : (name : List ℕ) → (items : List ℤ) → (marks : List Mark) → Command
   Close : (name : List ℕ) → Command
@@ -20,6 +20,7 @@ pub data Command : Type 0 where
   Step : (name : List ℕ) → (max : ℕ) → Command
   Read : (name : List ℕ) → (from max : ℕ) → Command
   Quiet : Command
+  Settle : Command
 
 -- what a line says: nothing, nothing that a line may say, or a command
 pub data Parsed : Type 0 where
@@ -38,6 +39,7 @@ IsAskable (Abandon name) = Unit {0}
 IsAskable (Step name max) = (1 ≤ max) × (max ≤ 4294967295)
 IsAskable (Read name from max) = Unit {0}
 IsAskable Quiet = Unit {0}
+IsAskable Settle = Unit {0}
 
 -- the command, if there is one, can be asked
 abbrev pub SaysAskable : Parsed → Type 0
@@ -56,6 +58,7 @@ HasList (Abandon name) = ⊥
 HasList (Step name max) = ⊥
 HasList (Read name from max) = ⊥
 HasList Quiet = ⊥
+HasList Settle = ⊥
 
 -- the line says such a command: on no other is memory asked for, and so on none that is bad
 abbrev pub SaysList : Parsed → Type 0
@@ -208,6 +211,10 @@ abbrev pub quiet_of : List (List ℕ) → Option Command
 quiet_of [] = Some Quiet
 quiet_of (other ∷ fields) = None
 
+abbrev pub settle_of : List (List ℕ) → Option Command
+settle_of [] = Some Settle
+settle_of (other ∷ fields) = None
+
 -- the command that a first field and those behind it are
 abbrev pub command_of : List ℕ → List (List ℕ) → Option Command
 command_of word fields =
@@ -220,7 +227,8 @@ command_of word fields =
     else (if bytes_eq word (codes "step") then step_of fields
     else (if bytes_eq word (codes "read") then read_of fields
     else (if bytes_eq word (codes "quiet") then quiet_of fields
-    else None))))))))
+    else (if bytes_eq word (codes "settle") then settle_of fields
+    else None)))))))))
 
 abbrev pub says : Option Command → Parsed
 says None = Bad

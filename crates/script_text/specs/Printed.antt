@@ -4,10 +4,10 @@ use Rattle.stream_model.specs.Tags as model
 use Rattle.stream_model.specs.Machine as machine
 use Rattle.items.specs.Items.{numbers_of}
 use Rattle.items.specs.declared.marks.Tag.{Tag}
-use Rattle.script_text.specs.Replies.{reply_text, claimed_text, piece_text, quiet_text}
+use Rattle.script_text.specs.Replies.{reply_text, claimed_text, piece_text, quiet_text, settle_text}
 use Rattle.script_text.specs.Reports.{blocks_text, connections_text, balanced_text, uneven_text, too_large_text, firings_text, sink_text, done_text, stalled_text}
 use Rattle.script_text.specs.declared.reply.Reply.{Reply}
-use Rattle.script_text.specs.declared.reply.Reply.TheVariants.{Fed, Closed, Taken, Claimed, Done, Busy, WaitingItems, WaitingRoom, Did, Abandoned, Piece, Refused, Late, Quiet}
+use Rattle.script_text.specs.declared.reply.Reply.TheVariants.{Fed, Closed, Taken, Claimed, Done, Busy, WaitingItems, WaitingRoom, Did, Abandoned, Piece, Refused, Late, Quiet, Settled}
 use Rattle.script_text.specs.declared.report.Report.{Report}
 use Rattle.script_text.specs.declared.report.Report.TheVariants as report
 
@@ -33,6 +33,7 @@ printed (Piece held items tags) = piece_text held (numbers_of items.now) (tags_s
 printed (Refused code) = reply_text (machine.Refused code)
 printed (Late floor) = reply_text (machine.Late floor)
 printed (Quiet quiet) = quiet_text quiet
+printed (Settled done) = settle_text done
 
 abbrev pub reported : Report → List ℕ
 reported (report.Blocks count) = blocks_text count

@@ -53,6 +53,11 @@ abbrev pub quiet_text : Bool → List ℕ
 quiet_text true = codes "quiet yes"
 quiet_text false = codes "quiet no"
 
+-- that no block can act any more: whether each is done
+abbrev pub settle_text : Bool → List ℕ
+settle_text true = codes "settled done"
+settle_text false = codes "settled quiet"
+
 -- a text as a line
 abbrev pub line_text : List ℕ → List ℕ
 line_text text = text ++ 10 ∷ []

@@ -1,8 +1,8 @@
 -- What a splitter of bytes into lines holds, and what taking a line from it does.
 use Rattle.std.specs.Prelude.{◌≡◌, ◌≢◌, ℕ, suc, ◌<◌, ◌≤◌, List, ◌∷◌, ◌++◌, length, slice_index, EachIndex}
 use Rattle.script_text.specs.Lines.{line_feed, longest_line, lines_of, without_return}
-use Rattle.script_text.specs.declared.splitter.Taken.{Taken}
-use Rattle.script_text.specs.declared.splitter.Taken.TheVariants.{Whole, TooLong, Unfinished}
+use Rattle.script_text.specs.declared.splitter.FirstLine.{FirstLine}
+use Rattle.script_text.specs.declared.splitter.FirstLine.TheVariants.{Whole, TooLong, Unfinished}
 
 -- the bytes that no line was taken of yet, the line that was taken last, and how many were taken
 pub record Split : Type 0 where
@@ -34,7 +34,7 @@ pub record KeepsBytes (old new : Split) : Type 0 where
   pub line : new.line ≡ old.line
   pub taken : new.taken ≡ old.taken
 
-abbrev pub Takes : Taken → Split → Split → Type 0
+abbrev pub Takes : FirstLine → Split → Split → Type 0
 Takes Whole old new = TakesLine old new
 Takes TooLong old new = ((more : List ℕ) → StartsTooLong (old.rest ++ more)) × KeepsBytes old new
 Takes Unfinished old new = IsUnfinished old.rest × KeepsBytes old new

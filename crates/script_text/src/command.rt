@@ -46,6 +46,8 @@ pub enum Command {
     },
     /// Ask whether no block can act.
     Quiet,
+    /// Let all blocks fire until none can act.
+    Settle,
 }
 
 /// What a line says.

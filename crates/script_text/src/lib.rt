@@ -19,4 +19,4 @@ pub use parse::parse_line;
 pub use reply::Reply;
 pub use report::Report;
 pub use script::{last_line, next_line};
-pub use splitter::{LineSplitter, Taken};
+pub use splitter::{FirstLine, LineSplitter};

@@ -2,7 +2,7 @@
 ghost use Rattle.std.specs.Prelude.{◌≡◌, ◌≢◌, ◌↔◌, [], ◌∷◌, IsTrue, IsSome, IfOk, OnErr, IfSome, IfNone, None};
 ghost use Rattle.std.specs.Option.{option_map};
 ghost use Rattle.script_text.specs.Fields.{fields_of};
-ghost use Rattle.script_text.specs.Grammar.{SaysList, says, parsed_line, command_of, feed_of, close_of, set_of, claim_of, commit_of, abandon_of, step_of, read_of, quiet_of, name_alone, name_and_max, only_two, place_of, integers_of, given_of, marks_of, mark_of, mark_at, name_of, with_items};
+ghost use Rattle.script_text.specs.Grammar.{SaysList, says, parsed_line, command_of, feed_of, close_of, set_of, claim_of, commit_of, abandon_of, step_of, read_of, quiet_of, settle_of, name_alone, name_and_max, only_two, place_of, integers_of, given_of, marks_of, mark_of, mark_at, name_of, with_items};
 ghost use Rattle.script_text.specs.Numbers.{max_of, integer_of};
 ghost use Rattle.script_text.specs.Commands.{line_seen, command_seen, marks_seen, mark_seen};
 
@@ -59,6 +59,8 @@ fn parse_command(alloc: Global, word: &[u8], fields: &[u8]) -> Result<Option<Com
         Ok(parse_read(fields))
     } else if word == b"quiet".as_slice() {
         Ok(parse_quiet(fields))
+    } else if word == b"settle".as_slice() {
+        Ok(parse_settle(fields))
     } else {
         Ok(None)
     }
@@ -173,6 +175,15 @@ fn parse_quiet(fields: &[u8]) -> Option<Command>
         return None;
     }
     Some(Command::Quiet)
+}
+
+fn parse_settle(fields: &[u8]) -> Option<Command>
+    ensures { option_map command_seen result ≡ settle_of (fields_of fields.now) }
+{
+    if next_field(fields).is_some() {
+        return None;
+    }
+    Some(Command::Settle)
 }
 
 // The name that is the only field.

@@ -7,33 +7,24 @@ ghost use Rattle.script_text.specs.Replies.{item_text, tag_text, tag_value_text,
 ghost use Rattle.script_text.specs.Printed.{tag_seen, tags_seen};
 
 use items::{Items, Tag};
+use itoa::Buffer;
 use numbers::Number;
 use std::alloc::AllocError;
 
 /// Writes the number's digits at the end.
-#[tactic(auto, using(std::proofs::lemmas::Fmt::decimal_digit))]
 pub fn push_natural(out: &mut Vec<u8>, number: u64) -> Result<(), AllocError>
     ensures { OnOk result (out.new.items ≡ out.old.items ++ decimal number) }
 {
-    if number < 10 {
-        out.push(b'0' + number as u8)?;
-        return Ok(());
-    }
-    push_natural(out, number / 10)?;
-    out.push(b'0' + (number % 10) as u8)?;
-    Ok(())
+    let mut digits = Buffer::new();
+    out.extend_from_slice(digits.format(number).as_bytes())
 }
 
 /// Writes the number at the end, behind a minus sign if it is negative.
 pub fn push_integer(out: &mut Vec<u8>, number: i64) -> Result<(), AllocError>
     ensures { OnOk result (out.new.items ≡ out.old.items ++ signed_decimal number) }
 {
-    if number < 0 {
-        out.push(b'-')?;
-        push_natural(out, number.unsigned_abs())
-    } else {
-        push_natural(out, number as u64)
-    }
+    let mut digits = Buffer::new();
+    out.extend_from_slice(digits.format(number).as_bytes())
 }
 
 /// Writes a word and a number behind it.

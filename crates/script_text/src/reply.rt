@@ -43,6 +43,8 @@ pub enum Reply<'a> {
     Late(u64),
     /// Whether no block can act.
     Quiet(bool),
+    /// No block can act any more: whether each is done.
+    Settled(bool),
 }
 
 impl Reply<'_> {
@@ -84,6 +86,8 @@ impl Reply<'_> {
             Reply::Late(floor) => push_counted(out, b"refused 27 ", *floor),
             Reply::Quiet(true) => out.extend_from_slice(b"quiet yes"),
             Reply::Quiet(false) => out.extend_from_slice(b"quiet no"),
+            Reply::Settled(true) => out.extend_from_slice(b"settled done"),
+            Reply::Settled(false) => out.extend_from_slice(b"settled quiet"),
         }
     }
 }

@@ -7,7 +7,7 @@ ghost use Rattle.script_text.specs.Grammar.{Parsed, SaysList, parsed_from, SaysA
 ghost use Rattle.script_text.specs.Commands.{line_seen};
 ghost use Rattle.script_text.specs.Scripts.{Continues, StopsAtList};
 
-use crate::{Line, LineSplitter, Taken, parse_line};
+use crate::{FirstLine, Line, LineSplitter, parse_line};
 use std::alloc::{AllocError, Global};
 
 const MOST_LINES: u64 = 4294967295;
@@ -23,15 +23,15 @@ pub fn next_line(alloc: Global, lines: &mut LineSplitter) -> Result<Option<Line>
     ensures moves { TakesLine lines.old lines.new ⊎ KeepsBytes lines.old lines.new }
 {
     match lines.take_line() {
-        Taken::Whole => {
+        FirstLine::Whole => {
             if lines.taken() > MOST_LINES {
                 Ok(Some(Line::Bad))
             } else {
                 Ok(Some(parse_line(alloc, lines.line())?))
             }
         }
-        Taken::TooLong => Ok(Some(Line::Bad)),
-        Taken::Unfinished => Ok(None),
+        FirstLine::TooLong => Ok(Some(Line::Bad)),
+        FirstLine::Unfinished => Ok(None),
     }
 }
 

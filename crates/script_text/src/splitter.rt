@@ -16,9 +16,9 @@ const LONGEST_LINE: usize = 65536;
 // So many bytes are held at most. A line and a piece are less than half as long, so that fewer bytes are moved than were given up.
 const MOST_HELD: usize = 196608;
 
-/// How a line was taken.
+/// What there is of the first line.
 #[derive(Clone, Copy, Debug, PartialEq, Eq)]
-pub enum Taken {
+pub enum FirstLine {
     /// A whole line, which `line` gives.
     Whole,
     /// None: the first line is longer than a line may be, whatever comes after it.
@@ -98,7 +98,7 @@ impl LineSplitter {
     }
 
     /// Takes the first line off the bytes, where its end has come.
-    pub fn take_line(&mut self) -> Taken
+    pub fn take_line(&mut self) -> FirstLine
         requires { self.old.taken < 2 ^ 64 - 1 }
         ensures { Takes result self.old self.new }
     {
@@ -111,11 +111,11 @@ impl LineSplitter {
             self.start = end + 1;
             self.searched = end + 1;
             self.taken += 1;
-            Taken::Whole
+            FirstLine::Whole
         } else if length > LONGEST_LINE {
-            Taken::TooLong
+            FirstLine::TooLong
         } else {
-            Taken::Unfinished
+            FirstLine::Unfinished
         }
     }
 

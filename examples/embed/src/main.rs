@@ -5,11 +5,7 @@ use magbelu::prelude::*;
 use std::alloc::Global;
 
 fn chain(alloc: Global) -> Result<(Graph<Kind>, [BlockId; 3]), Error> {
-    let options = Options {
-        policy: Policy::All,
-        multiple: 1,
-        capacity: 4096,
-    };
+    let options = Options::default();
     let mut graph = Graph::new(alloc);
     let source = Kind::VectorSource(VectorSource::new(ItemType::Byte));
     let adder = Kind::AddConst(AddConst::new(ItemType::Byte, 10)?);
@@ -25,7 +21,7 @@ fn chain(alloc: Global) -> Result<(Graph<Kind>, [BlockId; 3]), Error> {
 fn main(rt: HostRuntime) -> Result<(), Error> {
     let alloc = rt.alloc();
     let (graph, [source, adder, sink]) = chain(alloc)?;
-    let mut plant = Plant::open(alloc, graph.validate(alloc)?)?;
+    let mut top = TopBlock::from_graph(alloc, graph.validate(alloc)?)?;
     let items = Items::from_numbers(alloc, ItemType::Byte, &[250, 1, 2, 3])?;
     let key = TagKey::new(b"burst").ok_or(ItemFault::ItemRange)?;
     let mark = Mark {
@@ -33,14 +29,12 @@ fn main(rt: HostRuntime) -> Result<(), Error> {
         key,
         value: 7,
     };
-    plant.feed(source, items, &[mark])?;
-    plant.set(adder, Some(2), Value::Number(100))?;
-    // Threads start only where no claim is in flight: the prover knows that by this test.
-    if !plant.idle() {
-        return Err(Error::Run(RunError::Foreign));
-    }
-    let (Outcome::Done(plant) | Outcome::Stalled(plant) | Outcome::Stopped(plant)) =
-        TopBlock::from_plant(plant).run(rt, alloc)?;
+    top.feed(source, items, &[mark])?;
+    top.set(adder, Some(2), Value::Number(100))?;
+    let (Outcome::Done(plant) | Outcome::Stalled(plant) | Outcome::Stopped(plant)) = top.run(
+        rt,
+        alloc,
+    )?;
     let piece = plant.read(alloc, sink, 0, 100)?;
     let _ = println!(rt; "{:?}", piece.items);
     for tag in &piece.tags {

@@ -4,7 +4,7 @@ use Rattle.std.specs.Vec.{with_items}
 use Rattle.std.proofs.lemmas.List.{with_items_is}
 use Rattle.script_text.specs.Commands.{command_seen}
 use Rattle.flow.proofs.Sessions.{if_ok}
-use Rattle.flow.proofs.Naming.{session_gives}
+use Rattle.flow.proofs.Naming.{session_answers}
 use Rattle.flow.proofs.session.Session.line_for.Goals as goal
 
 pub returns-in-Some-find-clause-answers : goal.returns-in-Some-find-clause-answers
@@ -12,6 +12,6 @@ returns-in-Some-find-clause-answers g c =
     let jobs = c.self.inside.jobs in
     let after = c.answer_on.new.jobs in
     let back = with_items_is jobs after (c.answer_on.auto.jobs ∙ c.deref_mut.ensures.len) in
-    if_ok _ _ c.answer_on.result c.answer_on.ensures.gives (λ line h.
-    session_gives g.B.Block.meaning c.self.inside.plant c.deref_mut.result.now jobs.items after (with_items jobs after).items c.args.self.now (command_seen c.args.command.now) c.in-Some.name.now c.in-Some-find.block.0
-    c.answer_on.new.plant.state line.items c.deref_mut.ensures.value c.self.view_is back c.in-Some.ensures (c.in-Some-find.ensures.named ∙ ap (λ x. position (bytes_eq c.in-Some.name.now) x.names) c.graph.ensures) h)
+    if_ok _ _ c.answer_on.result c.answer_on.ensures.answers (λ line h.
+    session_answers g.B.Block.meaning c.self.inside.plant c.deref_mut.result.now jobs.items after (with_items jobs after).items c.args.self.now (command_seen c.args.command.now)
+    c.answer_on.new.plant.state line.items c.deref_mut.ensures.value c.self.view_is back c.in-Some.name.now c.in-Some-find.block.0 c.in-Some.ensures (c.in-Some-find.ensures.named ∙ ap (λ x. position (bytes_eq c.in-Some.name.now) x.names) c.graph.ensures) h)

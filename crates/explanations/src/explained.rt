@@ -1,0 +1,110 @@
+//! Why a graph file is refused, shown at its place.
+ghost use Rattle.std.specs.Prelude.{◌≡◌, ◌↔◌, Some, IfOk, IsNone, IsSome};
+ghost use Rattle.graph_file.specs.Refusals.{told};
+ghost use Rattle.explanations.specs.Explained.{IsAccepted};
+
+use crate::document::Document;
+use crate::feed_faults::feed_finding;
+use crate::frame::{Finding, framed};
+use crate::graph_faults::{graph_finding, negative_finding};
+use crate::table_faults::table_finding;
+use graph_file::{FileFault, read_graph};
+use std::alloc::{AllocError, Global};
+
+/// How far a file is read.
+#[derive(Clone, Copy, Debug, PartialEq, Eq)]
+pub enum Depth {
+    /// Up to its valid graph.
+    Graph,
+    /// Up to its plant, with the feeds on the tapes.
+    Plant,
+}
+
+/// Where and why a graph file of this name is refused, in lines that show the place, or `None` where it is not.
+pub fn explain(
+    alloc: Global,
+    name: &str,
+    text: &[u8],
+    depth: Depth,
+) -> Result<Option<String>, AllocError>
+    ensures { IfOk result (λ lines. IsNone lines ↔ IsAccepted depth text.now) }
+{
+    match fault_of(alloc, text, depth)? {
+        None => Ok(None),
+        Some(fault) => {
+            let finding = finding_of(alloc, text, &fault)?;
+            Ok(Some(framed(alloc, name, text, 1, &finding)?))
+        }
+    }
+}
+
+// Why a file is refused.
+fn fault_of(alloc: Global, text: &[u8], depth: Depth) -> Result<Option<FileFault>, AllocError>
+    ensures { IfOk result (λ fault. IsNone fault ↔ IsAccepted depth text.now) }
+{
+    let file = match read_graph(alloc, text) {
+        Ok(file) => file,
+        Err(fault) => return unless_memory(fault),
+    };
+    match depth {
+        Depth::Graph => match file.validate(alloc) {
+            Ok(_) => Ok(None),
+            Err(fault) => unless_memory(fault),
+        },
+        Depth::Plant => match file.open(alloc) {
+            Ok(_) => Ok(None),
+            Err(fault) => unless_memory(fault),
+        },
+    }
+}
+
+// A fault that says something of the file.
+fn unless_memory(fault: FileFault) -> Result<Option<FileFault>, AllocError>
+    ensures { IfOk result (λ kept. (kept ≡ Some fault) × IsSome (told fault)) }
+{
+    match fault {
+        FileFault::Memory => Err(AllocError),
+        fault => Ok(Some(fault)),
+    }
+}
+
+// The place of a fault, and what is said of it.
+fn finding_of(alloc: Global, text: &[u8], fault: &FileFault) -> Result<Finding, AllocError> {
+    let words = match std::str::from_utf8(text) {
+        Ok(words) => words,
+        Err(error) => {
+            return Ok(Finding {
+                place: error.valid_up_to(),
+                message: String::from_str(alloc, "this byte is no text in UTF-8")?,
+            });
+        }
+    };
+    let table = match toml::table_from_str(alloc, words) {
+        Ok(table) => table,
+        Err(error) => return syntax_finding(alloc, &error),
+    };
+    let document = Document::new(alloc, text, table)?;
+    match fault {
+        FileFault::Syntax | FileFault::Memory => Err(AllocError),
+        FileFault::Table { place, fault } => table_finding(&document, *place, *fault),
+        FileFault::Graph { place, fault, name } => graph_finding(
+            &document,
+            *place,
+            *fault,
+            name.as_str(),
+        ),
+        FileFault::NegativePort { side, port, .. } => negative_finding(&document, *side, *port),
+        FileFault::Feed { feed, fault } => feed_finding(&document, *feed, *fault),
+    }
+}
+
+// What the reader of TOML says.
+fn syntax_finding(alloc: Global, error: &toml::de::Error) -> Result<Finding, AllocError> {
+    match error.span() {
+        Some(span) => Ok(Finding {
+            place: span.start,
+            message: String::from_str(alloc, error.message())?,
+        }),
+        None => Err(AllocError),
+    }
+}

@@ -1,0 +1,21 @@
+//! What stands behind a refusal of a graph file or of a line of a script: the place in the text, what was found there and what may stand there.
+#![tactic(auto)]
+
+mod all_kinds;
+mod document;
+mod entries;
+mod expected;
+pub mod explained;
+mod feed_faults;
+mod frame;
+mod graph_faults;
+pub mod lines;
+mod near;
+pub mod noted;
+mod ports;
+mod table_faults;
+mod tokens;
+
+pub use explained::{Depth, explain};
+pub use lines::KeptLines;
+pub use noted::{Noted, at_device};

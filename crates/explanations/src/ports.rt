@@ -1,0 +1,90 @@
+//! The ports of the blocks of a graph file.
+
+use crate::document::Document;
+use block_kinds::Block;
+use flowgraph::Side;
+use graph_file::Place;
+use kind_keys::table::{count_at, text_at};
+use kind_keys::{Key, KeyFault, read_kind};
+use std::alloc::AllocError;
+use stream_model::Signature;
+use toml::Table;
+
+/// The port at a key of a connection.
+pub(crate) fn port_of(table: &Table, key: Key) -> usize {
+    count_at(table, key) as usize
+}
+
+/// What the inputs and the outputs are of the block of a name.
+pub(crate) fn sides_of(
+    document: &Document<'_>,
+    name: &str,
+) -> Result<Option<(Signature, Signature)>, AllocError> {
+    let Some(number) = document.block_named(name) else {
+        return Ok(None);
+    };
+    let Some(table) = document.table_at(Place::Block(number)) else {
+        return Ok(None);
+    };
+    match read_kind(document.alloc, table) {
+        Ok(kind) => Ok(Some((kind.inputs(), kind.outputs()))),
+        Err(KeyFault::Memory) => Err(AllocError),
+        Err(_) => Ok(None),
+    }
+}
+
+/// Which ports the block of a name has on a side.
+pub(crate) fn ports_text(
+    document: &Document<'_>,
+    name: &str,
+    side: Side,
+) -> Result<String, AllocError> {
+    let alloc = document.alloc;
+    let most = match (sides_of(document, name)?, side) {
+        (Some((inputs, _)), Side::In) => inputs.most,
+        (Some((_, outputs)), Side::Out) => outputs.most,
+        (None, _) => 0,
+    };
+    let word = match side {
+        Side::In => "input",
+        Side::Out => "output",
+    };
+    match most {
+        0 => format!(in alloc; "it has no {word}s"),
+        1 => format!(in alloc; "it has one {word}, 0"),
+        most => {
+            let last = most - 1;
+            format!(in alloc; "it has {word}s 0 to {last}")
+        }
+    }
+}
+
+/// How many inputs and outputs of the block of a name have connections, where there is no gap.
+pub(crate) fn used_ports(document: &Document<'_>, name: &str) -> (usize, usize) {
+    let mut inputs = 0usize;
+    let mut outputs = 0usize;
+    for value in document.connections() {
+        if let Some(table) = value.as_table() {
+            if text_at(table, Key::To).as_bytes() == name.as_bytes() {
+                inputs = inputs.max(port_of(table, Key::ToPort).saturating_add(1));
+            }
+            if text_at(table, Key::From).as_bytes() == name.as_bytes() {
+                outputs = outputs.max(port_of(table, Key::FromPort).saturating_add(1));
+            }
+        }
+    }
+    (inputs, outputs)
+}
+
+/// How many ports of the block of a name have connections, and how many have to.
+pub(crate) fn joined_ports(document: &Document<'_>, name: &str) -> Result<String, AllocError> {
+    let alloc = document.alloc;
+    let (used_in, used_out) = used_ports(document, name);
+    let (least_in, least_out) = match sides_of(document, name)? {
+        Some((inputs, outputs)) => (inputs.least, outputs.least),
+        None => (0, 0),
+    };
+    format!(in alloc;
+        "`{name}` has connections at {used_in} of its inputs and {used_out} of its outputs, and needs them at {least_in} and {least_out} at least"
+    )
+}

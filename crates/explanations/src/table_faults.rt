@@ -1,0 +1,149 @@
+//! What is wrong with a table of a graph file.
+
+use crate::all_kinds::kinds;
+use crate::document::Document;
+use crate::expected::{
+    known_keys, listed_keys, listed_kinds, owner, range_text, shape_text, type_text,
+};
+use crate::frame::{Finding, shown};
+use crate::near::near_name;
+use crate::tokens::part;
+use block_kinds::Parameter;
+use graph_file::Place;
+use kind_keys::table::{text_at, value_at};
+use kind_keys::{Key, KeyFault, Shape};
+use std::alloc::AllocError;
+use toml::Value;
+
+/// Where a table is wrong, and what may stand there.
+pub(crate) fn table_finding(
+    document: &Document<'_>,
+    place: Place,
+    fault: KeyFault,
+) -> Result<Finding, AllocError> {
+    match fault {
+        KeyFault::UnknownKey => unknown_key(document, place),
+        KeyFault::MissingKey(key) => missing_key(document, place, key),
+        KeyFault::WrongType(key) => wrong_type(document, place, key),
+        KeyFault::UnknownKind => unknown_kind(document, place),
+        KeyFault::BadParameter(parameter) => bad_parameter(document, place, parameter),
+        KeyFault::Memory => Err(AllocError),
+    }
+}
+
+fn is_known(keys: &[Key], word: &[u8]) -> bool {
+    keys.iter().any(|key| word == key.text().as_bytes())
+}
+
+fn unknown_key(document: &Document<'_>, place: Place) -> Result<Finding, AllocError> {
+    let alloc = document.alloc;
+    let keys = known_keys(document, place);
+    let owner = owner(document, place)?;
+    let list = listed_keys(alloc, keys)?;
+    for entry in &document.entries {
+        let Some(span) = entry.key else {
+            continue;
+        };
+        let word = part(document.text, span);
+        if entry.table == place && !is_known(keys, word) {
+            let word = shown(alloc, word)?;
+            return Ok(Finding {
+                place: entry.start,
+                message: format!(in alloc; "{owner} has no key `{word}`; it has: {list}")?,
+            });
+        }
+    }
+    let message = format!(in alloc; "{owner} has a key that is none of: {list}")?;
+    Ok(document.at_table(place, message))
+}
+
+fn missing_key(document: &Document<'_>, place: Place, key: Key) -> Result<Finding, AllocError> {
+    let owner = owner(document, place)?;
+    let (name, shape) = (key.text(), shape_text(key));
+    let message = format!(in document.alloc; "{owner} needs the key `{name}`: {shape}")?;
+    Ok(document.at_table(place, message))
+}
+
+fn wrong_type(document: &Document<'_>, place: Place, key: Key) -> Result<Finding, AllocError> {
+    let alloc = document.alloc;
+    let (name, shape) = (key.text(), shape_text(key));
+    let value = match document.table_at(place) {
+        Some(table) => value_at(table, key),
+        None => None,
+    };
+    let Some(value) = value else {
+        let message = format!(in alloc; "`{name}` takes {shape}")?;
+        return Ok(document.at_value(place, key, message));
+    };
+    if let Some((number, found)) = misfit(key, value) {
+        let array = document.value_of(place, key);
+        return Ok(Finding {
+            place: document.item_of(array, number),
+            message: format!(in alloc; "`{name}` takes {shape}; this item is {found}")?,
+        });
+    }
+    let message = match key.shape() {
+        Shape::Choice | Shape::Tables if value.is_str() || value.is_array() => format!(in alloc;
+            "`{name}` takes {shape}"
+        )?,
+        _ => {
+            let found = type_text(value.type_str());
+            format!(in alloc; "`{name}` takes {shape}; this is {found}")?
+        }
+    };
+    Ok(document.at_value(place, key, message))
+}
+
+// The first item of an array that may not stand at a key.
+fn misfit(key: Key, value: &Value) -> Option<(usize, &'static str)> {
+    let is_of_tables = match key.shape() {
+        Shape::Numbers => false,
+        Shape::Tables => true,
+        _ => return None,
+    };
+    for (number, item) in value.as_array()?.iter().enumerate() {
+        let fits = if is_of_tables {
+            item.is_table()
+        } else {
+            item.is_integer()
+        };
+        if !fits {
+            return Some((number, type_text(item.type_str())));
+        }
+    }
+    None
+}
+
+fn unknown_kind(document: &Document<'_>, place: Place) -> Result<Finding, AllocError> {
+    let alloc = document.alloc;
+    let word = match document.table_at(place) {
+        Some(table) => text_at(table, Key::Kind),
+        None => "",
+    };
+    let mut names = Vec::new(alloc);
+    for kind in kinds() {
+        names.push(kind.text())?;
+    }
+    let near = near_name(alloc, word, names.as_slice())?;
+    let word = shown(alloc, word.as_bytes())?;
+    let message = match near {
+        Some(kind) => format!(in alloc; "there is no kind `{word}`; is `{kind}` meant?")?,
+        None => {
+            let list = listed_kinds(alloc)?;
+            format!(in alloc; "there is no kind `{word}`; there are: {list}")?
+        }
+    };
+    Ok(document.at_value(place, Key::Kind, message))
+}
+
+fn bad_parameter(
+    document: &Document<'_>,
+    place: Place,
+    parameter: Parameter,
+) -> Result<Finding, AllocError> {
+    let owner = owner(document, place)?;
+    let range = range_text(document, place, parameter)?;
+    let name = parameter.text();
+    let message = format!(in document.alloc; "`{name}` of {owner} takes {range}")?;
+    Ok(document.at_value(place, Key::Parameter(parameter), message))
+}

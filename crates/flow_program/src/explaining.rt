@@ -1,0 +1,47 @@
+//! What stands behind the line of a refusal, where the words ask for it. Where memory runs out, nothing does.
+
+use crate::words::Call;
+use explanations::{Depth, KeptLines, at_device, explain};
+use flow::serve::Command;
+use script_text::ByteIn;
+use std::io::Error;
+
+/// The exit status of what is refused.
+pub const REFUSED: u8 = 1;
+
+/// Shows the place of a mistake in the graph file, and tells whether there is one.
+pub fn explain_file(rt: &HostRuntime, call: &Call<'_>, file: &[u8]) -> bool {
+    let depth = match call.command {
+        Command::Check | Command::Draw(_) => Depth::Graph,
+        _ => Depth::Plant,
+    };
+    match explain(rt.alloc(), call.path, file, depth) {
+        Ok(Some(lines)) => {
+            let _ = eprint!(rt; "{lines}");
+            true
+        }
+        Ok(None) => false,
+        Err(_) => true,
+    }
+}
+
+/// Shows the line of a script that is refused.
+pub fn explain_line<I: ByteIn>(rt: &HostRuntime, call: &Call<'_>, input: &KeptLines<I>) {
+    if let Ok(Some(lines)) = input.bad_line(rt.alloc(), call.command == Command::Live) {
+        let _ = eprint!(rt; "{lines}");
+    }
+}
+
+/// Says why a device failed.
+pub fn explain_device(rt: &HostRuntime, name: &str, error: &Error) {
+    if let Ok(reason) = format!(in rt.alloc(); "{error}") {
+        explain_end(rt, name, reason.as_str());
+    }
+}
+
+/// Says why a device, or what a word names, is refused.
+pub fn explain_end(rt: &HostRuntime, name: &str, reason: &str) {
+    if let Ok(line) = at_device(rt.alloc(), name, reason) {
+        let _ = eprint!(rt; "{line}");
+    }
+}

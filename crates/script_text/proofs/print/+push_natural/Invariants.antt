@@ -1,4 +1,0 @@
-use Rattle.script_text.proofs.print.+push_natural.Given as goal
-
-abbrev pub decreases-push_natural : goal.decreases-push_natural
-decreases-push_natural l = l.number

@@ -1,0 +1,129 @@
+# shellcheck shell=bash disable=SC2154,SC2164,SC2034
+# For ./build to source: has one crate proved, and made into a library, the program, or the library for C. It calls the toolchain's prover itself, as `rt ci` does, for libraries
+# that hold statements and no proofs. Those of `rt lib` hold both, which costs each crate above them dear. They stand in crates/X/out/built, each with a stamp
+# that tells what it was made of; rt reads none of it.
+
+# Of each crate that was started: its process, and when it began; of each that runs: how many processors it was given.
+declare -A process_of=() began=() jobs_of=()
+# Of each crate whose turn has come: the sum of what its library is made of.
+declare -A sums=()
+# Of each that is proved: the stamp of its library, which is that sum and when it was made. No two libraries have the same.
+declare -A stamps=()
+
+# out_of CRATE: prints the folder in which what is made of the crate stands
+out_of() { echo "$top/crates/$1/out"; }
+
+# sum_of CRATE: prints a sum of all that its library is made of: its own files, the libraries below, and the toolchain
+sum_of() {
+    local it
+    {
+        echo "$toolchain"
+        echo "${line_of[$1]}"
+        for it in ${lower[$1]}; do
+            echo "$it ${stamps[$it]}"
+        done
+        cd -- "$top/crates/$1"
+        for it in src specs proofs; do
+            if [[ -d $it ]]; then
+                find -L "$it" -type f -print0
+            fi
+        done | LC_ALL=C sort -z | xargs -0 sha256sum
+    } | sha256sum | cut -d ' ' -f 1
+}
+
+# words_of CRATE: fills `words` with those that name the crate and all that it stands on to the prover
+words_of() {
+    local it root=lib
+    # (put_in_order fills this one here)
+    local order=()
+    if [[ $1 == "$program_crate" ]]; then
+        root=main
+    fi
+    words=(--crate-name "$1" "src/$root.rt" --extern "std=$kit/rlibs/std.rlib" -L "dependency=$kit/rlibs")
+    for it in ${uses[$1]}; do
+        if [[ -v uses[$it] ]]; then
+            words+=(--extern "$it=$(out_of "$it")/built/$it.rlib")
+        else
+            words+=(--extern "$it=$kit/rlibs/$it.rlib")
+        fi
+    done
+    put_in_order "$1"
+    for it in "${order[@]}"; do
+        if [[ $it != "$1" ]]; then
+            words+=(-L "dependency=$(out_of "$it")/built")
+        fi
+    done
+    words+=(--antt-project "$kit/rattle/logic/antt-project.json" --logic-built "$kit/logic_built" --links "$1=")
+}
+
+# make CRATE JOBS: has the crate proved, with so many processors, and made into a library or the program, in out/part
+make() {
+    local log made words
+    log=$(out_of "$1")/build.log
+    made=$(out_of "$1")/part/$1
+    words_of "$1"
+    words+=(--jobs "$2")
+    if [[ $1 == "$program_crate" ]]; then
+        words+=(--toolchain "$kit/toolchain" --backend llvm -o "$made.o")
+    elif [[ $1 == "$c_crate" ]]; then
+        words+=(--crate-type staticlib --toolchain "$kit/toolchain" --backend llvm -o "$made.a")
+    else
+        words+=(--statements -o "$made.rlib")
+    fi
+    cd -- "$top/crates/$1"
+    "$kit/bin/rattle" build "${words[@]}" &>"$log"
+    # (a status of 0 is no verdict)
+    [[ $(tail -n 1 "$log") == "logic=proved "* ]]
+    if [[ $1 == "$program_crate" ]]; then
+        words=(--target x86_64-unknown-linux-gnu --toolchain "$kit/toolchain" -o "$made" "$made.o")
+        "$kit/bin/rattle-link" "${words[@]}" "$kit/c/libos_c.a" "$kit/c/liblibc_c.a" &>>"$log"
+    elif [[ $1 == "$c_crate" ]]; then
+        make_libraries "$(out_of "$1")/part" &>>"$log"
+    fi
+}
+
+# make_libraries FOLDER: of the static library in it one that needs no other archive, and where there is a C compiler a shared one, which shows only what
+# c/magbelu.h declares
+make_libraries() {
+    cd -- "$1"
+    # (its scripts know no quotes)
+    cp -- "$kit/c/libos_c.a" "$kit/c/liblibc_c.a" .
+    printf '%s\n' "create libmagbelu.a" "addlib $c_crate.a" "addlib liblibc_c.a" "addlib libos_c.a" save end | "$kit/toolchain/bin/llvm-ar" -M
+    rm -- libos_c.a liblibc_c.a
+    if command -v cc >/dev/null; then
+        echo '{ global: magbelu_*; local: *; };' >exports
+        cc -shared -Wl,--version-script=exports -Wl,--whole-archive "$c_crate.a" -Wl,--no-whole-archive libmagbelu.a -o libmagbelu.so
+        rm -- exports
+    fi
+}
+
+# start CRATE JOBS: begins to make the crate, in a group of processes, so that all of them can be ended
+start() {
+    local out
+    out=$(out_of "$1")
+    rm -rf -- "$out/part"
+    mkdir -p "$out/part"
+    # (it may have waited long)
+    sums[$1]=$(sum_of "$1")
+    began[$1]=$SECONDS
+    jobs_of[$1]=$2
+    set -m
+    make "$1" "$2" </dev/null &
+    set +m
+    process_of[$1]=$!
+}
+
+# keep CRATE: takes what was made to its place, with its stamp
+keep() {
+    local out sum
+    out=$(out_of "$1")
+    sum=$(sum_of "$1") || true
+    if [[ $sum != "${sums[$1]}" ]]; then
+        # (what was proved nobody knows)
+        sum=edited
+    fi
+    stamps[$1]="$sum $EPOCHREALTIME"
+    echo "${stamps[$1]}" >"$out/part/stamp"
+    rm -rf -- "$out/built"
+    mv -- "$out/part" "$out/built"
+}

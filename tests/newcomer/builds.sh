@@ -1,0 +1,143 @@
+# shellcheck shell=bash disable=SC2154
+# For tests/newcomer.sh to source: what ./build proves and installs, with tests/rt_in_its_place in the place of rt and of the prover.
+
+# begin_anew: forgets what was proved so far
+begin_anew() { rm -f "$room/bin/proved" "$room/bin/jobs"; }
+
+# proved CRATE..: tests that since begin_anew these were proved, each once and after those of them that it uses
+proved() {
+    local crate it so_far=" "
+    touch "$room/bin/proved"
+    cmp -s <(printf '%s\n' "$@" | sort) <(sort "$room/bin/proved") || wrong "proved was $(paste -sd ' ' "$room/bin/proved"), and not: $*"
+    while read -r crate; do
+        for it in ${uses[$crate]}; do
+            [[ " $* " != *" $it "* || $so_far == *" $it "* ]] || wrong "$crate was proved before $it"
+        done
+        so_far+="$crate "
+    done <"$room/bin/proved"
+}
+
+# with_those_above CRATE: fills `above` with the crate and all that stand on it
+with_those_above() {
+    local all=("${order[@]}") crate
+    local order
+    above=()
+    for crate in "${all[@]}"; do
+        order=()
+        put_in_order "$crate"
+        if [[ " ${order[*]} " == *" $1 "* ]]; then
+            above+=("$crate")
+        fi
+    done
+}
+
+# The rattle in its place fails where a crate is proved before one below it.
+build_proves_each_crate_once() {
+    local crate number=0
+    begin_anew
+    calls 0 env CDPATH="$tree" ./build_by_link
+    proved "${order[@]}"
+    for crate in "${order[@]}"; do
+        number=$((number + 1))
+        grep -qE "^[0-9]+ of ${#order[@]} $crate proved, [0-9]+ s$" "$room/errors" || wrong "./build has no line of $crate"
+        grep -q "^$number of " "$room/errors" || wrong "./build has no line $number"
+        [[ -e $tree/crates/$crate/out/built/stamp && ! -e $tree/crates/$crate/out/part ]] || wrong "./build left $crate half made"
+    done
+    calls 0 env PATH="$room/tools" ./flow_by_link after build
+    writes output "built: after,build"
+    calls 0 ./build_by_link
+    proved "${order[@]}"
+}
+
+# root_of CRATE: prints the file at its root
+root_of() { [[ $1 == "$program_crate" ]] && echo src/main.rt || echo src/lib.rt; }
+
+# builds_after_edit CRATE FILE: an edit of the file of this crate leaves the others below and beside it as they are
+builds_after_edit() {
+    local above
+    begin_anew
+    mkdir -p "$(dirname -- "$tree/crates/$1/$2")"
+    echo "// edited" >>"$tree/crates/$1/$2"
+    with_those_above "$1"
+    calls 0 ./build_by_link
+    proved "${above[@]}"
+}
+
+edit_proves_what_stands_on_it() {
+    local above low=${order[0]} middle=${order[${#order[@]} / 2]}
+    builds_after_edit "$low" src/lib.rt
+    builds_after_edit "$middle" proofs/Added.antt
+    builds_after_edit "$middle" specs/Added.antt
+    builds_after_edit "$program_crate" src/main.rt
+    begin_anew
+    rm "$tree/crates/$middle/proofs/Added.antt"
+    sed -i "s/^$program_crate:.*/& num_traits/" "$tree/crates.txt"
+    touch "$tree/crates/$low/src/lib.rt" "$tree/HANDLES"
+    with_those_above "$middle"
+    calls 0 ./build_by_link
+    proved "${above[@]}"
+    cp "$top/crates.txt" "$tree/crates.txt"
+    begin_anew
+    calls 0 ./build_by_link
+    proved "$program_crate"
+    begin_anew
+    echo "another toolchain" >"$room/bin/version"
+    calls 0 ./build_by_link
+    proved "${order[@]}"
+    # (a library that is made again may be another)
+    rm -r "$tree/crates/$middle/out"
+    with_those_above "$middle"
+    begin_anew
+    calls 0 ./build_by_link
+    proved "${above[@]}"
+}
+
+# The rattle in its place lets each of two crates that stand on the lowest alone wait until the other has begun.
+crates_are_proved_side_by_side() {
+    local crate below pair=()
+    for crate in "${order[@]:1}"; do
+        read -ra below <<<"${uses[$crate]}"
+        if [[ ${below[*]} == "${order[0]}" ]]; then
+            pair+=("$crate")
+        fi
+    done
+    if ((${#pair[@]} < 2 || $(awk '/^MemAvailable:/ { print $2 }' /proc/meminfo) < 8 * 1024 * 1024)); then
+        echo "newcomer: skipped: two crates side by side, for want of such crates or of memory"
+        return
+    fi
+    printf '#!/bin/sh\necho 4\n' >"$room/bin/nproc"
+    chmod +x "$room/bin/nproc"
+    printf '%s\n' "${pair[@]:0:2}" >"$room/bin/meet"
+    builds_after_edit "${order[0]}" src/lib.rt
+    # (this one has nothing beside it)
+    grep -qE "^${order[0]} [2-4]$" "$room/bin/jobs" || wrong "processors stay idle beside ${order[0]}"
+    # After a failure what runs goes on to its end.
+    rm "$room/bin/begun_"*
+    echo "${pair[0]}" >"$room/bin/fails"
+    for crate in "${pair[@]:0:2}"; do
+        echo "// edited" >>"$tree/crates/$crate/src/lib.rt"
+    done
+    begin_anew
+    fails_at "${pair[0]}" "the prover refuses ${pair[0]}"
+    proved "${pair[1]}"
+    rm "$room"/bin/{nproc,meet,fails}
+    calls 0 ./build_by_link
+}
+
+# The program, its man page and its completions stand where a shell looks, under a prefix or under home; other words are refused.
+install_puts_all_in_place() {
+    local file
+    begin_anew
+    calls 0 ./build_by_link --install "a prefix"
+    [[ ! -e $room/bin/proved ]] || wrong "--install proves again what was proved"
+    (cd -- "$top/share" && find . -type f) >"$room/files"
+    while IFS= read -r file; do
+        cmp -s "$top/share/$file" "$elsewhere/a prefix/share/$file" || wrong "--install does not bring $file"
+    done <"$room/files"
+    calls 0 env PATH="$room/tools" "$elsewhere/a prefix/bin/flow" by itself
+    writes output "built: by,itself"
+    calls 0 env HOME="$room/home" ./build_by_link --install
+    [[ -x $room/home/.local/bin/flow ]] || wrong "--install without a prefix brings nothing to ~/.local"
+    calls 2 ./build_by_link --fast
+    writes errors "build: its words are: [--install [PREFIX] | --c]"
+}
