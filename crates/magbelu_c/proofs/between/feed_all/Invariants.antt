@@ -1,0 +1,17 @@
+use Rattle.std.proofs.Common.{◌≡◌, drop}
+use Rattle.stream_model.specs.Network.{State}
+use Rattle.graph_file.specs.Blocks.{drafted}
+use Rattle.flow.specs.declared.raw_fault.RawFault.{RawFault}
+use Rattle.flow.specs.Session.{in_state}
+use Rattle.magbelu_c.specs.Between.{AreFed, AreMisfed}
+use Rattle.magbelu_c.proofs.between.feed_all.Given as goal
+
+-- whatever comes of the inputs that are left comes of all
+abbrev pub invariant-loop-number : goal.invariant-loop-number
+invariant-loop-number l = record {
+  same : l.run ≡ in_state l.initial.run l.run.state;
+  fed : (last : State) → AreFed (drafted l.initial.run.graph) l.order l.number (drop l.number l.inputs) l.run.state last →
+      AreFed (drafted l.initial.run.graph) l.order 0 l.inputs l.initial.run.state last;
+  misfed : (fault : RawFault) → AreMisfed (drafted l.initial.run.graph) l.order l.number (drop l.number l.inputs) l.run.state fault →
+      AreMisfed (drafted l.initial.run.graph) l.order 0 l.inputs l.initial.run.state fault;
+}

@@ -1,0 +1,75 @@
+//! What a call answers.
+
+ghost use Rattle.std.specs.Prelude.{◌≡◌};
+ghost use Rattle.magbelu_c.specs.Answers.{ToldBadly, ToldRaw, ToldWell};
+
+use crate::showing::show;
+use flow::fault::Fault;
+use flow::raw_fault::RawFault;
+use flow::telling::{report, report_raw};
+use script_text::WriteEnd;
+use std::alloc::Global;
+
+/// What came of a call. A text that does not fit its buffer is not written there, and its length is given all the same.
+#[repr(C)]
+#[derive(Clone, Copy, Debug, PartialEq, Eq)]
+pub struct Answer {
+    /// The exit status of the program `flow`: 0; 3 where the run came to rest before its end; 1 for a refusal; 4 where memory ran out.
+    pub status: u32,
+    /// The number of the refusal, or 0.
+    pub number: u32,
+    /// How many bytes the output has.
+    pub output_len: usize,
+    /// How many bytes the line has that tells a refusal.
+    pub error_len: usize,
+}
+
+/// A call was done with a text.
+pub(crate) fn well(status: u8, text: &[u8], output: &mut [u8]) -> Answer
+    ensures { ToldWell text.now status output.old output.new result }
+{
+    show(text, output);
+    Answer {
+        status: u32::from(status),
+        number: 0,
+        output_len: text.len(),
+        error_len: 0,
+    }
+}
+
+/// A call was not done, and a text was made before.
+pub(crate) fn badly(
+    alloc: Global,
+    fault: &Fault,
+    text: &[u8],
+    output: &mut [u8],
+    error: &mut [u8],
+) -> Answer
+    ensures { ToldBadly text.now fault.now output.old output.new error.old error.new result }
+{
+    let mut line = WriteEnd::new(Vec::new(alloc));
+    report(fault, &mut line);
+    show(text, output);
+    show(&line.writer, error);
+    Answer {
+        status: u32::from(fault.status()),
+        number: fault.number(),
+        output_len: text.len(),
+        error_len: line.writer.len(),
+    }
+}
+
+/// A run with raw items was not done.
+pub(crate) fn badly_raw(alloc: Global, fault: &RawFault, error: &mut [u8]) -> Answer
+    ensures { ToldRaw fault.now error.old error.new result }
+{
+    let mut line = WriteEnd::new(Vec::new(alloc));
+    report_raw(fault, &mut line);
+    show(&line.writer, error);
+    Answer {
+        status: u32::from(fault.status()),
+        number: fault.number(),
+        output_len: 0,
+        error_len: line.writer.len(),
+    }
+}

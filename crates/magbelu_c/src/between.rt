@@ -1,0 +1,188 @@
+//! Runs between bytes of raw items.
+
+ghost use Rattle.std.specs.Prelude.{◌≡◌, ◌+◌, ◌++◌, ◌⊎◌, Err, IfOk, IfErr, OnOk};
+ghost use Rattle.graph_file.specs.Blocks.{drafted};
+ghost use Rattle.flow.specs.declared.fault.Fault.TheVariants.{Script};
+ghost use Rattle.flow.specs.declared.script.ScriptFault.TheVariants.{Memory};
+ghost use Rattle.flow.specs.declared.raw_fault.RawFault.TheVariants.{Whole};
+ghost use Rattle.flow.specs.RawFeeds.{raw_writes};
+ghost use Rattle.flow.specs.Session.{in_state};
+ghost use Rattle.magbelu_c.specs.Between.{AreFed, AreHeld, AreMisfed, FailsBetween, IsFed, IsMisfed, IsMisnamed, IsTaken, RunsBetween, output_bytes, sink_of};
+
+use crate::tables::{Input, Output};
+use flow::ran_raw::RanRaw;
+use flow::raw_fault::{EndPlace, RawFault};
+use flow::raw_run::{RawRun, sink_named, source_named};
+use flowgraph::{BlockId, Valid};
+use kinds::Kind;
+use plant::Unwatched;
+use raw_items::ByteOrder;
+use script_text::{ReadEnd, WriteEnd};
+use std::alloc::{AllocError, Global};
+
+/// What a run gives: the bytes of all outputs, one behind the other, and how many each has.
+#[derive(Drop)]
+pub(crate) struct Given {
+    pub(crate) status: u8,
+    pub(crate) lens: Vec<u64>,
+    pub(crate) bytes: Vec<u8>,
+}
+
+/// Runs the graph of a file that is fed these inputs.
+pub(crate) fn run_between(
+    alloc: Global,
+    file: &[u8],
+    order: ByteOrder,
+    inputs: &[Input<'_>],
+    outputs: &[Output<'_>],
+) -> Result<Given, RawFault>
+    ensures runs { IfOk result (λ given. RunsBetween file.now order inputs.now outputs.now given.lens.items given.bytes.items given.status) }
+    ensures fails { IfErr result (FailsBetween file.now order inputs.now outputs.now) }
+{
+    let mut run = match RawRun::open(alloc, file) {
+        Ok(run) => run,
+        Err(fault) => return Err(fault),
+    };
+    if let Err(fault) = feed_all(alloc, &mut run, order, inputs) {
+        return Err(fault);
+    }
+    // A name that is none is told before the run.
+    if let Err(fault) = test_names(run.graph(), outputs) {
+        return Err(fault);
+    }
+    let ran = match run.run_alone(alloc, &mut Unwatched) {
+        Ok(ran) => ran,
+        Err(refusal) => return Err(RawFault::from(refusal)),
+    };
+    let status = ran.status();
+    match take_all(alloc, &ran, order, outputs) {
+        Ok((lens, bytes)) => Ok(Given {
+            status,
+            lens,
+            bytes,
+        }),
+        Err(fault) => Err(fault),
+    }
+}
+
+// Feeds the inputs, one after the other.
+fn feed_all(
+    alloc: Global,
+    run: &mut RawRun,
+    order: ByteOrder,
+    inputs: &[Input<'_>],
+) -> Result<(), RawFault>
+    ensures same { run.new ≡ in_state run.old run.new.state }
+    ensures fed { OnOk result (AreFed (drafted run.old.graph) order 0 inputs.now run.old.state run.new.state) }
+    ensures misfed { IfErr result (AreMisfed (drafted run.old.graph) order 0 inputs.now run.old.state) }
+{
+    for (number, input) in inputs.iter().enumerate() {
+        if let Err(fault) = feed(alloc, run, order, number, input) {
+            return Err(fault);
+        }
+    }
+    Ok(())
+}
+
+fn feed(
+    alloc: Global,
+    run: &mut RawRun,
+    order: ByteOrder,
+    number: usize,
+    input: &Input<'_>,
+) -> Result<(), RawFault>
+    ensures same { run.new ≡ in_state run.old run.new.state }
+    ensures fed { OnOk result (IsFed (drafted run.old.graph) order number input.now run.old.state run.new.state) }
+    ensures misfed { IfErr result (IsMisfed (drafted run.old.graph) order number input.now run.old.state) }
+{
+    match source_named(run.graph(), EndPlace::Input(number), input.name) {
+        Ok(source) => {
+            let mut bytes = ReadEnd::new(input.bytes);
+            run.feed_from(alloc, number, source, order, &mut bytes)
+        }
+        Err(fault) => Err(fault),
+    }
+}
+
+// Whether each output names a sink.
+fn test_names(graph: &Valid<Kind>, outputs: &[Output<'_>]) -> Result<(), RawFault>
+    ensures misnamed { IfErr result (IsMisnamed (drafted graph.now) 0 outputs.now) }
+{
+    for (number, output) in outputs.iter().enumerate() {
+        if let Err(fault) = sink_named(graph, EndPlace::Output(number), output.name) {
+            return Err(fault);
+        }
+    }
+    Ok(())
+}
+
+// What the sinks hold, one behind the other, and how many bytes that is of each.
+fn take_all(
+    alloc: Global,
+    ran: &RanRaw,
+    order: ByteOrder,
+    outputs: &[Output<'_>],
+) -> Result<(Vec<u64>, Vec<u8>), RawFault>
+    ensures held { IfOk result (λ given. AreHeld (drafted ran.now.graph) ran.now.state order 0 outputs.now given.0.items given.1.items) }
+    ensures fails { IfErr result (λ fault. (fault ≡ Whole (Script Memory)) ⊎ IsMisnamed (drafted ran.now.graph) 0 outputs.now fault) }
+{
+    let mut lens = Vec::new(alloc);
+    let mut bytes = WriteEnd::new(Vec::new(alloc));
+    for (number, output) in outputs.iter().enumerate() {
+        let start = bytes.writer.len();
+        if let Err(fault) = take(alloc, ran, order, number, output, &mut bytes) {
+            return Err(fault);
+        }
+        let len = bytes.writer.len() - start;
+        if lens.push(len as u64).is_err() {
+            return Err(RawFault::from(AllocError));
+        }
+    }
+    Ok((lens, bytes.writer))
+}
+
+// Appends what an output is to have.
+fn take(
+    alloc: Global,
+    ran: &RanRaw,
+    order: ByteOrder,
+    number: usize,
+    output: &Output<'_>,
+    bytes: &mut WriteEnd<Vec<u8>>,
+) -> Result<(), RawFault>
+    requires { bytes.old.failures ≡ 0 }
+    ensures taken { OnOk result (IsTaken (drafted ran.now.graph) ran.now.state order number output.now bytes.old.writer.items bytes.new.writer.items) }
+    ensures counted { OnOk result (bytes.new.failures ≡ 0) }
+    ensures fails { IfErr result (λ fault. (fault ≡ Whole (Script Memory)) ⊎ (sink_of (drafted ran.now.graph) number output.now ≡ Err fault)) }
+{
+    let place = EndPlace::Output(number);
+    let sink = match sink_named(ran.graph(), place, output.name) {
+        Ok(sink) => sink,
+        Err(fault) => return Err(fault),
+    };
+    match write(alloc, ran, order, place, output, sink, bytes) {
+        Ok(()) => Ok(()),
+        // Of a sink nothing but memory can be wanting.
+        Err(_) => Err(RawFault::from(AllocError)),
+    }
+}
+
+fn write(
+    alloc: Global,
+    ran: &RanRaw,
+    order: ByteOrder,
+    place: EndPlace,
+    output: &Output<'_>,
+    sink: BlockId,
+    bytes: &mut WriteEnd<Vec<u8>>,
+) -> Result<(), RawFault>
+    requires { bytes.old.failures ≡ 0 }
+    ensures written { OnOk result (bytes.new.writer.items ≡ bytes.old.writer.items ++ output_bytes (drafted ran.now.graph) ran.now.state order output.now sink) }
+    ensures counted { bytes.new.failures ≡ bytes.old.failures + raw_writes result }
+{
+    if output.tags == 0 {
+        ran.write_items(alloc, place, sink, order, bytes)
+    } else {
+        ran.write_tags(alloc, place, sink, bytes)
+    }
+}

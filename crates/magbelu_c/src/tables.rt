@@ -1,0 +1,20 @@
+//! Tables that a caller in C hands in.
+
+/// What is appended to the tape of a source: the items that these bytes are.
+#[repr(C)]
+#[derive(Drop)]
+pub struct Input<'a> {
+    /// The name of the source.
+    pub name: &'a [u8],
+    pub bytes: &'a [u8],
+}
+
+/// What is asked of a sink.
+#[repr(C)]
+#[derive(Drop)]
+pub struct Output<'a> {
+    /// The name of the sink.
+    pub name: &'a [u8],
+    /// 0 for the bytes of its items, and any other number for a line for each of its tags.
+    pub tags: u32,
+}

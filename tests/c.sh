@@ -1,0 +1,118 @@
+#!/usr/bin/env bash
+# The library for C, where ./build --c has built it from these sources: c/magbelu.h compiles as C99 and as C++, and over each example and graph file of tests/ the
+# calls from C, with the sanitizers, and from Python give what is expected, and where ./flow is built what it gives. Elsewhere it only compiles the header.
+set -euo pipefail
+# shellcheck source=scripts/program.sh
+source "$(dirname -- "$(readlink -f -- "${BASH_SOURCE[0]}")")/../scripts/program.sh"
+
+room=$(mktemp -d)
+trap 'rm -rf -- "$room"' EXIT
+
+wrong() {
+    echo "c: $1" >&2
+    exit 1
+}
+
+# compiles_header: as C99 and as C++, with all warnings
+compiles_header() {
+    printf '#include "magbelu.h"\nint main(void) { return (int)magbelu_version() - MAGBELU_VERSION; }\n' >"$room/header.c"
+    cc -std=c99 -pedantic -Wall -Wextra -Werror -I"$top/c" -c "$room/header.c" -o "$room/header.o"
+    if command -v c++ >/dev/null; then
+        c++ -x c++ -std=c++11 -pedantic -Wall -Wextra -Werror -I"$top/c" -c "$room/header.c" -o "$room/header.o"
+    fi
+}
+
+# calls STATUS WORD..: the program in C ends so
+calls() {
+    local wanted=$1 status=0
+    shift
+    "$room/calls" "$@" >"$room/output" 2>"$room/errors" || status=$?
+    [[ $status == "$wanted" ]] || wrong "calls $*: status $status in place of $wanted: $(head -n 5 "$room/errors")"
+}
+
+# as_flow WORD..: the call just made wrote what ./flow writes with these words, where that is built
+as_flow() {
+    local status=0
+    if is_fresh; then
+        "$program" "$@" >"$room/flow_output" 2>"$room/flow_errors" || status=$?
+        cmp -s "$room/output" "$room/flow_output" && cmp -s "$room/errors" "$room/flow_errors" || wrong "flow $* writes something else"
+    fi
+}
+
+# example FOLDER: what is expected of it
+example() {
+    local graph=$1/graph.toml
+    if [[ -e $1/script ]]; then
+        calls 0 script "$graph" "$1/script"
+        cmp -s "$room/output" "$1/expected" || wrong "the script of $1"
+    fi
+    if [[ -e $1/expected_check ]]; then
+        calls 0 check "$graph"
+        cmp -s "$room/output" "$1/expected_check" || wrong "the check of $1"
+    fi
+    if [[ -e $1/expected_run ]]; then
+        calls "$([[ $(tail -n 1 "$1/expected_run") == stalled ]] && echo 3 || echo 0)" run "$graph"
+        cmp -s "$room/output" "$1/expected_run" || wrong "the run of $1"
+    fi
+}
+
+# graph FILE: what ./flow writes of it
+graph() {
+    local status=0
+    for call in check run; do
+        "$room/calls" "$call" "$1" >"$room/output" 2>"$room/errors" || status=$?
+        ((status < 5)) || wrong "$call $1: $(head -n 5 "$room/errors")"
+        if [[ $call == run ]]; then
+            as_flow run --one-thread "$1"
+        else
+            as_flow check "$1"
+        fi
+    done
+}
+
+# A thousand shorts go through a block that adds 1, with the lowest byte first and with the highest.
+raw_items() {
+    cat >"$room/chain.toml" <<'END'
+block = [{ name = "src", kind = "vector_source", type = "short" }, { name = "add", kind = "add_const", type = "short", value = 1 },
+    { name = "out", kind = "vector_sink", type = "short" }]
+connect = [{ from = "src", to = "add" }, { from = "add", to = "out" }]
+END
+    awk 'BEGIN { for (i = 0; i < 1000; i++) printf "%c%c", 65 + i % 26, 97 + i % 26 }' >"$room/in"
+    awk 'BEGIN { for (i = 0; i < 1000; i++) printf "%c%c", 66 + i % 26, 97 + i % 26 }' >"$room/low"
+    awk 'BEGIN { for (i = 0; i < 1000; i++) printf "%c%c", 65 + i % 26, 98 + i % 26 }' >"$room/high"
+    calls 0 items "$room/chain.toml" -i src="$room/in" -o out="$room/got"
+    cmp -s "$room/got" "$room/low" || wrong "raw items with the lowest byte first"
+    calls 0 items "$room/chain.toml" -b -i src="$room/in" -o out="$room/got" -t out="$room/tags"
+    cmp -s "$room/got" "$room/high" || wrong "raw items with the highest byte first"
+    [[ ! -s $room/tags ]] || wrong "tags that nobody fed"
+    calls 0 items "$top/examples/echo/graph.toml" -t out="$room/got"
+    printf '@1:mark=7/0\n@3:mark=7/0\n' | cmp -s - "$room/got" || wrong "the tags of examples/echo"
+}
+
+if ! command -v cc >/dev/null; then
+    echo "c: left out: this machine has no C compiler"
+    exit
+fi
+compiles_header
+if ! is_fresh "$c_folder/libmagbelu.a" "$c_crate"; then
+    echo "c: the header compiles; the calls are left out, since ./build --c has not built them from these sources"
+    exit
+fi
+cc -std=c99 -pedantic -Wall -Wextra -Werror -g -fsanitize=address,undefined -fno-sanitize-recover=undefined -I"$top/c" "$top/tests/c/calls.c" \
+    "$c_folder/libmagbelu.a" -o "$room/calls"
+calls 0 wrong
+for folder in "$top"/examples/*/; do
+    if [[ -e ${folder}graph.toml ]]; then
+        example "${folder%/}"
+    fi
+done
+for file in "$top"/tests/graphs/*.toml; do
+    graph "$file"
+done
+raw_items
+echo "c: the calls from C are as they must be"
+if [[ -e $c_folder/libmagbelu.so ]] && command -v python3 >/dev/null; then
+    PYTHONDONTWRITEBYTECODE=1 PYTHONPATH=$top/python MAGBELU_LIBRARY=$c_folder/libmagbelu.so python3 "$top/tests/c/graphs.py" "$top"
+else
+    echo "c: python/magbelu.py is left out, for want of python3 or of libmagbelu.so"
+fi

@@ -1,0 +1,237 @@
+/*
+ * Calls of c/magbelu.h. With `check FILE`, `run FILE`, `script FILE LINES` or `items FILE [-b] [-i NAME=PATH].. [-o NAME=PATH].. [-t NAME=PATH]..` it writes what
+ * the call gives, and ends with its status. With `wrong` it makes calls that are wrong, and tests what they answer.
+ */
+#include <stdio.h>
+#include <stdlib.h>
+#include <string.h>
+
+#include "magbelu.h"
+
+enum { MOST = 16 };
+
+struct text {
+    char *at;
+    size_t len;
+};
+
+static void fail(const char *saying) {
+    fprintf(stderr, "calls: %s\n", saying);
+    exit(99);
+}
+
+static void must(int holds, const char *saying) {
+    if (!holds) {
+        fail(saying);
+    }
+}
+
+/* (malloc(0) may give NULL) */
+static char *room_for(size_t len) {
+    char *at = malloc(len + 1);
+    must(at != NULL, "no memory");
+    return at;
+}
+
+static struct text read_file(const char *path) {
+    struct text text = {NULL, 0};
+    size_t room = 4096, got;
+    FILE *file = fopen(path, "rb");
+    must(file != NULL, path);
+    text.at = room_for(room);
+    while ((got = fread(text.at + text.len, 1, room - text.len, file)) > 0) {
+        text.len += got;
+        if (text.len == room) {
+            char *more = room_for(2 * room);
+            memcpy(more, text.at, text.len);
+            free(text.at);
+            text.at = more;
+            room *= 2;
+        }
+    }
+    fclose(file);
+    return text;
+}
+
+static int end(struct magbelu_answer answer, const char *output, const char *error) {
+    fwrite(output, 1, answer.output_len, stdout);
+    fwrite(error, 1, answer.error_len, stderr);
+    must((answer.number == 0) == (answer.status == 0 || answer.status == 3), "a number without a refusal, or none with one");
+    must((answer.number == 0) == (answer.error_len == 0), "a line without a refusal, or none with one");
+    return (int)answer.status;
+}
+
+static struct magbelu_answer ask(const char *what, struct text file, struct text lines, char *output, size_t output_room, char *error, size_t error_room) {
+    if (strcmp(what, "check") == 0) {
+        return magbelu_check(file.at, file.len, output, output_room, error, error_room);
+    }
+    if (strcmp(what, "run") == 0) {
+        return magbelu_run(file.at, file.len, output, output_room, error, error_room);
+    }
+    return magbelu_script(file.at, file.len, lines.at, lines.len, output, output_room, error, error_room);
+}
+
+/* First with no room, then with just enough. */
+static int texts(const char *what, const char *path, const char *script) {
+    struct text file = read_file(path), lines = {NULL, 0};
+    struct magbelu_answer lengths, answer;
+    char *output, *error;
+    int status;
+    if (script != NULL) {
+        lines = read_file(script);
+    }
+    lengths = ask(what, file, lines, NULL, 0, NULL, 0);
+    output = room_for(lengths.output_len);
+    error = room_for(lengths.error_len);
+    output[lengths.output_len] = 'X';
+    error[lengths.error_len] = 'Y';
+    if (lengths.output_len > 0 && lengths.error_len > 0) {
+        answer = ask(what, file, lines, output, lengths.output_len - 1, error, lengths.error_len - 1);
+        must(memcmp(&answer, &lengths, sizeof answer) == 0, "less room gives another answer");
+    }
+    answer = ask(what, file, lines, output, lengths.output_len, error, lengths.error_len);
+    must(memcmp(&answer, &lengths, sizeof answer) == 0, "more room gives another answer");
+    must(output[lengths.output_len] == 'X' && error[lengths.error_len] == 'Y', "a call writes behind its buffer");
+    status = end(answer, output, error);
+    free(output);
+    free(error);
+    free(file.at);
+    free(lines.at);
+    return status;
+}
+
+static int items(int count, char **words) {
+    struct text file = read_file(words[0]), fed[MOST];
+    struct magbelu_input inputs[MOST];
+    struct magbelu_output outputs[MOST];
+    const char *paths[MOST];
+    uint64_t lens[MOST], place = 0;
+    size_t input_count = 0, output_count = 0, i;
+    uint32_t big_endian = 0;
+    struct magbelu_answer answer;
+    char *bytes, error[4096];
+    int status, at;
+    for (at = 1; at < count; at++) {
+        char *path = strchr(words[at], '=');
+        if (strcmp(words[at], "-b") == 0) {
+            big_endian = 1;
+        } else if (strcmp(words[at], "-i") == 0) {
+            must(++at < count && (path = strchr(words[at], '=')) != NULL && input_count < MOST, "a word of an input");
+            fed[input_count] = read_file(path + 1);
+            inputs[input_count].name = (const uint8_t *)words[at];
+            inputs[input_count].name_len = (size_t)(path - words[at]);
+            inputs[input_count].bytes = (const uint8_t *)fed[input_count].at;
+            inputs[input_count].len = fed[input_count].len;
+            input_count++;
+        } else {
+            outputs[output_count].tags = strcmp(words[at], "-t") == 0;
+            must(++at < count && (path = strchr(words[at], '=')) != NULL && output_count < MOST, "a word of an output");
+            outputs[output_count].name = (const uint8_t *)words[at];
+            outputs[output_count].name_len = (size_t)(path - words[at]);
+            paths[output_count++] = path + 1;
+        }
+    }
+    answer = magbelu_run_items(file.at, file.len, big_endian, inputs, input_count, outputs, output_count, NULL, 0, NULL, 0, error, sizeof error);
+    bytes = room_for(answer.output_len);
+    answer = magbelu_run_items(file.at, file.len, big_endian, inputs, input_count, outputs, output_count, lens, MOST, bytes, answer.output_len, error,
+                               sizeof error);
+    for (i = 0; i < output_count && answer.number == 0; i++) {
+        FILE *output = fopen(paths[i], "wb");
+        must(output != NULL && place + lens[i] <= answer.output_len, "the lengths of the outputs");
+        fwrite(bytes + place, 1, (size_t)lens[i], output);
+        fclose(output);
+        place += lens[i];
+    }
+    must(answer.number != 0 || place == answer.output_len, "the sum of the lengths of the outputs");
+    answer.output_len = 0;
+    status = end(answer, bytes, error);
+    for (i = 0; i < input_count; i++) {
+        free(fed[i].at);
+    }
+    free(bytes);
+    free(file.at);
+    return status;
+}
+
+static const char chain[] = "block = [{ name = \"src\", kind = \"vector_source\", type = \"short\" }, { name = \"add\", kind = \"add_const\", type = \"short\", value = 1 },\n"
+                            "{ name = \"out\", kind = \"vector_sink\", type = \"short\" }]\n"
+                            "connect = [{ from = \"src\", to = \"add\" }, { from = \"add\", to = \"out\" }]\n";
+
+/* is ANSWER STATUS NUMBER OUTPUT_LEN ERROR LINE: whether the answer is this */
+static void is(struct magbelu_answer answer, uint32_t status, uint32_t number, size_t output_len, const char *error, const char *line) {
+    must(answer.status == status && answer.number == number && answer.output_len == output_len, line);
+    must(answer.error_len == strlen(line), line);
+    must(error == NULL || memcmp(error, line, strlen(line)) == 0, line);
+}
+
+static void wrong(void) {
+    static const char null_line[] = "magbelu: refused 54 Null\n";
+    static const char bad_line[] = "close src\nfeed src 1\nnonsense\nclose src\n";
+    static const char refused[] = "feed none 1\nfeed out 1\nfeed src 99999\nread src 0 1\nset src now 1\n";
+    const size_t len = sizeof chain - 1;
+    struct magbelu_input input = {(const uint8_t *)"src", 3, (const uint8_t *)"\1\0\2", 3};
+    struct magbelu_output output = {(const uint8_t *)"out", 3, 0};
+    uint64_t lens[2] = {7, 7};
+    char text[256], error[256];
+    must(magbelu_version() == MAGBELU_VERSION, "the version");
+
+    /* NULL with a length, and without one. */
+    is(magbelu_check(NULL, 1, text, sizeof text, error, sizeof error), 1, 54, 0, error, null_line);
+    is(magbelu_check(chain, len, NULL, 1, error, sizeof error), 1, 54, 0, error, null_line);
+    is(magbelu_run(chain, len, text, sizeof text, NULL, 1), 1, 54, 0, NULL, null_line);
+    is(magbelu_script(chain, len, NULL, 1, text, sizeof text, error, sizeof error), 1, 54, 0, error, null_line);
+    is(magbelu_check(NULL, 0, text, sizeof text, error, sizeof error), 0, 0, strlen("blocks 0\nconnections 0\nrates balanced\n"), NULL, "");
+    is(magbelu_script(chain, len, NULL, 0, NULL, 0, NULL, 0), 0, 0, 0, NULL, "");
+
+    /* Text that is no graph file, and lines that are no script; what does not fit is not written. */
+    is(magbelu_run("\377\0", 2, text, sizeof text, error, sizeof error), 1, 40, 0, error, "flow: refused 40 Syntax\n");
+    memset(error, '-', sizeof error);
+    is(magbelu_run("x", 1, text, sizeof text, error, 23), 1, 40, 0, NULL, "flow: refused 40 Syntax\n");
+    must(error[0] == '-' && error[23] == '-', "a line that does not fit was written");
+    is(magbelu_script(chain, len, bad_line, strlen(bad_line), text, sizeof text, error, sizeof error), 1, 50,
+       strlen("closed 0\nrefused 23\n"), error, "flow: refused 50 BadLine 3\n");
+    must(memcmp(text, "closed 0\nrefused 23\n", 20) == 0, "the replies before a bad line");
+    is(magbelu_script(chain, len, refused, strlen(refused), text, sizeof text, error, sizeof error), 0, 0,
+       5 * strlen("refused 20\n"), NULL, "");
+    must(memcmp(text, "refused 20\nrefused 21\nrefused 24\nrefused 22\nrefused 28\n", 55) == 0, "refusals as replies");
+
+    /* Tables. */
+    is(magbelu_run_items(chain, len, 0, &input, 1, &output, 1, lens, 1, text, sizeof text, error, sizeof error), 1, 53, 0, error,
+       "flow: refused 53 CutItem input 0\n");
+    must(lens[0] == 7, "lengths of a run that was refused");
+    input.len = 2;
+    is(magbelu_run_items(chain, len, 0, &input, 1, &output, 1, lens, 2, text, sizeof text, error, sizeof error), 0, 0, 2, NULL, "");
+    must(text[0] == 2 && text[1] == 0 && lens[0] == 2 && lens[1] == 7, "1 + 1");
+    is(magbelu_run_items(chain, len, 1, &input, 1, &output, 1, lens, 2, text, sizeof text, error, sizeof error), 0, 0, 2, NULL, "");
+    must(text[0] == 1 && text[1] == 1, "256 + 1");
+    text[0] = 'Z';
+    is(magbelu_run_items(chain, len, 0, &input, 1, &output, 1, lens, 2, text, 1, error, sizeof error), 0, 0, 2, NULL, "");
+    must(text[0] == 'Z', "bytes that do not fit were written");
+    is(magbelu_run_items(chain, len, 0, NULL, 0, NULL, 0, NULL, 0, NULL, 0, NULL, 0), 0, 0, 0, NULL, "");
+    is(magbelu_run_items(chain, len, 0, NULL, 1, NULL, 0, NULL, 0, NULL, 0, error, sizeof error), 1, 54, 0, error, null_line);
+    input.name = (const uint8_t *)"none";
+    input.name_len = 4;
+    is(magbelu_run_items(chain, len, 0, &input, 1, &output, 1, lens, 1, text, sizeof text, error, sizeof error), 1, 20, 0, error,
+       "flow: refused 20 NoSuchBlock input 0\n");
+    input.name = (const uint8_t *)"out";
+    input.name_len = 3;
+    is(magbelu_run_items(chain, len, 0, &input, 1, &output, 1, lens, 1, text, sizeof text, error, sizeof error), 1, 21, 0, error,
+       "flow: refused 21 NotSource input 0\n");
+    output.name = (const uint8_t *)"add";
+    is(magbelu_run_items(chain, len, 0, NULL, 0, &output, 1, lens, 1, text, sizeof text, error, sizeof error), 1, 22, 0, error,
+       "flow: refused 22 NotSink output 0\n");
+    output.name = NULL;
+    is(magbelu_run_items(chain, len, 0, NULL, 0, &output, 1, lens, 1, text, sizeof text, error, sizeof error), 1, 54, 0, error, null_line);
+}
+
+int main(int count, char **words) {
+    if (count == 2 && strcmp(words[1], "wrong") == 0) {
+        wrong();
+        return 0;
+    }
+    if (count >= 3 && strcmp(words[1], "items") == 0) {
+        return items(count - 2, words + 2);
+    }
+    must(count == 3 || count == 4, "which call?");
+    return texts(words[1], words[2], count == 4 ? words[3] : NULL);
+}
