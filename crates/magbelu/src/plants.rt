@@ -2,5 +2,5 @@
 
 pub use plant::{
     BlockNeed, Claim, Closed, Did, Fed, Handed, Headway, Job, Need, Opening, Piece, Plant,
-    PlantFault, Settled, Step, Stored, Taken, Unwatched, Watch, Worked, source_type,
+    PlantFault, Settled, SinkView, Step, Stored, Taken, Unwatched, Watch, Worked, source_type,
 };

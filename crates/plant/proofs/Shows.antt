@@ -1,5 +1,6 @@
 -- What a plant shows of a sink is what the machine shows of it.
 use Rattle.std.proofs.Common.{◌≡◌, ℕ, ℤ, ◌<◌, ◌≤◌, ◌+◌, ◌-◌, min, List, length, true, false, refl, arith, ap, sym, ◌∙◌, lt-ltb, le-ltb}
+use Rattle.std.proofs.lemmas.List.{take_all}
 use Rattle.std.specs.Prelude.{slice_range}
 use Rattle.stream_model.specs.Tags.{Tag, tags_within}
 use Rattle.stream_model.specs.Network as model
@@ -64,3 +65,28 @@ module _ (net : Network) (caps : Capacities) (can : CanRun net) (s : Stores) (ps
     pub shown_whole : own.done ≡ true → HoldsAll net (state_of s.handed.items ps) b
     shown_whole done =
         done_piece_is_whole net caps (state_of s.handed.items ps) can keeps.sound b from max from own.firings xs ts (sym shown ∙ ap (λ d. Piece from own.firings xs ts d) done)
+
+-- a sink that is looked at in its place shows what a call shows that reads all of it
+module _ (net : Network) (caps : Capacities) (can : CanRun net) (s : Stores) (ps : List model.Progress) (keeps : Keeps net caps s ps) (b : ℕ) (in' : b < length net.nodes) (keeper : is_keeper (role_at net b) ≡ true)
+    (own : Progress) (own_is : progress_of own ≡ progress_at ps b) (sink : Collected) (sink_is : sink_at (stored_in s) b ≡ sink) where
+  fired_all : own.firings ≡ (progress_at ps b).firings
+  fired_all = ap (λ (p : model.Progress). p.firings) own_is
+
+  view_length : length sink.items ≡ own.firings
+  view_length = sym (ap (λ (x : Collected). length x.items) sink_is) ∙ sink_holds net caps can s ps keeps b 0 (progress_at ps b).firings in' keeper own own_is (omega (arith))
+
+  to_is : own.firings ≡ 0 + min (progress_at ps b).firings (own.firings - 0)
+  to_is = omega (arith, fired_all)
+
+  items_are : sink.items ≡ slice_range (sink_at (stored_in s) b).items 0 own.firings
+  items_are = sym (take_all (own.firings - 0) sink.items (omega (arith, view_length))) ∙ sym (ap (λ (x : Collected). slice_range x.items 0 own.firings) sink_is)
+
+  tags_are : tags_within 0 own.firings sink.tags ≡ tags_within 0 own.firings (sink_at (stored_in s) b).tags
+  tags_are = sym (ap (λ (x : Collected). tags_within 0 own.firings x.tags) sink_is)
+
+  pub view_shown : Piece 0 (length sink.items) sink.items (tags_within 0 own.firings sink.tags) own.done ≡ (read_of net (state_of s.handed.items ps) b 0 (progress_at ps b).firings).0
+  view_shown = ap (λ n. Piece 0 n sink.items (tags_within 0 own.firings sink.tags) own.done) view_length
+      ∙ shown net caps can s ps keeps b 0 (progress_at ps b).firings in' keeper own own_is (omega (arith)) own.firings sink.items (tags_within 0 own.firings sink.tags) to_is items_are tags_are
+
+  pub view_whole : own.done ≡ true → HoldsAll net (state_of s.handed.items ps) b
+  view_whole = shown_whole net caps can s ps keeps b 0 (progress_at ps b).firings in' keeper own own_is (omega (arith)) own.firings sink.items (tags_within 0 own.firings sink.tags) to_is items_are tags_are

@@ -1,7 +1,7 @@
 -- What a call of a plant answers, beside the machine: its reply and its next state, or no memory and nothing changed.
 use Rattle.std.specs.Prelude.{ℕ, ◌≡◌, Option, Some, None, Bool, true, false, not, nat_lt, if◌then◌else◌, length, map, Result, Ok, Err, ⊤}
 use Rattle.stream_model.specs.declared.vocabulary.ItemType.{ItemType}
-use Rattle.stream_model.specs.Network.{Network, State, node_at, role_at, is_source}
+use Rattle.stream_model.specs.Network.{Network, State, node_at, progress_at, role_at, is_source}
 use Rattle.stream_model.specs.Machine as machine
 use Rattle.stream_model.specs.Machine.{Reply, Refused}
 use Rattle.items.specs.Items.{numbers_of}
@@ -12,6 +12,7 @@ use Rattle.firings.specs.declared.decision.Need.{Need}
 use Rattle.firings.specs.declared.decision.Need.TheVariants as need
 use Rattle.items.specs.Tags.{tag_of}
 use Rattle.plant.specs.declared.answers.Piece.{Piece}
+use Rattle.plant.specs.declared.answers.SinkView.{SinkView}
 use Rattle.plant.specs.declared.answers.Claim.{Claim}
 use Rattle.plant.specs.declared.answers.Claim.TheVariants as claim
 use Rattle.plant.specs.declared.answers.Step.{Step}
@@ -106,6 +107,14 @@ IsTaken ok now old new job (Err back) = (now.0 ≡ Refused machine.foreign) × (
 -- what a sink shows, as a reply
 abbrev pub piece_reply : Piece → Reply
 piece_reply p = machine.Piece p.from p.held (numbers_of p.items) (map tag_of p.tags.items) p.done
+
+-- what a view of a sink shows, as a reply
+abbrev pub view_reply : SinkView → Reply
+view_reply v = machine.Piece 0 (length (numbers_of v.items.now)) (numbers_of v.items.now) (map tag_of v.tags.now) v.done
+
+-- the reply to a call that reads all that a sink holds
+abbrev pub view_of : Network → State → ℕ → Reply
+view_of net st b = (machine.read_of net st b 0 (progress_at st.progress b).firings).0
 
 -- the type of the items that a source gives, where the block is one
 abbrev pub source_type_of : Network → ℕ → Result ItemType PlantFault

@@ -72,6 +72,16 @@ pub struct Piece {
     pub done: bool,
 }
 
+/// All that a sink holds, in its place.
+#[derive(Clone, Copy, Debug)]
+pub struct SinkView<'a> {
+    pub items: &'a Items,
+    /// The tags on the items, in order.
+    pub tags: &'a [Tag],
+    /// Whether the sink is done, so that it holds its whole stream.
+    pub done: bool,
+}
+
 /// How a plant came to rest.
 #[derive(Clone, Copy, Debug, PartialEq, Eq)]
 pub enum Settled {

@@ -16,7 +16,9 @@ pub mod settle;
 mod source_tapes;
 mod waits;
 
-pub use answers::{Claim, Closed, Did, Fed, Headway, Piece, Settled, Step, Stored, Taken};
+pub use answers::{
+    Claim, Closed, Did, Fed, Headway, Piece, Settled, SinkView, Step, Stored, Taken,
+};
 pub use checks::source_type;
 pub use fault::PlantFault;
 pub use firings::{BlockNeed, Need};

@@ -1,6 +1,6 @@
 //! The plant.
 
-ghost use Rattle.std.specs.Prelude.{◌≡◌, ◌≤◌, ℕ, List, map, ◌↔◌, true, IsOk, IsTrue, IfOk, IfErr, IfSome};
+ghost use Rattle.std.specs.Prelude.{◌≡◌, ◌≤◌, ℕ, List, map, ◌↔◌, true, IsOk, IsTrue, IfOk, IfErr, IfSome, Some};
 ghost use Rattle.std.specs.Option.{option_map};
 ghost use Rattle.std.specs.Arc.{arc_value};
 ghost use Rattle.std.specs.List.{Any};
@@ -20,7 +20,7 @@ ghost use Rattle.machine_laws.specs.Sound.{Sound};
 ghost use Rattle.machine_laws.specs.Stalls.{AreClosed};
 ghost use Rattle.machine_laws.specs.Waits.{IsOnRing, ring_of};
 ghost use Rattle.stores.specs.Stores.{mark_of};
-ghost use Rattle.plant.specs.Answers.{Answered, AnsweredAlways, AnsweredBy, IsOf, IsTaken, claim_reply, piece_reply, reply_of, source_type_of, step_reply};
+ghost use Rattle.plant.specs.Answers.{Answered, AnsweredAlways, AnsweredBy, IsOf, IsTaken, claim_reply, piece_reply, reply_of, source_type_of, step_reply, view_of, view_reply};
 ghost use Rattle.plant.specs.Keeping.{IsKeptOf, port_fault};
 ghost use Rattle.plant.specs.Setting.{fault_in};
 ghost use Rattle.plant.specs.Opening.{opening_plant};
@@ -30,7 +30,9 @@ ghost use Rattle.plant.specs.Headway.{headway_of};
 ghost use Rattle.plant.specs.Runs.{Made, Leads, IsRun};
 ghost use Rattle.plant.specs.Waits.{need_of, wait_in};
 
-use crate::answers::{Claim, Closed, Did, Fed, Headway, Piece, Settled, Step, Stored, Taken};
+use crate::answers::{
+    Claim, Closed, Did, Fed, Headway, Piece, Settled, SinkView, Step, Stored, Taken,
+};
 use crate::checks::source_type;
 use crate::fault::PlantFault;
 use crate::handed::{Handed, Opening};
@@ -215,6 +217,16 @@ impl<B: Block> Plant<B> {
         ensures whole { IfOk result (λ piece. piece.done ≡ true → HoldsAll (net_of B.meaning self.now.graph) self.now.state sink.0) }
     {
         self.parts.read(alloc, sink, from, max)
+    }
+
+    /// All that a sink holds, with the tags on it, in its place: nothing is copied, and it takes no memory. Refused are `NoSuchBlock` and `NotSink`. A
+    /// view that says done is of a sink that holds all.
+    pub fn view(&self, sink: BlockId) -> Result<SinkView<'_>, PlantFault>
+        ensures answered { reply_of view_reply result ≡ Some (view_of (net_of B.meaning self.now.graph) self.now.state sink.0) }
+        ensures typed { IfOk result (λ view. type_of view.items.now ≡ (node_at (net_of B.meaning self.now.graph) sink.0).meaning.inputs.item) }
+        ensures whole { IfOk result (λ view. view.done ≡ true → HoldsAll (net_of B.meaning self.now.graph) self.now.state sink.0) }
+    {
+        self.parts.view(sink)
     }
 
     /// How many unread items the buffer of an output holds at most: the capacity that was asked for, or more where the graph needs more. Refused

@@ -1,16 +1,16 @@
 //! What a plant shows.
 
-ghost use Rattle.std.specs.Prelude.{◌≡◌, true, IfOk};
+ghost use Rattle.std.specs.Prelude.{◌≡◌, true, IfOk, Some};
 ghost use Rattle.stream_model.specs.Machine.{capacity_at, read_of, HoldsAll};
 ghost use Rattle.stream_model.specs.Network.{node_at};
 ghost use Rattle.items.specs.Items.{type_of};
 ghost use Rattle.flowgraph.specs.Flowgraph.{net_of};
 ghost use Rattle.plant.specs.Plant.{IsRight, plant_of};
-ghost use Rattle.plant.specs.Answers.{AnsweredBy, reply_of, piece_reply};
+ghost use Rattle.plant.specs.Answers.{AnsweredBy, reply_of, piece_reply, view_of, view_reply};
 ghost use Rattle.plant.specs.Keeping.{IsKeptOf, port_fault};
 ghost use Rattle.plant.specs.Setting.{fault_in};
 
-use crate::answers::{Piece, Stored};
+use crate::answers::{Piece, SinkView, Stored};
 use crate::fault::PlantFault;
 use crate::parts::Parts;
 use flowgraph::{Block, BlockId};
@@ -49,6 +49,29 @@ impl<B: Block> Parts<B> {
             held: own.firings,
             items,
             tags,
+            done: own.done,
+        })
+    }
+
+    /// All that a sink holds, in its place.
+    pub fn view(&self, sink: BlockId) -> Result<SinkView<'_>, PlantFault>
+        requires { IsRight B.meaning self.now }
+        ensures answered { let plant = plant_of self.now in reply_of view_reply result ≡ Some (view_of (net_of B.meaning plant.graph) plant.state sink.0) }
+        ensures typed { let plant = plant_of self.now in IfOk result (λ view. type_of view.items.now ≡ (node_at (net_of B.meaning plant.graph) sink.0).meaning.inputs.item) }
+        ensures whole { let plant = plant_of self.now in IfOk result (λ view. view.done ≡ true → HoldsAll (net_of B.meaning plant.graph) plant.state sink.0) }
+    {
+        self.graph.in_order();
+        if self.graph.len() <= sink.0 as usize {
+            return Err(PlantFault::NoSuchBlock);
+        }
+        if !self.graph.is_keeper(sink) {
+            return Err(PlantFault::NotSink);
+        }
+        let own = self.firings.progress(sink);
+        let collected = &self.stores.sinks[sink.0 as usize];
+        Ok(SinkView {
+            items: collected.items(),
+            tags: collected.tags(0, own.firings),
             done: own.done,
         })
     }
