@@ -5,6 +5,8 @@ pub mod Lanes
 pub mod Listed
 pub mod Parts
 pub mod Products
+pub mod Runs
 pub mod Scaled
+pub mod Seconds
 pub mod SignedLanes
 pub mod Wrapped

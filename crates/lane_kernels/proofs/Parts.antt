@@ -65,7 +65,7 @@ part_zip number f at n a b e =
     (λ i. zip2 f (map_part number at n a i) (map_part number at n b i)) ∙ sym (take-zip2 f n (drop at (map number a)) (drop at (map number b)))
     ∙ ap (take n) (sym (drop-zip2 f at (map number a) (map number b) (length-map a number ∙ sym e ∙ sym (length-map b number))))
 
-take_two : {X : Type 0} (n m : ℕ) (xs : List X) → take (n + m) xs ≡ take n xs ++ take m (drop n xs)
+pub take_two : {X : Type 0} (n m : ℕ) (xs : List X) → take (n + m) xs ≡ take n xs ++ take m (drop n xs)
 take_two zero m xs = let e : 0 + m ≡ m = omega arith in ap (λ k. take k xs) e
 take_two (suc n) m [] = let e : suc n + m ≡ suc (n + m) = omega arith in ap (λ k. take k []) e ∙ sym (take_all m [] (omega arith))
 take_two (suc n) m (x ∷ xs) = let e : suc n + m ≡ suc (n + m) = omega arith in ap (λ k. take k (x ∷ xs)) e ∙ ap (λ ys. x ∷ ys) (take_two n m xs)

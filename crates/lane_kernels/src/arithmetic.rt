@@ -1,9 +1,10 @@
 //! Sums and products of items.
-ghost use Rattle.std.specs.Prelude.{◌≡◌, ◌≤◌, length, map, ◌+ℤ◌, ◌*ℤ◌};
+ghost use Rattle.std.specs.Prelude.{◌≡◌, ◌≤◌, ◌+◌, ◌++◌, length, map, ◌+ℤ◌, ◌*ℤ◌, vec_len, vec_capacity};
 ghost use Rattle.stream_model.specs.Kernels;
 ghost use Rattle.stream_model.specs.Numbers.{wrap};
 
 use crate::SimdLane;
+use crate::appending::{append_map, append_zip};
 use crate::blocks::{MapBlock, ZipBlock, map_blocks, zip_blocks};
 
 struct Sum;
@@ -122,4 +123,50 @@ pub fn scale_sat<T: SimdLane>(a: &[T], factor: i16, shift: u32, out: &mut [T])
     ensures { map T.number out.new ≡ Kernels.scale_sat T.kind (map T.number a.now) factor shift }
 {
     map_blocks(&Scaling { factor, shift }, a, out);
+}
+
+/// Appends the sums of the items of `a` and `b`, wrapped, where the capacity has room.
+#[inline(always)]
+pub fn append_add_wrap<T: SimdLane>(a: &[T], b: &[T], out: &mut Vec<T>)
+    requires same_length { length a.now ≡ length b.now }
+    requires room { vec_len out.old + length a.now ≤ vec_capacity out.old }
+    ensures items { map T.number out.new.items ≡ map T.number out.old.items ++ Kernels.add_wrap T.kind (map T.number a.now) (map T.number b.now) }
+    ensures len { vec_len out.new ≡ vec_len out.old + length a.now }
+    ensures capacity { vec_capacity out.old ≤ vec_capacity out.new }
+{
+    append_zip::<T, Sum>(a, b, out);
+}
+
+/// Appends each item plus `c`, wrapped, where the capacity has room.
+#[inline(always)]
+pub fn append_add_const_wrap<T: SimdLane>(a: &[T], c: T, out: &mut Vec<T>)
+    requires room { vec_len out.old + length a.now ≤ vec_capacity out.old }
+    ensures items { map T.number out.new.items ≡ map T.number out.old.items ++ Kernels.add_const_wrap T.kind (map T.number a.now) (T.number c) }
+    ensures len { vec_len out.new ≡ vec_len out.old + length a.now }
+    ensures capacity { vec_capacity out.old ≤ vec_capacity out.new }
+{
+    append_map(&Offset { by: c }, a, out);
+}
+
+/// Appends each item times `c`, wrapped, where the capacity has room.
+#[inline(always)]
+pub fn append_mul_wrap<T: SimdLane>(a: &[T], c: T, out: &mut Vec<T>)
+    requires room { vec_len out.old + length a.now ≤ vec_capacity out.old }
+    ensures items { map T.number out.new.items ≡ map T.number out.old.items ++ Kernels.mul_wrap T.kind (map T.number a.now) (T.number c) }
+    ensures len { vec_len out.new ≡ vec_len out.old + length a.now }
+    ensures capacity { vec_capacity out.old ≤ vec_capacity out.new }
+{
+    append_map(&Multiple { by: c }, a, out);
+}
+
+/// Appends each item, scaled as by `scale_sat`, where the capacity has room.
+#[inline(always)]
+pub fn append_scale_sat<T: SimdLane>(a: &[T], factor: i16, shift: u32, out: &mut Vec<T>)
+    requires in_range { shift ≤ 31 }
+    requires room { vec_len out.old + length a.now ≤ vec_capacity out.old }
+    ensures items { map T.number out.new.items ≡ map T.number out.old.items ++ Kernels.scale_sat T.kind (map T.number a.now) factor shift }
+    ensures len { vec_len out.new ≡ vec_len out.old + length a.now }
+    ensures capacity { vec_capacity out.old ≤ vec_capacity out.new }
+{
+    append_map(&Scaling { factor, shift }, a, out);
 }

@@ -5,11 +5,9 @@ ghost use Rattle.std.specs.Simd.Lanes.{zip2};
 ghost use Rattle.lane_kernels.specs.Blocks.{IsBlock};
 ghost use Rattle.lane_kernels.specs.declared.simd_lane.TheConstants.{MOST_LANES};
 
+use crate::turns::TURN;
 use crate::{MOST_LANES, SimdLane};
 use numbers::vectors::are_in_range;
-
-/// How many items a turn of the loop over a slice takes.
-const TURN: usize = 16;
 
 /// An operation that makes an item from one.
 pub(crate) trait MapBlock<T: SimdLane, U: SimdLane> {
@@ -76,7 +74,7 @@ fn map_last<T: SimdLane, U: SimdLane, M: MapBlock<T, U>>(op: &M, a: &[T], out: &
 
 /// The same block by block, each stored before the next is loaded, and at the end one that overlaps.
 #[inline(always)]
-fn map_steps<T: SimdLane, U: SimdLane, M: MapBlock<T, U>>(op: &M, a: &[T], out: &mut [U])
+pub(crate) fn map_steps<T: SimdLane, U: SimdLane, M: MapBlock<T, U>>(op: &M, a: &[T], out: &mut [U])
     requires { length out.old ≡ length a.now }
     ensures { map U.number out.new ≡ map (M.means op.now) (map T.number a.now) }
 {
@@ -153,7 +151,7 @@ fn zip_last<T: SimdLane, Z: ZipBlock<T>>(a: &[T], b: &[T], out: &mut [T])
 
 /// The same block by block, each stored before the next is loaded, and at the end one that overlaps.
 #[inline(always)]
-fn zip_steps<T: SimdLane, Z: ZipBlock<T>>(a: &[T], b: &[T], out: &mut [T])
+pub(crate) fn zip_steps<T: SimdLane, Z: ZipBlock<T>>(a: &[T], b: &[T], out: &mut [T])
     requires b_length { length b.now ≡ length a.now }
     requires out_length { length out.old ≡ length a.now }
     ensures { map T.number out.new ≡ zip2 Z.means (map T.number a.now) (map T.number b.now) }

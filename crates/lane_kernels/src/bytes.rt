@@ -2,6 +2,7 @@
 ghost use Rattle.std.proofs.Common.{rules};
 
 use crate::SimdLane;
+use crate::halves::push_halves;
 use crate::scaling::scaled;
 use std::simd::prelude::*;
 
@@ -50,6 +51,10 @@ impl SimdLane for u8 {
         scaled(products, shift, 0, 255)
             .cast::<u8>()
             .copy_to_slice(out);
+    }
+
+    fn push_seconds(items: &[u8], port: usize, made: &mut Vec<u8>) {
+        push_halves(items, port, made);
     }
 
     ghost has_lane = { Prim.search rules };

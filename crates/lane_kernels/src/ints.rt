@@ -3,6 +3,7 @@ ghost use Rattle.std.proofs.Common.{rules};
 
 use crate::SimdLane;
 use crate::scaling::scaled_wide;
+use crate::streams::push_each;
 use std::simd::prelude::*;
 
 type Block = Simd<i32, 4>;
@@ -50,6 +51,10 @@ impl SimdLane for i32 {
         scaled_wide(products, shift, -2147483648, 2147483647)
             .cast::<i32>()
             .copy_to_slice(out);
+    }
+
+    fn push_seconds(items: &[i32], port: usize, made: &mut Vec<i32>) {
+        push_each(items, items.len() / 2, 2, port, made);
     }
 
     ghost has_lane = { Prim.search rules };

@@ -1,19 +1,25 @@
 //! Arithmetic, logic and conversion over slices of items, a block of lanes at a time.
 #![tactic(auto)]
 
+mod appending;
 pub mod arithmetic;
 mod blocks;
 mod bytes;
 pub mod conversion;
+mod halves;
 mod ints;
 pub mod logic;
 mod scaling;
 mod shorts;
 pub mod simd_lane;
 pub mod streams;
+mod turns;
 
-pub use arithmetic::{add_const_wrap, add_wrap, mul_wrap, scale_sat};
+pub use arithmetic::{
+    add_const_wrap, add_wrap, append_add_const_wrap, append_add_wrap, append_mul_wrap,
+    append_scale_sat, mul_wrap, scale_sat,
+};
 pub use conversion::{NarrowsTo, WidensTo, narrow, widen};
-pub use logic::{and, not, or, xor};
+pub use logic::{and, append_and, append_not, append_or, append_xor, not, or, xor};
 pub use simd_lane::{MOST_LANES, SimdLane};
 pub use streams::{deinterleave, interleave};

@@ -1,9 +1,10 @@
 //! Logic on the bits of items.
-ghost use Rattle.std.specs.Prelude.{◌≡◌, length, map, bit_and, bit_or, bit_xor};
+ghost use Rattle.std.specs.Prelude.{◌≡◌, ◌≤◌, ◌+◌, ◌++◌, length, map, bit_and, bit_or, bit_xor, vec_len, vec_capacity};
 ghost use Rattle.stream_model.specs.Kernels.{and_bits, or_bits, xor_bits, not_bits, turned};
 ghost use Rattle.lane_kernels.specs.Blocks.{joined};
 
 use crate::SimdLane;
+use crate::appending::{append_map, append_zip};
 use crate::blocks::{MapBlock, ZipBlock, map_blocks, zip_blocks};
 
 struct Both;
@@ -96,4 +97,51 @@ pub fn not<T: SimdLane>(a: &[T], out: &mut [T])
     ensures { map T.number out.new ≡ not_bits T.kind (map T.number a.now) }
 {
     map_blocks(&Turn, a, out);
+}
+
+/// Appends the bits that both items have, where the capacity has room.
+#[inline(always)]
+pub fn append_and<T: SimdLane>(a: &[T], b: &[T], out: &mut Vec<T>)
+    requires same_length { length a.now ≡ length b.now }
+    requires room { vec_len out.old + length a.now ≤ vec_capacity out.old }
+    ensures items { map T.number out.new.items ≡ map T.number out.old.items ++ and_bits T.kind (map T.number a.now) (map T.number b.now) }
+    ensures len { vec_len out.new ≡ vec_len out.old + length a.now }
+    ensures capacity { vec_capacity out.old ≤ vec_capacity out.new }
+{
+    append_zip::<T, Both>(a, b, out);
+}
+
+/// Appends the bits that either item has, where the capacity has room.
+#[inline(always)]
+pub fn append_or<T: SimdLane>(a: &[T], b: &[T], out: &mut Vec<T>)
+    requires same_length { length a.now ≡ length b.now }
+    requires room { vec_len out.old + length a.now ≤ vec_capacity out.old }
+    ensures items { map T.number out.new.items ≡ map T.number out.old.items ++ or_bits T.kind (map T.number a.now) (map T.number b.now) }
+    ensures len { vec_len out.new ≡ vec_len out.old + length a.now }
+    ensures capacity { vec_capacity out.old ≤ vec_capacity out.new }
+{
+    append_zip::<T, Either>(a, b, out);
+}
+
+/// Appends the bits that one of two items has alone, where the capacity has room.
+#[inline(always)]
+pub fn append_xor<T: SimdLane>(a: &[T], b: &[T], out: &mut Vec<T>)
+    requires same_length { length a.now ≡ length b.now }
+    requires room { vec_len out.old + length a.now ≤ vec_capacity out.old }
+    ensures items { map T.number out.new.items ≡ map T.number out.old.items ++ xor_bits T.kind (map T.number a.now) (map T.number b.now) }
+    ensures len { vec_len out.new ≡ vec_len out.old + length a.now }
+    ensures capacity { vec_capacity out.old ≤ vec_capacity out.new }
+{
+    append_zip::<T, OneAlone>(a, b, out);
+}
+
+/// Appends the bits that each item lacks, where the capacity has room.
+#[inline(always)]
+pub fn append_not<T: SimdLane>(a: &[T], out: &mut Vec<T>)
+    requires room { vec_len out.old + length a.now ≤ vec_capacity out.old }
+    ensures items { map T.number out.new.items ≡ map T.number out.old.items ++ not_bits T.kind (map T.number a.now) }
+    ensures len { vec_len out.new ≡ vec_len out.old + length a.now }
+    ensures capacity { vec_capacity out.old ≤ vec_capacity out.new }
+{
+    append_map(&Turn, a, out);
 }

@@ -3,6 +3,7 @@ ghost use Rattle.std.proofs.Common.{rules};
 
 use crate::SimdLane;
 use crate::scaling::scaled;
+use crate::streams::push_each;
 use std::simd::prelude::*;
 
 type Block = Simd<i16, 8>;
@@ -51,6 +52,10 @@ impl SimdLane for i16 {
         scaled(products, shift, -32768, 32767)
             .cast::<i16>()
             .copy_to_slice(out);
+    }
+
+    fn push_seconds(items: &[i16], port: usize, made: &mut Vec<i16>) {
+        push_each(items, items.len() / 2, 2, port, made);
     }
 
     ghost has_lane = { Prim.search rules };

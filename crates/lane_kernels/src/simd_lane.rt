@@ -1,10 +1,11 @@
 //! What a number type has so that a block of its items is worked on at once.
-ghost use Rattle.std.specs.Prelude.{◌≡◌, ℕ, ◌<◌, ◌≤◌, length, map, ◌+ℤ◌, ◌*ℤ◌, bit_and, bit_or, bit_xor};
+ghost use Rattle.std.specs.Prelude.{◌≡◌, ℕ, ◌+◌, ◌/◌, ◌<◌, ◌≤◌, ◌++◌, length, map, vec_len, vec_capacity, ◌+ℤ◌, ◌*ℤ◌, bit_and, bit_or, bit_xor};
 ghost use Rattle.std.specs.Simd.Lanes.{zip2};
 ghost use Rattle.std.specs.Mem.{type_size};
 ghost use Rattle.stream_model.specs.Numbers.{wrap};
 ghost use Rattle.stream_model.specs.Kernels.{scaled, turned};
 ghost use Rattle.lane_kernels.specs.Blocks.{IsBlock, joined};
+ghost use Rattle.lane_kernels.specs.Streams.{deinterleaved};
 ghost use Rattle.lane_kernels.specs.declared.simd_lane.TheConstants.{MOST_LANES};
 
 use numbers::Number;
@@ -83,6 +84,13 @@ pub trait SimdLane: Number {
         requires out_block { length out.old ≡ Self.SCALED_LANES }
         ensures { map Self.number out.new ≡
             map (scaled Self.kind factor shift) (map Self.number a.now) };
+
+    /// Appends every second item, the first of them at place `port`, where the capacity has room.
+    fn push_seconds(items: &[Self], port: usize, made: &mut Vec<Self>)
+        requires port { port < 2 }
+        requires room { vec_len made.old + length items.now / 2 ≤ vec_capacity made.old }
+        ensures { map Self.number made.new.items
+            ≡ map Self.number made.old.items ++ deinterleaved (length items.now / 2) 2 port (map Self.number items.now) };
 
     /// A block has an item.
     ghost has_lane: { 0 < LANES };

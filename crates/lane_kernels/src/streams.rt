@@ -3,6 +3,7 @@ ghost use Rattle.std.specs.Prelude.{◌≡◌, ◌≤◌, ◌<◌, ◌+◌, ◌*
 ghost use Rattle.stream_model.specs.Lists.{item};
 ghost use Rattle.lane_kernels.specs.Streams.{interleaved, deinterleaved};
 
+use crate::SimdLane;
 use numbers::Number;
 use std::mem;
 
@@ -62,7 +63,7 @@ fn push_round<T: Number>(streams: &[&[T]], round: usize, made: &mut Vec<T>)
 }
 
 /// Appends the items of one of so many streams that took turns, where the capacity has room.
-pub fn deinterleave<T: Number>(items: &[T], streams: usize, port: usize, out: &mut Vec<T>)
+pub fn deinterleave<T: SimdLane>(items: &[T], streams: usize, port: usize, out: &mut Vec<T>)
     requires port { port < streams }
     requires room { vec_len out.old + length items.now / streams ≤ vec_capacity out.old }
     ensures { map T.number out.new.items ≡ map T.number out.old.items ++ deinterleaved (length items.now / streams) streams port (map T.number items.now) }
@@ -71,7 +72,7 @@ pub fn deinterleave<T: Number>(items: &[T], streams: usize, port: usize, out: &m
     let mut made = mem::replace(out, Vec::new(alloc));
     let count = items.len() / streams;
     match streams {
-        2 => push_each(items, count, 2, port, &mut made),
+        2 => T::push_seconds(items, port, &mut made),
         3 => push_each(items, count, 3, port, &mut made),
         4 => push_each(items, count, 4, port, &mut made),
         8 => push_each(items, count, 8, port, &mut made),
@@ -82,7 +83,13 @@ pub fn deinterleave<T: Number>(items: &[T], streams: usize, port: usize, out: &m
 
 /// Appends so many items, each of them `step` places behind the one before, the first at `port`. A caller that names `step` gets code for it.
 #[inline(always)]
-fn push_each<T: Number>(items: &[T], count: usize, step: usize, port: usize, made: &mut Vec<T>)
+pub(crate) fn push_each<T: Number>(
+    items: &[T],
+    count: usize,
+    step: usize,
+    port: usize,
+    made: &mut Vec<T>,
+)
     requires port { port < step }
     requires there { count * step ≤ length items.now }
     requires room { vec_len made.old + count ≤ vec_capacity made.old }
