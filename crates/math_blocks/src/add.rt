@@ -5,7 +5,7 @@ ghost use Rattle.stream_model.specs.Kinds.Math.{add};
 use crate::joined::{Joins, work_joins};
 use block_kinds::{Block, ByPace, Held, Shape, any_ports, ports};
 use items::{ItemType, Items};
-use lane_kernels::{SimdLane, add_wrap};
+use lane_kernels::{SimdLane, add_wrap, append_add_wrap};
 
 /// The sum of the items of its 1 to 16 inputs, wrapped to their type, as GNU Radio's `add_xx`.
 #[derive(Debug, Drop, PartialEq, Eq)]
@@ -35,6 +35,10 @@ impl Joins for Add {
 
     fn join<T: SimdLane>(a: &[T], b: &[T], out: &mut [T]) {
         add_wrap(a, b, out);
+    }
+
+    fn append<T: SimdLane>(a: &[T], b: &[T], out: &mut Vec<T>) {
+        append_add_wrap(a, b, out);
     }
 }
 

@@ -8,7 +8,7 @@ use block_kinds::{
     Block, ByPace, Held, ParamFault, Parameter, Setting, Shape, Single, work_single,
 };
 use items::{ItemType, Items};
-use lane_kernels::{SimdLane, add_const_wrap};
+use lane_kernels::{SimdLane, append_add_const_wrap};
 use numbers::Number;
 use numbers::range::{greatest, is_item, least};
 
@@ -47,8 +47,8 @@ impl EachItem for AddConst {
 
     ghost gives = { λ b value z. wrap b.item (z +ℤ value) };
 
-    fn run<T: SimdLane>(&self, number: i64, items: &[T], out: &mut [T]) {
-        add_const_wrap(items, T::narrow(number), out);
+    fn run<T: SimdLane>(&self, number: i64, items: &[T], out: &mut Vec<T>) {
+        append_add_const_wrap(items, T::narrow(number), out);
     }
 }
 

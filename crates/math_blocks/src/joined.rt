@@ -1,11 +1,11 @@
 //! Blocks that make each item of one item of each input.
-ghost use Rattle.std.specs.Prelude.{◌≡◌, ◌≤◌, ℤ, List, length, map, take};
+ghost use Rattle.std.specs.Prelude.{◌≡◌, ◌≤◌, ◌+◌, ◌-◌, ◌++◌, ℤ, List, [], length, map, take, vec_len, vec_capacity};
 ghost use Rattle.stream_model.specs.declared.vocabulary.ItemType.{ItemType};
 ghost use Rattle.stream_model.specs.Lists.{item};
 ghost use Rattle.stream_model.specs.Kernels.{listed};
 ghost use Rattle.stream_model.specs.Settings as model;
 ghost use Rattle.stream_model.specs.Kinds.Math.{items_at};
-ghost use Rattle.items.specs.Items.{type_of, numbers_of};
+ghost use Rattle.items.specs.Items.{type_of, numbers_of, spare_of};
 ghost use Rattle.block_kinds.specs.Work.{CanWork, HasWorked, IsWorkOf};
 ghost use Rattle.math_blocks.specs.Joined.{AreJoined, CanJoin, joined_of};
 
@@ -30,6 +30,13 @@ pub(crate) trait Joins {
         requires same_length { length a.now ≡ length b.now }
         requires out_length { length out.old ≡ length a.now }
         ensures { map T.number out.new ≡ listed (length a.now)
+            (λ k. pair T.kind (item (map T.number a.now) k) (item (map T.number b.now) k)) };
+
+    /// Appends the same where the capacity has room.
+    fn append<T: SimdLane>(a: &[T], b: &[T], out: &mut Vec<T>)
+        requires same_length { length a.now ≡ length b.now }
+        requires room { vec_len out.old + length a.now ≤ vec_capacity out.old }
+        ensures { map T.number out.new.items ≡ map T.number out.old.items ++ listed (length a.now)
             (λ k. pair T.kind (item (map T.number a.now) k) (item (map T.number b.now) k)) };
 }
 
@@ -69,22 +76,33 @@ fn join_items_into<J: Joins>(items: &Items, out: &mut Items)
     }
 }
 
-/// Writes over `out` what is made of each item of `a` and the item of `b` at its place.
+/// Writes what is made of each item of `a` and the item of `b` at its place into an empty `out` with room for it.
 fn join_pair<J: Joins>(a: &Items, b: &Items, out: &mut Items)
     requires a_type { type_of a.now ≡ type_of out.old }
     requires b_type { type_of b.now ≡ type_of out.old }
-    requires a_length { length (numbers_of a.now) ≡ length (numbers_of out.old) }
-    requires b_length { length (numbers_of b.now) ≡ length (numbers_of out.old) }
+    requires same_length { length (numbers_of a.now) ≡ length (numbers_of b.now) }
+    requires empty { numbers_of out.old ≡ [] }
+    requires room { length (numbers_of b.now) ≤ spare_of out.old }
     ensures item_type { type_of out.new ≡ type_of out.old }
     ensures numbers { numbers_of out.new ≡ listed (length (numbers_of b.now))
         (λ k. J.pair (type_of b.now) (item (numbers_of a.now) k) (item (numbers_of b.now) k)) }
 {
     match (a, b, out) {
-        (Items::Byte(a), Items::Byte(b), Items::Byte(out)) => J::join(a, b, out),
-        (Items::Short(a), Items::Short(b), Items::Short(out)) => J::join(a, b, out),
-        (Items::Int(a), Items::Int(b), Items::Int(out)) => J::join(a, b, out),
+        (Items::Byte(a), Items::Byte(b), Items::Byte(out)) => append_pair::<u8, J>(a, b, out),
+        (Items::Short(a), Items::Short(b), Items::Short(out)) => append_pair::<i16, J>(a, b, out),
+        (Items::Int(a), Items::Int(b), Items::Int(out)) => append_pair::<i32, J>(a, b, out),
         _ => unreachable!(),
     }
+}
+
+fn append_pair<T: SimdLane, J: Joins>(a: &[T], b: &[T], out: &mut Vec<T>)
+    requires same_length { length (map T.number a.now) ≡ length (map T.number b.now) }
+    requires empty { map T.number out.old.items ≡ [] }
+    requires room { length (map T.number b.now) ≤ vec_capacity out.old - vec_len out.old }
+    ensures { map T.number out.new.items ≡ listed (length (map T.number b.now))
+        (λ k. J.pair T.kind (item (map T.number a.now) k) (item (map T.number b.now) k)) }
+{
+    J::append(a, b, out);
 }
 
 /// Writes what is made of the items of the first windows, two where there are two, into an empty `out` with room for it, and answers how
@@ -102,7 +120,6 @@ fn join_first<J: Joins>(windows: &[Items], count: usize, out: &mut Items) -> usi
         out.push_slice(first);
         return 1;
     }
-    out.push_zeros(count);
     join_pair::<J>(first, &windows[1], out);
     2
 }

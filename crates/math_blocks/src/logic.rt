@@ -5,7 +5,7 @@ ghost use Rattle.stream_model.specs.Kinds.Math.{and_of, or_of, xor_of};
 use crate::joined::{Joins, work_joins};
 use block_kinds::{Block, ByPace, Held, Shape, any_ports, ports};
 use items::{ItemType, Items};
-use lane_kernels::{SimdLane, and, or, xor};
+use lane_kernels::{SimdLane, and, append_and, append_or, append_xor, or, xor};
 
 /// The bitwise and of the items of its 1 to 16 inputs, as GNU Radio's `and_xx`.
 #[derive(Debug, Drop, PartialEq, Eq)]
@@ -36,6 +36,10 @@ impl Joins for And {
 
     fn join<T: SimdLane>(a: &[T], b: &[T], out: &mut [T]) {
         and(a, b, out);
+    }
+
+    fn append<T: SimdLane>(a: &[T], b: &[T], out: &mut Vec<T>) {
+        append_and(a, b, out);
     }
 }
 
@@ -100,6 +104,10 @@ impl Joins for Or {
     fn join<T: SimdLane>(a: &[T], b: &[T], out: &mut [T]) {
         or(a, b, out);
     }
+
+    fn append<T: SimdLane>(a: &[T], b: &[T], out: &mut Vec<T>) {
+        append_or(a, b, out);
+    }
 }
 
 impl Block for Or {
@@ -162,6 +170,10 @@ impl Joins for Xor {
 
     fn join<T: SimdLane>(a: &[T], b: &[T], out: &mut [T]) {
         xor(a, b, out);
+    }
+
+    fn append<T: SimdLane>(a: &[T], b: &[T], out: &mut Vec<T>) {
+        append_xor(a, b, out);
     }
 }
 

@@ -2,7 +2,9 @@
 ghost use Rattle.std.specs.Prelude.{◌≡◌, ℤ, [], length, map, pos, IsOk, IfOk, IfErr, IsErrOf, OnOk, ◌↔◌, ◌⊎◌};
 ghost use Rattle.stream_model.specs.Numbers.{AreItems};
 ghost use Rattle.stream_model.specs.declared.vocabulary.ItemType.TheVariants as types;
-ghost use Rattle.stream_model.specs.Kinds.Math.{map_bb};
+ghost use Rattle.stream_model.specs.Lists.{item};
+ghost use Rattle.stream_model.specs.Kernels.{listed};
+ghost use Rattle.stream_model.specs.Kinds.Math.{looked_up, map_bb};
 
 use block_kinds::{Block, ByPace, Held, ParamFault, Parameter, Shape, Single, work_single};
 use items::{ItemType, Items};
@@ -39,31 +41,56 @@ impl MapBb {
     }
 }
 
-impl MapBb {
-    ghost use Rattle.stream_model.specs.Kinds.Math.{looked_up};
+// A byte through a table, and one past the table's end as it is.
+fn entry(table: &[u8], byte: u8) -> u8
+    ensures { pos result ≡ looked_up (map pos table.now) (pos byte) }
+{
+    match table.get(byte as usize) {
+        Some(to) => *to,
+        None => byte,
+    }
+}
 
-    fn entry(&self, byte: u8) -> u8
-        ensures { pos result ≡ looked_up (map pos self.now.table.items) (pos byte) }
-    {
-        match self.table.get(byte as usize) {
-            Some(to) => *to,
-            None => byte,
-        }
+// The same of a table for all bytes.
+fn entry_of_all(table: &[u8], byte: u8) -> u8
+    requires { length table.now ≡ 256 }
+    ensures { pos result ≡ looked_up (map pos table.now) (pos byte) }
+{
+    table[byte as usize]
+}
+
+// Each byte through a table. It is passed as a slice, so that no write can change where it is.
+fn look_up(table: &[u8], items: &[u8], out: &mut [u8])
+    requires { length out.old ≡ length items.now }
+    ensures { map pos out.new ≡ listed (length out.old) (λ k. looked_up (map pos table.now) (item (map pos items.now) k)) }
+{
+    for k in 0..out.len() {
+        out[k] = entry(table, items[k]);
+    }
+}
+
+// The same of a table for all bytes.
+fn look_up_all(table: &[u8], items: &[u8], out: &mut [u8])
+    requires whole { length table.now ≡ 256 }
+    requires same_length { length out.old ≡ length items.now }
+    ensures { map pos out.new ≡ listed (length out.old) (λ k. looked_up (map pos table.now) (item (map pos items.now) k)) }
+{
+    for k in 0..out.len() {
+        out[k] = entry_of_all(table, items[k]);
     }
 }
 
 impl ByteWork for MapBb {
-    ghost use Rattle.stream_model.specs.Lists.{item};
-    ghost use Rattle.stream_model.specs.Kernels.{listed};
-    ghost use Rattle.stream_model.specs.Kinds.Math.{looked_up};
-
     ghost can_make = { λ b xs count. count ≡ length xs };
 
     ghost makes = { λ b xs count. listed count (λ k. looked_up (map pos b.table.items) (item xs k)) };
 
     fn make(&self, items: &[u8], out: &mut [u8]) {
-        for k in 0..out.len() {
-            out[k] = self.entry(items[k]);
+        let table = self.table.as_slice();
+        if table.len() == 256 {
+            look_up_all(table, items, out);
+        } else {
+            look_up(table, items, out);
         }
     }
 }

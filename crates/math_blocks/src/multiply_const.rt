@@ -8,7 +8,7 @@ use block_kinds::{
     Block, ByPace, Held, ParamFault, Parameter, Setting, Shape, Single, work_single,
 };
 use items::{ItemType, Items};
-use lane_kernels::{SimdLane, mul_wrap};
+use lane_kernels::{SimdLane, append_mul_wrap};
 use numbers::Number;
 use numbers::range::{greatest, is_item, least};
 
@@ -47,8 +47,8 @@ impl EachItem for MultiplyConst {
 
     ghost gives = { λ b value z. wrap b.item (z *ℤ value) };
 
-    fn run<T: SimdLane>(&self, number: i64, items: &[T], out: &mut [T]) {
-        mul_wrap(items, T::narrow(number), out);
+    fn run<T: SimdLane>(&self, number: i64, items: &[T], out: &mut Vec<T>) {
+        append_mul_wrap(items, T::narrow(number), out);
     }
 }
 

@@ -4,8 +4,8 @@ ghost use Rattle.stream_model.specs.Kinds.Math.{not_of};
 
 use block_kinds::{Block, ByPace, Held, Shape, Single, work_single};
 use items::{ItemType, Items};
-use lane_kernels::{SimdLane, not};
-use lane_work::{LaneWork, make_items};
+use lane_kernels::{SimdLane, append_not};
+use lane_work::{AppendWork, append_items};
 
 /// Each item with all bits inverted, as GNU Radio's `not_xx`.
 #[derive(Debug, Drop, PartialEq, Eq)]
@@ -24,7 +24,7 @@ impl Not {
     }
 }
 
-impl LaneWork for Not {
+impl AppendWork for Not {
     ghost use Rattle.std.specs.Prelude.{length};
     ghost use Rattle.stream_model.specs.Kernels.{not_bits};
 
@@ -32,8 +32,8 @@ impl LaneWork for Not {
 
     ghost makes = { λ b t xs count. not_bits t xs };
 
-    fn make<T: SimdLane>(&self, items: &[T], out: &mut [T]) {
-        not(items, out);
+    fn append<T: SimdLane>(&self, items: &[T], _count: usize, out: &mut Vec<T>) {
+        append_not(items, out);
     }
 }
 
@@ -52,7 +52,7 @@ impl Single for Not {
         _held: &[Held],
         out: &mut Items,
     ) -> u64 {
-        make_items(self, window, count as usize, out);
+        append_items(self, window, count as usize, out);
         0
     }
 

@@ -9,7 +9,7 @@ use block_kinds::{
     Block, ByPace, Held, ParamFault, Parameter, Setting, Shape, Single, work_single,
 };
 use items::{ItemType, Items};
-use lane_kernels::{SimdLane, scale_sat};
+use lane_kernels::{SimdLane, append_scale_sat};
 use numbers::Number;
 use numbers::range::{greatest, is_item, least};
 
@@ -57,8 +57,8 @@ impl EachItem for Scale {
 
     ghost gives = { λ b factor z. scaled b.item factor b.shift z };
 
-    fn run<T: SimdLane>(&self, number: i64, items: &[T], out: &mut [T]) {
-        scale_sat(items, i16::narrow(number), self.shift, out);
+    fn run<T: SimdLane>(&self, number: i64, items: &[T], out: &mut Vec<T>) {
+        append_scale_sat(items, i16::narrow(number), self.shift, out);
     }
 }
 

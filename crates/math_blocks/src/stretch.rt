@@ -1,5 +1,5 @@
 //! Stretches of items between two settings.
-ghost use Rattle.std.specs.Prelude.{◌≡◌, ◌+◌, ◌-◌, ◌^◌, ◌<◌, ◌≤◌, ℤ, [], length, map, drop, vec_len, vec_capacity};
+ghost use Rattle.std.specs.Prelude.{◌≡◌, ◌+◌, ◌-◌, ◌^◌, ◌<◌, ◌≤◌, ◌++◌, ℤ, [], length, map, drop, vec_len, vec_capacity};
 ghost use Rattle.stream_model.specs.declared.vocabulary.ItemType.{ItemType};
 ghost use Rattle.stream_model.specs.Numbers.{IsItem};
 ghost use Rattle.stream_model.specs.Lists.{item};
@@ -13,7 +13,6 @@ ghost use Rattle.math_blocks.specs.Stretch.{SetItems, number_among, end_before};
 use block_kinds::{Held, Value};
 use items::Items;
 use lane_kernels::SimdLane;
-use numbers::vectors::append_copies;
 
 /// A block that makes each item of one item, by a number that may be set.
 pub(crate) trait EachItem {
@@ -26,12 +25,15 @@ pub(crate) trait EachItem {
     /// What is made of an item, where the first number is in force.
     ghost gives: { Self → ℤ → ℤ → ℤ };
 
-    /// Writes what is made of each item, where `number` is in force at all of them.
-    fn run<T: SimdLane>(&self, number: i64, items: &[T], out: &mut [T])
+    /// Appends what is made of each item, where `number` is in force at all of them and the capacity has room.
+    fn run<T: SimdLane>(&self, number: i64, items: &[T], out: &mut Vec<T>)
         requires same_type { takes self.now ≡ T.kind }
         requires in_range { IsItem (number_type self.now) number }
-        requires same_length { length out.old ≡ length items.now }
-        ensures { map T.number out.new ≡ listed (length items.now) (λ k. gives self.now number (item (map T.number items.now) k)) };
+        requires room { vec_len out.old + length items.now ≤ vec_capacity out.old }
+        ensures items { map T.number out.new.items
+            ≡ map T.number out.old.items ++ listed (length items.now) (λ k. gives self.now number (item (map T.number items.now) k)) }
+        ensures len { vec_len out.new ≡ vec_len out.old + length items.now }
+        ensures capacity { vec_capacity out.old ≤ vec_capacity out.new };
 }
 
 // The number that a value sets. Taps set none, which counts as 0.
@@ -55,36 +57,9 @@ fn end_of(held: &[Held], i: usize, to: u64) -> u64
     }
 }
 
-// Writes what the block makes of each item: one run for each setting that is in force. The items are those of their
-// stream from item `from` on.
+// Appends what the block makes of each item to an empty `out` with room for it: one run for each setting that is in force. The items are those of
+// their stream from item `from` on.
 fn run_stretches<T: SimdLane, B: EachItem>(
-    block: &B,
-    items: &[T],
-    held: &[Held],
-    from: u64,
-    out: &mut [T],
-)
-    requires same_type { B.takes block.now ≡ T.kind }
-    requires over { AreOver from (from + length items.now) (map held_of held.now) }
-    requires in_range { SetItems (B.number_type block.now) (map held_of held.now) }
-    requires small { from + length items.now < 2 ^ 63 }
-    requires same_length { length out.old ≡ length items.now }
-    ensures { map T.number out.new ≡ listed (length items.now)
-        (λ k. B.gives block.now (number_among (map held_of held.now) (from + k)) (item (map T.number items.now) k)) }
-{
-    let to = from + items.len() as u64;
-    let mut at = from;
-    for (i, setting) in held.iter().enumerate() {
-        let end = end_of(held, i, to);
-        let number = number_in(&setting.value);
-        let start = (at - from) as usize;
-        let stop = (end - from) as usize;
-        block.run(number, &items[start..stop], &mut out[start..stop]);
-        at = end;
-    }
-}
-
-fn run_lanes<T: SimdLane, B: EachItem>(
     block: &B,
     items: &[T],
     held: &[Held],
@@ -100,8 +75,16 @@ fn run_lanes<T: SimdLane, B: EachItem>(
     ensures { map T.number out.new.items ≡ listed (length items.now)
         (λ k. B.gives block.now (number_among (map held_of held.now) (from + k)) (item (map T.number items.now) k)) }
 {
-    append_copies(out, items.len(), T::narrow(0));
-    run_stretches(block, items, held, from, out);
+    let to = from + items.len() as u64;
+    let mut at = from;
+    for (i, setting) in held.iter().enumerate() {
+        let end = end_of(held, i, to);
+        let number = number_in(&setting.value);
+        let start = (at - from) as usize;
+        let stop = (end - from) as usize;
+        block.run(number, &items[start..stop], out);
+        at = end;
+    }
 }
 
 /// Writes what the block makes of each item into an empty `out` with room for it. The items are those of their stream
@@ -125,9 +108,9 @@ pub(crate) fn run_items<B: EachItem>(
         (λ k. B.gives block.now (number_among (map held_of held.now) (from + k)) (item (numbers_of items.now) k)) }
 {
     match (items, out) {
-        (Items::Byte(items), Items::Byte(out)) => run_lanes(block, items, held, from, out),
-        (Items::Short(items), Items::Short(out)) => run_lanes(block, items, held, from, out),
-        (Items::Int(items), Items::Int(out)) => run_lanes(block, items, held, from, out),
+        (Items::Byte(items), Items::Byte(out)) => run_stretches(block, items, held, from, out),
+        (Items::Short(items), Items::Short(out)) => run_stretches(block, items, held, from, out),
+        (Items::Int(items), Items::Int(out)) => run_stretches(block, items, held, from, out),
         _ => unreachable!(),
     }
 }

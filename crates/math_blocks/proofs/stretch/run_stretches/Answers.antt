@@ -1,9 +1,10 @@
-use Rattle.std.proofs.Common.{◌≡◌, ◌+◌, ◌-◌, length, map, arith, rules, FitsSigned, w64}
+use Rattle.std.proofs.Common.{◌≡◌, ℕ, ◌+◌, ◌-◌, ◌++◌, ◌∙◌, length, map, take, drop, refl, ap, sym, arith, rules, FitsSigned, w64}
 use Rattle.std.proofs.lemmas.Int.{to_z-of_z}
+use Rattle.std.proofs.lemmas.List.{take_all, length-take-le, length-drop}
 use Rattle.stream_model.specs.Lists.{item}
 use Rattle.stream_model.specs.Kernels.{listed}
 use Rattle.settings.specs.Values.{held_of}
-use Rattle.lane_kernels.proofs.Parts.{stepped, all_there}
+use Rattle.lane_kernels.proofs.Parts.{take_two}
 use Rattle.kind_laws.specs.Shared.{length-listed}
 use Rattle.math_blocks.specs.Stretch.{number_among}
 use Rattle.math_blocks.proofs.Stretches.{next_stretch, stretch_written, set_item, over_none}
@@ -37,20 +38,6 @@ slice_bounds-run-end g c =
     let high = next.1 in
     search rules
 
-pub slice_bounds-run-count-in-loop-i : goal.slice_bounds-run-count-in-loop-i
-slice_bounds-run-count-in-loop-i g c =
-    let next = next_stretch held_of c.args.held.now c.loop-i.i c.index-held-i.result c.loop-i.at (c.args.from + length c.args.items.now) c.end_of-end.result
-    c.loop-i-test.true c.index-held-i.is c.loop-i.invariant.over c.end_of-end.ensures in
-    omega (arith, next.0)
-
-pub slice_bounds-run-start-in-loop-i : goal.slice_bounds-run-start-in-loop-i
-slice_bounds-run-start-in-loop-i g c =
-    let next = next_stretch held_of c.args.held.now c.loop-i.i c.index-held-i.result c.loop-i.at (c.args.from + length c.args.items.now) c.end_of-end.result
-    c.loop-i-test.true c.index-held-i.is c.loop-i.invariant.over c.end_of-end.ensures in
-    let low = next.0 in
-    let high = next.1 in
-    search rules
-
 pub run-requires-clause-in_range : goal.run-requires-clause-in_range
 run-requires-clause-in_range g c =
     let fits : FitsSigned w64 c.number_in-number.result = search rules in
@@ -67,24 +54,30 @@ loop-i-preserved g c =
     c.loop-i-test.true c.index-held-i.is c.loop-i.invariant.over c.end_of-end.ensures in
     let target = listed (length c.args.items.now)
     (λ k. g.B.EachItem.gives c.args.block.now (number_among (map held_of c.args.held.now) (c.args.from + k)) (item (map g.T.Number.number c.args.items.now) k)) in
+    let long : length target ≡ length c.args.items.now = length-listed (length c.args.items.now)
+    (λ k. g.B.EachItem.gives c.args.block.now (number_among (map held_of c.args.held.now) (c.args.from + k)) (item (map g.T.Number.number c.args.items.now) k)) in
+    let size = end - c.args.from - (c.loop-i.at - c.args.from) in
+    let stretch = take size (drop (c.loop-i.at - c.args.from) c.args.items.now) in
     let part = stretch_written held_of c.args.held.now c.loop-i.i c.index-held-i.result g.T.Number.number c.args.items.now (g.B.EachItem.gives c.args.block.now)
-    c.args.from c.loop-i.at to end (end - c.args.from - (c.loop-i.at - c.args.from)) c.number_in-number.result (map g.T.Number.number c.run.new.out)
+    c.args.from c.loop-i.at to end size c.number_in-number.result (listed (length stretch) (λ k. g.B.EachItem.gives c.args.block.now c.number_in-number.result (item (map g.T.Number.number stretch) k)))
     c.loop-i-test.true c.index-held-i.is c.loop-i.invariant.over c.end_of-end.ensures c.loop-i.invariant.above (omega arith) c.number_in-number.ensures c.loop-i.invariant.among
-    (omega (arith, next.0)) (rw (to_z-of_z w64 c.number_in-number.result fits) at c.run.ensures) in
+    (omega (arith, next.0)) refl in
+    let place : end - c.args.from ≡ c.loop-i.at - c.args.from + (end - c.loop-i.at) = omega (arith, next.0, c.loop-i.invariant.above) in
+    let stretch_long : length stretch ≡ end - c.loop-i.at =
+    length-take-le size (drop (c.loop-i.at - c.args.from) c.args.items.now) (omega (arith, next.1, length-drop (c.loop-i.at - c.args.from) c.args.items.now)) ∙ omega (arith, next.0, c.loop-i.invariant.above) in
     record {
       above = omega (arith, next.0);
       upto = next.1;
       over = next.2;
       among = part.1;
-      items = stepped g.T.Number.number target (c.loop-i.at - c.args.from) (end - c.args.from) _ (end - c.loop-i.at) c.loop-i.out c.run.new.out
-          (omega (arith, next.0)) (omega (arith, next.1, length-listed (length c.args.items.now) (λ k. g.B.EachItem.gives c.args.block.now (number_among (map held_of c.args.held.now) (c.args.from + k)) (item (map g.T.Number.number c.args.items.now) k))))
-          (omega (arith, length-listed (length c.args.items.now) (λ k. g.B.EachItem.gives c.args.block.now (number_among (map held_of c.args.held.now) (c.args.from + k)) (item (map g.T.Number.number c.args.items.now) k))))
-          c.loop-i.invariant.items part.0;
+      items = (rw (to_z-of_z w64 c.number_in-number.result fits) at c.run.ensures.items) ∙ (λ i. c.loop-i.invariant.items i ++ part.0 i)
+          ∙ sym (ap (λ n. take n target) place ∙ take_two (c.loop-i.at - c.args.from) (end - c.loop-i.at) target);
+      len = omega (arith, c.run.ensures.len, c.loop-i.invariant.len, stretch_long, next.0, c.loop-i.invariant.above);
+      capacity = omega (arith, c.run.ensures.capacity, c.loop-i.invariant.capacity);
     }
 
 pub returns : goal.returns
 returns g c =
     let at_end : c.loop-i.at ≡ c.args.from + length c.args.items.now = over_none held_of c.args.held.now c.loop-i.i c.loop-i.at (c.args.from + length c.args.items.now) (omega arith) c.loop-i.invariant.over in
-    all_there g.T.Number.number _ (c.loop-i.at - c.args.from) c.loop-i.out (omega (arith, at_end))
-    (omega (arith, at_end, length-listed (length c.args.items.now) (λ k. g.B.EachItem.gives c.args.block.now (number_among (map held_of c.args.held.now) (c.args.from + k)) (item (map g.T.Number.number c.args.items.now) k))))
-    c.loop-i.invariant.items
+    let f = λ (k : ℕ). g.B.EachItem.gives c.args.block.now (number_among (map held_of c.args.held.now) (c.args.from + k)) (item (map g.T.Number.number c.args.items.now) k) in
+    c.loop-i.invariant.items ∙ take_all (c.loop-i.at - c.args.from) (listed (length c.args.items.now) f) (omega (arith, at_end, length-listed (length c.args.items.now) f))

@@ -1,4 +1,4 @@
-use Rattle.std.proofs.Common.{◌≡◌, ℕ, ◌+◌, ◌-◌, ◌<◌, ◌≤◌, map, take, drop, length}
+use Rattle.std.proofs.Common.{◌≡◌, ℕ, ◌+◌, ◌-◌, ◌<◌, ◌≤◌, map, take, drop, length, vec_len, vec_capacity}
 use Rattle.stream_model.specs.Lists.{item}
 use Rattle.stream_model.specs.Kernels.{listed}
 use Rattle.settings.specs.Values.{held_of}
@@ -12,7 +12,9 @@ invariant-loop-i g l = record {
   upto : l.at ≤ l.to;
   over : AreOver l.at l.to (drop l.i (map held_of l.held));
   among : (a : ℕ) → l.at ≤ a → a < l.to → number_among (map held_of l.held) a ≡ number_among (drop l.i (map held_of l.held)) a;
-  items : map g.T.Number.number (take (l.at - l.from) l.out)
+  items : map g.T.Number.number l.out.items
       ≡ take (l.at - l.from) (listed (length l.items)
       (λ k. g.B.EachItem.gives l.block (number_among (map held_of l.held) (l.from + k)) (item (map g.T.Number.number l.items) k)));
+  len : vec_len l.out ≡ vec_len l.initial.out + (l.at - l.from);
+  capacity : vec_capacity l.initial.out ≤ vec_capacity l.out;
 }
