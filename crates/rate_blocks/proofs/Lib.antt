@@ -1,3 +1,4 @@
+pub mod Copies
 pub mod Interleaved
 pub mod Moved
 pub mod Muxed

@@ -1,4 +1,5 @@
 pub mod Kinds
 pub mod Lengths
 pub mod Mux
+pub mod Repeats
 pub mod Turns

@@ -1,11 +1,13 @@
 //! The block that gives each item `n` times.
-ghost use Rattle.std.specs.Prelude.{◌≡◌, ◌≤◌, ◌^◌, ◌↔◌, IsOk, IfOk, IfErr};
+ghost use Rattle.std.specs.Prelude.{◌≡◌, ◌≤◌, ◌+◌, ◌*◌, ◌^◌, ◌++◌, ◌↔◌, length, map, replicate, vec_len, vec_capacity, IsOk, IfOk, IfErr};
+ghost use Rattle.rate_blocks.specs.Repeats.{repeated};
 ghost use Rattle.stream_model.specs.Kinds.Rates.{repeat};
 
 use block_kinds::{Block, ByPace, Held, ParamFault, Parameter, Shape, Single, ports, work_single};
 use items::{ItemType, Items};
 use lane_kernels::SimdLane;
-use lane_work::{LaneWork, make_items};
+use lane_work::{AppendWork, append_items};
+use std::mem;
 
 /// Each item `n` times, as GNU Radio's `repeat`.
 #[derive(Debug, Drop, PartialEq, Eq)]
@@ -32,7 +34,7 @@ impl Repeat {
     }
 }
 
-impl LaneWork for Repeat {
+impl AppendWork for Repeat {
     ghost use Rattle.std.specs.Prelude.{◌*◌, ◌/◌, length};
     ghost use Rattle.stream_model.specs.Lists.{item};
     ghost use Rattle.stream_model.specs.Kernels.{listed};
@@ -41,17 +43,56 @@ impl LaneWork for Repeat {
 
     ghost makes = { λ b t xs count. listed count (λ k. item xs (k / b.n)) };
 
-    fn make<T: SimdLane>(&self, items: &[T], out: &mut [T]) {
-        // Which item is next, and how often it still is: a division for each item would be dear.
-        let (mut at, mut left) = (0, self.n as usize);
-        for k in 0..out.len() {
-            out[k] = items[at];
-            left -= 1;
-            if left == 0 {
-                at += 1;
-                left = self.n as usize;
-            }
-        }
+    fn append<T: SimdLane>(&self, items: &[T], _count: usize, out: &mut Vec<T>) {
+        repeat_each(items, self.n as usize, out);
+    }
+}
+
+// Appends each item `n` times, where the capacity has room. The loop appends to a vector of its own, whose length and place in memory stay in
+// registers then.
+fn repeat_each<T: SimdLane>(items: &[T], n: usize, out: &mut Vec<T>)
+    requires some { 1 ≤ n }
+    requires room { vec_len out.old + n * length items.now ≤ vec_capacity out.old }
+    ensures { map T.number out.new.items ≡ map T.number out.old.items ++ repeated n (map T.number items.now) (length items.now) }
+{
+    let alloc = *out.allocator();
+    let mut made = mem::replace(out, Vec::new(alloc));
+    match n {
+        2 => push_each(items, 2, &mut made),
+        3 => push_each(items, 3, &mut made),
+        4 => push_each(items, 4, &mut made),
+        5 => push_each(items, 5, &mut made),
+        6 => push_each(items, 6, &mut made),
+        7 => push_each(items, 7, &mut made),
+        8 => push_each(items, 8, &mut made),
+        16 => push_each(items, 16, &mut made),
+        _ => push_each(items, n, &mut made),
+    }
+    *out = made;
+}
+
+// The same. A caller that names `n` gets code for it.
+#[inline(always)]
+fn push_each<T: SimdLane>(items: &[T], n: usize, made: &mut Vec<T>)
+    requires some { 1 ≤ n }
+    requires room { vec_len made.old + n * length items.now ≤ vec_capacity made.old }
+    ensures { map T.number made.new.items ≡ map T.number made.old.items ++ repeated n (map T.number items.now) (length items.now) }
+{
+    for at in 0..items.len() {
+        push_copies(items[at], n, made);
+    }
+}
+
+// Appends `n` copies of an item.
+#[inline(always)]
+fn push_copies<T: SimdLane>(item: T, n: usize, made: &mut Vec<T>)
+    requires { vec_len made.old + n ≤ vec_capacity made.old }
+    ensures items { made.new.items ≡ made.old.items ++ replicate n item }
+    ensures len { vec_len made.new ≡ vec_len made.old + n }
+    ensures capacity { vec_capacity made.new ≡ vec_capacity made.old }
+{
+    for _copy in 0..n {
+        made.push_reserved(item);
     }
 }
 
@@ -70,7 +111,7 @@ impl Single for Repeat {
         _held: &[Held],
         out: &mut Items,
     ) -> u64 {
-        make_items(self, window, (self.n * count) as usize, out);
+        append_items(self, window, (self.n * count) as usize, out);
         0
     }
 

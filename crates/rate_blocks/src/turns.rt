@@ -45,6 +45,7 @@ fn spread<T: SimdLane>(turn: &Turn, items: &[T], out: &mut [T])
 }
 
 // Writes the items of each round.
+#[inline(always)]
 fn copy_turns<T: SimdLane>(turn: &Turn, items: &[T], out: &mut [T])
     requires can { CanTurn turn.now (map T.number items.now) (map T.number out.old) }
     ensures { HasTurned turn.now (map T.number items.now) (map T.number out.old) (map T.number out.new) }
@@ -56,6 +57,22 @@ fn copy_turns<T: SimdLane>(turn: &Turn, items: &[T], out: &mut [T])
     }
 }
 
+// The same, where the caller may know the length, by a turn of its own, which no write can change.
+#[inline(always)]
+fn copy_lengths<T: SimdLane>(turn: &Turn, length: usize, items: &[T], out: &mut [T])
+    requires length { length ≡ turn.now.length }
+    requires can { CanTurn turn.now (map T.number items.now) (map T.number out.old) }
+    ensures { HasTurned turn.now (map T.number items.now) (map T.number out.old) (map T.number out.new) }
+{
+    let known = Turn {
+        rounds: turn.rounds,
+        length,
+        before: turn.before,
+        all: turn.all,
+    };
+    copy_turns(&known, items, out);
+}
+
 impl LaneChange for Turn {
     ghost use Rattle.rate_blocks.specs.Turns.{CanTurn, HasTurned};
 
@@ -64,10 +81,13 @@ impl LaneChange for Turn {
     ghost changes = { HasTurned };
 
     fn change<T: SimdLane>(&self, items: &[T], out: &mut [T]) {
-        if self.length == 1 {
-            spread(self, items, out);
-        } else {
-            copy_turns(self, items, out);
+        match self.length {
+            1 => spread(self, items, out),
+            2 => copy_lengths(self, 2, items, out),
+            3 => copy_lengths(self, 3, items, out),
+            4 => copy_lengths(self, 4, items, out),
+            8 => copy_lengths(self, 8, items, out),
+            length => copy_lengths(self, length, items, out),
         }
     }
 }

@@ -7,5 +7,5 @@ use Rattle.rate_blocks.proofs.repeat.RepeatSingle.fill.Goals as goal
 pub returns-clause-items : goal.returns-clause-items
 returns-clause-items c ts xs fed =
     let b = c.args.self.now in
-    c.make_items.ensures.numbers
+    c.append_items.ensures.numbers
     ∙ repeat-given b.item b.n ts xs c.args._first c.args.count c.args._state (numbers_of c.args.window.now) (map held_of c.args._held.now) b.some fed

@@ -1,8 +1,0 @@
-use Rattle.std.proofs.Common.{◌≡◌, ℕ, ◌+◌, ◌*◌, ◌/◌, ◌<◌, ◌≤◌, map}
-use Rattle.stream_model.specs.Lists.{item}
-use Rattle.rate_blocks.proofs.repeat.RepeatLaneWork.make.Given as goal
-
-abbrev pub invariant-loop-k : goal.invariant-loop-k
-invariant-loop-k g l =
-    ((j : ℕ) → j < l.k → item (map g.T.Number.number l.out) j ≡ item (map g.T.Number.number l.items) (j / l.self.n))
-    × (l.k + l.left ≡ l.self.n * l.at + l.self.n) × (1 ≤ l.left) × (l.left ≤ l.self.n)
