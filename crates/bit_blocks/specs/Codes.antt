@@ -1,5 +1,5 @@
 -- Codes that go on from byte to byte: each byte gives one, by a word that the byte then changes.
-use Rattle.std.specs.Prelude.{ℕ, ◌+◌, ◌-◌, ◌*◌, ◌%◌, ◌^◌, ℤ, pos, List, [], ◌∷◌, map, sum}
+use Rattle.std.specs.Prelude.{ℕ, ◌+◌, ◌-◌, ◌*◌, ◌%◌, ◌^◌, ℤ, pos, ◌+ℤ◌, List, [], ◌∷◌, map, sum}
 use Rattle.stream_model.specs.Lists.{numbers_from}
 use Rattle.stream_model.specs.Numbers.{residue}
 use Rattle.stream_model.specs.Kinds.Bits.{place_in, masked, places_of, low_bit}
@@ -25,3 +25,7 @@ followed bits word z = (2 * word + residue z 2) % 2 ^ bits
 -- what a mask sums up before item n: the lowest bit of item n - j where it has place j
 abbrev pub masked_before : ℕ → ℕ → List ℤ → ℕ → ℕ
 masked_before bits mask x n = sum (map (λ j. place_in mask j * low_bit x (n - j)) (numbers_from 1 bits))
+
+-- the sum with a byte, modulo a number
+abbrev pub summed : ℕ → ℕ → ℤ → ℕ
+summed modulus word z = residue (pos word +ℤ z) modulus

@@ -5,9 +5,10 @@ ghost use Rattle.items.specs.Items.{type_of, numbers_of, spare_of};
 ghost use Rattle.bit_blocks.specs.Codes.{coded, word_after};
 
 use items::Items;
+use std::mem;
 
-/// A code that gives a byte for a byte by a word, which the byte then changes.
-pub(crate) trait Coder {
+/// A code that gives a byte for a byte by a word, which the byte then changes. It is small and copied, so that no write of a byte can change it.
+pub(crate) trait Coder: Copy {
     /// Whether the word can come up.
     ghost is_word: { Self → ℕ → Type 0 };
 
@@ -18,36 +19,54 @@ pub(crate) trait Coder {
     ghost next: { Self → ℕ → ℤ → ℕ };
 
     /// The byte that is given for a byte, and the word behind it.
-    fn step(&self, word: u64, byte: u8) -> (u8, u64)
-        requires { is_word self.now word }
-        ensures given { result.0 ≡ gives self.now word (pos byte) }
-        ensures next { result.1 ≡ next self.now word (pos byte) }
-        ensures word { is_word self.now result.1 };
+    fn step(self, word: u64, byte: u8) -> (u8, u64)
+        requires { is_word self word }
+        ensures given { result.0 ≡ gives self word (pos byte) }
+        ensures next { result.1 ≡ next self word (pos byte) }
+        ensures word { is_word self result.1 };
 }
 
 /// Appends the code of the bytes to an empty `out` with room for it, and answers the word behind them.
-pub(crate) fn code_bytes<C: Coder>(coder: &C, start: u64, items: &[u8], out: &mut Vec<u8>) -> u64
-    requires word { C.is_word coder.now start }
+pub(crate) fn code_bytes<C: Coder>(coder: C, start: u64, items: &[u8], out: &mut Vec<u8>) -> u64
+    requires word { C.is_word coder start }
     requires empty { map pos out.old.items ≡ [] }
     requires room { length items.now ≤ vec_capacity out.old - vec_len out.old }
-    ensures items { map pos out.new.items ≡ coded (C.gives coder.now) (C.next coder.now) start (map pos items.now) }
-    ensures word { result ≡ word_after (C.next coder.now) start (map pos items.now) }
+    ensures items { map pos out.new.items ≡ coded (C.gives coder) (C.next coder) start (map pos items.now) }
+    ensures word { result ≡ word_after (C.next coder) start (map pos items.now) }
     ensures len { vec_len out.new ≡ vec_len out.old + length items.now }
     ensures capacity { vec_capacity out.new ≡ vec_capacity out.old }
+{
+    let alloc = *out.allocator();
+    let mut made = mem::replace(out, Vec::new(alloc));
+    let word = push_code(coder, start, items, &mut made);
+    *out = made;
+    word
+}
+
+/// The same to a vector of the caller's own, whose length and place in memory stay in registers.
+#[inline(always)]
+fn push_code<C: Coder>(coder: C, start: u64, items: &[u8], made: &mut Vec<u8>) -> u64
+    requires word { C.is_word coder start }
+    requires empty { map pos made.old.items ≡ [] }
+    requires room { length items.now ≤ vec_capacity made.old - vec_len made.old }
+    ensures items { map pos made.new.items ≡ coded (C.gives coder) (C.next coder) start (map pos items.now) }
+    ensures word { result ≡ word_after (C.next coder) start (map pos items.now) }
+    ensures len { vec_len made.new ≡ vec_len made.old + length items.now }
+    ensures capacity { vec_capacity made.new ≡ vec_capacity made.old }
 {
     let mut word = start;
     for byte in items {
         let (given, next) = coder.step(word, *byte);
-        out.push_reserved(given);
+        made.push_reserved(given);
         word = next;
     }
     word
 }
 
 /// The word behind the bytes.
-pub(crate) fn follow<C: Coder>(coder: &C, start: u64, items: &[u8]) -> u64
-    requires { C.is_word coder.now start }
-    ensures { result ≡ word_after (C.next coder.now) start (map pos items.now) }
+pub(crate) fn follow<C: Coder>(coder: C, start: u64, items: &[u8]) -> u64
+    requires { C.is_word coder start }
+    ensures { result ≡ word_after (C.next coder) start (map pos items.now) }
 {
     let mut word = start;
     for byte in items {
@@ -58,15 +77,15 @@ pub(crate) fn follow<C: Coder>(coder: &C, start: u64, items: &[u8]) -> u64
 }
 
 /// Writes the code of the items into an empty `out` with room for it, and answers the word behind them.
-pub(crate) fn code<C: Coder>(coder: &C, start: u64, items: &Items, out: &mut Items) -> u64
-    requires word { C.is_word coder.now start }
+pub(crate) fn code<C: Coder>(coder: C, start: u64, items: &Items, out: &mut Items) -> u64
+    requires word { C.is_word coder start }
     requires from { type_of items.now ≡ Byte }
     requires to { type_of out.old ≡ Byte }
     requires empty { numbers_of out.old ≡ [] }
     requires room { length (numbers_of items.now) ≤ spare_of out.old }
     ensures item_type { type_of out.new ≡ Byte }
-    ensures items { numbers_of out.new ≡ coded (C.gives coder.now) (C.next coder.now) start (numbers_of items.now) }
-    ensures word { result ≡ word_after (C.next coder.now) start (numbers_of items.now) }
+    ensures items { numbers_of out.new ≡ coded (C.gives coder) (C.next coder) start (numbers_of items.now) }
+    ensures word { result ≡ word_after (C.next coder) start (numbers_of items.now) }
 {
     match (items, out) {
         (Items::Byte(items), Items::Byte(out)) => code_bytes(coder, start, items, out),

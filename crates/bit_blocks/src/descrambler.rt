@@ -6,7 +6,7 @@ ghost use Rattle.items.specs.Items.{type_of, numbers_of, spare_of};
 ghost use Rattle.bit_blocks.specs.Codes.{coded, word_after, unscrambled, followed};
 
 use crate::code::{Coder, code_bytes, follow};
-use crate::register::{MOST_BITS, Register};
+use crate::register::{MOST_BITS, Register, Taps};
 use crate::sums::sum_behind;
 use block_kinds::{Block, ByPace, Held, Shape, Single, work_single};
 use items::{ItemType, Items};
@@ -29,19 +29,25 @@ impl Descrambler {
     }
 }
 
-impl Coder for Descrambler {
+// The steps of a descrambler.
+#[derive(Clone, Copy)]
+struct Unscrambling {
+    taps: Taps,
+}
+
+impl Coder for Unscrambling {
     ghost use Rattle.std.specs.Prelude.{◌<◌, ◌^◌};
     ghost use Rattle.bit_blocks.specs.Codes.{unscrambled, followed};
 
-    ghost is_word = { λ b word. word < 2 ^ b.register.bits };
+    ghost is_word = { λ b word. word < 2 ^ b.taps.bits };
 
-    ghost gives = { λ b. unscrambled b.register.bits b.register.mask };
+    ghost gives = { λ b. unscrambled b.taps.bits b.taps.mask };
 
-    ghost next = { λ b. followed b.register.bits };
+    ghost next = { λ b. followed b.taps.bits };
 
-    fn step(&self, word: u64, byte: u8) -> (u8, u64) {
-        let bit = (u64::from(byte) + self.register.sum(word)) % 2;
-        (bit as u8, self.register.push(word, u64::from(byte % 2)))
+    fn step(self, word: u64, byte: u8) -> (u8, u64) {
+        let bit = (u64::from(byte) + self.taps.sum(word)) % 2;
+        (bit as u8, self.taps.push(word, u64::from(byte % 2)))
     }
 }
 
@@ -65,14 +71,20 @@ fn descramble(block: &Descrambler, start: u64, bytes: &[u8], out: &mut Vec<u8>) 
     ensures items { map pos out.new.items ≡ coded (unscrambled block.now.register.bits block.now.register.mask) (followed block.now.register.bits) start (map pos bytes.now) }
     ensures word { result ≡ word_after (followed block.now.register.bits) start (map pos bytes.now) }
 {
+    let coder = Unscrambling {
+        taps: Taps {
+            bits: block.register.bits,
+            mask: block.register.mask,
+        },
+    };
     let first = bytes.len().min(MOST_BITS);
-    let word = code_bytes(block, start, &bytes[..first], out);
+    let word = code_bytes(coder, start, &bytes[..first], out);
     if first == bytes.len() {
         return word;
     }
     append(out, &bytes[MOST_BITS..]);
     sum_behind(&block.register, bytes, out);
-    follow(block, 0, &bytes[bytes.len() - MOST_BITS..])
+    follow(coder, 0, &bytes[bytes.len() - MOST_BITS..])
 }
 
 // The same of items.

@@ -1,5 +1,8 @@
 //! The block that sums up all bytes modulo a number.
-ghost use Rattle.std.specs.Prelude.{◌≡◌, ◌≤◌, ◌↔◌, IsOk, IfOk, IfErr};
+ghost use Rattle.std.specs.Prelude.{◌≡◌, ◌≤◌, ◌<◌, ◌↔◌, [], length, IsOk, IfOk, IfErr};
+ghost use Rattle.stream_model.specs.declared.vocabulary.ItemType.TheVariants.{Byte};
+ghost use Rattle.items.specs.Items.{type_of, numbers_of, spare_of};
+ghost use Rattle.bit_blocks.specs.Codes.{coded, word_after, summed};
 ghost use Rattle.stream_model.specs.Kinds.Bits.{diff_encoder};
 
 use crate::code::{Coder, code};
@@ -30,7 +33,15 @@ impl DiffEncoder {
     }
 }
 
-impl Coder for DiffEncoder {
+// The steps of a sum modulo a number.
+#[derive(Clone, Copy)]
+struct Summing {
+    modulus: u32,
+    ghost some: { 2 ≤ modulus },
+    ghost few: { modulus ≤ 256 },
+}
+
+impl Coder for Summing {
     ghost use Rattle.std.specs.Prelude.{◌<◌, pos, ◌+ℤ◌};
     ghost use Rattle.stream_model.specs.Numbers.{residue};
 
@@ -40,9 +51,52 @@ impl Coder for DiffEncoder {
 
     ghost next = { λ b word z. residue (pos word +ℤ z) b.modulus };
 
-    fn step(&self, word: u64, byte: u8) -> (u8, u64) {
-        let sum = (word + u64::from(byte)) % u64::from(self.modulus);
+    // The byte is divided, which waits for no other step, and not the sum.
+    fn step(self, word: u64, byte: u8) -> (u8, u64) {
+        let modulus = u64::from(self.modulus);
+        let sum = word + u64::from(u32::from(byte) % self.modulus);
+        let sum = if sum < modulus { sum } else { sum - modulus };
         (sum as u8, sum)
+    }
+}
+
+// Writes the sums of the items, from a sum on, into an empty `out` with room for it, and answers the last sum.
+#[inline(always)]
+fn sum_up(modulus: u32, state: u64, items: &Items, out: &mut Items) -> u64
+    requires some { 2 ≤ modulus }
+    requires few { modulus ≤ 256 }
+    requires word { state < modulus }
+    requires from { type_of items.now ≡ Byte }
+    requires to { type_of out.old ≡ Byte }
+    requires empty { numbers_of out.old ≡ [] }
+    requires room { length (numbers_of items.now) ≤ spare_of out.old }
+    ensures item_type { type_of out.new ≡ Byte }
+    ensures items { numbers_of out.new ≡ coded (summed modulus) (summed modulus) state (numbers_of items.now) }
+    ensures word { result ≡ word_after (summed modulus) state (numbers_of items.now) }
+{
+    code(Summing { modulus }, state, items, out)
+}
+
+// The same. Where the compiler knows the modulus, it needs no division.
+fn sum_items(modulus: u32, state: u64, items: &Items, out: &mut Items) -> u64
+    requires some { 2 ≤ modulus }
+    requires few { modulus ≤ 256 }
+    requires word { state < modulus }
+    requires from { type_of items.now ≡ Byte }
+    requires to { type_of out.old ≡ Byte }
+    requires empty { numbers_of out.old ≡ [] }
+    requires room { length (numbers_of items.now) ≤ spare_of out.old }
+    ensures item_type { type_of out.new ≡ Byte }
+    ensures items { numbers_of out.new ≡ coded (summed modulus) (summed modulus) state (numbers_of items.now) }
+    ensures word { result ≡ word_after (summed modulus) state (numbers_of items.now) }
+{
+    match modulus {
+        2 => sum_up(2, state, items, out),
+        4 => sum_up(4, state, items, out),
+        8 => sum_up(8, state, items, out),
+        16 => sum_up(16, state, items, out),
+        256 => sum_up(256, state, items, out),
+        _ => sum_up(modulus, state, items, out),
     }
 }
 
@@ -61,7 +115,7 @@ impl Single for DiffEncoder {
         _held: &[Held],
         out: &mut Items,
     ) -> u64 {
-        code(self, state, window, out)
+        sum_items(self.modulus, state, window, out)
     }
 
     ghost single = { λ b. record { in_least = refl; in_most = refl; out_least = refl; out_most = refl } };

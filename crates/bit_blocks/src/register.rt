@@ -46,21 +46,32 @@ impl Register {
         }
         Ok(Register { bits, mask, init })
     }
+}
 
+/// What a step reads of a register.
+#[derive(Clone, Copy)]
+pub(crate) struct Taps {
+    pub(crate) bits: u32,
+    pub(crate) mask: u64,
+    ghost few: { bits ≤ 32 },
+    ghost small: { mask < 2 ^ bits },
+}
+
+impl Taps {
     /// The sum of the bits of a word that the mask has.
-    pub(crate) fn sum(&self, word: u64) -> u64
-        ensures value { result ≡ masked self.now.bits self.now.mask (places_of self.now.bits word) }
+    pub(crate) fn sum(self, word: u64) -> u64
+        ensures value { result ≡ masked self.bits self.mask (places_of self.bits word) }
         ensures small { result ≤ 32 }
     {
         u64::from((self.mask & word).count_ones())
     }
 
     /// The word with a new bit in front, without its oldest bit.
-    pub(crate) fn push(&self, word: u64, bit: u64) -> u64
-        requires word { word < 2 ^ self.now.bits }
+    pub(crate) fn push(self, word: u64, bit: u64) -> u64
+        requires word { word < 2 ^ self.bits }
         requires bit { bit < 2 }
-        ensures value { result ≡ (2 * word + bit) % 2 ^ self.now.bits }
-        ensures word { result < 2 ^ self.now.bits }
+        ensures value { result ≡ (2 * word + bit) % 2 ^ self.bits }
+        ensures word { result < 2 ^ self.bits }
     {
         (2 * word + bit) % (1 << self.bits)
     }

@@ -3,7 +3,7 @@ ghost use Rattle.std.specs.Prelude.{◌≡◌};
 ghost use Rattle.stream_model.specs.Kinds.Bits.{scrambler};
 
 use crate::code::{Coder, code};
-use crate::register::Register;
+use crate::register::{Register, Taps};
 use block_kinds::{Block, ByPace, Held, Shape, Single, work_single};
 use items::{ItemType, Items};
 
@@ -25,20 +25,26 @@ impl Scrambler {
     }
 }
 
-impl Coder for Scrambler {
+// The steps of a scrambler.
+#[derive(Clone, Copy)]
+struct Scrambling {
+    taps: Taps,
+}
+
+impl Coder for Scrambling {
     ghost use Rattle.std.specs.Prelude.{◌<◌, ◌^◌, ◌+◌, ◌*◌, ◌%◌};
     ghost use Rattle.stream_model.specs.Numbers.{residue};
     ghost use Rattle.stream_model.specs.Kinds.Bits.{masked, places_of};
 
-    ghost is_word = { λ b word. word < 2 ^ b.register.bits };
+    ghost is_word = { λ b word. word < 2 ^ b.taps.bits };
 
-    ghost gives = { λ b word z. (residue z 2 + masked b.register.bits b.register.mask (places_of b.register.bits word)) % 2 };
+    ghost gives = { λ b word z. (residue z 2 + masked b.taps.bits b.taps.mask (places_of b.taps.bits word)) % 2 };
 
-    ghost next = { λ b word z. (2 * word + (residue z 2 + masked b.register.bits b.register.mask (places_of b.register.bits word)) % 2) % 2 ^ b.register.bits };
+    ghost next = { λ b word z. (2 * word + (residue z 2 + masked b.taps.bits b.taps.mask (places_of b.taps.bits word)) % 2) % 2 ^ b.taps.bits };
 
-    fn step(&self, word: u64, byte: u8) -> (u8, u64) {
-        let bit = (u64::from(byte) + self.register.sum(word)) % 2;
-        (bit as u8, self.register.push(word, bit))
+    fn step(self, word: u64, byte: u8) -> (u8, u64) {
+        let bit = (u64::from(byte) + self.taps.sum(word)) % 2;
+        (bit as u8, self.taps.push(word, bit))
     }
 }
 
@@ -57,7 +63,13 @@ impl Single for Scrambler {
         _held: &[Held],
         out: &mut Items,
     ) -> u64 {
-        code(self, state, window, out)
+        let coder = Scrambling {
+            taps: Taps {
+                bits: self.register.bits,
+                mask: self.register.mask,
+            },
+        };
+        code(coder, state, window, out)
     }
 
     ghost single = { λ b. record { in_least = refl; in_most = refl; out_least = refl; out_most = refl } };
