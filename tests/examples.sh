@@ -6,7 +6,7 @@ source "$(dirname -- "$(readlink -f -- "${BASH_SOURCE[0]}")")/cases.sh"
 
 # example FOLDER: its cases
 example() {
-    local name expected
+    local name expected errors=''
     name=$(basename -- "$1")
     cp -- "$1/graph.toml" "$room/graphs/$name.toml"
     if [[ -e $1/script ]]; then
@@ -22,8 +22,11 @@ example() {
     fi
     if [[ -e $1/expected_run ]]; then
         expected=$(cat -- "$1/expected_run")
+        if [[ -e $1/expected_stall ]]; then
+            errors=$(cat -- "$1/expected_stall")
+        fi
         # A run that stalls says so in its last line, and by its status.
-        ends "$name.run" "$([[ ${expected##*$'\n'} == stalled ]] && echo 3 || echo 0)" "$expected\n" '' run "$name.toml"
+        ends "$name.run" "$([[ ${expected##*$'\n'} == stalled ]] && echo 3 || echo 0)" "$expected\n" "$errors" run "$name.toml"
     fi
 }
 

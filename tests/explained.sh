@@ -114,6 +114,8 @@ shows three_repeats '12 Gain w' 5:14 '    { name = "w", kind = "repeat", type = 
 edited other_feed fed '/^source/s/src/sic/'
 shows other_feed '20 NoSuchBlock feed 0' "$(grep -n '^source' "$room/graphs/other_feed.toml" | cut -d: -f1):10" 'source = "sic"' '         ' 'no block has the name `sic`; is `src` meant?' run
 text no_feed "block = [{ name = \"s\", kind = \"null_sink\", type = \"byte\" }, $src]\nconnect = [{ from = \"src\", to = \"s\" }]\nfeed = [{ source = \"s\" }]"
+ends explained_check_of_feeds 1 '' "flow: refused 20 NoSuchBlock feed 0"$'\n'"$(place other_feed.toml "$(grep -n '^source' "$room/graphs/other_feed.toml" | cut -d: -f1):10" 'source = "sic"' '         ' 'no block has the name `sic`; is `src` meant?')" \
+    check --feeds --explain other_feed.toml
 shows no_feed '21 NotSource feed 0' 3:20 'feed = [{ source = "s" }]' '                   ' '`s` is of the kind null_sink: only a vector_source is fed' script
 chain="block = [{ name = \"s\", kind = \"null_sink\", type = \"byte\" }, $src]\nconnect = [{ from = \"src\", to = \"s\" }]\n[[feed]]\nsource = \"src\"\n"
 text item "${chain}items = [\n    1, # not 256, 2\n    256,\n]\n"
@@ -128,8 +130,11 @@ shows long '42 MissingKey block 0 kind' 1:10 "block = [{ name = \"100\" }, { nam
 bad_line near_word script plain 'feed src 5\nfed src 6\nclose src\n' 'fed 1\n' 2:1 'fed src 6' '' 'there is no command `fed`; is `feed` meant?'
 bad_line spaced_line script plain '#\n  step a x\r\n' '' 2:3 '  step a x' '  ' 'the line is: step NAME MAX, where MAX is 1 to 4294967295'
 bad_line last_line script plain 'quiet\nset a' 'quiet yes\n' 2:1 'set a' '' 'the line is: set NAME AT NUMBER.., where AT is an item or now'
+bad_line why_of_two script plain 'why a b\n' '' 1:1 'why a b' '' 'the line is: why NAME'
+bad_line settle_a_block script plain 'settle a\n' '' 1:1 'settle a' '' 'the line is: settle'
+bad_line live_why live plain 'why a\n' '' 1:1 'why a' '' '`why` is no command of a live run; there are: feed, close, set, read'
 bad_line live_step live plain 'step a 1\n' '' 1:1 'step a 1' '' '`step` is no command of a live run; there are: feed, close, set, read'
-bad_line many_lines script plain "$(printf '#%0.s\\n' {1..3000})play \\033[m\\n" '' 3001:1 'play \x1b[m' '' 'there is no command `play`; there are: feed, close, set, step, claim, commit, abandon, read, quiet'
+bad_line many_lines script plain "$(printf '#%0.s\\n' {1..3000})play \\033[m\\n" '' 3001:1 'play \x1b[m' '' 'there is no command `play`; there are: feed, close, set, step, claim, commit, abandon, read, why, quiet, settle'
 # Devices, files of raw items, and what is not refused.
 for command in check draw run live script; do
     ends "explained_${command}_of_a_missing_file" 4 '' $'flow: refused 51 Read\n --> no/such/file: No such file or directory (os error 2)' "$command" --explain no/such/file

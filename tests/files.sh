@@ -23,7 +23,10 @@ run named_ports named_ports 'sink out 0\ndone\n'
 changed two_feeds fed 's/items = .*/items = []\n[[feed]]\nsource = "src"\nitems = [7]\ntags = [{ at = 0, key = "k", value = -1 }]/'
 run two_feeds two_feeds 'sink out 1 17 @0:k=-1/0\ndone\n'
 changed other_source fed 's/source = .*/source = "other"/'
-check feeds_are_not_made_in_a_check other_source 'blocks 3\nconnections 2\nrates balanced\nq src 1\nq a 1\nq out 1\n'
+chain='blocks 3\nconnections 2\nrates balanced\nq src 1\nq a 1\nq out 1\n'
+check feeds_are_not_made_in_a_check other_source "$chain"
+ends feeds_of_a_check 0 "$chain" '' check --feeds two_feeds.toml
+ends no_feeds_of_a_check 0 "$chain" '' check --feeds plain.toml
 
 # Graph files that are refused: the text.
 refuses_change no_toml '40 Syntax' plain '1s/.*/[[block]/'
@@ -64,6 +67,10 @@ refuses_change tag_without_a_value '43 WrongType feed 0 tags' fed 's/\[250, 1\]/
 refused other_source '20 NoSuchBlock feed 0' run
 refuses_change feed_of_no_source '21 NotSource feed 0' fed 's/source = .*/source = "a"/' run
 refuses_change item_too_great '24 ItemRange feed 1' two_feeds 's/\[7\]/[256]/' run
+ends check_of_a_feed_of_no_block 1 '' "$(refusal '20 NoSuchBlock feed 0')" check --feeds other_source.toml
+ends check_of_a_feed_of_no_source 1 '' "$(refusal '21 NotSource feed 0')" check --feeds feed_of_no_source.toml
+ends check_of_an_item_too_great 1 '' "$(refusal '24 ItemRange feed 1')" check --feeds item_too_great.toml
+ends check_of_feeds_of_a_loop 1 '' "$(refusal '7 Loop x')" check --feeds looped.toml
 refuses_change tag_behind_the_items '25 TagPlace feed 0' fed 's/\[250, 1\]/[250, 1]\ntags = [{ at = 2, key = "k", value = 1 }]/' script
 # The first of several causes.
 refuses_change blocks_before_connections '44 UnknownKind block 2' unknown_block 's/vector_sink/sink/'

@@ -18,6 +18,18 @@ check() { ends "$1" 0 "$3" '' check "$2.toml"; }
 # run NAME GRAPH OUTPUT [STATUS]: what `run` writes for it
 run() { ends "$1" "${4:-0}" "$3" '' run "$2.toml"; }
 
+# stall LINE..: prints the lines of standard error that tell why a run stalled
+stall() { printf 'flow: stalled: %s\n' "$@"; }
+
+# stalls NAME GRAPH OUTPUT LINE..: what `run` writes for it, which stalls, and why
+stalls() { ends "$1" 3 "$3" "$(stall "${@:4}")" run "$2.toml"; }
+
+# live_stalls NAME GRAPH LINES OUTPUT LINE..: the same of `live`
+live_stalls() {
+    printf '%b' "$3" >"$room/cases/$1"
+    ends "$1" 3 "$4" "$(stall "${@:5}")" live "$2.toml"
+}
+
 # script NAME GRAPH SCRIPT OUTPUT [STATUS REFUSAL]: what `script` writes for it
 script() {
     printf '%b' "$3" >"$room/cases/$1"

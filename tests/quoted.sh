@@ -5,9 +5,9 @@ set -euo pipefail
 # shellcheck source=tests/cases.sh
 source "$(dirname -- "$(readlink -f -- "${BASH_SOURCE[0]}")")/cases.sh"
 
-# quoted NAME OUTPUT WORD..: a call as a page shows it, with < FILE for its standard input
+# quoted NAME OUTPUT WORD..: a call as a page shows it, with < FILE for its standard input. What it says of a stall goes to standard error
 quoted() {
-    local name=$1 output=$2 words=() graph status=0
+    local name=$1 output=$2 words=() graph errors status=0
     shift 2
     while (($# > 0)); do
         case $1 in
@@ -21,10 +21,12 @@ quoted() {
         esac
         shift
     done
+    errors=$(grep '^flow: stalled: ' <<<"$output" || true)
+    output=$(grep -v '^flow: stalled: ' <<<"$output" || true)
     if [[ ${output##*$'\n'} == stalled ]]; then
         status=3
     fi
-    ends "$name" "$status" "${output//\\/\\\\}" '' "${words[@]}"
+    ends "$name" "$status" "${output//\\/\\\\}" "$errors" "${words[@]}"
 }
 
 # calls_of FILE: the calls that a page shows; in a fence without a language each runs from its `$` to the next, or to the end of the fence

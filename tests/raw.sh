@@ -43,7 +43,14 @@ raw highest_byte_first 'BKCK' 0 'BACA' $'sink out 2\ndone' --big-endian -i src=-
 raw numbers_of_shorts '\x0a\x80\xff\x7f\x0a\x00' 0 'sink out 3 -32768 32757 0\ndone\n' '' -i src=- longer.toml
 raw numbers_of_shorts_highest_first '\x80\x0a' 0 'sink out 1 -32768\ndone\n' '' --big-endian -i src=- longer.toml
 raw order_without_files '' 0 'sink out 2 4 11\ndone\n' '' --big-endian fed.toml
-raw stalled_run '' 3 '\x03\x06\x09' $'sink out 3\nstalled' -o out=- uneven.toml
+why='flow: stalled: src waits for room on output 0, which j has not read
+flow: stalled: j waits for items of k on input 1
+flow: stalled: k waits for items of src on input 0
+flow: stalled: a greater capacity of src may open this ring
+flow: stalled: the rates are uneven: on longer streams any capacity may fill'
+raw stalled_run '' 3 '\x03\x06\x09' $'sink out 3\nstalled\n'"$why" -o out=- uneven.toml
+raw stalled_run_of_a_file '' 3 'sink out 3 3 6 9\nstalled\n' "$why" -i src=none.raw uneven.toml
+raw quiet_stalled_run '' 3 '\x03\x06\x09' $'sink out 3\nstalled' -q -o out=- uneven.toml
 raw to_a_file '' 0 'sink out 2\ndone\n' '' -o out=made.raw fed.toml
 raw to_nowhere '' 0 'sink out 2\ndone\n' '' -o out=/dev/null fed.toml
 raw one_of_two_sources '\x05\x06' 0 'sink out 2 60 62\ndone\n' '' -i s=bytes.raw -i t=- two_sources.toml

@@ -36,7 +36,37 @@ script multiple_in_a_script multiple 'step src 10\nstep a 8\n' 'did 10\ndid 2\n'
 script slowest_reader_makes_room two_readers \
     'feed src 1 2 3 4 5 6 7 8 9 10\nstep src 100\nstep src 1\nstep a 4\nstep src 1\nstep b 1\nstep src 100\n' \
     'fed 10\ndid 4\nwaiting room 0\ndid 4\nwaiting room 0\ndid 1\ndid 1\n'
-run stall uneven 'sink out 3 3 6 9\nstalled\n' 3
+ring=("src waits for room on output 0, which j has not read" "j waits for items of k on input 1" "k waits for items of src on input 0")
+opener="a greater capacity of src may open this ring"
+rates="the rates are uneven: on longer streams any capacity may fill"
+stalls stall uneven 'sink out 3 3 6 9\nstalled\n' "${ring[@]}" "$opener" "$rates"
+ends quiet_stall 3 'sink out 3 3 6 9\nstalled\n' '' run --quiet uneven.toml
+ends quiet_stall_on_one_thread 3 'sink out 3 3 6 9\nstalled\n' '' run --one-thread -q uneven.toml
+live_stalls live_stall uneven '' 'sink out 3 3 6 9\nstalled\n' "${ring[@]}" "$opener" "$rates"
+live_stalls live_stall_of_a_closed_source uneven 'close src\n' 'closed 20\nsink out 3 3 6 9\nstalled\n' "${ring[@]}" "$opener" "$rates"
+# The ring is told from its lowest block on, and the first of its blocks without room is named.
+file full_twice 'feed = [{ source = "src", items = [1, 2, 3, 4, 5, 6, 7, 8, 9, 10] }]
+block = [
+    { name = "p", kind = "not", type = "byte", capacity = 1 },
+    { name = "src", kind = "vector_source", type = "byte", capacity = 2 },
+    { name = "j", kind = "add", type = "byte" },
+    { name = "k", kind = "keep_one_in_n", type = "byte", n = 2 },
+    { name = "out", kind = "vector_sink", type = "byte" },
+]
+connect = [
+    { from = "src", to = "p" },
+    { from = "p", to = "j" },
+    { from = "src", to = "k" },
+    { from = "k", to = "j", to_port = 1 },
+    { from = "j", to = "out" },
+]'
+stalls ring_from_its_lowest_block full_twice 'sink out 2 0 1\nstalled\n' "p waits for room on output 0, which j has not read" "${ring[1]}" "${ring[2]}" \
+    "src waits for room on output 0, which p has not read" "a greater capacity of p may open this ring" "$rates"
+changed sink_first uneven '/"out", kind/d; s/^    \{ name = "src".*/    { name = "out", kind = "vector_sink", type = "byte" },\n&/'
+stalls ring_behind_a_block sink_first 'sink out 3 3 6 9\nstalled\n' "${ring[@]}" "$opener" "$rates"
+# Where numbers are only too large, nothing is said of the rates.
+changed skip_too_long skip_beside 's/n = 3/n = 65537/'
+stalls stall_without_a_balance skip_too_long 'sink out 0\nstalled\n' "${ring[0]}" "j waits for items of s on input 1" "s waits for items of src on input 0" "$opener"
 script settling_comes_to_a_stall uneven 'settle\nclose src\nsettle\nread out 0 9\n' 'settled quiet\nclosed 20\nsettled quiet\nread 3 3 6 9\n'
 check uneven_rates uneven 'blocks 4\nconnections 4\nrates uneven\n'
 check balanced_rates even 'blocks 5\nconnections 5\nrates balanced\nq src 2\nq j 1\nq k 1\nq l 1\nq out 1\n'

@@ -27,6 +27,19 @@ script jobs_of_two_blocks two_ways 'feed src 1 2\nstep src 2\nclaim a 2\nclaim c
 script claims_in_flight plain 'feed src 1 2\nclaim src 1\nquiet\nclaim src 1\nstep src 1\nclaim a 1\ncommit zzz\nabandon src\nclaim src 9\ncommit src\n' \
     'fed 2\nclaimed 0 1\nquiet no\nbusy\nbusy\nwaiting items 0\nrefused 20\nabandoned\nclaimed 0 2\ndid 2\n'
 
+# What blocks wait for.
+script waits_of_a_chain plain \
+    'why src\nwhy a\nwhy out\nwhy zzz\nfeed src 1\nwhy src\nclaim src 1\nwhy src\ncommit src\nwhy src\nwhy a\nwhy out\nclose src\nwhy src\nsettle\nwhy src\nwhy a\nwhy out\n' \
+    'waits feed\nwaits items 0 of src\nwaits items 0 of a\nrefused 20\nfed 1\nready\nclaimed 0 1\nbusy\ndid 1\nwaits feed\nready\nwaits items 0 of a\nclosed 1\nready\nsettled done\ndone\ndone\ndone\n'
+script waits_for_the_slowest_reader two_readers \
+    'feed src 1 2 3 4 5 6 7 8 9 10\nstep src 100\nwhy src\nstep a 4\nwhy src\nstep b 2\nwhy src\nstep src 9\nwhy src\n' \
+    'fed 10\ndid 4\nwaits room 0 for a\ndid 4\nwaits room 0 for b\ndid 2\nready\ndid 2\nwaits room 0 for b\n'
+script waits_in_a_ring uneven 'close src\nsettle\nwhy src\nwhy j\nwhy k\nwhy out\n' \
+    'closed 20\nsettled quiet\nwaits room 0 for j\nwaits items 1 of k\nwaits items 0 of src\nwaits items 0 of j\n'
+changed small_outputs dealt 's/ports = 3 /ports = 3, capacity = 1 /'
+script waits_at_a_higher_port small_outputs 'step src 9\nstep d 9\nstep first 1\nstep third 1\nwhy d\nwhy third\n' \
+    'did 7\ndid 1\ndid 1\ndid 1\nwaits room 1 for second\nwaits items 0 of d\n'
+
 # Commands that are refused, and numbers at their ends.
 script refused_commands plain \
     'feed out 1\nfeed src 256\nfeed src 1 @5:k=1\nread a 0 1\nread out 1 1\nset src now 1\nset a now 300\nstep zzz 1\ncommit a\nstep src 1\nclose src\nclose src\nstep src 1\n' \
@@ -60,8 +73,11 @@ bad byte '\xff'
 
 # Calls while the graph runs. Claims are the workers', and whether a run is quiet its own matter: such lines are bad.
 live calls_of_a_run plain 'feed src 250\nset a 1 20\nfeed src 1\nread out 9 1\nclose src\n' 'fed 1\ntaken 1\nfed 2\nrefused 31\nclosed 2\nsink out 2 4 21\ndone\n'
-live source_left_open plain 'feed src 250\n' 'fed 1\nsink out 1 4\nstalled\n' 3
-live no_calls fed '' 'sink out 2 4 11\nstalled\n' 3
+open="is open: it waits to be fed"
+live_stalls source_left_open plain 'feed src 250\n' 'fed 1\nsink out 1 4\nstalled\n' "src $open"
+live_stalls no_calls fed '' 'sink out 2 4 11\nstalled\n' "src $open"
+live_stalls two_sources_left_open two_sources 'feed s 1\n' 'fed 1\nsink out 0\nstalled\n' "s $open" "t $open"
+live_stalls one_of_two_sources_left_open two_sources 'feed s 1 2\nfeed t 4\nclose s\n' 'fed 2\nfed 1\nclosed 2\nsink out 1 5\nstalled\n' "t $open"
 live feed_of_a_file_comes_first fed 'close src\n' 'closed 2\nsink out 2 4 11\ndone\n'
 live no_blocks_to_run no_blocks 'feed src 1\n' 'refused 20\ndone\n'
 live last_call_without_end plain '#\n\n  close src' 'closed 0\nsink out 0\ndone\n'
@@ -70,7 +86,7 @@ live refused_calls plain \
     'refused 20\nrefused 21\nrefused 21\nrefused 24\nrefused 25\nrefused 21\nrefused 28\nrefused 29\nrefused 29\nrefused 22\nrefused 31\nclosed 0\nrefused 23\nrefused 23\nrefused 24\nrefused 20\nsink out 0\ndone\n'
 live bad_call plain 'feed src 5\nfeed src x\nclose src\n' 'fed 1\n' 1 '50 BadLine 2'
 live bad_last_call plain '#\nfeed src 5\nstep a 1' 'fed 1\n' 1 '50 BadLine 3'
-for line in 'claim a 1' 'commit a' 'abandon a' 'step a 1' 'claim zzz 1' quiet settle; do
+for line in 'claim a 1' 'commit a' 'abandon a' 'step a 1' 'claim zzz 1' 'why a' quiet settle; do
     live "call_${line// /_}" plain "feed src 5\\n$line\\nclose src\\n" 'fed 1\n' 1 '50 BadLine 2'
 done
 

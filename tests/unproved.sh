@@ -47,7 +47,7 @@ is_quoted() {
     echo "README.md quotes $1"
 }
 
-run_tests 116 leaves kernels blocks flowgraphs plants threads graph_files streams terminal
+run_tests 118 leaves kernels blocks flowgraphs plants threads graph_files streams terminal
 for bench in kernel_bench graph_bench thread_bench; do
     put_bench "$bench"
     run_program "$bench"

@@ -27,18 +27,19 @@ help_text() {
 }
 explain="      --explain  Shows the place of what is refused"
 declare -A help_of=(
-    [check]=$(help_text "Reads the graph and reports on it" "check [OPTIONS] <FILE>" "$explain" "  -h, --help     Print help")
+    [check]=$(help_text "Reads the graph and reports on it" "check [OPTIONS] <FILE>" "$explain" \
+        "      --feeds    Tests the feeds too, as a run would" "  -h, --help     Print help")
     [draw]=$(help_text "Writes the graph as text from which a picture is made" "draw [OPTIONS] <FILE>" \
         "      --explain          Shows the place of what is refused" \
         "      --format <FORMAT>  The language of the text [default: dot] [possible values: dot, mermaid]" "  -h, --help             Print help")
     [run]=$(help_text "Runs the graph and prints what its sinks hold" "run [OPTIONS] <FILE>" \
         "      --explain              Shows the place of what is refused" \
-        "  -q, --quiet                Shows no progress on a terminal" "      --one-thread           Runs all blocks on one thread" \
+        "  -q, --quiet                Shows neither progress nor why a run stalled" "      --one-thread           Runs all blocks on one thread" \
         "      --big-endian           Takes the highest byte of a raw item as its first" "  -i, --input <BLOCK=PATH>   Feeds the raw items of a file to a source" \
         "  -o, --output <BLOCK=PATH>  Writes the items of a sink to a file, raw" "      --tags <BLOCK=PATH>    Writes the tags of a sink to a file, a line each" \
         "  -h, --help                 Print help")
     [live]=$(help_text "Runs the graph while the commands of standard input are done" "live [OPTIONS] <FILE>" \
-        "$explain" "  -q, --quiet    Shows no progress on a terminal" "  -h, --help     Print help")
+        "$explain" "  -q, --quiet    Shows neither progress nor why a run stalled" "  -h, --help     Print help")
     [script]=$(help_text "Runs the commands of standard input on the graph" "script [OPTIONS] <FILE>" "$explain" \
         "  -h, --help     Print help")
 )
@@ -62,10 +63,11 @@ ends short_call_for_help 2 '' "$help" -h
 ends help_alone 2 '' "$help" help
 ends call_for_the_version 2 '' "flow 0.1.0" --version
 ends short_call_for_the_version 2 '' "flow 0.1.0" -V
-# Standard error is no terminal here, so that a run writes nothing there, with the flag or without.
+# Standard error is no terminal here, so that no progress is shown there, with the flag or without.
 ends quiet_run 0 'sink out 0\ndone\n' '' run --quiet plain.toml
 ends quiet_run_by_a_letter 0 'sink out 0\ndone\n' '' run -q plain.toml
 ends quiet_behind_the_file 0 'sink out 0\ndone\n' '' run plain.toml --quiet
+ends live_run 3 'sink out 0\nstalled\n' 'flow: stalled: src is open: it waits to be fed' live plain.toml
 ends quiet_live_run 3 'sink out 0\nstalled\n' '' live --quiet plain.toml
 ends quiet_live_run_by_a_letter 3 'sink out 0\nstalled\n' '' live -q plain.toml
 ends quiet_on_one_thread 0 'sink out 0\ndone\n' '' run --one-thread -q plain.toml
@@ -77,6 +79,10 @@ ends picture_in_no_format 2 '' - draw --format svg plain.toml
 ends format_without_a_word 2 '' - draw plain.toml --format
 ends format_of_a_check 2 '' - check --format dot plain.toml
 ends quiet_picture 2 '' - draw --quiet plain.toml
+ends feeds_twice 2 '' - check --feeds --feeds plain.toml
+ends feeds_of_a_run 2 '' - run --feeds plain.toml
+ends feeds_of_a_picture 2 '' - draw --feeds plain.toml
+ends feeds_behind_the_file 0 'blocks 3\nconnections 2\nrates balanced\nq src 1\nq a 1\nq out 1\n' '' check plain.toml --feeds
 ends quiet_check 2 '' - check --quiet plain.toml
 ends quiet_script 2 '' - script -q plain.toml
 ends explain_twice 2 '' - check --explain --explain plain.toml

@@ -161,8 +161,8 @@ fn first_word(line: &[u8]) -> &[u8] {
     }
 }
 
-const COMMANDS: [&str; 9] = [
-    "feed", "close", "set", "step", "claim", "commit", "abandon", "read", "quiet",
+const COMMANDS: [&str; 11] = [
+    "feed", "close", "set", "step", "claim", "commit", "abandon", "read", "why", "quiet", "settle",
 ];
 
 const CALLS: [&str; 4] = ["feed", "close", "set", "read"];
@@ -178,7 +178,9 @@ fn grammar(word: &[u8]) -> Option<&'static str> {
         b"commit" => Some("commit NAME"),
         b"abandon" => Some("abandon NAME"),
         b"read" => Some("read NAME FROM MAX, where MAX is 1 to 4294967295"),
+        b"why" => Some("why NAME"),
         b"quiet" => Some("quiet"),
+        b"settle" => Some("settle"),
         _ => None,
     }
 }

@@ -15,5 +15,6 @@ pub mod Askable
 pub mod Claiming
 pub mod Reporting
 pub mod Serving
+pub mod Stalling
 pub mod Outcomes
 pub mod Resting

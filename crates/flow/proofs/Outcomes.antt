@@ -1,6 +1,7 @@
 -- What a command does, from what it tells and whether that was written.
 use Rattle.std.proofs.Common.{◌≡◌, ℕ, ◌+◌, List, refl, ap, sym, ◌∙◌, subst, arith, Bool, true, false}
-use Rattle.std.specs.Prelude.{Option, Result, Ok, Err, IsOk, IfOk, IfErr, if◌then◌else◌}
+use Rattle.std.specs.Option.{option_map}
+use Rattle.std.specs.Prelude.{Option, Some, None, Result, Ok, Err, IsOk, IfOk, IfErr, if◌then◌else◌}
 use Rattle.std.specs.Io.KnownBytes.{Appends}
 use Rattle.stream_model.specs.Network.{Network, State}
 use Rattle.stream_model.specs.Machine.{Capacities, is_all_done, IsWhole}
@@ -32,7 +33,7 @@ use Rattle.flow.specs.Threads.{HasCome}
 use Rattle.stream_laws.specs.CanRun.{CanRun}
 use Rattle.machine_laws.proofs.Wholes.{all_done_is_whole}
 use Rattle.flow.specs.RawEnds.{ComesToRest}
-use Rattle.flow.specs.Serve.{Fails, IsNoFile, Refuses, RunsNot, StopsLive, Writes, WritesNot, IsAtRest, IsLive, IsRun, IsRunAlone, plant_in, reads_in, writes_failed}
+use Rattle.flow.specs.Serve.{Becomes, Fails, IsNoFile, Refuses, RunsNot, StopsLive, Writes, WritesNot, IsAtRest, IsLiveTo, IsRunTo, IsRunAloneTo, plant_in, stalled_in, reads_in, reads_failed, writes_in, writes_failed}
 use Rattle.flow.specs.declared.fault.Fault.{Fault}
 use Rattle.flow.specs.declared.fault.Fault.TheVariants.{File, Script, Run}
 use Rattle.flow.specs.declared.script.ScriptFault.TheVariants.{BadLine, Read, Write, Memory}
@@ -60,7 +61,7 @@ module _ {A : Type 0} (IsDone : List ℕ → ℕ → Type 0) (r : Result A Refus
   wrote out out' text status (Err e) h k = tt
 
   -- or not
-  pub wrote_not : (out out' : Option (List ℕ)) (text : List ℕ) (status : ℕ) (result : Result ℕ Fault) → IsDone text status →
+  pub wrote_not : {X : Type 0} (out out' : Option (List ℕ)) (text : List ℕ) (status : ℕ) (result : Result X Fault) → IsDone text status →
       IfErr result (λ fault. (fault ≡ Script Write) × AppendsBeginning out out' text) → IfErr result (WritesNot IsDone r out out')
   wrote_not out out' text status (Ok s) h k = tt
   wrote_not out out' text status (Err e) h k = subst (WritesNot IsDone r out out') (sym k.0) (text, status, h, k.1)
@@ -80,7 +81,7 @@ module _ {A : Type 0} (IsDone : List ℕ → ℕ → Type 0) (r : Result A Refus
   failed_not out (Script fault) h = refused_not out (Script fault) h
 
   -- the same where a run may have failed
-  pub ran_not : (out out' : Option (List ℕ)) (result : Result ℕ Fault) → IfErr result (WritesNot IsDone r out out') → IfErr result (RunsNot IsDone r out out')
+  pub ran_not : {X : Type 0} (out out' : Option (List ℕ)) (result : Result X Fault) → IfErr result (WritesNot IsDone r out out') → IfErr result (RunsNot IsDone r out out')
   ran_not out out' (Ok s) h = tt
   ran_not out out' (Err (File fault)) h = h
   ran_not out out' (Err (Script fault)) h = h
@@ -100,7 +101,7 @@ module _ {A : Type 0} (IsDone : List ℕ → ℕ → Type 0) (r : Result A Refus
   failed_writes (Run fault) h = refl
 
   -- and nothing was read
-  pub no_reads : (out out' : Option (List ℕ)) (result : Result ℕ Fault) → IfErr result (WritesNot IsDone r out out') → reads_in result ≡ 0
+  pub no_reads : {X : Type 0} (out out' : Option (List ℕ)) (result : Result X Fault) → IfErr result (WritesNot IsDone r out out') → reads_in result ≡ 0
   no_reads out out' (Ok s) h = refl
   no_reads out out' (Err (File fault)) h = refl
   no_reads out out' (Err (Script (BadLine n))) h = refl
@@ -109,11 +110,49 @@ module _ {A : Type 0} (IsDone : List ℕ → ℕ → Type 0) (r : Result A Refus
   no_reads out out' (Err (Script Memory)) h = refl
   no_reads out out' (Err (Run fault)) h = absurd h
 
-  pub no_reads_of_run : (out out' : Option (List ℕ)) (result : Result ℕ Fault) → IfErr result (RunsNot IsDone r out out') → reads_in result ≡ 0
+  pub no_reads_of_run : {X : Type 0} (out out' : Option (List ℕ)) (result : Result X Fault) → IfErr result (RunsNot IsDone r out out') → reads_in result ≡ 0
   no_reads_of_run out out' (Ok s) h = refl
   no_reads_of_run out out' (Err (File fault)) h = refl
-  no_reads_of_run out out' (Err (Script fault)) h = no_reads out out' (Err (Script fault)) h
+  no_reads_of_run {X} out out' (Err (Script fault)) h = no_reads {X = X} out out' (Err (Script fault)) h
   no_reads_of_run out out' (Err (Run fault)) h = refl
+
+-- the plant of a run that stalled is the one that was opened, elsewhere
+stalled_is : (p r : Opened) (st : State) (done : Bool) (stalled : Option Opened) → r ≡ record p { state = st } → done ≡ is_all_done st → stalled ≡ (if done then None else Some r) →
+    stalled ≡ stalled_in p st
+stalled_is p r st done stalled same all e =
+    e ∙ ap (λ (x : Opened). if done then None else Some x) same ∙ ap (λ (b : Bool). if b then None else Some (record p { state = st })) all
+
+-- what a run told was written, and its plant is given on
+pub wrote_run : (IsDone : Option Opened → List ℕ → ℕ → Type 0) (out out' : Option (List ℕ)) (text : List ℕ) (status s : ℕ) (stalled t : Option (PlantState Kind)) →
+    IsDone (option_map opened_of stalled) text status → s ≡ status → t ≡ stalled → Appends out out' text → Writes (IsDone (option_map opened_of t)) out out' s
+wrote_run IsDone out out' text status s stalled t h e f wrote =
+    (text, subst (λ (x : Option (PlantState Kind)). IsDone (option_map opened_of x) text s) (sym f) (subst (λ (n : ℕ). IsDone (option_map opened_of stalled) text n) (sym e) h), wrote)
+
+-- what is so of a result is so of one that it becomes
+module _ {A B : Type 0} (Is : A → B → Type 0) where
+  pub becomes_ok : (r : Result A Fault) (s : Result B Fault) (P : A → Type 0) (Q : B → Type 0) → Becomes Is r s → IfOk r P → ((a : A) (b : B) → Is a b → P a → Q b) → IfOk s Q
+  becomes_ok (Ok a) (Ok b) P Q is h k = k a b is h
+  becomes_ok (Ok a) (Err e) P Q is h k = tt
+  becomes_ok (Err e) (Ok b) P Q is h k = absurd is
+  becomes_ok (Err e) (Err f) P Q is h k = tt
+
+  pub becomes_err : (r : Result A Fault) (s : Result B Fault) (P Q : Fault → Type 0) → Becomes Is r s → IfErr r P → ((e : Fault) → P e → Q e) → IfErr s Q
+  becomes_err (Ok a) (Ok b) P Q is h k = tt
+  becomes_err (Ok a) (Err e) P Q is h k = absurd is
+  becomes_err (Err e) (Ok b) P Q is h k = tt
+  becomes_err (Err e) (Err f) P Q is h k = subst Q (sym is) (k e h)
+
+  pub becomes_reads : (r : Result A Fault) (s : Result B Fault) → Becomes Is r s → reads_in r ≡ reads_in s
+  becomes_reads (Ok a) (Ok b) is = refl
+  becomes_reads (Ok a) (Err e) is = absurd is
+  becomes_reads (Err e) (Ok b) is = absurd is
+  becomes_reads (Err e) (Err f) is = ap (λ (x : Fault). reads_failed x) (sym is)
+
+  pub becomes_writes : (r : Result A Fault) (s : Result B Fault) → Becomes Is r s → writes_in r ≡ writes_in s
+  becomes_writes (Ok a) (Ok b) is = refl
+  becomes_writes (Ok a) (Err e) is = absurd is
+  becomes_writes (Err e) (Ok b) is = absurd is
+  becomes_writes (Err e) (Err f) is = ap (λ (x : Fault). writes_failed x) (sym is)
 
 -- a network that settled is at rest
 pub at_rest : (net : Network) (caps : Capacities) (st : State) (settled : Settled) → HasSettled net caps st settled → (is_all_done st ≡ true → IsWhole net st) → IsAtRest net caps st
@@ -122,21 +161,24 @@ at_rest net caps st Quiet h whole = record { whole = whole; quiet = λ _. h.1 }
 
 module _ (file text : List ℕ) (p q r : PlantState Kind) where
   -- a plant whose sources were closed, and which then settled
-  pub ran : (settled : Settled) (done : Bool) (status : ℕ) → plant_in file ≡ Ok (opened_of p) → q ≡ with_all_closed meaning_of p → r ≡ in_state q r.state →
+  pub ran : (settled : Settled) (done : Bool) (status : ℕ) (stalled : Option Opened) → plant_in file ≡ Ok (opened_of p) → q ≡ with_all_closed meaning_of p → r ≡ in_state q r.state →
       StepsLead (net_of meaning_of q.graph) q.capacities turn q.state r.state → HasSettled (net_of meaning_of r.graph) r.capacities r.state settled →
-      done ≡ is_all_done r.state → (done ≡ true → IsWhole (net_of meaning_of r.graph) r.state) → text ≡ run_text (drafted r.graph) r.state → status ≡ (if done then 0 else 3) → IsRunAlone file text status
-  ran settled done status opens closes same steps rests all whole tells well =
-      let of : r ≡ in_state p r.state = same ∙ ap (λ (x : PlantState Kind). in_state x r.state) closes in
-      record {
-        plant = opened_of p;
-        opens = opens;
-        last = r.state;
-        steps = subst (λ (x : PlantState Kind). StepsLead (net_of meaning_of x.graph) x.capacities turn x.state r.state) closes steps;
-        rests = subst (λ (x : PlantState Kind). IsAtRest (net_of meaning_of x.graph) x.capacities r.state) of
-            (at_rest (net_of meaning_of r.graph) r.capacities r.state settled rests (λ e. whole (all ∙ e)));
-        told = tells ∙ ap (λ (x : PlantState Kind). run_text (drafted x.graph) r.state) of;
-        well = well ∙ ap (λ (b : Bool). if b then 0 else 3) all;
-      }
+      done ≡ is_all_done r.state → (done ≡ true → IsWhole (net_of meaning_of r.graph) r.state) → text ≡ run_text (drafted r.graph) r.state → status ≡ (if done then 0 else 3) →
+      stalled ≡ (if done then None else Some (opened_of r)) → IsRunAloneTo file stalled text status
+  ran settled done status stalled opens closes same steps rests all whole tells well left =
+      let of : r ≡ in_state p r.state = same ∙ ap (λ (x : PlantState Kind). in_state x r.state) closes in (
+        record {
+          plant = opened_of p;
+          opens = opens;
+          last = r.state;
+          steps = subst (λ (x : PlantState Kind). StepsLead (net_of meaning_of x.graph) x.capacities turn x.state r.state) closes steps;
+          rests = subst (λ (x : PlantState Kind). IsAtRest (net_of meaning_of x.graph) x.capacities r.state) of
+              (at_rest (net_of meaning_of r.graph) r.capacities r.state settled rests (λ e. whole (all ∙ e)));
+          told = tells ∙ ap (λ (x : PlantState Kind). run_text (drafted x.graph) r.state) of;
+          well = well ∙ ap (λ (b : Bool). if b then 0 else 3) all;
+        },
+        stalled_is (opened_of p) (opened_of r) r.state done stalled (ap opened_of of) all left,
+      )
 
 -- a plant with the same names and network, and with buffers as large as its rates ask, is the one that was opened, elsewhere
 module _ (p r : PlantState Kind) (eq : Kind → Kind → Bool) (agree : graphs_agree eq r.graph p.graph ≡ true) (net : net_of meaning_of r.graph ≡ net_of meaning_of p.graph)
@@ -154,41 +196,45 @@ module _ (p r : PlantState Kind) (eq : Kind → Kind → Bool) (agree : graphs_a
       λ i. record { draft = graph i; capacities = capacities i; state = r.state }
 
 module _ (file text : List ℕ) (p r : PlantState Kind) (eq : Kind → Kind → Bool) where
-  pub ran_in_threads : (settled : Settled) (done : Bool) (status : ℕ) → CameBack meaning_of eq (handed_of (with_all_closed meaning_of p)) r → plant_in file ≡ Ok (opened_of p) →
+  pub ran_in_threads : (settled : Settled) (done : Bool) (status : ℕ) (stalled : Option Opened) → CameBack meaning_of eq (handed_of (with_all_closed meaning_of p)) r → plant_in file ≡ Ok (opened_of p) →
       p.capacities ≡ capacities_of (net_of meaning_of p.graph) (balance_of (net_of meaning_of p.graph)) → Sound (net_of meaning_of r.graph) r.capacities r.state →
       HasSettled (net_of meaning_of r.graph) r.capacities r.state settled → done ≡ is_all_done r.state → (done ≡ true → IsWhole (net_of meaning_of r.graph) r.state) →
-      text ≡ run_text (drafted r.graph) r.state → status ≡ (if done then 0 else 3) → IsRun file text status
-  ran_in_threads settled done status back opens fit sound rests all whole tells well =
-      let same = same_plant p r eq back.graph back.net back.capacities fit in
-      record {
-        plant = opened_of p;
-        opens = opens;
-        last = r.state;
-        handed = back.handed;
-        sound = subst (λ (x : Opened). Sound x.draft.net x.capacities x.state) same sound;
-        rests = subst (λ (x : Opened). IsAtRest x.draft.net x.capacities x.state) same (at_rest (net_of meaning_of r.graph) r.capacities r.state settled rests (λ e. whole (all ∙ e)));
-        told = tells ∙ ap (λ d. run_text d r.state) (same_graph p r eq back.graph back.net back.capacities);
-        well = well ∙ ap (λ (b : Bool). if b then 0 else 3) all;
-      }
+      text ≡ run_text (drafted r.graph) r.state → status ≡ (if done then 0 else 3) → stalled ≡ (if done then None else Some (opened_of r)) → IsRunTo file stalled text status
+  ran_in_threads settled done status stalled back opens fit sound rests all whole tells well left =
+      let same = same_plant p r eq back.graph back.net back.capacities fit in (
+        record {
+          plant = opened_of p;
+          opens = opens;
+          last = r.state;
+          handed = back.handed;
+          sound = subst (λ (x : Opened). Sound x.draft.net x.capacities x.state) same sound;
+          rests = subst (λ (x : Opened). IsAtRest x.draft.net x.capacities x.state) same (at_rest (net_of meaning_of r.graph) r.capacities r.state settled rests (λ e. whole (all ∙ e)));
+          told = tells ∙ ap (λ d. run_text d r.state) (same_graph p r eq back.graph back.net back.capacities);
+          well = well ∙ ap (λ (b : Bool). if b then 0 else 3) all;
+        },
+        stalled_is (opened_of p) (opened_of r) r.state done stalled same all left,
+      )
 
   -- calls were made meanwhile
-  pub ran_live : (settled : Settled) (done : Bool) (status : ℕ) → HasCome meaning_of eq (opening_of p) r → plant_in file ≡ Ok (opened_of p) →
+  pub ran_live : (settled : Settled) (done : Bool) (status : ℕ) (stalled : Option Opened) → HasCome meaning_of eq (opening_of p) r → plant_in file ≡ Ok (opened_of p) →
       p.capacities ≡ capacities_of (net_of meaning_of p.graph) (balance_of (net_of meaning_of p.graph)) →
       HasSettled (net_of meaning_of r.graph) r.capacities r.state settled → done ≡ is_all_done r.state → (done ≡ true → IsWhole (net_of meaning_of r.graph) r.state) →
-      text ≡ run_text (drafted r.graph) r.state → status ≡ (if done then 0 else 3) → IsLive file text status
-  ran_live settled done status come opens fit rests all whole tells well =
+      text ≡ run_text (drafted r.graph) r.state → status ≡ (if done then 0 else 3) → stalled ≡ (if done then None else Some (opened_of r)) → IsLiveTo file stalled text status
+  ran_live settled done status stalled come opens fit rests all whole tells well left =
       let back = come.1 in
-      let same = same_plant p r eq back.graph back.net back.capacities fit in
-      record {
-        plant = opened_of p;
-        opens = opens;
-        history = come.0;
-        last = r.state;
-        run = subst (λ (x : Opened). IsRunOf x.draft.net x.capacities p.state come.0 r.state) same back.run;
-        rests = subst (λ (x : Opened). IsAtRest x.draft.net x.capacities x.state) same (at_rest (net_of meaning_of r.graph) r.capacities r.state settled rests (λ e. whole (all ∙ e)));
-        told = tells ∙ ap (λ d. run_text d r.state) (same_graph p r eq back.graph back.net back.capacities);
-        well = well ∙ ap (λ (b : Bool). if b then 0 else 3) all;
-      }
+      let same = same_plant p r eq back.graph back.net back.capacities fit in (
+        record {
+          plant = opened_of p;
+          opens = opens;
+          history = come.0;
+          last = r.state;
+          run = subst (λ (x : Opened). IsRunOf x.draft.net x.capacities p.state come.0 r.state) same back.run;
+          rests = subst (λ (x : Opened). IsAtRest x.draft.net x.capacities x.state) same (at_rest (net_of meaning_of r.graph) r.capacities r.state settled rests (λ e. whole (all ∙ e)));
+          told = tells ∙ ap (λ d. run_text d r.state) (same_graph p r eq back.graph back.net back.capacities);
+          well = well ∙ ap (λ (b : Bool). if b then 0 else 3) all;
+        },
+        stalled_is (opened_of p) (opened_of r) r.state done stalled same all left,
+      )
 
 -- a run in threads came to rest
 pub comes_to_rest : (p r : PlantState Kind) (eq : Kind → Kind → Bool) (settled : Settled) → CameBack meaning_of eq (handed_of (with_all_closed meaning_of p)) r →

@@ -15,7 +15,7 @@ use Rattle.plant.specs.declared.fault.PlantFault.TheVariants as fault
 use Rattle.plant.specs.Feeding.{are_items, given_type}
 use Rattle.threads.specs.History.{Asks}
 use Rattle.threads.specs.Desk.{DeskState, IsLogged}
-use Rattle.script_text.specs.Grammar.{Command, Feed, Close, Set, Claim, Commit, Abandon, Step, Read, Quiet, Settle}
+use Rattle.script_text.specs.Grammar.{Command, Feed, Close, Set, Claim, Commit, Abandon, Step, Read, Why, Quiet, Settle}
 use Rattle.flow.specs.Session.{value_for, is_fit, reply_line, no_memory}
 
 -- what comes of a command before a call is made: it is refused, or there is a call to make
@@ -75,5 +75,6 @@ AtDesk meaning (Claim name max) old new line = ⊥
 AtDesk meaning (Commit name) old new line = ⊥
 AtDesk meaning (Abandon name) old new line = ⊥
 AtDesk meaning (Step name max) old new line = ⊥
+AtDesk meaning (Why name) old new line = ⊥
 AtDesk meaning Quiet old new line = ⊥
 AtDesk meaning Settle old new line = ⊥

@@ -3,6 +3,7 @@ pub mod Session
 pub mod Script
 pub mod Faults
 pub mod Reports
+pub mod Stalls
 pub mod Serve
 pub mod Starts
 pub mod Threads

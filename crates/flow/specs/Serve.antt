@@ -1,5 +1,5 @@
 -- What the program does with a graph file and its streams.
-use Rattle.std.specs.Prelude.{⊤, ℕ, ◌+◌, ◌≡◌, ◌⊎◌, List, Option, true, false, Result, Ok, Err, IsOk, if◌then◌else◌}
+use Rattle.std.specs.Prelude.{⊤, ℕ, ◌+◌, ◌≡◌, ◌⊎◌, List, Option, Some, None, Bool, true, false, Result, Ok, Err, IsOk, if◌then◌else◌}
 use Rattle.std.specs.Str.{is_utf8}
 use Rattle.std.specs.Io.KnownBytes.{Appends}
 use Rattle.toml.specs.Parse.{parse_document}
@@ -19,17 +19,22 @@ use Rattle.graph_file.specs.Opening.{Opened, opened, opened_of, validated}
 use Rattle.threads.specs.History.{Noted, IsRunOf}
 use Rattle.drawings.specs.Drawings.{drawn_text}
 use Rattle.drawings.specs.declared.drawing.Format.{Format}
+use Rattle.graph_model.specs.Rates.{balance_of}
 use Rattle.script_text.specs.Ends.{AppendsBeginning}
+use Rattle.script_text.specs.declared.ends.Broken.{Broken}
 use Rattle.top_block.specs.Closing.{closed}
 use Rattle.flow.specs.Session.{Answers, graph_of, standing_of, none_kept, turn}
 use Rattle.flow.specs.Script.{EndsIn, Breaks, failed_reads, failed_writes}
 use Rattle.flow.specs.Faults.{fault_line, status_of}
 use Rattle.flow.specs.Reports.{check_text, run_text}
+use Rattle.flow.specs.Stalls.{stall_text, uneven_line}
 use Rattle.flow.specs.declared.fault.Fault.{Fault}
 use Rattle.flow.specs.declared.fault.Fault.TheVariants.{File, Script, Run}
 use Rattle.flow.specs.declared.script.ScriptFault.TheVariants.{BadLine, Read, Write, Memory}
 use Rattle.flow.specs.declared.serve.Command.{Command}
 use Rattle.flow.specs.declared.serve.Command.TheVariants as command
+use Rattle.flow.specs.declared.stalls.Notes.{Notes}
+use Rattle.flow.specs.declared.stalls.Notes.TheVariants.{Shown, Hidden}
 
 -- the bytes of a stream, of an input those that are left, and how many reads or writes of it failed
 pub record Stream : Type 0 where
@@ -70,6 +75,13 @@ pub record IsCheck (file text : List ℕ) (status : ℕ) : Type 0 where
   pub graph : Draft
   pub valid : graph_in file ≡ Ok graph
   pub told : text ≡ check_text graph
+  pub well : status ≡ 0
+
+-- the same of a file whose feeds go onto the tapes
+pub record IsCheckOfFeeds (file text : List ℕ) (status : ℕ) : Type 0 where
+  pub plant : Opened
+  pub opens : plant_in file ≡ Ok plant
+  pub told : text ≡ check_text plant.draft
   pub well : status ≡ 0
 
 -- a picture of a file's graph, as text in a format
@@ -118,6 +130,20 @@ pub record IsLive (file text : List ℕ) (status : ℕ) : Type 0 where
   pub told : text ≡ run_text plant.draft last
   pub well : status ≡ (if is_all_done last then 0 else 3)
 
+-- the plant in which a run came to rest, if it stalled
+abbrev pub stalled_in : Opened → State → Option Opened
+stalled_in plant last = if is_all_done last then None else Some (record plant { state = last })
+
+-- a run, and the plant of it that stalled
+abbrev pub IsRunTo : List ℕ → Option Opened → List ℕ → ℕ → Type 0
+IsRunTo file stalled text status = (run : IsRun file text status) × (stalled ≡ stalled_in run.plant run.last)
+
+abbrev pub IsRunAloneTo : List ℕ → Option Opened → List ℕ → ℕ → Type 0
+IsRunAloneTo file stalled text status = (run : IsRunAlone file text status) × (stalled ≡ stalled_in run.plant run.last)
+
+abbrev pub IsLiveTo : List ℕ → Option Opened → List ℕ → ℕ → Type 0
+IsLiveTo file stalled text status = (run : IsLive file text status) × (stalled ≡ stalled_in run.plant run.last)
+
 -- a text was written, with a status
 abbrev pub Writes : (List ℕ → ℕ → Type 0) → Option (List ℕ) → Option (List ℕ) → ℕ → Type 0
 Writes IsDone out out' status = (text : List ℕ) × IsDone text status × Appends out out' text
@@ -164,23 +190,32 @@ StopsLive file input input' out out' (File fault) = IsRefused (plant_in file) fa
 StopsLive file input input' out out' (Script fault) = IsOk (plant_in file)
 StopsLive file input input' out out' (Run fault) = IsOk (plant_in file)
 
--- a command was done, with a status; only a script and a live run read their input
-abbrev pub Does : Command → List ℕ → Option (List ℕ) → Option (List ℕ) → Option (List ℕ) → Option (List ℕ) → ℕ → Type 0
-Does command.Check file input input' out out' status = (input' ≡ input) × Writes (IsCheck file) out out' status
-Does (command.Draw format) file input input' out out' status = (input' ≡ input) × Writes (IsPicture format file) out out' status
-Does command.Run file input input' out out' status = (input' ≡ input) × Writes (IsRun file) out out' status
-Does command.RunAlone file input input' out out' status = (input' ≡ input) × Writes (IsRunAlone file) out out' status
-Does command.Live file input input' out out' status = (between : Option (List ℕ)) × Writes (IsLive file) between out' status
-Does command.Script file input input' out out' status = IsScript file input input' out out' × (status ≡ 0)
+-- a command was done, with a status, and a run may have stalled; only a script and a live run read their input
+abbrev pub Does : Command → List ℕ → Option (List ℕ) → Option (List ℕ) → Option (List ℕ) → Option (List ℕ) → ℕ → Option Opened → Type 0
+Does command.Check file input input' out out' status stalled = (input' ≡ input) × Writes (IsCheck file) out out' status × (stalled ≡ None)
+Does command.CheckFeeds file input input' out out' status stalled = (input' ≡ input) × Writes (IsCheckOfFeeds file) out out' status × (stalled ≡ None)
+Does (command.Draw format) file input input' out out' status stalled = (input' ≡ input) × Writes (IsPicture format file) out out' status × (stalled ≡ None)
+Does command.Run file input input' out out' status stalled = (input' ≡ input) × Writes (IsRunTo file stalled) out out' status
+Does command.RunAlone file input input' out out' status stalled = (input' ≡ input) × Writes (IsRunAloneTo file stalled) out out' status
+Does command.Live file input input' out out' status stalled = (between : Option (List ℕ)) × Writes (IsLiveTo file stalled) between out' status
+Does command.Script file input input' out out' status stalled = IsScript file input input' out out' × (status ≡ 0) × (stalled ≡ None)
 
 -- a command was not done, for a fault
 abbrev pub DoesNot : Command → List ℕ → Option (List ℕ) → Option (List ℕ) → Option (List ℕ) → Option (List ℕ) → Fault → Type 0
 DoesNot command.Check file input input' out out' fault = (input' ≡ input) × WritesNot (IsCheck file) (graph_in file) out out' fault
+DoesNot command.CheckFeeds file input input' out out' fault = (input' ≡ input) × WritesNot (IsCheckOfFeeds file) (plant_in file) out out' fault
 DoesNot (command.Draw format) file input input' out out' fault = (input' ≡ input) × WritesNot (IsPicture format file) (graph_in file) out out' fault
 DoesNot command.Run file input input' out out' fault = (input' ≡ input) × RunsNot (IsRun file) (plant_in file) out out' fault
 DoesNot command.RunAlone file input input' out out' fault = (input' ≡ input) × WritesNot (IsRunAlone file) (plant_in file) out out' fault
 DoesNot command.Live file input input' out out' fault = StopsLive file input input' out out' fault
 DoesNot command.Script file input input' out out' fault = StopsScript file input input' out out' fault
+
+-- a result came from another: what went well led to what is so of it, and a fault stays
+abbrev pub Becomes : {A B E : Type 0} → (A → B → Type 0) → Result A E → Result B E → Type 0
+Becomes Is (Ok a) (Ok b) = Is a b
+Becomes Is (Ok a) (Err fault) = ⊥
+Becomes Is (Err fault) (Ok b) = ⊥
+Becomes Is (Err fault) (Err other) = other ≡ fault
 
 -- how many reads failed by a fault, and how many writes
 abbrev pub reads_failed : Fault → ℕ
@@ -205,6 +240,7 @@ writes_in (Err fault) = writes_failed fault
 -- a count of failed calls grew by so many; of those that a live run makes nothing is said, since a thread of its own makes them
 abbrev pub Grows : Command → ℕ → ℕ → ℕ → Type 0
 Grows command.Check old new n = new ≡ old + n
+Grows command.CheckFeeds old new n = new ≡ old + n
 Grows (command.Draw format) old new n = new ≡ old + n
 Grows command.Run old new n = new ≡ old + n
 Grows command.RunAlone old new n = new ≡ old + n
@@ -215,10 +251,27 @@ Grows command.Script old new n = new ≡ old + n
 abbrev pub Tries : Stream → Stream → List ℕ → Type 0
 Tries old new line = (Appends old.bytes new.bytes line × (new.failed ≡ old.failed)) ⊎ (AppendsBeginning old.bytes new.bytes line × (new.failed ≡ old.failed + 1))
 
--- a command was done, and nothing is told of a fault; or it was not, the fault is told, and the status is the one that it brings
-pub data Serves (c : Command) (file : List ℕ) (input input' output output' errors errors' : Stream) : ℕ → Type 0 where
-  Well : (status : ℕ) → Does c file input.bytes input'.bytes output.bytes output'.bytes status →
-      Grows c input.failed input'.failed 0 → Grows c output.failed output'.failed 0 → errors' ≡ errors → Serves c file input input' output output' errors errors' status
+-- a text was written by a call that went well, or a beginning of it by one that failed
+abbrev pub Puts : Result (Unit {0}) Broken → Stream → Stream → List ℕ → Type 0
+Puts (Ok done) old new text = Appends old.bytes new.bytes text × (new.failed ≡ old.failed)
+Puts (Err broken) old new text = AppendsBeginning old.bytes new.bytes text × (new.failed ≡ old.failed + 1)
+
+-- it is told why a plant stalled, of its rates only where they are known
+abbrev pub Explains : Opened → Stream → Stream → Type 0
+Explains plant old new = (known : Bool) × Tries old new (stall_text (uneven_line known (balance_of plant.draft.net)) plant.draft plant.capacities plant.state)
+
+-- it is told of the plant that stalled, if there is one and that is wanted; else nothing is
+abbrev pub Remarks : Notes → Option Opened → Stream → Stream → Type 0
+Remarks Shown (Some plant) old new = Explains plant old new
+Remarks Shown None old new = new ≡ old
+Remarks Hidden stalled old new = new ≡ old
+
+-- a command was done, and nothing is told of a fault, but it may be told why a run stalled; or it was not, the fault is told, and the status is the one
+-- that it brings
+pub data Serves (notes : Notes) (c : Command) (file : List ℕ) (input input' output output' errors errors' : Stream) : ℕ → Type 0 where
+  Well : (status : ℕ) (stalled : Option Opened) → Does c file input.bytes input'.bytes output.bytes output'.bytes status stalled →
+      Grows c input.failed input'.failed 0 → Grows c output.failed output'.failed 0 → Remarks notes stalled errors errors' →
+      Serves notes c file input input' output output' errors errors' status
   Badly : (fault : Fault) → DoesNot c file input.bytes input'.bytes output.bytes output'.bytes fault →
       Grows c input.failed input'.failed (reads_failed fault) → Grows c output.failed output'.failed (writes_failed fault) → Tries errors errors' (fault_line fault) →
-      Serves c file input input' output output' errors errors' (status_of fault)
+      Serves notes c file input input' output output' errors errors' (status_of fault)

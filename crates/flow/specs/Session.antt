@@ -9,6 +9,7 @@ use Rattle.stream_model.specs.Network.{Network, State, node_at, progress_at}
 use Rattle.stream_model.specs.Machine as machine
 use Rattle.stream_model.specs.Machine.{Capacities, Reply, Refused, is_wanted}
 use Rattle.machine_laws.specs.Stays.{in_flight}
+use Rattle.machine_laws.specs.Waits.{Wait, IsOver, HasClaim, MayAct, ForFeed, ForItems, ForRoom, wait_of}
 use Rattle.settings.specs.declared.value.Value as settings
 use Rattle.settings.specs.Values.{value_of}
 use Rattle.flowgraph.specs.Flowgraph.{Flowgraph, net_of}
@@ -22,8 +23,8 @@ use Rattle.plant.specs.Plant.{PlantState}
 use Rattle.plant.specs.Settling.{StepsLead, HasSettled, HoldsSettled}
 use Rattle.plant.specs.declared.answers.Settled.{Settled}
 use Rattle.plant.specs.declared.answers.Settled.TheVariants as rest
-use Rattle.script_text.specs.Grammar.{Command, Feed, Close, Set, Claim, Commit, Abandon, Step, Read, Quiet, Settle}
-use Rattle.script_text.specs.Replies.{reply_text, quiet_text, settle_text, line_text}
+use Rattle.script_text.specs.Grammar.{Command, Feed, Close, Set, Claim, Commit, Abandon, Step, Read, Why, Quiet, Settle}
+use Rattle.script_text.specs.Replies.{reply_text, waits_items_text, waits_room_text, waits_feed_text, ready_text, quiet_text, settle_text, line_text}
 
 -- what a script speaks to: the names of the blocks, their network and its capacities
 pub record Graph : Type 0 where
@@ -148,6 +149,24 @@ commit_answer net s b = give_back s b (machine.commit_of net s.state true (in_fl
 abbrev pub abandon_answer : Network → Standing → ℕ → Answer
 abandon_answer net s b = give_back s b (machine.abandon_of net s.state true (in_flight net s.state b))
 
+-- the wait that a plant tells. (It tells one of each block that there is.)
+abbrev pub wait_told : Result Wait PlantFault → Wait
+wait_told (Ok wait) = wait
+wait_told (Err fault) = IsOver
+
+-- what is told of a wait
+abbrev pub wait_text : List (List ℕ) → Wait → List ℕ
+wait_text names IsOver = reply_text machine.Done
+wait_text names HasClaim = reply_text machine.Busy
+wait_text names MayAct = ready_text
+wait_text names ForFeed = waits_feed_text
+wait_text names (ForItems port writer) = waits_items_text port (slice_index_or names writer [])
+wait_text names (ForRoom port reader) = waits_room_text port (slice_index_or names reader [])
+
+-- what block b waits for is told, and nothing changes
+abbrev pub why_answer : Graph → Standing → ℕ → Answer
+why_answer g s b = record { text = wait_text g.names (wait_of g.net g.caps s.state b); wants_memory = false; after = s }
+
 abbrev pub quiet_answer : Graph → Standing → Answer
 quiet_answer g s = record { text = quiet_text (machine.is_quiet g.net g.caps s.state); wants_memory = false; after = s }
 
@@ -200,6 +219,7 @@ AnswersOn g b (Commit name) old new line = Gives (commit_answer g.net old b) old
 AnswersOn g b (Abandon name) old new line = Gives (abandon_answer g.net old b) old new line
 AnswersOn g b (Step name max) old new line = Gives (called old.kept (machine.step_of g.net g.caps old.state b max)) old new line
 AnswersOn g b (Read name from max) old new line = Gives (called old.kept (machine.read_of g.net old.state b from max)) old new line
+AnswersOn g b (Why name) old new line = Gives (why_answer g old b) old new line
 AnswersOn g b Quiet old new line = Gives (quiet_answer g old) old new line
 AnswersOn g b Settle old new line = Settles (machine.is_idle old.state) g old new line
 
@@ -213,6 +233,7 @@ name_in (Commit name) = Some name
 name_in (Abandon name) = Some name
 name_in (Step name max) = Some name
 name_in (Read name from max) = Some name
+name_in (Why name) = Some name
 name_in Quiet = None
 name_in Settle = None
 

@@ -37,6 +37,7 @@ impl<B: Block, G: Gate + Drop, R: Wait> Answerer<R> for Desk<'_, B, G> {
             | Command::Commit { .. }
             | Command::Abandon { .. }
             | Command::Step { .. }
+            | Command::Why { .. }
             | Command::Quiet
             | Command::Settle => return Ok(None),
         };

@@ -7,13 +7,16 @@ ghost use Rattle.flowgraph.specs.Flowgraph.{net_of};
 ghost use Rattle.kinds.specs.Kind.{meaning_of};
 ghost use Rattle.plant.specs.Settling.{HasSettled};
 ghost use Rattle.graph_file.specs.Blocks.{drafted};
+ghost use Rattle.graph_file.specs.Opening.{opened_of};
+ghost use Rattle.flow.specs.Serve.{Remarks, stalled_in, stream};
 ghost use Rattle.flow.specs.RawEnds.{held_bytes, held_lines, raw_text, StopsWriting};
 ghost use Rattle.flow.specs.RawFeeds.{raw_writes};
 
 use crate::raw_fault::{EndPlace, RawFault};
 use crate::raw_output::{write_items, write_tags};
 use crate::reports::ended_but;
-use crate::serve::status_of;
+use crate::runs::status_of;
+use crate::stalls::{Notes, explain_stall};
 use flowgraph::{BlockId, Valid};
 use kinds::Kind;
 use plant::{Plant, Settled};
@@ -64,6 +67,17 @@ impl RanRaw {
         ensures { result ≡ (if is_all_done self.now.state then 0 else 3) }
     {
         status_of(self.plant.all_done())
+    }
+
+    /// Tells why the run stalled, if it did and that is wanted.
+    pub fn remark<E: ByteOut>(&self, alloc: Global, notes: Notes, errors: &mut E)
+        requires { E.failed errors.old < 2 ^ 64 - 1 }
+        ensures { Remarks notes (stalled_in (opened_of self.now) self.now.state) (stream (E.contents errors.old) (E.failed errors.old)) (stream (E.contents errors.new) (E.failed errors.new)) }
+    {
+        match (notes, self.plant.all_done()) {
+            (Notes::Shown, false) => explain_stall(alloc, &self.plant, errors),
+            (Notes::Shown, true) | (Notes::Hidden, _) => {}
+        }
     }
 
     /// Writes the bytes of all items that a sink holds, piece by piece.

@@ -1,6 +1,7 @@
 //! What the program does with a graph file and its standard streams, over any source and place of bytes.
 
-ghost use Rattle.std.specs.Prelude.{List, ℕ, Option, ◌≡◌, ◌+◌, ◌<◌, ◌-◌, ◌^◌, true, IfOk, IfErr, if◌then◌else◌};
+ghost use Rattle.std.specs.Prelude.{List, ℕ, Option, Some, None, ◌≡◌, ◌+◌, ◌<◌, ◌-◌, ◌^◌, true, IfOk, IfErr, if◌then◌else◌};
+ghost use Rattle.std.specs.Option.{option_map};
 ghost use Rattle.std.specs.Io.KnownBytes.{Appends};
 ghost use Rattle.stream_model.specs.Machine.{is_idle};
 ghost use Rattle.graph_file.specs.Refusals.{IsRefused};
@@ -9,15 +10,16 @@ ghost use Rattle.graph_file.specs.Opening.{opened_of};
 ghost use Rattle.script_text.specs.Ends.{AppendsBeginning};
 ghost use Rattle.drawings.specs.Drawings.{drawn_text};
 ghost use Rattle.flow.specs.Reports.{check_text};
-ghost use Rattle.flow.specs.Serve.{Serves, stream, Does, DoesNot, Fails, Grows, IsCheck, IsLive, IsPicture, IsRun, IsRunAlone, Refuses, StopsLive, RunsNot, Writes, WritesNot, IsScript, StopsScript, graph_in, plant_in, reads_in, writes_in};
+ghost use Rattle.flow.specs.Serve.{Serves, stream, Does, DoesNot, Fails, Grows, IsCheck, Becomes, IsCheckOfFeeds, IsLiveTo, IsPicture, IsRun, IsRunTo, IsRunAlone, IsRunAloneTo, Refuses, StopsLive, RunsNot, Writes, WritesNot, IsScript, StopsScript, graph_in, plant_in, reads_in, writes_in};
 ghost use Rattle.flow.specs.declared.fault.Fault.TheVariants.{Script};
 ghost use Rattle.flow.specs.declared.script.ScriptFault.TheVariants.{Write};
 
 use crate::fault::Fault;
 use crate::live::live_plant;
 use crate::reports::{checked, ended};
-use crate::running::run_plant;
+use crate::runs::{Outcome, Ran, run_file, run_file_alone, stalled_one, status_of};
 use crate::script::{ScriptFault, script};
+use crate::stalls::{Notes, remark};
 use crate::telling::report;
 use drawings::{Format, drawn};
 use flowgraph::Valid;
@@ -29,18 +31,16 @@ use script_text::{ByteIn, ByteOut};
 use std::alloc::{AllocError, Global};
 use std::sync::Wait;
 use std::thread::Threads;
-use top_block::close_all;
 
 /// How many firings of a block a run on one thread steps at once, at most.
 pub(crate) const TURN: u32 = 65_536;
-// The exit status of a run that came to rest before all blocks were done.
-const STALLED: u8 = 3;
-
 /// What the program is asked to do with a graph file.
 #[derive(Clone, Copy, Debug, PartialEq, Eq)]
 pub enum Command {
     /// To tell of its graph.
     Check,
+    /// To tell of its graph where its feeds go onto the tapes as well.
+    CheckFeeds,
     /// To write its graph as text from which a picture is made.
     Draw(Format),
     /// To feed it, let it run to its end in threads, and tell what its sinks hold.
@@ -53,16 +53,16 @@ pub enum Command {
     Script,
 }
 
-// What is written where a command is done, and its status.
+// What a command came to: its status, and the plant of a run that stalled.
 #[derive(Drop)]
-struct Outcome {
-    text: Vec<u8>,
+struct Ended {
     status: u8,
+    stalled: Option<Plant<Kind>>,
 }
 
 /// Does a command. The status is 0 where all went well, 3 for a run that stalled, 1 for a refused file or line, and 4 for memory and devices; with
-/// 1 and 4 one line on `errors` says why, and whether that write succeeds changes nothing. A run is shown to `watch` while it goes on, and is over
-/// for it before anything is written.
+/// 1 and 4 one line on `errors` says why. With 3, where `notes` are shown, lines say what the blocks wait for. Whether these writes succeed changes
+/// nothing. A run is shown to `watch` while it goes on, and is over for it before anything is written.
 pub fn serve<
     R: Threads + Wait + Copy + Send + Sync + 'static,
     I: ByteIn + Send,
@@ -73,6 +73,7 @@ pub fn serve<
     rt: R,
     alloc: Global,
     command: Command,
+    notes: Notes,
     file: &[u8],
     input: &mut I,
     output: &mut O,
@@ -82,10 +83,13 @@ pub fn serve<
     requires reads { I.failed input.old < 2 ^ 64 - 1 }
     requires writes { O.failed output.old < 2 ^ 64 - 1 }
     requires reports { E.failed errors.old < 2 ^ 64 - 1 }
-    ensures { Serves command file.now (stream (I.remaining input.old) (I.failed input.old)) (stream (I.remaining input.new) (I.failed input.new)) (stream (O.contents output.old) (O.failed output.old)) (stream (O.contents output.new) (O.failed output.new)) (stream (E.contents errors.old) (E.failed errors.old)) (stream (E.contents errors.new) (E.failed errors.new)) result }
+    ensures { Serves notes command file.now (stream (I.remaining input.old) (I.failed input.old)) (stream (I.remaining input.new) (I.failed input.new)) (stream (O.contents output.old) (O.failed output.old)) (stream (O.contents output.new) (O.failed output.new)) (stream (E.contents errors.old) (E.failed errors.old)) (stream (E.contents errors.new) (E.failed errors.new)) result }
 {
     match obey(rt, alloc, command, file, input, output, watch) {
-        Ok(status) => status,
+        Ok(ended) => {
+            remark(alloc, notes, &ended.stalled, errors);
+            ended.status
+        }
         Err(fault) => {
             let status = fault.status();
             report(&fault, errors);
@@ -94,7 +98,7 @@ pub fn serve<
     }
 }
 
-// Does a command, and gives its status.
+// Does a command.
 fn obey<
     R: Threads + Wait + Copy + Send + Sync + 'static,
     I: ByteIn + Send,
@@ -108,21 +112,35 @@ fn obey<
     input: &mut I,
     output: &mut O,
     watch: &mut W,
-) -> Result<u8, Fault>
+) -> Result<Ended, Fault>
     requires reads { I.failed input.old < 2 ^ 64 - 1 }
     requires writes { O.failed output.old < 2 ^ 64 - 1 }
-    ensures does { IfOk result (Does command file.now (I.remaining input.old) (I.remaining input.new) (O.contents output.old) (O.contents output.new)) }
+    ensures does { IfOk result (λ ended. Does command file.now (I.remaining input.old) (I.remaining input.new) (O.contents output.old) (O.contents output.new) ended.status (option_map opened_of ended.stalled)) }
     ensures does_not { IfErr result (DoesNot command file.now (I.remaining input.old) (I.remaining input.new) (O.contents output.old) (O.contents output.new)) }
     ensures failed_reads { Grows command (I.failed input.old) (I.failed input.new) (reads_in result) }
     ensures failed_writes { Grows command (O.failed output.old) (O.failed output.new) (writes_in result) }
 {
     match command {
-        Command::Check => check(alloc, file, output),
-        Command::Draw(format) => draw(alloc, format, file, output),
+        Command::Check => unstalled(check(alloc, file, output)),
+        Command::CheckFeeds => unstalled(check_feeds(alloc, file, output)),
+        Command::Draw(format) => unstalled(draw(alloc, format, file, output)),
         Command::Run => run(rt, alloc, file, output, watch),
-        Command::RunAlone => run_alone(alloc, file, output, watch),
+        Command::RunAlone => run_on_one(alloc, file, output, watch),
         Command::Live => run_live(&rt, alloc, file, input, output, watch),
-        Command::Script => run_script(alloc, file, input, output),
+        Command::Script => unstalled(run_script(alloc, file, input, output)),
+    }
+}
+
+// What comes of a command that runs nothing to its end.
+fn unstalled(done: Result<u8, Fault>) -> Result<Ended, Fault>
+    ensures { Becomes (λ status ended. (ended.status ≡ status) × (ended.stalled ≡ None)) done result }
+{
+    match done {
+        Ok(status) => Ok(Ended {
+            status,
+            stalled: None,
+        }),
+        Err(fault) => Err(fault),
     }
 }
 
@@ -134,6 +152,19 @@ pub fn check<O: ByteOut>(alloc: Global, file: &[u8], output: &mut O) -> Result<u
     ensures failed_writes { O.failed output.new ≡ O.failed output.old + writes_in result }
 {
     match check_file(alloc, file) {
+        Ok(outcome) => written(output, &outcome),
+        Err(fault) => Err(fault),
+    }
+}
+
+// The same of a file whose feeds are tested as a run would.
+fn check_feeds<O: ByteOut>(alloc: Global, file: &[u8], output: &mut O) -> Result<u8, Fault>
+    requires writes { O.failed output.old < 2 ^ 64 - 1 }
+    ensures does { IfOk result (Writes (IsCheckOfFeeds file.now) (O.contents output.old) (O.contents output.new)) }
+    ensures does_not { IfErr result (WritesNot (IsCheckOfFeeds file.now) (plant_in file.now) (O.contents output.old) (O.contents output.new)) }
+    ensures failed_writes { O.failed output.new ≡ O.failed output.old + writes_in result }
+{
+    match check_plant(alloc, file) {
         Ok(outcome) => written(output, &outcome),
         Err(fault) => Err(fault),
     }
@@ -157,14 +188,14 @@ fn run<R: Threads + Wait + Copy + Send + 'static, O: ByteOut, W: Watch>(
     file: &[u8],
     output: &mut O,
     watch: &mut W,
-) -> Result<u8, Fault>
+) -> Result<Ended, Fault>
     requires writes { O.failed output.old < 2 ^ 64 - 1 }
-    ensures does { IfOk result (Writes (IsRun file.now) (O.contents output.old) (O.contents output.new)) }
+    ensures does { IfOk result (λ ended. Writes (IsRunTo file.now (option_map opened_of ended.stalled)) (O.contents output.old) (O.contents output.new) ended.status) }
     ensures does_not { IfErr result (RunsNot (IsRun file.now) (plant_in file.now) (O.contents output.old) (O.contents output.new)) }
     ensures failed_writes { O.failed output.new ≡ O.failed output.old + writes_in result }
 {
     match run_file(rt, alloc, file, watch) {
-        Ok(outcome) => written(output, &outcome),
+        Ok(ran) => written_run(output, ran),
         Err(fault) => Err(fault),
     }
 }
@@ -181,8 +212,25 @@ pub fn run_alone<O: ByteOut, W: Watch>(
     ensures does_not { IfErr result (WritesNot (IsRunAlone file.now) (plant_in file.now) (O.contents output.old) (O.contents output.new)) }
     ensures failed_writes { O.failed output.new ≡ O.failed output.old + writes_in result }
 {
+    match run_on_one(alloc, file, output, watch) {
+        Ok(ended) => Ok(ended.status),
+        Err(fault) => Err(fault),
+    }
+}
+
+fn run_on_one<O: ByteOut, W: Watch>(
+    alloc: Global,
+    file: &[u8],
+    output: &mut O,
+    watch: &mut W,
+) -> Result<Ended, Fault>
+    requires writes { O.failed output.old < 2 ^ 64 - 1 }
+    ensures does { IfOk result (λ ended. Writes (IsRunAloneTo file.now (option_map opened_of ended.stalled)) (O.contents output.old) (O.contents output.new) ended.status) }
+    ensures does_not { IfErr result (WritesNot (IsRunAlone file.now) (plant_in file.now) (O.contents output.old) (O.contents output.new)) }
+    ensures failed_writes { O.failed output.new ≡ O.failed output.old + writes_in result }
+{
     match run_file_alone(alloc, file, watch) {
-        Ok(outcome) => written(output, &outcome),
+        Ok(ran) => written_run(output, ran),
         Err(fault) => Err(fault),
     }
 }
@@ -218,8 +266,8 @@ fn run_live<R: Threads + Wait + Sync, I: ByteIn + Send, O: ByteOut + Send, W: Wa
     input: &mut I,
     output: &mut O,
     watch: &mut W,
-) -> Result<u8, Fault>
-    ensures does { IfOk result (λ status. (between : Option (List ℕ)) × Writes (IsLive file.now) between (O.contents output.new) status) }
+) -> Result<Ended, Fault>
+    ensures does { IfOk result (λ ended. (between : Option (List ℕ)) × Writes (IsLiveTo file.now (option_map opened_of ended.stalled)) between (O.contents output.new) ended.status) }
     ensures does_not { IfErr result (StopsLive file.now (I.remaining input.old) (I.remaining input.new) (O.contents output.old) (O.contents output.new)) }
 {
     let plant = match open_plant(alloc, file) {
@@ -230,12 +278,15 @@ fn run_live<R: Threads + Wait + Sync, I: ByteIn + Send, O: ByteOut + Send, W: Wa
     let (plant, settled) = live_plant(rt, alloc, plant, input, output, watch)?;
     plant.in_order();
     let text = ended(alloc, &plant, settled)?;
-    let status = status_of(plant.all_done());
+    let done = plant.all_done();
+    let status = status_of(done);
+    let stalled = stalled_one(plant, done);
     // (the caller's thread may have left it so that no failure more can be counted)
     if output.failures() == u64::MAX {
         return Err(Fault::Script(ScriptFault::Write));
     }
-    written(output, &Outcome { text, status })
+    let outcome = Outcome { text, status };
+    written_run(output, Ran { outcome, stalled })
 }
 
 // What is told of the graph of a file.
@@ -245,6 +296,16 @@ fn check_file(alloc: Global, file: &[u8]) -> Result<Outcome, Fault>
 {
     let graph = valid_graph(alloc, file)?;
     let text = told_of(alloc, &graph)?;
+    Ok(Outcome { text, status: 0 })
+}
+
+// The same where the plant of the file can be opened.
+fn check_plant(alloc: Global, file: &[u8]) -> Result<Outcome, Fault>
+    ensures ok { IfOk result (λ outcome. IsCheckOfFeeds file.now outcome.text.items outcome.status) }
+    ensures refused { IfErr result (Refuses (plant_in file.now)) }
+{
+    let plant = open_plant(alloc, file)?;
+    let text = told_of(alloc, plant.graph())?;
     Ok(Outcome { text, status: 0 })
 }
 
@@ -272,45 +333,6 @@ fn told_of(alloc: Global, graph: &Valid<Kind>) -> Result<Vec<u8>, AllocError>
 {
     let rates = balance(alloc, graph)?;
     checked(alloc, graph, &rates)
-}
-
-// Lets the plant of a file run in threads until it comes to rest, where its sources give no more, and tells what it holds then.
-fn run_file<R: Threads + Wait + Copy + Send + 'static, W: Watch>(
-    rt: R,
-    alloc: Global,
-    file: &[u8],
-    watch: &mut W,
-) -> Result<Outcome, Fault>
-    ensures ok { IfOk result (λ outcome. IsRun file.now outcome.text.items outcome.status) }
-    ensures failed { IfErr result (Fails (plant_in file.now)) }
-{
-    let plant = open_plant(alloc, file)?;
-    plant.in_order();
-    let (plant, settled) = run_plant(rt, alloc, plant, watch)?;
-    plant.in_order();
-    let text = ended(alloc, &plant, settled)?;
-    let status = status_of(plant.all_done());
-    Ok(Outcome { text, status })
-}
-
-// The same on one thread.
-fn run_file_alone<W: Watch>(alloc: Global, file: &[u8], watch: &mut W) -> Result<Outcome, Fault>
-    ensures ok { IfOk result (λ outcome. IsRunAlone file.now outcome.text.items outcome.status) }
-    ensures refused { IfErr result (Refuses (plant_in file.now)) }
-{
-    let mut plant = open_plant(alloc, file)?;
-    close_all(&mut plant);
-    let settled = plant.settle_watched(alloc, TURN, watch)?;
-    let text = ended(alloc, &plant, settled)?;
-    let status = status_of(plant.all_done());
-    Ok(Outcome { text, status })
-}
-
-/// The status of a run that came to rest.
-pub(crate) fn status_of(done: bool) -> u8
-    ensures { result ≡ (if done then 0 else 3) }
-{
-    if done { 0 } else { STALLED }
 }
 
 // The valid graph of a file.
@@ -349,5 +371,19 @@ fn written<O: ByteOut>(output: &mut O, outcome: &Outcome) -> Result<u8, Fault>
     match output.write(&outcome.text) {
         Ok(()) => Ok(outcome.status),
         Err(_) => Err(Fault::Script(ScriptFault::Write)),
+    }
+}
+
+// The same of a run, with its plant where it stalled.
+fn written_run<O: ByteOut>(output: &mut O, ran: Ran) -> Result<Ended, Fault>
+    requires { O.failed output.old < 2 ^ 64 - 1 }
+    ensures ok { IfOk result (λ ended. (ended.status ≡ ran.outcome.status) × (ended.stalled ≡ ran.stalled) × Appends (O.contents output.old) (O.contents output.new) ran.outcome.text.items) }
+    ensures err { IfErr result (λ fault. (fault ≡ Script Write) × AppendsBeginning (O.contents output.old) (O.contents output.new) ran.outcome.text.items) }
+    ensures failed_writes { O.failed output.new ≡ O.failed output.old + writes_in result }
+{
+    let Ran { outcome, stalled } = ran;
+    match written(output, &outcome) {
+        Ok(status) => Ok(Ended { status, stalled }),
+        Err(fault) => Err(fault),
     }
 }

@@ -12,6 +12,7 @@ use crate::answerer::Answerer;
 use crate::calls::{close, feed, read, refused, set, step};
 use crate::claims::{abandon, claim, commit};
 use crate::settling::settle;
+use crate::waits::why;
 use block_kinds::Block;
 use items::BlockName;
 use plant::{BlockId, Job, Plant, PlantFault, Valid};
@@ -113,7 +114,8 @@ fn name_of(command: &Command) -> Option<&BlockName>
         | Command::Commit { name }
         | Command::Abandon { name }
         | Command::Step { name, .. }
-        | Command::Read { name, .. } => Some(name),
+        | Command::Read { name, .. }
+        | Command::Why { name } => Some(name),
         Command::Quiet | Command::Settle => None,
     }
 }
@@ -159,7 +161,8 @@ fn answer_all<B: Block>(
         | Command::Commit { .. }
         | Command::Abandon { .. }
         | Command::Step { .. }
-        | Command::Read { .. } => unreachable!(),
+        | Command::Read { .. }
+        | Command::Why { .. } => unreachable!(),
     }
 }
 
@@ -189,6 +192,7 @@ fn answer_on<B: Block>(
         Command::Abandon { .. } => abandon(alloc, plant, jobs, block),
         Command::Step { max, .. } => step(alloc, plant, block, *max),
         Command::Read { from, max, .. } => read(alloc, plant, block, *from, u64::from(*max)),
+        Command::Why { .. } => why(alloc, plant, block),
         Command::Quiet => Reply::Quiet(plant.quiet()).to_line(alloc),
         Command::Settle => settle(alloc, plant, jobs),
     }

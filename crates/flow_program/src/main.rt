@@ -83,6 +83,7 @@ fn run<R: Threads + Wait + Copy + Send + Sync + 'static>(
         threads,
         rt.alloc(),
         call.command,
+        call.notes(),
         &file,
         &mut input,
         &mut output,

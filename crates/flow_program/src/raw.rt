@@ -66,6 +66,7 @@ fn obey<R: Threads + Wait + Copy + Send + 'static, W: Watch>(
         write_tags(rt, &ran, number, end, *sink, reason)?;
     }
     tell(rt, &ran, ends, &outputs)?;
+    ran.remark(rt.alloc(), call.notes(), &mut WriteEnd::new(rt.stderr()));
     Ok(ran.status())
 }
 

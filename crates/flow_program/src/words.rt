@@ -1,12 +1,14 @@
 //! What the words of the program ask for.
 
-ghost use Rattle.std.specs.Prelude.{◌≡◌, ◌&&◌, not};
+ghost use Rattle.std.specs.Prelude.{◌≡◌, ◌&&◌, not, if◌then◌else◌};
+ghost use Rattle.flow.specs.declared.stalls.Notes.TheVariants.{Shown, Hidden};
 
 use super::ends::Ends;
 use clap::error::ErrorKind;
 use clap::{Arg, ArgAction};
 use drawings::Format;
 use flow::serve::Command;
+use flow::stalls::Notes;
 use std::alloc::{AllocError, Global};
 
 const VERSION: &str = "0.1.0";
@@ -29,6 +31,17 @@ impl Call<'_> {
     {
         is_terminal && !self.is_quiet
     }
+
+    /// Whether it is told why a run stalled, unless the words say no.
+    pub fn notes(&self) -> Notes
+        ensures { result ≡ (if self.now.is_quiet then Hidden else Shown) }
+    {
+        if self.is_quiet {
+            Notes::Hidden
+        } else {
+            Notes::Shown
+        }
+    }
 }
 
 /// The call that the words ask for; the first word is none of them.
@@ -39,6 +52,7 @@ pub fn call_of<'a>(alloc: Global, words: &'a [String]) -> Result<Call<'a>, clap:
         return Err(clap::Error::from(AllocError));
     };
     let command = match name {
+        "check" if inner.get_flag("feeds") => Command::CheckFeeds,
         "check" => Command::Check,
         "draw" => Command::Draw(format_of(inner.get_str("format"))),
         "run" if inner.get_flag("one-thread") => Command::RunAlone,
@@ -84,7 +98,7 @@ fn commands<'a>(alloc: Global) -> Result<clap::Command<'a>, clap::Error> {
             .version(VERSION)
             .about("Runs a flowgraph that a file describes")
             .subcommand_required(true)
-            .subcommand(subcommand(alloc, "check", "Reads the graph and reports on it")?)?
+            .subcommand(check_command(alloc)?)?
             .subcommand(draw_command(alloc)?)?
             .subcommand(run_command(alloc)?)?
             .subcommand(live_command(alloc)?)?
@@ -94,6 +108,15 @@ fn commands<'a>(alloc: Global) -> Result<clap::Command<'a>, clap::Error> {
                 "Runs the commands of standard input on the graph",
             )?)?,
     )
+}
+
+fn check_command<'a>(alloc: Global) -> Result<clap::Command<'a>, clap::Error> {
+    let feeds = Arg::new(alloc, "feeds")
+        .long("feeds")
+        .action(ArgAction::SetTrue)
+        .help("Tests the feeds too, as a run would");
+    let check = subcommand(alloc, "check", "Reads the graph and reports on it")?;
+    Ok(check.arg(feeds)?)
 }
 
 fn draw_command<'a>(alloc: Global) -> Result<clap::Command<'a>, clap::Error> {
@@ -158,13 +181,13 @@ fn live_command<'a>(alloc: Global) -> Result<clap::Command<'a>, clap::Error> {
     .arg(quiet(alloc))?)
 }
 
-// The word that says no to progress.
+// The word that says no to what is told beside the report.
 fn quiet<'a>(alloc: Global) -> Arg<'a> {
     Arg::new(alloc, "quiet")
         .short('q')
         .long("quiet")
         .action(ArgAction::SetTrue)
-        .help("Shows no progress on a terminal")
+        .help("Shows neither progress nor why a run stalled")
 }
 
 // A subcommand that takes a graph file, with its line of help.

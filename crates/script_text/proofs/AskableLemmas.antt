@@ -7,7 +7,7 @@ use Rattle.std.specs.Option.{option_map}
 use Rattle.script_text.specs.Lines.{begins_with, longest_line}
 use Rattle.script_text.specs.Fields.{fields_of}
 use Rattle.script_text.specs.Numbers.{max_of, offset_of, within, natural_of}
-use Rattle.script_text.specs.Grammar.{Command, Close, Claim, Commit, Abandon, Step, Parsed, IsAskable, SaysAskable, ◌>>=◌, parsed_line, parsed_fields, says, command_of, feed_of, set_of, read_of, quiet_of, settle_of, block_of, given_of, name_alone, name_and_max, place_of, integers_of, number_sign}
+use Rattle.script_text.specs.Grammar.{Command, Close, Claim, Commit, Abandon, Step, Why, Parsed, IsAskable, SaysAskable, ◌>>=◌, parsed_line, parsed_fields, says, command_of, feed_of, set_of, read_of, quiet_of, settle_of, block_of, given_of, name_alone, name_and_max, place_of, integers_of, number_sign}
 
 abbrev Found : Option Command → Type 0
 Found None = Unit {0}
@@ -88,8 +88,9 @@ found_command word fs =
     (chosen (bytes_eq word (codes "abandon")) _ _ (mapped (name_alone fs) Abandon (λ b e. tt))
     (chosen (bytes_eq word (codes "step")) _ _ (mapped (name_and_max fs) (λ pair. Step pair.0 pair.1) (pair_in_range fs))
     (chosen (bytes_eq word (codes "read")) _ _ (found_read fs)
+    (chosen (bytes_eq word (codes "why")) _ _ (mapped (name_alone fs) Why (λ b e. tt))
     (chosen (bytes_eq word (codes "quiet")) _ _ (found_quiet fs)
-    (chosen (bytes_eq word (codes "settle")) _ _ (found_settle fs) tt)))))))))
+    (chosen (bytes_eq word (codes "settle")) _ _ (found_settle fs) tt))))))))))
 
 says_found : (o : Option Command) → Found o → SaysAskable (says o)
 says_found None h = tt

@@ -5,7 +5,7 @@ use Rattle.items.specs.declared.marks.Mark.{Mark}
 use Rattle.script_text.specs.Grammar.{Parsed, Says}
 use Rattle.script_text.specs.Grammar as grammar
 use Rattle.script_text.specs.declared.command.Command.{Command}
-use Rattle.script_text.specs.declared.command.Command.TheVariants.{Feed, Close, Set, Claim, Commit, Abandon, Step, Read, Quiet, Settle}
+use Rattle.script_text.specs.declared.command.Command.TheVariants.{Feed, Close, Set, Claim, Commit, Abandon, Step, Read, Why, Quiet, Settle}
 use Rattle.script_text.specs.declared.command.Line.{Line}
 use Rattle.script_text.specs.declared.command.Line.TheVariants as line
 
@@ -25,6 +25,7 @@ command_seen (Commit name) = grammar.Commit name
 command_seen (Abandon name) = grammar.Abandon name
 command_seen (Step name max) = grammar.Step name max
 command_seen (Read name from max) = grammar.Read name from max
+command_seen (Why name) = grammar.Why name
 command_seen Quiet = grammar.Quiet
 command_seen Settle = grammar.Settle
 

@@ -19,6 +19,7 @@ pub data Command : Type 0 where
   Abandon : (name : List ℕ) → Command
   Step : (name : List ℕ) → (max : ℕ) → Command
   Read : (name : List ℕ) → (from max : ℕ) → Command
+  Why : (name : List ℕ) → Command
   Quiet : Command
   Settle : Command
 
@@ -38,6 +39,7 @@ IsAskable (Commit name) = Unit {0}
 IsAskable (Abandon name) = Unit {0}
 IsAskable (Step name max) = (1 ≤ max) × (max ≤ 4294967295)
 IsAskable (Read name from max) = Unit {0}
+IsAskable (Why name) = Unit {0}
 IsAskable Quiet = Unit {0}
 IsAskable Settle = Unit {0}
 
@@ -57,6 +59,7 @@ HasList (Commit name) = ⊥
 HasList (Abandon name) = ⊥
 HasList (Step name max) = ⊥
 HasList (Read name from max) = ⊥
+HasList (Why name) = ⊥
 HasList Quiet = ⊥
 HasList Settle = ⊥
 
@@ -207,6 +210,9 @@ read_of (name ∷ fields) = do
   n ← max_of two.1
   Some (Read b first n)
 
+abbrev pub why_of : List (List ℕ) → Option Command
+why_of fields = option_map Why (name_alone fields)
+
 abbrev pub quiet_of : List (List ℕ) → Option Command
 quiet_of [] = Some Quiet
 quiet_of (other ∷ fields) = None
@@ -226,9 +232,10 @@ command_of word fields =
     else (if bytes_eq word (codes "abandon") then abandon_of fields
     else (if bytes_eq word (codes "step") then step_of fields
     else (if bytes_eq word (codes "read") then read_of fields
+    else (if bytes_eq word (codes "why") then why_of fields
     else (if bytes_eq word (codes "quiet") then quiet_of fields
     else (if bytes_eq word (codes "settle") then settle_of fields
-    else None)))))))))
+    else None))))))))))
 
 abbrev pub says : Option Command → Parsed
 says None = Bad

@@ -4,10 +4,10 @@ use Rattle.stream_model.specs.Tags as model
 use Rattle.stream_model.specs.Machine as machine
 use Rattle.items.specs.Items.{numbers_of}
 use Rattle.items.specs.declared.marks.Tag.{Tag}
-use Rattle.script_text.specs.Replies.{reply_text, claimed_text, piece_text, quiet_text, settle_text}
+use Rattle.script_text.specs.Replies.{reply_text, claimed_text, piece_text, waits_items_text, waits_room_text, waits_feed_text, ready_text, quiet_text, settle_text}
 use Rattle.script_text.specs.Reports.{blocks_text, connections_text, balanced_text, uneven_text, too_large_text, firings_text, sink_text, done_text, stalled_text}
 use Rattle.script_text.specs.declared.reply.Reply.{Reply}
-use Rattle.script_text.specs.declared.reply.Reply.TheVariants.{Fed, Closed, Taken, Claimed, Done, Busy, WaitingItems, WaitingRoom, Did, Abandoned, Piece, Refused, Late, Quiet, Settled}
+use Rattle.script_text.specs.declared.reply.Reply.TheVariants.{Fed, Closed, Taken, Claimed, Done, Busy, WaitingItems, WaitingRoom, Did, Abandoned, Piece, Refused, Late, WaitsItems, WaitsRoom, WaitsFeed, Ready, Quiet, Settled}
 use Rattle.script_text.specs.declared.report.Report.{Report}
 use Rattle.script_text.specs.declared.report.Report.TheVariants as report
 
@@ -32,6 +32,10 @@ printed Abandoned = reply_text machine.Abandoned
 printed (Piece held items tags) = piece_text held (numbers_of items.now) (tags_seen tags.now)
 printed (Refused code) = reply_text (machine.Refused code)
 printed (Late floor) = reply_text (machine.Late floor)
+printed (WaitsItems port writer) = waits_items_text port writer.now
+printed (WaitsRoom port reader) = waits_room_text port reader.now
+printed WaitsFeed = waits_feed_text
+printed Ready = ready_text
 printed (Quiet quiet) = quiet_text quiet
 printed (Settled done) = settle_text done
 

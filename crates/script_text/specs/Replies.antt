@@ -48,6 +48,22 @@ reply_text (Piece from held items tags done) = piece_text held items tags
 reply_text (Refused code) = codes "refused " ++ decimal code
 reply_text (Late floor) = codes "refused 27 " ++ decimal floor
 
+-- what a block waits for: items on an input, of the block of this name
+abbrev pub waits_items_text : ℕ → List ℕ → List ℕ
+waits_items_text port writer = codes "waits items " ++ decimal port ++ codes " of " ++ writer
+
+-- room behind an output, for the block of this name to read
+abbrev pub waits_room_text : ℕ → List ℕ → List ℕ
+waits_room_text port reader = codes "waits room " ++ decimal port ++ codes " for " ++ reader
+
+-- to be fed, as a source
+abbrev pub waits_feed_text : List ℕ
+waits_feed_text = codes "waits feed"
+
+-- nothing
+abbrev pub ready_text : List ℕ
+ready_text = codes "ready"
+
 -- whether no block can act
 abbrev pub quiet_text : Bool → List ℕ
 quiet_text true = codes "quiet yes"

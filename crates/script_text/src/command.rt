@@ -44,6 +44,10 @@ pub enum Command {
         from: u64,
         max: u32,
     },
+    /// Ask what a block waits for.
+    Why {
+        name: BlockName,
+    },
     /// Ask whether no block can act.
     Quiet,
     /// Let all blocks fire until none can act.

@@ -2,7 +2,7 @@
 ghost use Rattle.std.specs.Prelude.{◌≡◌, ◌≢◌, ◌↔◌, [], ◌∷◌, IsTrue, IsSome, IfOk, OnErr, IfSome, IfNone, None};
 ghost use Rattle.std.specs.Option.{option_map};
 ghost use Rattle.script_text.specs.Fields.{fields_of};
-ghost use Rattle.script_text.specs.Grammar.{SaysList, says, parsed_line, command_of, feed_of, close_of, set_of, claim_of, commit_of, abandon_of, step_of, read_of, quiet_of, settle_of, name_alone, name_and_max, only_two, place_of, integers_of, given_of, marks_of, mark_of, mark_at, name_of, with_items};
+ghost use Rattle.script_text.specs.Grammar.{SaysList, says, parsed_line, command_of, feed_of, close_of, set_of, claim_of, commit_of, abandon_of, step_of, read_of, why_of, quiet_of, settle_of, name_alone, name_and_max, only_two, place_of, integers_of, given_of, marks_of, mark_of, mark_at, name_of, with_items};
 ghost use Rattle.script_text.specs.Numbers.{max_of, integer_of};
 ghost use Rattle.script_text.specs.Commands.{line_seen, command_seen, marks_seen, mark_seen};
 
@@ -57,6 +57,8 @@ fn parse_command(alloc: Global, word: &[u8], fields: &[u8]) -> Result<Option<Com
         Ok(parse_step(fields))
     } else if word == b"read".as_slice() {
         Ok(parse_read(fields))
+    } else if word == b"why".as_slice() {
+        Ok(parse_why(fields))
     } else if word == b"quiet".as_slice() {
         Ok(parse_quiet(fields))
     } else if word == b"settle".as_slice() {
@@ -166,6 +168,13 @@ fn read_command(name: &[u8], from: &[u8], max: &[u8]) -> Option<Command>
     let from = parse_natural(from, u64::MAX)?;
     let max = parse_max(max)?;
     Some(Command::Read { name, from, max })
+}
+
+fn parse_why(fields: &[u8]) -> Option<Command>
+    ensures { option_map command_seen result ≡ why_of (fields_of fields.now) }
+{
+    let name = parse_name_alone(fields)?;
+    Some(Command::Why { name })
 }
 
 fn parse_quiet(fields: &[u8]) -> Option<Command>

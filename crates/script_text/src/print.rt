@@ -35,6 +35,14 @@ pub fn push_counted(out: &mut Vec<u8>, word: &[u8], count: u64) -> Result<(), Al
     push_natural(out, count)
 }
 
+/// Writes a word and a name behind it.
+pub fn push_named(out: &mut Vec<u8>, word: &[u8], name: &[u8]) -> Result<(), AllocError>
+    ensures { OnOk result (out.new.items ≡ out.old.items ++ (word.now ++ name.now)) }
+{
+    out.extend_from_slice(word)?;
+    out.extend_from_slice(name)
+}
+
 /// Writes what a sink holds: how many firings, and items, and tags.
 pub fn push_held(
     out: &mut Vec<u8>,

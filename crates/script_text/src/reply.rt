@@ -1,7 +1,7 @@
 //! Replies, and their text.
 ghost use Rattle.std.specs.Prelude.{◌≡◌, ◌++◌, IfOk, OnOk};
 
-use crate::print::{push_counted, push_held};
+use crate::print::{push_counted, push_held, push_named};
 use items::{Items, Tag};
 use std::alloc::{AllocError, Global};
 
@@ -41,6 +41,20 @@ pub enum Reply<'a> {
     Refused(u32),
     /// The setting came too late: items below this one are no longer open.
     Late(u64),
+    /// The block waits for items on an input, of the block of this name.
+    WaitsItems {
+        port: usize,
+        writer: &'a [u8],
+    },
+    /// The block waits for room behind an output, which the block of this name has not read.
+    WaitsRoom {
+        port: usize,
+        reader: &'a [u8],
+    },
+    /// The block is a source that waits to be fed.
+    WaitsFeed,
+    /// The block waits for nothing.
+    Ready,
     /// Whether no block can act.
     Quiet(bool),
     /// No block can act any more: whether each is done.
@@ -84,6 +98,16 @@ impl Reply<'_> {
             }
             Reply::Refused(code) => push_counted(out, b"refused ", u64::from(*code)),
             Reply::Late(floor) => push_counted(out, b"refused 27 ", *floor),
+            Reply::WaitsItems { port, writer } => {
+                push_counted(out, b"waits items ", *port as u64)?;
+                push_named(out, b" of ", writer)
+            }
+            Reply::WaitsRoom { port, reader } => {
+                push_counted(out, b"waits room ", *port as u64)?;
+                push_named(out, b" for ", reader)
+            }
+            Reply::WaitsFeed => out.extend_from_slice(b"waits feed"),
+            Reply::Ready => out.extend_from_slice(b"ready"),
             Reply::Quiet(true) => out.extend_from_slice(b"quiet yes"),
             Reply::Quiet(false) => out.extend_from_slice(b"quiet no"),
             Reply::Settled(true) => out.extend_from_slice(b"settled done"),

@@ -1,7 +1,7 @@
 //! Reports on a graph and on a run, line by line.
 ghost use Rattle.std.specs.Prelude.{◌≡◌, ◌++◌, IfOk, OnOk};
 
-use crate::print::{push_counted, push_held};
+use crate::print::{push_counted, push_held, push_named};
 use items::{Items, Tag};
 use std::alloc::{AllocError, Global};
 
@@ -77,12 +77,4 @@ impl Report<'_> {
             Report::Stalled => out.extend_from_slice(b"stalled"),
         }
     }
-}
-
-// A word and a name.
-fn push_named(out: &mut Vec<u8>, word: &[u8], name: &[u8]) -> Result<(), AllocError>
-    ensures { OnOk result (out.new.items ≡ out.old.items ++ (word.now ++ name.now)) }
-{
-    out.extend_from_slice(word)?;
-    out.extend_from_slice(name)
 }

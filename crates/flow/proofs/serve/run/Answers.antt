@@ -1,17 +1,20 @@
-use Rattle.flow.specs.Serve.{IsRun, plant_in}
-use Rattle.flow.proofs.Outcomes.{wrote, wrote_not, ran_not, failed_not, failed_writes, no_more}
+use Rattle.flow.specs.Serve.{IsRun, IsRunTo, plant_in}
+use Rattle.flow.proofs.Outcomes.{if_ok, wrote_run, wrote_not, ran_not, failed_not, failed_writes, no_more}
 use Rattle.flow.proofs.serve.run.Goals as goal
 
 pub returns-in-Ok-clause-does : goal.returns-in-Ok-clause-does
 returns-in-Ok-clause-does g c =
-    wrote (IsRun c.args.file.now) (plant_in c.args.file.now) (g.O.ByteOut.contents c.args.output.now) (g.O.ByteOut.contents c.written.new.output) c.in-Ok.outcome.text.items c.in-Ok.outcome.status c.written.result c.in-Ok.ensures.ok c.written.ensures.ok
+    let ran = c.in-Ok.ran in
+    if_ok c.written_run.result _ _ c.written_run.ensures.ok
+    (λ ended h. wrote_run (IsRunTo c.args.file.now) (g.O.ByteOut.contents c.args.output.now) (g.O.ByteOut.contents c.written_run.new.output) ran.outcome.text.items ran.outcome.status ended.status ran.stalled ended.stalled
+    c.in-Ok.ensures.ok h.0 h.1 h.2)
 
 pub returns-in-Ok-clause-does_not : goal.returns-in-Ok-clause-does_not
 returns-in-Ok-clause-does_not g c =
     let out = g.O.ByteOut.contents c.args.output.now in
-    let out' = g.O.ByteOut.contents c.written.new.output in
-    ran_not (IsRun c.args.file.now) (plant_in c.args.file.now) out out' c.written.result
-    (wrote_not (IsRun c.args.file.now) (plant_in c.args.file.now) out out' c.in-Ok.outcome.text.items c.in-Ok.outcome.status c.written.result c.in-Ok.ensures.ok c.written.ensures.err)
+    let out' = g.O.ByteOut.contents c.written_run.new.output in
+    ran_not (IsRun c.args.file.now) (plant_in c.args.file.now) out out' c.written_run.result
+    (wrote_not (IsRun c.args.file.now) (plant_in c.args.file.now) out out' c.in-Ok.ran.outcome.text.items c.in-Ok.ran.outcome.status c.written_run.result c.in-Ok.ensures.ok.0 c.written_run.ensures.err)
 
 pub returns-in-Err-clause-does_not : goal.returns-in-Err-clause-does_not
 returns-in-Err-clause-does_not g c = failed_not (IsRun c.args.file.now) (plant_in c.args.file.now) (g.O.ByteOut.contents c.args.output.now) c.in-Err.fault c.in-Err.ensures.failed

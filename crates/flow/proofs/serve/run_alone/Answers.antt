@@ -1,17 +1,4 @@
-use Rattle.flow.specs.Serve.{IsRunAlone, plant_in}
-use Rattle.flow.proofs.Outcomes.{wrote, wrote_not, refused_not, refused_writes, no_more}
 use Rattle.flow.proofs.serve.run_alone.Goals as goal
 
 pub returns-in-Ok-clause-does : goal.returns-in-Ok-clause-does
-returns-in-Ok-clause-does g c =
-    wrote (IsRunAlone c.args.file.now) (plant_in c.args.file.now) (g.O.ByteOut.contents c.args.output.now) (g.O.ByteOut.contents c.written.new.output) c.in-Ok.outcome.text.items c.in-Ok.outcome.status c.written.result c.in-Ok.ensures.ok c.written.ensures.ok
-
-pub returns-in-Ok-clause-does_not : goal.returns-in-Ok-clause-does_not
-returns-in-Ok-clause-does_not g c =
-    wrote_not (IsRunAlone c.args.file.now) (plant_in c.args.file.now) (g.O.ByteOut.contents c.args.output.now) (g.O.ByteOut.contents c.written.new.output) c.in-Ok.outcome.text.items c.in-Ok.outcome.status c.written.result c.in-Ok.ensures.ok c.written.ensures.err
-
-pub returns-in-Err-clause-does_not : goal.returns-in-Err-clause-does_not
-returns-in-Err-clause-does_not g c = refused_not (IsRunAlone c.args.file.now) (plant_in c.args.file.now) (g.O.ByteOut.contents c.args.output.now) c.in-Err.fault c.in-Err.ensures.refused
-
-pub returns-in-Err-clause-failed_writes : goal.returns-in-Err-clause-failed_writes
-returns-in-Err-clause-failed_writes g c = no_more _ _ (refused_writes (IsRunAlone c.args.file.now) (plant_in c.args.file.now) c.in-Err.fault c.in-Err.ensures.refused)
+returns-in-Ok-clause-does g c = (c.in-Ok.ensures.does.0, c.in-Ok.ensures.does.1.0, c.in-Ok.ensures.does.2)

@@ -1,4 +1,4 @@
-use Rattle.std.proofs.Common.{◌∙◌, ◌||◌, sym, ap}
+use Rattle.std.proofs.Common.{◌∙◌, ◌||◌, sym, ap, refl, inl}
 use Rattle.stream_model.specs.Network.{node_at}
 use Rattle.stream_model.specs.Machine as machine
 use Rattle.flowgraph.specs.Flowgraph.{net_of}
@@ -129,6 +129,14 @@ returns-in-Read-clause-answers g c =
     on_as (graph_of g.B.Block.meaning old) b _ _ (standing_of old kept) _ line.items (ap command_seen c.in-Read.is)
     (told_as _ (takes_memory now.0) now (standing_of old kept) old.state line.items
     (ap (λ m. called kept (machine.read_of net old.state b c.in-Read.from m)) (sym c.from.ensures)) t))
+
+pub returns-in-Why-clause-answers : goal.returns-in-Why-clause-answers
+unfolding AnswersOn
+returns-in-Why-clause-answers g c =
+    let old = c.args.plant.now in
+    let from = standing_of old (kept_in c.args.jobs.now) in
+    if_ok _ _ c.why.result c.why.ensures (λ line e.
+    on_as (graph_of g.B.Block.meaning old) c.args.block.0 _ _ from from line.items (ap command_seen c.in-Why.is) (inl (e, refl)))
 
 pub returns-in-Quiet-clause-answers : goal.returns-in-Quiet-clause-answers
 unfolding AnswersOn

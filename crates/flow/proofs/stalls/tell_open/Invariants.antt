@@ -1,0 +1,18 @@
+use Rattle.std.proofs.Common.{◌≡◌, length}
+use Rattle.std.specs.Prelude.{Result}
+use Rattle.std.specs.List.{flat_map}
+use Rattle.script_text.specs.declared.ends.Broken.{Broken}
+use Rattle.graph_file.specs.Blocks.{drafted}
+use Rattle.flow.specs.Serve.{Stream, Puts, stream}
+use Rattle.flow.specs.Stalls.{open_line, open_text}
+use Rattle.std.proofs.Common.{drop}
+use Rattle.stream_model.specs.Lists.{below}
+use Rattle.flow.proofs.stalls.tell_open.Given as goal
+
+-- no write failed so far, and whoever writes the lines of the blocks that are left has written all
+abbrev pub invariant-loop-block : goal.invariant-loop-block
+invariant-loop-block g l =
+    let d = drafted l.plant.graph in
+    (g.E.ByteOut.failed l.errors ≡ g.E.ByteOut.failed l.initial.errors)
+    × ((r : Result (Unit {0}) Broken) (last : Stream) → Puts r (stream (g.E.ByteOut.contents l.errors) (g.E.ByteOut.failed l.errors)) last (flat_map (open_line d l.plant.capacities l.plant.state) (drop l.block (below (length d.net.nodes)))) →
+    Puts r (stream (g.E.ByteOut.contents l.initial.errors) (g.E.ByteOut.failed l.initial.errors)) last (open_text d l.plant.capacities l.plant.state))
