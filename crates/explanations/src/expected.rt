@@ -1,6 +1,5 @@
 //! What may stand in a table of a graph file.
 
-use crate::all_kinds::kinds;
 use crate::document::Document;
 use block_kinds::Parameter;
 use graph_file::Place;
@@ -56,7 +55,7 @@ pub(crate) fn listed_keys(alloc: Global, keys: &[Key]) -> Result<String, AllocEr
 /// The names of all kinds, one behind the other.
 pub(crate) fn listed_kinds(alloc: Global) -> Result<String, AllocError> {
     let mut out = String::new(alloc);
-    for kind in kinds() {
+    for kind in KindName::all() {
         if !out.is_empty() {
             out.push_str(", ")?;
         }

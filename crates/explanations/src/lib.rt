@@ -1,7 +1,6 @@
 //! What stands behind a refusal of a graph file or of a line of a script: the place in the text, what was found there and what may stand there.
 #![tactic(auto)]
 
-mod all_kinds;
 mod document;
 mod entries;
 mod expected;

@@ -1,6 +1,5 @@
 //! What is wrong with a table of a graph file.
 
-use crate::all_kinds::kinds;
 use crate::document::Document;
 use crate::expected::{
     known_keys, listed_keys, listed_kinds, owner, range_text, shape_text, type_text,
@@ -11,7 +10,7 @@ use crate::tokens::part;
 use block_kinds::Parameter;
 use graph_file::Place;
 use kind_keys::table::{text_at, value_at};
-use kind_keys::{Key, KeyFault, Shape};
+use kind_keys::{Key, KeyFault, KindName, Shape};
 use std::alloc::AllocError;
 use toml::Value;
 
@@ -121,7 +120,7 @@ fn unknown_kind(document: &Document<'_>, place: Place) -> Result<Finding, AllocE
         None => "",
     };
     let mut names = Vec::new(alloc);
-    for kind in kinds() {
+    for kind in KindName::all() {
         names.push(kind.text())?;
     }
     let near = near_name(alloc, word, names.as_slice())?;

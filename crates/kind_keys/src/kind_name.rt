@@ -1,6 +1,6 @@
 //! The names of kinds.
 ghost use Rattle.std.specs.Prelude.{◌≡◌};
-ghost use Rattle.kind_keys.specs.Kinds.{kind_text, kind_named, keys_of};
+ghost use Rattle.kind_keys.specs.Kinds.{all_kinds, kind_text, kind_named, keys_of};
 
 use crate::key::Key;
 use block_kinds::Parameter;
@@ -94,6 +94,13 @@ macro_rules! keys {
 }
 
 impl KindName {
+    /// All kinds, in the order in which their names are looked up.
+    pub fn all() -> &'static [KindName]
+        ensures { result.now ≡ all_kinds }
+    {
+        &KINDS
+    }
+
     /// The kind of this name.
     pub fn named(text: &str) -> Option<KindName>
         ensures { result ≡ kind_named text.now }
