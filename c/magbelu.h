@@ -1,15 +1,18 @@
 /*
  * Magbelu from C99 and C++: flowgraphs of signal blocks, on the thread of the caller.
  *
- * A graph file, a script and raw items go in as bytes, and texts and items come out into buffers of the caller. Nothing is kept between two calls: what a
- * call allocates it frees before it returns. docs/C.md says how to build and link, and docs/FORMATS.md what stands in the files and the texts.
+ * A graph file, a script and raw items go in as bytes, and texts and items come out into buffers of the caller. What a call allocates it frees before it
+ * returns, but for a plant that the caller holds from `magbelu_open` to `magbelu_free`. docs/C.md says how to build and link, and docs/FORMATS.md what stands in
+ * the files and the texts.
  *
  * Each buffer is a pointer and a number of bytes. NULL may stand for one of 0 bytes; with more it is refused (54). Buffers that a call writes must not
- * overlap those that it reads, nor one another. Calls on several threads at the same time are allowed, since they share nothing.
+ * overlap those that it reads, nor one another. Calls on several threads at the same time are allowed, since they share
+ * nothing, where each plant that is held stays on one thread.
  */
 #ifndef MAGBELU_H
 #define MAGBELU_H
 
+#include <stdbool.h>
 #include <stddef.h>
 #include <stdint.h>
 
@@ -54,6 +57,69 @@ struct magbelu_output {
 };
 
 /*
+ * A plant that is held: a graph with its tapes, its buffers and how far it is. The struct is the caller's, and stands where the caller likes; what it points to
+ * is the library's. Begin it with MAGBELU_NO_PLANT, hand it to the calls, and touch no member. A struct that holds no plant, as one that was freed, is answered
+ * with 55; a second free too. A copy of the struct is no second plant: once the plant was freed through one, the other must not be used.
+ */
+struct magbelu_plant {
+    void *at;
+    bool is_open;
+};
+
+#define MAGBELU_NO_PLANT {NULL, false}
+
+/* Refusals of calls of a held plant: none is held; one is held already; slices of a kernel differ in length; a tag's key is no key. */
+#define MAGBELU_NOT_OPEN 55
+#define MAGBELU_IS_OPEN 56
+#define MAGBELU_LENGTHS 57
+#define MAGBELU_BAD_KEY 58
+
+/*
+ * What came of a call of a held plant.
+ *
+ * status  0: done. 3: the plant came to rest before all blocks were done. 1: refused, and nothing changed. 4: out of memory.
+ * number  that of the refusal (docs/FORMATS.md, and those above); 0 with status 0 and 3.
+ * what    of a step: MAGBELU_DID, MAGBELU_DONE, MAGBELU_WAITS_ITEMS or MAGBELU_WAITS_ROOM.
+ * value   of a feed and a close: how many items the tape has. Of a setting: the item from which it is in force; with number 27 the first one from which it could
+ *         be. Of a step: how many firings were done, or the port at which the block waits. Of magbelu_item_size: that size.
+ */
+struct magbelu_reply {
+    uint32_t status;
+    uint32_t number;
+    uint32_t what;
+    uint64_t value;
+};
+
+#define MAGBELU_DID 0
+#define MAGBELU_DONE 1
+#define MAGBELU_WAITS_ITEMS 2
+#define MAGBELU_WAITS_ROOM 3
+
+/*
+ * What came of a read: how many items the sink holds in all, how many bytes an item has, how many bytes the items have that are shown, and how many the lines
+ * of their tags. Each of the two buffers is written where all that belongs there fits.
+ */
+struct magbelu_piece {
+    uint32_t status;
+    uint32_t number;
+    uint64_t held;
+    size_t item_size;
+    size_t bytes_len;
+    size_t tags_len;
+};
+
+/* A tag that items are fed with: the place of its item on the tape, where the first is 0, its value, and its key of 1 to 16 letters, digits, `_`, `.` or `-`. */
+struct magbelu_tag {
+    uint64_t offset;
+    int64_t value;
+    const uint8_t *key;
+    size_t key_len;
+};
+
+/* The place of a setting that is to be in force at once. */
+#define MAGBELU_NOW UINT64_MAX
+
+/*
  * What the library exports. Here no pointer may be NULL, even where its length is 0: call these through the functions below, which see to that. A pointer
  * to no bytes may be any other.
  */
@@ -69,6 +135,51 @@ struct magbelu_answer magbelu_bytes_script(const uint8_t *file, size_t file_len,
 struct magbelu_answer magbelu_bytes_run_items(const uint8_t *file, size_t file_len, uint32_t big_endian, const struct magbelu_input *inputs,
                                               size_t input_count, const struct magbelu_output *outputs, size_t output_count, uint64_t *lens,
                                               size_t lens_room, uint8_t *bytes, size_t bytes_room, uint8_t *error, size_t error_room);
+
+struct magbelu_answer magbelu_bytes_open(struct magbelu_plant *plant, const uint8_t *file, size_t file_len, uint8_t *error, size_t error_room);
+
+struct magbelu_reply magbelu_bytes_free(struct magbelu_plant *plant);
+
+struct magbelu_reply magbelu_bytes_item_size(struct magbelu_plant *plant, const uint8_t *source, size_t source_len);
+
+struct magbelu_reply magbelu_bytes_feed(struct magbelu_plant *plant, const uint8_t *source, size_t source_len, uint32_t big_endian, const uint8_t *bytes,
+                                        size_t len, const struct magbelu_tag *tags, size_t tag_count);
+
+struct magbelu_reply magbelu_bytes_feed_numbers(struct magbelu_plant *plant, const uint8_t *source, size_t source_len, const int64_t *numbers, size_t count,
+                                                const struct magbelu_tag *tags, size_t tag_count);
+
+struct magbelu_reply magbelu_bytes_close(struct magbelu_plant *plant, const uint8_t *source, size_t source_len);
+
+struct magbelu_reply magbelu_bytes_set(struct magbelu_plant *plant, const uint8_t *block, size_t block_len, uint64_t at, int64_t number);
+
+struct magbelu_reply magbelu_bytes_set_taps(struct magbelu_plant *plant, const uint8_t *block, size_t block_len, uint64_t at, const int16_t *taps, size_t count);
+
+struct magbelu_reply magbelu_bytes_step(struct magbelu_plant *plant, const uint8_t *block, size_t block_len, uint32_t max);
+
+struct magbelu_reply magbelu_bytes_settle(struct magbelu_plant *plant);
+
+struct magbelu_piece magbelu_bytes_read(struct magbelu_plant *plant, const uint8_t *sink, size_t sink_len, uint64_t from, uint64_t max, uint32_t big_endian,
+                                        uint8_t *bytes, size_t bytes_room, uint8_t *tags, size_t tags_room);
+
+/*
+ * Kernels over slices: each pointer with its number of items, `out` too. They answer 0; or MAGBELU_LENGTHS, where the numbers differ, and then write nothing.
+ * Sums and products wrap. No pointer may be NULL, and `out` overlaps no other.
+ */
+uint32_t magbelu_kernel_add_shorts(const int16_t *a, size_t a_len, const int16_t *b, size_t b_len, int16_t *out, size_t out_len);
+uint32_t magbelu_kernel_add_ints(const int32_t *a, size_t a_len, const int32_t *b, size_t b_len, int32_t *out, size_t out_len);
+uint32_t magbelu_kernel_add_number_shorts(const int16_t *a, size_t a_len, int16_t number, int16_t *out, size_t out_len);
+uint32_t magbelu_kernel_add_number_ints(const int32_t *a, size_t a_len, int32_t number, int32_t *out, size_t out_len);
+uint32_t magbelu_kernel_multiply_shorts(const int16_t *a, size_t a_len, int16_t number, int16_t *out, size_t out_len);
+uint32_t magbelu_kernel_multiply_ints(const int32_t *a, size_t a_len, int32_t number, int32_t *out, size_t out_len);
+uint32_t magbelu_kernel_and_bytes(const uint8_t *a, size_t a_len, const uint8_t *b, size_t b_len, uint8_t *out, size_t out_len);
+uint32_t magbelu_kernel_and_shorts(const int16_t *a, size_t a_len, const int16_t *b, size_t b_len, int16_t *out, size_t out_len);
+uint32_t magbelu_kernel_and_ints(const int32_t *a, size_t a_len, const int32_t *b, size_t b_len, int32_t *out, size_t out_len);
+uint32_t magbelu_kernel_or_bytes(const uint8_t *a, size_t a_len, const uint8_t *b, size_t b_len, uint8_t *out, size_t out_len);
+uint32_t magbelu_kernel_or_shorts(const int16_t *a, size_t a_len, const int16_t *b, size_t b_len, int16_t *out, size_t out_len);
+uint32_t magbelu_kernel_or_ints(const int32_t *a, size_t a_len, const int32_t *b, size_t b_len, int32_t *out, size_t out_len);
+uint32_t magbelu_kernel_xor_bytes(const uint8_t *a, size_t a_len, const uint8_t *b, size_t b_len, uint8_t *out, size_t out_len);
+uint32_t magbelu_kernel_xor_shorts(const int16_t *a, size_t a_len, const int16_t *b, size_t b_len, int16_t *out, size_t out_len);
+uint32_t magbelu_kernel_xor_ints(const int32_t *a, size_t a_len, const int32_t *b, size_t b_len, int32_t *out, size_t out_len);
 
 /* The number of a refusal that these functions alone give: a pointer is NULL, and its length is not 0. Its line is `magbelu: refused 54 Null`. */
 #define MAGBELU_NULL 54
@@ -166,6 +277,125 @@ static inline struct magbelu_answer magbelu_run_items(const void *file, size_t f
     return magbelu_bytes_run_items(magbelu_read_at(file), file_len, big_endian, inputs != NULL ? inputs : &no_input, input_count,
                                    outputs != NULL ? outputs : &no_output, output_count, lens != NULL ? lens : &none, lens_room,
                                    magbelu_write_at(bytes, &none), bytes_room, magbelu_write_at(error, &none), error_room);
+}
+
+/* (not for callers) */
+static inline struct magbelu_reply magbelu_null_reply(void) {
+    struct magbelu_reply reply = {1, MAGBELU_NULL, 0, 0};
+    return reply;
+}
+
+static inline int magbelu_has_null_key(const struct magbelu_tag *tags, size_t tag_count) {
+    size_t i;
+    if (magbelu_is_null(tags, tag_count)) {
+        return 1;
+    }
+    for (i = 0; i < tag_count; i++) {
+        if (tags[i].key == NULL) {
+            return 1;
+        }
+    }
+    return 0;
+}
+
+/*
+ * Opens the plant of a graph file, with what the file feeds, for many calls. `plant` must hold none. The answer has no output; a refusal of the file has a line,
+ * as of magbelu_run. Where the plant is no longer needed, free it.
+ */
+static inline struct magbelu_answer magbelu_open(struct magbelu_plant *plant, const void *file, size_t file_len, char *error, size_t error_room) {
+    uint64_t none = 0;
+    if (plant == NULL || magbelu_is_null(file, file_len) || magbelu_is_null(error, error_room)) {
+        return magbelu_refused_null(error, error_room);
+    }
+    return magbelu_bytes_open(plant, magbelu_read_at(file), file_len, magbelu_write_at(error, &none), error_room);
+}
+
+/* Frees the plant that is held. */
+static inline struct magbelu_reply magbelu_free(struct magbelu_plant *plant) { return plant == NULL ? magbelu_null_reply() : magbelu_bytes_free(plant); }
+
+/* Tells how many bytes an item of a source has: 1, 2 or 4. */
+static inline struct magbelu_reply magbelu_item_size(struct magbelu_plant *plant, const void *source, size_t source_len) {
+    if (plant == NULL || magbelu_is_null(source, source_len)) {
+        return magbelu_null_reply();
+    }
+    return magbelu_bytes_item_size(plant, magbelu_read_at(source), source_len);
+}
+
+/*
+ * Puts the items that raw bytes are at the end of a source's tape, with tags on them (NULL and 0 for none). With bytes that end within an item it is refused 53,
+ * and then nothing is fed.
+ */
+static inline struct magbelu_reply magbelu_feed(struct magbelu_plant *plant, const void *source, size_t source_len, uint32_t big_endian, const void *bytes,
+                                                size_t len, const struct magbelu_tag *tags, size_t tag_count) {
+    const struct magbelu_tag no_tag = {0, 0, (const uint8_t *)"", 0};
+    if (plant == NULL || magbelu_is_null(source, source_len) || magbelu_is_null(bytes, len) || magbelu_has_null_key(tags, tag_count)) {
+        return magbelu_null_reply();
+    }
+    return magbelu_bytes_feed(plant, magbelu_read_at(source), source_len, big_endian, magbelu_read_at(bytes), len, tags != NULL ? tags : &no_tag, tag_count);
+}
+
+/* The same of numbers, each of which has to be an item of the source's type. */
+static inline struct magbelu_reply magbelu_feed_numbers(struct magbelu_plant *plant, const void *source, size_t source_len, const int64_t *numbers, size_t count,
+                                                        const struct magbelu_tag *tags, size_t tag_count) {
+    const struct magbelu_tag no_tag = {0, 0, (const uint8_t *)"", 0};
+    const int64_t none = 0;
+    if (plant == NULL || magbelu_is_null(source, source_len) || magbelu_is_null(numbers, count) || magbelu_has_null_key(tags, tag_count)) {
+        return magbelu_null_reply();
+    }
+    return magbelu_bytes_feed_numbers(plant, magbelu_read_at(source), source_len, numbers != NULL ? numbers : &none, count, tags != NULL ? tags : &no_tag,
+                                      tag_count);
+}
+
+/* Closes a source's tape: nothing more comes. */
+static inline struct magbelu_reply magbelu_close(struct magbelu_plant *plant, const void *source, size_t source_len) {
+    if (plant == NULL || magbelu_is_null(source, source_len)) {
+        return magbelu_null_reply();
+    }
+    return magbelu_bytes_close(plant, magbelu_read_at(source), source_len);
+}
+
+/* Sets a block's number, from this item of its first input on, or MAGBELU_NOW. */
+static inline struct magbelu_reply magbelu_set(struct magbelu_plant *plant, const void *block, size_t block_len, uint64_t at, int64_t number) {
+    if (plant == NULL || magbelu_is_null(block, block_len)) {
+        return magbelu_null_reply();
+    }
+    return magbelu_bytes_set(plant, magbelu_read_at(block), block_len, at, number);
+}
+
+/* Sets a filter's taps, from this item of its input on, or MAGBELU_NOW. */
+static inline struct magbelu_reply magbelu_set_taps(struct magbelu_plant *plant, const void *block, size_t block_len, uint64_t at, const int16_t *taps,
+                                                    size_t count) {
+    const int16_t none = 0;
+    if (plant == NULL || magbelu_is_null(block, block_len) || magbelu_is_null(taps, count)) {
+        return magbelu_null_reply();
+    }
+    return magbelu_bytes_set_taps(plant, magbelu_read_at(block), block_len, at, taps != NULL ? taps : &none, count);
+}
+
+/* Does at most `max` firings of a block. */
+static inline struct magbelu_reply magbelu_step(struct magbelu_plant *plant, const void *block, size_t block_len, uint32_t max) {
+    if (plant == NULL || magbelu_is_null(block, block_len)) {
+        return magbelu_null_reply();
+    }
+    return magbelu_bytes_step(plant, magbelu_read_at(block), block_len, max);
+}
+
+/* Steps all blocks until none can act: status 0 where all are done, which needs closed sources, and 3 where more would have to be fed. */
+static inline struct magbelu_reply magbelu_settle(struct magbelu_plant *plant) { return plant == NULL ? magbelu_null_reply() : magbelu_bytes_settle(plant); }
+
+/*
+ * Shows what a sink holds from item `from` on, at most `max` items: their bytes in `bytes`, and for each of their tags a line `@OFFSET:KEY=VALUE/SOURCE` in
+ * `tags`. A sink that holds fewer than `from` items is refused 31.
+ */
+static inline struct magbelu_piece magbelu_read(struct magbelu_plant *plant, const void *sink, size_t sink_len, uint64_t from, uint64_t max, uint32_t big_endian,
+                                                void *bytes, size_t bytes_room, char *tags, size_t tags_room) {
+    uint64_t none = 0, more = 0;
+    if (plant == NULL || magbelu_is_null(sink, sink_len) || magbelu_is_null(bytes, bytes_room) || magbelu_is_null(tags, tags_room)) {
+        struct magbelu_piece piece = {1, MAGBELU_NULL, 0, 0, 0, 0};
+        return piece;
+    }
+    return magbelu_bytes_read(plant, magbelu_read_at(sink), sink_len, from, max, big_endian, magbelu_write_at(bytes, &none), bytes_room,
+                              magbelu_write_at(tags, &more), tags_room);
 }
 
 #ifdef __cplusplus

@@ -6,8 +6,9 @@
     graph.settle()
     items, tags = graph.read("out")
 
-A graph keeps its feeds and settings, and `settle` runs it from its beginning. The library keeps nothing between two calls, and releases the interpreter's lock
-while it works, so threads may run graphs side by side. Items are `array.array`s, or arrays of numpy where that is installed.
+A graph is a plant that the library holds until the object goes, or `free` is called: it is fed, set, run and read any number of times, and what was read stays
+readable. Calls release the interpreter's lock, so threads may run graphs side by side, each of its own; one graph does one call at a time. Items are `array.array`s, or arrays of
+numpy where that is installed.
 """
 
 import array
@@ -15,6 +16,7 @@ import ctypes
 import mmap
 import os
 import pathlib
+import threading
 
 try:
     import numpy
@@ -24,9 +26,9 @@ except ImportError:
 __all__ = ["Error", "Refused", "OutOfMemory", "Tag", "Graph", "check", "run", "script", "run_items", "version"]
 
 _VERSION = 1
-# Of each type of items: how arrays of it are called, and how many bytes an item has.
-_CODES = {"byte": ("B", 1), "short": ("h", 2), "int": ("i", 4)}
-# The names of the numbers that a script's replies have.
+# How arrays of items are called, by how many bytes an item has.
+_CODES = {1: "B", 2: "h", 4: "i"}
+# The names of the numbers of refusals that have no line.
 _NAMES = {
     20: "NoSuchBlock",
     21: "NotSource",
@@ -40,10 +42,13 @@ _NAMES = {
     29: "WrongSetting",
     31: "BeyondEnd",
     32: "Memory",
+    53: "CutItem",
+    54: "Null",
+    55: "NotOpen",
+    56: "IsOpen",
+    58: "BadKey",
 }
-# How many items a line of a script feeds at most: a line has at most 65,536 bytes.
-_ITEMS_A_LINE = 4096
-_MOST = 2**32 - 1
+_MOST = 2**64 - 1
 
 
 class Error(Exception):
@@ -94,6 +99,25 @@ class _Output(ctypes.Structure):
     _fields_ = [("name", ctypes.c_void_p), ("name_len", ctypes.c_size_t), ("tags", ctypes.c_uint32)]
 
 
+class _Plant(ctypes.Structure):
+    _fields_ = [("at", ctypes.c_void_p), ("is_open", ctypes.c_bool)]
+
+
+class _Reply(ctypes.Structure):
+    _fields_ = [("status", ctypes.c_uint32), ("number", ctypes.c_uint32), ("what", ctypes.c_uint32), ("value", ctypes.c_uint64)]
+
+
+class _Piece(ctypes.Structure):
+    _fields_ = [
+        ("status", ctypes.c_uint32), ("number", ctypes.c_uint32), ("held", ctypes.c_uint64),
+        ("item_size", ctypes.c_size_t), ("bytes_len", ctypes.c_size_t), ("tags_len", ctypes.c_size_t),
+    ]
+
+
+class _Tag(ctypes.Structure):
+    _fields_ = [("offset", ctypes.c_uint64), ("value", ctypes.c_int64), ("key", ctypes.c_void_p), ("key_len", ctypes.c_size_t)]
+
+
 def _places():
     if "MAGBELU_LIBRARY" in os.environ:
         return [os.environ["MAGBELU_LIBRARY"]]
@@ -124,6 +148,22 @@ def _load():
         }.items():
             call = getattr(library, "magbelu_bytes_" + name)
             call.restype, call.argtypes = _Answer, types
+        plant, u64 = [ctypes.c_void_p], [ctypes.c_uint64]
+        for name, types in {
+            "free": plant,
+            "item_size": plant + pair,
+            "feed": plant + pair + [ctypes.c_uint32] + 2 * pair,
+            "feed_numbers": plant + 3 * pair,
+            "close": plant + pair,
+            "set": plant + pair + u64 + [ctypes.c_int64],
+            "set_taps": plant + pair + u64 + pair,
+            "step": plant + pair + [ctypes.c_uint32],
+            "settle": plant,
+        }.items():
+            call = getattr(library, "magbelu_bytes_" + name)
+            call.restype, call.argtypes = _Reply, types
+        library.magbelu_bytes_open.restype, library.magbelu_bytes_open.argtypes = _Answer, plant + 2 * pair
+        library.magbelu_bytes_read.restype, library.magbelu_bytes_read.argtypes = _Piece, plant + pair + 2 * u64 + [ctypes.c_uint32] + 2 * pair
         return library
     raise ImportError("libmagbelu.so is not found: ./build --c makes it (%s)" % "; ".join(faults))
 
@@ -252,8 +292,8 @@ def run_items(file, inputs, outputs, big_endian=False, room=None):
     return parts, answer.status == 0
 
 
-def _array(item_type, data):
-    code = _CODES[item_type][0]
+def _array(item_size, data):
+    code = _CODES[item_size]
     if numpy is not None:
         return numpy.frombuffer(data, dtype=code)
     items = array.array(code)
@@ -271,31 +311,30 @@ def _tags_of(words):
     return tags
 
 
-def _test_reply(line, reply):
-    words = reply.split()
-    if words[0] == "refused":
-        number = int(words[1])
-        raise (OutOfMemory if number == 32 else Refused)("%d %s %s" % (number, _NAMES[number], line.split()[1]))
+def _test(answer, detail):
+    if answer.number:
+        raise (OutOfMemory if answer.status == 4 else Refused)("%d %s %s" % (answer.number, _NAMES.get(answer.number, ""), detail))
+    return answer
+
+
+def _place(at):
+    place = _MOST if at is None else int(at)
+    if not 0 <= place <= _MOST:
+        raise Refused("27 Late %d" % place)
+    return place
 
 
 class Graph:
-    """A graph with its feeds and settings. `settle` runs it, and `read` shows what its sinks hold then."""
+    """A graph that the library holds: its tapes, its buffers, and how far it is."""
 
     def __init__(self, text):
-        self._text = _bytes(text)
-        check(self._text)
-        try:
-            import tomllib
-        except ImportError:
-            raise ImportError("magbelu.Graph needs Python 3.11 or later; check, run, script and run_items do not") from None
-        document = tomllib.loads(self._text.decode())
-        self._blocks = {it["name"]: it for it in document.get("block", [])}
-        # Of each source: how many items its tape has.
-        self._tapes = {name: 0 for name, it in self._blocks.items() if it["kind"] == "vector_source"}
-        for feed in document.get("feed", []):
-            self._tapes[feed["source"]] = self._tapes.get(feed["source"], 0) + len(feed.get("items", []))
-        self._feeds, self._settings = [], []
-        self._held = None
+        self._plant = _Plant(None, False)
+        self._lock = threading.Lock()
+        self._calls = _calls()
+        text, error = _Lent(_bytes(text)), _Room(4096)
+        answer = self._calls.magbelu_bytes_open(ctypes.byref(self._plant), text.at, text.len, error.at, error.size)
+        if answer.error_len:
+            raise _refusal(answer, error)
 
     @classmethod
     def from_text(cls, text):
@@ -307,105 +346,107 @@ class Graph:
         """The graph of a graph file."""
         return cls(pathlib.Path(path).read_bytes())
 
-    def _block(self, name):
-        if name not in self._blocks:
-            raise Refused("20 NoSuchBlock " + name)
-        return self._blocks[name]
+    def _call(self, name, detail, *words):
+        with self._lock:
+            reply = getattr(self._calls, "magbelu_bytes_" + name)(ctypes.byref(self._plant), *words)
+        return _test(reply, detail)
 
-    def _keeper(self, name):
-        if self._block(name)["kind"] != "vector_sink":
-            raise Refused("22 NotSink " + name)
-        return self._blocks[name]["type"]
+    def _size(self, source):
+        name = _Lent(_bytes(source))
+        return self._call("item_size", source, name.at, name.len).value
 
-    def feed(self, source, items, tags=()):
-        """Appends items to a source's tape: numbers, or an object that lends their bytes. `tags` are (offset, key, value), at offsets of the tape on these items.
-        It gives how many items the tape has then."""
-        block = self._block(source)
-        if source not in self._tapes:
-            raise Refused("21 NotSource " + source)
-        code, size = _CODES[block["type"]]
+    def feed(self, source, items, tags=(), big_endian=False):
+        """Appends items to a source's tape: numbers, or their bytes. `tags` are (offset, key, value), at offsets of the tape on these items. It gives how many
+        items the tape has then."""
+        name, kept, marks = _Lent(_bytes(source)), [], []
+        for offset, key, value in tags:
+            key = _Lent(_bytes(key))
+            kept.append(key)
+            marks.append(_Tag(int(offset), int(value), key.at, key.len))
+        marks = (_Tag * max(len(marks), 1))(*marks)
+        words = [ctypes.addressof(marks), len(kept)]
+        is_raw = isinstance(items, (bytes, bytearray, memoryview))
+        code = None
+        if isinstance(items, array.array):
+            code = items.typecode
+        elif numpy is not None and isinstance(items, numpy.ndarray):
+            code = items.dtype.char if items.dtype.isnative and items.flags.c_contiguous and items.ndim == 1 else None
+        if not is_raw and code is not None and code in _CODES.values() and _CODES[self._size(source)] == code:
+            # (items of the source's own type stand in memory as they are fed)
+            is_raw, big_endian = True, False
+        if is_raw:
+            data = _Lent(items)
+            return self._call("feed", source, name.at, name.len, bool(big_endian), data.at, data.len, *words).value
         try:
-            if isinstance(items, (bytes, bytearray, memoryview)):
-                data = bytes(items)
-            elif numpy is not None and isinstance(items, numpy.ndarray):
-                data = items.astype(numpy.dtype(code), casting="safe").tobytes()
-            else:
-                data = array.array(code, items).tobytes()
-        except (OverflowError, TypeError) as error:
+            numbers = array.array("q", map(int, items))
+        except (OverflowError, TypeError, ValueError) as error:
             raise Refused("24 ItemRange %s: %s" % (source, error)) from None
-        if len(data) % size:
-            raise Refused("53 CutItem " + source)
-        start, end = self._tapes[source], self._tapes[source] + len(data) // size
-        tags = [(int(offset), str(key), int(value)) for offset, key, value in tags]
-        if any(not start <= offset < end for offset, _, _ in tags):
-            raise Refused("25 TagPlace " + source)
-        self._tapes[source] = end
-        self._feeds.append((source, start, data, tags))
-        return end
+        data = _Lent(numbers)
+        return self._call("feed_numbers", source, name.at, name.len, data.at, len(numbers), *words).value
+
+    def close(self, source):
+        """Closes a source's tape: nothing more comes. It gives how many items the tape has."""
+        name = _Lent(_bytes(source))
+        return self._call("close", source, name.at, name.len).value
 
     def set(self, block, value, at=None):
-        """Sets a block's value, a number or taps, from its input item `at` on, or from the first."""
-        self._block(block)
+        """Sets a block's value, a number or taps, from its input item `at` on, or from the first that it has not taken. It gives that item."""
+        name = _Lent(_bytes(block))
         try:
-            numbers = [int(it) for it in value]
+            taps = list(value)
         except TypeError:
-            numbers = [int(value)]
-        at = "now" if at is None else str(int(at))
-        line = "set %s %s %s" % (block, at, " ".join(map(str, numbers)))
-        _test_reply(line, script(self._text, line))
-        self._settings.append(line)
+            number = int(value)
+            if not -(2**63) <= number < 2**63:
+                raise Refused("29 WrongSetting " + block) from None
+            return self._call("set", block, name.at, name.len, _place(at), number).value
+        try:
+            taps = array.array("h", taps)
+        except (OverflowError, TypeError) as error:
+            raise Refused("29 WrongSetting %s: %s" % (block, error)) from None
+        data = _Lent(taps)
+        return self._call("set_taps", block, name.at, name.len, _place(at), data.at, len(taps)).value
+
+    def step(self, block, count=2**32 - 1):
+        """Does at most `count` firings of a block, and gives how many were done."""
+        name = _Lent(_bytes(block))
+        reply = self._call("step", block, name.at, name.len, min(int(count), 2**32 - 1))
+        return reply.value if reply.what == 0 else 0
 
     def settle(self):
-        """Closes all sources and runs the graph from its beginning until it comes to rest. It gives whether all blocks are done then, and each sink holds its
-        whole stream."""
-        if self._settings or any(tags for *_, tags in self._feeds):
-            return self._settle_by_script()
-        sinks = [name for name, it in self._blocks.items() if it["kind"] == "vector_sink"]
-        asked = [word for name in sinks for word in (name, (name, "tags"))]
-        parts, done = run_items(self._text, [(source, data) for source, _, data, _ in self._feeds], asked)
-        self._held = {
-            name: (_array(self._keeper(name), parts[2 * at]), _tags_of(parts[2 * at + 1].decode().split())) for at, name in enumerate(sinks)
-        }
-        return done
-
-    def _lines_of_feeds(self):
-        for source, start, data, tags in self._feeds:
-            items = memoryview(data).cast(_CODES[self._blocks[source]["type"]][0])
-            for at in range(0, len(items), _ITEMS_A_LINE):
-                part = items[at : at + _ITEMS_A_LINE]
-                on = ["@%d:%s=%d" % it for it in tags if start + at <= it[0] < start + at + len(part)]
-                yield " ".join(["feed", source, *map(str, part), *on])
-
-    def _settle_by_script(self):
-        # A script has no loop, so the rounds of steps are guessed, and the script is run again with more where they are too few.
-        before = [*self._lines_of_feeds(), *self._settings, *("close " + source for source in self._tapes)]
-        sinks = [name for name, it in self._blocks.items() if it["kind"] == "vector_sink"]
-        rounds = 16 + len(self._blocks) + sum(self._tapes.values()) // 1024
-        while True:
-            steps = ["step %s %d" % (name, _MOST) for name in self._blocks]
-            lines = before + rounds * steps + ["quiet"] + steps + ["read %s 0 %d" % (name, _MOST) for name in sinks]
-            replies = script(self._text, "\n".join(lines)).splitlines()
-            for line, reply in zip(before, replies):
-                _test_reply(line, reply)
-            if replies[len(before) + rounds * len(steps)] == "quiet yes":
-                break
-            rounds *= 2
-        ends = replies[len(replies) - len(sinks) - len(steps) : len(replies) - len(sinks)]
-        self._held = {}
-        for name, reply in zip(sinks, replies[len(replies) - len(sinks) :]):
-            words = reply.split()[2:]
-            count = next((at for at, word in enumerate(words) if word.startswith("@")), len(words))
-            items = array.array(_CODES[self._keeper(name)][0], map(int, words[:count]))
-            self._held[name] = (_array(self._keeper(name), items.tobytes()), _tags_of(words[count:]))
-        return all(it == "done" for it in ends)
+        """Runs the graph until it comes to rest. It gives whether all blocks are done, for which all sources have to be closed; each sink holds its whole stream
+        then."""
+        return self._call("settle", "").status == 0
 
     def read(self, sink, start=0, count=None):
-        """What a sink held when the graph came to rest: its items from `start` on, at most `count`, and the tags on them."""
-        self._keeper(sink)
-        if self._held is None:
-            raise Refused("31 BeyondEnd settle comes first")
-        items, tags = self._held[sink]
-        if not 0 <= start <= len(items):
+        """What a sink holds now: its items from `start` on, at most `count`, and the tags on them."""
+        name = _Lent(_bytes(sink))
+        most = _MOST if count is None else max(int(count), 0)
+        if start < 0:
             raise Refused("31 BeyondEnd " + sink)
-        end = len(items) if count is None else min(len(items), start + count)
-        return items[start:end], [tag for tag in tags if start <= tag.offset < end]
+        room, tags_room = 65536, 4096
+        with self._lock:
+            while True:
+                data, tags = _Room(room), _Room(tags_room)
+                piece = self._calls.magbelu_bytes_read(
+                    ctypes.byref(self._plant), name.at, name.len, int(start), most, 0, data.at, data.size, tags.at, tags.size,
+                )
+                if piece.bytes_len <= room and piece.tags_len <= tags_room:
+                    break
+                room, tags_room = max(room, piece.bytes_len), max(tags_room, piece.tags_len)
+        _test(piece, sink)
+        return _array(piece.item_size, data.part(0, piece.bytes_len)), _tags_of(tags.part(0, piece.tags_len).decode().split())
+
+    def free(self):
+        """Frees what the library holds. Each later call is refused."""
+        with self._lock:
+            self._calls.magbelu_bytes_free(ctypes.byref(self._plant))
+
+    def __enter__(self):
+        return self
+
+    def __exit__(self, *_):
+        self.free()
+
+    def __del__(self):
+        if getattr(self, "_plant", None) is not None and self._plant.is_open:
+            self.free()

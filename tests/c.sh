@@ -98,9 +98,10 @@ if ! is_fresh "$c_folder/libmagbelu.a" "$c_crate"; then
     echo "c: the header compiles; the calls are left out, since ./build --c has not built them from these sources"
     exit
 fi
-cc -std=c99 -pedantic -Wall -Wextra -Werror -g -fsanitize=address,undefined -fno-sanitize-recover=undefined -I"$top/c" "$top/tests/c/calls.c" \
+cc -std=c99 -pedantic -Wall -Wextra -Werror -g -fsanitize=address,undefined -fno-sanitize-recover=undefined -pthread -I"$top/c" "$top/tests/c/calls.c" \
     "$c_folder/libmagbelu.a" -o "$room/calls"
 calls 0 wrong
+calls 0 held
 for folder in "$top"/examples/*/; do
     if [[ -e ${folder}graph.toml ]]; then
         example "${folder%/}"

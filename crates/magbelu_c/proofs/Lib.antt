@@ -1,2 +1,7 @@
+mod Calling
 mod Entries
+mod HandleRows
+mod HandleValues
+mod LooseValues
+pub mod Showing
 mod Texts

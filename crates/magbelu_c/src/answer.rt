@@ -3,7 +3,7 @@
 ghost use Rattle.std.specs.Prelude.{◌≡◌};
 ghost use Rattle.magbelu_c.specs.Answers.{ToldBadly, ToldRaw, ToldWell};
 
-use crate::showing::show;
+use crate::shows::show;
 use flow::fault::Fault;
 use flow::raw_fault::RawFault;
 use flow::telling::{report, report_raw};

@@ -3,7 +3,18 @@
 
 pub mod answer;
 mod between;
+mod block_calls;
 pub mod calls;
-pub mod item_runs;
-mod showing;
+pub mod handle;
+pub mod held_calls;
+mod idle;
+pub mod kernels;
+mod loose;
+mod orders;
+pub mod piece;
+pub mod raw_calls;
+pub mod reply;
+mod shows;
 pub mod tables;
+mod tag_lines;
+mod tagging;

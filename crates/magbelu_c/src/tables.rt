@@ -18,3 +18,13 @@ pub struct Output<'a> {
     /// 0 for the bytes of its items, and any other number for a line for each of its tags.
     pub tags: u32,
 }
+
+/// A tag that items are fed with.
+#[repr(C)]
+#[derive(Drop)]
+pub struct Mark<'a> {
+    /// The place of its item on the tape, where the first is 0.
+    pub offset: u64,
+    pub value: i64,
+    pub key: &'a [u8],
+}

@@ -3,7 +3,7 @@ use Rattle.raw_items.specs.declared.byte_order.ByteOrder.{ByteOrder}
 use Rattle.magbelu_c.specs.Answers.{Ran, RanNot, order_of}
 use Rattle.magbelu_c.specs.Between.{FailsBetween}
 use Rattle.magbelu_c.proofs.Entries.{ran_so}
-use Rattle.magbelu_c.proofs.item_runs.magbelu_bytes_run_items.Goals as goal
+use Rattle.magbelu_c.proofs.raw_calls.magbelu_bytes_run_items.Goals as goal
 
 pub returns-in-Ok : goal.returns-in-Ok
 returns-in-Ok c =

@@ -5,9 +5,9 @@ ghost use Rattle.magbelu_c.specs.Answers.{AnswersRun, order_of};
 
 use crate::answer::{Answer, badly_raw, well};
 use crate::between::run_between;
-use crate::showing::show;
+use crate::orders::order;
+use crate::shows::show;
 use crate::tables::{Input, Output};
-use raw_items::ByteOrder;
 use std::alloc::Global;
 
 /// Runs the graph of a file to its end, where sources are fed the bytes of `inputs`, and gives what sinks hold: the bytes of all `outputs`, one behind the
@@ -31,15 +31,5 @@ pub extern "C" fn magbelu_bytes_run_items(
             well(given.status, &given.bytes, bytes)
         }
         Err(fault) => badly_raw(alloc, &fault, error),
-    }
-}
-
-fn order(big_endian: u32) -> ByteOrder
-    ensures { result ≡ order_of big_endian }
-{
-    if big_endian == 0 {
-        ByteOrder::Little
-    } else {
-        ByteOrder::Big
     }
 }

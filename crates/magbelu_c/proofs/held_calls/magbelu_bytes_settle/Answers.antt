@@ -1,0 +1,9 @@
+use Rattle.std.proofs.Common.{rules, ◌≡◌, Some}
+use Rattle.magbelu_c.specs.Replies.{Held}
+use Rattle.magbelu_c.proofs.held_calls.magbelu_bytes_settle.Goals as goal
+
+pub returns : goal.returns
+returns c =
+    let held : c.args.plant.now.plant ≡ Some c.deref_mut.result.now = search rules in
+    let kept : c.put.new.self.plant ≡ Some c.settle-reply.new.self = search rules in
+    Held c.deref_mut.result.now c.settle-reply.new.self held kept c.settle-reply.ensures

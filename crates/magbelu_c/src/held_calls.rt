@@ -1,0 +1,274 @@
+//! Calls of a plant that a caller holds. Each takes the plant from behind the handle, and puts it back.
+
+ghost use Rattle.std.specs.Prelude.{◌≡◌, Ok, IfOk, IfErr, true, false, position, bytes_eq};
+ghost use Rattle.stream_model.specs.Machine.{close_of, set_of};
+ghost use Rattle.stream_model.specs.Settings.{Number, Taps};
+ghost use Rattle.flowgraph.specs.Flowgraph.{net_of};
+ghost use Rattle.kinds.specs.Kind.{meaning_of};
+ghost use Rattle.plant.specs.Feeding.{feed_numbers};
+ghost use Rattle.graph_file.specs.Opening.{opened_of};
+ghost use Rattle.flow.specs.Serve.{Refuses, plant_in};
+ghost use Rattle.magbelu_c.specs.Answers.{order_of};
+ghost use Rattle.magbelu_c.specs.Held.{Frees, Opens, Shows, at_of};
+ghost use Rattle.magbelu_c.specs.Replies.{Calls, OnHeld, Settles, fed_bytes, is_fed, named, sized, stepped, wants};
+ghost use Rattle.magbelu_c.specs.Tagging.{Feeds};
+
+use crate::answer::{Answer, badly};
+use crate::handle::Handle;
+use crate::idle::Idle;
+use crate::orders::order;
+use crate::piece::{Piece, read, unshown};
+use crate::reply::{Reply, done, refused};
+use crate::tables::Mark;
+use crate::{block_calls, tagging};
+use flow::fault::Fault;
+use flow::script::ScriptFault;
+use std::alloc::Global;
+
+// The numbers of refusals: no plant is held, and one is already.
+const NOT_OPEN: u32 = 55;
+
+const IS_OPEN: u32 = 56;
+
+/// Opens the plant of a graph file, with its feeds on the tapes, behind a handle that holds none.
+#[unsafe(no_mangle)]
+pub extern "C" fn magbelu_bytes_open(
+    alloc: Global,
+    plant: &mut Handle,
+    file: &[u8],
+    error: &mut [u8],
+) -> Answer
+    ensures { Opens file.now plant.old.plant plant.new.plant error.old error.new result }
+{
+    if let Some(held) = plant.take(alloc) {
+        plant.put(held);
+        return answered(1, IS_OPEN);
+    }
+    match opened(alloc, file) {
+        Ok(opened) => {
+            plant.put(opened);
+            answered(0, 0)
+        }
+        Err(fault) => badly(alloc, &fault, &[], &mut [], error),
+    }
+}
+
+fn answered(status: u32, number: u32) -> Answer
+    ensures { result ≡ record { status = status; number = number; output_len = 0; error_len = 0 } }
+{
+    Answer {
+        status,
+        number,
+        output_len: 0,
+        error_len: 0,
+    }
+}
+
+// The plant of a graph file in memory of its own.
+fn opened(alloc: Global, file: &[u8]) -> Result<Box<Idle>, Fault>
+    ensures opens { IfOk result (λ plant. plant_in file.now ≡ Ok (opened_of plant.value)) }
+    ensures refused { IfErr result (Refuses (plant_in file.now)) }
+{
+    let plant = match Idle::open(alloc, file) {
+        Ok(plant) => plant,
+        Err(fault) => return Err(Fault::File(fault)),
+    };
+    match Box::new(alloc, plant) {
+        Ok(plant) => Ok(plant),
+        Err(_) => Err(Fault::Script(ScriptFault::Memory)),
+    }
+}
+
+/// Frees the plant that is held.
+#[unsafe(no_mangle)]
+pub extern "C" fn magbelu_bytes_free(alloc: Global, plant: &mut Handle) -> Reply
+    ensures { Frees plant.old.plant plant.new.plant result }
+{
+    match plant.take(alloc) {
+        Some(_) => done(0, 0),
+        None => refused(NOT_OPEN, 0),
+    }
+}
+
+/// How many bytes an item of a source has.
+#[unsafe(no_mangle)]
+pub extern "C" fn magbelu_bytes_item_size(alloc: Global, plant: &mut Handle, source: &[u8]) -> Reply
+    ensures { OnHeld plant.old.plant plant.new.plant (λ p p' r.
+        (p' ≡ p) × (r ≡ sized (net_of meaning_of p.graph) (position (bytes_eq source.now) p.graph.names))) result }
+{
+    let Some(held) = plant.take(alloc) else {
+        return refused(NOT_OPEN, 0);
+    };
+    let reply = block_calls::size_of(&held.plant, source);
+    plant.put(held);
+    reply
+}
+
+/// Feeds a source the items that bytes are, with tags on them.
+#[unsafe(no_mangle)]
+pub extern "C" fn magbelu_bytes_feed(
+    alloc: Global,
+    plant: &mut Handle,
+    source: &[u8],
+    big_endian: u32,
+    bytes: &[u8],
+    tags: &[Mark<'_>],
+) -> Reply
+    ensures { OnHeld plant.old.plant plant.new.plant (λ p p' r.
+        Feeds tags.now p p' r (λ ms. Calls (wants p source.now is_fed) (named p source.now (fed_bytes (order_of big_endian) bytes.now ms)) p p' r)) result }
+{
+    let Some(mut held) = plant.take(alloc) else {
+        return refused(NOT_OPEN, 0);
+    };
+    let reply = tagging::feed(
+        alloc,
+        &mut held.plant,
+        source,
+        order(big_endian),
+        bytes,
+        tags,
+    );
+    plant.put(held);
+    reply
+}
+
+/// Feeds numbers to a source, with tags on them.
+#[unsafe(no_mangle)]
+pub extern "C" fn magbelu_bytes_feed_numbers(
+    alloc: Global,
+    plant: &mut Handle,
+    source: &[u8],
+    numbers: &[i64],
+    tags: &[Mark<'_>],
+) -> Reply
+    ensures { OnHeld plant.old.plant plant.new.plant (λ p p' r.
+        Feeds tags.now p p' r (λ ms. Calls false (named p source.now (λ net st b. feed_numbers net st b numbers.now ms)) p p' r)) result }
+{
+    let Some(mut held) = plant.take(alloc) else {
+        return refused(NOT_OPEN, 0);
+    };
+    let reply = tagging::feed_numbers(alloc, &mut held.plant, source, numbers, tags);
+    plant.put(held);
+    reply
+}
+
+/// Closes a source's tape.
+#[unsafe(no_mangle)]
+pub extern "C" fn magbelu_bytes_close(alloc: Global, plant: &mut Handle, source: &[u8]) -> Reply
+    ensures { OnHeld plant.old.plant plant.new.plant (λ p. Calls false (named p source.now close_of) p) result }
+{
+    let Some(mut held) = plant.take(alloc) else {
+        return refused(NOT_OPEN, 0);
+    };
+    let reply = block_calls::close(&mut held.plant, source);
+    plant.put(held);
+    reply
+}
+
+/// Sets a block's number, from an item on.
+#[unsafe(no_mangle)]
+pub extern "C" fn magbelu_bytes_set(
+    alloc: Global,
+    plant: &mut Handle,
+    block: &[u8],
+    at: u64,
+    number: i64,
+) -> Reply
+    ensures { OnHeld plant.old.plant plant.new.plant (λ p. Calls false (named p block.now (λ net st b. set_of net st b (at_of at) (Number number))) p) result }
+{
+    let Some(mut held) = plant.take(alloc) else {
+        return refused(NOT_OPEN, 0);
+    };
+    let reply = block_calls::set_number(&mut held.plant, block, place(at), number);
+    plant.put(held);
+    reply
+}
+
+/// Sets a block's taps, from an item on.
+#[unsafe(no_mangle)]
+pub extern "C" fn magbelu_bytes_set_taps(
+    alloc: Global,
+    plant: &mut Handle,
+    block: &[u8],
+    at: u64,
+    taps: &[i16],
+) -> Reply
+    ensures { OnHeld plant.old.plant plant.new.plant (λ p.
+        Calls (wants p block.now (λ net b. true)) (named p block.now (λ net st b. set_of net st b (at_of at) (Taps taps.now))) p) result }
+{
+    let Some(mut held) = plant.take(alloc) else {
+        return refused(NOT_OPEN, 0);
+    };
+    let reply = block_calls::set_taps(alloc, &mut held.plant, block, place(at), taps);
+    plant.put(held);
+    reply
+}
+
+// The item from which a setting is to be in force; the greatest number stands for the first that is still open.
+fn place(at: u64) -> Option<u64>
+    ensures { result ≡ at_of at }
+{
+    if at == u64::MAX { None } else { Some(at) }
+}
+
+/// Does at most so many firings of a block.
+#[unsafe(no_mangle)]
+pub extern "C" fn magbelu_bytes_step(
+    alloc: Global,
+    plant: &mut Handle,
+    block: &[u8],
+    max: u32,
+) -> Reply
+    ensures { OnHeld plant.old.plant plant.new.plant (λ p. Calls false (named p block.now (stepped p.capacities max)) p) result }
+{
+    let Some(mut held) = plant.take(alloc) else {
+        return refused(NOT_OPEN, 0);
+    };
+    let reply = block_calls::step(alloc, &mut held.plant, block, max);
+    plant.put(held);
+    reply
+}
+
+/// Steps all blocks until none can act.
+#[unsafe(no_mangle)]
+pub extern "C" fn magbelu_bytes_settle(alloc: Global, plant: &mut Handle) -> Reply
+    ensures { OnHeld plant.old.plant plant.new.plant Settles result }
+{
+    let Some(mut held) = plant.take(alloc) else {
+        return refused(NOT_OPEN, 0);
+    };
+    let reply = held.settle(alloc);
+    plant.put(held);
+    reply
+}
+
+/// Shows what a sink holds from an item on, at most so many items: the bytes of these, and a line for each of their tags.
+#[unsafe(no_mangle)]
+pub extern "C" fn magbelu_bytes_read(
+    alloc: Global,
+    plant: &mut Handle,
+    sink: &[u8],
+    from: u64,
+    max: u64,
+    big_endian: u32,
+    bytes: &mut [u8],
+    tags: &mut [u8],
+) -> Piece
+    ensures { Shows plant.old.plant plant.new.plant sink.now from max (order_of big_endian) bytes.old bytes.new tags.old tags.new result }
+{
+    let Some(held) = plant.take(alloc) else {
+        return unshown(refused(NOT_OPEN, 0));
+    };
+    let piece = read(
+        alloc,
+        &held.plant,
+        sink,
+        from,
+        max,
+        order(big_endian),
+        bytes,
+        tags,
+    );
+    plant.put(held);
+    piece
+}

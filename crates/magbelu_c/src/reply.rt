@@ -1,0 +1,82 @@
+//! What a call of a held plant answers.
+
+ghost use Rattle.std.specs.Prelude.{◌≡◌};
+ghost use Rattle.plant.specs.Answers.{refusal_of, step_reply};
+ghost use Rattle.magbelu_c.specs.Replies.{done, no_memory, refused, told_maybe, told_of};
+
+use plant::{Need, PlantFault, Step};
+
+/// What came of a call of a held plant.
+#[repr(C)]
+#[derive(Clone, Copy, Debug, PartialEq, Eq)]
+pub struct Reply {
+    /// 0; 3 where the plant came to rest before all blocks were done; 1 for a refusal; 4 where memory ran out.
+    pub status: u32,
+    /// The number of the refusal, or 0.
+    pub number: u32,
+    /// What a step came to: 0 for firings, 1 for the end of its block, 2 where it waits for items, 3 where it waits for room; else 0.
+    pub what: u32,
+    /// What is counted: items of a tape, the item that a setting is in force from, firings, or the port that a block waits at.
+    pub value: u64,
+}
+
+/// A call was done.
+pub(crate) fn done(what: u32, value: u64) -> Reply
+    ensures { result ≡ done what value }
+{
+    Reply {
+        status: 0,
+        number: 0,
+        what,
+        value,
+    }
+}
+
+/// A call was refused.
+pub(crate) fn refused(number: u32, value: u64) -> Reply
+    ensures { result ≡ refused number value }
+{
+    Reply {
+        status: 1,
+        number,
+        what: 0,
+        value,
+    }
+}
+
+/// The plant refused a call, or memory ran out.
+pub(crate) fn refusal(fault: PlantFault) -> Reply
+    ensures { result ≡ told_maybe (refusal_of fault) }
+{
+    match fault {
+        PlantFault::Memory => no_memory(),
+        PlantFault::Late { floor } => refused(fault.number(), floor),
+        fault => refused(fault.number(), 0),
+    }
+}
+
+/// Memory ran out.
+pub(crate) fn no_memory() -> Reply
+    ensures { result ≡ no_memory }
+{
+    Reply {
+        status: 4,
+        number: PlantFault::Memory.number(),
+        what: 0,
+        value: 0,
+    }
+}
+
+/// What a step came to.
+pub(crate) fn of_step(step: Step) -> Reply
+    ensures { result ≡ told_of (step_reply step) }
+{
+    match step {
+        Step::Did(count) => done(0, u64::from(count)),
+        Step::Done => done(1, 0),
+        Step::Waiting(Need::Items(port)) => done(2, port as u64),
+        Step::Waiting(Need::Room(port)) => done(3, port as u64),
+        // (where no claim is in flight no block is busy)
+        Step::Busy => done(4, 0),
+    }
+}
