@@ -9,7 +9,7 @@ use Rattle.flow.specs.declared.script.ScriptFault.TheVariants as script
 use Rattle.flow.specs.declared.start.StartFault.{StartFault}
 use Rattle.flow.specs.declared.start.StartFault.TheVariants.{NoText, BadWords, NoFile, Memory}
 
--- a word that is no UTF-8 is told; nothing but memory can be wanting besides
+-- a word that is no UTF-8 is told; otherwise only memory can run out
 abbrev pub words_fault : ErrorKind → StartFault
 words_fault kind.InvalidData = NoText
 words_fault _ = Memory

@@ -64,7 +64,7 @@ found (Some b) call st = call b
 abbrev pub named : PlantState Kind → List ℕ → (Network → State → ℕ → machine.Reply × State) → machine.Reply × State
 named p name call = found (position (bytes_eq name) p.graph.names) (call (net_of meaning_of p.graph) p.state) p.state
 
--- whether a call of the block of a name takes what it is given, for which memory may be wanting
+-- whether a call of the block of a name takes what it is given, for which memory may run out
 abbrev pub takes : Option ℕ → (ℕ → Bool) → Bool
 takes None does = false
 takes (Some b) does = does b
@@ -72,7 +72,7 @@ takes (Some b) does = does b
 abbrev pub wants : PlantState Kind → List ℕ → (Network → ℕ → Bool) → Bool
 wants p name does = takes (position (bytes_eq name) p.graph.names) (does (net_of meaning_of p.graph))
 
--- a call was answered, as the machine does now or for want of memory. It may also be wanting before, for what the call is given
+-- a call was answered as the machine does now, or memory ran out; it may also run out before, for what the call is given
 pub data Calls (may_want : Bool) (now : machine.Reply × State) (old new : PlantState Kind) (r : Reply) : Type 0 where
   Told : (reply : Option machine.Reply) → Answered now old new reply → r ≡ told_maybe reply → Calls may_want now old new r
   Wanting : may_want ≡ true → new ≡ old → r ≡ no_memory → Calls may_want now old new r

@@ -162,7 +162,7 @@ fn take(
     };
     match write(alloc, ran, order, place, output, sink, bytes) {
         Ok(()) => Ok(()),
-        // Of a sink nothing but memory can be wanting.
+        // A sink is refused only where memory runs out.
         Err(_) => Err(RawFault::from(AllocError)),
     }
 }
