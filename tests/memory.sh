@@ -9,7 +9,7 @@ source "$(dirname -- "$(readlink -f -- "${BASH_SOURCE[0]}")")/apart.sh"
 refused=260
 # Of each task, a few more than the allocations that it makes (in threads the schedule changes their number), and how many of the first are left out:
 # `check` reads and tests the file as the others do, and what `live` makes before its run `calls` makes too.
-declare -A most=([calls]=165 [live]=165 [check]=172 [feeds]=202 [run]=254 [alone]=226 [stall]=208 [script]=236)
+declare -A most=([calls]=165 [live]=165 [check]=172 [feeds]=202 [run]=254 [alone]=226 [stall]=208 [script]=244)
 declare -A left_out=([calls]=0 [live]=97 [check]=0 [feeds]=130 [run]=130 [alone]=130 [stall]=130 [script]=130)
 
 put_apart memory flow
