@@ -1,6 +1,7 @@
 #!/usr/bin/env bash
 # Calls of a plant, a live run with its caller, and `check`, `check --feeds`, `run` (in threads and alone), a run that stalls and `script` of graph files,
-# of which one allocation fails: the first of all, then the second, and so on until none does. The program of tests/memory ends with status 0 each time.
+# of which one allocation fails: the first of all, then the second, and so on until none does. The program of tests/memory ends with status 0 each time. And rounds
+# of a plant in which no allocation is made, so that none of them comes to fail.
 set -euo pipefail
 # shellcheck source=tests/apart.sh
 source "$(dirname -- "$(readlink -f -- "${BASH_SOURCE[0]}")")/apart.sh"
@@ -9,8 +10,8 @@ source "$(dirname -- "$(readlink -f -- "${BASH_SOURCE[0]}")")/apart.sh"
 refused=260
 # Of each task, a few more than the allocations that it makes (in threads the schedule changes their number), and how many of the first are left out:
 # `check` reads and tests the file as the others do, and what `live` makes before its run `calls` makes too.
-declare -A most=([calls]=165 [live]=165 [check]=172 [feeds]=202 [run]=254 [alone]=226 [stall]=208 [script]=244)
-declare -A left_out=([calls]=0 [live]=97 [check]=0 [feeds]=130 [run]=130 [alone]=130 [stall]=130 [script]=130)
+declare -A most=([calls]=165 [live]=165 [check]=172 [feeds]=202 [run]=254 [alone]=226 [stall]=208 [script]=244 [steady]=171)
+declare -A left_out=([calls]=0 [live]=97 [check]=0 [feeds]=130 [run]=130 [alone]=130 [stall]=130 [script]=130 [steady]=163)
 
 put_apart memory flow
 mkdir "$room/cases"
@@ -33,11 +34,18 @@ passed=$(grep -c "^case=.* run=ended status=0 " "$room/said" || true)
 missed=()
 for task in "${!most[@]}"; do
     # With the fewest allocations before them none of the task's own is refused any more; and with the most none yet, or the first that is not left out.
-    last=$([[ ${left_out[$task]} == 0 ]] && echo outside || echo inside)
+    case $task in
+    steady) last=early ;;
+    calls | check) last=outside ;;
+    *) last=inside ;;
+    esac
     if [[ $(said_of "$task.$((refused - most[$task]))") != outside || $(said_of "$task.$((refused - left_out[$task] - 1))") != "$last" ]]; then
         missed+=("$task")
     fi
 done
+if grep -xFA 1 "$(printf '== steady.%s\n' $(seq 0 "$refused"))" "$room/output" | grep -qx inside; then
+    missed+=("steady")
+fi
 swept=$(grep -cx inside "$room/output" || true)
 if [[ $status != 0 || $passed != "$count" || ${#missed[@]} != 0 || $swept == 0 ]]; then
     cat "$room/said" >&2

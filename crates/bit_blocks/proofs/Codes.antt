@@ -1,12 +1,15 @@
 -- Lemmas on codes that go on from byte to byte.
-use Rattle.std.proofs.Common.{◌≡◌, ℕ, suc, ◌+◌, ◌-◌, ◌<◌, ◌≤◌, ℤ, pos, List, [], ◌∷◌, ◌++◌, length, map, take, get_or, refl, arith, ap, ap₂, sym, ◌∙◌}
+use Rattle.std.proofs.Common.{◌≡◌, ℕ, suc, ◌+◌, ◌-◌, ◌<◌, ◌≤◌, ℤ, pos, List, [], ◌∷◌, ◌++◌, length, map, take, get_or, refl, arith, ap, ap₂, subst, sym, ◌∙◌}
 use Rattle.std.proofs.lemmas.List.{take_more, map-append}
 use Rattle.stream_model.specs.Lists.{item, numbers_from}
 use Rattle.stream_model.specs.Settings.{Held}
 use Rattle.stream_model.specs.Meaning.{Meaning, IsFed, input, given_items}
+use Rattle.items.specs.declared.stream_items.Items.{Items}
+use Rattle.settings.specs.declared.value.Held as lent
+use Rattle.block_kinds.specs.Fill.{CanFill}
 use Rattle.block_kinds.specs.Shape.{IsPaced}
-use Rattle.block_kinds.proofs.Fills.{there-fill, length-paced, item-paced}
-use Rattle.bit_blocks.specs.Codes.{coded, word_after}
+use Rattle.block_kinds.proofs.Fills.{paced, there-fill, length-paced, item-paced}
+use Rattle.bit_blocks.specs.Codes.{coded, word_after, IsCode, CanCode}
 
 -- the numbers of the first bytes and one more
 pub one_read : (bytes : List ℕ) (i : ℕ) → i < length bytes → map pos (take (i + 1) bytes) ≡ map pos (take i bytes) ++ pos (get_or bytes i 0) ∷ []
@@ -47,29 +50,47 @@ module _ (gives next : ℕ → ℤ → ℕ) where
         ap (λ v. word_after next v w) step ∙ rest.1 ∙ ap kept (omega arith),
       )
 
-module _ (m : Meaning) (pace : IsPaced m 1 1) (one : m.history ≡ 1) (ts : List Held) (xs : List (List ℤ)) (first n state : ℕ) (w : List ℤ) (hs : List Held)
-    (fed : IsFed m ts xs first n state (w ∷ []) hs) (gives next : ℕ → ℤ → ℕ)
-    (outs : (a : ℕ) → a < length (input xs 0) → m.out ts xs 0 a ≡ pos (gives (m.word ts xs a) (item (input xs 0) a)))
-    (words : (a : ℕ) → a < length (input xs 0) → m.word ts xs (a + 1) ≡ next (m.word ts xs a) (item (input xs 0) a)) where
-  long : length w ≡ n
-  long = length-paced m 1 1 pace ts xs first n state w hs fed ∙ omega (arith, one)
+module _ {m : Meaning} {start : ℕ} {is_word : ℕ → Type 0} {gives next : ℕ → ℤ → ℕ} (is : IsCode m start is_word gives next) where
+  one : m.history ≡ 1
+  one = ap (λ (m : Meaning). m.history) is.of_bytes
 
+  pace : IsPaced m 1 1
+  pace = subst (λ m. IsPaced m 1 1) (sym is.of_bytes) (paced _ _ 1 1 1 _ _ start m.word m.out (omega arith))
+
+  long : {ts : List Held} {xs : List (List ℤ)} {first n state : ℕ} {w : List ℤ} {hs : List Held} → IsFed m ts xs first n state (w ∷ []) hs → length w ≡ n
+  long {ts} {xs} {first} {n} {state} {w} {hs} fed = length-paced m 1 1 pace ts xs first n state w hs fed ∙ omega (arith, one)
+
+  -- what is lent to such a block is room for its code
+  pub code-can : {first n state : ℕ} {window : Items} {held : List lent.Held} {out : Items} → CanFill m first n state window held out → CanCode window out
+  code-can {first} {n} can =
+      record {
+        from = can.item ∙ ap (λ (m : Meaning). m.inputs.item) is.of_bytes;
+        to = can.ready.item ∙ ap (λ (m : Meaning). m.outputs.item) is.of_bytes;
+        empty = can.ready.empty;
+        room = omega (arith, long can.fed, can.ready.room, pace.given first, pace.given (first + n));
+      }
+
+module _ {m : Meaning} {start : ℕ} {is_word : ℕ → Type 0} {gives next : ℕ → ℤ → ℕ} (is : IsCode m start is_word gives next)
+    {ts : List Held} {xs : List (List ℤ)} {first n state : ℕ} {w : List ℤ} {hs : List Held} (fed : IsFed m ts xs first n state (w ∷ []) hs) where
   within : first + n ≤ length (input xs 0)
-  within = omega (arith, there-fill m ts xs first n state w hs fed, pace.taken 0 (first + n))
+  within = omega (arith, there-fill m ts xs first n state w hs fed, (pace is).taken 0 (first + n))
 
   stream : (coded gives next (m.word ts xs first) w ≡ map (m.out ts xs 0) (numbers_from first (length w))) × (word_after next (m.word ts xs first) w ≡ m.word ts xs (first + length w))
   stream =
       coded-stream gives next (m.word ts xs) (m.out ts xs 0) (item (input xs 0)) w first
-      (λ k h. item-paced m 1 1 pace ts xs first n state w hs fed one k (omega (arith, h, long)) ∙ ap (item (input xs 0)) (omega arith))
-      (λ k h. outs (first + k) (omega (arith, h, long, within)))
-      (λ k h. words (first + k) (omega (arith, h, long, within)))
+      (λ k h. item-paced m 1 1 (pace is) ts xs first n state w hs fed (one is) k (omega (arith, h, long is fed)) ∙ ap (item (input xs 0)) (omega arith))
+      (λ k h. is.given ts xs (first + k) (omega (arith, h, long is fed, within)))
+      (λ k h. is.stepped ts xs (first + k) (omega (arith, h, long is fed, within)))
 
-  -- the code of a block that gives a byte for a byte by its word is what the firings give
+  -- the code is what the firings give
   pub code-given : coded gives next state w ≡ given_items m ts xs first n 0
   code-given =
-      let from : first ≡ m.given first = omega (arith, pace.given first) in
-      let more : length w ≡ m.given (first + n) - m.given first = omega (arith, long, pace.given first, pace.given (first + n)) in
+      let from : first ≡ m.given first = omega (arith, (pace is).given first) in
+      let more : length w ≡ m.given (first + n) - m.given first = omega (arith, long is fed, (pace is).given first, (pace is).given (first + n)) in
       ap (λ v. coded gives next v w) fed.state_is ∙ stream.0 ∙ (λ i. map (m.out ts xs 0) (numbers_from (from i) (more i)))
 
   pub code-word : word_after next state w ≡ m.word ts xs (first + n)
-  code-word = ap (λ v. word_after next v w) fed.state_is ∙ stream.1 ∙ ap (λ l. m.word ts xs (first + l)) long
+  code-word = ap (λ v. word_after next v w) fed.state_is ∙ stream.1 ∙ ap (λ l. m.word ts xs (first + l)) (long is fed)
+
+  pub code-state : is_word state
+  code-state = subst is_word (sym fed.state_is) (is.words ts xs first)

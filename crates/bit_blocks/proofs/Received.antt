@@ -9,7 +9,7 @@ use Rattle.stream_model.specs.Kinds.Bits.{place_in, masked, register_of, receive
 use Rattle.kind_laws.specs.Bits.{register_of-places}
 use Rattle.kind_laws.specs.Registers.{received-out, received-word, sum-more}
 use Rattle.kind_laws.specs.Shared.{map-same, get_or-map_numbers, length-map_numbers}
-use Rattle.bit_blocks.specs.Codes.{masked_before, coded, word_after, unscrambled, followed}
+use Rattle.bit_blocks.specs.Codes.{masked_before, coded, word_after, given_bit, followed}
 use Rattle.bit_blocks.proofs.Codes.{coded-append, coded-stream}
 
 -- place j of the register before item n is item n - j
@@ -52,9 +52,9 @@ module _ (bits mask init : ℕ) (some : 2 ≤ bits) (few : bits ≤ 32) (less : 
 
   stream :
       (w : List ℤ) (a : ℕ) → ((k : ℕ) → k < length w → item w k ≡ item x (a + k)) →
-      (coded (unscrambled bits mask) (followed bits) (kept a) w ≡ map given (numbers_from a (length w))) × (word_after (followed bits) (kept a) w ≡ kept (a + length w))
+      (coded (given_bit bits mask) (followed bits) (kept a) w ≡ map given (numbers_from a (length w))) × (word_after (followed bits) (kept a) w ≡ kept (a + length w))
   stream w a items =
-      coded-stream (unscrambled bits mask) (followed bits) kept given (item x) w a items
+      coded-stream (given_bit bits mask) (followed bits) kept given (item x) w a items
       (λ k h. ap (λ m. pos ((low_bit x (a + k) + m) % 2)) (received-out bits mask init x (a + k)))
       (λ k h. let next : a + k + 1 ≡ suc (a + k) = omega arith in ap kept next ∙ received-word bits init x (a + k) (omega arith))
 
@@ -67,9 +67,9 @@ module _ (bits mask init : ℕ) (some : 2 ≤ bits) (few : bits ≤ 32) (less : 
   pub sums_behind :
       (sums : List ℕ) → 32 ≤ length x → length x ≡ 32 + length sums →
       ((k : ℕ) → k < length sums → get_or sums k 0 ≡ (low_bit x (32 + k) + masked_before bits mask x (32 + k)) % 2) →
-      coded (unscrambled bits mask) (followed bits) init (take 32 x) ++ map pos sums ≡ coded (unscrambled bits mask) (followed bits) init x
+      coded (given_bit bits mask) (followed bits) init (take 32 x) ++ map pos sums ≡ coded (given_bit bits mask) (followed bits) init x
   sums_behind sums room long are =
-      let code = coded (unscrambled bits mask) (followed bits) in
+      let code = coded (given_bit bits mask) (followed bits) in
       let cut : length (take 32 x) ≡ 32 = length-take-le 32 x room in
       let left : length (drop 32 x) ≡ length sums = omega (arith, length-drop 32 x, long) in
       let behind : 0 + length (take 32 x) ≡ 32 = omega (arith, cut) in
@@ -86,15 +86,15 @@ module _ (bits mask init : ℕ) (some : 2 ≤ bits) (few : bits ≤ 32) (less : 
       ∙ ap (λ m. pos ((low_bit x (32 + k) + m) % 2)) (sym (masked-received bits mask init x (32 + k) (omega (arith, few))))
       ∙ sym (get_or-map_numbers given 32 (length (drop 32 x)) k (pos 0) (omega (arith, near, left)))) in
       ap (λ ys. code init (take 32 x) ++ ys) (same ∙ sym rest ∙ ap (λ v. code v (drop 32 x)) (sym word))
-      ∙ sym (coded-append (unscrambled bits mask) (followed bits) init (take 32 x) (drop 32 x))
+      ∙ sym (coded-append (given_bit bits mask) (followed bits) init (take 32 x) (drop 32 x))
       ∙ ap (code init) (take-append-drop 32 x)
 
   -- the same of a list of which the first items are given and the others are the sums
   pub all_given :
       (given_bytes : List ℕ) → 32 ≤ length x → length given_bytes ≡ length x →
-      map pos (take 32 given_bytes) ≡ coded (unscrambled bits mask) (followed bits) init (take 32 x) →
+      map pos (take 32 given_bytes) ≡ coded (given_bit bits mask) (followed bits) init (take 32 x) →
       ((k : ℕ) → 32 + k < length x → get_or given_bytes (32 + k) 0 ≡ (low_bit x (32 + k) + masked_before bits mask x (32 + k)) % 2) →
-      map pos given_bytes ≡ coded (unscrambled bits mask) (followed bits) init x
+      map pos given_bytes ≡ coded (given_bit bits mask) (followed bits) init x
   all_given given_bytes room long first are =
       let left : length x ≡ 32 + length (drop 32 given_bytes) = omega (arith, length-drop 32 given_bytes, long, room) in
       ap (map pos) (sym (take-append-drop 32 given_bytes)) ∙ map-append pos (take 32 given_bytes) (drop 32 given_bytes)

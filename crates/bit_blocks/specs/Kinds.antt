@@ -4,21 +4,16 @@ use Rattle.std.specs.Cmp.{first_so, second_so}
 use Rattle.block_kinds.specs.SameItem.{same_number}
 use Rattle.std.proofs.Common.{arith}
 use Rattle.stream_model.specs.Meaning.{Meaning}
-use Rattle.stream_model.specs.Kinds.Bits.{pack_k_bits, unpack_k_bits, diff_decoder, diff_encoder, scrambler, descrambler, additive_scrambler}
-use Rattle.bit_blocks.specs.declared.pack_k_bits.PackKBits.{PackKBits}
-use Rattle.bit_blocks.specs.declared.unpack_k_bits.UnpackKBits.{UnpackKBits}
+use Rattle.stream_model.specs.Kinds.Bits.{diff_decoder, diff_encoder}
+use Rattle.bit_blocks.specs.declared.k_bits.KBits.{KBits}
 use Rattle.bit_blocks.specs.declared.register.Register.{Register}
-use Rattle.bit_blocks.specs.declared.scrambler.Scrambler.{Scrambler}
-use Rattle.bit_blocks.specs.declared.descrambler.Descrambler.{Descrambler}
-use Rattle.bit_blocks.specs.declared.additive_scrambler.AdditiveScrambler.{AdditiveScrambler}
+use Rattle.bit_blocks.specs.declared.register_block.RegisterBlock.{RegisterBlock}
 use Rattle.bit_blocks.specs.declared.diff_encoder.DiffEncoder.{DiffEncoder}
 use Rattle.bit_blocks.specs.declared.diff_decoder.DiffDecoder.{DiffDecoder}
 
-abbrev pub pack_k_bits_of : PackKBits → Meaning
-pack_k_bits_of b = pack_k_bits b.k
-
-abbrev pub unpack_k_bits_of : UnpackKBits → Meaning
-unpack_k_bits_of b = unpack_k_bits b.k
+-- a block with k bits, of which this is the equation
+abbrev pub k_bits_of : {P : _} → (ℕ → Meaning) → KBits P → Meaning
+k_bits_of meant b = meant b.k
 
 abbrev pub diff_decoder_of : DiffDecoder → Meaning
 diff_decoder_of b = diff_decoder b.modulus
@@ -32,14 +27,9 @@ diff_encoder_of b = diff_encoder b.modulus
 pub some_encoded : (b : DiffEncoder) → 1 ≤ b.modulus
 some_encoded b = let two = b.some in omega arith
 
-abbrev pub scrambler_of : Scrambler → Meaning
-scrambler_of b = scrambler b.register.bits b.register.mask b.register.init
-
-abbrev pub descrambler_of : Descrambler → Meaning
-descrambler_of b = descrambler b.register.bits b.register.mask b.register.init
-
-abbrev pub additive_scrambler_of : AdditiveScrambler → Meaning
-additive_scrambler_of b = additive_scrambler b.register.bits b.register.mask b.register.init
+-- a block with a register, of which this is the equation by the register's bits, its mask and what it holds at first
+abbrev pub register_block_of : {S : _} → (ℕ → ℕ → ℕ → Meaning) → RegisterBlock S → Meaning
+register_block_of meant b = meant b.register.bits b.register.mask b.register.init
 
 -- registers that the derived test finds equal are one
 pub same_register :

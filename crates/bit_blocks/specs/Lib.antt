@@ -1,3 +1,5 @@
 pub mod Codes
 pub mod Kinds
+pub mod Packed
 pub mod Registers
+pub mod Scrambled

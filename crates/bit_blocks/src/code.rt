@@ -1,8 +1,6 @@
 //! Codes that go on from byte to byte.
 ghost use Rattle.std.specs.Prelude.{◌≡◌, ◌+◌, ◌-◌, ◌≤◌, ℕ, ℤ, pos, [], map, length, vec_len, vec_capacity};
-ghost use Rattle.stream_model.specs.declared.vocabulary.ItemType.TheVariants.{Byte};
-ghost use Rattle.items.specs.Items.{type_of, numbers_of, spare_of};
-ghost use Rattle.bit_blocks.specs.Codes.{coded, word_after};
+ghost use Rattle.bit_blocks.specs.Codes.{coded, word_after, CanCode, HasCoded};
 
 use items::Items;
 use std::mem;
@@ -79,13 +77,8 @@ pub(crate) fn follow<C: Coder>(coder: C, start: u64, items: &[u8]) -> u64
 /// Writes the code of the items into an empty `out` with room for it, and answers the word behind them.
 pub(crate) fn code<C: Coder>(coder: C, start: u64, items: &Items, out: &mut Items) -> u64
     requires word { C.is_word coder start }
-    requires from { type_of items.now ≡ Byte }
-    requires to { type_of out.old ≡ Byte }
-    requires empty { numbers_of out.old ≡ [] }
-    requires room { length (numbers_of items.now) ≤ spare_of out.old }
-    ensures item_type { type_of out.new ≡ Byte }
-    ensures items { numbers_of out.new ≡ coded (C.gives coder) (C.next coder) start (numbers_of items.now) }
-    ensures word { result ≡ word_after (C.next coder) start (numbers_of items.now) }
+    requires can { CanCode items.now out.old }
+    ensures { HasCoded (C.gives coder) (C.next coder) start items.now out.new result }
 {
     match (items, out) {
         (Items::Byte(items), Items::Byte(out)) => code_bytes(coder, start, items, out),

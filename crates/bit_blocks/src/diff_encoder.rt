@@ -1,8 +1,6 @@
 //! The block that sums up all bytes modulo a number.
 ghost use Rattle.std.specs.Prelude.{◌≡◌, ◌≤◌, ◌<◌, ◌↔◌, [], length, IsOk, IfOk, IfErr};
-ghost use Rattle.stream_model.specs.declared.vocabulary.ItemType.TheVariants.{Byte};
-ghost use Rattle.items.specs.Items.{type_of, numbers_of, spare_of};
-ghost use Rattle.bit_blocks.specs.Codes.{coded, word_after, summed};
+ghost use Rattle.bit_blocks.specs.Codes.{summed, CanCode, HasCoded};
 ghost use Rattle.stream_model.specs.Kinds.Bits.{diff_encoder};
 
 use crate::code::{Coder, code};
@@ -42,14 +40,14 @@ struct Summing {
 }
 
 impl Coder for Summing {
-    ghost use Rattle.std.specs.Prelude.{◌<◌, pos, ◌+ℤ◌};
-    ghost use Rattle.stream_model.specs.Numbers.{residue};
+    ghost use Rattle.std.specs.Prelude.{◌<◌};
+    ghost use Rattle.bit_blocks.specs.Codes.{summed};
 
     ghost is_word = { λ b word. word < b.modulus };
 
-    ghost gives = { λ b word z. residue (pos word +ℤ z) b.modulus };
+    ghost gives = { λ b. summed b.modulus };
 
-    ghost next = { λ b word z. residue (pos word +ℤ z) b.modulus };
+    ghost next = { λ b. summed b.modulus };
 
     // The byte is divided, which waits for no other step, and not the sum.
     fn step(self, word: u64, byte: u8) -> (u8, u64) {
@@ -60,43 +58,22 @@ impl Coder for Summing {
     }
 }
 
-// Writes the sums of the items, from a sum on, into an empty `out` with room for it, and answers the last sum.
-#[inline(always)]
-fn sum_up(modulus: u32, state: u64, items: &Items, out: &mut Items) -> u64
-    requires some { 2 ≤ modulus }
-    requires few { modulus ≤ 256 }
-    requires word { state < modulus }
-    requires from { type_of items.now ≡ Byte }
-    requires to { type_of out.old ≡ Byte }
-    requires empty { numbers_of out.old ≡ [] }
-    requires room { length (numbers_of items.now) ≤ spare_of out.old }
-    ensures item_type { type_of out.new ≡ Byte }
-    ensures items { numbers_of out.new ≡ coded (summed modulus) (summed modulus) state (numbers_of items.now) }
-    ensures word { result ≡ word_after (summed modulus) state (numbers_of items.now) }
-{
-    code(Summing { modulus }, state, items, out)
-}
-
-// The same. Where the compiler knows the modulus, it needs no division.
+// Writes the sums of the items, from a sum on, into an empty `out` with room for it, and answers the last sum. Where the compiler knows the
+// modulus, it needs no division.
 fn sum_items(modulus: u32, state: u64, items: &Items, out: &mut Items) -> u64
     requires some { 2 ≤ modulus }
     requires few { modulus ≤ 256 }
     requires word { state < modulus }
-    requires from { type_of items.now ≡ Byte }
-    requires to { type_of out.old ≡ Byte }
-    requires empty { numbers_of out.old ≡ [] }
-    requires room { length (numbers_of items.now) ≤ spare_of out.old }
-    ensures item_type { type_of out.new ≡ Byte }
-    ensures items { numbers_of out.new ≡ coded (summed modulus) (summed modulus) state (numbers_of items.now) }
-    ensures word { result ≡ word_after (summed modulus) state (numbers_of items.now) }
+    requires can { CanCode items.now out.old }
+    ensures { HasCoded (summed modulus) (summed modulus) state items.now out.new result }
 {
     match modulus {
-        2 => sum_up(2, state, items, out),
-        4 => sum_up(4, state, items, out),
-        8 => sum_up(8, state, items, out),
-        16 => sum_up(16, state, items, out),
-        256 => sum_up(256, state, items, out),
-        _ => sum_up(modulus, state, items, out),
+        2 => code(Summing { modulus: 2 }, state, items, out),
+        4 => code(Summing { modulus: 4 }, state, items, out),
+        8 => code(Summing { modulus: 8 }, state, items, out),
+        16 => code(Summing { modulus: 16 }, state, items, out),
+        256 => code(Summing { modulus: 256 }, state, items, out),
+        _ => code(Summing { modulus }, state, items, out),
     }
 }
 

@@ -4,11 +4,11 @@ use Rattle.std.specs.Option.{option_map_or}
 use Rattle.std.proofs.lemmas.Bool.{cases_Bool, cases_eq, false≢true}
 use Rattle.std.proofs.lemmas.Option.{none-some}
 use Rattle.std.proofs.lemmas.List.{get_or-set_same, get_or-set_other, length-set}
-use Rattle.ring_readers.specs.declared.reader.Place.{Place}
+use Rattle.ring_readers.specs.declared.reader.ReaderState.{ReaderState}
 use Rattle.ring_readers.specs.State.{RingState, slower, slowest_of, nobody, place_in, reader_at, with_taken, without_reader}
 
 -- a reader that is live at a place was live before at no later place
-pub record GoesOn (before after : Place) : Type 0 where
+pub record GoesOn (before after : ReaderState) : Type 0 where
   pub live : after.live ≡ true → before.live ≡ true
   pub place : before.place ≤ after.place
 
@@ -22,23 +22,23 @@ pub record Found (before : Option ℕ) (r : ℕ) : Type 0 where
 abbrev pub NoLess : Option ℕ → Option ℕ → Type 0
 NoLess before after = (q : ℕ) → after ≡ Some q → Found before q
 
-live_slower : (found : Option ℕ) (p : Place) → p.live ≡ true → slower found p ≡ Some (option_map_or (min p.place) found p.place)
+live_slower : (found : Option ℕ) (p : ReaderState) → p.live ≡ true → slower found p ≡ Some (option_map_or (min p.place) found p.place)
 live_slower found p e = rw e refl
 
-gone_slower : (found : Option ℕ) (p : Place) → p.live ≡ false → slower found p ≡ found
+gone_slower : (found : Option ℕ) (p : ReaderState) → p.live ≡ false → slower found p ≡ found
 gone_slower found p e = rw e refl
 
 inside : (a b : ℕ) → Some a ≡ Some b → a ≡ b
 inside a b e = ap (λ o. option_map_or (λ n. n) o 0) e
 
-least_live : (before after : Option ℕ) (p q : Place) → NoLess before after → p.place ≤ q.place → option_map_or (min p.place) before p.place ≤ option_map_or (min q.place) after q.place
+least_live : (before after : Option ℕ) (p q : ReaderState) → NoLess before after → p.place ≤ q.place → option_map_or (min p.place) before p.place ≤ option_map_or (min q.place) after q.place
 least_live None None p q h le = le
 least_live (Some b) None p q h le = omega (arith, le)
 least_live before (Some a) p q h le =
     let found = h a refl in
     rw (found.is) (omega (arith, le, found.le))
 
-waiting : (before : Option ℕ) (p : Place) (r : ℕ) → Found before r → Found (slower before p) r
+waiting : (before : Option ℕ) (p : ReaderState) (r : ℕ) → Found before r → Found (slower before p) r
 waiting before p r found =
     elim (cases_Bool p.live) [
       | inl live ↦ record {
@@ -49,7 +49,7 @@ waiting before p r found =
       | inr gone ↦ record { place = found.place; is = gone_slower before p gone ∙ found.is; le = found.le }
     ]
 
-step : (before after : Option ℕ) (p q : Place) → NoLess before after → GoesOn p q → NoLess (slower before p) (slower after q)
+step : (before after : Option ℕ) (p q : ReaderState) → NoLess before after → GoesOn p q → NoLess (slower before p) (slower after q)
 step before after p q h on r e =
     elim (cases_Bool q.live) [
       | inl live ↦
@@ -60,10 +60,10 @@ step before after p q h on r e =
     ]
 
 -- readers that go on, one by one
-abbrev pub AllGoOn : List Place → List Place → Type 0
+abbrev pub AllGoOn : List ReaderState → List ReaderState → Type 0
 AllGoOn ps qs = (n : ℕ) → GoesOn (place_in ps n) (place_in qs n)
 
-folded : (ps qs : List Place) (before after : Option ℕ) → length ps ≡ length qs → AllGoOn ps qs → NoLess before after → NoLess (fold slower before ps) (fold slower after qs)
+folded : (ps qs : List ReaderState) (before after : Option ℕ) → length ps ≡ length qs → AllGoOn ps qs → NoLess before after → NoLess (fold slower before ps) (fold slower after qs)
 folded [] [] before after long on h = h
 folded [] (q ∷ qs) before after long on h = absurd (omega (arith, long))
 folded (p ∷ ps) [] before after long on h = absurd (omega (arith, long))
@@ -73,14 +73,14 @@ none_before : NoLess None None
 none_before r e = absurd (none-some r e)
 
 -- where each reader goes on, so does the slowest
-pub slowest_goes_on : (ps qs : List Place) → length ps ≡ length qs → AllGoOn ps qs → NoLess (slowest_of ps) (slowest_of qs)
+pub slowest_goes_on : (ps qs : List ReaderState) → length ps ≡ length qs → AllGoOn ps qs → NoLess (slowest_of ps) (slowest_of qs)
 slowest_goes_on ps qs long on = folded ps qs None None long on none_before
 
-stays : (p : Place) → GoesOn p p
+stays : (p : ReaderState) → GoesOn p p
 stays p = record { live = λ e. e; place = omega arith }
 
 -- readers of which one was set to go on
-pub one_goes_on : (ps : List Place) (n : ℕ) (q : Place) → n < length ps → GoesOn (place_in ps n) q → AllGoOn ps (slice_set ps n q)
+pub one_goes_on : (ps : List ReaderState) (n : ℕ) (q : ReaderState) → n < length ps → GoesOn (place_in ps n) q → AllGoOn ps (slice_set ps n q)
 one_goes_on ps n q in' on k =
     elim (cases_eq k n) [
       | inl e ↦ rw e (subst (GoesOn (place_in ps n)) (sym (get_or-set_same ps n q nobody in')) on)

@@ -65,7 +65,7 @@ fn push_connections(
 ) -> Result<(), AllocError>
     ensures { OnOk result (text.new.items ≡ text.old.items ++ connections_text format graph.now (sizes_of sizes.now)) }
 {
-    graph.in_order();
+    graph.recall();
     for (number, connection) in graph.connections().iter().enumerate() {
         let connection = drawn_connection(graph, sizes, *connection);
         push_connection(text, format, number, &connection)?;

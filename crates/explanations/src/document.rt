@@ -3,7 +3,7 @@
 use crate::entries::{Entry, entries_of};
 use crate::frame::Finding;
 use crate::tokens::{Mark, Span, next_token, part, rest};
-use graph_file::Place;
+use graph_file::FilePlace;
 use kind_keys::table::{text_at, values_at};
 use kind_keys::{Key, KindName};
 use std::alloc::{AllocError, Global};
@@ -30,12 +30,12 @@ impl<'a> Document<'a> {
     }
 
     /// The table of a place.
-    pub fn table_at(&self, place: Place) -> Option<&Table> {
+    pub fn table_at(&self, place: FilePlace) -> Option<&Table> {
         match place {
-            Place::Top => Some(&self.table),
-            Place::Block(number) => self.blocks().get(number)?.as_table(),
-            Place::Connect(number) => self.connections().get(number)?.as_table(),
-            Place::Feed(number) => self.feeds().get(number)?.as_table(),
+            FilePlace::Top => Some(&self.table),
+            FilePlace::Block(number) => self.blocks().get(number)?.as_table(),
+            FilePlace::Connect(number) => self.connections().get(number)?.as_table(),
+            FilePlace::Feed(number) => self.feeds().get(number)?.as_table(),
         }
     }
 
@@ -52,7 +52,7 @@ impl<'a> Document<'a> {
     }
 
     /// The kind of the block of a table.
-    pub fn kind_at(&self, place: Place) -> Option<KindName> {
+    pub fn kind_at(&self, place: FilePlace) -> Option<KindName> {
         KindName::named(text_at(self.table_at(place)?, Key::Kind))
     }
 
@@ -80,7 +80,7 @@ impl<'a> Document<'a> {
     }
 
     /// What is wrong where a table begins.
-    pub fn at_table(&self, place: Place, message: String) -> Finding {
+    pub fn at_table(&self, place: FilePlace, message: String) -> Finding {
         Finding {
             place: self.start_of(place),
             message,
@@ -88,7 +88,7 @@ impl<'a> Document<'a> {
     }
 
     /// What is wrong with the value of a key; where the key is not found, its table.
-    pub fn at_value(&self, place: Place, key: Key, message: String) -> Finding {
+    pub fn at_value(&self, place: FilePlace, key: Key, message: String) -> Finding {
         Finding {
             place: self.value_of(place, key),
             message,
@@ -96,7 +96,7 @@ impl<'a> Document<'a> {
     }
 
     /// Where a table begins.
-    pub fn start_of(&self, place: Place) -> usize {
+    pub fn start_of(&self, place: FilePlace) -> usize {
         for entry in &self.entries {
             if entry.table == place && entry.key.is_none() {
                 return entry.start;
@@ -106,7 +106,7 @@ impl<'a> Document<'a> {
     }
 
     /// Where the value of a key begins, or the table where the key is not found.
-    pub fn value_of(&self, place: Place, key: Key) -> usize {
+    pub fn value_of(&self, place: FilePlace, key: Key) -> usize {
         for entry in &self.entries {
             if let Some(word) = entry.key {
                 if entry.table == place && part(self.text, word) == key.text().as_bytes() {

@@ -1,14 +1,14 @@
 //! The tables and keys of a graph file, each with its place in the text. What is no TOML has some, too.
 
 use crate::tokens::{Mark, Span, Token, blank_end, first_place, next_token, part};
-use graph_file::Place;
+use graph_file::FilePlace;
 use std::alloc::{AllocError, Global};
 
 /// A table, or a key of one.
 #[derive(Clone, Copy, Debug)]
 pub(crate) struct Entry {
     /// The table.
-    pub table: Place,
+    pub table: FilePlace,
     /// Of a key its first word without quotes; none where the table itself begins here.
     pub key: Option<Span>,
     /// Where it begins.
@@ -50,9 +50,9 @@ struct Scan<'a> {
     // How many brackets of a value are open.
     depth: usize,
     // The table of the keys that are read: that of the last header, none where it is another.
-    table: Option<Place>,
+    table: Option<FilePlace>,
     // The table of an inline array, at depth 2.
-    inner: Option<Place>,
+    inner: Option<FilePlace>,
     // The key of the document whose value is read, where that may be an array of such tables.
     array: Option<Span>,
     // How many tables of each array came.
@@ -79,7 +79,7 @@ pub(crate) fn entries_of(alloc: Global, text: &[u8]) -> Result<Vec<Entry>, Alloc
         step: Step::Line,
         path: NO_PATH,
         depth: 0,
-        table: Some(Place::Top),
+        table: Some(FilePlace::Top),
         inner: None,
         array: None,
         blocks: 0,
@@ -163,11 +163,11 @@ impl Scan<'_> {
             }
         }
         if count == 1 {
-            return self.push(Place::Top, Some(first), start, start);
+            return self.push(FilePlace::Top, Some(first), start, start);
         }
         match self.last_table(first) {
             Some(table) => self.push(table, Some(second), start, start),
-            None => self.push(Place::Top, Some(first), start, start),
+            None => self.push(FilePlace::Top, Some(first), start, start),
         }
     }
 
@@ -199,7 +199,7 @@ impl Scan<'_> {
             ..
         } = self.path;
         let table = if self.depth == 0 {
-            self.array = if count == 1 && self.table == Some(Place::Top) {
+            self.array = if count == 1 && self.table == Some(FilePlace::Top) {
                 Some(first)
             } else {
                 None
@@ -256,40 +256,40 @@ impl Scan<'_> {
     }
 
     // The next table of the array at a key.
-    fn next_table(&mut self, key: Span) -> Option<Place> {
+    fn next_table(&mut self, key: Span) -> Option<FilePlace> {
         match part(self.text, key) {
             b"block" => {
                 let number = self.blocks;
                 self.blocks = number.saturating_add(1);
-                Some(Place::Block(number))
+                Some(FilePlace::Block(number))
             }
             b"connect" => {
                 let number = self.connections;
                 self.connections = number.saturating_add(1);
-                Some(Place::Connect(number))
+                Some(FilePlace::Connect(number))
             }
             b"feed" => {
                 let number = self.feeds;
                 self.feeds = number.saturating_add(1);
-                Some(Place::Feed(number))
+                Some(FilePlace::Feed(number))
             }
             _ => None,
         }
     }
 
     // The last table that came of the array at a key.
-    fn last_table(&self, key: Span) -> Option<Place> {
+    fn last_table(&self, key: Span) -> Option<FilePlace> {
         match part(self.text, key) {
-            b"block" => Some(Place::Block(self.blocks.checked_sub(1)?)),
-            b"connect" => Some(Place::Connect(self.connections.checked_sub(1)?)),
-            b"feed" => Some(Place::Feed(self.feeds.checked_sub(1)?)),
+            b"block" => Some(FilePlace::Block(self.blocks.checked_sub(1)?)),
+            b"connect" => Some(FilePlace::Connect(self.connections.checked_sub(1)?)),
+            b"feed" => Some(FilePlace::Feed(self.feeds.checked_sub(1)?)),
             _ => None,
         }
     }
 
     fn push(
         &mut self,
-        table: Place,
+        table: FilePlace,
         key: Option<Span>,
         start: usize,
         value: usize,

@@ -2,41 +2,41 @@
 
 use crate::document::Document;
 use block_kinds::Parameter;
-use graph_file::Place;
+use graph_file::FilePlace;
 use items::ItemType;
 use kind_keys::table::{small_at, type_at};
-use kind_keys::{Key, KindName, Shape};
+use kind_keys::{Key, KindName, ValueForm};
 use std::alloc::{AllocError, Global};
 
 const ANY_TYPE: &str = "\"byte\", \"short\" or \"int\"";
 
 /// What a table is, with its kind where that is known.
-pub(crate) fn owner(document: &Document<'_>, place: Place) -> Result<String, AllocError> {
+pub(crate) fn owner(document: &Document<'_>, place: FilePlace) -> Result<String, AllocError> {
     let alloc = document.alloc;
     match place {
-        Place::Top => String::from_str(alloc, "a graph file"),
-        Place::Block(_) => match document.kind_at(place) {
+        FilePlace::Top => String::from_str(alloc, "a graph file"),
+        FilePlace::Block(_) => match document.kind_at(place) {
             Some(kind) => {
                 let kind = kind.text();
                 format!(in alloc; "a block of the kind {kind}")
             }
             None => String::from_str(alloc, "a block"),
         },
-        Place::Connect(_) => String::from_str(alloc, "a connection"),
-        Place::Feed(_) => String::from_str(alloc, "a feed"),
+        FilePlace::Connect(_) => String::from_str(alloc, "a connection"),
+        FilePlace::Feed(_) => String::from_str(alloc, "a feed"),
     }
 }
 
 /// The keys of a table.
-pub(crate) fn known_keys(document: &Document<'_>, place: Place) -> &'static [Key] {
+pub(crate) fn known_keys(document: &Document<'_>, place: FilePlace) -> &'static [Key] {
     match place {
-        Place::Top => &[Key::Block, Key::Connect, Key::Feed],
-        Place::Block(_) => match document.kind_at(place) {
+        FilePlace::Top => &[Key::Block, Key::Connect, Key::Feed],
+        FilePlace::Block(_) => match document.kind_at(place) {
             Some(kind) => kind.keys(),
             None => &[Key::Name, Key::Kind],
         },
-        Place::Connect(_) => &[Key::From, Key::To, Key::FromPort, Key::ToPort],
-        Place::Feed(_) => &[Key::Source, Key::Items, Key::Marks],
+        FilePlace::Connect(_) => &[Key::From, Key::To, Key::FromPort, Key::ToPort],
+        FilePlace::Feed(_) => &[Key::Source, Key::Items, Key::Marks],
     }
 }
 
@@ -70,12 +70,12 @@ pub(crate) fn shape_text(key: Key) -> &'static str {
         Key::Marks => {
             "an array of tables, each with `at`, a whole number, `key`, 1 to 16 letters, digits, `_`, `.` or `-`, and `value`, a whole number"
         }
-        _ => match key.shape() {
-            Shape::Text => "a text",
-            Shape::Number => "a whole number",
-            Shape::Numbers => "an array of whole numbers",
-            Shape::Tables => "an array of tables",
-            Shape::Choice => "\"all\", \"none\" or \"one\"",
+        _ => match key.form() {
+            ValueForm::Text => "a text",
+            ValueForm::Number => "a whole number",
+            ValueForm::Numbers => "an array of whole numbers",
+            ValueForm::Tables => "an array of tables",
+            ValueForm::Choice => "\"all\", \"none\" or \"one\"",
         },
     }
 }
@@ -114,7 +114,7 @@ pub(crate) fn item_range(item: ItemType) -> &'static str {
 /// What a parameter of the block of a place may be.
 pub(crate) fn range_text(
     document: &Document<'_>,
-    place: Place,
+    place: FilePlace,
     parameter: Parameter,
 ) -> Result<String, AllocError> {
     match parameter {
@@ -125,7 +125,7 @@ pub(crate) fn range_text(
 }
 
 // The same of a parameter whose range does not depend on another; of the registers of scramblers, nothing.
-fn fixed_range(document: &Document<'_>, place: Place, parameter: Parameter) -> &'static str {
+fn fixed_range(document: &Document<'_>, place: FilePlace, parameter: Parameter) -> &'static str {
     match parameter {
         Parameter::ItemType => match document.kind_at(place) {
             Some(KindName::Fir | KindName::InterpFir) => "\"short\" or \"int\"",
@@ -153,7 +153,7 @@ fn fixed_range(document: &Document<'_>, place: Place, parameter: Parameter) -> &
 }
 
 // The type of the items of a block, that of bytes where the file has none.
-fn item_of(document: &Document<'_>, place: Place) -> ItemType {
+fn item_of(document: &Document<'_>, place: FilePlace) -> ItemType {
     let Some(table) = document.table_at(place) else {
         return ItemType::Byte;
     };
@@ -164,7 +164,11 @@ fn item_of(document: &Document<'_>, place: Place) -> ItemType {
 }
 
 // The numbers of as many bits as a register has, from the least one.
-fn register_range(document: &Document<'_>, place: Place, least: u64) -> Result<String, AllocError> {
+fn register_range(
+    document: &Document<'_>,
+    place: FilePlace,
+    least: u64,
+) -> Result<String, AllocError> {
     let bits = match document.table_at(place) {
         Some(table) => small_at(table, Key::Parameter(Parameter::Bits)),
         None => 0,

@@ -5,7 +5,7 @@ use crate::expected::{item_range, item_text};
 use crate::frame::Finding;
 use crate::graph_faults::no_block;
 use crate::ports::sides_of;
-use graph_file::Place;
+use graph_file::FilePlace;
 use items::ItemType;
 use kind_keys::Key;
 use kind_keys::table::{number_at, text_at, values_at};
@@ -20,7 +20,7 @@ pub(crate) fn feed_finding(
     fault: PlantFault,
 ) -> Result<Finding, AllocError> {
     let alloc = document.alloc;
-    let place = Place::Feed(number);
+    let place = FilePlace::Feed(number);
     let Some(table) = document.table_at(place) else {
         return Ok(document.at_table(place, String::new(alloc)));
     };
@@ -32,7 +32,7 @@ pub(crate) fn feed_finding(
         }
         PlantFault::NotSource => {
             let message = match document.block_named(name) {
-                Some(block) => match document.kind_at(Place::Block(block)) {
+                Some(block) => match document.kind_at(FilePlace::Block(block)) {
                     Some(kind) => {
                         let kind = kind.text();
                         format!(in alloc;
@@ -61,7 +61,7 @@ pub(crate) fn feed_finding(
 // The first item that no item of the source's type may be.
 fn item_range_finding(
     document: &Document<'_>,
-    place: Place,
+    place: FilePlace,
     table: &Table,
 ) -> Result<Finding, AllocError> {
     let name = text_at(table, Key::Source);
@@ -97,7 +97,7 @@ fn is_in(item: ItemType, number: i64) -> bool {
 // The first tag that lies on none of the items of its feed.
 fn tag_finding(document: &Document<'_>, feed: usize, table: &Table) -> Result<Finding, AllocError> {
     let alloc = document.alloc;
-    let place = Place::Feed(feed);
+    let place = FilePlace::Feed(feed);
     let first = tape_before(document, feed, text_at(table, Key::Source));
     let count = values_at(table, Key::Items).len() as u64;
     let message = if count == 0 {

@@ -6,7 +6,7 @@ use crate::frame::{Finding, shown};
 use crate::near::hint;
 use crate::ports::{joined_ports, port_of, ports_text, sides_of, used_ports};
 use flowgraph::{BlockOption, GraphFault, Limit, Side};
-use graph_file::Place;
+use graph_file::FilePlace;
 use kind_keys::Key;
 use kind_keys::table::{number_at, small_at, text_at};
 use std::alloc::AllocError;
@@ -14,7 +14,7 @@ use std::alloc::AllocError;
 /// Where a graph is wrong, and why. `name` is that of the block that the refusal names.
 pub(crate) fn graph_finding(
     document: &Document<'_>,
-    place: Place,
+    place: FilePlace,
     fault: GraphFault,
     name: &str,
 ) -> Result<Finding, AllocError> {
@@ -42,11 +42,11 @@ pub(crate) fn negative_finding(
     for (number, value) in document.connections().iter().enumerate() {
         if let Some(table) = value.as_table() {
             if number_at(table, key) == port {
-                return Ok(document.at_value(Place::Connect(number), key, message));
+                return Ok(document.at_value(FilePlace::Connect(number), key, message));
             }
         }
     }
-    Ok(document.at_table(Place::Top, message))
+    Ok(document.at_table(FilePlace::Top, message))
 }
 
 fn port_key(side: Side) -> Key {
@@ -64,11 +64,15 @@ pub(crate) fn side_text(side: Side) -> &'static str {
     }
 }
 
-fn doubled_name(document: &Document<'_>, place: Place, name: &str) -> Result<Finding, AllocError> {
+fn doubled_name(
+    document: &Document<'_>,
+    place: FilePlace,
+    name: &str,
+) -> Result<Finding, AllocError> {
     let alloc = document.alloc;
     let message = match document.block_named(name) {
         Some(first) => {
-            let line = document.line_of(document.value_of(Place::Block(first), Key::Name));
+            let line = document.line_of(document.value_of(FilePlace::Block(first), Key::Name));
             format!(in alloc; "the block of line {line} has the name `{name}` already")?
         }
         None => format!(in alloc; "another block has the name `{name}`")?,
@@ -76,7 +80,7 @@ fn doubled_name(document: &Document<'_>, place: Place, name: &str) -> Result<Fin
     Ok(document.at_value(place, Key::Name, message))
 }
 
-fn unknown_block(document: &Document<'_>, place: Place) -> Result<Finding, AllocError> {
+fn unknown_block(document: &Document<'_>, place: FilePlace) -> Result<Finding, AllocError> {
     let alloc = document.alloc;
     let Some(table) = document.table_at(place) else {
         return Ok(document.at_table(place, String::new(alloc)));
@@ -100,7 +104,7 @@ pub(crate) fn no_block(document: &Document<'_>, name: &str) -> Result<String, Al
 
 fn port_range(
     document: &Document<'_>,
-    place: Place,
+    place: FilePlace,
     name: &str,
     side: Side,
     port: usize,
@@ -120,7 +124,7 @@ fn port_range(
 
 fn input_taken(
     document: &Document<'_>,
-    place: Place,
+    place: FilePlace,
     name: &str,
     port: usize,
 ) -> Result<Finding, AllocError> {
@@ -129,7 +133,7 @@ fn input_taken(
         if let Some(table) = value.as_table() {
             let is_there = text_at(table, Key::To).as_bytes() == name.as_bytes();
             if is_there && port_of(table, Key::ToPort) == port {
-                let line = document.line_of(document.start_of(Place::Connect(number)));
+                let line = document.line_of(document.start_of(FilePlace::Connect(number)));
                 let message = format!(in alloc;
                     "input {port} of `{name}` has a connection already, that of line {line}"
                 )?;
@@ -141,7 +145,7 @@ fn input_taken(
     Ok(document.at_value(place, Key::To, message))
 }
 
-fn type_mismatch(document: &Document<'_>, place: Place) -> Result<Finding, AllocError> {
+fn type_mismatch(document: &Document<'_>, place: FilePlace) -> Result<Finding, AllocError> {
     let alloc = document.alloc;
     let Some(table) = document.table_at(place) else {
         return Ok(document.at_table(place, String::new(alloc)));
@@ -157,7 +161,11 @@ fn type_mismatch(document: &Document<'_>, place: Place) -> Result<Finding, Alloc
     Ok(document.at_table(place, message))
 }
 
-fn too_large(document: &Document<'_>, place: Place, limit: Limit) -> Result<Finding, AllocError> {
+fn too_large(
+    document: &Document<'_>,
+    place: FilePlace,
+    limit: Limit,
+) -> Result<Finding, AllocError> {
     let message = match limit {
         Limit::Blocks => "a graph has at most 256 blocks",
         Limit::Connections => "a graph has at most 1024 connections",
@@ -167,7 +175,7 @@ fn too_large(document: &Document<'_>, place: Place, limit: Limit) -> Result<Find
 
 fn bad_option(
     document: &Document<'_>,
-    place: Place,
+    place: FilePlace,
     option: BlockOption,
 ) -> Result<Finding, AllocError> {
     let alloc = document.alloc;
@@ -225,7 +233,7 @@ fn whole_finding(
         _ => Key::Name,
     };
     Ok(match document.block_named(name) {
-        Some(number) => document.at_value(Place::Block(number), key, message),
-        None => document.at_table(Place::Top, message),
+        Some(number) => document.at_value(FilePlace::Block(number), key, message),
+        None => document.at_table(FilePlace::Top, message),
     })
 }

@@ -3,7 +3,7 @@
 use crate::document::Document;
 use block_kinds::Block;
 use flowgraph::Side;
-use graph_file::Place;
+use graph_file::FilePlace;
 use kind_keys::table::{count_at, text_at};
 use kind_keys::{Key, KeyFault, read_kind};
 use std::alloc::AllocError;
@@ -23,7 +23,7 @@ pub(crate) fn sides_of(
     let Some(number) = document.block_named(name) else {
         return Ok(None);
     };
-    let Some(table) = document.table_at(Place::Block(number)) else {
+    let Some(table) = document.table_at(FilePlace::Block(number)) else {
         return Ok(None);
     };
     match read_kind(document.alloc, table) {

@@ -8,16 +8,16 @@ use crate::frame::{Finding, shown};
 use crate::near::near_name;
 use crate::tokens::part;
 use block_kinds::Parameter;
-use graph_file::Place;
+use graph_file::FilePlace;
 use kind_keys::table::{text_at, value_at};
-use kind_keys::{Key, KeyFault, KindName, Shape};
+use kind_keys::{Key, KeyFault, KindName, ValueForm};
 use std::alloc::AllocError;
 use toml::Value;
 
 /// Where a table is wrong, and what may stand there.
 pub(crate) fn table_finding(
     document: &Document<'_>,
-    place: Place,
+    place: FilePlace,
     fault: KeyFault,
 ) -> Result<Finding, AllocError> {
     match fault {
@@ -34,7 +34,7 @@ fn is_known(keys: &[Key], word: &[u8]) -> bool {
     keys.iter().any(|key| word == key.text().as_bytes())
 }
 
-fn unknown_key(document: &Document<'_>, place: Place) -> Result<Finding, AllocError> {
+fn unknown_key(document: &Document<'_>, place: FilePlace) -> Result<Finding, AllocError> {
     let alloc = document.alloc;
     let keys = known_keys(document, place);
     let owner = owner(document, place)?;
@@ -56,14 +56,14 @@ fn unknown_key(document: &Document<'_>, place: Place) -> Result<Finding, AllocEr
     Ok(document.at_table(place, message))
 }
 
-fn missing_key(document: &Document<'_>, place: Place, key: Key) -> Result<Finding, AllocError> {
+fn missing_key(document: &Document<'_>, place: FilePlace, key: Key) -> Result<Finding, AllocError> {
     let owner = owner(document, place)?;
     let (name, shape) = (key.text(), shape_text(key));
     let message = format!(in document.alloc; "{owner} needs the key `{name}`: {shape}")?;
     Ok(document.at_table(place, message))
 }
 
-fn wrong_type(document: &Document<'_>, place: Place, key: Key) -> Result<Finding, AllocError> {
+fn wrong_type(document: &Document<'_>, place: FilePlace, key: Key) -> Result<Finding, AllocError> {
     let alloc = document.alloc;
     let (name, shape) = (key.text(), shape_text(key));
     let value = match document.table_at(place) {
@@ -81,10 +81,9 @@ fn wrong_type(document: &Document<'_>, place: Place, key: Key) -> Result<Finding
             message: format!(in alloc; "`{name}` takes {shape}; this item is {found}")?,
         });
     }
-    let message = match key.shape() {
-        Shape::Choice | Shape::Tables if value.is_str() || value.is_array() => format!(in alloc;
-            "`{name}` takes {shape}"
-        )?,
+    let message = match key.form() {
+        ValueForm::Choice | ValueForm::Tables if value.is_str() || value.is_array() =>
+            format!(in alloc; "`{name}` takes {shape}")?,
         _ => {
             let found = type_text(value.type_str());
             format!(in alloc; "`{name}` takes {shape}; this is {found}")?
@@ -95,9 +94,9 @@ fn wrong_type(document: &Document<'_>, place: Place, key: Key) -> Result<Finding
 
 // The first item of an array that may not stand at a key.
 fn misfit(key: Key, value: &Value) -> Option<(usize, &'static str)> {
-    let is_of_tables = match key.shape() {
-        Shape::Numbers => false,
-        Shape::Tables => true,
+    let is_of_tables = match key.form() {
+        ValueForm::Numbers => false,
+        ValueForm::Tables => true,
         _ => return None,
     };
     for (number, item) in value.as_array()?.iter().enumerate() {
@@ -113,7 +112,7 @@ fn misfit(key: Key, value: &Value) -> Option<(usize, &'static str)> {
     None
 }
 
-fn unknown_kind(document: &Document<'_>, place: Place) -> Result<Finding, AllocError> {
+fn unknown_kind(document: &Document<'_>, place: FilePlace) -> Result<Finding, AllocError> {
     let alloc = document.alloc;
     let word = match document.table_at(place) {
         Some(table) => text_at(table, Key::Kind),
@@ -137,7 +136,7 @@ fn unknown_kind(document: &Document<'_>, place: Place) -> Result<Finding, AllocE
 
 fn bad_parameter(
     document: &Document<'_>,
-    place: Place,
+    place: FilePlace,
     parameter: Parameter,
 ) -> Result<Finding, AllocError> {
     let owner = owner(document, place)?;

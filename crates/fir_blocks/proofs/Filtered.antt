@@ -1,28 +1,24 @@
 -- What the filters write.
-use Rattle.std.proofs.Common.{◌≡◌, ℕ, ◌+◌, ◌-◌, ◌*◌, ◌/◌, ◌%◌, ◌<◌, ℤ, ◌*ℤ◌, List, [], ◌∷◌, Some, length, refl, arith, ap, ap₂, subst, sym, ◌∙◌}
+use Rattle.std.proofs.Common.{◌≡◌, ℕ, ◌+◌, ◌-◌, ◌*◌, ◌/◌, ◌%◌, ◌<◌, ℤ, ◌*ℤ◌, List, [], ◌∷◌, length, refl, arith, ap, ap₂, subst, sym, ◌∙◌}
 use Rattle.std.proofs.lemmas.Nat.{div_below}
 use Rattle.std.proofs.Math.Nat.{mul-add-div, mul-add-mod_self_left}
 use Rattle.stream_model.specs.declared.vocabulary.ItemType.{ItemType}
-use Rattle.stream_model.specs.declared.vocabulary.Wanted.TheVariants as wanted
 use Rattle.stream_model.specs.Numbers.{sat, rnd}
 use Rattle.stream_model.specs.Lists.{item, item_before}
 use Rattle.stream_model.specs.Kernels.{listed}
 use Rattle.stream_model.specs.Settings.{Held, Taps, between}
-use Rattle.stream_model.specs.Meaning.{Meaning, IsFed, input, given_items}
-use Rattle.stream_model.specs.Kinds.Shapes.{ports, taps_at, taps_set}
+use Rattle.stream_model.specs.Meaning.{Meaning, IsFed, input, held_of, given_items}
+use Rattle.stream_model.specs.Kinds.Shapes.{taps_at, taps_set}
 use Rattle.stream_model.specs.Kinds.Filters.{tapped, fir, interp_fir, branch_taps}
-use Rattle.kind_laws.specs.Shared.{shaped, sum_below-same}
+use Rattle.kind_laws.specs.Shared.{sum_below-same}
 use Rattle.kind_laws.specs.Rates.{item_of_firing}
 use Rattle.block_kinds.specs.Shape.{IsPaced}
-use Rattle.block_kinds.proofs.Fills.{paced, length-paced, past-paced, given-paced}
+use Rattle.block_kinds.proofs.Fills.{paced, past-paced, given-paced}
 use Rattle.block_kinds.proofs.InForce.{AreOver-between, latest-between}
 use Rattle.fir_blocks.specs.declared.polyphase.Polyphase.{Polyphase}
+use Rattle.fir_blocks.specs.Filters.{IsFilter}
 use Rattle.fir_blocks.specs.Polyphase.{phased, taps_among, AreOverFirings}
 use Rattle.fir_blocks.proofs.Stretches.{over_firings, times_less}
-
--- a block of one input and one output at the pace of a filter, with taps
-abbrev pub filtered : ItemType → Polyphase → ℕ → List ℤ → (List Held → List (List ℤ) → ℕ → ℕ → ℤ) → Meaning
-filtered t f back own gives = shaped (ports 1 t) (ports 1 t) f.taken f.given back (Some (wanted.Taps (length own))) (Some (Taps own)) 0 (λ ts xs k. 0) gives
 
 -- the same firing under the same taps: a sum over the past of its newest item
 same_sum :
@@ -33,18 +29,17 @@ same_sum t f g h w x k a taps items =
     ap (λ z. sat t (rnd z f.shift))
     (sum_below-same f.branch _ _ (λ j less. ap₂ ◌*ℤ◌ (ap (λ v. item v (k % f.given + j * f.given)) taps) (items j less)))
 
-module _ (t : ItemType) (f : Polyphase) (back : ℕ) (is : f.branch ≡ back) (own : List ℤ) (gives : List Held → List (List ℤ) → ℕ → ℕ → ℤ) (ts : List Held) (xs : List (List ℤ)) (first n state : ℕ)
-    (w : List ℤ) (hs : List Held) (fed : IsFed (filtered t f back own gives) ts xs first n state (w ∷ []) hs) where
-  pace : IsPaced (filtered t f back own gives) f.taken f.given
-  pace = paced _ _ f.taken f.given back _ _ 0 _ gives f.takes_some
+module _ {m : Meaning} {t : ItemType} {own : List ℤ} {f : Polyphase} (is : IsFilter m t own f) {ts : List Held} {xs : List (List ℤ)} {first n state : ℕ} {w : List ℤ} {hs : List Held}
+    (fed : IsFed m ts xs first n state (w ∷ []) hs) where
+  pace : IsPaced m f.taken f.given
+  pace = subst (λ m. IsPaced m f.taken f.given) (sym is.shaped) (paced _ _ f.taken f.given f.branch _ _ 0 _ m.out f.takes_some)
 
-  pub window_long : length w ≡ f.branch - 1 + f.taken * n
-  window_long =
-      length-paced (filtered t f back own gives) f.taken f.given pace ts xs first n state w hs fed
-      ∙ ap (λ b. b - 1 + f.taken * n) (sym is)
+  history : m.history ≡ f.branch
+  history = ap (λ (m : Meaning). m.history) is.shaped
 
   held_now : hs ≡ between (Taps own) ts (f.taken * first) (f.taken * (first + n))
-  held_now = fed.held_are
+  held_now =
+      subst (λ (m : Meaning). hs ≡ held_of m ts first n → hs ≡ between (Taps own) ts (f.taken * first) (f.taken * (first + n))) (sym is.shaped) (λ e. e) fed.held_are
 
   -- the settings are over the firings
   pub are_over : AreOverFirings f.taken first (first + n) hs
@@ -61,11 +56,9 @@ module _ (t : ItemType) (f : Polyphase) (back : ℕ) (is : f.branch ≡ back) (o
       ∙ latest-between (Taps own) ts (λ (h : Held). taps_set h.value) (f.taken * first) (f.taken * (first + n)) (f.taken * (first + a)) (omega arith) (let some = f.takes_some in omega arith)
 
   -- what is written is what the firings give
-  pub filtered-given :
-      ((a : ℕ) → gives ts xs 0 a ≡ tapped t (taps_at own ts (f.taken * (a / f.given))) (a % f.given) f.given f.branch (input xs 0) (f.taken * (a / f.given)) f.shift) →
-      listed (f.given * n) (λ k. phased t f (taps_among hs (f.taken * (first + k / f.given))) w k) ≡ given_items (filtered t f back own gives) ts xs first n 0
-  filtered-given each =
-      given-paced (filtered t f back own gives) f.taken f.given pace ts xs first n state w hs fed 0 (f.given * n)
+  pub filtered-given : listed (f.given * n) (λ k. phased t f (taps_among hs (f.taken * (first + k / f.given))) w k) ≡ given_items m ts xs first n 0
+  filtered-given =
+      given-paced m f.taken f.given pace ts xs first n state w hs fed 0 (f.given * n)
       (λ k. phased t f (taps_among hs (f.taken * (first + k / f.given))) w k) refl
       (λ k within.
       let firing : k / f.given < n = div_below k f.given n f.gives_some (omega arith) in
@@ -73,11 +66,11 @@ module _ (t : ItemType) (f : Polyphase) (back : ℕ) (is : f.branch ≡ back) (o
       let phase : (f.given * first + k) % f.given ≡ k % f.given = mul-add-mod_self_left f.given first k in
       same_sum t f _ _ w (input xs 0) k (f.taken * (first + k / f.given)) (taps_now (k / f.given) firing)
       (λ j less.
-      ap (λ b. item w (b - 1 + k / f.given * f.taken - j)) is
-      ∙ past-paced (filtered t f back own gives) f.taken f.given pace ts xs first n state w hs fed (k / f.given * f.taken) j (omega arith)
+      ap (λ b. item w (b - 1 + k / f.given * f.taken - j)) (sym history)
+      ∙ past-paced m f.taken f.given pace ts xs first n state w hs fed (k / f.given * f.taken) j (omega (arith, history))
       (let last = item_of_firing f.taken n (k / f.given) 0 f.takes_some firing in omega arith)
       ∙ ap (λ a. item_before (input xs 0) a j) (omega arith))
-      ∙ sym (each (f.given * first + k)
+      ∙ sym (is.each ts xs (f.given * first + k)
       ∙ (λ i. tapped t (taps_at own ts (f.taken * place i)) (phase i) f.given f.branch (input xs 0) (f.taken * place i) f.shift)))
 
 -- the equations of the two kinds

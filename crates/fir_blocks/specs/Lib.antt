@@ -1,3 +1,4 @@
+pub mod Filters
 pub mod Kinds
 pub mod Parameters
 pub mod Polyphase

@@ -1,6 +1,8 @@
 //! Blocks that filter with taps.
 #![tactic(auto)]
 
+pub mod filter;
+mod filter_rate;
 pub mod fir;
 pub mod interp_fir;
 mod parameters;
@@ -8,5 +10,6 @@ mod polyphase;
 mod stretch;
 mod tap_lane;
 
+pub use filter::Filter;
 pub use fir::Fir;
 pub use interp_fir::InterpFir;

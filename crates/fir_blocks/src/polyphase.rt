@@ -10,7 +10,7 @@ use lane_filters::fir_row;
 /// How a filter goes over its items. A firing takes `taken` items and gives `given`, each of them by a branch of the
 /// taps: every `given`-th of them.
 #[derive(Clone, Copy)]
-pub(crate) struct Polyphase {
+pub struct Polyphase {
     pub taken: usize,
     pub given: usize,
     /// How many taps a branch has at most.

@@ -1,6 +1,5 @@
 -- What a block waits for, from the progress of all.
-use Rattle.std.proofs.Common.{◌≡◌, ℕ, suc, ◌+◌, ◌<◌, ◌≤◌, false, List, [], ◌∷◌, map, length, drop, get_or, Option, Some, None, refl, arith, ap, sym, ◌∙◌, subst}
-use Rattle.std.specs.Option.{option_map}
+use Rattle.std.proofs.Common.{◌≡◌, ℕ, ◌+◌, ◌<◌, List, [], ◌∷◌, map, length, drop, get_or, Option, Some, None, refl, arith, ap, sym, ◌∙◌, subst}
 use Rattle.std.proofs.lemmas.List.{length-map, get_or-map, drop_more}
 use Rattle.std.proofs.lemmas.Bool.{or_parts}
 use Rattle.stream_model.specs.Network as model
@@ -10,18 +9,14 @@ use Rattle.stream_model.specs.Claims.{Counts, lacks_for_good, lacks_items}
 use Rattle.stream_model.specs.Machine.{Capacities, counts_in, counts_out, counts_of, output_counts}
 use Rattle.machine_laws.specs.Waits.{ForRoom, reader_in, slower, slowest, wait_by, wait_of}
 use Rattle.machine_laws.proofs.Deciding.{Reason, decide-reason}
-use Rattle.machine_laws.proofs.Looking.{inputs_count}
 use Rattle.machine_laws.proofs.Waiting.{lasts_at, full_at}
 use Rattle.flowgraph.specs.declared.parts.Connection.{Connection}
 use Rattle.flowgraph.specs.Flowgraph.{connection_of}
-use Rattle.firings.specs.declared.decision.Decision.{Decision}
-use Rattle.firings.specs.declared.decision.Decision.TheVariants.{Claimed, Done, Ended, Busy, Waiting}
-use Rattle.firings.specs.declared.decision.Need.{Need}
+use Rattle.firings.specs.declared.decision.Decision.TheVariants.{Waiting}
 use Rattle.firings.specs.declared.decision.Need.TheVariants.{Items, Room}
 use Rattle.firings.specs.Decision.{answer_of}
-use Rattle.firings.specs.declared.progress.Progress.{Progress}
 use Rattle.firings.specs.declared.progress.Tape.{Tape}
-use Rattle.firings.specs.State.{HasTapes, lent, progress_of, state_of}
+use Rattle.firings.specs.State.{HasTapes, lent, state_of}
 use Rattle.firings.proofs.Looks.{outputs_long}
 use Rattle.firings.proofs.Running.{same_counts}
 
@@ -61,20 +56,14 @@ module _ (net : Network) (caps : Capacities) (st : State) (b first : ℕ) where
   reason_of d e = subst (Reason (node_at net b) (counts_of net caps st b) 1) e (decide-reason (node_at net b) (counts_of net caps st b) 1)
 
   -- items are waited for on an input that there is
-  pub items_wait_is : (port : ℕ) → Waiting (Items port) ≡ answer_of first decided → wait_of net caps st b ≡ wait_by net st b (claims.LacksItems port)
-  items_wait_is port e = ap (wait_by net st b) (items_is port decided e)
-
-  pub items_there : (port : ℕ) → Waiting (Items port) ≡ answer_of first decided → is_source (role_at net b) ≡ false → port < length (writers_of net b)
-  items_there port e other =
+  pub items_there : (port : ℕ) → Waiting (Items port) ≡ answer_of first decided → port < length (counts_in net st b)
+  items_there port e =
       let why = reason_of (claims.LacksItems port) (items_is port decided e) in
       let l = lasts_at (node_at net b) 0 ((counts_of net caps st b).firings + 1) port (counts_in net st b) (or_parts _ (lacks_for_good (node_at net b) ((counts_of net caps st b).firings + 1) 0 (counts_in net st b)) why.0).1 why.1 in
-      let at = l.at in let used = l.used in let count = inputs_count net st b other in
-      omega (arith, at, used, count)
+      let at = l.at in let used = l.used in
+      omega (arith, at, used)
 
   -- and room behind an output that there is
-  pub room_wait_is : (port : ℕ) → Waiting (Room port) ≡ answer_of first decided → wait_of net caps st b ≡ wait_by net st b (claims.LacksRoom port)
-  room_wait_is port e = ap (wait_by net st b) (room_is port decided e)
-
   pub room_there : (port : ℕ) → Waiting (Room port) ≡ answer_of first decided → port < used_outputs net b
   room_there port e =
       let why = reason_of (claims.LacksRoom port) (room_is port decided e) in
@@ -83,9 +72,9 @@ module _ (net : Network) (caps : Capacities) (st : State) (b first : ℕ) where
       omega (arith, at, used, count)
 
 -- the tapes' items play no part
-module _ (net : Network) (caps : Capacities) (tapes : List Tape) (ps : List Progress) (hs : List Handed) (b : ℕ) where
+module _ (net : Network) (caps : Capacities) (tapes : List Tape) (ps : List model.Progress) (hs : List Handed) (b : ℕ) where
   abbrev other : State
-  other = state_of hs (map progress_of ps)
+  other = state_of hs ps
 
   slower_same : (best : Option model.Connection) (c : model.Connection) → slower net (lent tapes ps) best c ≡ slower net other best c
   slower_same None c = refl

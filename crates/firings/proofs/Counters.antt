@@ -7,11 +7,7 @@ use Rattle.std.proofs.lemmas.List.Sums.{count_by-le-length, sum_by-cons}
 use Rattle.stream_model.specs.Network as model
 use Rattle.firings.specs.declared.progress.Progress.{Progress}
 use Rattle.firings.specs.State.{progress_of}
-
-same_bool : (a b : Bool) → (a ≡ true → b ≡ true) → (b ≡ true → a ≡ true) → a ≡ b
-same_bool true b f g = sym (f refl)
-same_bool false true f g = g refl
-same_bool false false f g = refl
+use Rattle.firings.proofs.Tests.{same_bool}
 
 abbrev pub is_busy : Progress → Bool
 is_busy p = nat_lt 0 p.claimed

@@ -1,3 +1,4 @@
+pub mod Tests
 pub mod Loops
 pub mod Looks
 pub mod Decides

@@ -1,15 +1,17 @@
 -- What the loops over ports and readers compute, port by port.
-use Rattle.std.proofs.Common.{◌≡◌, ℕ, suc, ◌+◌, ◌-◌, ◌<◌, ◌≤◌, min, Bool, true, false, List, [], ◌∷◌, map, length, drop, get_or, refl, arith, ap, sym, ◌∙◌, Some, None, inl, inr}
+use Rattle.std.proofs.Common.{◌≡◌, ℕ, suc, ◌+◌, ◌<◌, ◌≤◌, min, Bool, true, false, List, [], ◌∷◌, map, length, drop, get_or, refl, arith, ap, sym, ◌∙◌, Option, Some, None}
 use Rattle.std.proofs.Math.Seq.{drop-cons}
 use Rattle.std.specs.Prelude.{if◌then◌else◌, ◌&&◌, ◌||◌, not, nat_le, ◌↔◌}
 use Rattle.std.specs.List.{list_all}
-use Rattle.std.proofs.lemmas.Bool.{cases_Bool, leb-true, le-leb}
+use Rattle.std.specs.Option.{option_or}
+use Rattle.std.proofs.lemmas.Bool.{le-leb}
 use Rattle.std.proofs.lemmas.List.{at_drop_all}
 use Rattle.stream_model.specs.Network.{Node, IsSound, taken_by, given_by}
 use Rattle.stream_model.specs.Firings.{allowed, fitting}
-use Rattle.stream_model.specs.Claims.{InputCounts, ReaderCounts, OutputCounts, Counts, most, lacks_for_good, lacks_items, lacks_room, leaves_room}
+use Rattle.stream_model.specs.Claims.{InputCounts, ReaderCounts, OutputCounts, lacks_for_good, lacks_items, lacks_room, leaves_room}
 use Rattle.stream_model.proofs.Firings.{allows, fits}
-use Rattle.stream_laws.specs.Firings.{items_allow, readers_allow, room_allows, limit_allows, HasClosedForms}
+use Rattle.stream_laws.specs.Firings.{items_allow, readers_allow, room_allows}
+use Rattle.firings.proofs.Tests.{same_le, le_min, or_turn, first_turn}
 
 -- a bound that is met first or last is the same
 pub items_allow-min : (n : Node) (p : ℕ) (cs : List ℕ) (a k : ℕ) → items_allow n p cs (min a k) ≡ min a (items_allow n p cs k)
@@ -44,6 +46,13 @@ room_allows-readers n os capacity (r ∷ rs) k = at_reader (room_allows-readers 
         room_allows-min n os (fitting n (r.taken + capacity)) (readers_allow n capacity rs k)
         ∙ ap (min (fitting n (r.taken + capacity))) rest
 
+-- no more is allowed than is asked for
+pub below : (f : ℕ → ℕ) → ((a k : ℕ) → f (min a k) ≡ min a (f k)) → (k : ℕ) → f k ≤ k
+below f bounded k = let same : k ≡ min k k = omega arith in let h = ap f same ∙ bounded k k in omega (arith, h)
+
+pub room_allows-le : (n : Node) (os : List OutputCounts) (k : ℕ) → room_allows n os k ≤ k
+room_allows-le n os k = below (room_allows n os) (room_allows-min n os) k
+
 -- a turn at place p of a list, where x stands
 module _ {X : Type 0} (xs : List X) (p : ℕ) (d x : X) (in' : p < length xs) (is : x ≡ get_or xs p d) where
   at_drop : {R : Type 0} (G : List X → R) → G (drop p xs) ≡ G (x ∷ drop (suc p) xs)
@@ -60,35 +69,88 @@ module _ {X : Type 0} (xs : List X) (p : ℕ) (d x : X) (in' : p < length xs) (i
   pub all-found : (test : X → Bool) → test x ≡ false → false ≡ list_all test (drop p xs)
   all-found test e = ap (λ b. b && list_all test (drop (suc p) xs)) (sym e) ∙ sym (at_drop (list_all test))
 
-abbrev writtens : List InputCounts → List ℕ
+abbrev pub writtens : List InputCounts → List ℕ
 writtens is = map (λ (i : InputCounts). i.written) is
 
-module _ (n : Node) (xs : List InputCounts) (p : ℕ) (d x : InputCounts) (in' : p < length xs) (is : x ≡ get_or xs p d) where
-  pub items-turn : (k : ℕ) → items_allow n (p + 1) (writtens (drop (p + 1) xs)) (min k (allowed n p x.written)) ≡ items_allow n p (writtens (drop p xs)) k
-  items-turn k =
-      let swap : min k (allowed n p x.written) ≡ min (allowed n p x.written) k = omega arith in
-      next_drop xs p d x in' is (λ q ys. items_allow n q (writtens ys) (min k (allowed n p x.written)))
-      ∙ ap (items_allow n (suc p) (writtens (drop (suc p) xs))) swap
-      ∙ items_allow-min n (suc p) (writtens (drop (suc p) xs)) (allowed n p x.written) k
-      ∙ sym (at_drop xs p d x in' is (λ ys. items_allow n p (writtens ys) k))
+-- what one side of a block allows
+module _ (n : Node) (sound : IsSound n) (single : n.meaning.rate 0 ≡ None → n.multiple ≡ 1) where
+  allowed-tells : (p k items : ℕ) → nat_le k (allowed n p items) ≡ nat_le (taken_by n p k) items
+  allowed-tells p k items = let both = allows n sound single p k items in same_le k (allowed n p items) (taken_by n p k) items (both.1, both.0)
 
-  module _ (k : ℕ) where
-    pub good-turn : (x.ended && not (nat_le (taken_by n p k) x.written)) ≡ false → lacks_for_good n k (p + 1) (drop (p + 1) xs) ≡ lacks_for_good n k p (drop p xs)
-    good-turn e =
-        next_drop xs p d x in' is (λ q ys. lacks_for_good n k q ys) ∙ ap (λ b. b || lacks_for_good n k (suc p) (drop (suc p) xs)) (sym e)
-        ∙ sym (at_drop xs p d x in' is (lacks_for_good n k p))
+  fitting-tells : (k items : ℕ) → nat_le k (fitting n items) ≡ nat_le (given_by n k) items
+  fitting-tells k items = let both = fits n sound single k items in same_le k (fitting n items) (given_by n k) items (both.1, both.0)
 
-    pub good-found : (x.ended && not (nat_le (taken_by n p k) x.written)) ≡ true → true ≡ lacks_for_good n k p (drop p xs)
-    good-found e = ap (λ b. b || lacks_for_good n k (suc p) (drop (suc p) xs)) (sym e) ∙ sym (at_drop xs p d x in' is (lacks_for_good n k p))
+  -- so many firings fit before the readers of an output exactly where it has room for them
+  pub readers-tell : (k bound : ℕ) → k ≤ bound → (capacity : ℕ) (rs : List ReaderCounts) →
+      nat_le k (readers_allow n capacity rs bound) ≡ leaves_room n k (record { capacity = capacity; readers = rs })
+  readers-tell k bound within capacity [] = le-leb k bound within
+  readers-tell k bound within capacity (r ∷ rs) = at_reader r.done (readers-tell k bound within capacity rs)
+    where
+      rest : ℕ
+      rest = readers_allow n capacity rs bound
 
-    pub items-none : nat_le (taken_by n p k) x.written ≡ true → lacks_items n k (p + 1) (drop (p + 1) xs) ≡ lacks_items n k p (drop p xs)
-    items-none e =
-        next_drop xs p d x in' is (λ q ys. lacks_items n k q ys) ∙ ap (λ b. if b then lacks_items n k (suc p) (drop (suc p) xs) else Some p) (sym e)
-        ∙ sym (at_drop xs p d x in' is (lacks_items n k p))
+      fit : ℕ
+      fit = fitting n (r.taken + capacity)
 
-    pub items-found : nat_le (taken_by n p k) x.written ≡ false → Some p ≡ lacks_items n k p (drop p xs)
-    items-found e = ap (λ b. if b then lacks_items n k (suc p) (drop (suc p) xs) else Some p) (sym e) ∙ sym (at_drop xs p d x in' is (lacks_items n k p))
+      room : Bool
+      room = leaves_room n k (record { capacity = capacity; readers = rs })
 
+      at_reader : (done : Bool) → nat_le k rest ≡ room → nat_le k (if done then rest else min fit rest) ≡ ((done || nat_le (given_by n k) (r.taken + capacity)) && room)
+      at_reader true same = same
+      at_reader false same =
+          le_min k fit rest ∙ ap (λ b. b && nat_le k rest) (fitting-tells k (r.taken + capacity)) ∙ ap (λ b. nat_le (given_by n k) (r.taken + capacity) && b) same
+
+  -- an input more
+  module _ (xs : List InputCounts) (p : ℕ) (d x : InputCounts) (in' : p < length xs) (is : x ≡ get_or xs p d) where
+    pub items-turn : (k : ℕ) → items_allow n (p + 1) (writtens (drop (p + 1) xs)) (min k (allowed n p x.written)) ≡ items_allow n p (writtens (drop p xs)) k
+    items-turn k =
+        let swap : min k (allowed n p x.written) ≡ min (allowed n p x.written) k = omega arith in
+        next_drop xs p d x in' is (λ q ys. items_allow n q (writtens ys) (min k (allowed n p x.written)))
+        ∙ ap (items_allow n (suc p) (writtens (drop (suc p) xs))) swap
+        ∙ items_allow-min n (suc p) (writtens (drop (suc p) xs)) (allowed n p x.written) k
+        ∙ sym (at_drop xs p d x in' is (λ ys. items_allow n p (writtens ys) k))
+
+    module _ (k : ℕ) where
+      pub lacking-turn : (old : Option ℕ) →
+          option_or (option_or old (if nat_le k (allowed n p x.written) then None else Some p)) (lacks_items n k (p + 1) (drop (p + 1) xs)) ≡ option_or old (lacks_items n k p (drop p xs))
+      lacking-turn old =
+          next_drop xs p d x in' is (λ q ys. option_or (option_or old (if nat_le k (allowed n p x.written) then None else Some p)) (lacks_items n k q ys))
+          ∙ first_turn old (nat_le k (allowed n p x.written)) p (lacks_items n k (suc p) (drop (suc p) xs))
+          ∙ ap (λ (b : Bool). option_or old (if b then lacks_items n k (suc p) (drop (suc p) xs) else Some p)) (allowed-tells p k x.written)
+          ∙ sym (at_drop xs p d x in' is (λ ys. option_or old (lacks_items n k p ys)))
+
+      pub good-turn : (old : Bool) →
+          ((old || (x.ended && not (nat_le k (allowed n p x.written)))) || lacks_for_good n k (p + 1) (drop (p + 1) xs)) ≡ (old || lacks_for_good n k p (drop p xs))
+      good-turn old =
+          next_drop xs p d x in' is (λ q ys. (old || (x.ended && not (nat_le k (allowed n p x.written)))) || lacks_for_good n k q ys)
+          ∙ or_turn old (x.ended && not (nat_le k (allowed n p x.written))) (lacks_for_good n k (suc p) (drop (suc p) xs))
+          ∙ ap (λ (b : Bool). old || (x.ended && not b || lacks_for_good n k (suc p) (drop (suc p) xs))) (allowed-tells p k x.written)
+          ∙ sym (at_drop xs p d x in' is (λ ys. old || lacks_for_good n k p ys))
+
+  -- an output more
+  module _ (xs : List OutputCounts) (p : ℕ) (d x : OutputCounts) (in' : p < length xs) (is : x ≡ get_or xs p d) where
+    pub room-turn : (k : ℕ) → room_allows n (drop (p + 1) xs) (readers_allow n x.capacity x.readers k) ≡ room_allows n (drop p xs) k
+    room-turn k =
+        next_drop xs p d x in' is (λ q ys. room_allows n ys (readers_allow n x.capacity x.readers k))
+        ∙ room_allows-readers n (drop (suc p) xs) x.capacity x.readers k
+        ∙ sym (at_drop xs p d x in' is (λ ys. room_allows n ys k))
+
+    pub full-turn : (k bound : ℕ) (old : Option ℕ) → (old ≡ None) ↔ (k ≤ bound) →
+        option_or (option_or old (if nat_le k (readers_allow n x.capacity x.readers bound) then None else Some p)) (lacks_room n k (p + 1) (drop (p + 1) xs)) ≡ option_or old (lacks_room n k p (drop p xs))
+    full-turn k bound old tells =
+        next_drop xs p d x in' is (λ q ys. option_or (option_or old (if nat_le k (readers_allow n x.capacity x.readers bound) then None else Some p)) (lacks_room n k q ys))
+        ∙ first_turn old (nat_le k (readers_allow n x.capacity x.readers bound)) p (lacks_room n k (suc p) (drop (suc p) xs))
+        ∙ at_old old tells
+        ∙ sym (at_drop xs p d x in' is (λ ys. option_or old (lacks_room n k p ys)))
+      where
+        chosen : Bool → Option ℕ
+        chosen b = if b then lacks_room n k (suc p) (drop (suc p) xs) else Some p
+
+        at_old : (o : Option ℕ) → (o ≡ None) ↔ (k ≤ bound) → option_or o (chosen (nat_le k (readers_allow n x.capacity x.readers bound))) ≡ option_or o (chosen (leaves_room n k x))
+        at_old None fits = ap chosen (readers-tell k bound (fits.0 refl) x.capacity x.readers)
+        at_old (Some q) fits = refl
+
+-- a reader more: one that is live is one more bound, and one that is done is none
 module _ (n : Node) (capacity : ℕ) (xs : List ReaderCounts) (i : ℕ) (d x : ReaderCounts) (in' : i < length xs) (is : x ≡ get_or xs i d) (k next : ℕ) where
   abbrev rest : ℕ → ℕ
   rest j = readers_allow n capacity (drop (suc i) xs) j
@@ -99,7 +161,6 @@ module _ (n : Node) (capacity : ℕ) (xs : List ReaderCounts) (i : ℕ) (d x : R
   ends_here : rest next ≡ bounded x.done → readers_allow n capacity (drop (i + 1) xs) next ≡ readers_allow n capacity (drop i xs) k
   ends_here e = next_drop xs i d x in' is (λ q ys. readers_allow n capacity ys next) ∙ e ∙ sym (at_drop xs i d x in' is (λ ys. readers_allow n capacity ys k))
 
-  -- a live reader is one more bound, and one that is done is none
   pub readers-live : x.done ≡ false → next ≡ min (fitting n (x.taken + capacity)) k → readers_allow n capacity (drop (i + 1) xs) next ≡ readers_allow n capacity (drop i xs) k
   readers-live live e =
       ends_here (ap rest e ∙ readers_allow-min n capacity (drop (suc i) xs) (fitting n (x.taken + capacity)) k ∙ ap bounded (sym live))
@@ -107,52 +168,6 @@ module _ (n : Node) (capacity : ℕ) (xs : List ReaderCounts) (i : ℕ) (d x : R
   pub readers-rest : x.done ≡ true → next ≡ k → readers_allow n capacity (drop (i + 1) xs) next ≡ readers_allow n capacity (drop i xs) k
   readers-rest done e = ends_here (ap rest e ∙ ap bounded (sym done))
 
-module _ (n : Node) (xs : List OutputCounts) (p : ℕ) (d x : OutputCounts) (in' : p < length xs) (is : x ≡ get_or xs p d) where
-  pub room-turn : (k : ℕ) → room_allows n (drop (p + 1) xs) (readers_allow n x.capacity x.readers k) ≡ room_allows n (drop p xs) k
-  room-turn k =
-      next_drop xs p d x in' is (λ q ys. room_allows n ys (readers_allow n x.capacity x.readers k))
-      ∙ room_allows-readers n (drop (suc p) xs) x.capacity x.readers k
-      ∙ sym (at_drop xs p d x in' is (λ ys. room_allows n ys k))
-
-  module _ (k : ℕ) where
-    pub room-none : leaves_room n k x ≡ true → lacks_room n k (p + 1) (drop (p + 1) xs) ≡ lacks_room n k p (drop p xs)
-    room-none e =
-        next_drop xs p d x in' is (λ q ys. lacks_room n k q ys) ∙ ap (λ b. if b then lacks_room n k (suc p) (drop (suc p) xs) else Some p) (sym e)
-        ∙ sym (at_drop xs p d x in' is (lacks_room n k p))
-
-    pub room-found : leaves_room n k x ≡ false → Some p ≡ lacks_room n k p (drop p xs)
-    room-found e = ap (λ b. if b then lacks_room n k (suc p) (drop (suc p) xs) else Some p) (sym e) ∙ sym (at_drop xs p d x in' is (lacks_room n k p))
-
 -- nothing is left behind the last
 pub past_end : {X R : Type 0} (G : List X → R) (xs : List X) (p : ℕ) → length xs ≤ p → G (drop p xs) ≡ G []
 past_end G xs p le = at_drop_all G xs p le
-
--- the greatest count in closed form, from its parts
-pub most_from : (n : Node) → HasClosedForms n → (c : Counts) (max first items room last : ℕ) → first ≡ c.firings → items ≡ items_allow n 0 (writtens c.inputs) (first + max) →
-    room ≡ room_allows n c.outputs items → last ≡ limit_allows n.meaning.limit room → last - first ≡ most n c max
-most_from n closed c max first items room last is_first is_items is_room is_last =
-    let here : items ≡ items_allow n 0 (writtens c.inputs) (c.firings + max) = is_items ∙ ap (λ f. items_allow n 0 (writtens c.inputs) (f + max)) is_first in
-    let all : last ≡ limit_allows n.meaning.limit (room_allows n c.outputs (items_allow n 0 (writtens c.inputs) (c.firings + max))) =
-    is_last ∙ ap (limit_allows n.meaning.limit) (is_room ∙ ap (room_allows n c.outputs) here) in
-    ap (λ l. l - first) all ∙ ap (λ f. limit_allows n.meaning.limit (room_allows n c.outputs (items_allow n 0 (writtens c.inputs) (c.firings + max))) - f) is_first
-    ∙ sym (closed.most_is c max)
-
--- tests of closed forms
-same_le : (a b c d : ℕ) → (a ≤ b) ↔ (c ≤ d) → nat_le a b ≡ nat_le c d
-same_le a b c d both =
-    elim (cases_Bool (nat_le c d)) [
-      | inl e ↦ le-leb a b (both.1 (leb-true c d e)) ∙ sym e
-      | inr e ↦ (elim (cases_Bool (nat_le a b)) [
-        | inl f ↦ (let h = le-leb c d (both.0 (leb-true a b f)) in cc)
-        | inr f ↦ f ∙ sym e
-      ])
-    ]
-
-module _ (n : Node) (sound : IsSound n) (single : n.meaning.rate 0 ≡ None → n.multiple ≡ 1) (k items : ℕ) where
-  pub holds-is : (p : ℕ) → nat_le k (allowed n p items) ≡ nat_le (taken_by n p k) items
-  holds-is p = let both = allows n sound single p k items in same_le k (allowed n p items) (taken_by n p k) items (both.1, both.0)
-
-  pub fits-is : nat_le k (min (fitting n items) k) ≡ nat_le (given_by n k) items
-  fits-is =
-      let both = fits n sound single k items in
-      same_le k (min (fitting n items) k) (given_by n k) items (λ le. both.1 (omega arith), λ le. let h = both.0 le in omega arith)

@@ -1,10 +1,11 @@
 -- What a claim does to a sound state.
 use Rattle.std.proofs.Common.{◌≡◌, ℕ, zero, suc, ◌+◌, ◌*◌, ◌^◌, ◌<◌, ◌≤◌, Bool, true, false, List, [], ◌∷◌, map, length, get_or, refl, arith, ap, sym, ◌∙◌, subst, inl, inr, ◌&&◌, lt-ltb, pos, mul-le-mul_left, mul-le-mul_right}
-use Rattle.std.specs.Prelude.{slice_set, ◌||◌}
+use Rattle.std.specs.Prelude.{slice_set, ◌||◌, nat_lt}
 use Rattle.std.specs.List.{list_all}
-use Rattle.std.proofs.lemmas.Bool.{cases_Bool}
-use Rattle.std.proofs.lemmas.List.{length-map, length-replicate, get_or-map, set-get_or}
+use Rattle.std.proofs.lemmas.Bool.{cases_Bool, and_left, ltb-true, ltb-false}
+use Rattle.std.proofs.lemmas.List.{length-map, length-replicate, get_or-map, set-get_or, get_or-set_same}
 use Rattle.stream_model.specs.Lists.{below}
+use Rattle.stream_model.specs.Meaning.{Meaning}
 use Rattle.stream_model.specs.Network as model
 use Rattle.stream_model.specs.Network.{Network, Handed, State, node_at, handed_at, nothing_handed, progress_at, no_progress, writers_of, role_at, is_source, taken_by, given_by}
 use Rattle.stream_model.specs.Claims as claims
@@ -21,19 +22,16 @@ use Rattle.machine_laws.proofs.Sounds.{calls_keep_sound}
 use Rattle.machine_laws.proofs.Moving as moving
 use Rattle.machine_laws.proofs.Inputs.{below-at}
 use Rattle.machine_laws.proofs.Looking.{inputs_source, inputs_other}
-use Rattle.firings.specs.declared.progress.Progress.{Progress}
 use Rattle.firings.specs.declared.progress.Tape.{Tape}
 use Rattle.firings.specs.declared.decision.Decision.{Decision}
-use Rattle.firings.specs.State.{state_of, lent, zeros, progress_of, tape_of, HasTapes, IsRunning, StaysRunning}
+use Rattle.firings.specs.State.{state_of, lent, zeros, tape_of, HasTapes, IsRunning, StaysRunning}
+use Rattle.firings.specs.Situation.{Seen, net_seen, node_seen, counts_seen}
 use Rattle.firings.specs.Small.{AreSmall}
 use Rattle.firings.specs.Firings.{committed, abandoned}
 use Rattle.firings.specs.Decision.{answer_of, claimed_by, waits, rests}
 use Rattle.firings.proofs.Looks.{no_tape}
 
 -- lengths and marks are all of a tape that counts
-input_from : Tape → InputCounts
-input_from t = record { written = t.length; ended = t.closed }
-
 tapes_at : (tapes : List Tape) (hs : List Handed) (b : ℕ) → HasTapes tapes hs → tape_of (handed_at hs b) ≡ get_or tapes b no_tape
 tapes_at tapes hs b h = at_place hs b ∙ ap (λ ts. get_or ts b no_tape) h
   where
@@ -59,11 +57,11 @@ module _ (net : Network) (caps : Capacities) (tapes : List Tape) (b : ℕ) where
         | inr e ↦ inputs_other net (state_of hs ps) b e ∙ sym (inputs_other net (state_of gs ps) b e)
       ]
 
-  pub same_counts : (hs : List Handed) (ps : List Progress) → HasTapes tapes hs → counts_of net caps (lent tapes ps) b ≡ counts_of net caps (state_of hs (map progress_of ps)) b
+  pub same_counts : (hs : List Handed) (ps : List model.Progress) → HasTapes tapes hs → counts_of net caps (lent tapes ps) b ≡ counts_of net caps (state_of hs ps) b
   same_counts hs ps h =
-      let p = progress_at (map progress_of ps) b in
+      let p = progress_at ps b in
       ap (λ (is : List InputCounts). let c : Counts = record { firings = p.firings; claimed = p.claimed; done = p.done; inputs = is; outputs = counts_out net caps (lent tapes ps) b } in c)
-      (same_inputs (map zeros tapes) hs (map progress_of ps) (zeros_have tapes) h)
+      (same_inputs (map zeros tapes) hs ps (zeros_have tapes) h)
 
 -- the state after a claim, and whether it waits
 claimed_after : (net : Network) (st : State) (b first : ℕ) (d : claims.Decision) →
@@ -106,14 +104,13 @@ module _ (names : List (List ℕ)) (net : Network) (caps : Capacities) (tapes : 
         mul-le-mul_right ((progress_at ps b).firings + (progress_at ps b).claimed) (can.sound b).some in
         omega arith
 
-  pub running_small : (ps : List Progress) → IsRunning net caps tapes (map progress_of ps) → AreSmall net tapes ps
+  pub running_small : (ps : List model.Progress) → IsRunning net caps tapes ps → AreSmall net tapes ps
   running_small ps running =
-      let st : State = state_of running.handed (map progress_of ps) in
+      let st : State = state_of running.handed ps in
       let handed : length tapes ≡ length running.handed = ap length (sym running.tapes_are) ∙ length-map running.handed tape_of in
       record {
         runs = can;
-        few = valid.graph.few_blocks;
-        blocks = sym (length-map ps progress_of) ∙ running.sound.progress_count;
+        blocks = running.sound.progress_count;
         taped = handed ∙ running.sound.handed_count;
         short = λ k d lt.
             let there : k < length net.nodes = rw (← running.sound.handed_count, ← handed) lt in
@@ -122,36 +119,60 @@ module _ (names : List (List ℕ)) (net : Network) (caps : Capacities) (tapes : 
             let same : get_or tapes k d ≡ tape_of (handed_at running.handed k) = ap (λ ts. get_or ts k d) (sym running.tapes_are) ∙ get_or-map tape_of running.handed k nothing_handed d there' in
             rw same short;
         small = λ b in'.
-            let small = small_at (map progress_of ps) running b in' in
-            let up : (progress_at (map progress_of ps) b).firings ≤ reached st b = omega arith in
+            let small = small_at ps running b in' in
+            let up : (progress_at ps b).firings ≤ reached st b = omega arith in
             let each = mul-le-mul_left (node_at net b).multiple up in
             record {
               firings = (let all = small.firings in omega arith);
-              given = (let all = small.given in let rises = given_by-rises (node_at net b) (can.sound b) (progress_at (map progress_of ps) b).firings (reached st b) up in omega arith);
-              taken = λ p used. (let all = small.taken p used in let rises = taken_by-rises (node_at net b) (can.sound b) p (progress_at (map progress_of ps) b).firings (reached st b) up in omega arith);
+              given = (let all = small.given in let rises = given_by-rises (node_at net b) (can.sound b) (progress_at ps b).firings (reached st b) up in omega arith);
+              taken = λ p used. (let all = small.taken p used in let rises = taken_by-rises (node_at net b) (can.sound b) p (progress_at ps b).firings (reached st b) up in omega arith);
             };
       }
 
--- a claim, in a sound state with these tapes
-module _ (net : Network) (caps : Capacities) (tapes : List Tape) (ps : List Progress) (b max first : ℕ) (decision : Decision)
-    (is : decision ≡ answer_of first (decide (node_at net b) (counts_of net caps (lent tapes ps) b) max)) where
+-- a claim that was decided over a situation, here s, and made of the block's own progress another
+module _ {B : Type 0} (meaning : B → Meaning) (looked s : Seen B) (same : looked ≡ s) (max : ℕ) (decision : Decision)
+    (decided : decision ≡ answer_of (counts_seen meaning looked).firings (decide (node_seen meaning looked) (counts_seen meaning looked) max))
+    (own claimed : model.Progress) (own_is : own ≡ progress_at s.progress s.block) (claimed_is : claimed ≡ claimed_by own decision) where
+  abbrev net : Network
+  net = net_seen meaning s
+
   abbrev next : List model.Progress
-  next = slice_set (map progress_of ps) b (claimed_by (progress_at (map progress_of ps) b) decision)
+  next = slice_set s.progress s.block claimed
 
-  pub decision_is : (hs : List Handed) → HasTapes tapes hs → decision ≡ answer_of first (decide (node_at net b) (counts_of net caps (state_of hs (map progress_of ps)) b) max)
-  decision_is hs h = is ∙ ap (λ (c : Counts). answer_of first (decide (node_at net b) c max)) (same_counts net caps tapes b hs ps h)
+  is : decision ≡ answer_of (counts_seen meaning s).firings (decide (node_seen meaning s) (counts_seen meaning s) max)
+  is = subst (λ (u : Seen B). decision ≡ answer_of (counts_seen meaning u).firings (decide (node_seen meaning u) (counts_seen meaning u) max)) same decided
 
-  pub progress_after : (hs : List Handed) → HasTapes tapes hs → (claim_of net caps (state_of hs (map progress_of ps)) b max).1 ≡ state_of hs next
+  pub decision_is : (hs : List Handed) → HasTapes s.tapes hs → decision ≡ answer_of (counts_seen meaning s).firings (decide (node_seen meaning s) (counts_of net s.capacities (state_of hs s.progress) s.block) max)
+  decision_is hs h = is ∙ ap (λ (c : Counts). answer_of (counts_seen meaning s).firings (decide (node_seen meaning s) c max)) (same_counts net s.capacities s.tapes s.block hs s.progress h)
+
+  pub progress_after : (hs : List Handed) → HasTapes s.tapes hs → (claim_of net s.capacities (state_of hs s.progress) s.block max).1 ≡ state_of hs next
   progress_after hs h =
-      claim_after net caps (state_of hs (map progress_of ps)) b max first
-      ∙ ap (λ (d : Decision). state_of hs (slice_set (map progress_of ps) b (claimed_by (progress_at (map progress_of ps) b) d))) (sym (decision_is hs h))
+      claim_after net s.capacities (state_of hs s.progress) s.block max (counts_seen meaning s).firings
+      ∙ ap (λ (d : Decision). state_of hs (slice_set s.progress s.block (claimed_by (progress_at s.progress s.block) d))) (sym (decision_is hs h))
+      ∙ ap (λ (p : model.Progress). state_of hs (slice_set s.progress s.block p)) (ap (λ (p : model.Progress). claimed_by p decision) (sym own_is) ∙ sym claimed_is)
 
-  pub running_after : CanRun net → b < length net.nodes → IsRunning net caps tapes (map progress_of ps) → IsRunning net caps tapes next
-  running_after can in' running =
-      let kept = calls_keep_sound net caps (state_of running.handed (map progress_of ps)) can running.sound (Claim b max) in
-      let inside = lt-ltb b (length net.nodes) in' in
-      let there : Sound net caps (claim_of net caps (state_of running.handed (map progress_of ps)) b max).1 = rw inside at kept in
-      record { handed = running.handed; tapes_are = running.tapes_are; sound = subst (Sound net caps) (progress_after running.handed running.tapes_are) there }
+  module _ (can : CanRun net) (in' : s.block < length net.nodes) (running : IsRunning net s.capacities s.tapes s.progress) where
+    pub running_after : IsRunning net s.capacities s.tapes next
+    running_after =
+        let kept = calls_keep_sound net s.capacities (state_of running.handed s.progress) can running.sound (Claim s.block max) in
+        let inside = lt-ltb s.block (length net.nodes) in' in
+        let there : Sound net s.capacities (claim_of net s.capacities (state_of running.handed s.progress) s.block max).1 = rw inside at kept in
+        record { handed = running.handed; tapes_are = running.tapes_are; sound = subst (Sound net s.capacities) (progress_after running.handed running.tapes_are) there }
+
+    pub claimed_small : (names : List (List ℕ)) → IsValidGraph names net → claimed.firings + claimed.claimed < 2 ^ 62
+    claimed_small names valid =
+        let there : s.block < length s.progress = rw running.sound.progress_count in' in
+        subst (λ (p : model.Progress). p.firings + p.claimed < 2 ^ 62) (get_or-set_same s.progress s.block claimed no_progress there)
+        (few_reached names net s.capacities s.tapes can valid next running_after s.block in')
+
+-- a test of one more
+pub one_more : (test : ℕ → Bool) (n : ℕ) → ((k : ℕ) → k < n → test k ≡ true) → test n ≡ true → (k : ℕ) → k < n + 1 → test k ≡ true
+one_more test n all here =
+    λ k lt.
+    elim (cases_Bool (nat_lt k n)) [
+      | inl e ↦ all k (ltb-true k n e)
+      | inr e ↦ (let last = ltb-false k n e in let same : n ≡ k = omega (arith, last, lt) in subst (λ j. test j ≡ true) same here)
+    ]
 
 -- a test that fails for one fails for all
 pub not_below : (test : ℕ → Bool) (n p : ℕ) → p < n → test p ≡ false → false ≡ list_all test (below n)
@@ -166,41 +187,37 @@ list_all-agree : {A : Type 0} (f g : A → Bool) → ((x : A) → f x ≡ g x) �
 list_all-agree f g same [] = refl
 list_all-agree f g same (x ∷ xs) = ap (λ (b : Bool). b && list_all f xs) (same x) ∙ ap (λ (b : Bool). g x && b) (list_all-agree f g same xs)
 
-module _ (net : Network) (caps : Capacities) (tapes : List Tape) (ps : List Progress) (hs : List Handed) (h : HasTapes tapes hs) where
-  rests_same : (b : ℕ) → rests net caps (lent tapes ps) b ≡ rests net caps (state_of hs (map progress_of ps)) b
+module _ (net : Network) (caps : Capacities) (tapes : List Tape) (ps : List model.Progress) (hs : List Handed) (h : HasTapes tapes hs) where
+  rests_same : (b : ℕ) → rests net caps (lent tapes ps) b ≡ rests net caps (state_of hs ps) b
   rests_same b =
-      ap (λ (w : Bool). (progress_at (map progress_of ps) b).done || w)
+      ap (λ (w : Bool). (progress_at ps b).done || w)
       (sym (claim_waits net caps (lent tapes ps) b 1 0)
       ∙ ap (λ (c : Counts). waits (answer_of 0 (decide (node_at net b) c 1))) (same_counts net caps tapes b hs ps h)
-      ∙ claim_waits net caps (state_of hs (map progress_of ps)) b 1 0)
+      ∙ claim_waits net caps (state_of hs ps) b 1 0)
 
-  pub all_rest_same : (n : ℕ) → list_all (rests net caps (lent tapes ps)) (below n) ≡ list_all (rests net caps (state_of hs (map progress_of ps))) (below n)
-  all_rest_same n = list_all-agree (rests net caps (lent tapes ps)) (rests net caps (state_of hs (map progress_of ps))) rests_same (below n)
+  -- where no claim is in flight, the network is quiet when all rest
+  pub quiet_is : is_idle (state_of hs ps) ≡ true → list_all (rests net caps (lent tapes ps)) (below (length net.nodes)) ≡ is_quiet net caps (state_of hs ps)
+  quiet_is idle =
+      list_all-agree (rests net caps (lent tapes ps)) (rests net caps (state_of hs ps)) rests_same (below (length net.nodes))
+      ∙ if_idle (is_idle (state_of hs ps)) (list_all (rests net caps (state_of hs ps)) (below (length net.nodes))) idle
+    where
+      if_idle : (idle others : Bool) → idle ≡ true → others ≡ (idle && others)
+      if_idle true others e = refl
+      if_idle false others e = cc
 
-pub if_idle : (idle others : Bool) → idle ≡ true → others ≡ (idle && others)
-if_idle true others e = refl
-if_idle false others e = cc
-
-pub if_busy : (counted idle others : Bool) → counted ≡ idle → counted ≡ false → counted ≡ (idle && others)
-if_busy counted true others same e = cc
-if_busy counted false others same e = e
+  pub busy_is : is_idle (state_of hs ps) ≡ false → false ≡ is_quiet net caps (state_of hs ps)
+  busy_is busy = sym (and_left (is_idle (state_of hs ps)) (list_all (rests net caps (state_of hs ps)) (below (length net.nodes))) busy)
 
 -- a claim that is committed or given up
 module _ (ps : List model.Progress) (b : ℕ) (there : b < length ps) (some : 0 < (progress_at ps b).claimed) where
-  pub commit_runs : StaysRunning ps (committed ps b)
-  commit_runs = λ net caps tapes can running.
+  stays : (new : List model.Progress) →
+      ((net : Network) → CanRun net → (caps : Capacities) (hs : List Handed) → Sound net caps (state_of hs ps) → b < length net.nodes → Sound net caps (state_of hs new)) → StaysRunning ps new
+  stays new moved = λ net caps tapes can running.
       let in' : b < length net.nodes = rw (← running.sound.progress_count) there in
-      record {
-        handed = running.handed;
-        tapes_are = running.tapes_are;
-        sound = moving.committed net can caps (state_of running.handed ps) running.sound b in' some;
-      }
+      record { handed = running.handed; tapes_are = running.tapes_are; sound = moved net can caps running.handed running.sound in' }
+
+  pub commit_runs : StaysRunning ps (committed ps b)
+  commit_runs = stays (committed ps b) (λ net can caps hs sound in'. moving.committed net can caps (state_of hs ps) sound b in' some)
 
   pub abandon_runs : StaysRunning ps (abandoned ps b)
-  abandon_runs = λ net caps tapes can running.
-      let in' : b < length net.nodes = rw (← running.sound.progress_count) there in
-      record {
-        handed = running.handed;
-        tapes_are = running.tapes_are;
-        sound = moving.abandoned net can caps (state_of running.handed ps) running.sound b in' some;
-      }
+  abandon_runs = stays (abandoned ps b) (λ net can caps hs sound in'. moving.abandoned net can caps (state_of hs ps) sound b in' some)

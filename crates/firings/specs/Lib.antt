@@ -1,5 +1,7 @@
 pub mod State
 pub mod Small
+pub mod Situation
+pub mod Fits
 pub mod Counts
 pub mod Decision
 pub mod Firings

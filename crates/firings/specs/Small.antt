@@ -1,11 +1,9 @@
 -- What sums and products of counts rest on.
 use Rattle.std.specs.Prelude.{ℕ, ◌≡◌, ◌*◌, ◌^◌, ◌<◌, ◌≤◌, List, length, All}
-use Rattle.stream_model.specs.Network.{Network, node_at, writers_of, taken_by, given_by, progress_at}
+use Rattle.stream_model.specs.Network.{Network, Progress, node_at, writers_of, taken_by, given_by, progress_at}
 use Rattle.stream_laws.specs.CanRun.{CanRun}
 use Rattle.flowgraph.specs.declared.parts.Connection.{Connection}
-use Rattle.firings.specs.declared.progress.Progress.{Progress}
 use Rattle.firings.specs.declared.progress.Tape.{Tape}
-use Rattle.firings.specs.State.{lent}
 
 -- the firings that block b has committed, the items that they give, and those that they take
 pub record IsSmall (net : Network) (b k : ℕ) : Type 0 where
@@ -16,11 +14,10 @@ pub record IsSmall (net : Network) (b k : ℕ) : Type 0 where
 -- tapes and progress of each block, within what their types hold
 pub record AreSmall (net : Network) (tapes : List Tape) (ps : List Progress) : Type 0 where
   pub runs : CanRun net
-  pub few : length net.nodes ≤ 256
   pub blocks : length ps ≡ length net.nodes
   pub taped : length tapes ≡ length net.nodes
   pub short : All (λ t. t.length ≤ 2 ^ 32) tapes
-  pub small : (b : ℕ) → b < length net.nodes → IsSmall net b (progress_at (lent tapes ps).progress b).firings
+  pub small : (b : ℕ) → b < length net.nodes → IsSmall net b (progress_at ps b).firings
 
 -- a connection leads to an input that there is
 pub record IsReader (net : Network) (c : Connection) : Type 0 where

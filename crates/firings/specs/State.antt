@@ -26,9 +26,9 @@ HasTapes tapes hs = map tape_of hs ≡ tapes
 abbrev pub zeros : Tape → Handed
 zeros t = record { tape = replicate t.length (pos 0); tags = []; closed = t.closed; settings = [] }
 
--- a state with such tapes and progress
-abbrev pub lent : List Tape → List Progress → State
-lent tapes ps = state_of (map zeros tapes) (map progress_of ps)
+-- a state with such tapes and this progress
+abbrev pub lent : List Tape → List model.Progress → State
+lent tapes ps = state_of (map zeros tapes) ps
 
 -- tapes and progress are those of some sound state
 pub record IsRunning (net : Network) (caps : Capacities) (tapes : List Tape) (ps : List model.Progress) : Type 0 where

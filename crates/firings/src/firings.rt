@@ -11,10 +11,10 @@ ghost use Rattle.firings.specs.Decision.{answer_of, claimed_by};
 ghost use Rattle.firings.specs.Firings.{committed, abandoned};
 ghost use Rattle.firings.specs.Waits.{wait_seen};
 
-use crate::decide::{all_rest, decide};
 use crate::decision::Decision;
 use crate::progress::{Progress, Tapes};
-use crate::waits::{BlockNeed, need};
+use crate::situation::Situation;
+use crate::waits::BlockNeed;
 use block_kinds::Block;
 use flowgraph::{BlockId, Valid};
 use std::alloc::{AllocError, Global};
@@ -103,8 +103,8 @@ impl Firings {
             (claim_of (net_of B.meaning graph.now) (rows_of (λ row. row.items) capacities.now) (state_of hs self.old) block.0 max).1 ≡ state_of hs self.new }
         ensures running { IsRunning (net_of B.meaning graph.now) (rows_of (λ row. row.items) capacities.now) (T.tapes tapes.now) self.new }
     {
-        graph.in_order();
-        let decision = decide(graph, capacities, tapes, &self.progress, block, max);
+        graph.recall();
+        let decision = Situation::of(graph, capacities, tapes, self, block).decide(max);
         let own = self.progress(block);
         self.put(block, claimed(own, decision));
         decision
@@ -153,8 +153,15 @@ impl Firings {
         ensures { (hs : List Handed) → HasTapes (T.tapes tapes.now) hs →
             result ≡ is_quiet (net_of B.meaning graph.now) (rows_of (λ row. row.items) capacities.now) (state_of hs self.now) }
     {
-        graph.in_order();
-        self.idle() && all_rest(graph, capacities, tapes, &self.progress)
+        if !self.idle() {
+            return false;
+        }
+        for block in 0..graph.len() {
+            if !Situation::of(graph, capacities, tapes, self, BlockId(block as u32)).rests() {
+                return false;
+            }
+        }
+        true
     }
 
     /// What a claim of a block would come to, or what it waits for. Nothing changes.
@@ -170,8 +177,7 @@ impl Firings {
         ensures { (hs : List Handed) → HasTapes (T.tapes tapes.now) hs →
             wait_seen result ≡ wait_of (net_of B.meaning graph.now) (rows_of (λ row. row.items) capacities.now) (state_of hs self.now) block.0 }
     {
-        graph.in_order();
-        need(graph, capacities, tapes, &self.progress, block)
+        Situation::of(graph, capacities, tapes, self, block).need()
     }
 
     // Puts other progress of a block in the place of the old.

@@ -1,114 +1,134 @@
-//! How many firings of a block fit, and what it lacks where none does.
+//! How many firings of a block fit, and what it lacks where the next does not.
 
-ghost use Rattle.std.specs.Prelude.{◌≡◌, ◌<◌, ◌≤◌, map, length, All};
-ghost use Rattle.stream_model.specs.Network.{node_at};
+ghost use Rattle.std.specs.Prelude.{◌≡◌, ℕ, ◌≤◌, ◌<◌, min, map, nat_le, not, Some, None, ◌&&◌, ◌||◌, if◌then◌else◌};
+ghost use Rattle.std.specs.Option.{option_or};
+ghost use Rattle.stream_model.specs.Network.{used_outputs};
 ghost use Rattle.stream_model.specs.Claims as claims;
-ghost use Rattle.stream_model.specs.Machine.{counts_in, counts_out, counts_of};
+ghost use Rattle.stream_model.specs.Machine.{output_counts};
 ghost use Rattle.stream_laws.specs.Firings as allow;
-ghost use Rattle.flowgraph.specs.Flowgraph.{net_of};
-ghost use Rattle.firings.specs.State.{lent, rows_of};
-ghost use Rattle.firings.specs.Small.{AreSmall, IsReader};
-ghost use Rattle.firings.specs.Counts.{readers_in};
+ghost use Rattle.firings.specs.Situation.{net_seen, state_seen, node_seen, counts_seen};
+ghost use Rattle.firings.specs.Fits.{Tells};
 
-use crate::counts::{capacity_at, input_at, input_count, reader_at};
-use crate::paces::{allowed_at, fitting_at};
-use crate::progress::{Progress, Tapes};
+use crate::counts::Input;
+use crate::progress::Tapes;
+use crate::situation::Situation;
 use block_kinds::Block;
-use flowgraph::{BlockId, Connection, Valid};
 
-/// How many firings a claim of at most `max` gets.
-pub(crate) fn most<B: Block, T: Tapes>(
-    graph: &Valid<B>,
-    capacities: &[Vec<u32>],
-    tapes: &T,
-    progress: &[Progress],
-    block: BlockId,
-    max: u32,
-) -> u32
-    requires small { AreSmall (net_of B.meaning graph.now) (T.tapes tapes.now) progress.now }
-    requires block { block.0 < length graph.now.blocks }
-    ensures { let net = net_of B.meaning graph.now in
-        result ≡ claims.most (node_at net block.0) (counts_of net (rows_of (λ row. row.items) capacities.now) (lent (T.tapes tapes.now) progress.now) block.0) max }
-{
-    let first = progress[block.0 as usize].firings;
-    let items = items_allow(graph, tapes, progress, block, first + u64::from(max));
-    let room = room_allows(graph, capacities, tapes, progress, block, items);
-    let last = match graph.limit(block) {
-        Some(limit) => limit.min(room),
-        None => room,
-    };
-    last.saturating_sub(first) as u32
+/// How many firings fit on one side of a block.
+#[derive(Clone, Copy)]
+pub(crate) struct Fit {
+    /// As many of those that are asked for as each port allows.
+    pub allowed: u64,
+    /// The lowest port that lacks what the next firing needs.
+    pub lacking: Option<usize>,
 }
 
-// As many of `bound` firings, from the first on, as the items on each input allow.
-fn items_allow<B: Block, T: Tapes>(
-    graph: &Valid<B>,
-    tapes: &T,
-    progress: &[Progress],
-    block: BlockId,
-    bound: u64,
-) -> u64
-    requires small { AreSmall (net_of B.meaning graph.now) (T.tapes tapes.now) progress.now }
-    requires block { block.0 < length graph.now.blocks }
-    ensures value { let net = net_of B.meaning graph.now in
-        result ≡ allow.items_allow (node_at net block.0) 0 (map (λ i. i.written) (counts_in net (lent (T.tapes tapes.now) progress.now) block.0)) bound }
-    ensures within { result ≤ bound }
-{
-    let mut least = bound;
-    for port in 0..input_count(graph, block) {
-        let input = input_at(graph, tapes, progress, block, port);
-        least = least.min(allowed_at(graph, block, port, input.written));
-    }
-    least
-}
-
-// As many as each output has room for.
-fn room_allows<B: Block, T: Tapes>(
-    graph: &Valid<B>,
-    capacities: &[Vec<u32>],
-    tapes: &T,
-    progress: &[Progress],
-    block: BlockId,
-    bound: u64,
-) -> u64
-    requires small { AreSmall (net_of B.meaning graph.now) (T.tapes tapes.now) progress.now }
-    requires block { block.0 < length graph.now.blocks }
-    ensures value { let net = net_of B.meaning graph.now in
-        result ≡ allow.room_allows (node_at net block.0) (counts_out net (rows_of (λ row. row.items) capacities.now) (lent (T.tapes tapes.now) progress.now) block.0) bound }
-    ensures within { result ≤ bound }
-{
-    let mut least = bound;
-    for port in 0..graph.outputs(block) {
-        let readers = graph.readers(block, port);
-        let capacity = capacity_at(capacities, block, port);
-        least = readers_allow(graph, tapes, progress, block, readers, capacity, least);
-    }
-    least
-}
-
-// As many as leave room before each live reader of an output.
-fn readers_allow<B: Block, T: Tapes>(
-    graph: &Valid<B>,
-    tapes: &T,
-    progress: &[Progress],
-    block: BlockId,
-    readers: &[Connection],
-    capacity: u32,
-    bound: u64,
-) -> u64
-    requires small { AreSmall (net_of B.meaning graph.now) (T.tapes tapes.now) progress.now }
-    requires block { block.0 < length graph.now.blocks }
-    requires known { All (IsReader (net_of B.meaning graph.now)) readers.now }
-    ensures value { let net = net_of B.meaning graph.now in
-        result ≡ allow.readers_allow (node_at net block.0) capacity (readers_in net (lent (T.tapes tapes.now) progress.now) readers.now) bound }
-    ensures within { result ≤ bound }
-{
-    let mut least = bound;
-    for connection in readers {
-        let reader = reader_at(graph, tapes, progress, connection);
-        if !reader.done {
-            least = fitting_at(graph, block, reader.taken + u64::from(capacity), least);
+impl Fit {
+    // Nothing looked at yet.
+    fn of(bound: u64) -> Fit
+        ensures allowed { result.allowed ≡ bound }
+        ensures lacking { result.lacking ≡ None }
+        ensures tells { (k : ℕ) → k ≤ bound → Tells k result }
+    {
+        Fit {
+            allowed: bound,
+            lacking: None,
         }
     }
-    least
+
+    // With one port more, which allows so many.
+    fn with(self, port: usize, allowed: u64, next: u64) -> Fit
+        requires { Tells next self }
+        ensures tells { Tells next result }
+        ensures allowed { result.allowed ≡ min self.allowed allowed }
+        ensures lacking { result.lacking ≡ option_or self.lacking (if nat_le next allowed then None else Some port) }
+    {
+        let lacking = if next <= allowed { None } else { Some(port) };
+        Fit {
+            allowed: self.allowed.min(allowed),
+            lacking: self.lacking.or(lacking),
+        }
+    }
+}
+
+/// How many firings the items on a block's inputs allow.
+#[derive(Clone, Copy)]
+pub(crate) struct Supply {
+    pub fit: Fit,
+    /// Whether an input that has ended lacks items of the next.
+    pub over: bool,
+}
+
+impl Supply {
+    // With one input more, which allows so many.
+    fn with(self, port: usize, input: Input, allowed: u64, next: u64) -> Supply
+        requires { Tells next self.fit }
+        ensures tells { Tells next result.fit }
+        ensures allowed { result.fit.allowed ≡ min self.fit.allowed allowed }
+        ensures lacking { result.fit.lacking ≡ option_or self.fit.lacking (if nat_le next allowed then None else Some port) }
+        ensures over { result.over ≡ (self.over || (input.ended && not (nat_le next allowed))) }
+    {
+        Supply {
+            fit: self.fit.with(port, allowed, next),
+            over: self.over || input.ended && allowed < next,
+        }
+    }
+}
+
+impl<B: Block, T: Tapes> Situation<'_, B, T> {
+    /// As many of `bound` firings as the items on each input allow, and what firing `next` lacks.
+    pub(crate) fn supply(&self, next: u64, bound: u64) -> Supply
+        requires { next ≤ bound }
+        ensures allowed { result.fit.allowed ≡ allow.items_allow (node_seen B.meaning self.now) 0 (map (λ i. i.written) (counts_seen B.meaning self.now).inputs) bound }
+        ensures lacking { result.fit.lacking ≡ claims.lacks_items (node_seen B.meaning self.now) next 0 (counts_seen B.meaning self.now).inputs }
+        ensures over { result.over ≡ claims.lacks_for_good (node_seen B.meaning self.now) next 0 (counts_seen B.meaning self.now).inputs }
+        ensures tells { Tells next result.fit }
+    {
+        self.recall();
+        let mut supply = Supply {
+            fit: Fit::of(bound),
+            over: false,
+        };
+        for port in 0..self.inputs() {
+            let input = self.input(port);
+            let allowed = self.allowed(port, input.written);
+            supply = supply.with(port, input, allowed, next);
+        }
+        supply
+    }
+
+    /// As many as each output has room for, and what firing `next` lacks.
+    pub(crate) fn room(&self, next: u64, bound: u64) -> Fit
+        requires { next ≤ bound }
+        ensures allowed { result.allowed ≡ allow.room_allows (node_seen B.meaning self.now) (counts_seen B.meaning self.now).outputs bound }
+        ensures lacking { result.lacking ≡ claims.lacks_room (node_seen B.meaning self.now) next 0 (counts_seen B.meaning self.now).outputs }
+        ensures tells { Tells next result }
+    {
+        self.recall();
+        let mut fit = Fit::of(bound);
+        for port in 0..self.outputs() {
+            let allowed = self.room_at(port, fit.allowed);
+            fit = fit.with(port, allowed, next);
+        }
+        fit
+    }
+
+    // As many as leave room before each live reader of an output.
+    fn room_at(&self, port: usize, bound: u64) -> u64
+        requires { port < used_outputs (net_seen B.meaning self.now) self.now.block }
+        ensures value { let output = output_counts (net_seen B.meaning self.now) self.now.capacities (state_seen self.now) self.now.block port in
+            result ≡ allow.readers_allow (node_seen B.meaning self.now) output.capacity output.readers bound }
+        ensures within { result ≤ bound }
+    {
+        let capacity = self.capacity(port);
+        let readers = self.readers(port);
+        let mut least = bound;
+        for connection in readers {
+            let reader = self.reader(connection);
+            if !reader.done {
+                least = self.fitting(reader.taken + u64::from(capacity), least);
+            }
+        }
+        least
+    }
 }

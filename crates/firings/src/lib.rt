@@ -6,9 +6,9 @@ mod decide;
 pub mod decision;
 pub mod firings;
 mod fitting;
-mod lacking;
 mod paces;
 pub mod progress;
+mod situation;
 pub mod waits;
 
 pub use decision::{Decision, Need};

@@ -1,25 +1,26 @@
 -- Kept jobs, as calls leave them.
-use Rattle.std.proofs.Common.{◌≡◌, ℕ, ◌<◌, Bool, true, false, List, length, set, Option, Some, None, refl, sym, ap, ◌∙◌, subst, arith, inl, inr, length-set, get_or, eqb-true}
+use Rattle.std.proofs.Common.{◌≡◌, ◌≢◌, ℕ, ◌<◌, Bool, true, false, List, length, set, Option, Some, None, refl, sym, ap, ◌∙◌, subst, arith, inl, inr, length-set, get_or, eqb-true}
 use Rattle.std.specs.Prelude.{nat_lt, ◌==◌, ◌&&◌, replicate}
 use Rattle.std.specs.Cmp.{IsEquivalence}
 use Rattle.std.specs.Prelude.{nat_eq}
 use Rattle.std.proofs.lemmas.Cmp.{nat_eq_equiv}
-use Rattle.std.proofs.lemmas.List.{get_or-set_same, get_or-set_other, map-set, set-get_or, get_or_default}
+use Rattle.std.proofs.lemmas.List.{get_or-set_same, get_or-set_other, map-set, set-get_or, get_or_default, length-map}
 use Rattle.std.proofs.lemmas.Option.{slice_get_cases}
 use Rattle.std.proofs.Math.ListN.{get_or-map}
 use Rattle.std.proofs.lemmas.Simd.{splat_is_map}
 use Rattle.numbers.proofs.Mapped.{map_replicate}
 use Rattle.std.proofs.lemmas.Bool.{and_from, lt-ltb}
+use Rattle.stream_model.specs.Meaning.{Meaning}
 use Rattle.stream_model.specs.Network.{Network, State, Progress, progress_at, no_progress}
 use Rattle.stream_model.specs.Machine as machine
 use Rattle.stream_model.specs.Machine.{Capacities, Call, Job, Reply, job_of, with_progress, next, commit_of, abandon_of, is_in_flight, jobs_agree}
 use Rattle.stream_laws.specs.CanRun.{CanRun}
 use Rattle.machine_laws.specs.Sound.{Sound}
-use Rattle.machine_laws.specs.Stays.{in_flight}
-use Rattle.flowgraph.specs.Flowgraph.{Flowgraph}
+use Rattle.machine_laws.specs.Stays.{in_flight, gives_back}
+use Rattle.flowgraph.specs.Flowgraph.{Flowgraph, net_of, node_of}
 use Rattle.jobs.specs.Jobs.{JobState}
-use Rattle.flights.specs.Flight.{is_own}
-use Rattle.flights.proofs.Agreeing.{jobs_agree-same}
+use Rattle.plant.specs.Own.{is_own}
+use Rattle.machine_laws.proofs.Agreeing.{jobs_agree-same}
 use Rattle.plant.specs.Answers.{takes_memory}
 use Rattle.script_text.specs.Replies.{line_text, claimed_text}
 use Rattle.plant.specs.Plant.{PlantState}
@@ -64,7 +65,7 @@ none_at_first {B} {J} p jobs n e count =
     (ap (λ (js : List (Option J)). kept_in js) e ∙ map_replicate is_there n None ∙ splat_is_map p.graph.blocks n false (sym count))
 
 -- what is found there by another default
-pub one_at : {J : Type 0} (jobs : List (Option J)) (b : ℕ) (d x : Option J) → b < length jobs → x ≡ get_or jobs b d → get_or jobs b None ≡ x
+one_at : {J : Type 0} (jobs : List (Option J)) (b : ℕ) (d x : Option J) → b < length jobs → x ≡ get_or jobs b d → get_or jobs b None ≡ x
 one_at jobs b d x in' e = get_or_default jobs b None d in' ∙ sym e
 
 -- a claim that was made is the one in flight
@@ -88,17 +89,27 @@ own_is eq laws g b in' =
       | inr past ↦ absurd (let low = past.0 in omega (arith, in', low))
     ]
 
--- a claim in flight that comes back is committed, and one that is given up is
-pub commits : (net : Network) (st : State) (b : ℕ) → b < length net.nodes → 0 < (progress_at st.progress b).claimed → (commit_of net st true (in_flight net st b)).0 ≡ machine.Did (progress_at st.progress (in_flight net st b).block).claimed
+-- a call that gives a claim back: one in flight is not refused
+pub record GivesBack (net : Network) (caps : Capacities) (st : State) (call : Bool → Job → Call) : Type 0 where
+  pub block : (own : Bool) (job : Job) (b : ℕ) → gives_back b (call own job) ≡ (job.block == b)
+  pub taken : (b : ℕ) → b < length net.nodes → 0 < (progress_at st.progress b).claimed → (next net caps st (call true (in_flight net st b))).0 ≢ machine.Refused machine.foreign
+
+commits : (net : Network) (st : State) (b : ℕ) → b < length net.nodes → 0 < (progress_at st.progress b).claimed → (commit_of net st true (in_flight net st b)).0 ≡ machine.Did (progress_at st.progress (in_flight net st b).block).claimed
 unfolding commit_of
 commits net st b in' some = let yes = in_flight_is net st b in' some in rw yes refl
 
-pub abandons : (net : Network) (st : State) (b : ℕ) → b < length net.nodes → 0 < (progress_at st.progress b).claimed → (abandon_of net st true (in_flight net st b)).0 ≡ machine.Abandoned
+abandons : (net : Network) (st : State) (b : ℕ) → b < length net.nodes → 0 < (progress_at st.progress b).claimed → (abandon_of net st true (in_flight net st b)).0 ≡ machine.Abandoned
 unfolding abandon_of
 abandons net st b in' some = let yes = in_flight_is net st b in' some in rw yes refl
 
+pub commit_gives_back : (net : Network) (caps : Capacities) (st : State) → GivesBack net caps st machine.Commit
+commit_gives_back net caps st = record { block = λ own job b. refl; taken = λ b in' some e. let is = sym (commits net st b in' some) ∙ e in cc }
+
+pub abandon_gives_back : (net : Network) (caps : Capacities) (st : State) → GivesBack net caps st machine.Abandon
+abandon_gives_back net caps st = record { block = λ own job b. refl; taken = λ b in' some e. let is = sym (abandons net st b in' some) ∙ e in cc }
+
 -- what is answered where no job is kept
-pub none_back : {J : Type 0} (jobs : List (Option J)) (st : State) (b : ℕ) (now : Reply × State) (line : List ℕ) → get_or jobs b None ≡ None → line ≡ reply_line (machine.Refused machine.foreign) →
+none_back : {J : Type 0} (jobs : List (Option J)) (st : State) (b : ℕ) (now : Reply × State) (line : List ℕ) → get_or jobs b None ≡ None → line ≡ reply_line (machine.Refused machine.foreign) →
     Gives (give_back (record { state = st; kept = kept_in jobs }) b now) (record { state = st; kept = kept_in jobs }) (record { state = st; kept = kept_in (set jobs b None) }) line
 none_back jobs st b now line none l =
     let no = kept_at jobs b None none in
@@ -106,7 +117,7 @@ none_back jobs st b now line none l =
     rw no (inl (l, ap (λ js. record { state = st; kept = kept_in js }) same))
 
 -- and where one is, and it comes back
-pub one_back : {J : Type 0} (jobs : List (Option J)) (job : J) (st after : State) (b : ℕ) (now : Reply × State) (reply : Reply) (line : List ℕ) → get_or jobs b None ≡ Some job →
+one_back : {J : Type 0} (jobs : List (Option J)) (job : J) (st after : State) (b : ℕ) (now : Reply × State) (reply : Reply) (line : List ℕ) → get_or jobs b None ≡ Some job →
     now.0 ≡ reply → after ≡ now.1 → line ≡ reply_line reply →
     Gives (give_back (record { state = st; kept = kept_in jobs }) b now) (record { state = st; kept = kept_in jobs }) (record { state = after; kept = kept_in (set jobs b None) }) line
 one_back jobs job st after b now reply line one is to l =
@@ -129,42 +140,30 @@ module _ {B : Type 0} (net : Network) (caps : Capacities) (st : State) (can : Ca
   inside : b < length net.nodes
   inside = subst (λ n. b < n) keeps.places in'
 
-  pub none_keeps : get_or jobs b None ≡ None → KeepsJobs net graph st (set jobs b None)
+  none_keeps : get_or jobs b None ≡ None → KeepsJobs net graph st (set jobs b None)
   none_keeps none = subst (KeepsJobs net graph st) (sym (ap (λ x. set jobs b x) (sym none) ∙ set-get_or jobs b None)) keeps
 
   module _ (job : JobState B) (one : get_or jobs b None ≡ Some job) where
-    pub flies : IsFlying net graph st b job
+    flies : IsFlying net graph st b job
     flies = keeps.flying b inside job one
 
     given_block : job.job.block ≡ b
     given_block = ap (λ (j : Job). j.block) flies.flight ∙ block_of net st b (progress_at st.progress b).claimed
 
-    pub commit_keeps : (own : Bool) (after : State) → after ≡ (commit_of net st own job.job).1 → KeepsJobs net graph after (set jobs b None)
-    commit_keeps own after e =
-        subst (λ s. KeepsJobs net graph s (set jobs b None)) (sym e)
-        (keeps_set net graph st (commit_of net st own job.job).1 jobs keeps b None in'
-        (λ c in'' other. call_leaves net caps st can sound (machine.Commit own job.job) c in'' (ap (λ k. k == c) given_block ∙ other)) (λ j no. absurd (cc)))
-
-    pub abandon_keeps : (own : Bool) (after : State) → after ≡ (abandon_of net st own job.job).1 → KeepsJobs net graph after (set jobs b None)
-    abandon_keeps own after e =
-        subst (λ s. KeepsJobs net graph s (set jobs b None)) (sym e)
-        (keeps_set net graph st (abandon_of net st own job.job).1 jobs keeps b None in'
-        (λ c in'' other. call_leaves net caps st can sound (machine.Abandon own job.job) c in'' (ap (λ k. k == c) given_block ∙ other)) (λ j no. absurd (cc)))
-
-    pub commit_done : (own : Bool) → own ≡ true → commit_of net st own job.job ≡ commit_of net st true (in_flight net st b)
-    commit_done own same = ap (λ o. commit_of net st o job.job) same ∙ ap (λ j. commit_of net st true j) flies.flight
-
-    pub abandon_done : (own : Bool) → own ≡ true → abandon_of net st own job.job ≡ abandon_of net st true (in_flight net st b)
-    abandon_done own same = ap (λ o. abandon_of net st o job.job) same ∙ ap (λ j. abandon_of net st true j) flies.flight
-
-    pub commit_comes : (own : Bool) → own ≡ true → (commit_of net st own job.job).0 ≡ machine.Refused machine.foreign → ⊥
-    commit_comes own same e = let is = sym (commits net st b inside flies.some) ∙ ap (λ r. r.0) (sym (commit_done own same)) ∙ e in cc
-
-    pub abandon_comes : (own : Bool) → own ≡ true → (abandon_of net st own job.job).0 ≡ machine.Refused machine.foreign → ⊥
-    abandon_comes own same e = let is = sym (abandons net st b inside flies.some) ∙ ap (λ r. r.0) (sym (abandon_done own same)) ∙ e in cc
-
-    pub own_block : (eq : B → B → Bool) → IsEquivalence eq → b < length graph.blocks → is_own eq graph job.graph job.job.block ≡ true
+    own_block : (eq : B → B → Bool) → IsEquivalence eq → b < length graph.blocks → is_own eq graph job.graph job.job.block ≡ true
     own_block eq laws low = rw (flies.graph_is, given_block) (own_is eq laws graph b low)
+
+    module _ (call : Bool → Job → Call) (back : GivesBack net caps st call) (own : Bool) where
+      back_keeps : KeepsJobs net graph (next net caps st (call own job.job)).1 (set jobs b None)
+      back_keeps =
+          keeps_set net graph st (next net caps st (call own job.job)).1 jobs keeps b None in'
+          (λ c in'' other. call_leaves net caps st can sound (call own job.job) c in'' (back.block own job.job c ∙ ap (λ k. k == c) given_block ∙ other)) (λ j no. absurd (cc))
+
+      back_is : own ≡ true → next net caps st (call own job.job) ≡ next net caps st (call true (in_flight net st b))
+      back_is same = ap (λ o. next net caps st (call o job.job)) same ∙ ap (λ j. next net caps st (call true j)) flies.flight
+
+      back_comes : own ≡ true → (next net caps st (call own job.job)).0 ≡ machine.Refused machine.foreign → ⊥
+      back_comes same e = back.taken b inside flies.some (ap (λ r. r.0) (sym (back_is same)) ∙ e)
 
   -- a claim that claims nothing leaves all claims
   pub claim_keeps : (max : ℕ) (after : State) → after ≡ (next net caps st (machine.Claim b max)).1 → KeepsJobs net graph after jobs
@@ -185,3 +184,46 @@ module _ {B : Type 0} (net : Network) (caps : Capacities) (st : State) (can : Ca
       (λ c in'' other. subst (λ s. Leaves net st s c) (sym e) (call_leaves net caps st can sound (machine.Claim b max) c in'' refl))
       (λ j same. subst (IsFlying net graph after b) (let eq : Some job ≡ Some j = same in cc)
       (record { graph_is = own; some = (let k = does.some in omega (arith, count, k)); flight = does.job_is ∙ sym (ap (λ s. in_flight net s b) to ∙ claimed_flies net st b does.count low) }))
+
+-- What a command leaves that gives the claim of a block's kept job back.
+module _ {B : Type 0} (meaning : B → Meaning) (plant : PlantState B) (runs : CanRun (net_of meaning plant.graph)) (sound : Sound (net_of meaning plant.graph) plant.capacities plant.state)
+    (jobs : List (Option (JobState B))) (keeps : KeepsJobs (net_of meaning plant.graph) plant.graph plant.state jobs) (b : ℕ) (in' : b < length jobs) (default : Option (JobState B)) where
+  abbrev net : Network
+  net = net_of meaning plant.graph
+
+  -- where none is kept
+  module _ (none : None ≡ get_or jobs b default) where
+    pub none_stays : KeepsJobs net plant.graph plant.state (set jobs b None)
+    none_stays = none_keeps net plant.capacities plant.state runs sound plant.graph jobs keeps b in' (one_at jobs b default None in' none)
+
+    pub none_answered : (now : Reply × State) (line : List ℕ) → line ≡ reply_line (machine.Refused machine.foreign) →
+        Gives (give_back (record { state = plant.state; kept = kept_in jobs }) b now) (record { state = plant.state; kept = kept_in jobs }) (record { state = plant.state; kept = kept_in (set jobs b None) }) line
+    none_answered now line e = none_back jobs plant.state b now line (one_at jobs b default None in' none) e
+
+  module _ (job : JobState B) (some : Some job ≡ get_or jobs b default) (call : Bool → Job → Call) (back : GivesBack net plant.capacities plant.state call) (eq : B → B → Bool) (laws : IsEquivalence eq) where
+    abbrev own : Bool
+    own = is_own eq plant.graph job.graph job.job.block
+
+    abbrev now : Reply × State
+    now = next net plant.capacities plant.state (call own job.job)
+
+    one : get_or jobs b None ≡ Some job
+    one = one_at jobs b default (Some job) in' some
+
+    is_its_own : own ≡ true
+    is_its_own =
+        own_block net plant.capacities plant.state runs sound plant.graph jobs keeps b in' job one eq laws
+        (subst (λ (n : ℕ). b < n) (keeps.places ∙ length-map plant.graph.blocks (node_of meaning)) in')
+
+    pub given_keeps : KeepsJobs net plant.graph now.1 (set jobs b None)
+    given_keeps = back_keeps net plant.capacities plant.state runs sound plant.graph jobs keeps b in' job one call back own
+
+    pub given_comes : now.0 ≡ machine.Refused machine.foreign → ⊥
+    given_comes = back_comes net plant.capacities plant.state runs sound plant.graph jobs keeps b in' job one call back own is_its_own
+
+    pub given_answered : (reply : Reply) (line : List ℕ) → now.0 ≡ reply → line ≡ reply_line reply →
+        Gives (give_back (record { state = plant.state; kept = kept_in jobs }) b (next net plant.capacities plant.state (call true (in_flight net plant.state b))))
+        (record { state = plant.state; kept = kept_in jobs }) (record { state = now.1; kept = kept_in (set jobs b None) }) line
+    given_answered reply line is e =
+        let same = back_is net plant.capacities plant.state runs sound plant.graph jobs keeps b in' job one call back own is_its_own in
+        one_back jobs job plant.state now.1 b (next net plant.capacities plant.state (call true (in_flight net plant.state b))) reply line one (sym (ap (λ r. r.0) same) ∙ is) (ap (λ r. r.1) same) e

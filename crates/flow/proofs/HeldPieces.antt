@@ -14,13 +14,17 @@ use Rattle.stream_model.specs.Network.{Network, State, progress_at, role_at, is_
 use Rattle.stream_model.specs.Machine as machine
 use Rattle.stream_model.specs.Machine.{Reply, read_of}
 use Rattle.machine_laws.proofs.Choices.{if_both}
-use Rattle.items.specs.Items.{type_of}
+use Rattle.items.specs.Items.{type_of, numbers_of}
+use Rattle.flowgraph.specs.Flowgraph.{net_of}
+use Rattle.kinds.specs.Kind.{meaning_of}
+use Rattle.kinds.specs.declared.kind.Kind.{Kind}
+use Rattle.plant.specs.Plant.{PlantState}
 use Rattle.plant.specs.declared.answers.Piece.{Piece}
 use Rattle.plant.specs.Answers.{piece_reply}
 use Rattle.raw_items.specs.declared.byte_order.ByteOrder.{ByteOrder}
-use Rattle.raw_items.specs.Values.{all_bytes_of}
+use Rattle.raw_items.specs.Values.{all_bytes_of, bytes_of}
 use Rattle.script_text.specs.Ends.{AppendsBeginning}
-use Rattle.flow.specs.RawEnds.{IsPieceOf, held_type}
+use Rattle.flow.specs.RawEnds.{IsPieceOf, held_bytes, held_count, held_type}
 
 module _ (net : Network) (st : State) (b from max : ℕ) where
   -- what a sink shows from an item on
@@ -66,7 +70,7 @@ take_more : {X : Type 0} (from m : ℕ) (xs : List X) → take (from + length (t
 take_more from m xs = take_both from (length (take m (drop from xs))) xs ∙ ap (λ l. take from xs ++ l) (take_self m (drop from xs))
 
 -- the bytes of all items of a piece
-pub piece_bytes : (t u : ItemType) (order : ByteOrder) (numbers : List ℤ) (count : ℕ) (before out shown : List ℕ) → u ≡ t → before ≡ [] → count ≡ length numbers →
+piece_bytes : (t u : ItemType) (order : ByteOrder) (numbers : List ℤ) (count : ℕ) (before out shown : List ℕ) → u ≡ t → before ≡ [] → count ≡ length numbers →
     out ≡ before ++ all_bytes_of u order (slice_range numbers 0 count) → shown ≡ out → shown ≡ all_bytes_of t order numbers
 piece_bytes t u order numbers count before out shown typed none counts is same =
     let whole : take (count - 0) numbers ≡ numbers = take_all (count - 0) numbers (omega arith) in
@@ -123,7 +127,7 @@ module _ {X : Type 0} (text : X → List ℕ) (xs : List X) (n : ℕ) (out : Opt
         (λ ended. let past = ltb-false from (length xs) ended in take_all from xs past ∙ sym (take_all n xs (omega arith))) in
         subst (λ (l : List X). Appends out out' (flat_map text l)) same w.written
 
-    pub written_more : (out'' : Option (List ℕ)) → Appends out' out'' (flat_map text ys) → Written (from + count) out''
+    written_more : (out'' : Option (List ℕ)) → Appends out' out'' (flat_map text ys) → Written (from + count) out''
     written_more out'' more =
         record {
           within = let low = w.within in omega (arith, long);
@@ -131,7 +135,7 @@ module _ {X : Type 0} (text : X → List ℕ) (xs : List X) (n : ℕ) (out : Opt
         }
 
     -- only a beginning of the next stretch was
-    pub written_part : (out'' : Option (List ℕ)) → AppendsBeginning out' out'' (flat_map text ys) → AppendsBeginning out out'' (flat_map text (take n xs))
+    written_part : (out'' : Option (List ℕ)) → AppendsBeginning out' out'' (flat_map text ys) → AppendsBeginning out out'' (flat_map text (take n xs))
     written_part out'' part =
         let low = w.within in
         let m : ℕ = from + count in
@@ -141,9 +145,38 @@ module _ {X : Type 0} (text : X → List ℕ) (xs : List X) (n : ℕ) (out : Opt
         (ap (flat_map text) split ∙ flat_map-append text (take m xs) (drop m (take n xs)) ∙ ap (λ (l : List ℕ). l ++ flat_map text (drop m (take n xs))) front_text) w.written part
 
   -- nothing more was written
-  pub written_so_far : (from : ℕ) (out' : Option (List ℕ)) → Written from out' → AppendsBeginning out out' (flat_map text (take n xs))
+  written_so_far : (from : ℕ) (out' : Option (List ℕ)) → Written from out' → AppendsBeginning out out' (flat_map text (take n xs))
   written_so_far from out' w =
       let low = w.within in
       let split : take n xs ≡ take from xs ++ drop from (take n xs) = sym (take-append-drop from (take n xs)) ∙ ap (λ (l : List X). l ++ drop from (take n xs)) (take-take from n xs low) in
       let is : flat_map text (take n xs) ≡ flat_map text (take from xs) ++ flat_map text (drop from (take n xs)) = ap (flat_map text) split ∙ flat_map-append text (take from xs) (drop from (take n xs)) in
       beginning_here out out' (flat_map text (take from xs)) (flat_map text (drop from (take n xs))) (flat_map text (take n xs)) is w.written
+
+-- the bytes of a plant's sink
+module _ (plant : PlantState Kind) (order : ByteOrder) (b : ℕ) (out : Option (List ℕ)) (from : ℕ) (out' : Option (List ℕ)) where
+  abbrev net : Network
+  net = net_of meaning_of plant.graph
+
+  abbrev xs : List ℤ
+  xs = input (entering net plant.state.handed b) 0
+
+  abbrev n : ℕ
+  n = held_count plant.state b
+
+  module _ (w : Written (bytes_of (held_type net b) order) xs n out from out') where
+    pub bytes_so_far : AppendsBeginning out out' (held_bytes net plant.state order b)
+    bytes_so_far = written_so_far (bytes_of (held_type net b) order) xs n out from out' w
+
+    -- and those of a piece
+    module _ (most : ℕ) (some : 0 < most) (piece : Piece) (is : IsPieceOf net plant.state b from most piece) (count : ℕ) (before added shown : List ℕ) (none : before ≡ []) (counts : count ≡ length (numbers_of piece.items))
+        (adds : added ≡ before ++ all_bytes_of (type_of piece.items) order (slice_range (numbers_of piece.items) 0 count)) (shows' : shown ≡ added) (out'' : Option (List ℕ)) where
+      shown_is : shown ≡ all_bytes_of (held_type net b) order (numbers_of piece.items)
+      shown_is = piece_bytes (held_type net b) (type_of piece.items) order (numbers_of piece.items) count before added shown is.typed none counts adds shows'
+
+      pub bytes_more : Appends out' out'' shown → Written (bytes_of (held_type net b) order) xs n out (from + count) out''
+      bytes_more more =
+          written_more (bytes_of (held_type net b) order) xs n out from most count out' w (numbers_of piece.items) is.items counts some out'' (subst (Appends out' out'') shown_is more)
+
+      pub bytes_part : AppendsBeginning out' out'' shown → AppendsBeginning out out'' (held_bytes net plant.state order b)
+      bytes_part part =
+          written_part (bytes_of (held_type net b) order) xs n out from most count out' w (numbers_of piece.items) is.items counts some out'' (subst (AppendsBeginning out' out'') shown_is part)

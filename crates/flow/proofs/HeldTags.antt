@@ -16,7 +16,12 @@ use Rattle.stream_laws.proofs.InTime.{within-on, within-before, within-behind, w
 use Rattle.stream_laws.proofs.Writers.{is_input}
 use Rattle.machine_laws.proofs.Choices.{if_both}
 use Rattle.plant_laws.proofs.Joining.{ordered_tags}
+use Rattle.flowgraph.specs.Flowgraph.{net_of}
+use Rattle.kinds.specs.Kind.{meaning_of}
+use Rattle.kinds.specs.declared.kind.Kind.{Kind}
+use Rattle.plant.specs.Plant.{PlantState}
 use Rattle.script_text.specs.Ends.{AppendsBeginning}
+use Rattle.flow.specs.RawEnds.{held_count, tag_line}
 use Rattle.flow.proofs.HeldPieces.{beginning_more, beginning_here}
 
 -- tags from an item on: none is before it
@@ -35,7 +40,7 @@ behind_all from to (t ∷ ts) all =
     ]
 
 -- tags in order fall into those before an item and those from it on
-pub within_split : (from to : ℕ) (ts : List Tag) → IsOrdered ts → from ≤ to → tags_within 0 to ts ≡ tags_within 0 from ts ++ tags_within from to ts
+within_split : (from to : ℕ) (ts : List Tag) → IsOrdered ts → from ≤ to → tags_within 0 to ts ≡ tags_within 0 from ts ++ tags_within from to ts
 within_split from to [] ordered le = refl
 within_split from to (t ∷ ts) ordered le =
     elim (cases_lt t.offset from) [
@@ -48,7 +53,7 @@ within_split from to (t ∷ ts) ordered le =
     ]
 
 -- what enters a block comes in order
-pub ordered_entering : (net : Network) (can : CanRun net) (hs : List Handed) (b : ℕ) → b < length net.nodes → IsOrdered (tags_entering net hs b 0)
+ordered_entering : (net : Network) (can : CanRun net) (hs : List Handed) (b : ℕ) → b < length net.nodes → IsOrdered (tags_entering net hs b 0)
 ordered_entering net can hs b in' =
     let c = writer_of net b 0 in
     ordered_tags net can hs c.from c.out_port
@@ -64,7 +69,19 @@ pub record WrittenTags (text : Tag → List ℕ) (ts : List Tag) (n : ℕ) (out 
   pub within : from ≤ n
   pub written : Appends out out' (flat_map text (tags_within 0 from ts))
 
-module _ (text : Tag → List ℕ) (ts : List Tag) (ordered : IsOrdered ts) (n : ℕ) (out : Option (List ℕ)) where
+module _ (plant : PlantState Kind) (can : CanRun (net_of meaning_of plant.graph)) (b : ℕ) (in' : b < length (net_of meaning_of plant.graph).nodes) (out : Option (List ℕ)) where
+  abbrev text : Tag → List ℕ
+  text t = tag_line t
+
+  abbrev ts : List Tag
+  ts = tags_entering (net_of meaning_of plant.graph) plant.state.handed b 0
+
+  abbrev n : ℕ
+  n = held_count plant.state b
+
+  ordered : IsOrdered ts
+  ordered = ordered_entering (net_of meaning_of plant.graph) can plant.state.handed b in'
+
   pub tags_none : WrittenTags text ts n out 0 out
   tags_none = record { within = omega arith; written = subst (λ (l : List Tag). Appends out out (flat_map text l)) (sym (within-none 0 ts)) (Appends-nil out) }
 

@@ -16,5 +16,6 @@ pub mod Claiming
 pub mod Reporting
 pub mod Serving
 pub mod Stalling
+pub mod Rings
 pub mod Outcomes
 pub mod Resting

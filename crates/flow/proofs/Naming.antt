@@ -1,9 +1,10 @@
 -- The block of a name.
-use Rattle.std.proofs.Common.{◌≡◌, ℕ, ◌<◌, ◌∙◌, List, [], length, refl, sym, subst, None, Some}
-use Rattle.std.specs.Prelude.{Option, IfSome, position, bytes_eq}
+use Rattle.std.proofs.Common.{◌≡◌, ℕ, ◌<◌, ◌∙◌, List, [], length, refl, ap, sym, subst, None, Some, slice_index_or}
+use Rattle.std.specs.Prelude.{Option, IfSome, position, bytes_eq, slice_get}
 use Rattle.std.specs.Option.{option_map}
 use Rattle.std.proofs.lemmas.List.{length-map}
 use Rattle.std.proofs.lemmas.List.Quantifiers.{position-Some}
+use Rattle.std.proofs.lemmas.Option.{get_or_from_slice_get}
 use Rattle.stream_model.specs.Meaning.{Meaning}
 use Rattle.stream_model.specs.Network.{State}
 use Rattle.graph_model.specs.Graphs.{IsValidGraph}
@@ -21,6 +22,10 @@ found_inside meaning g valid name r e = subst (λ (o : Option BlockId). IfSome o
     by_place : (o : Option ℕ) → position (bytes_eq name) g.names ≡ o → IfSome (option_map id o) (λ (block : BlockId). block.0 < length g.blocks)
     by_place None h = tt
     by_place (Some b) h = subst (λ (n : ℕ). b < n) (valid.graph.named ∙ length-map g.blocks (node_of meaning)) (position-Some (bytes_eq name) g.names b [] h).0
+
+-- the name that a graph tells of a block is that of the graph that it is
+pub name_is : {B : Type 0} (told g : Flowgraph B) (b : ℕ) (name : List ℕ) → told ≡ g → slice_get told.names b ≡ Some name → slice_index_or g.names b [] ≡ name
+name_is {B} told g b name same e = ap (λ (x : Flowgraph B). slice_index_or x.names b []) (sym same) ∙ get_or_from_slice_get told.names b name [] e
 
 -- what is answered on the block of the name is answered
 named_answers : (g : Graph) (c : Command) (name : List ℕ) (b : ℕ) → Some name ≡ name_in c → Some b ≡ block_of g name → (old new : Standing) (line : List ℕ) → AnswersOn g b c old new line → Answers g c old new line

@@ -31,8 +31,8 @@ use Rattle.flow.specs.Stalls.{stall_text, uneven_line}
 use Rattle.flow.specs.declared.fault.Fault.{Fault}
 use Rattle.flow.specs.declared.fault.Fault.TheVariants.{File, Script, Run}
 use Rattle.flow.specs.declared.script.ScriptFault.TheVariants.{BadLine, Read, Write, Memory}
-use Rattle.flow.specs.declared.serve.Command.{Command}
-use Rattle.flow.specs.declared.serve.Command.TheVariants as command
+use Rattle.flow.specs.declared.serve.Action.{Action}
+use Rattle.flow.specs.declared.serve.Action.TheVariants as action
 use Rattle.flow.specs.declared.stalls.Notes.{Notes}
 use Rattle.flow.specs.declared.stalls.Notes.TheVariants.{Shown, Hidden}
 
@@ -191,24 +191,24 @@ StopsLive file input input' out out' (Script fault) = IsOk (plant_in file)
 StopsLive file input input' out out' (Run fault) = IsOk (plant_in file)
 
 -- a command was done, with a status, and a run may have stalled; only a script and a live run read their input
-abbrev pub Does : Command → List ℕ → Option (List ℕ) → Option (List ℕ) → Option (List ℕ) → Option (List ℕ) → ℕ → Option Opened → Type 0
-Does command.Check file input input' out out' status stalled = (input' ≡ input) × Writes (IsCheck file) out out' status × (stalled ≡ None)
-Does command.CheckFeeds file input input' out out' status stalled = (input' ≡ input) × Writes (IsCheckOfFeeds file) out out' status × (stalled ≡ None)
-Does (command.Draw format) file input input' out out' status stalled = (input' ≡ input) × Writes (IsPicture format file) out out' status × (stalled ≡ None)
-Does command.Run file input input' out out' status stalled = (input' ≡ input) × Writes (IsRunTo file stalled) out out' status
-Does command.RunAlone file input input' out out' status stalled = (input' ≡ input) × Writes (IsRunAloneTo file stalled) out out' status
-Does command.Live file input input' out out' status stalled = (between : Option (List ℕ)) × Writes (IsLiveTo file stalled) between out' status
-Does command.Script file input input' out out' status stalled = IsScript file input input' out out' × (status ≡ 0) × (stalled ≡ None)
+abbrev pub Does : Action → List ℕ → Option (List ℕ) → Option (List ℕ) → Option (List ℕ) → Option (List ℕ) → ℕ → Option Opened → Type 0
+Does action.Check file input input' out out' status stalled = (input' ≡ input) × Writes (IsCheck file) out out' status × (stalled ≡ None)
+Does action.CheckFeeds file input input' out out' status stalled = (input' ≡ input) × Writes (IsCheckOfFeeds file) out out' status × (stalled ≡ None)
+Does (action.Draw format) file input input' out out' status stalled = (input' ≡ input) × Writes (IsPicture format file) out out' status × (stalled ≡ None)
+Does action.Run file input input' out out' status stalled = (input' ≡ input) × Writes (IsRunTo file stalled) out out' status
+Does action.RunAlone file input input' out out' status stalled = (input' ≡ input) × Writes (IsRunAloneTo file stalled) out out' status
+Does action.Live file input input' out out' status stalled = (between : Option (List ℕ)) × Writes (IsLiveTo file stalled) between out' status
+Does action.Script file input input' out out' status stalled = IsScript file input input' out out' × (status ≡ 0) × (stalled ≡ None)
 
 -- a command was not done, for a fault
-abbrev pub DoesNot : Command → List ℕ → Option (List ℕ) → Option (List ℕ) → Option (List ℕ) → Option (List ℕ) → Fault → Type 0
-DoesNot command.Check file input input' out out' fault = (input' ≡ input) × WritesNot (IsCheck file) (graph_in file) out out' fault
-DoesNot command.CheckFeeds file input input' out out' fault = (input' ≡ input) × WritesNot (IsCheckOfFeeds file) (plant_in file) out out' fault
-DoesNot (command.Draw format) file input input' out out' fault = (input' ≡ input) × WritesNot (IsPicture format file) (graph_in file) out out' fault
-DoesNot command.Run file input input' out out' fault = (input' ≡ input) × RunsNot (IsRun file) (plant_in file) out out' fault
-DoesNot command.RunAlone file input input' out out' fault = (input' ≡ input) × WritesNot (IsRunAlone file) (plant_in file) out out' fault
-DoesNot command.Live file input input' out out' fault = StopsLive file input input' out out' fault
-DoesNot command.Script file input input' out out' fault = StopsScript file input input' out out' fault
+abbrev pub DoesNot : Action → List ℕ → Option (List ℕ) → Option (List ℕ) → Option (List ℕ) → Option (List ℕ) → Fault → Type 0
+DoesNot action.Check file input input' out out' fault = (input' ≡ input) × WritesNot (IsCheck file) (graph_in file) out out' fault
+DoesNot action.CheckFeeds file input input' out out' fault = (input' ≡ input) × WritesNot (IsCheckOfFeeds file) (plant_in file) out out' fault
+DoesNot (action.Draw format) file input input' out out' fault = (input' ≡ input) × WritesNot (IsPicture format file) (graph_in file) out out' fault
+DoesNot action.Run file input input' out out' fault = (input' ≡ input) × RunsNot (IsRun file) (plant_in file) out out' fault
+DoesNot action.RunAlone file input input' out out' fault = (input' ≡ input) × WritesNot (IsRunAlone file) (plant_in file) out out' fault
+DoesNot action.Live file input input' out out' fault = StopsLive file input input' out out' fault
+DoesNot action.Script file input input' out out' fault = StopsScript file input input' out out' fault
 
 -- a result came from another: what went well led to what is so of it, and a fault stays
 abbrev pub Becomes : {A B E : Type 0} → (A → B → Type 0) → Result A E → Result B E → Type 0
@@ -238,14 +238,14 @@ writes_in (Ok x) = 0
 writes_in (Err fault) = writes_failed fault
 
 -- a count of failed calls grew by so many; of those that a live run makes nothing is said, since a thread of its own makes them
-abbrev pub Grows : Command → ℕ → ℕ → ℕ → Type 0
-Grows command.Check old new n = new ≡ old + n
-Grows command.CheckFeeds old new n = new ≡ old + n
-Grows (command.Draw format) old new n = new ≡ old + n
-Grows command.Run old new n = new ≡ old + n
-Grows command.RunAlone old new n = new ≡ old + n
-Grows command.Live old new n = ⊤
-Grows command.Script old new n = new ≡ old + n
+abbrev pub Grows : Action → ℕ → ℕ → ℕ → Type 0
+Grows action.Check old new n = new ≡ old + n
+Grows action.CheckFeeds old new n = new ≡ old + n
+Grows (action.Draw format) old new n = new ≡ old + n
+Grows action.Run old new n = new ≡ old + n
+Grows action.RunAlone old new n = new ≡ old + n
+Grows action.Live old new n = ⊤
+Grows action.Script old new n = new ≡ old + n
 
 -- a line was written, or a beginning of it where the write failed
 abbrev pub Tries : Stream → Stream → List ℕ → Type 0
@@ -268,7 +268,7 @@ Remarks Hidden stalled old new = new ≡ old
 
 -- a command was done, and nothing is told of a fault, but it may be told why a run stalled; or it was not, the fault is told, and the status is the one
 -- that it brings
-pub data Serves (notes : Notes) (c : Command) (file : List ℕ) (input input' output output' errors errors' : Stream) : ℕ → Type 0 where
+pub data Serves (notes : Notes) (c : Action) (file : List ℕ) (input input' output output' errors errors' : Stream) : ℕ → Type 0 where
   Well : (status : ℕ) (stalled : Option Opened) → Does c file input.bytes input'.bytes output.bytes output'.bytes status stalled →
       Grows c input.failed input'.failed 0 → Grows c output.failed output'.failed 0 → Remarks notes stalled errors errors' →
       Serves notes c file input input' output output' errors errors' status

@@ -29,7 +29,7 @@ pub(crate) fn claim<B: Block>(
     ensures gives { let old = standing_of plant.old (kept_in jobs.old) in
         IfOk result (λ line. Gives (claim_answer (net_of B.meaning plant.old.graph) plant.old.capacities old block.0 max) old (standing_of plant.new (kept_in jobs.new)) line.items) }
 {
-    plant.in_order();
+    plant.recall();
     match plant.claim(alloc, block, max) {
         Ok(Claim::Claimed(job)) => {
             let (first, count) = (job.first(), job.count());
@@ -57,7 +57,7 @@ pub(crate) fn commit<B: Block>(
     ensures gives { let old = standing_of plant.old (kept_in jobs.old) in
         IfOk result (λ line. Gives (commit_answer (net_of B.meaning plant.old.graph) old block.0) old (standing_of plant.new (kept_in jobs.new)) line.items) }
 {
-    plant.in_order();
+    plant.recall();
     let Some(job) = jobs[block.0 as usize].take() else {
         return Reply::Refused(FOREIGN).to_line(alloc);
     };
@@ -81,7 +81,7 @@ pub(crate) fn abandon<B: Block>(
     ensures gives { let old = standing_of plant.old (kept_in jobs.old) in
         IfOk result (λ line. Gives (abandon_answer (net_of B.meaning plant.old.graph) old block.0) old (standing_of plant.new (kept_in jobs.new)) line.items) }
 {
-    plant.in_order();
+    plant.recall();
     let Some(job) = jobs[block.0 as usize].take() else {
         return Reply::Refused(FOREIGN).to_line(alloc);
     };

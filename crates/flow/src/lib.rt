@@ -21,6 +21,7 @@ pub mod session;
 mod settling;
 pub mod stalls;
 pub mod start;
+pub mod tag_text;
 pub mod telling;
 pub mod thread_fault;
 mod waits;

@@ -23,6 +23,7 @@ use plant::{Plant, Settled};
 use raw_items::ByteOrder;
 use script_text::ByteOut;
 use std::alloc::{AllocError, Global};
+use std::fmt;
 use std::marker::Model;
 
 /// A plant that came to rest, and what its sinks hold. A contract sees the plant.
@@ -30,6 +31,12 @@ use std::marker::Model;
 pub struct RanRaw {
     plant: Plant<Kind>,
     settled: Settled,
+}
+
+impl fmt::Debug for RanRaw {
+    fn fmt<W: fmt::Write>(&self, f: &mut fmt::Formatter<W>) -> fmt::Result {
+        f.debug_struct("RanRaw").finish_non_exhaustive()
+    }
 }
 
 impl Model for RanRaw {

@@ -1,22 +1,18 @@
 //! What a sink holds, written piece by piece.
 
-ghost use Rattle.std.specs.Prelude.{◌≡◌, ◌+◌, ◌-◌, ◌^◌, ◌<◌, ◌++◌, length, map, IfOk, IfErr, OnOk, OnErr};
+ghost use Rattle.std.specs.Prelude.{◌≡◌, ◌+◌, ◌-◌, ◌^◌, ◌<◌, length, IfOk, IfErr, OnOk};
 ghost use Rattle.std.specs.Io.KnownBytes.{Appends};
-ghost use Rattle.std.specs.List.{flat_map};
-ghost use Rattle.items.specs.Tags.{tag_of};
 ghost use Rattle.flowgraph.specs.Flowgraph.{net_of};
 ghost use Rattle.kinds.specs.Kind.{meaning_of};
-ghost use Rattle.script_text.specs.Replies.{tag_value_text};
 ghost use Rattle.script_text.specs.Ends.{AppendsBeginning};
 ghost use Rattle.flow.specs.declared.raw_fault.EndFault.TheVariants.{Write};
 ghost use Rattle.flow.specs.declared.raw_fault.RawFault.TheVariants.{End};
-ghost use Rattle.flow.specs.RawEnds.{held_bytes, held_lines, tag_line, IsNoSink, IsPieceOf, StopsWriting};
+ghost use Rattle.flow.specs.RawEnds.{held_bytes, held_lines, IsNoSink, IsPieceOf, StopsWriting};
 ghost use Rattle.flow.specs.RawFeeds.{IsOfEnd, raw_writes};
 
 use crate::raw_fault::{EndFault, EndPlace, RawFault};
+use crate::tag_text::tag_lines;
 use flowgraph::BlockId;
-use items::Tag;
-use itoa::Buffer;
 use kinds::Kind;
 use plant::{Piece, Plant};
 use raw_items::{ByteOrder, push_item_bytes};
@@ -71,7 +67,7 @@ pub(crate) fn write_tags<O: ByteOut>(
     ensures stops { IfErr result (StopsWriting (net_of meaning_of plant.now.graph) sink.0 place (O.contents output.old) (O.contents output.new) (held_lines (net_of meaning_of plant.now.graph) plant.now.state sink.0)) }
     ensures failed_writes { O.failed output.new ≡ O.failed output.old + raw_writes result }
 {
-    plant.in_order();
+    plant.recall();
     test_sink(plant, place, sink)?;
     let mut from = 0;
     loop {
@@ -86,39 +82,6 @@ pub(crate) fn write_tags<O: ByteOut>(
             Err(_) => return Err(RawFault::End(place, EndFault::Write)),
         }
     }
-}
-
-// A line for each tag.
-fn tag_lines(alloc: Global, tags: &[Tag]) -> Result<Vec<u8>, AllocError>
-    ensures { IfOk result (λ text. text.items ≡ flat_map tag_line (map tag_of tags.now)) }
-{
-    let mut text = Vec::new(alloc);
-    for tag in tags {
-        push_tag_line(&mut text, tag)?;
-    }
-    Ok(text)
-}
-
-fn push_tag_line(text: &mut Vec<u8>, tag: &Tag) -> Result<(), AllocError>
-    ensures { OnOk result (text.new.items ≡ text.old.items ++ tag_line (tag_of tag.now)) }
-{
-    text.push(b'@')?;
-    text.extend_from_slice(Buffer::new().format(tag.offset).as_bytes())?;
-    text.push(b':')?;
-    push_value(text, tag)?;
-    text.push(b'\n')?;
-    Ok(())
-}
-
-// What stands behind the colon.
-fn push_value(text: &mut Vec<u8>, tag: &Tag) -> Result<(), AllocError>
-    ensures { OnOk result (text.new.items ≡ text.old.items ++ tag_value_text (tag_of tag.now)) }
-{
-    text.extend_from_slice(tag.key.bytes())?;
-    text.push(b'=')?;
-    text.extend_from_slice(Buffer::new().format(tag.value).as_bytes())?;
-    text.push(b'/')?;
-    text.extend_from_slice(Buffer::new().format(tag.source).as_bytes())
 }
 
 // Whether a block is a sink.

@@ -34,6 +34,7 @@ use plant::{Plant, PlantFault, Watch};
 use raw_items::{ByteOrder, Decoder};
 use script_text::ByteIn;
 use std::alloc::{AllocError, Global};
+use std::fmt;
 use std::marker::Model;
 use std::sync::Wait;
 use std::thread::Threads;
@@ -46,6 +47,12 @@ const PIECE: usize = 65_536;
 #[derive(Drop)]
 pub struct RawRun {
     plant: Plant<Kind>,
+}
+
+impl fmt::Debug for RawRun {
+    fn fmt<W: fmt::Write>(&self, f: &mut fmt::Formatter<W>) -> fmt::Result {
+        f.debug_struct("RawRun").finish_non_exhaustive()
+    }
 }
 
 impl Model for RawRun {
@@ -110,10 +117,10 @@ impl RawRun {
         ensures failed { IfErr result (λ fault. (why : ThreadFault) × (fault ≡ Whole (Run why))) }
     {
         let RawRun { plant } = self;
-        plant.in_order();
+        plant.recall();
         match run_plant(rt, alloc, plant, watch) {
             Ok((plant, settled)) => {
-                plant.in_order();
+                plant.recall();
                 Ok(RanRaw::new(plant, settled))
             }
             Err(fault) => Err(RawFault::Whole(Fault::Run(fault))),
@@ -147,7 +154,7 @@ fn feed_plant<I: ByteIn>(
     ensures stops { IfErr result (StopsFeeding (net_of meaning_of plant.old.graph) plant.old.state source.0 order number (I.remaining input.old) (I.remaining input.new)) }
     ensures failed_reads { I.failed input.new ≡ I.failed input.old + raw_reads result }
 {
-    plant.in_order();
+    plant.recall();
     let item_type = source_type(plant, number, source)?;
     let mut items = Items::empty(alloc, item_type);
     let mut decoder = Decoder::new(item_type, order);

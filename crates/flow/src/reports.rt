@@ -50,7 +50,7 @@ fn add_rates(
     requires { AreRates (net_of meaning_of graph.now) rates.now }
     ensures { OnOk result (text.new.items ≡ text.old.items ++ rates_text (drafted graph.now) (answer_of rates.now)) }
 {
-    graph.in_order();
+    graph.recall();
     match rates {
         Rates::Balanced(balanced) => {
             add(alloc, text, Report::Balanced)?;

@@ -44,9 +44,9 @@ pub(crate) fn run_file<R: Threads + Wait + Copy + Send + 'static, W: Watch>(
     ensures failed { IfErr result (Fails (plant_in file.now)) }
 {
     let plant = open_plant(alloc, file)?;
-    plant.in_order();
+    plant.recall();
     let (plant, settled) = run_plant(rt, alloc, plant, watch)?;
-    plant.in_order();
+    plant.recall();
     let text = ended(alloc, &plant, settled)?;
     let done = plant.all_done();
     let outcome = Outcome {

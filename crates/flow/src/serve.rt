@@ -36,7 +36,7 @@ use std::thread::Threads;
 pub(crate) const TURN: u32 = 65_536;
 /// What the program is asked to do with a graph file.
 #[derive(Clone, Copy, Debug, PartialEq, Eq)]
-pub enum Command {
+pub enum Action {
     /// To tell of its graph.
     Check,
     /// To tell of its graph where its feeds go onto the tapes as well.
@@ -53,14 +53,14 @@ pub enum Command {
     Script,
 }
 
-// What a command came to: its status, and the plant of a run that stalled.
+// What an action came to: its status, and the plant of a run that stalled.
 #[derive(Drop)]
 struct Ended {
     status: u8,
     stalled: Option<Plant<Kind>>,
 }
 
-/// Does a command. The status is 0 where all went well, 3 for a run that stalled, 1 for a refused file or line, and 4 for memory and devices; with
+/// Does an action. The status is 0 where all went well, 3 for a run that stalled, 1 for a refused file or line, and 4 for memory and devices; with
 /// 1 and 4 one line on `errors` says why. With 3, where `notes` are shown, lines say what the blocks wait for. Whether these writes succeed changes
 /// nothing. A run is shown to `watch` while it goes on, and is over for it before anything is written.
 pub fn serve<
@@ -72,7 +72,7 @@ pub fn serve<
 >(
     rt: R,
     alloc: Global,
-    command: Command,
+    action: Action,
     notes: Notes,
     file: &[u8],
     input: &mut I,
@@ -83,9 +83,9 @@ pub fn serve<
     requires reads { I.failed input.old < 2 ^ 64 - 1 }
     requires writes { O.failed output.old < 2 ^ 64 - 1 }
     requires reports { E.failed errors.old < 2 ^ 64 - 1 }
-    ensures { Serves notes command file.now (stream (I.remaining input.old) (I.failed input.old)) (stream (I.remaining input.new) (I.failed input.new)) (stream (O.contents output.old) (O.failed output.old)) (stream (O.contents output.new) (O.failed output.new)) (stream (E.contents errors.old) (E.failed errors.old)) (stream (E.contents errors.new) (E.failed errors.new)) result }
+    ensures { Serves notes action file.now (stream (I.remaining input.old) (I.failed input.old)) (stream (I.remaining input.new) (I.failed input.new)) (stream (O.contents output.old) (O.failed output.old)) (stream (O.contents output.new) (O.failed output.new)) (stream (E.contents errors.old) (E.failed errors.old)) (stream (E.contents errors.new) (E.failed errors.new)) result }
 {
-    match obey(rt, alloc, command, file, input, output, watch) {
+    match obey(rt, alloc, action, file, input, output, watch) {
         Ok(ended) => {
             remark(alloc, notes, &ended.stalled, errors);
             ended.status
@@ -98,7 +98,7 @@ pub fn serve<
     }
 }
 
-// Does a command.
+// Does an action.
 fn obey<
     R: Threads + Wait + Copy + Send + Sync + 'static,
     I: ByteIn + Send,
@@ -107,7 +107,7 @@ fn obey<
 >(
     rt: R,
     alloc: Global,
-    command: Command,
+    action: Action,
     file: &[u8],
     input: &mut I,
     output: &mut O,
@@ -115,23 +115,23 @@ fn obey<
 ) -> Result<Ended, Fault>
     requires reads { I.failed input.old < 2 ^ 64 - 1 }
     requires writes { O.failed output.old < 2 ^ 64 - 1 }
-    ensures does { IfOk result (λ ended. Does command file.now (I.remaining input.old) (I.remaining input.new) (O.contents output.old) (O.contents output.new) ended.status (option_map opened_of ended.stalled)) }
-    ensures does_not { IfErr result (DoesNot command file.now (I.remaining input.old) (I.remaining input.new) (O.contents output.old) (O.contents output.new)) }
-    ensures failed_reads { Grows command (I.failed input.old) (I.failed input.new) (reads_in result) }
-    ensures failed_writes { Grows command (O.failed output.old) (O.failed output.new) (writes_in result) }
+    ensures does { IfOk result (λ ended. Does action file.now (I.remaining input.old) (I.remaining input.new) (O.contents output.old) (O.contents output.new) ended.status (option_map opened_of ended.stalled)) }
+    ensures does_not { IfErr result (DoesNot action file.now (I.remaining input.old) (I.remaining input.new) (O.contents output.old) (O.contents output.new)) }
+    ensures failed_reads { Grows action (I.failed input.old) (I.failed input.new) (reads_in result) }
+    ensures failed_writes { Grows action (O.failed output.old) (O.failed output.new) (writes_in result) }
 {
-    match command {
-        Command::Check => unstalled(check(alloc, file, output)),
-        Command::CheckFeeds => unstalled(check_feeds(alloc, file, output)),
-        Command::Draw(format) => unstalled(draw(alloc, format, file, output)),
-        Command::Run => run(rt, alloc, file, output, watch),
-        Command::RunAlone => run_on_one(alloc, file, output, watch),
-        Command::Live => run_live(&rt, alloc, file, input, output, watch),
-        Command::Script => unstalled(run_script(alloc, file, input, output)),
+    match action {
+        Action::Check => unstalled(check(alloc, file, output)),
+        Action::CheckFeeds => unstalled(check_feeds(alloc, file, output)),
+        Action::Draw(format) => unstalled(draw(alloc, format, file, output)),
+        Action::Run => run(rt, alloc, file, output, watch),
+        Action::RunAlone => run_on_one(alloc, file, output, watch),
+        Action::Live => run_live(&rt, alloc, file, input, output, watch),
+        Action::Script => unstalled(run_script(alloc, file, input, output)),
     }
 }
 
-// What comes of a command that runs nothing to its end.
+// What comes of an action that runs nothing to its end.
 fn unstalled(done: Result<u8, Fault>) -> Result<Ended, Fault>
     ensures { Becomes (λ status ended. (ended.status ≡ status) × (ended.stalled ≡ None)) done result }
 {
@@ -274,9 +274,9 @@ fn run_live<R: Threads + Wait + Sync, I: ByteIn + Send, O: ByteOut + Send, W: Wa
         Ok(plant) => plant,
         Err(fault) => return Err(Fault::File(fault)),
     };
-    plant.in_order();
+    plant.recall();
     let (plant, settled) = live_plant(rt, alloc, plant, input, output, watch)?;
-    plant.in_order();
+    plant.recall();
     let text = ended(alloc, &plant, settled)?;
     let done = plant.all_done();
     let status = status_of(done);
@@ -361,7 +361,7 @@ pub(crate) fn open_plant(alloc: Global, file: &[u8]) -> Result<Plant<Kind>, File
     }
 }
 
-// Writes what a command tells, and gives its status.
+// Writes what an action tells, and gives its status.
 fn written<O: ByteOut>(output: &mut O, outcome: &Outcome) -> Result<u8, Fault>
     requires { O.failed output.old < 2 ^ 64 - 1 }
     ensures ok { IfOk result (λ status. (status ≡ outcome.now.status) × Appends (O.contents output.old) (O.contents output.new) outcome.now.text.items) }

@@ -18,6 +18,7 @@ use items::BlockName;
 use plant::{BlockId, Job, Plant, PlantFault, Valid};
 use script_text::{Command, Reply};
 use std::alloc::{AllocError, Global};
+use std::fmt;
 use std::marker::Model;
 
 /// A plant, and for each block the job that a line claimed, until one gives it back. A contract sees the plant, and of which blocks a job is
@@ -26,6 +27,12 @@ use std::marker::Model;
 pub struct Session<B: Block> {
     plant: Plant<B>,
     jobs: Vec<Option<Job<B>>>,
+}
+
+impl<B: Block> fmt::Debug for Session<B> {
+    fn fmt<W: fmt::Write>(&self, f: &mut fmt::Formatter<W>) -> fmt::Result {
+        f.debug_struct("Session").finish_non_exhaustive()
+    }
 }
 
 impl<B: Block> Model for Session<B> {
@@ -133,7 +140,7 @@ pub(crate) fn find_named<B: Block>(graph: &Valid<B>, name: &[u8]) -> Option<Bloc
     ensures named { option_map (λ block. block.0) result ≡ position (bytes_eq name.now) graph.now.names }
     ensures inside { IfSome result (λ block. block.0 < length graph.now.blocks) }
 {
-    graph.in_order();
+    graph.recall();
     graph.find(name)
 }
 
@@ -182,7 +189,7 @@ fn answer_on<B: Block>(
     ensures answers { let old = standing_of plant.old (kept_in jobs.old) in
         IfOk result (λ line. AnswersOn (graph_of B.meaning plant.old) block.0 (command_seen command.now) old (standing_of plant.new (kept_in jobs.new)) line.items) }
 {
-    plant.in_order();
+    plant.recall();
     match command {
         Command::Feed { items, marks, .. } => feed(alloc, plant, block, items, marks),
         Command::Close { .. } => close(alloc, plant, block),

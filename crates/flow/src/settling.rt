@@ -24,7 +24,7 @@ pub(crate) fn settle<B: Block>(
     ensures settles { let old = standing_of plant.old (kept_in jobs.now) in
         IfOk result (λ line. Settles (is_idle plant.old.state) (graph_of B.meaning plant.old) old (standing_of plant.new (kept_in jobs.now)) line.items) }
 {
-    plant.in_order();
+    plant.recall();
     if !plant.idle() {
         return Reply::Busy.to_line(alloc);
     }

@@ -71,7 +71,7 @@ fn tell_stall<E: ByteOut>(errors: &mut E, plant: &Plant<Kind>, rates: &[u8]) -> 
     requires { E.failed errors.old < 2 ^ 64 - 1 }
     ensures { Puts result (stream (E.contents errors.old) (E.failed errors.old)) (stream (E.contents errors.new) (E.failed errors.new)) (stall_text rates.now (drafted plant.now.graph) plant.now.capacities plant.now.state) }
 {
-    plant.in_order();
+    plant.recall();
     let Some(block) = plant.ring() else {
         return Ok(());
     };

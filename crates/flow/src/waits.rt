@@ -44,7 +44,7 @@ pub(crate) fn need<B: Block>(plant: &Plant<B>, block: BlockId) -> BlockNeed
     ensures value { wait_told (wait_in (Ok result)) ≡ wait_of (net_of B.meaning plant.now.graph) plant.now.capacities plant.now.state block.0 }
     ensures inside { waited_for block.0 (wait_told (wait_in (Ok result))) < length plant.now.graph.blocks }
 {
-    plant.in_order();
+    plant.recall();
     match plant.need(block) {
         Ok(need) => need,
         Err(_) => unreachable!(),

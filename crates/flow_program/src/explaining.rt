@@ -2,7 +2,7 @@
 
 use crate::words::Call;
 use explanations::{Depth, KeptLines, at_device, explain};
-use flow::serve::Command;
+use flow::serve::Action;
 use script_text::ByteIn;
 use std::io::Error;
 
@@ -11,8 +11,8 @@ pub const REFUSED: u8 = 1;
 
 /// Shows the place of a mistake in the graph file, and tells whether there is one.
 pub fn explain_file(rt: &HostRuntime, call: &Call<'_>, file: &[u8]) -> bool {
-    let depth = match call.command {
-        Command::Check | Command::Draw(_) => Depth::Graph,
+    let depth = match call.action {
+        Action::Check | Action::Draw(_) => Depth::Graph,
         _ => Depth::Plant,
     };
     match explain(rt.alloc(), call.path, file, depth) {
@@ -27,7 +27,7 @@ pub fn explain_file(rt: &HostRuntime, call: &Call<'_>, file: &[u8]) -> bool {
 
 /// Shows the line of a script that is refused.
 pub fn explain_line<I: ByteIn>(rt: &HostRuntime, call: &Call<'_>, input: &KeptLines<I>) {
-    if let Ok(Some(lines)) = input.bad_line(rt.alloc(), call.command == Command::Live) {
+    if let Ok(Some(lines)) = input.bad_line(rt.alloc(), call.action == Action::Live) {
         let _ = eprint!(rt; "{lines}");
     }
 }

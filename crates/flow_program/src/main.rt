@@ -82,7 +82,7 @@ fn run<R: Threads + Wait + Copy + Send + Sync + 'static>(
     let status = serve(
         threads,
         rt.alloc(),
-        call.command,
+        call.action,
         call.notes(),
         &file,
         &mut input,

@@ -9,7 +9,7 @@ use flow::ran_raw::RanRaw;
 use flow::raw_fault::{EndFault, EndPlace, RawFault};
 use flow::raw_run::{RawRun, sink_named, source_named};
 use flow::script::ScriptFault;
-use flow::serve::Command;
+use flow::serve::Action;
 use flow::telling::report_raw;
 use plant::{BlockId, Watch};
 use script_text::{ByteOut, ReadEnd, WriteEnd};
@@ -55,8 +55,8 @@ fn obey<R: Threads + Wait + Copy + Send + 'static, W: Watch>(
     // A name that is none is told before the run.
     let outputs = sinks(rt, &run, &ends.outputs, false)?;
     let tags = sinks(rt, &run, &ends.tags, true)?;
-    let ran = match call.command {
-        Command::RunAlone => run.run_alone(rt.alloc(), watch)?,
+    let ran = match call.action {
+        Action::RunAlone => run.run_alone(rt.alloc(), watch)?,
         _ => run.run(threads, rt.alloc(), watch)?,
     };
     for (number, (end, sink)) in ends.outputs.iter().zip(&outputs).enumerate() {

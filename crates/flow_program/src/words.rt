@@ -7,7 +7,7 @@ use super::ends::Ends;
 use clap::error::ErrorKind;
 use clap::{Arg, ArgAction};
 use drawings::Format;
-use flow::serve::Command;
+use flow::serve::Action;
 use flow::stalls::Notes;
 use std::alloc::{AllocError, Global};
 
@@ -16,7 +16,7 @@ const VERSION: &str = "0.1.0";
 /// What the words ask for.
 #[derive(Drop)]
 pub struct Call<'a> {
-    pub command: Command,
+    pub action: Action,
     pub path: &'a str,
     pub is_quiet: bool,
     /// Whether a refusal is explained.
@@ -51,14 +51,14 @@ pub fn call_of<'a>(alloc: Global, words: &'a [String]) -> Result<Call<'a>, clap:
     let Some((name, inner)) = matches.subcommand() else {
         return Err(clap::Error::from(AllocError));
     };
-    let command = match name {
-        "check" if inner.get_flag("feeds") => Command::CheckFeeds,
-        "check" => Command::Check,
-        "draw" => Command::Draw(format_of(inner.get_str("format"))),
-        "run" if inner.get_flag("one-thread") => Command::RunAlone,
-        "run" => Command::Run,
-        "live" => Command::Live,
-        _ => Command::Script,
+    let action = match name {
+        "check" if inner.get_flag("feeds") => Action::CheckFeeds,
+        "check" => Action::Check,
+        "draw" => Action::Draw(format_of(inner.get_str("format"))),
+        "run" if inner.get_flag("one-thread") => Action::RunAlone,
+        "run" => Action::Run,
+        "live" => Action::Live,
+        _ => Action::Script,
     };
     let ends = match Ends::of_words(alloc, inner) {
         Ok(ends) => ends,
@@ -71,7 +71,7 @@ pub fn call_of<'a>(alloc: Global, words: &'a [String]) -> Result<Call<'a>, clap:
     };
     match inner.get_str("FILE") {
         Some(path) => Ok(Call {
-            command,
+            action,
             path,
             is_quiet: inner.get_flag("quiet"),
             explains: inner.get_flag("explain"),

@@ -22,14 +22,34 @@ use crate::wiring::{Wiring, tables};
 use block_kinds::Block;
 use indexmap::IndexSet;
 use std::alloc::{AllocError, Global};
+use std::fmt;
 use std::marker::Model;
 
 /// A graph while it is built. A contract sees the blocks with their names, and the connections.
-#[derive(Drop)]
 pub struct Graph<B: Block> {
     names: IndexSet<Vec<u8>>,
     blocks: Vec<Entry<B>>,
     connections: Vec<Connection>,
+}
+
+// By hand, so that no crate above proves the drop of each part again.
+impl<B: Block> Drop for Graph<B> {
+    fn drop(self) {
+        let Graph {
+            names,
+            blocks,
+            connections,
+        } = self;
+        drop(names);
+        drop(blocks);
+        drop(connections);
+    }
+}
+
+impl<B: Block> fmt::Debug for Graph<B> {
+    fn fmt<W: fmt::Write>(&self, f: &mut fmt::Formatter<W>) -> fmt::Result {
+        f.debug_struct("Graph").finish_non_exhaustive()
+    }
 }
 
 impl<B: Block> Model for Graph<B> {

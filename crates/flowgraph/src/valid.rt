@@ -20,18 +20,42 @@ use crate::ports::MOST_PORTS;
 use crate::wiring::Wiring;
 use block_kinds::{Block, Pace, Role};
 use indexmap::IndexSet;
+use std::fmt;
 use std::marker::Model;
 use stream_model::ItemType;
 
 /// A valid graph, with tables of how its blocks are wired. No call of it takes memory. A contract sees the blocks with their names, and the
 /// connections.
-#[derive(Drop)]
 pub struct Valid<B: Block> {
     names: IndexSet<Vec<u8>>,
     blocks: Vec<Entry<B>>,
     connections: Vec<Connection>,
     wiring: Wiring,
     asked: Vec<Asked>,
+}
+
+// By hand, so that no crate above proves the drop of each part again.
+impl<B: Block> Drop for Valid<B> {
+    fn drop(self) {
+        let Valid {
+            names,
+            blocks,
+            connections,
+            wiring,
+            asked,
+        } = self;
+        drop(names);
+        drop(blocks);
+        drop(connections);
+        drop(wiring);
+        drop(asked);
+    }
+}
+
+impl<B: Block> fmt::Debug for Valid<B> {
+    fn fmt<W: fmt::Write>(&self, f: &mut fmt::Formatter<W>) -> fmt::Result {
+        f.debug_struct("Valid").finish_non_exhaustive()
+    }
 }
 
 impl<B: Block> Model for Valid<B> {
@@ -297,7 +321,7 @@ impl<B: Block> Valid<B> {
     }
 
     /// Recalls that the graph is valid, that its blocks keep the laws, and that it can therefore run. It does nothing.
-    pub fn in_order(&self)
+    pub fn recall(&self)
         ensures valid { IsValidGraph self.now.names (net_of B.meaning self.now) }
         ensures lawful { AreLawful (net_of B.meaning self.now) }
         ensures runs { CanRun (net_of B.meaning self.now) }

@@ -16,7 +16,7 @@ use Rattle.flowgraph.specs.Fault.{id, reported, told}
 use Rattle.flowgraph.specs.Flowgraph.{Flowgraph, node_of}
 use Rattle.kinds.specs.declared.kind.Kind.{Kind}
 use Rattle.kinds.specs.Kind.{meaning_of}
-use Rattle.graph_file.specs.declared.fault.Place.TheVariants.{Top}
+use Rattle.graph_file.specs.declared.fault.FilePlace.TheVariants.{Top}
 use Rattle.graph_file.specs.Refusals.{Refusal, of_graph, short, IsTold}
 use Rattle.graph_file.specs.Blocks.{Draft, drafted}
 use Rattle.graph_file.specs.Opening.{named_block, name_at, unless_wrong, validated}

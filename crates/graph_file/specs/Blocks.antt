@@ -16,7 +16,7 @@ use Rattle.kind_keys.specs.declared.key.Key.TheVariants as keys
 use Rattle.kind_keys.specs.declared.fault.KeyFault.{KeyFault}
 use Rattle.kind_keys.specs.Tables.{at_key, string_in, text_at, small_at, policy_named}
 use Rattle.kind_keys.specs.Reading.{block_in, takes_memory}
-use Rattle.graph_file.specs.declared.fault.Place.TheVariants as places
+use Rattle.graph_file.specs.declared.fault.FilePlace.TheVariants as places
 use Rattle.graph_file.specs.Refusals.{Refusal, at_table, of_graph, short}
 
 -- a graph as it is built: the names of its blocks, and the network of what they mean

@@ -15,7 +15,7 @@ use Rattle.kind_keys.specs.declared.key.Key.TheVariants as keys
 use Rattle.kind_keys.specs.declared.fault.KeyFault.{KeyFault}
 use Rattle.kind_keys.specs.declared.fault.KeyFault.TheVariants.{UnknownKey}
 use Rattle.kind_keys.specs.Tables.{text_at, number_at, count_at, keys_fault, has_only}
-use Rattle.graph_file.specs.declared.fault.Place.TheVariants as places
+use Rattle.graph_file.specs.declared.fault.FilePlace.TheVariants as places
 use Rattle.graph_file.specs.Refusals.{Refusal, of_graph, negative_port, short}
 use Rattle.graph_file.specs.Blocks.{Draft}
 use Rattle.graph_file.specs.Steps.{unless}

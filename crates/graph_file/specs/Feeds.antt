@@ -6,7 +6,7 @@ use Rattle.kind_keys.specs.declared.key.Key.TheVariants as keys
 use Rattle.kind_keys.specs.declared.fault.KeyFault.{KeyFault}
 use Rattle.kind_keys.specs.declared.fault.KeyFault.TheVariants.{WrongType}
 use Rattle.kind_keys.specs.Tables.{text_at, number_at, numbers_at, items_at, keys_fault, has_only}
-use Rattle.graph_file.specs.declared.fault.Place.TheVariants as places
+use Rattle.graph_file.specs.declared.fault.FilePlace.TheVariants as places
 use Rattle.graph_file.specs.declared.feed.FileMark.{FileMark}
 use Rattle.graph_file.specs.declared.feed.Feed.{Feed}
 use Rattle.graph_file.specs.Refusals.{Refusal, at_table}

@@ -5,7 +5,7 @@ use Rattle.flowgraph.specs.Flowgraph.{graph_of}
 use Rattle.kind_keys.specs.declared.key.Key.{Key}
 use Rattle.kind_keys.specs.declared.key.Key.TheVariants as keys
 use Rattle.kind_keys.specs.Tables.{items_at, keys_fault, has_only}
-use Rattle.graph_file.specs.declared.fault.Place.TheVariants.{Top}
+use Rattle.graph_file.specs.declared.fault.FilePlace.TheVariants.{Top}
 use Rattle.graph_file.specs.declared.file.File.{File}
 use Rattle.graph_file.specs.Refusals.{Refusal, syntax}
 use Rattle.graph_file.specs.Steps.{then, unless, steps, StepsTake}

@@ -15,7 +15,7 @@ use Rattle.kinds.specs.declared.kind.Kind.{Kind}
 use Rattle.plant.specs.Plant.{PlantState}
 use Rattle.plant.specs.Feeding.{feed_numbers}
 use Rattle.plant.specs.Answers.{takes_memory, source_type_of}
-use Rattle.graph_file.specs.declared.fault.Place.TheVariants.{Top}
+use Rattle.graph_file.specs.declared.fault.FilePlace.TheVariants.{Top}
 use Rattle.graph_file.specs.declared.feed.FileMark.{FileMark}
 use Rattle.graph_file.specs.Refusals.{Refusal, of_graph, of_feed, short}
 use Rattle.graph_file.specs.Steps.{then}

@@ -8,7 +8,7 @@ use Rattle.kind_keys.specs.declared.fault.KeyFault.TheVariants as key
 use Rattle.plant.specs.declared.fault.PlantFault.{PlantFault}
 use Rattle.plant.specs.declared.fault.PlantFault.TheVariants as plant
 use Rattle.plant.specs.Fault.{number_of as feed_number}
-use Rattle.graph_file.specs.declared.fault.Place.{Place}
+use Rattle.graph_file.specs.declared.fault.FilePlace.{FilePlace}
 use Rattle.graph_file.specs.declared.fault.EndName.{EndName}
 use Rattle.graph_file.specs.declared.fault.EndName.TheVariants as ends
 use Rattle.graph_file.specs.declared.fault.FileFault.{FileFault}
@@ -18,8 +18,8 @@ use Rattle.graph_file.specs.declared.fault.FileFault.TheVariants as file
 -- this name is named, a port of the block of this name is negative, or the feed of this number is refused by a number
 pub data Refusal : Type 0 where
   syntax : Refusal
-  at_table : Place → KeyFault → Refusal
-  of_graph : Place → graph_fault.GraphFault → List ℕ → Refusal
+  at_table : FilePlace → KeyFault → Refusal
+  of_graph : FilePlace → graph_fault.GraphFault → List ℕ → Refusal
   negative_port : List ℕ → Side → ℤ → Refusal
   of_feed : ℕ → ℕ → Refusal
 
@@ -51,7 +51,7 @@ abbrev pub IsRefused : {A : Type 0} → Result A Refusal → FileFault → Type 
 IsRefused r fault = IsTold r (told fault)
 
 -- the refusal that a fault of a table is, and a refused feed; none where it is out of memory
-abbrev pub told_table : Place → KeyFault → Option Refusal
+abbrev pub told_table : FilePlace → KeyFault → Option Refusal
 told_table place key.UnknownKey = Some (at_table place key.UnknownKey)
 told_table place (key.MissingKey k) = Some (at_table place (key.MissingKey k))
 told_table place (key.WrongType k) = Some (at_table place (key.WrongType k))

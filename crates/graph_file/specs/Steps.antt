@@ -2,7 +2,7 @@
 use Rattle.std.specs.Prelude.{◌⊎◌, ℕ, suc, Option, Some, None, Result, Ok, Err, IsOkAnd}
 use Rattle.toml.specs.Data.{Items, no_items, item, Members, as_table}
 use Rattle.kind_keys.specs.declared.fault.KeyFault.{KeyFault}
-use Rattle.graph_file.specs.declared.fault.Place.{Place}
+use Rattle.graph_file.specs.declared.fault.FilePlace.{FilePlace}
 use Rattle.graph_file.specs.Refusals.{Refusal, at_table}
 
 -- what follows what was read
@@ -11,7 +11,7 @@ then (Ok a) next = next a
 then (Err refusal) next = Err refusal
 
 -- what follows, where nothing is wrong with the table of a place
-abbrev pub unless : {A : Type 0} → Place → Option KeyFault → Result A Refusal → Result A Refusal
+abbrev pub unless : {A : Type 0} → FilePlace → Option KeyFault → Result A Refusal → Result A Refusal
 unless place None rest = rest
 unless place (Some fault) rest = Err (at_table place fault)
 

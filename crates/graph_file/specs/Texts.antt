@@ -13,8 +13,8 @@ use Rattle.kind_keys.specs.Keys.{text_of}
 use Rattle.plant.specs.declared.fault.PlantFault.{PlantFault}
 use Rattle.plant.specs.declared.fault.PlantFault.TheVariants as plant
 use Rattle.plant.specs.Fault.{number_of as feed_number}
-use Rattle.graph_file.specs.declared.fault.Place.{Place}
-use Rattle.graph_file.specs.declared.fault.Place.TheVariants.{Top, Block, Connect, Feed}
+use Rattle.graph_file.specs.declared.fault.FilePlace.{FilePlace}
+use Rattle.graph_file.specs.declared.fault.FilePlace.TheVariants.{Top, Block, Connect, Feed}
 use Rattle.graph_file.specs.declared.fault.FileFault.{FileFault}
 use Rattle.graph_file.specs.declared.fault.FileFault.TheVariants as file
 use Rattle.graph_file.specs.declared.pieces.Piece.{Piece}
@@ -23,14 +23,14 @@ use Rattle.graph_file.specs.declared.pieces.Pieces.{Pieces}
 use Rattle.graph_file.specs.Refusals.{end_text}
 
 -- the words for places
-abbrev pub place_text : Place → List ℕ
+abbrev pub place_text : FilePlace → List ℕ
 place_text Top = codes "top"
 place_text (Block n) = codes "block " ++ decimal n
 place_text (Connect n) = codes "connect " ++ decimal n
 place_text (Feed n) = codes "feed " ++ decimal n
 
 -- what is wrong with the table of a place
-abbrev pub table_text : Place → KeyFault → List ℕ
+abbrev pub table_text : FilePlace → KeyFault → List ℕ
 table_text place key.UnknownKey = codes "41 UnknownKey " ++ place_text place
 table_text place (key.MissingKey k) = codes "42 MissingKey " ++ place_text place ++ codes " " ++ text_of k
 table_text place (key.WrongType k) = codes "43 WrongType " ++ place_text place ++ codes " " ++ text_of k
@@ -39,7 +39,7 @@ table_text place (key.BadParameter p) = codes "10 BadParameter " ++ place_text p
 table_text place key.Memory = codes "32 Memory"
 
 -- why the graph is refused at a place, where a block of this name is named
-abbrev pub graph_text : Place → GraphFault → List ℕ → List ℕ
+abbrev pub graph_text : FilePlace → GraphFault → List ℕ → List ℕ
 graph_text place graph.DuplicateName name = codes "1 DuplicateName " ++ name
 graph_text place graph.UnknownBlock name = codes "2 UnknownBlock " ++ place_text place
 graph_text place (graph.PortRange b side p) name = codes "3 PortRange " ++ name ++ codes " " ++ side_text side ++ codes " " ++ decimal p

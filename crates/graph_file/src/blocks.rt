@@ -8,7 +8,7 @@ ghost use Rattle.graph_file.specs.Refusals.{IsRefused};
 ghost use Rattle.graph_file.specs.Steps.{steps, step_in, StepsTake, TakesIn};
 ghost use Rattle.graph_file.specs.Blocks.{drafted, block_step, policy_in, BlockTakes};
 
-use crate::fault::{FileFault, Place, graph_fault, table_fault};
+use crate::fault::{FileFault, FilePlace, graph_fault, table_fault};
 use flowgraph::{Graph, Options, Policy};
 use kind_keys::table::{policy_named, small_at, string_at, text_at};
 use kind_keys::{Key, read_kind};
@@ -62,7 +62,7 @@ fn add_block(
     ensures refused { IfErr result (IsRefused (block_step number (drafted graph.old) (table_view table.now))) }
     ensures memory { IsErrOf result FileFault.Memory → BlockTakes number (drafted graph.old) (table_view table.now) }
 {
-    let place = Place::Block(number);
+    let place = FilePlace::Block(number);
     let block = match read_kind(alloc, table) {
         Ok(block) => block,
         Err(fault) => return Err(table_fault(place, fault)),

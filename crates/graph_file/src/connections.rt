@@ -7,7 +7,7 @@ ghost use Rattle.graph_file.specs.Steps.{steps, step_in, StepsTake, TakesIn};
 ghost use Rattle.graph_file.specs.Blocks.{drafted};
 ghost use Rattle.graph_file.specs.Connections.{connect_step, joined, number_from, name_in, end_named, ConnectTakes};
 
-use crate::fault::{FileFault, Place, graph_fault, port_fault, table_fault};
+use crate::fault::{FileFault, FilePlace, graph_fault, port_fault, table_fault};
 use crate::only::only_fault;
 use flowgraph::{BlockId, Graph, GraphFault, Side};
 use kind_keys::Key;
@@ -65,7 +65,7 @@ fn connect(
     ensures refused { IfErr result (IsRefused (connect_step (items_view blocks.now) number (drafted graph.old) (table_view table.now))) }
     ensures memory { IsErrOf result FileFault.Memory → ConnectTakes (items_view blocks.now) number (drafted graph.old) (table_view table.now) }
 {
-    let place = Place::Connect(number);
+    let place = FilePlace::Connect(number);
     let known = [Key::From, Key::To, Key::FromPort, Key::ToPort];
     if let Some(fault) = only_fault(table, &known, &[Key::From, Key::To, Key::FromPort]) {
         return Err(table_fault(place, fault));
@@ -106,7 +106,7 @@ fn join(
         Ok(()) => Ok(()),
         Err(fault) => {
             let name = end_named(table, fault);
-            Err(graph_fault(Place::Connect(number), fault, name))
+            Err(graph_fault(FilePlace::Connect(number), fault, name))
         }
     }
 }

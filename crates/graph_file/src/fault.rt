@@ -15,7 +15,7 @@ use thiserror::Error;
 
 /// A table of a graph file: the document itself, or one of its blocks, connections or feeds, counted from 0.
 #[derive(Clone, Copy, Debug, PartialEq, Eq)]
-pub enum Place {
+pub enum FilePlace {
     /// The document.
     Top,
     /// An entry of `block`.
@@ -42,12 +42,12 @@ pub enum FileFault {
     Syntax,
     /// A key of a table is unknown, missing, of another type, or has a bad value; or its kind is unknown.
     Table {
-        place: Place,
+        place: FilePlace,
         fault: KeyFault,
     },
     /// A block, a connection or the whole graph is refused. `name` is that of the block that the refusal names.
     Graph {
-        place: Place,
+        place: FilePlace,
         fault: GraphFault,
         name: ArrayString<32>,
     },
@@ -137,7 +137,7 @@ impl<T: Drop> From<AllocFailed<T>> for FileFault {
 }
 
 /// What a fault of a table is reported as.
-pub(crate) fn table_fault(place: Place, fault: KeyFault) -> FileFault
+pub(crate) fn table_fault(place: FilePlace, fault: KeyFault) -> FileFault
     ensures told { told result ≡ told_table place fault }
     ensures memory { (result ≡ FileFault.Memory) ↔ (fault ≡ KeyFault.Memory) }
 {
@@ -159,7 +159,7 @@ pub(crate) fn feed_fault(feed: usize, fault: PlantFault) -> FileFault
 }
 
 /// What a fault of the graph is reported as, where it names a block of this name.
-pub(crate) fn graph_fault(place: Place, fault: GraphFault, name: &str) -> FileFault
+pub(crate) fn graph_fault(place: FilePlace, fault: GraphFault, name: &str) -> FileFault
     ensures memory { (result ≡ FileFault.Memory) ↔ (fault ≡ GraphFault.Memory) }
     ensures named { (told result ≡ None) ⊎ (told result ≡ Some (of_graph place fault (short name.now))) }
 {

@@ -7,7 +7,7 @@ ghost use Rattle.graph_file.specs.Steps.{steps, step_in, StepsTake, TakesIn};
 ghost use Rattle.graph_file.specs.Feeds.{Fed, fed, feed_step, feed_in, mark_in, marks_of, FeedTakes};
 ghost use Rattle.graph_file.specs.Names.{tag_key_of};
 
-use crate::fault::{FileFault, Place, table_fault};
+use crate::fault::{FileFault, FilePlace, table_fault};
 use crate::feed::{Feed, FileMark};
 use crate::only::only_fault;
 use items::TagKey;
@@ -71,7 +71,7 @@ fn read_feed(alloc: Global, number: usize, table: &Table) -> Result<Feed, FileFa
     ensures refused { IfErr result (IsRefused (feed_in number (table_view table.now))) }
     ensures memory { IsErrOf result FileFault.Memory → IsOk (feed_in number (table_view table.now)) }
 {
-    let place = Place::Feed(number);
+    let place = FilePlace::Feed(number);
     let keys = [Key::Source, Key::Items, Key::Marks];
     if let Some(fault) = only_fault(table, &keys, &keys) {
         return Err(table_fault(place, fault));

@@ -9,7 +9,7 @@ ghost use Rattle.graph_file.specs.File.{file_of, file_in, graph_in, seen, GraphT
 
 use crate::blocks::add_blocks;
 use crate::connections::add_connections;
-use crate::fault::{FileFault, Place, table_fault};
+use crate::fault::{FileFault, FilePlace, table_fault};
 use crate::feed::Feed;
 use crate::feeds::read_feeds;
 use crate::only::only_fault;
@@ -21,7 +21,7 @@ use std::alloc::Global;
 use toml::Table;
 
 /// A graph, and what its sources are fed, in the order of the file.
-#[derive(Drop)]
+#[derive(Debug, Drop)]
 pub struct File {
     /// The graph, not yet tested as a whole.
     pub graph: Graph<Kind>,
@@ -56,7 +56,7 @@ fn file_of(alloc: Global, table: &Table) -> Result<File, FileFault>
 {
     let keys = [Key::Block, Key::Connect, Key::Feed];
     if let Some(fault) = only_fault(table, &keys, &keys) {
-        return Err(table_fault(Place::Top, fault));
+        return Err(table_fault(FilePlace::Top, fault));
     }
     let graph = match graph_of(alloc, table) {
         Ok(graph) => graph,

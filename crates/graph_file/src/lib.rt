@@ -11,7 +11,7 @@ mod only;
 mod opening;
 pub mod pieces;
 
-pub use fault::{EndName, FileFault, Place};
+pub use fault::{EndName, FileFault, FilePlace};
 pub use feed::{Feed, FileMark};
 pub use file::{File, read_graph};
 pub use pieces::{Piece, Pieces};

@@ -13,7 +13,7 @@ ghost use Rattle.graph_file.specs.Feeds.{fed};
 ghost use Rattle.graph_file.specs.File.{seen};
 ghost use Rattle.graph_file.specs.Opening.{opened, opened_with, opened_of, validated, feed_now, after_feed, after_feeds, mark_of, named_block, FeedCopies};
 
-use crate::fault::{FileFault, Place, feed_fault, graph_fault};
+use crate::fault::{FileFault, FilePlace, feed_fault, graph_fault};
 use crate::feed::{Feed, FileMark};
 use crate::file::File;
 use flowgraph::{BlockId, Graph, GraphFault, Valid};
@@ -79,7 +79,7 @@ fn invalid(graph: &Graph<Kind>, fault: GraphFault) -> FileFault
         return FileFault::Memory;
     };
     match std::str::from_utf8(graph.name(block)) {
-        Ok(name) => graph_fault(Place::Top, fault, name),
+        Ok(name) => graph_fault(FilePlace::Top, fault, name),
         // (the name of a block is ASCII)
         Err(_) => unreachable!(),
     }

@@ -5,7 +5,7 @@ ghost use Rattle.flowgraph.specs.Fault.{side_text, limit_text, option_text};
 ghost use Rattle.graph_file.specs.Texts as texts;
 ghost use Rattle.graph_file.specs.Texts.{piece_text, joined};
 
-use crate::fault::Place;
+use crate::fault::FilePlace;
 use flowgraph::{BlockOption, GraphFault, Limit, Side};
 use kind_keys::KeyFault;
 use plant::PlantFault;
@@ -85,7 +85,7 @@ impl fmt::Display for Pieces<'_> {
 }
 
 /// What is wrong with the table of a place.
-pub(crate) fn table_pieces(place: Place, fault: KeyFault) -> Pieces<'static>
+pub(crate) fn table_pieces(place: FilePlace, fault: KeyFault) -> Pieces<'static>
     ensures { joined result ≡ texts.table_text place fault }
 {
     match fault {
@@ -103,7 +103,7 @@ pub(crate) fn table_pieces(place: Place, fault: KeyFault) -> Pieces<'static>
 }
 
 /// Why the graph is refused at a place. `name` is that of the block that the refusal names.
-pub(crate) fn graph_pieces<'a>(place: Place, fault: GraphFault, name: &'a str) -> Pieces<'a>
+pub(crate) fn graph_pieces<'a>(place: FilePlace, fault: GraphFault, name: &'a str) -> Pieces<'a>
     ensures { joined result ≡ texts.graph_text place fault name.now }
 {
     match fault {
@@ -161,7 +161,7 @@ pub(crate) fn feed_pieces(feed: usize, fault: PlantFault) -> Pieces<'static>
 }
 
 // A word and a place.
-fn placed(word: &'static str, place: Place) -> Pieces<'static>
+fn placed(word: &'static str, place: FilePlace) -> Pieces<'static>
     ensures { joined result ≡ word.now ++ texts.place_text place }
 {
     let (table, number) = place_pieces(place);
@@ -172,7 +172,7 @@ fn placed(word: &'static str, place: Place) -> Pieces<'static>
 }
 
 // A word, a place and a text.
-fn placed_with(word: &'static str, place: Place, text: &'static str) -> Pieces<'static>
+fn placed_with(word: &'static str, place: FilePlace, text: &'static str) -> Pieces<'static>
     ensures { joined result ≡ word.now ++ texts.place_text place ++ codes " " ++ text.now }
 {
     let (table, number) = place_pieces(place);
@@ -196,7 +196,7 @@ fn limited(limit: Limit) -> Pieces<'static>
 }
 
 // A name or an option that the block of a place may not have.
-fn bad_option(place: Place, option: BlockOption) -> Pieces<'static>
+fn bad_option(place: FilePlace, option: BlockOption) -> Pieces<'static>
     ensures { joined result ≡ codes "10 BadParameter " ++ texts.place_text place ++ codes " " ++ option_text option }
 {
     placed_with("10 BadParameter ", place, option_word(option))
@@ -238,14 +238,14 @@ fn sided<'a>(word: &'a str, name: &'a str, side: Side, port: usize) -> Pieces<'a
 }
 
 // The word for a place, and its number.
-fn place_pieces(place: Place) -> (Piece<'static>, Piece<'static>)
+fn place_pieces(place: FilePlace) -> (Piece<'static>, Piece<'static>)
     ensures { piece_text result.0 ++ piece_text result.1 ≡ texts.place_text place }
 {
     match place {
-        Place::Top => (Piece::Text("top"), Piece::Text("")),
-        Place::Block(number) => (Piece::Text("block "), Piece::Number(number as u64)),
-        Place::Connect(number) => (Piece::Text("connect "), Piece::Number(number as u64)),
-        Place::Feed(number) => (Piece::Text("feed "), Piece::Number(number as u64)),
+        FilePlace::Top => (Piece::Text("top"), Piece::Text("")),
+        FilePlace::Block(number) => (Piece::Text("block "), Piece::Number(number as u64)),
+        FilePlace::Connect(number) => (Piece::Text("connect "), Piece::Number(number as u64)),
+        FilePlace::Feed(number) => (Piece::Text("feed "), Piece::Number(number as u64)),
     }
 }
 

@@ -4,7 +4,7 @@ ghost use Rattle.items.specs.Items.{numbers_of, type_of};
 ghost use Rattle.settings.specs.Values.{held_of};
 ghost use Rattle.jobs.specs.Copies.{AreLike};
 
-use items::{ItemFault, Items};
+use items::Items;
 use settings::Held;
 use std::alloc::{AllocError, Global};
 
@@ -25,11 +25,10 @@ fn copied(alloc: Global, items: &Items) -> Result<Items, AllocError>
     ensures numbers { IfOk result (λ copy. numbers_of copy ≡ numbers_of items.now) }
     ensures item_type { IfOk result (λ copy. type_of copy ≡ type_of items.now) }
 {
-    match items.slice(alloc, 0, items.len()) {
-        Ok(copy) => Ok(copy),
-        Err(ItemFault::Memory) => Err(AllocError),
-        Err(ItemFault::ItemRange) => unreachable!(),
-    }
+    let mut copy = Items::empty(alloc, items.item_type());
+    copy.reserve(items.len())?;
+    copy.push_slice(items);
+    Ok(copy)
 }
 
 /// The same settings.

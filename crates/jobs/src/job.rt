@@ -14,6 +14,7 @@ use flowgraph::{BlockId, Valid};
 use items::Items;
 use settings::Held;
 use std::alloc::{AllocError, Global};
+use std::fmt;
 use std::marker::Model;
 use std::sync::Arc;
 
@@ -50,6 +51,12 @@ pub struct Job<B: Block> {
     count: u32,
     word: u64,
     lent: Lent,
+}
+
+impl<B: Block> fmt::Debug for Job<B> {
+    fn fmt<W: fmt::Write>(&self, f: &mut fmt::Formatter<W>) -> fmt::Result {
+        f.debug_struct("Job").finish_non_exhaustive()
+    }
 }
 
 impl<B: Block> Model for Job<B> {
@@ -161,7 +168,7 @@ impl<B: Block> Job<B> {
     }
 
     /// What it was given is what its block can be given. The call is there for what its contract says.
-    pub fn in_order(&self)
+    pub fn recall(&self)
         ensures outputs { self.now.job.outputs ≡ used_outputs (net_of B.meaning self.now.graph) self.now.job.block }
         ensures fed { WasFed (net_of B.meaning self.now.graph) self.now.job }
     {
@@ -216,7 +223,7 @@ impl<B: Block> Job<B> {
             held,
             mut outputs,
         } = lent;
-        graph.in_order();
+        graph.recall();
         let multiple = u64::from(graph.options(block).multiple);
         let next = graph.block(block).work(
             word,
@@ -252,6 +259,12 @@ pub struct Worked<B: Block> {
     word: u64,
     lent: Lent,
     next: u64,
+}
+
+impl<B: Block> fmt::Debug for Worked<B> {
+    fn fmt<W: fmt::Write>(&self, f: &mut fmt::Formatter<W>) -> fmt::Result {
+        f.debug_struct("Worked").finish_non_exhaustive()
+    }
 }
 
 impl<B: Block> Model for Worked<B> {
@@ -352,7 +365,7 @@ impl<B: Block> Worked<B> {
 
     /// What it was given is what its block can be given, and what it made is what the firings give. The call is there for what its contract
     /// says.
-    pub fn in_order(&self)
+    pub fn recall(&self)
         ensures outputs { self.now.job.outputs ≡ used_outputs (net_of B.meaning self.now.graph) self.now.job.block }
         ensures fed { WasFed (net_of B.meaning self.now.graph) self.now.job }
         ensures done { IsDone (net_of B.meaning self.now.graph) self.now.job self.now.outputs self.now.word }

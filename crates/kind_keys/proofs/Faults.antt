@@ -6,7 +6,7 @@ use Rattle.kind_keys.specs.declared.key.Key.TheVariants.{Name, Kind}
 use Rattle.kind_keys.specs.declared.kind_name.KindName.{KindName}
 use Rattle.kind_keys.specs.declared.fault.KeyFault.{KeyFault}
 use Rattle.kind_keys.specs.declared.fault.KeyFault.TheVariants.{UnknownKey, MissingKey, WrongType, UnknownKind, BadParameter, Memory}
-use Rattle.kind_keys.specs.Keys.{shape_of, is_needed}
+use Rattle.kind_keys.specs.Keys.{form_of, is_needed}
 use Rattle.kind_keys.specs.Kinds.{kind_named, keys_of}
 use Rattle.kind_keys.specs.Tables.{at_key, value_fault, key_fault, keys_fault, or_else, has_only, fits, text_at}
 use Rattle.kind_keys.specs.Reading.{unless, only, tested_as, tested, block_at, block_in, IsRefused}
@@ -21,7 +21,7 @@ if_none false f other = λ e. other (cc)
 
 value_fault-other : (key : Key) (o : Option Data) → value_fault key o ≢ Some Memory
 value_fault-other key None = if_some (is_needed key) (MissingKey key) (λ e. cc)
-value_fault-other key (Some d) = if_none (fits (shape_of key) d) (WrongType key) (λ e. cc)
+value_fault-other key (Some d) = if_none (fits (form_of key) d) (WrongType key) (λ e. cc)
 
 or_else-other : (f g : Option KeyFault) → f ≢ Some Memory → g ≢ Some Memory → or_else f g ≢ Some Memory
 or_else-other None g f' g' = g'

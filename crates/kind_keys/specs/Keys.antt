@@ -5,8 +5,8 @@ use Rattle.block_kinds.specs.declared.fault.Parameter.TheVariants as parameters
 use Rattle.block_kinds.specs.Fault.{parameter_text}
 use Rattle.kind_keys.specs.declared.key.Key.{Key}
 use Rattle.kind_keys.specs.declared.key.Key.TheVariants as keys
-use Rattle.kind_keys.specs.declared.key.Shape.{Shape}
-use Rattle.kind_keys.specs.declared.key.Shape.TheVariants.{Text, Number, Numbers, Tables, Choice}
+use Rattle.kind_keys.specs.declared.key.ValueForm.{ValueForm}
+use Rattle.kind_keys.specs.declared.key.ValueForm.TheVariants.{Text, Number, Numbers, Tables, Choice}
 
 -- the text of a key
 abbrev pub text_of : Key → List ℕ
@@ -31,35 +31,35 @@ text_of keys.MarkKey = codes "key"
 text_of keys.MarkValue = codes "value"
 
 -- what may stand at a parameter
-abbrev pub parameter_shape : Parameter → Shape
-parameter_shape parameters.ItemType = Text
-parameter_shape parameters.To = Text
-parameter_shape parameters.Map = Numbers
-parameter_shape parameters.Taps = Numbers
-parameter_shape parameters.Lengths = Numbers
-parameter_shape _ = Number
+abbrev pub parameter_form : Parameter → ValueForm
+parameter_form parameters.ItemType = Text
+parameter_form parameters.To = Text
+parameter_form parameters.Map = Numbers
+parameter_form parameters.Taps = Numbers
+parameter_form parameters.Lengths = Numbers
+parameter_form _ = Number
 
 -- what may stand at a key
-abbrev pub shape_of : Key → Shape
-shape_of keys.Block = Tables
-shape_of keys.Connect = Tables
-shape_of keys.Feed = Tables
-shape_of keys.Name = Text
-shape_of keys.Kind = Text
-shape_of (keys.Parameter p) = parameter_shape p
-shape_of keys.Tags = Choice
-shape_of keys.Multiple = Number
-shape_of keys.Capacity = Number
-shape_of keys.From = Text
-shape_of keys.To = Text
-shape_of keys.FromPort = Number
-shape_of keys.ToPort = Number
-shape_of keys.Source = Text
-shape_of keys.Items = Numbers
-shape_of keys.Marks = Tables
-shape_of keys.MarkAt = Number
-shape_of keys.MarkKey = Text
-shape_of keys.MarkValue = Number
+abbrev pub form_of : Key → ValueForm
+form_of keys.Block = Tables
+form_of keys.Connect = Tables
+form_of keys.Feed = Tables
+form_of keys.Name = Text
+form_of keys.Kind = Text
+form_of (keys.Parameter p) = parameter_form p
+form_of keys.Tags = Choice
+form_of keys.Multiple = Number
+form_of keys.Capacity = Number
+form_of keys.From = Text
+form_of keys.To = Text
+form_of keys.FromPort = Number
+form_of keys.ToPort = Number
+form_of keys.Source = Text
+form_of keys.Items = Numbers
+form_of keys.Marks = Tables
+form_of keys.MarkAt = Number
+form_of keys.MarkKey = Text
+form_of keys.MarkValue = Number
 
 -- whether a block must have the parameter
 abbrev pub is_needed_parameter : Parameter → Bool

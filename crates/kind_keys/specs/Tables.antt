@@ -7,11 +7,11 @@ use Rattle.stream_model.specs.declared.vocabulary.ItemType.TheVariants.{Byte, Sh
 use Rattle.stream_model.specs.declared.vocabulary.Policy.{Policy}
 use Rattle.stream_model.specs.declared.vocabulary.Policy.TheVariants as policy
 use Rattle.kind_keys.specs.declared.key.Key.{Key}
-use Rattle.kind_keys.specs.declared.key.Shape.{Shape}
-use Rattle.kind_keys.specs.declared.key.Shape.TheVariants.{Text, Number, Numbers, Tables, Choice}
+use Rattle.kind_keys.specs.declared.key.ValueForm.{ValueForm}
+use Rattle.kind_keys.specs.declared.key.ValueForm.TheVariants.{Text, Number, Numbers, Tables, Choice}
 use Rattle.kind_keys.specs.declared.fault.KeyFault.{KeyFault}
 use Rattle.kind_keys.specs.declared.fault.KeyFault.TheVariants.{MissingKey, WrongType}
-use Rattle.kind_keys.specs.Keys.{text_of, shape_of, is_needed, missing}
+use Rattle.kind_keys.specs.Keys.{text_of, form_of, is_needed, missing}
 
 -- what stands at a key
 abbrev pub at_key : Key → Members → Option Data
@@ -112,8 +112,8 @@ is_number d = is_some (as_integer d)
 abbrev pub is_table : Data → Bool
 is_table d = is_some (as_table d)
 
--- a value has the shape
-abbrev pub fits : Shape → Data → Bool
+-- a value has the form
+abbrev pub fits : ValueForm → Data → Bool
 fits Text d = is_some (as_str d)
 fits Number d = is_number d
 fits Numbers d = is_array_of is_number (as_array d)
@@ -123,7 +123,7 @@ fits Choice d = is_choice (as_str d)
 -- what is wrong with what stands at a key
 abbrev pub value_fault : Key → Option Data → Option KeyFault
 value_fault key None = if is_needed key then Some (MissingKey key) else None
-value_fault key (Some d) = if fits (shape_of key) d then None else Some (WrongType key)
+value_fault key (Some d) = if fits (form_of key) d then None else Some (WrongType key)
 
 -- the same, of a table
 abbrev pub key_fault : Members → Key → Option KeyFault

@@ -1,6 +1,6 @@
 //! The keys of graph files.
 ghost use Rattle.std.specs.Prelude.{◌≡◌};
-ghost use Rattle.kind_keys.specs.Keys.{text_of, shape_of, parameter_shape, is_needed, is_needed_parameter, missing, missing_parameter};
+ghost use Rattle.kind_keys.specs.Keys.{text_of, form_of, parameter_form, is_needed, is_needed_parameter, missing, missing_parameter};
 
 use block_kinds::Parameter;
 
@@ -49,7 +49,7 @@ pub enum Key {
 
 /// What may stand at a key.
 #[derive(Clone, Copy, Debug, PartialEq, Eq)]
-pub enum Shape {
+pub enum ValueForm {
     Text,
     /// A whole number.
     Number,
@@ -89,21 +89,22 @@ impl Key {
     }
 
     /// What may stand at the key.
-    pub fn shape(&self) -> Shape
-        ensures { result ≡ shape_of self.now }
+    pub fn form(&self) -> ValueForm
+        ensures { result ≡ form_of self.now }
     {
         match self {
-            Key::Block | Key::Connect | Key::Feed | Key::Marks => Shape::Tables,
-            Key::Name | Key::Kind | Key::From | Key::To | Key::Source | Key::MarkKey => Shape::Text,
-            Key::Parameter(parameter) => parameter_shape(*parameter),
-            Key::Tags => Shape::Choice,
+            Key::Block | Key::Connect | Key::Feed | Key::Marks => ValueForm::Tables,
+            Key::Name | Key::Kind | Key::From | Key::To | Key::Source | Key::MarkKey =>
+                ValueForm::Text,
+            Key::Parameter(parameter) => parameter_form(*parameter),
+            Key::Tags => ValueForm::Choice,
             Key::Multiple
             | Key::Capacity
             | Key::FromPort
             | Key::ToPort
             | Key::MarkAt
-            | Key::MarkValue => Shape::Number,
-            Key::Items => Shape::Numbers,
+            | Key::MarkValue => ValueForm::Number,
+            Key::Items => ValueForm::Numbers,
         }
     }
 
@@ -146,13 +147,13 @@ impl Key {
     }
 }
 
-fn parameter_shape(parameter: Parameter) -> Shape
-    ensures { result ≡ parameter_shape parameter }
+fn parameter_form(parameter: Parameter) -> ValueForm
+    ensures { result ≡ parameter_form parameter }
 {
     match parameter {
-        Parameter::ItemType | Parameter::To => Shape::Text,
-        Parameter::Map | Parameter::Taps | Parameter::Lengths => Shape::Numbers,
-        _ => Shape::Number,
+        Parameter::ItemType | Parameter::To => ValueForm::Text,
+        Parameter::Map | Parameter::Taps | Parameter::Lengths => ValueForm::Numbers,
+        _ => ValueForm::Number,
     }
 }
 

@@ -9,6 +9,6 @@ pub mod read;
 pub mod table;
 
 pub use fault::KeyFault;
-pub use key::{Key, Shape};
+pub use key::{Key, ValueForm};
 pub use kind_name::KindName;
 pub use read::read_kind;

@@ -9,7 +9,7 @@ ghost use Rattle.kind_keys.specs.Tables as tables;
 ghost use Rattle.kind_keys.specs.Tables.{at_key, string_in, array_in, count_of};
 
 use crate::fault::KeyFault;
-use crate::key::{Key, Shape};
+use crate::key::{Key, ValueForm};
 use arrayvec::ArrayVec;
 use items::ItemType;
 use std::alloc::{AllocError, Global};
@@ -172,7 +172,7 @@ pub fn key_fault(table: &Table, key: Key) -> Option<KeyFault>
 {
     match value_at(table, key) {
         None if key.is_needed() => Some(KeyFault::MissingKey(key)),
-        Some(value) if !fits(key.shape(), value) => Some(KeyFault::WrongType(key)),
+        Some(value) if !fits(key.form(), value) => Some(KeyFault::WrongType(key)),
         _ => None,
     }
 }
@@ -208,22 +208,22 @@ fn is_known(keys: &[Key], text: &[u8]) -> bool
     keys.iter().any(|key| text == key.text().as_bytes())
 }
 
-// Whether a value has the shape.
-fn fits(shape: Shape, value: &Value) -> bool
-    ensures { result ≡ tables.fits shape (view value.now) }
+// Whether a value has the form.
+fn fits(form: ValueForm, value: &Value) -> bool
+    ensures { result ≡ tables.fits form (view value.now) }
 {
-    match shape {
-        Shape::Text => value.is_str(),
-        Shape::Number => value.is_integer(),
-        Shape::Numbers => match value.as_array() {
+    match form {
+        ValueForm::Text => value.is_str(),
+        ValueForm::Number => value.is_integer(),
+        ValueForm::Numbers => match value.as_array() {
             Some(values) => are_numbers(values),
             None => false,
         },
-        Shape::Tables => match value.as_array() {
+        ValueForm::Tables => match value.as_array() {
             Some(values) => are_tables(values),
             None => false,
         },
-        Shape::Choice => match value.as_str() {
+        ValueForm::Choice => match value.as_str() {
             Some(text) => policy_named(text).is_some(),
             None => false,
         },

@@ -4,20 +4,21 @@ use Rattle.stream_model.specs.Meaning.{Meaning, IsLawful}
 use Rattle.kinds.specs.contracts.kind.KindPartialEq.TheImpl as equality
 use Rattle.kinds.specs.declared.kind.Kind.{Kind}
 use Rattle.kinds.specs.declared.kind.Kind.TheVariants.{VectorSource, VectorSink, NullSink, AddConst, MultiplyConst, Scale, Add, And, Or, Xor, Not, Convert, MapBb, MovingSum, Fir, InterpFir, KeepOneInN, Integrate, Repeat, Interleave, Deinterleave, StreamMux, Head, SkipHead, Delay, PackKBits, UnpackKBits, DiffDecoder, DiffEncoder, Scrambler, Descrambler, AdditiveScrambler}
-use Rattle.kinds.specs.Ends.{source_meaning, sink_meaning, null_meaning}
-use Rattle.math_blocks.specs.Kinds.{add_const_of, multiply_const_of, scale_of, not_block_of, convert_of, map_bb_of, moving_sum_of, add_const-same, multiply_const-same, scale-same, convert-same, map_bb_of-lawful, map_bb-same}
-use Rattle.math_blocks.specs.Joined.{add_block_of, and_block_of, or_block_of, xor_block_of}
-use Rattle.fir_blocks.specs.Kinds.{fir_of, interp_fir_of, fir-same, interp_fir-same}
-use Rattle.rate_blocks.specs.Kinds.{keep_one_in_n_of, integrate_of, repeat_of, head_of, skiphead_of, delay_of}
+use Rattle.kinds.specs.Ends.{source_meaning}
+use Rattle.math_blocks.specs.Kinds.{scale_of, not_block_of, convert_of, map_bb_of, moving_sum_of, constant-same, scale-same, convert-same, map_bb_of-lawful, map_bb-same}
+use Rattle.math_blocks.specs.Joined.{joined-same}
+use Rattle.fir_blocks.specs.Kinds.{filter_of, filter-same}
+use Rattle.rate_blocks.specs.Kinds.{counted_of}
 use Rattle.rate_blocks.specs.Mux.{interleave_of, deinterleave_of, stream_mux_of, interleave_of-lawful, deinterleave_of-lawful, stream_mux_of-lawful, stream_mux_of-same}
-use Rattle.bit_blocks.specs.Kinds.{pack_k_bits_of, unpack_k_bits_of, diff_decoder_of, diff_encoder_of, scrambler_of, descrambler_of, additive_scrambler_of, some_of, some_encoded, same_register}
+use Rattle.bit_blocks.specs.Kinds.{k_bits_of, diff_decoder_of, diff_encoder_of, register_block_of, some_of, some_encoded, same_register}
 use Rattle.kind_laws.specs.Ends.{vector_source-lawful, vector_sink-lawful, null_sink-lawful}
 use Rattle.kind_laws.specs.Math.{add_const-lawful, multiply_const-lawful, scale-lawful, add-lawful, and_of-lawful, or_of-lawful, xor_of-lawful, not_of-lawful, convert-lawful, moving_sum-lawful}
 use Rattle.kind_laws.specs.Filters.{fir-lawful, interp_fir-lawful}
 use Rattle.kind_laws.specs.Rates.{keep_one_in_n-lawful, integrate-lawful, repeat-lawful, head-lawful, skiphead-lawful, delay-lawful}
 use Rattle.kind_laws.specs.Bits.{pack_k_bits-lawful, unpack_k_bits-lawful, diff_decoder-lawful, diff_encoder-lawful, scrambler-lawful, descrambler-lawful, additive_scrambler-lawful}
 use Rattle.stream_model.specs.Kinds.Ends.{vector_source, vector_sink, null_sink}
-use Rattle.stream_model.specs.Kinds.Math.{add, and_of, or_of, xor_of, not_of, moving_sum}
+use Rattle.stream_model.specs.Kinds.Math.{add_const, multiply_const, add, and_of, or_of, xor_of, not_of, moving_sum}
+use Rattle.stream_model.specs.Kinds.Filters.{fir, interp_fir}
 use Rattle.stream_model.specs.Kinds.Rates.{keep_one_in_n, integrate, repeat, interleave, deinterleave, head, skiphead, delay}
 use Rattle.stream_model.specs.Kinds.Bits.{pack_k_bits, unpack_k_bits, diff_decoder, diff_encoder, scrambler, descrambler, additive_scrambler}
 use Rattle.block_kinds.specs.SameItem.{same_item, same_number, same_sized}
@@ -27,37 +28,37 @@ use Rattle.std.proofs.lemmas.Bool.{false≢true}
 -- what the block inside means
 abbrev pub meaning_of : Kind → Meaning
 meaning_of (VectorSource b) = source_meaning b
-meaning_of (VectorSink b) = sink_meaning b
-meaning_of (NullSink b) = null_meaning b
-meaning_of (AddConst b) = add_const_of b
-meaning_of (MultiplyConst b) = multiply_const_of b
+meaning_of (VectorSink b) = vector_sink b.item
+meaning_of (NullSink b) = null_sink b.item
+meaning_of (AddConst b) = add_const b.item b.value
+meaning_of (MultiplyConst b) = multiply_const b.item b.value
 meaning_of (Scale b) = scale_of b
-meaning_of (Add b) = add_block_of b
-meaning_of (And b) = and_block_of b
-meaning_of (Or b) = or_block_of b
-meaning_of (Xor b) = xor_block_of b
+meaning_of (Add b) = add b.item
+meaning_of (And b) = and_of b.item
+meaning_of (Or b) = or_of b.item
+meaning_of (Xor b) = xor_of b.item
 meaning_of (Not b) = not_block_of b
 meaning_of (Convert b) = convert_of b
 meaning_of (MapBb b) = map_bb_of b
 meaning_of (MovingSum b) = moving_sum_of b
-meaning_of (Fir b) = fir_of b
-meaning_of (InterpFir b) = interp_fir_of b
-meaning_of (KeepOneInN b) = keep_one_in_n_of b
-meaning_of (Integrate b) = integrate_of b
-meaning_of (Repeat b) = repeat_of b
+meaning_of (Fir b) = filter_of fir b
+meaning_of (InterpFir b) = filter_of interp_fir b
+meaning_of (KeepOneInN b) = counted_of keep_one_in_n b
+meaning_of (Integrate b) = counted_of integrate b
+meaning_of (Repeat b) = counted_of repeat b
 meaning_of (Interleave b) = interleave_of b
 meaning_of (Deinterleave b) = deinterleave_of b
 meaning_of (StreamMux b) = stream_mux_of b
-meaning_of (Head b) = head_of b
-meaning_of (SkipHead b) = skiphead_of b
-meaning_of (Delay b) = delay_of b
-meaning_of (PackKBits b) = pack_k_bits_of b
-meaning_of (UnpackKBits b) = unpack_k_bits_of b
+meaning_of (Head b) = counted_of head b
+meaning_of (SkipHead b) = counted_of skiphead b
+meaning_of (Delay b) = counted_of delay b
+meaning_of (PackKBits b) = k_bits_of pack_k_bits b
+meaning_of (UnpackKBits b) = k_bits_of unpack_k_bits b
 meaning_of (DiffDecoder b) = diff_decoder_of b
 meaning_of (DiffEncoder b) = diff_encoder_of b
-meaning_of (Scrambler b) = scrambler_of b
-meaning_of (Descrambler b) = descrambler_of b
-meaning_of (AdditiveScrambler b) = additive_scrambler_of b
+meaning_of (Scrambler b) = register_block_of scrambler b
+meaning_of (Descrambler b) = register_block_of descrambler b
+meaning_of (AdditiveScrambler b) = register_block_of additive_scrambler b
 
 pub meaning_of-lawful : (b : Kind) → IsLawful (meaning_of b)
 meaning_of-lawful (VectorSource b) = vector_source-lawful b.item
@@ -74,17 +75,17 @@ meaning_of-lawful (Not b) = not_of-lawful b.item
 meaning_of-lawful (Convert b) = convert-lawful b.item b.to
 meaning_of-lawful (MapBb b) = map_bb_of-lawful b
 meaning_of-lawful (MovingSum b) = moving_sum-lawful b.item b.length b.some
-meaning_of-lawful (Fir b) = fir-lawful b.item b.taps.items b.decimation b.shift b.some_taps b.some b.few
-meaning_of-lawful (InterpFir b) = interp_fir-lawful b.item b.taps.items b.interpolation b.shift b.some_taps b.some b.few
-meaning_of-lawful (KeepOneInN b) = keep_one_in_n-lawful b.item b.n b.some b.few
-meaning_of-lawful (Integrate b) = integrate-lawful b.item b.n b.some b.few
-meaning_of-lawful (Repeat b) = repeat-lawful b.item b.n b.some b.few
+meaning_of-lawful (Fir b) = fir-lawful b.item b.taps.items b.rate b.shift b.some_taps b.some b.few
+meaning_of-lawful (InterpFir b) = interp_fir-lawful b.item b.taps.items b.rate b.shift b.some_taps b.some b.few
+meaning_of-lawful (KeepOneInN b) = keep_one_in_n-lawful b.item b.n b.least b.most
+meaning_of-lawful (Integrate b) = integrate-lawful b.item b.n b.least b.most
+meaning_of-lawful (Repeat b) = repeat-lawful b.item b.n b.least b.most
 meaning_of-lawful (Interleave b) = interleave_of-lawful b
 meaning_of-lawful (Deinterleave b) = deinterleave_of-lawful b
 meaning_of-lawful (StreamMux b) = stream_mux_of-lawful b
 meaning_of-lawful (Head b) = head-lawful b.item b.n
 meaning_of-lawful (SkipHead b) = skiphead-lawful b.item b.n
-meaning_of-lawful (Delay b) = delay-lawful b.item b.n b.few
+meaning_of-lawful (Delay b) = delay-lawful b.item b.n b.most
 meaning_of-lawful (PackKBits b) = pack_k_bits-lawful b.k b.some b.few
 meaning_of-lawful (UnpackKBits b) = unpack_k_bits-lawful b.k b.some b.few
 meaning_of-lawful (DiffDecoder b) = diff_decoder-lawful b.modulus (some_of b) b.few
@@ -98,19 +99,19 @@ pub meaning_of-same : (a b : Kind) → equality.ghosts.eq a b ≡ true → meani
 meaning_of-same (VectorSource a) (VectorSource b) e = λ i. vector_source (same_item a.item b.item e i)
 meaning_of-same (VectorSink a) (VectorSink b) e = λ i. vector_sink (same_item a.item b.item e i)
 meaning_of-same (NullSink a) (NullSink b) e = λ i. null_sink (same_item a.item b.item e i)
-meaning_of-same (AddConst a) (AddConst b) e = add_const-same a b e
-meaning_of-same (MultiplyConst a) (MultiplyConst b) e = multiply_const-same a b e
+meaning_of-same (AddConst a) (AddConst b) e = constant-same add_const a b e
+meaning_of-same (MultiplyConst a) (MultiplyConst b) e = constant-same multiply_const a b e
 meaning_of-same (Scale a) (Scale b) e = scale-same a b e
-meaning_of-same (Add a) (Add b) e = λ i. add (same_item a.item b.item e i)
-meaning_of-same (And a) (And b) e = λ i. and_of (same_item a.item b.item e i)
-meaning_of-same (Or a) (Or b) e = λ i. or_of (same_item a.item b.item e i)
-meaning_of-same (Xor a) (Xor b) e = λ i. xor_of (same_item a.item b.item e i)
+meaning_of-same (Add a) (Add b) e = joined-same add a b e
+meaning_of-same (And a) (And b) e = joined-same and_of a b e
+meaning_of-same (Or a) (Or b) e = joined-same or_of a b e
+meaning_of-same (Xor a) (Xor b) e = joined-same xor_of a b e
 meaning_of-same (Not a) (Not b) e = λ i. not_of (same_item a.item b.item e i)
 meaning_of-same (Convert a) (Convert b) e = convert-same a b e
 meaning_of-same (MapBb a) (MapBb b) e = map_bb-same a b e
 meaning_of-same (MovingSum a) (MovingSum b) e = same_sized moving_sum a.item b.item a.length b.length e
-meaning_of-same (Fir a) (Fir b) e = fir-same a b e
-meaning_of-same (InterpFir a) (InterpFir b) e = interp_fir-same a b e
+meaning_of-same (Fir a) (Fir b) e = filter-same fir a b e
+meaning_of-same (InterpFir a) (InterpFir b) e = filter-same interp_fir a b e
 meaning_of-same (KeepOneInN a) (KeepOneInN b) e = same_sized keep_one_in_n a.item b.item a.n b.n e
 meaning_of-same (Integrate a) (Integrate b) e = same_sized integrate a.item b.item a.n b.n e
 meaning_of-same (Repeat a) (Repeat b) e = same_sized repeat a.item b.item a.n b.n e

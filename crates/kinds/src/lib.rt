@@ -2,11 +2,9 @@
 #![tactic(auto)]
 
 pub mod kind;
-pub mod null_sink;
 pub mod sink;
 pub mod source;
 
 pub use kind::Kind;
-pub use null_sink::NullSink;
-pub use sink::VectorSink;
+pub use sink::{NullSink, VectorSink};
 pub use source::VectorSource;

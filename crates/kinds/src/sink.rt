@@ -1,40 +1,44 @@
-//! A sink that keeps its input.
+//! The sinks.
 ghost use Rattle.std.specs.Prelude.{◌≡◌};
-ghost use Rattle.stream_model.specs.Kinds.Ends.{vector_sink};
 
 use block_kinds::{Block, ByPace, Held, Role, Shape, ports};
 use items::{ItemType, Items};
 
-/// A sink that keeps all items and tags of its input, which `Plant::read` shows; as GNU Radio's `vector_sink_x`. `work` writes nothing.
+/// A sink that keeps its input or drops it. `work` writes nothing.
 #[derive(Debug, Drop, PartialEq, Eq)]
-pub struct VectorSink {
+pub struct Sink<const KEEPS: bool> {
     item: ItemType,
 }
 
-impl VectorSink {
-    ghost use Rattle.kinds.specs.Ends.{sink_meaning};
+/// A sink that keeps all items and tags of its input, which `Plant::read` shows; as GNU Radio's `vector_sink_x`.
+pub type VectorSink = Sink<true>;
+
+/// A sink that drops its input, as GNU Radio's `null_sink`.
+pub type NullSink = Sink<false>;
+
+impl<const KEEPS: bool> Sink<KEEPS> {
+    ghost use Rattle.kinds.specs.Ends.{sink_of};
 
     /// The sink of items of this type.
-    pub fn new(item: ItemType) -> VectorSink
-        ensures { sink_meaning result ≡ vector_sink item }
+    pub fn new(item: ItemType) -> Sink<KEEPS>
+        ensures { sink_of KEEPS result.item ≡ sink_of KEEPS item }
     {
-        VectorSink { item }
+        Sink { item }
     }
 }
 
-impl Block for VectorSink {
-    ghost use Rattle.kind_laws.specs.Ends.{vector_sink-lawful};
-    ghost use Rattle.stream_model.specs.Kinds.Ends.{vector_sink};
+impl<const KEEPS: bool> Block for Sink<KEEPS> {
     ghost use Rattle.block_kinds.specs.SameItem.{same_item};
-    ghost use Rattle.kinds.specs.Ends.{sink_meaning};
+    ghost use Rattle.kinds.specs.Ends.{sink_of, sink_of-lawful};
 
-    ghost meaning = { sink_meaning };
+    ghost meaning = { λ b. sink_of KEEPS b.item };
 
     type Places = ByPace;
 
     fn shape(&self, _input: usize) -> Shape<'_> {
+        let role = if KEEPS { Role::Keep } else { Role::Discard };
         Shape {
-            role: Role::Keep,
+            role,
             ..Shape::at_rate(ports(1, self.item), ports(0, self.item), 1, 1)
         }
     }
@@ -51,7 +55,7 @@ impl Block for VectorSink {
         0
     }
 
-    ghost lawful = { λ b. vector_sink-lawful b.item };
+    ghost lawful = { λ b. sink_of-lawful KEEPS b.item };
 
-    ghost same = { λ a b e i. vector_sink (same_item a.item b.item e i) };
+    ghost same = { λ a b e i. sink_of KEEPS (same_item a.item b.item e i) };
 }

@@ -1,5 +1,5 @@
 -- Feeding, closing and setting keep a state sound.
-use Rattle.std.proofs.Common.{◌≡◌, ◌≢◌, ℕ, ◌+◌, ◌<◌, ◌≤◌, true, false, not, List, [], ◌∷◌, ◌++◌, length, map, set, refl, arith, ap, sym, ◌∙◌, subst, inl, inr, get_or-set_same, get_or-set_other, length-set, length-append, T, Option, Some, None, MatchOption, ltb-false, ltb-true, eqb-true, ℤ}
+use Rattle.std.proofs.Common.{◌≡◌, ◌≢◌, ℕ, ◌+◌, ◌<◌, ◌≤◌, true, false, not, List, ◌++◌, length, map, set, refl, arith, ap, sym, ◌∙◌, subst, inl, inr, get_or-set_same, get_or-set_other, length-set, length-append, T, Option, Some, None, MatchOption, ltb-false, ltb-true, eqb-true, ℤ}
 use Rattle.std.specs.Prelude.{nat_lt, nat_le, ◌&&◌, IsNone}
 use Rattle.std.specs.Bool.{⊤}
 use Rattle.std.specs.List.{All}

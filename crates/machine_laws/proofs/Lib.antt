@@ -1,3 +1,4 @@
+pub mod Agreeing
 pub mod Choices
 pub mod Frames
 pub mod Handing

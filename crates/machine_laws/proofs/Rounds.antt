@@ -1,47 +1,22 @@
 -- A step commits what it claims, and where none moves on the network is quiet.
-use Rattle.std.proofs.Common.{◌≡◌, ℕ, ◌+◌, ◌*◌, ◌<◌, Bool, true, false, not, List, [], ◌∷◌, length, set, refl, arith, ap, sym, ◌∙◌, subst, inl, inr, get_or-set_same, get_or-set_other, length-set, set-set, cond, lt-ltb, eqb-true, ℤ}
+use Rattle.std.proofs.Common.{◌≡◌, ℕ, ◌+◌, ◌*◌, ◌<◌, Bool, true, false, not, List, length, set, refl, arith, ap, sym, ◌∙◌, subst, inl, inr, get_or-set_same, get_or-set_other, length-set, set-set, cond, lt-ltb, eqb-true, ℤ}
 use Rattle.std.specs.Prelude.{nat_lt, ◌&&◌, ◌||◌, ◌==◌}
 use Rattle.std.specs.List.{list_all}
-use Rattle.std.specs.Ordering.{int_eq}
 use Rattle.std.proofs.lemmas.Bool.{cases_eq, and_from, and_parts, eq-eqb}
-use Rattle.std.proofs.lemmas.Cmp.{int_eq_equiv}
 use Rattle.std.proofs.lemmas.List.Elements.{All-from_get_or}
 use Rattle.std.proofs.lemmas.List.Sums.{AllPass-from_list_all, list_all-from_AllPass}
 use Rattle.stream_model.specs.Lists.{below}
 use Rattle.stream_model.specs.Meaning.{windows_of, held_of}
-use Rattle.stream_model.specs.Settings.{Value, Number, Taps, Held}
+use Rattle.stream_model.specs.Settings.{Held}
 use Rattle.stream_model.specs.Network.{Network, Progress, State, no_progress, node_at, handed_at, progress_at, used_outputs, entering, within_limit}
 use Rattle.stream_model.specs.Claims.{Decision, IsDone, IsBusy, Ends, Fires, LacksItems, LacksRoom, has_items, has_room, is_unread, is_finished, may_fire, decide}
-use Rattle.stream_model.specs.Machine.{Capacities, Claim, Job, Reply, Refused, no_such_block, with_progress, counts_in, counts_out, counts_of, claimed_by, claim_of, is_in_flight, commit_of, job_of, jobs_agree, lists_agree, windows_agree, values_agree, settings_agree, commit_claimed, step_of, is_idle, is_waiting}
+use Rattle.stream_model.specs.Machine.{Capacities, Claim, Job, Reply, Refused, no_such_block, with_progress, counts_in, counts_out, counts_of, claimed_by, claim_of, is_in_flight, commit_of, job_of, jobs_agree, commit_claimed, step_of, is_idle, is_waiting}
 use Rattle.machine_laws.specs.Sound.{fired, Sound}
 use Rattle.machine_laws.specs.Steps.{moves_on, IdleStepsStay, StuckIsQuiet}
+use Rattle.machine_laws.proofs.Agreeing.{jobs_agree-same}
 use Rattle.machine_laws.proofs.Choices.{if_both}
 use Rattle.machine_laws.proofs.Deciding.{Reason, decide-reason, items_none}
 use Rattle.machine_laws.proofs.Inputs.{room-none, below-from}
-
--- a job agrees with itself
-lists_same : (xs : List ℤ) → lists_agree xs xs ≡ true
-lists_same [] = refl
-lists_same (x ∷ xs) = and_from (int_eq x x) (lists_agree xs xs) (int_eq_equiv.refl x) (lists_same xs)
-
-windows_same : (xs : List (List ℤ)) → windows_agree xs xs ≡ true
-windows_same [] = refl
-windows_same (x ∷ xs) = and_from (lists_agree x x) (windows_agree xs xs) (lists_same x) (windows_same xs)
-
-values_same : (v : Value) → values_agree v v ≡ true
-values_same (Number z) = int_eq_equiv.refl z
-values_same (Taps h) = lists_same h
-
-settings_same : (hs : List Held) → settings_agree hs hs ≡ true
-settings_same [] = refl
-settings_same (h ∷ hs) = and_from ((h.at == h.at) && values_agree h.value h.value) (settings_agree hs hs) (and_from (h.at == h.at) (values_agree h.value h.value) (eq-eqb h.at h.at refl) (values_same h.value)) (settings_same hs)
-
-jobs_same : (i j : Job) → i ≡ j → jobs_agree i j ≡ true
-jobs_same i j e = subst (λ k. jobs_agree i k ≡ true) e (itself i)
-  where
-    itself : (i : Job) → jobs_agree i i ≡ true
-    itself i =
-        and_from _ _ (and_from _ _ (and_from _ _ (and_from _ _ (and_from _ _ (and_from _ _ (eq-eqb i.block i.block refl) (eq-eqb i.outputs i.outputs refl)) (eq-eqb i.first i.first refl)) (eq-eqb i.count i.count refl)) (windows_same i.windows)) (settings_same i.held)) (eq-eqb i.word i.word refl)
 
 -- nothing is claimed, block by block
 idle_at : (st : State) → is_idle st ≡ true → (c : ℕ) → c < length st.progress → (progress_at st.progress c).claimed ≡ 0
@@ -100,7 +75,7 @@ module _ (net : Network) (caps : Capacities) (st : State) (sound : Sound net cap
           let same = ap (λ (p : Progress). p.claimed) here in
           and_from (nat_lt b (length net.nodes) && nat_lt 0 (progress_at claimed.progress b).claimed) (jobs_agree (job_of net st b count) (job_of net claimed b (progress_at claimed.progress b).claimed))
           (and_from (nat_lt b (length net.nodes)) (nat_lt 0 (progress_at claimed.progress b).claimed) (lt-ltb b (length net.nodes) in') (lt-ltb 0 (progress_at claimed.progress b).claimed (omega arith)))
-          (jobs_same (job_of net st b count) (job_of net claimed b (progress_at claimed.progress b).claimed) job_same)
+          (jobs_agree-same (job_of net st b count) (job_of net claimed b (progress_at claimed.progress b).claimed) job_same)
 
       -- and is committed
       commit_moves : (max : ℕ) → moves_on st (Claim b max) (commit_of net claimed true (job_of net st b count)).0 ≡ true

@@ -1,5 +1,5 @@
 -- What calls hand to blocks comes behind what is committed and claimed.
-use Rattle.std.proofs.Common.{◌≡◌, ℕ, ◌+◌, ◌<◌, ◌≤◌, true, not, List, [], ◌∷◌, ◌++◌, length, map, set, Option, Some, None, refl, sym, arith, ltb-true, ltb-false, append-nil, ℤ}
+use Rattle.std.proofs.Common.{◌≡◌, ℕ, ◌+◌, ◌<◌, ◌≤◌, true, not, List, [], length, map, set, Option, Some, None, refl, sym, arith, ltb-true, ltb-false, append-nil, ℤ}
 use Rattle.std.specs.Prelude.{nat_lt, nat_le, ◌&&◌}
 use Rattle.std.proofs.lemmas.Bool.{and_parts, leb-true}
 use Rattle.std.proofs.lemmas.List.Elements.{All-nil, All-map, All-weaker}

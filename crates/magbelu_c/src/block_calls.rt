@@ -166,7 +166,7 @@ pub(crate) fn step(alloc: Global, plant: &mut Plant<Kind>, block: &[u8], max: u3
     if max == 0 {
         return done(0, 0);
     }
-    plant.in_order();
+    plant.recall();
     match plant.step(alloc, block, max) {
         Ok(step) => of_step(step),
         Err(fault) => refusal(fault),

@@ -16,5 +16,4 @@ pub mod raw_calls;
 pub mod reply;
 mod shows;
 pub mod tables;
-mod tag_lines;
 mod tagging;

@@ -8,7 +8,7 @@ ghost use Rattle.magbelu_c.specs.Pieces.{Reads, unshown};
 use crate::block_calls;
 use crate::reply::{Reply, no_memory, refusal};
 use crate::shows::show;
-use crate::tag_lines::tag_lines;
+use flow::tag_text::tag_lines;
 use items::Items;
 use kinds::Kind;
 use plant::Plant;

@@ -1,7 +1,6 @@
-pub mod Bitwise
 pub mod Joining
 pub mod Numbered
+pub mod OneOutput
 pub mod Settings
 pub mod Stretches
 pub mod Summed
-pub mod Wrapping

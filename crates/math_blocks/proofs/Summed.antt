@@ -1,14 +1,18 @@
 -- What a moving sum gives.
-use Rattle.std.proofs.Common.{◌≡◌, ℕ, zero, suc, ◌+◌, ◌-◌, ◌*◌, ◌≤◌, ℤ, ◌+ℤ◌, List, [], ◌∷◌, length, map, refl, arith, ap, ◌∙◌}
+use Rattle.std.proofs.Common.{◌≡◌, ℕ, zero, suc, ◌+◌, ◌-◌, ◌*◌, ◌<◌, ◌≤◌, ℤ, ◌+ℤ◌, ◌-ℤ◌, List, [], ◌∷◌, All, get_or, length, map, take, drop, w64, FitsSigned, to_z, of_z, refl, arith, ap, ◌∙◌}
 use Rattle.std.proofs.lemmas.Int.{ints}
+use Rattle.std.proofs.lemmas.List.{length-map}
+use Rattle.std.proofs.lemmas.List.Elements.{All-map}
 use Rattle.stream_model.specs.declared.vocabulary.ItemType.{ItemType}
-use Rattle.stream_model.specs.Numbers.{wrap, total}
+use Rattle.stream_model.specs.Numbers.{IsItem, wrap, total}
 use Rattle.stream_model.specs.Lists.{item, item_before, numbers_from}
 use Rattle.stream_model.specs.Kernels.{listed, sum_below}
 use Rattle.stream_model.specs.Settings.{Held}
 use Rattle.stream_model.specs.Meaning.{IsFed, input, given_items}
 use Rattle.stream_model.specs.Kinds.Math.{moving_sum}
 use Rattle.kind_laws.specs.Shared.{sum_below-same}
+use Rattle.lane_work.proofs.Written.{read_item}
+use Rattle.lane_work.proofs.Totals.{total_part, comes_fits, comes_sum, goes_fits, goes_sum}
 use Rattle.block_kinds.specs.Shape.{IsPaced}
 use Rattle.block_kinds.proofs.Fills.{paced, length-paced, past-paced, given-paced}
 
@@ -53,3 +57,33 @@ module _ (t : ItemType) (count : ℕ) (some : 1 ≤ count) (ts : List Held) (xs 
       (sum-turned count (λ j. item w (k + j))
       ∙ sum_below-same count (λ j. item w (k + (count - 1 - j))) (item_before (input xs 0) (1 * first + k))
       (λ j l. ap (item w) (omega arith) ∙ past-paced (moving_sum t count) 1 1 pace ts xs first n state w hs fed k j (omega arith) (omega arith))))
+
+-- a step of a running sum over a window, of which the item `past` behind place k comes, and the one at it goes
+module _ {X : Type 0} (number : X → ℤ) (items : List X) (t : ItemType) (are : All (λ x. IsItem t (number x)) items) (past n k : ℕ) (few : past ≤ 1023)
+    (long : length (map number items) ≡ past + n) (near : k < n) (s : ℤ) (sum : s ≡ total (take past (drop k (map number items))))
+    (come : X) (x : ℤ) (come_is : come ≡ get_or items (past + k) come) (x_is : x ≡ number come) where
+  within : k + past < length (map number items)
+  within = omega (arith, long, near)
+
+  comes : x ≡ item (map number items) (k + past)
+  comes = x_is ∙ read_item number items (past + k) come come_is (omega (arith, within, length-map items number)) ∙ ap (item (map number items)) (omega arith)
+
+  pub added_fits : FitsSigned w64 (s +ℤ to_z w64 (of_z w64 x))
+  added_fits =
+      comes_fits t (map number items) (All-map (IsItem t) number items are) k past within (omega (arith, few)) s x (item (map number items) k) sum comes refl
+
+  module _ (go : X) (y : ℤ) (go_is : go ≡ get_or items k go) (y_is : y ≡ number go) where
+    goes : y ≡ item (map number items) k
+    goes = y_is ∙ read_item number items k go go_is (omega (arith, within, length-map items number))
+
+    pub added_sum : to_z w64 (of_z w64 (s +ℤ to_z w64 (of_z w64 x))) ≡ sum_below (past + 1) (λ j. item (map number items) (k + j))
+    added_sum =
+        comes_sum t (map number items) (All-map (IsItem t) number items are) k past within (omega (arith, few)) s x y sum comes goes
+        ∙ total_part (map number items) k (past + 1) (omega (arith, within))
+
+    pub taken_fits : FitsSigned w64 (to_z w64 (of_z w64 (s +ℤ to_z w64 (of_z w64 x))) -ℤ to_z w64 (of_z w64 y))
+    taken_fits = goes_fits t (map number items) (All-map (IsItem t) number items are) k past within (omega (arith, few)) s x y sum comes goes
+
+    pub taken_sum :
+        to_z w64 (of_z w64 (to_z w64 (of_z w64 (s +ℤ to_z w64 (of_z w64 x))) -ℤ to_z w64 (of_z w64 y))) ≡ total (take past (drop (k + 1) (map number items)))
+    taken_sum = goes_sum t (map number items) (All-map (IsItem t) number items are) k past within (omega (arith, few)) s x y sum comes goes

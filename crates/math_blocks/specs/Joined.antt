@@ -1,21 +1,27 @@
 -- Blocks that make each item of one item of each input.
-use Rattle.std.specs.Prelude.{◌≡◌, ◌≤◌, ℕ, ◌-◌, ℤ, pos, ◌+ℤ◌, List, [], ◌∷◌, ◌++◌, length, All}
+use Rattle.std.specs.Prelude.{◌≡◌, ◌≤◌, ℕ, ◌-◌, ℤ, pos, ◌+ℤ◌, List, [], ◌∷◌, ◌++◌, length, All, true, ◌&&◌}
+use Rattle.std.specs.Cmp.{first_so}
+use denote.Enum.Bare.{sameb}
+use Rattle.std.proofs.Common.{ap}
+use Rattle.stream_model.specs.contracts.vocabulary.ItemType.{the_type}
 use Rattle.stream_model.specs.declared.vocabulary.ItemType.{ItemType}
 use Rattle.stream_model.specs.Numbers.{IsItem, numbers_in, wrap, total}
 use Rattle.stream_model.specs.Kernels.{bits_in}
 use Rattle.stream_model.specs.Meaning.{Meaning}
 use Rattle.stream_model.specs.Kinds.Shapes.{ports, any_ports, at_rate}
-use Rattle.stream_model.specs.Kinds.Math.{items_at, all_bits, add, and_of, or_of, xor_of}
+use Rattle.stream_model.specs.Kinds.Math.{items_at, all_bits}
 use Rattle.items.specs.declared.stream_items.Items.{Items}
 use Rattle.items.specs.Items.{type_of, numbers_of, spare_of}
-use Rattle.math_blocks.specs.declared.add.Add.{Add}
-use Rattle.math_blocks.specs.declared.logic.And.{And}
-use Rattle.math_blocks.specs.declared.logic.Or.{Or}
-use Rattle.math_blocks.specs.declared.logic.Xor.{Xor}
+use Rattle.block_kinds.specs.SameItem.{same_item}
+use Rattle.math_blocks.specs.declared.joined.Joined.{Joined}
 
 -- one input or more, and one output, whose items are what `joins` makes of the inputs' items
 abbrev pub joined_of : (ItemType → List ℤ → ℤ) → ItemType → Meaning
 joined_of joins t = record (at_rate (any_ports t) (ports 1 t) 1 1) { out = λ ts xs p n. joins t (items_at xs n) }
+
+-- blocks that the derived test finds equal mean the same
+pub joined-same : {J : Type 0} (equation : ItemType → Meaning) (a b : Joined J) → (sameb the_type a.item b.item && true) ≡ true → equation a.item ≡ equation b.item
+joined-same equation a b e = ap equation (same_item a.item b.item (first_so (sameb the_type a.item b.item) true e))
 
 -- what is made of one number is the number, and of one more is made by `pair` of it and what was made of the others
 pub record AreJoined (joins : ItemType → List ℤ → ℤ) (pair : ItemType → ℤ → ℤ → ℤ) : Type 0 where
@@ -50,16 +56,3 @@ all_set t = numbers_in t - 1
 
 abbrev pub none_set : ItemType → ℕ
 none_set t = 0
-
--- what the blocks mean
-abbrev pub add_block_of : Add → Meaning
-add_block_of b = add b.item
-
-abbrev pub and_block_of : And → Meaning
-and_block_of b = and_of b.item
-
-abbrev pub or_block_of : Or → Meaning
-or_block_of b = or_of b.item
-
-abbrev pub xor_block_of : Xor → Meaning
-xor_block_of b = xor_of b.item

@@ -1,31 +1,25 @@
 -- What the blocks of arithmetic mean.
-use Rattle.std.specs.Prelude.{◌≡◌, ◌≤◌, ℤ, pos, List, length, map, true, ◌&&◌}
+use Rattle.std.specs.Prelude.{◌≡◌, ◌≤◌, ℤ, pos, List, length, map, Bool, true, ◌&&◌}
 use Rattle.std.specs.Ordering.{int_eq}
 use Rattle.std.specs.Cmp.{first_so, second_so, signed_Decides}
 use denote.Enum.Bare.{sameb}
 use Rattle.std.specs.Cmp.Lexicographic.{pointwise}
-use Rattle.std.proofs.Common.{ap, sym, nat_eq}
+use Rattle.std.proofs.Common.{ap, ap₂, sym, nat_eq}
 use Rattle.std.specs.Cmp.Lexicographic.{same_text}
 use Rattle.stream_model.specs.contracts.vocabulary.ItemType.{the_type}
+use Rattle.stream_model.specs.declared.vocabulary.ItemType.{ItemType}
 use Rattle.stream_model.specs.declared.vocabulary.ItemType.TheVariants.{Byte}
 use Rattle.stream_model.specs.Numbers.{AreItems}
 use Rattle.stream_model.specs.Meaning.{Meaning, IsLawful}
-use Rattle.stream_model.specs.Kinds.Math.{add_const, multiply_const, scale, not_of, convert, map_bb, moving_sum}
+use Rattle.stream_model.specs.Kinds.Math.{scale, not_of, convert, map_bb, moving_sum}
 use Rattle.block_kinds.specs.SameItem.{same_item, same_number}
-use Rattle.math_blocks.specs.declared.add_const.AddConst.{AddConst}
+use Rattle.math_blocks.specs.declared.constant.Constant.{Constant}
 use Rattle.math_blocks.specs.declared.convert.Convert.{Convert}
 use Rattle.kind_laws.specs.Math.{map_bb-lawful}
 use Rattle.math_blocks.specs.declared.map_bb.MapBb.{MapBb}
 use Rattle.math_blocks.specs.declared.moving_sum.MovingSum.{MovingSum}
 use Rattle.math_blocks.specs.declared.not.Not.{Not}
-use Rattle.math_blocks.specs.declared.multiply_const.MultiplyConst.{MultiplyConst}
 use Rattle.math_blocks.specs.declared.scale.Scale.{Scale}
-
-abbrev pub add_const_of : AddConst → Meaning
-add_const_of b = add_const b.item b.value
-
-abbrev pub multiply_const_of : MultiplyConst → Meaning
-multiply_const_of b = multiply_const b.item b.value
 
 abbrev pub scale_of : Scale → Meaning
 scale_of b = scale b.item b.factor b.shift
@@ -40,25 +34,22 @@ abbrev pub convert_of : Convert → Meaning
 convert_of b = convert b.item b.to
 
 -- blocks that the derived test finds equal mean the same
-pub add_const-same : (a b : AddConst) → (sameb the_type a.item b.item && int_eq a.value b.value) ≡ true → add_const_of a ≡ add_const_of b
-add_const-same a b e =
-    let item_same = same_item a.item b.item (first_so (sameb the_type a.item b.item) (int_eq a.value b.value) e) in
-    let value_same = (signed_Decides a.value b.value).0 (second_so (sameb the_type a.item b.item) (int_eq a.value b.value) e) in
-    λ i. add_const (item_same i) (value_same i)
+same_numbers : (s t : ItemType) (y z : ℤ) (rest : Bool) → (sameb the_type s t && (int_eq y z && rest)) ≡ true → (s ≡ t) × (y ≡ z) × (rest ≡ true)
+same_numbers s t y z rest e =
+    let others = second_so (sameb the_type s t) (int_eq y z && rest) e in
+    (same_item s t (first_so (sameb the_type s t) (int_eq y z && rest) e), (signed_Decides y z).0 (first_so (int_eq y z) rest others), second_so (int_eq y z) rest others)
 
-pub multiply_const-same : (a b : MultiplyConst) → (sameb the_type a.item b.item && int_eq a.value b.value) ≡ true → multiply_const_of a ≡ multiply_const_of b
-multiply_const-same a b e =
-    let item_same = same_item a.item b.item (first_so (sameb the_type a.item b.item) (int_eq a.value b.value) e) in
-    let value_same = (signed_Decides a.value b.value).0 (second_so (sameb the_type a.item b.item) (int_eq a.value b.value) e) in
-    λ i. multiply_const (item_same i) (value_same i)
+pub constant-same :
+    {A : Type 0} (equation : ItemType → ℤ → Meaning) (a b : Constant A) → (sameb the_type a.item b.item && (int_eq a.value b.value && true)) ≡ true →
+    equation a.item a.value ≡ equation b.item b.value
+constant-same equation a b e = let same = same_numbers a.item b.item a.value b.value true e in ap₂ equation same.0 same.1
 
 pub scale-same : (a b : Scale) → (sameb the_type a.item b.item && (int_eq a.factor b.factor && nat_eq a.shift b.shift)) ≡ true → scale_of a ≡ scale_of b
 scale-same a b e =
-    let rest = second_so (sameb the_type a.item b.item) (int_eq a.factor b.factor && nat_eq a.shift b.shift) e in
-    let item_same = same_item a.item b.item (first_so (sameb the_type a.item b.item) (int_eq a.factor b.factor && nat_eq a.shift b.shift) e) in
-    let factor_same = (signed_Decides a.factor b.factor).0 (first_so (int_eq a.factor b.factor) (nat_eq a.shift b.shift) rest) in
-    let shift_same = same_number a.shift b.shift (second_so (int_eq a.factor b.factor) (nat_eq a.shift b.shift) rest) in
-    λ i. scale (item_same i) (factor_same i) (shift_same i)
+    let same = same_numbers a.item b.item a.factor b.factor (nat_eq a.shift b.shift) e in
+    let item_same = same.0 in
+    let factor_same = same.1 in
+    λ i. scale (item_same i) (factor_same i) (same_number a.shift b.shift same.2 i)
 
 pub convert-same : (a b : Convert) → (sameb the_type a.item b.item && sameb the_type a.to b.to) ≡ true → convert_of a ≡ convert_of b
 convert-same a b e =

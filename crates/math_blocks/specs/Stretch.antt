@@ -1,9 +1,20 @@
 -- Stretches of items between two settings, where the settings are numbers.
-use Rattle.std.specs.Prelude.{ℕ, ℤ, pos, List, [], ◌∷◌, All}
+use Rattle.std.specs.Prelude.{ℕ, ℤ, pos, List, [], ◌∷◌, All, Some}
 use Rattle.stream_model.specs.declared.vocabulary.ItemType.{ItemType}
 use Rattle.stream_model.specs.Numbers.{IsItem}
-use Rattle.stream_model.specs.Settings.{Held, latest}
-use Rattle.stream_model.specs.Kinds.Shapes.{number_set}
+use Rattle.stream_model.specs.Lists.{item}
+use Rattle.stream_model.specs.Meaning.{Meaning, input}
+use Rattle.stream_model.specs.Settings.{Held, Number, latest}
+use Rattle.stream_model.specs.Kinds.Shapes.{sync, any_number, number_set, number_at}
+
+-- each item made of the one at its place and the number in force there, which is of type u, and v where none is set
+abbrev pub each_of : ItemType → ItemType → ℤ → (ℤ → ℤ → ℤ) → Meaning
+each_of t u v gives =
+    record (sync t t) {
+      setting = Some (any_number u);
+      own = Some (Number v);
+      out = λ ts xs p n. gives (number_at v ts n) (item (input xs 0) n);
+    }
 
 -- each of these settings sets a number in the type's range
 abbrev pub SetItems : ItemType → List Held → Type 0

@@ -3,29 +3,29 @@ ghost use Rattle.std.specs.Prelude.{◌≡◌, ◌≤◌, ◌+◌, ◌-◌, ◌+
 ghost use Rattle.stream_model.specs.declared.vocabulary.ItemType.{ItemType};
 ghost use Rattle.stream_model.specs.Lists.{item};
 ghost use Rattle.stream_model.specs.Kernels.{listed};
-ghost use Rattle.stream_model.specs.Settings as model;
+ghost use Rattle.stream_model.specs.Meaning.{Meaning, IsLawful};
 ghost use Rattle.stream_model.specs.Kinds.Math.{items_at};
 ghost use Rattle.items.specs.Items.{type_of, numbers_of, spare_of};
-ghost use Rattle.block_kinds.specs.Work.{CanWork, HasWorked, IsWorkOf};
 ghost use Rattle.math_blocks.specs.Joined.{AreJoined, CanJoin, joined_of};
 
-use block_kinds::Held;
-use items::Items;
+use block_kinds::{Block, ByPace, Held, Shape, any_ports, ports};
+use items::{ItemType, Items};
 use lane_kernels::SimdLane;
 use numbers::Number;
+use std::marker::PhantomData;
 
-/// A block that joins the items at one place of its inputs in one.
-pub(crate) trait Joins {
-    /// The type of the items.
-    ghost takes: { Self → ItemType };
-
-    /// What it makes of one item of each input.
+/// How items are joined in one.
+pub trait Joins: Eq + Drop {
+    /// What is made of one item of each input.
     ghost joins: { ItemType → List ℤ → ℤ };
 
-    /// What it makes of two items.
+    /// What is made of two items.
     ghost pair: { ItemType → ℤ → ℤ → ℤ };
 
-    /// Writes what it makes of each two items at one place.
+    /// What a block means that joins its inputs so.
+    ghost equation: { ItemType → Meaning };
+
+    /// Writes what is made of each two items at one place.
     fn join<T: SimdLane>(a: &[T], b: &[T], out: &mut [T])
         requires same_length { length a.now ≡ length b.now }
         requires out_length { length out.old ≡ length a.now }
@@ -38,6 +38,63 @@ pub(crate) trait Joins {
         requires room { vec_len out.old + length a.now ≤ vec_capacity out.old }
         ensures { map T.number out.new.items ≡ map T.number out.old.items ++ listed (length a.now)
             (λ k. pair T.kind (item (map T.number a.now) k) (item (map T.number b.now) k)) };
+
+    /// Items may be joined one after the other.
+    ghost one_by_one: { AreJoined joins pair };
+
+    /// The equation says what is made of one item of each input.
+    ghost is_joined: { (t : ItemType) → joined_of joins t ≡ equation t };
+
+    /// The equation keeps the laws.
+    ghost lawful: { (t : ItemType) → IsLawful (equation t) };
+}
+
+/// A block that joins the items at one place of its 1 to 16 inputs in one.
+#[derive(Debug, Drop, PartialEq, Eq)]
+pub struct Joined<J> {
+    item: ItemType,
+    joins: PhantomData<J>,
+}
+
+impl<J: Joins> Joined<J> {
+    /// The block for items of this type.
+    pub fn new(item: ItemType) -> Joined<J>
+        ensures { J.equation result.item ≡ J.equation item }
+    {
+        Joined {
+            item,
+            joins: PhantomData,
+        }
+    }
+}
+
+impl<J: Joins> Block for Joined<J> {
+    ghost use Rattle.math_blocks.specs.Joined.{joined-same};
+
+    ghost meaning = { λ b. J.equation b.item };
+
+    type Places = ByPace;
+
+    fn shape(&self, _input: usize) -> Shape<'_> {
+        Shape::at_rate(any_ports(self.item), ports(1, self.item), 1, 1)
+    }
+
+    fn work(
+        &self,
+        _state: u64,
+        _first: u64,
+        count: u64,
+        windows: &[Items],
+        _held: &[Held],
+        out: &mut [Items],
+    ) -> u64 {
+        join_windows::<J>(windows, count as usize, &mut out[0]);
+        0
+    }
+
+    ghost lawful = { λ b. J.lawful b.item };
+
+    ghost same = { joined-same J.equation };
 }
 
 /// How many items are joined at once, from a copy of those that are written over.
@@ -108,8 +165,7 @@ fn append_pair<T: SimdLane, J: Joins>(a: &[T], b: &[T], out: &mut Vec<T>)
 /// Writes what is made of the items of the first windows, two where there are two, into an empty `out` with room for it, and answers how
 /// many windows these are.
 fn join_first<J: Joins>(windows: &[Items], count: usize, out: &mut Items) -> usize
-    requires joins { AreJoined J.joins J.pair }
-    requires can { CanJoin count windows.now out.old }
+    requires { CanJoin count windows.now out.old }
     ensures there { result ≤ length windows.now }
     ensures item_type { type_of out.new ≡ type_of out.old }
     ensures numbers { numbers_of out.new ≡ listed count (λ k. J.joins (type_of out.old) (items_at (map numbers_of (take result windows.now)) k)) }
@@ -126,8 +182,7 @@ fn join_first<J: Joins>(windows: &[Items], count: usize, out: &mut Items) -> usi
 
 /// Writes what is made of the items of all windows into an empty `out` with room for it.
 fn join_windows<J: Joins>(windows: &[Items], count: usize, out: &mut Items)
-    requires joins { AreJoined J.joins J.pair }
-    requires can { CanJoin count windows.now out.old }
+    requires { CanJoin count windows.now out.old }
     ensures item_type { type_of out.new ≡ type_of out.old }
     ensures numbers { numbers_of out.new ≡ listed count (λ k. J.joins (type_of out.old) (items_at (map numbers_of windows.now) k)) }
 {
@@ -135,23 +190,4 @@ fn join_windows<J: Joins>(windows: &[Items], count: usize, out: &mut Items)
     for p in begun..windows.len() {
         join_items_into::<J>(&windows[p], out);
     }
-}
-
-/// The `work` of a block that joins its inputs.
-pub(crate) fn work_joins<J: Joins>(
-    block: &J,
-    state: u64,
-    first: u64,
-    count: u64,
-    windows: &[Items],
-    held: &[Held],
-    out: &mut [Items],
-) -> u64
-    requires joins { AreJoined J.joins J.pair }
-    requires can { CanWork (joined_of J.joins (J.takes block.now)) first count state windows.now held.now out.old }
-    ensures items { HasWorked (joined_of J.joins (J.takes block.now)) first count state windows.now held.now out.old out.new }
-    ensures word { result ≡ 0 }
-{
-    join_windows::<J>(windows, count as usize, &mut out[0]);
-    0
 }

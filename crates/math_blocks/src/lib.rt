@@ -3,8 +3,9 @@
 
 pub mod add;
 pub mod add_const;
+pub mod constant;
 pub mod convert;
-mod joined;
+pub mod joined;
 pub mod logic;
 pub mod map_bb;
 pub mod moving_sum;

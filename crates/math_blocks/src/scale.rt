@@ -4,10 +4,8 @@ ghost use Rattle.stream_model.specs.declared.vocabulary.ItemType.TheVariants as 
 ghost use Rattle.stream_model.specs.Numbers.{IsItem};
 ghost use Rattle.stream_model.specs.Kinds.Math.{scale};
 
-use crate::stretch::{EachItem, run_items};
-use block_kinds::{
-    Block, ByPace, Held, ParamFault, Parameter, Setting, Shape, Single, work_single,
-};
+use crate::stretch::{EachItem, work_each};
+use block_kinds::{Block, ByPace, Held, ParamFault, Parameter, Setting, Shape};
 use items::{ItemType, Items};
 use lane_kernels::{SimdLane, append_scale_sat};
 use numbers::Number;
@@ -55,33 +53,15 @@ impl EachItem for Scale {
 
     ghost number_type = { λ b. types.Short };
 
+    ghost own = { λ b. b.factor };
+
     ghost gives = { λ b factor z. scaled b.item factor b.shift z };
 
     fn run<T: SimdLane>(&self, number: i64, items: &[T], out: &mut Vec<T>) {
         append_scale_sat(items, i16::narrow(number), self.shift, out);
     }
-}
 
-impl Single for Scale {
-    ghost use Rattle.std.specs.Prelude.{refl};
-    ghost use Rattle.math_blocks.specs.Kinds.{scale_of};
-
-    ghost equation = { scale_of };
-
-    fn fill(
-        &self,
-        _state: u64,
-        first: u64,
-        _count: u64,
-        window: &Items,
-        held: &[Held],
-        out: &mut Items,
-    ) -> u64 {
-        run_items(self, window, held, first, out);
-        0
-    }
-
-    ghost single = { λ b. record { in_least = refl; in_most = refl; out_least = refl; out_most = refl } };
+    ghost in_range = { λ b. b.in_range };
 }
 
 impl Block for Scale {
@@ -112,7 +92,7 @@ impl Block for Scale {
         held: &[Held],
         out: &mut [Items],
     ) -> u64 {
-        work_single(self, state, first, count, windows, held, out)
+        work_each(self, state, first, count, windows, held, out)
     }
 
     ghost lawful = { λ b. scale-lawful b.item b.factor b.shift b.in_range };

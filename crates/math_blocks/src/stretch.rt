@@ -8,7 +8,8 @@ ghost use Rattle.stream_model.specs.Kinds.Shapes.{number_set};
 ghost use Rattle.items.specs.Items.{type_of, numbers_of, spare_of};
 ghost use Rattle.settings.specs.Values.{value_of, held_of};
 ghost use Rattle.block_kinds.specs.InForce.{AreOver};
-ghost use Rattle.math_blocks.specs.Stretch.{SetItems, number_among, end_before};
+ghost use Rattle.block_kinds.specs.Work.{CanWork, HasWorked};
+ghost use Rattle.math_blocks.specs.Stretch.{SetItems, each_of, number_among, end_before};
 
 use block_kinds::{Held, Value};
 use items::Items;
@@ -22,6 +23,9 @@ pub(crate) trait EachItem {
     /// The type in whose range the number lies.
     ghost number_type: { Self → ItemType };
 
+    /// The number that is in force until a setting replaces it.
+    ghost own: { Self → ℤ };
+
     /// What is made of an item, where the first number is in force.
     ghost gives: { Self → ℤ → ℤ → ℤ };
 
@@ -34,6 +38,9 @@ pub(crate) trait EachItem {
             ≡ map T.number out.old.items ++ listed (length items.now) (λ k. gives self.now number (item (map T.number items.now) k)) }
         ensures len { vec_len out.new ≡ vec_len out.old + length items.now }
         ensures capacity { vec_capacity out.old ≤ vec_capacity out.new };
+
+    /// The number of its own is in range.
+    ghost in_range: { (b : Self) → IsItem (number_type b) (own b) };
 }
 
 // The number that a value sets. Taps set none, which counts as 0.
@@ -87,15 +94,9 @@ fn run_stretches<T: SimdLane, B: EachItem>(
     }
 }
 
-/// Writes what the block makes of each item into an empty `out` with room for it. The items are those of their stream
-/// from item `from` on, and the settings those over them.
-pub(crate) fn run_items<B: EachItem>(
-    block: &B,
-    items: &Items,
-    held: &[Held],
-    from: u64,
-    out: &mut Items,
-)
+// Writes what the block makes of each item into an empty `out` with room for it. The items are those of their stream
+// from item `from` on, and the settings those over them.
+fn run_items<B: EachItem>(block: &B, items: &Items, held: &[Held], from: u64, out: &mut Items)
     requires kind { B.takes block.now ≡ type_of items.now }
     requires same_type { type_of items.now ≡ type_of out.old }
     requires over { AreOver from (from + length (numbers_of items.now)) (map held_of held.now) }
@@ -113,4 +114,23 @@ pub(crate) fn run_items<B: EachItem>(
         (Items::Int(items), Items::Int(out)) => run_stretches(block, items, held, from, out),
         _ => unreachable!(),
     }
+}
+
+/// The `work` of a block that makes each item of one item, by a number that may be set.
+pub(crate) fn work_each<B: EachItem>(
+    block: &B,
+    state: u64,
+    first: u64,
+    count: u64,
+    windows: &[Items],
+    held: &[Held],
+    out: &mut [Items],
+) -> u64
+    requires { CanWork (each_of (B.takes block.now) (B.number_type block.now) (B.own block.now) (B.gives block.now)) first count state windows.now held.now out.old }
+    ensures items { HasWorked (each_of (B.takes block.now) (B.number_type block.now) (B.own block.now) (B.gives block.now)) first count state
+        windows.now held.now out.old out.new }
+    ensures word { result ≡ 0 }
+{
+    run_items(block, &windows[0], held, first, &mut out[0]);
+    0
 }

@@ -23,7 +23,7 @@ use Rattle.stores.specs.Delivery.{CanDeliver, delivered}
 use Rattle.stores.proofs.Deliverable.{can_deliver}
 use Rattle.stores.proofs.Delivered.{delivered_is_committed}
 use Rattle.stores.proofs.Flights.{flight_was, flight_room-other}
-use Rattle.flights.proofs.Claiming.{flight_decides}
+use Rattle.plant.proofs.InFlight.{flight_decides}
 use Rattle.plant.specs.Plant.{Keeps, IsFlight, IsItsWork, with_claim_done}
 
 module _ (net : Network) (caps : Capacities) (s : Stores) (ps : List Progress) (b : ℕ) (in' : b < length net.nodes) (some : 0 < (progress_at ps b).claimed) where

@@ -17,7 +17,7 @@ use Rattle.firings.specs.Decision.{answer_of}
 use Rattle.firings.specs.Firings.{abandoned}
 use Rattle.firings.specs.declared.decision.Decision.{Decision}
 use Rattle.firings.specs.declared.decision.Decision.TheVariants as decision
-use Rattle.flights.proofs.Agreeing.{jobs_agree-same}
+use Rattle.machine_laws.proofs.Agreeing.{jobs_agree-same}
 use Rattle.stores.specs.declared.stores.Stores.{Stores}
 use Rattle.stores.specs.Stores.{state_of, stored_in}
 use Rattle.plant.specs.Plant.{Keeps, KeepsBut, IsFlight, with_claim_done, without_claim}

@@ -7,6 +7,9 @@ pub mod Shows
 pub mod Sets
 pub mod Kept
 pub mod Committing
+pub mod Sights
+pub mod InFlight
+pub mod Multiples
 pub mod Returning
 pub mod Abandoning
 pub mod Claiming

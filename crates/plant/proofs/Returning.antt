@@ -16,9 +16,10 @@ use Rattle.jobs.specs.Jobs.{AreTaken, AreGiven, WasFed, IsDone}
 use Rattle.plant_laws.specs.Calls.{IsWorked}
 use Rattle.stores.specs.declared.stores.Stores.{Stores}
 use Rattle.stores.specs.Stores.{state_of}
-use Rattle.flights.specs.Flight.{IsClaim, is_own}
-use Rattle.flights.proofs.Claiming.{flight_decides, own_means}
-use Rattle.flights.proofs.Multiples.{work_is}
+use Rattle.plant.specs.Flight.{IsClaim}
+use Rattle.plant.specs.Own.{is_own}
+use Rattle.plant.proofs.InFlight.{flight_decides, own_means}
+use Rattle.plant.proofs.Multiples.{work_is}
 use Rattle.plant.specs.declared.parts.Parts.{Parts}
 use Rattle.plant.specs.Plant.{PlantState, IsRight, plant_of, IsFlight, IsItsWork, with_claim_done}
 

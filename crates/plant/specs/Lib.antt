@@ -1,6 +1,9 @@
 pub mod Fault
 pub mod Texts
 pub mod Plant
+pub mod Own
+pub mod Flight
+pub mod Seen
 pub mod Answers
 pub mod Opening
 pub mod Keeping

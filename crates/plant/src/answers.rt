@@ -19,7 +19,7 @@ pub struct Closed(pub u64);
 pub struct Taken(pub u64);
 
 /// What a claim returns.
-#[derive(Drop)]
+#[derive(Debug, Drop)]
 pub enum Claim<B: Block> {
     /// The firings that were claimed: at least one, with all that their work needs.
     Claimed(Job<B>),

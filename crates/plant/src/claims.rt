@@ -16,14 +16,13 @@ use crate::answers::{Claim, Step};
 use crate::fault::PlantFault;
 use crate::parts::Parts;
 use crate::source_tapes::SourceTapes;
-use delivery::release;
 use firings::Decision;
 use flowgraph::{Block, BlockId};
 use jobs::{Job, Lent};
-use lending::{lend, make_room};
 use std::alloc::{AllocError, Global};
 use std::mem::replace;
 use std::sync::Arc;
+use transfers::{lend, make_room, release};
 
 impl<B: Block> Parts<B> {
     /// Claims at most `max` firings of a block, and makes room for their commit.
@@ -34,7 +33,7 @@ impl<B: Block> Parts<B> {
         ensures answered { let old = plant_of self.old in Answered (next (net_of B.meaning old.graph) old.capacities old.state (machine.Claim block.0 max)) old (plant_of self.new) (reply_of claim_reply result) }
         ensures of_graph { IfOk result (IsOf (plant_of self.old).graph) }
     {
-        self.graph.in_order();
+        self.graph.recall();
         if self.graph.len() <= block.0 as usize {
             return Err(PlantFault::NoSuchBlock);
         }
@@ -56,7 +55,7 @@ impl<B: Block> Parts<B> {
         ensures right { IsRight B.meaning self.new }
         ensures answered { let old = plant_of self.old in Answered (step_of (net_of B.meaning old.graph) old.capacities old.state block.0 max) old (plant_of self.new) (reply_of step_reply result) }
     {
-        self.graph.in_order();
+        self.graph.recall();
         if self.graph.len() <= block.0 as usize {
             return Err(PlantFault::NoSuchBlock);
         }
@@ -83,7 +82,7 @@ impl<B: Block> Parts<B> {
         ensures right { IsRightBut B.meaning self.new block.0 }
         ensures rest { is_claimed result ≡ false → IsRight B.meaning self.new }
     {
-        self.graph.in_order();
+        self.graph.recall();
         let decision = self.firings.claim(
             &self.graph,
             self.capacities.rows(),
@@ -113,7 +112,7 @@ impl<B: Block> Parts<B> {
         ensures same { OnOk result (plant_of self.new ≡ plant_of self.old) }
         ensures given_up { let old = plant_of self.old in OnErr result (plant_of self.new ≡ record old { state = without_claim old.state block.0 }) }
     {
-        self.graph.in_order();
+        self.graph.recall();
         match self.made_job(alloc, block, first, count) {
             Ok(job) => Ok(job),
             Err(refusal) => {
@@ -138,7 +137,7 @@ impl<B: Block> Parts<B> {
         ensures graph { IfOk result (λ job. job.graph ≡ (plant_of self.old).graph) }
         ensures job { let old = plant_of self.old in IfOk result (λ job. job.job ≡ in_flight (net_of B.meaning old.graph) old.state block.0) }
     {
-        self.graph.in_order();
+        self.graph.recall();
         let graph = Arc::try_clone(&self.graph)?;
         self.lend(alloc, block, first, count)?;
         let lent = replace(&mut self.lent[block.0 as usize], Lent::new(alloc));
@@ -160,7 +159,7 @@ impl<B: Block> Parts<B> {
         ensures fired { let old = plant_of self.old in OnOk result (plant_of self.new ≡ record old { state = with_claim_done old.state block.0 }) }
         ensures given_up { let old = plant_of self.old in OnErr result (plant_of self.new ≡ record old { state = without_claim old.state block.0 }) }
     {
-        self.graph.in_order();
+        self.graph.recall();
         match self.lend(alloc, block, first, count) {
             Ok(()) => {
                 let word = self.work(block, first, count);
@@ -183,7 +182,7 @@ impl<B: Block> Parts<B> {
         ensures same { plant_of self.new ≡ plant_of self.old }
         ensures work { IsDoneBy B.meaning self.new block.0 result }
     {
-        self.graph.in_order();
+        self.graph.recall();
         let multiple = u64::from(self.graph.options(block).multiple);
         let lent = &mut self.lent[block.0 as usize];
         self.graph.block(block).work(
@@ -211,7 +210,7 @@ impl<B: Block> Parts<B> {
         ensures room { OnOk result (IsRight B.meaning self.new) }
         ensures lent { OnOk result (IsLentTo B.meaning self.new block.0 first count) }
     {
-        self.graph.in_order();
+        self.graph.recall();
         make_room(&mut self.stores, &self.graph, block, first, count)?;
         lend(
             alloc,

@@ -4,16 +4,17 @@ ghost use Rattle.std.specs.Prelude.{◌≡◌};
 ghost use Rattle.stream_model.specs.Machine as machine;
 ghost use Rattle.stream_model.specs.Machine.{commit_of, abandon_of};
 ghost use Rattle.flowgraph.specs.Flowgraph.{net_of};
-ghost use Rattle.flights.specs.Flight.{is_own};
+ghost use Rattle.plant.specs.Own.{is_own};
 ghost use Rattle.plant.specs.Plant.{IsRight, IsFlight, IsDoneBy, plant_of, with_claim_done};
 ghost use Rattle.plant.specs.Answers.{IsTaken};
 
 use crate::answers::Did;
+use crate::brought::Brought;
+use crate::flight::is_in_flight;
 use crate::parts::Parts;
-use delivery::deliver;
-use flights::{Brought, is_in_flight};
 use flowgraph::{Block, BlockId};
 use jobs::{Job, Worked};
+use transfers::deliver;
 
 impl<B: Block> Parts<B> {
     /// Commits the work of the claim in flight of a block. Any other work comes back.
@@ -23,7 +24,7 @@ impl<B: Block> Parts<B> {
         ensures taken { let old = plant_of self.old in
             IsTaken (λ d. machine.Did d.0) (commit_of (net_of B.meaning old.graph) old.state (is_own B.eq old.graph worked.graph worked.job.block) worked.job) old (plant_of self.new) worked result }
     {
-        self.graph.in_order();
+        self.graph.recall();
         if !is_in_flight(
             &self.stores,
             &self.firings,
@@ -32,8 +33,8 @@ impl<B: Block> Parts<B> {
         ) {
             return Err(worked);
         }
-        worked.graph().in_order();
-        worked.in_order();
+        worked.graph().recall();
+        worked.recall();
         let (block, first, count) = (worked.block(), worked.first(), worked.count());
         let word = worked.next_word();
         self.lent[block.0 as usize] = worked.into_lent();
@@ -48,7 +49,7 @@ impl<B: Block> Parts<B> {
         ensures taken { let old = plant_of self.old in
             IsTaken (λ u. machine.Abandoned) (abandon_of (net_of B.meaning old.graph) old.state (is_own B.eq old.graph job.graph job.job.block) job.job) old (plant_of self.new) job result }
     {
-        self.graph.in_order();
+        self.graph.recall();
         if !is_in_flight(
             &self.stores,
             &self.firings,
@@ -71,7 +72,7 @@ impl<B: Block> Parts<B> {
         ensures right { IsRight B.meaning self.new }
         ensures state { let old = plant_of self.old in plant_of self.new ≡ record old { state = with_claim_done old.state block.0 } }
     {
-        self.graph.in_order();
+        self.graph.recall();
         let lent = &self.lent[block.0 as usize];
         deliver(
             &mut self.stores,

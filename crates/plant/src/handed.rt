@@ -12,6 +12,7 @@ use crate::parts::Parts;
 use firings::{Firings, Progress};
 use flowgraph::{Block, BlockId, Valid};
 use std::alloc::{AllocError, Global};
+use std::fmt;
 use std::marker::Model;
 use std::sync::Arc;
 use stores::{Intake, IntakeCopy};
@@ -22,6 +23,12 @@ use stores::{Intake, IntakeCopy};
 pub struct Handed<B: Block> {
     graph: Arc<Valid<B>, Global>,
     blocks: Vec<IntakeCopy>,
+}
+
+impl<B: Block> fmt::Debug for Handed<B> {
+    fn fmt<W: fmt::Write>(&self, f: &mut fmt::Formatter<W>) -> fmt::Result {
+        f.debug_struct("Handed").finish_non_exhaustive()
+    }
 }
 
 impl<B: Block> Model for Handed<B> {
@@ -38,6 +45,12 @@ impl<B: Block> Model for Handed<B> {
 pub struct Opening<B: Block> {
     handed: Handed<B>,
     progress: Vec<Progress>,
+}
+
+impl<B: Block> fmt::Debug for Opening<B> {
+    fn fmt<W: fmt::Write>(&self, f: &mut fmt::Formatter<W>) -> fmt::Result {
+        f.debug_struct("Opening").finish_non_exhaustive()
+    }
 }
 
 impl<B: Block> Model for Opening<B> {

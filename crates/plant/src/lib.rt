@@ -2,16 +2,19 @@
 #![tactic(auto)]
 
 pub mod answers;
+mod brought;
 mod checks;
 mod claims;
 mod commits;
 pub mod fault;
+mod feeds;
+mod flight;
 pub mod handed;
-mod handing;
 mod opening;
 mod parts;
 pub mod plant;
 mod reading;
+mod seen;
 pub mod settle;
 mod source_tapes;
 mod waits;

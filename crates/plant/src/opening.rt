@@ -49,7 +49,7 @@ fn shared<B: Block>(
     ensures opens { IfOk result (λ parts. plant_of parts ≡ opening_plant B.meaning graph) }
     ensures back { IfErr result (λ refusal. refusal.0 ≡ graph) }
 {
-    graph.in_order();
+    graph.recall();
     match Arc::new(alloc, graph) {
         Ok(graph) => Ok(Parts {
             graph,
@@ -67,7 +67,7 @@ fn shared<B: Block>(
 fn prepare<B: Block>(alloc: Global, graph: &Valid<B>) -> Result<Fresh, AllocError>
     ensures { IfOk result (IsFresh (net_of B.meaning graph.now)) }
 {
-    graph.in_order();
+    graph.recall();
     let rates = balance(alloc, graph)?;
     let capacities = capacities(alloc, graph, &rates)?;
     let blocks = graph.len();

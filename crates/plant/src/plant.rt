@@ -13,7 +13,7 @@ ghost use Rattle.items.specs.Items.{type_of, numbers_of};
 ghost use Rattle.settings.specs.Values.{value_of};
 ghost use Rattle.flowgraph.specs.Agreeing.{graphs_agree};
 ghost use Rattle.flowgraph.specs.Flowgraph.{net_of};
-ghost use Rattle.flights.specs.Flight.{is_own};
+ghost use Rattle.plant.specs.Own.{is_own};
 ghost use Rattle.stream_laws.specs.CanRun.{CanRun};
 ghost use Rattle.graph_model.specs.Rates.{balance_of, capacities_of};
 ghost use Rattle.machine_laws.specs.Sound.{Sound};
@@ -46,12 +46,19 @@ use jobs::{Job, Worked};
 use rates::Rates;
 use settings::Value;
 use std::alloc::{AllocError, Global};
+use std::fmt;
 use std::marker::Model;
 use std::sync::Arc;
 
 /// A flowgraph with what it was handed and how far it is. A contract sees the graph, the capacities, and the machine's state.
 pub struct Plant<B: Block> {
     parts: Parts<B>,
+}
+
+impl<B: Block> fmt::Debug for Plant<B> {
+    fn fmt<W: fmt::Write>(&self, f: &mut fmt::Formatter<W>) -> fmt::Result {
+        f.debug_struct("Plant").finish_non_exhaustive()
+    }
 }
 
 // By hand, so that no crate above proves the drop of each part again.
@@ -125,7 +132,7 @@ impl<B: Block> Plant<B> {
         ensures value { result ≡ is_all_done self.now.state }
         ensures whole { result ≡ true → IsWhole (net_of B.meaning self.now.graph) self.now.state }
     {
-        self.parts.graph.in_order();
+        self.parts.graph.recall();
         self.parts.firings.all_done()
     }
 
@@ -136,7 +143,7 @@ impl<B: Block> Plant<B> {
         ensures whole { result ≡ true → IsSettled (net_of B.meaning self.now.graph) self.now.state }
     {
         let parts = &self.parts;
-        parts.graph.in_order();
+        parts.graph.recall();
         parts.firings.quiet(
             &parts.graph,
             parts.capacities.rows(),
@@ -332,7 +339,7 @@ impl<B: Block> Plant<B> {
         ensures graph { IfOk result (λ o. o.graph ≡ self.now.graph) }
         ensures state { IfOk result (λ o. o.state ≡ self.now.state) }
     {
-        self.parts.graph.in_order();
+        self.parts.graph.recall();
         self.parts.opening(alloc)
     }
 
@@ -373,13 +380,13 @@ impl<B: Block> Plant<B> {
 
     /// Recalls what every plant keeps: the graph can run, the capacities are those of its rates, the state is one that calls lead to, and whatever
     /// list of calls is made, each answered as its contract says, replies and state are a run of the machine. It does nothing.
-    pub fn in_order(&self)
+    pub fn recall(&self)
         ensures runs { CanRun (net_of B.meaning self.now.graph) }
         ensures capacities { self.now.capacities ≡ capacities_of (net_of B.meaning self.now.graph) (balance_of (net_of B.meaning self.now.graph)) }
         ensures sound { Sound (net_of B.meaning self.now.graph) self.now.capacities self.now.state }
         ensures composes { (made : List Made) (new : PlantState B) → Leads (net_of B.meaning self.now.graph) self.now made new →
             IsRun (net_of B.meaning self.now.graph) self.now made new }
     {
-        self.parts.graph.in_order();
+        self.parts.graph.recall();
     }
 }

@@ -31,7 +31,7 @@ impl<B: Block> Parts<B> {
         ensures typed { let plant = plant_of self.now in IfOk result (λ piece. type_of piece.items ≡ (node_at (net_of B.meaning plant.graph) sink.0).meaning.inputs.item) }
         ensures whole { let plant = plant_of self.now in IfOk result (λ piece. piece.done ≡ true → HoldsAll (net_of B.meaning plant.graph) plant.state sink.0) }
     {
-        self.graph.in_order();
+        self.graph.recall();
         if self.graph.len() <= sink.0 as usize {
             return Err(PlantFault::NoSuchBlock);
         }
@@ -60,7 +60,7 @@ impl<B: Block> Parts<B> {
         ensures typed { let plant = plant_of self.now in IfOk result (λ view. type_of view.items.now ≡ (node_at (net_of B.meaning plant.graph) sink.0).meaning.inputs.item) }
         ensures whole { let plant = plant_of self.now in IfOk result (λ view. view.done ≡ true → HoldsAll (net_of B.meaning plant.graph) plant.state sink.0) }
     {
-        self.graph.in_order();
+        self.graph.recall();
         if self.graph.len() <= sink.0 as usize {
             return Err(PlantFault::NoSuchBlock);
         }
@@ -99,7 +99,7 @@ impl<B: Block> Parts<B> {
         ensures refused { let plant = plant_of self.now in fault_in result ≡ port_fault (net_of B.meaning plant.graph) block.0 port }
         ensures kept { let plant = plant_of self.now in IfOk result (IsKeptOf (net_of B.meaning plant.graph) plant.capacities plant.state block.0 port) }
     {
-        self.graph.in_order();
+        self.graph.recall();
         if self.graph.len() <= block.0 as usize {
             return Err(PlantFault::NoSuchBlock);
         }

@@ -30,7 +30,7 @@ pub trait Watch {
 }
 
 /// A watch that does nothing.
-#[derive(Drop)]
+#[derive(Debug, Drop)]
 pub struct Unwatched;
 
 impl Watch for Unwatched {
@@ -64,7 +64,7 @@ impl<B: Block> Parts<B> {
         'rounds: loop {
             let moved = self.round(alloc, max)?;
             watch.show(self.headway());
-            self.graph.in_order();
+            self.graph.recall();
             if self.firings.all_done() {
                 return Ok(Settled::Done);
             }
@@ -85,7 +85,7 @@ impl<B: Block> Parts<B> {
         ensures idle { is_idle (plant_of self.new).state ≡ true }
         ensures moved { let old = plant_of self.old in IfOk result (HasMoved (net_of B.meaning old.graph) old.capacities old.state (plant_of self.new).state) }
     {
-        self.graph.in_order();
+        self.graph.recall();
         let mut moved = false;
         for block in 0..self.graph.len() {
             if self.moves(alloc, BlockId(block as u32), max)? {
@@ -107,7 +107,7 @@ impl<B: Block> Parts<B> {
             IfOk result (λ moved. moved ≡ moves_on old.state (machine.Claim block.0 max) (step_of (net_of B.meaning old.graph) old.capacities old.state block.0 max).0) }
         ensures err { OnErr result (plant_of self.new ≡ plant_of self.old) }
     {
-        self.graph.in_order();
+        self.graph.recall();
         let was_done = self.firings.progress(block).done;
         match self.step(alloc, block, max) {
             Ok(Step::Did(_)) => Ok(true),
@@ -141,7 +141,7 @@ impl<B: Block> Parts<B> {
         ensures within { result.given ≤ result.fed }
         ensures short { result.fed ≤ 2 ^ 32 }
     {
-        self.graph.in_order();
+        self.graph.recall();
         if !self.graph.is_source(block) {
             return Headway { given: 0, fed: 0 };
         }

@@ -23,7 +23,7 @@ impl<B: Block> Parts<B> {
         requires { IsRight B.meaning self.now }
         ensures { let plant = plant_of self.now in wait_in result ≡ need_of (net_of B.meaning plant.graph) plant.capacities plant.state block.0 }
     {
-        self.graph.in_order();
+        self.graph.recall();
         if self.graph.len() <= block.0 as usize {
             return Err(PlantFault::NoSuchBlock);
         }
@@ -37,7 +37,7 @@ impl<B: Block> Parts<B> {
         ensures comes_back { let plant = plant_of self.now in AreClosed (net_of B.meaning plant.graph) plant.state → is_quiet (net_of B.meaning plant.graph) plant.capacities plant.state ≡ true →
             IfSome result (λ block. IsOnRing (net_of B.meaning plant.graph) plant.capacities plant.state block.0) }
     {
-        self.graph.in_order();
+        self.graph.recall();
         let mut block = self.lowest_live()?;
         for _turn in 0..self.graph.len() {
             block = self.next_of(block);
@@ -51,7 +51,7 @@ impl<B: Block> Parts<B> {
         ensures value { option_map (λ block. block.0) result ≡ lowest_live (plant_of self.now).state }
         ensures inside { IfSome result (λ block. block.0 < length (arc_value self.now.graph).blocks) }
     {
-        self.graph.in_order();
+        self.graph.recall();
         for block in 0..self.graph.len() {
             if !self.firings.progress(BlockId(block as u32)).done {
                 return Some(BlockId(block as u32));
@@ -67,7 +67,7 @@ impl<B: Block> Parts<B> {
         ensures value { let plant = plant_of self.now in result.0 ≡ next_of (net_of B.meaning plant.graph) plant.capacities plant.state block.0 }
         ensures inside { result.0 < length (arc_value self.now.graph).blocks }
     {
-        self.graph.in_order();
+        self.graph.recall();
         match self.own_need(block) {
             BlockNeed::Items { writer, .. } => writer,
             BlockNeed::Room { reader, .. } => reader,
@@ -81,7 +81,7 @@ impl<B: Block> Parts<B> {
         requires block { block.0 < length (arc_value self.now.graph).blocks }
         ensures { let plant = plant_of self.now in wait_seen result ≡ wait_of (net_of B.meaning plant.graph) plant.capacities plant.state block.0 }
     {
-        self.graph.in_order();
+        self.graph.recall();
         self.firings.need(
             &self.graph,
             self.capacities.rows(),

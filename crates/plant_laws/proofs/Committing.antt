@@ -18,10 +18,11 @@ use Rattle.stream_model.proofs.Streams.{taken_by-rises}
 use Rattle.stream_laws.specs.CanRun.{CanRun}
 use Rattle.stream_laws.proofs.Writers.{is_input}
 use Rattle.machine_laws.specs.Sound.{fired, reached, Sound}
+use Rattle.machine_laws.proofs.Agreeing.{jobs_same}
 use Rattle.machine_laws.proofs.Choices.{if_both}
 use Rattle.machine_laws.proofs.Ports.{keeper_takes_each}
 use Rattle.machine_laws.proofs.Sounds as sounds
-use Rattle.ring_readers.specs.declared.reader.Place.{Place}
+use Rattle.ring_readers.specs.declared.reader.ReaderState.{ReaderState}
 use Rattle.ring_readers.specs.State.{reader_at}
 use Rattle.tags.specs.TagList.{insert_tags}
 use Rattle.buffers.proofs.Readers.{GoesOn}
@@ -31,7 +32,6 @@ use Rattle.plant_laws.specs.Changes.{reader_number, pushed, advanced, taken_buff
 use Rattle.plant_laws.specs.Claims.{MayFire}
 use Rattle.plant_laws.specs.Calls.{IsWorked, CommittingHolds}
 use Rattle.plant_laws.specs.Turns.{CanTake, ReadersTakeInTurn}
-use Rattle.plant_laws.proofs.Agreeing.{IsSameJob, jobs_same}
 use Rattle.plant_laws.proofs.Ending.{read_before, Moving, moved_all, none_moved}
 use Rattle.plant_laws.proofs.Giving.{work_items, given_shows}
 use Rattle.plant_laws.proofs.Joining.{ordered_tags, within_more}
@@ -162,8 +162,8 @@ module _ (net : Network) (can : CanRun net) (caps : Capacities) (st : State) (so
 
     goes_on : GoesOn (place_of net st (c)) (place_of net (over) (c))
     goes_on =
-        let place = ap (λ (p : Place). p.place) takes_on in
-        let live = ap (λ (p : Place). p.live) takes_on in
+        let place = ap (λ (p : ReaderState). p.place) takes_on in
+        let live = ap (λ (p : ReaderState). p.live) takes_on in
         record { live = λ l. live ∙ l; place = omega arith }
 
   abbrev taking : Connection → OutputBuffer → OutputBuffer
@@ -193,12 +193,12 @@ module _ (net : Network) (can : CanRun net) (caps : Capacities) (st : State) (so
       let reads : has_no_reader net caps (over) c.from c.out_port ≡ false = read_before net caps (over) st (λ k d. sym (done-same k) ∙ d) c.from c.out_port (is_read net can caps st sound stored holds b (claimed) may q used) in
       let written : buffer.ring.written ≡ given_by (node_at net c.from) (fired st c.from) = (right.shows reads).written ∙ ap (given_by (node_at net c.from)) (fired-other c.from other) in
       let place : (reader_at buffer.ring (reader_number net c)).place ≡ taken_by (node_at net b) q (fired st b) =
-      ap (λ (p : Place). p.place) stands ∙ ap (λ v. taken_by (node_at net v) c.in_port (fired st v)) is.to ∙ ap (λ p. taken_by (node_at net b) p (fired st b)) is.in_port in
+      ap (λ (p : ReaderState). p.place) stands ∙ ap (λ v. taken_by (node_at net v) c.in_port (fired st v)) is.to ∙ ap (λ p. taken_by (node_at net b) p (fired st b)) is.in_port in
       let there = enough net can caps st sound stored holds b (claimed) may q used in
       record {
         live = record {
           there = reader_there net can caps (over).handed (λ w p. has_no_reader net caps (over) w p ≡ false) (fired (over)) b (place_of net st) (place_of net (over)) q used buffer right;
-          live = ap (λ (p : Place). p.live) stands ∙ ap not (ap (λ k. (progress_at st.progress k).done) is.to ∙ may.live);
+          live = ap (λ (p : ReaderState). p.live) stands ∙ ap not (ap (λ k. (progress_at st.progress k).done) is.to ∙ may.live);
         };
         unread = omega arith;
       }
@@ -346,7 +346,7 @@ module _ (net : Network) (can : CanRun net) (caps : Capacities) (st : State) (so
 record IsCommitted (net : Network) (st : State) (job : Job) (next_state : State) : Type 0 where
   pub inside : job.block < length net.nodes
   pub some : 0 < (progress_at st.progress job.block).claimed
-  pub same : IsSameJob job (job_of net st job.block (progress_at st.progress job.block).claimed)
+  pub same : job ≡ job_of net st job.block (progress_at st.progress job.block).claimed
   pub is : next_state ≡ with_progress st job.block (record (progress_at st.progress job.block) { firings = fired st job.block + (progress_at st.progress job.block).claimed; claimed = 0 })
 
 committed_is : (net : Network) (can : CanRun net) (caps : Capacities) (st : State) (sound : Sound net caps st) (own : Bool) (job : Job) (count : ℕ) → (commit_of net st own job).0 ≡ Did count → IsCommitted net st job (commit_of net st own job).1
@@ -372,12 +372,12 @@ committing_holds net caps st stored can sound holds own job count outputs word w
     let is = committed_is net can caps st sound own job count e in
     let b = job.block in
     let c = (progress_at st.progress job.block).claimed in
-    let first : job.first ≡ fired st job.block = is.same.first ∙ (job_first net st job.block c).0 in
-    let counts : job.count ≡ (progress_at st.progress job.block).claimed = is.same.count ∙ (job_first net st job.block c).1 in
+    let first : job.first ≡ fired st job.block = ap (λ (j : Job). j.first) is.same ∙ (job_first net st job.block c).0 in
+    let counts : job.count ≡ (progress_at st.progress job.block).claimed = ap (λ (j : Job). j.count) is.same ∙ (job_first net st job.block c).1 in
     subst (λ after. Holds net caps after (with_committed net caps st stored job outputs word)) (sym is.is)
     (subst (λ (j : Job). Holds net caps (with_progress st job.block (record (progress_at st.progress job.block) { firings = fired st job.block + (progress_at st.progress job.block).claimed; claimed = 0 })) (with_committed net caps st stored j outputs word))
     (λ i. record job { first = sym first i; count = sym counts i })
-    (committed_holds net can caps st sound stored holds job.block is.inside is.some job.windows is.same.windows outputs word worked))
+    (committed_holds net can caps st sound stored holds job.block is.inside is.some job.windows (ap (λ (j : Job). j.windows) is.same) outputs word worked))
 
 pub readers_take_in_turn : ReadersTakeInTurn
 readers_take_in_turn net caps st stored can sound holds b q outputs word in' some worked used = worked_turn net can caps st sound stored holds b in' some outputs word worked q used

@@ -10,7 +10,7 @@ use Rattle.stream_model.proofs.Maps.{map-agree}
 use Rattle.stream_laws.specs.CanRun.{CanRun, IsItsWriter}
 use Rattle.stream_laws.proofs.Writers.{is_input}
 use Rattle.machine_laws.specs.Sound.{fired, Sound}
-use Rattle.ring_readers.specs.declared.reader.Place.{Place}
+use Rattle.ring_readers.specs.declared.reader.ReaderState.{ReaderState}
 use Rattle.buffers.proofs.Readers.{GoesOn}
 use Rattle.plant_laws.specs.Stored.{OutputBuffer, Stored, buffer_in, buffer_at}
 use Rattle.plant_laws.specs.Holds.{IsBuffer, Holds, place_of, has_no_reader}
@@ -86,7 +86,7 @@ module _ (net : Network) (can : CanRun net) (caps : Capacities) (st : State) (so
     abbrev c : Connection
     c = writer_of net b q
 
-    gone : Place → Place
+    gone : ReaderState → ReaderState
     gone pl = record pl { live = false }
 
     releases : record (place_of net st (c)) { live = false } ≡ place_of net (over) (c)
@@ -98,8 +98,8 @@ module _ (net : Network) (can : CanRun net) (caps : Capacities) (st : State) (so
 
     goes_on : GoesOn (place_of net st (c)) (place_of net (over) (c))
     goes_on =
-        let place = ap (λ (p : Place). p.place) releases in
-        record { live = λ live. absurd (let dead = ap (λ (p : Place). p.live) releases in false≢true (dead ∙ live)); place = omega arith }
+        let place = ap (λ (p : ReaderState). p.place) releases in
+        record { live = λ live. absurd (let dead = ap (λ (p : ReaderState). p.live) releases in false≢true (dead ∙ live)); place = omega arith }
 
   start : (w p : ℕ) (buffer : OutputBuffer) → IsBuffer net caps st w p buffer → Moving net can caps st (over) b at-other 0 w p buffer
   start w p buffer is =
@@ -143,7 +143,7 @@ module _ (net : Network) (can : CanRun net) (caps : Capacities) (st : State) (so
       record {
         live = record {
           there = reader_there net can caps (over).handed (λ w p. has_no_reader net caps (over) w p ≡ false) (fired (over)) b (place_of net st) (place_of net (over)) q used (buffer_in buffers c.from c.out_port) right;
-          live = ap (λ (p : Place). p.live) stands ∙ ap not (ap (λ k. (progress_at st.progress k).done) is.to ∙ live);
+          live = ap (λ (p : ReaderState). p.live) stands ∙ ap not (ap (λ k. (progress_at st.progress k).done) is.to ∙ live);
         };
         unread = zero-le;
       }

@@ -12,7 +12,7 @@ use Rattle.stream_laws.proofs.Later.{items-length}
 use Rattle.machine_laws.specs.Sound.{fired, reached, Sound}
 use Rattle.machine_laws.proofs.Frames.{handed_same}
 use Rattle.machine_laws.proofs.Lengths.{reached_fires}
-use Rattle.ring_readers.specs.declared.reader.Place.{Place}
+use Rattle.ring_readers.specs.declared.reader.ReaderState.{ReaderState}
 use Rattle.ring_readers.specs.State.{IsEndOf, most_kept, slowest_of, nobody}
 use Rattle.ring_readers.proofs.SlowestReader.{AtMost, slowest-least}
 use Rattle.stream_laws.proofs.InTime.{within-on, within-before, within-behind}
@@ -117,8 +117,8 @@ module _ (net : Network) (can : CanRun net) (caps : Capacities) (st : State) (so
       let read : has_no_reader net caps st b p ≡ false = elim (cases_Bool (has_no_reader net caps st b p)) [ inl e ↦ absurd (let done = none_reads net caps st b p e k d lt in cc) | inr e ↦ e ] in
       let here : get_or (buffer).ring.readers k nobody ≡ place_of net st c = ap (λ ps. get_or ps k nobody) (is).readers ∙ get_or-map (place_of net st) (readers_of net b p) k d nobody lt in
       let inside : k < length (buffer).ring.readers = (let long = ap length (is).readers ∙ length-map (readers_of net b p) (place_of net st) in omega arith) in
-      let lives = ap (λ (q : Place). q.live) here ∙ ap not live in
-      let least : AtMost (slowest_of (buffer).ring.readers) (place_of net st c).place = subst (λ (q : Place). AtMost (slowest_of (buffer).ring.readers) q.place) here (slowest-least (buffer).ring.readers k nobody inside lives) in
+      let lives = ap (λ (q : ReaderState). q.live) here ∙ ap not live in
+      let least : AtMost (slowest_of (buffer).ring.readers) (place_of net st c).place = subst (λ (q : ReaderState). AtMost (slowest_of (buffer).ring.readers) q.place) here (slowest-least (buffer).ring.readers k nobody inside lives) in
       let room = readers_all net (λ e. (e.to < length net.nodes) × (e.from ≡ b → (progress_at st.progress e.to).done ≡ false → given_by (node_at net b) (reached st b) ≤ taken_by (node_at net e.to) e.in_port (fired st e.to) + capacity_at caps b e.out_port)) b p
       (λ i e l. ((can.levels.rises i e l).1, λ from open'. (sound.fits b in').room i e l from open')) k d lt in
       let fits = room.2.1 room.0 live in

@@ -23,7 +23,7 @@ use Rattle.stream_laws.proofs.Sorting.{ordered_sorted}
 use Rattle.stream_laws.proofs.Writers.{entering-source, items-source, source_gives}
 use Rattle.machine_laws.specs.Sound.{fired, reached, Sound}
 use Rattle.machine_laws.proofs.Following.{commits_add_their_work}
-use Rattle.ring_readers.specs.declared.reader.Place.{Place}
+use Rattle.ring_readers.specs.declared.reader.ReaderState.{ReaderState}
 use Rattle.ring_readers.specs.State.{most_kept, slowest_of}
 use Rattle.ring_readers.proofs.SlowestReader.{slowest-meets}
 use Rattle.tags.specs.TagList.{insert_tags}
@@ -141,5 +141,5 @@ module _ (net : Network) (can : CanRun net) (caps : Capacities) (st : State) (so
         slow : IfSome (slowest_of (buffer_at stored b p).ring.readers) (λ place. place ≤ given_by (node_at net b) (fired st b))
         slow =
             slowest-meets (λ place. place ≤ given_by (node_at net b) (fired st b)) (buffer_at stored b p).ring.readers
-            (subst (All (λ (q : Place). q.live ≡ true → q.place ≤ given_by (node_at net b) (fired st b))) (sym (holds.buffers b p in' used).readers)
+            (subst (All (λ (q : ReaderState). q.live ≡ true → q.place ≤ given_by (node_at net b) (fired st b))) (sym (holds.buffers b p in' used).readers)
             (λ k d lt live. (behind_each net can caps st sound stored holds b (claimed) may p used read k d lt live).0))

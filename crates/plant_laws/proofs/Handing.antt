@@ -1,5 +1,5 @@
 -- Feeding, closing and setting keep what is stored right, and so do claims that fire and abandons.
-use Rattle.std.proofs.Common.{◌≡◌, ◌≢◌, ℕ, ℤ, ◌+◌, ◌<◌, Bool, true, not, List, [], ◌∷◌, ◌++◌, length, map, set, Option, Some, None, MatchOption, IsSome, get_or, refl, ap, sym, ◌∙◌, subst, inl, inr, ltb-true, get_or-set_same, get_or-set_other, length-set}
+use Rattle.std.proofs.Common.{◌≡◌, ◌≢◌, ℕ, ℤ, ◌+◌, ◌<◌, Bool, true, not, List, ◌++◌, length, map, set, Option, Some, None, MatchOption, IsSome, get_or, refl, ap, sym, ◌∙◌, subst, inl, inr, ltb-true, get_or-set_same, get_or-set_other, length-set}
 use Rattle.std.specs.Prelude.{nat_lt}
 use Rattle.std.proofs.lemmas.Bool.{cases_eq}
 use Rattle.stream_model.specs.declared.vocabulary.ItemType.{ItemType}

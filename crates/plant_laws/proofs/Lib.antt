@@ -12,7 +12,6 @@ pub mod Outputs
 pub mod Turning
 pub mod Ending
 pub mod Joining
-pub mod Agreeing
 pub mod Giving
 pub mod Committing
 pub mod Finding

@@ -8,7 +8,7 @@ use Rattle.stream_model.specs.Network.{Network, Connection, Handed, no_connectio
 use Rattle.stream_model.specs.Machine.{Capacities, capacity_at}
 use Rattle.stream_laws.specs.CanRun.{CanRun}
 use Rattle.stream_laws.proofs.Writers.{is_input}
-use Rattle.ring_readers.specs.declared.reader.Place.{Place}
+use Rattle.ring_readers.specs.declared.reader.ReaderState.{ReaderState}
 use Rattle.ring_readers.specs.State.{most_kept}
 use Rattle.buffers.specs.Buffer.{wanted_tags}
 use Rattle.plant_laws.specs.Stored.{OutputBuffer, no_buffer, buffers_in, buffer_in}
@@ -109,7 +109,7 @@ pub record ShowsUpTo (net : Network) (hs : List Handed) (b p k : ℕ) (buffer : 
   pub tags : buffer.tags ≡ wanted_tags buffer.ring (tags_given net hs b p k)
 
 -- and has its readers at these places
-pub record StandsAt (net : Network) (caps : Capacities) (hs : List Handed) (places : Connection → Place) (reads : Type 0) (b p k : ℕ) (buffer : OutputBuffer) : Type 0 where
+pub record StandsAt (net : Network) (caps : Capacities) (hs : List Handed) (places : Connection → ReaderState) (reads : Type 0) (b p k : ℕ) (buffer : OutputBuffer) : Type 0 where
   pub type : buffer.item ≡ (node_at net b).meaning.outputs.item
   pub capacity : buffer.ring.capacity ≡ capacity_at caps b p
   pub greatest : buffer.ring.greatest ≡ greatest_history net b p

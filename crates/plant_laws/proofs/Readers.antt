@@ -10,7 +10,7 @@ use Rattle.stream_model.specs.Machine.{Capacities, reader_counts}
 use Rattle.stream_laws.specs.CanRun.{CanRun}
 use Rattle.graph_model.proofs.Sizes.{port_used}
 use Rattle.stream_laws.proofs.Writers.{All-writers}
-use Rattle.ring_readers.specs.declared.reader.Place.{Place}
+use Rattle.ring_readers.specs.declared.reader.ReaderState.{ReaderState}
 use Rattle.ring_readers.specs.State.{nobody, slowest_of}
 use Rattle.ring_readers.proofs.SlowestReader.{AtMost, slowest-least}
 use Rattle.plant_laws.specs.Holds.{place_of, has_no_reader}
@@ -28,14 +28,14 @@ module _ (net : Network) (caps : Capacities) (st : State) (b p : ℕ) where
       ∙ list_all-from_AllPass (λ (c : Connection). (progress_at st.progress c.to).done) (readers_of net b p) each
 
   -- a buffer that is read has a live reader
-  pub read_lives : has_no_reader net caps st b p ≡ false → (places : List Place) → places ≡ map (place_of net st) (readers_of net b p) → slowest_of places ≡ None → ⊥
+  pub read_lives : has_no_reader net caps st b p ≡ false → (places : List ReaderState) → places ≡ map (place_of net st) (readers_of net b p) → slowest_of places ≡ None → ⊥
   read_lives read places are none =
       let all = none_reads-from (λ k d lt. elim (cases_Bool (progress_at st.progress (get_or (readers_of net b p) k d).to).done) [
         | inl e ↦ e
         | inr live ↦ absurd (
             let here : get_or places k nobody ≡ place_of net st (get_or (readers_of net b p) k d) = ap (λ ps. get_or ps k nobody) are ∙ get_or-map (place_of net st) (readers_of net b p) k d nobody lt in
             let inside : k < length places = (let long = ap length are ∙ length-map (readers_of net b p) (place_of net st) in omega arith) in
-            let least = slowest-least places k nobody inside (ap (λ (q : Place). q.live) here ∙ ap not live) in
+            let least = slowest-least places k nobody inside (ap (λ (q : ReaderState). q.live) here ∙ ap not live) in
             subst (λ o. AtMost o (get_or places k nobody).place) none least)
       ]) in
       cc

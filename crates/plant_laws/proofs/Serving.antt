@@ -29,7 +29,7 @@ use Rattle.machine_laws.specs.Sound.{fired, reached, Sound}
 use Rattle.machine_laws.proofs.Deciding.{Reason, decide-reason}
 use Rattle.machine_laws.proofs.Looking.{claim_fits}
 use Rattle.machine_laws.proofs.Tagging.{commits_add_their_tags}
-use Rattle.ring_readers.specs.declared.reader.Place.{Place}
+use Rattle.ring_readers.specs.declared.reader.ReaderState.{ReaderState}
 use Rattle.ring_readers.specs.State.{RingState, IsEndOf, most_kept, nobody, place_in, reader_at, past_of, slowest_of, room_of, IsLive}
 use Rattle.ring_readers.proofs.SlowestReader.{AtMost, slowest-meets, slowest-least}
 use Rattle.buffers.proofs.Wanted.{within_wanted}
@@ -88,7 +88,7 @@ module _ (net : Network) (can : CanRun net) (caps : Capacities) (st : State) (so
 
       reader_lives : (reader_at (buffer).ring (reader)).live ≡ true
       reader_lives =
-          let here = ap (λ (p : Place). p.live) (place_here) in
+          let here = ap (λ (p : ReaderState). p.live) (place_here) in
           let own = ap (λ k. (progress_at st.progress k).done) (is_input net can b q used).to in
           here ∙ ap not (own ∙ may.live)
 
@@ -98,12 +98,12 @@ module _ (net : Network) (can : CanRun net) (caps : Capacities) (st : State) (so
       place_is : (reader_at (buffer).ring (reader)).place ≡ from
       place_is =
           let is = is_input net can b q used in
-          ap (λ (p : Place). p.place) (place_here) ∙ (rw (is.to, is.in_port) refl)
+          ap (λ (p : ReaderState). p.place) (place_here) ∙ (rw (is.to, is.in_port) refl)
 
       past_is : past_of (buffer).ring (reader) ≡ (node_at net b).meaning.history - 1
       past_is =
           let is = is_input net can b q used in
-          ap (λ (p : Place). p.history - 1) (place_here) ∙ ap (λ k. (node_at net k).meaning.history - 1) is.to
+          ap (λ (p : ReaderState). p.history - 1) (place_here) ∙ ap (λ k. (node_at net k).meaning.history - 1) is.to
 
       -- it is read, so it shows what was given
       pub is_read : has_no_reader net caps st (c).from (c).out_port ≡ false
@@ -286,7 +286,7 @@ module _ (net : Network) (can : CanRun net) (caps : Capacities) (st : State) (so
           let capacity = (own).capacity in
           room_at (slowest_of (buffer_at stored b p).ring.readers) refl
           (slowest-meets (λ place. more ≤ (buffer_at stored b p).ring.capacity - ((buffer_at stored b p).ring.written - place)) (buffer_at stored b p).ring.readers
-          (subst (All (λ (q : Place). IsTrue q.live → more ≤ (buffer_at stored b p).ring.capacity - ((buffer_at stored b p).ring.written - q.place))) (sym (own).readers)
+          (subst (All (λ (q : ReaderState). IsTrue q.live → more ≤ (buffer_at stored b p).ring.capacity - ((buffer_at stored b p).ring.written - q.place))) (sym (own).readers)
           (λ k d lt live. let fits = behind_each k d lt live in let low = fits.0 in let high = fits.1 in omega arith)))
 
       pub serves_output : ServesOutput net caps st stored b count p

@@ -8,7 +8,7 @@ use Rattle.stream_model.specs.Machine.{Capacities}
 use Rattle.stream_model.proofs.Maps.{map-agree}
 use Rattle.stream_laws.specs.CanRun.{CanRun, IsItsWriter}
 use Rattle.stream_laws.proofs.Writers.{is_input}
-use Rattle.ring_readers.specs.declared.reader.Place.{Place}
+use Rattle.ring_readers.specs.declared.reader.ReaderState.{ReaderState}
 use Rattle.ring_readers.specs.State.{nobody, reader_at, place_in, slowest_of}
 use Rattle.buffers.specs.Buffer.{wanted_tags}
 use Rattle.buffers.proofs.Readers.{GoesOn, slowest_goes_on, one_goes_on}
@@ -21,7 +21,7 @@ use Rattle.plant_laws.proofs.Numbering.{number_inside, number_reads, number_alon
 use Rattle.plant_laws.proofs.Outputs.{StandsAt}
 
 -- a buffer whose reader of this number has moved
-abbrev pub moved_reader : OutputBuffer → ℕ → (Place → Place) → OutputBuffer
+abbrev pub moved_reader : OutputBuffer → ℕ → (ReaderState → ReaderState) → OutputBuffer
 moved_reader buffer reader g =
     let ring = record buffer.ring { readers = set buffer.ring.readers reader (g (reader_at buffer.ring reader)) } in
     record buffer { ring = ring; tags = wanted_tags ring buffer.tags }
@@ -31,10 +31,10 @@ abbrev pub is_before : ℕ → ℕ → Connection → Bool
 is_before b q c = c.to == b && nat_lt c.in_port q
 
 -- where the readers stand once the first q inputs of block b have moved
-abbrev pub places_at : ℕ → (Connection → Place) → (Connection → Place) → ℕ → Connection → Place
+abbrev pub places_at : ℕ → (Connection → ReaderState) → (Connection → ReaderState) → ℕ → Connection → ReaderState
 places_at b old new q c = if is_before b q c then new c else old c
 
-module _ (b : ℕ) (old new : Connection → Place) where
+module _ (b : ℕ) (old new : Connection → ReaderState) where
   pub places-other : (q : ℕ) (c : Connection) → c.to ≢ b → places_at b old new q c ≡ old c
   places-other q c ne = let e = ne_eqb c.to b ne in rw e refl
 
@@ -61,7 +61,7 @@ module _ (b : ℕ) (old new : Connection → Place) where
         | inr ne ↦ places-other q c ne ∙ sym (places-other (suc q) c ne)
       ]
 
-module _ (net : Network) (can : CanRun net) (caps : Capacities) (hs : List Handed) (reads : ℕ → ℕ → Type 0) (k : ℕ → ℕ) (b : ℕ) (old new : Connection → Place) where
+module _ (net : Network) (can : CanRun net) (caps : Capacities) (hs : List Handed) (reads : ℕ → ℕ → Type 0) (k : ℕ → ℕ) (b : ℕ) (old new : Connection → ReaderState) where
   abbrev pub RightAt : ℕ → ℕ → ℕ → OutputBuffer → Type 0
   RightAt q w p buffer = StandsAt net caps hs (places_at b old new q) (reads w p) w p (k w) buffer
 
@@ -90,7 +90,7 @@ module _ (net : Network) (can : CanRun net) (caps : Capacities) (hs : List Hande
         ap (λ ps. place_in ps (reader)) right.readers ∙ get_or-map (places_at b old new q) (rs) (reader) no_connection nobody (number_inside net can b q used)
         ∙ ap (places_at b old new q) (number_reads net can b q used) ∙ old_here
 
-    pub moved_here : (g : Place → Place) → g (old (c)) ≡ new (c) → GoesOn (old (c)) (new (c)) → (buffer : OutputBuffer) → RightAt q (c).from (c).out_port buffer → RightAt (suc q) (c).from (c).out_port (moved_reader buffer (reader) g)
+    pub moved_here : (g : ReaderState → ReaderState) → g (old (c)) ≡ new (c) → GoesOn (old (c)) (new (c)) → (buffer : OutputBuffer) → RightAt q (c).from (c).out_port buffer → RightAt (suc q) (c).from (c).out_port (moved_reader buffer (reader) g)
     moved_here g moves on buffer right =
         record {
           type = right.type;

@@ -5,7 +5,7 @@ use Rattle.stream_model.specs.Tags.{tags_within}
 use Rattle.stream_model.specs.Network.{Network, State, node_at, progress_at, readers_of, used_outputs, given_by, items_of, tags_of}
 use Rattle.stream_model.specs.Machine.{Capacities, capacity_at}
 use Rattle.machine_laws.specs.Sound.{fired}
-use Rattle.ring_readers.specs.declared.reader.Place.{Place}
+use Rattle.ring_readers.specs.declared.reader.ReaderState.{ReaderState}
 use Rattle.ring_readers.specs.State.{IsEndOf, most_kept, slowest_of}
 use Rattle.plant_laws.specs.Stored.{OutputBuffer, buffer_at}
 use Rattle.plant_laws.specs.Holds.{place_of, has_no_reader}
@@ -17,7 +17,7 @@ given_so_far net st b p = take (given_by (node_at net b) (fired st b)) (items_of
 
 -- a reader at this place finds in the buffer its unread items with the past that it reads before them, no more than the capacity unread,
 -- and the tags on them
-pub record Finds (net : Network) (caps : Capacities) (st : State) (b p : ℕ) (buffer : OutputBuffer) (reader : Place) : Type 0 where
+pub record Finds (net : Network) (caps : Capacities) (st : State) (b p : ℕ) (buffer : OutputBuffer) (reader : ReaderState) : Type 0 where
   pub items : IsEndOf buffer.ring (given_so_far net st b p)
   pub reaches : buffer.ring.written - length buffer.ring.kept ≤ reader.place - (reader.history - 1)
   pub near : buffer.ring.written ≤ reader.place + capacity_at caps b p

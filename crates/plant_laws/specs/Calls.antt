@@ -1,5 +1,5 @@
 -- Each call keeps what is stored right, where it changes only what it is about.
-use Rattle.std.specs.Prelude.{ℕ, ◌+◌, ◌*◌, ◌<◌, ◌≤◌, ◌≡◌, min, ℤ, List, [], ◌∷◌, ◌++◌, length, Option, Some, All, Bool, true, false, slice_range}
+use Rattle.std.specs.Prelude.{ℕ, ◌+◌, ◌*◌, ◌<◌, ◌≤◌, ◌≡◌, min, ℤ, List, length, Option, Some, All, Bool, true, false, slice_range}
 use Rattle.stream_model.specs.declared.vocabulary.ItemType.{ItemType}
 use Rattle.stream_model.specs.Settings.{Value, Held, put_setting}
 use Rattle.stream_model.specs.Tags.{Mark, tags_within}

@@ -11,7 +11,7 @@ use Rattle.stream_model.specs.Machine.{Capacities, capacity_at, output_counts}
 use Rattle.stream_laws.specs.Tags.{tags_in, brought}
 use Rattle.machine_laws.specs.Sound.{fired}
 use Rattle.settings.specs.Timelines.{Settings}
-use Rattle.ring_readers.specs.declared.reader.Place.{Place}
+use Rattle.ring_readers.specs.declared.reader.ReaderState.{ReaderState}
 use Rattle.ring_readers.specs.State.{most_kept}
 use Rattle.buffers.specs.Buffer.{wanted_tags}
 use Rattle.plant_laws.specs.Stored.{Tape, OutputBuffer, Collected, Stored, tape_at, timeline_at, word_at, buffers_in, buffer_at, sink_at}
@@ -37,7 +37,7 @@ word_of net st b =
     n.meaning.word (handed_at st.handed b).settings (entering net st.handed b) (n.multiple * fired st b)
 
 -- where a reader stands: behind the items that its committed firings took, until it is done
-abbrev pub place_of : Network → State → Connection → Place
+abbrev pub place_of : Network → State → Connection → ReaderState
 place_of net st c = record {
   place = taken_by (node_at net c.to) c.in_port (fired st c.to);
   history = (node_at net c.to).meaning.history;

@@ -6,7 +6,7 @@ use Rattle.stream_model.specs.Network.{Network, Node, Connection, node_at, reade
 use Rattle.stream_model.specs.Machine.{Capacities, capacity_at}
 use Rattle.stream_laws.specs.CanRun.{CanRun}
 use Rattle.settings.specs.Timelines.{Settings}
-use Rattle.ring_readers.specs.declared.reader.Place.{Place}
+use Rattle.ring_readers.specs.declared.reader.ReaderState.{ReaderState}
 use Rattle.ring_readers.specs.State.{ring_state}
 use Rattle.plant_laws.specs.Stored.{Tape, OutputBuffer, Collected, Stored, no_tape, nothing_collected}
 use Rattle.plant_laws.specs.Holds.{Holds, greatest_history}
@@ -17,7 +17,7 @@ own_settings None = None
 own_settings (Some own) = Some (record { own = own; settings = [] })
 
 -- a reader before the first item
-abbrev pub first_place : Network → Connection → Place
+abbrev pub first_place : Network → Connection → ReaderState
 first_place net c = record { place = 0; history = (node_at net c.to).meaning.history; live = true }
 
 abbrev pub empty_tape : Node → Tape

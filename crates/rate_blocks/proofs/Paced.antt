@@ -63,7 +63,3 @@ last_read n count k l some h e = let there : k * n + (n - 1) < n * count = item_
 -- and so are all of them
 pub firing_read : (n count k l : ℕ) → k < count → l ≡ n * count → k * n + n ≤ l
 firing_read n count k l h e = grind arith
-
--- and what an item is given for
-pub first_read : (n k l : ℕ) {m o : ℕ} → 1 ≤ n → k < o → m ≡ l → o ≡ n * m → k / n < l
-first_read n k l some h e whole = div_below k n l (omega arith) (grind arith)

@@ -1,6 +1,8 @@
 //! Blocks that change a rate, take turns or move a stream.
 #![tactic(auto)]
 
+pub mod counted;
+mod counting;
 pub mod deinterleave;
 pub mod delay;
 pub mod head;
@@ -12,6 +14,7 @@ pub mod skiphead;
 pub mod stream_mux;
 mod turns;
 
+pub use counted::Counted;
 pub use deinterleave::Deinterleave;
 pub use delay::Delay;
 pub use head::Head;

@@ -1,40 +1,26 @@
 //! The block that gives each item `n` times.
-ghost use Rattle.std.specs.Prelude.{◌≡◌, ◌≤◌, ◌+◌, ◌*◌, ◌^◌, ◌++◌, ◌↔◌, length, map, replicate, vec_len, vec_capacity, IsOk, IfOk, IfErr};
+ghost use Rattle.std.specs.Prelude.{◌≡◌, ◌≤◌, ◌+◌, ◌*◌, ◌++◌, length, map, replicate, vec_len, vec_capacity};
 ghost use Rattle.rate_blocks.specs.Repeats.{repeated};
-ghost use Rattle.stream_model.specs.Kinds.Rates.{repeat};
 
-use block_kinds::{Block, ByPace, Held, ParamFault, Parameter, Shape, Single, ports, work_single};
+use crate::counted::Counted;
+use crate::counting::Counting;
+use block_kinds::{Shape, ports};
 use items::{ItemType, Items};
 use lane_kernels::SimdLane;
 use lane_work::{AppendWork, append_items};
 use std::mem;
 
 /// Each item `n` times, as GNU Radio's `repeat`.
-#[derive(Debug, Drop, PartialEq, Eq)]
-pub struct Repeat {
-    item: ItemType,
+pub type Repeat = Counted<Copies>;
+
+/// Each item `n` times, 1 to 1,024.
+#[derive(Drop)]
+pub struct Copies {
     n: u64,
     ghost some: { 1 ≤ n },
-    ghost few: { n ≤ 1024 },
 }
 
-impl Repeat {
-    ghost use Rattle.rate_blocks.specs.Kinds.{repeat_of};
-
-    /// The block with this `n`; `BadParameter` outside 1 to 1,024.
-    pub fn new(item: ItemType, n: u64) -> Result<Repeat, ParamFault>
-        ensures meaning { IfOk result (λ block. repeat_of block ≡ repeat item n) }
-        ensures range { IsOk result ↔ ((1 ≤ n) × (n ≤ 1024)) }
-        ensures err { IfErr result (λ fault. fault ≡ ParamFault.BadParameter Parameter.N) }
-    {
-        if n < 1 || 1_024 < n {
-            return Err(ParamFault::BadParameter(Parameter::N));
-        }
-        Ok(Repeat { item, n })
-    }
-}
-
-impl AppendWork for Repeat {
+impl AppendWork for Copies {
     ghost use Rattle.std.specs.Prelude.{◌*◌, ◌/◌, length};
     ghost use Rattle.stream_model.specs.Lists.{item};
     ghost use Rattle.stream_model.specs.Kernels.{listed};
@@ -96,55 +82,30 @@ fn push_copies<T: SimdLane>(item: T, n: usize, made: &mut Vec<T>)
     }
 }
 
-impl Single for Repeat {
+impl Counting for Copies {
     ghost use Rattle.std.specs.Prelude.{refl};
-    ghost use Rattle.rate_blocks.specs.Kinds.{repeat_of};
-
-    ghost equation = { repeat_of };
-
-    fn fill(
-        &self,
-        _state: u64,
-        _first: u64,
-        count: u64,
-        window: &Items,
-        _held: &[Held],
-        out: &mut Items,
-    ) -> u64 {
-        append_items(self, window, (self.n * count) as usize, out);
-        0
-    }
-
-    ghost single = { λ b. record { in_least = refl; in_most = refl; out_least = refl; out_most = refl } };
-}
-
-impl Block for Repeat {
     ghost use Rattle.kind_laws.specs.Rates.{repeat-lawful};
-    ghost use Rattle.block_kinds.specs.SameItem.{same_sized};
-    ghost use Rattle.rate_blocks.specs.Kinds.{repeat_of};
     ghost use Rattle.stream_model.specs.Kinds.Rates.{repeat};
 
-    ghost meaning = { repeat_of };
+    ghost equation = { repeat };
 
-    type Places = ByPace;
+    ghost LEAST = { 1 };
 
-    fn shape(&self, _input: usize) -> Shape<'_> {
-        Shape::at_rate(ports(1, self.item), ports(1, self.item), 1, self.n)
+    ghost MOST = { 1024 };
+
+    const LEAST: u64 = 1;
+
+    const MOST: u64 = 1_024;
+
+    fn shape<'a>(item: ItemType, n: u64) -> Shape<'a> {
+        Shape::at_rate(ports(1, item), ports(1, item), 1, n)
     }
 
-    fn work(
-        &self,
-        state: u64,
-        first: u64,
-        count: u64,
-        windows: &[Items],
-        held: &[Held],
-        out: &mut [Items],
-    ) -> u64 {
-        work_single(self, state, first, count, windows, held, out)
+    fn fill(_item: ItemType, n: u64, _first: u64, count: u64, window: &Items, out: &mut Items) {
+        append_items(&Copies { n }, window, (n * count) as usize, out);
     }
 
-    ghost lawful = { λ b. repeat-lawful b.item b.n b.some b.few };
+    ghost plain = { λ _ _. record { single = record { in_least = refl; in_most = refl; out_least = refl; out_most = refl }; words = λ _ _ _. refl } };
 
-    ghost same = { λ a b. same_sized repeat a.item b.item a.n b.n };
+    ghost lawful = { repeat-lawful };
 }

@@ -1,87 +1,45 @@
 //! The block that leaves out its first `n` items.
-ghost use Rattle.std.specs.Prelude.{◌≡◌, ◌≤◌, ◌^◌, ◌↔◌, IsOk, IfOk, IfErr};
-ghost use Rattle.stream_model.specs.Kinds.Rates.{skiphead};
 
-use block_kinds::{Block, ByPace, Held, Pace, ParamFault, Parameter, Shape, Single, work_single};
+use crate::counted::Counted;
+use crate::counting::Counting;
+use block_kinds::{Pace, Shape};
 use items::{ItemType, Items};
 
 /// All but the first `n` items, as GNU Radio's `skiphead`. A tag on one of these goes to the first item that is given.
-#[derive(Debug, Drop, PartialEq, Eq)]
-pub struct SkipHead {
-    item: ItemType,
-    n: u64,
-    ghost few: { n ≤ 2 ^ 32 },
-}
+pub type SkipHead = Counted<Rest>;
 
-impl SkipHead {
-    ghost use Rattle.rate_blocks.specs.Kinds.{skiphead_of};
+/// What comes behind the first items of a stream, at most 2^32 of them.
+#[derive(Clone, Copy)]
+pub struct Rest;
 
-    /// The block with this `n`; `BadParameter` above 2^32.
-    pub fn new(item: ItemType, n: u64) -> Result<SkipHead, ParamFault>
-        ensures meaning { IfOk result (λ block. skiphead_of block ≡ skiphead item n) }
-        ensures range { IsOk result ↔ (n ≤ 2 ^ 32) }
-        ensures err { IfErr result (λ fault. fault ≡ ParamFault.BadParameter Parameter.N) }
-    {
-        if 4_294_967_296 < n {
-            return Err(ParamFault::BadParameter(Parameter::N));
-        }
-        Ok(SkipHead { item, n })
-    }
-}
-
-impl Single for SkipHead {
+impl Counting for Rest {
     ghost use Rattle.std.specs.Prelude.{refl};
-    ghost use Rattle.rate_blocks.specs.Kinds.{skiphead_of};
-
-    ghost equation = { skiphead_of };
-
-    fn fill(
-        &self,
-        _state: u64,
-        first: u64,
-        _count: u64,
-        window: &Items,
-        _held: &[Held],
-        out: &mut Items,
-    ) -> u64 {
-        let skipped = self.n.saturating_sub(first) as usize;
-        out.push_range(window, skipped.min(window.len()), window.len());
-        0
-    }
-
-    ghost single = { λ b. record { in_least = refl; in_most = refl; out_least = refl; out_most = refl } };
-}
-
-impl Block for SkipHead {
     ghost use Rattle.kind_laws.specs.Rates.{skiphead-lawful};
-    ghost use Rattle.block_kinds.specs.SameItem.{same_sized};
-    ghost use Rattle.rate_blocks.specs.Kinds.{skiphead_of};
     ghost use Rattle.stream_model.specs.Kinds.Rates.{skiphead};
 
-    ghost meaning = { skiphead_of };
+    ghost equation = { skiphead };
 
-    type Places = ByPace;
+    ghost LEAST = { 0 };
 
-    fn shape(&self, _input: usize) -> Shape<'_> {
+    ghost MOST = { 4294967296 };
+
+    const LEAST: u64 = 0;
+
+    const MOST: u64 = 4_294_967_296;
+
+    fn shape<'a>(item: ItemType, n: u64) -> Shape<'a> {
         Shape {
-            pace: Pace::Skip(self.n),
-            ..Shape::sync(self.item, self.item)
+            pace: Pace::Skip(n),
+            ..Shape::sync(item, item)
         }
     }
 
-    fn work(
-        &self,
-        state: u64,
-        first: u64,
-        count: u64,
-        windows: &[Items],
-        held: &[Held],
-        out: &mut [Items],
-    ) -> u64 {
-        work_single(self, state, first, count, windows, held, out)
+    fn fill(_item: ItemType, n: u64, first: u64, _count: u64, window: &Items, out: &mut Items) {
+        let skipped = n.saturating_sub(first) as usize;
+        out.push_range(window, skipped.min(window.len()), window.len());
     }
 
-    ghost lawful = { λ b. skiphead-lawful b.item b.n };
+    ghost plain = { λ _ _. record { single = record { in_least = refl; in_most = refl; out_least = refl; out_most = refl }; words = λ _ _ _. refl } };
 
-    ghost same = { λ a b. same_sized skiphead a.item b.item a.n b.n };
+    ghost lawful = { λ t n _ _. skiphead-lawful t n };
 }

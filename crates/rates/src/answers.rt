@@ -15,7 +15,7 @@ use flowgraph::Valid;
 use std::alloc::{AllocError, Global};
 
 /// How often each block of a graph fires in an iteration.
-#[derive(Drop)]
+#[derive(Debug, Drop)]
 pub struct Repetitions {
     // Of each block.
     pub(crate) firings: Vec<u32>,
@@ -33,7 +33,7 @@ impl Repetitions {
 }
 
 /// The rates of a graph.
-#[derive(Drop)]
+#[derive(Debug, Drop)]
 pub enum Rates {
     /// The least firings of each block that leave every connection as it was.
     Balanced(Repetitions),
@@ -107,6 +107,6 @@ fn rates_of<B: Block>(alloc: Global, graph: &Valid<B>) -> Result<Rates, AllocErr
 pub fn balance<B: Block>(alloc: Global, graph: &Valid<B>) -> Result<Rates, AllocError>
     ensures { IfOk result (AreRates (net_of B.meaning graph.now)) }
 {
-    graph.in_order();
+    graph.recall();
     rates_of(alloc, graph)
 }

@@ -15,9 +15,17 @@ use flowgraph::{BlockId, MOST_PORTS, Valid};
 use std::alloc::{AllocError, Global};
 
 /// The capacities of buffers, by block and used output, in items.
-#[derive(Drop)]
+#[derive(Debug)]
 pub struct BufferCapacities {
     rows: Vec<Vec<u32>>,
+}
+
+// By hand, so that no crate above proves the drop of each part again.
+impl Drop for BufferCapacities {
+    fn drop(self) {
+        let BufferCapacities { rows } = self;
+        drop(rows);
+    }
 }
 
 impl BufferCapacities {
@@ -94,7 +102,7 @@ pub fn capacities<B: Block>(
     requires { AreRates (net_of B.meaning graph.now) rates.now }
     ensures { IfOk result (λ sizes. sizes_of sizes ≡ capacities_of (net_of B.meaning graph.now) (answer_of rates.now)) }
 {
-    graph.in_order();
+    graph.recall();
     let links = links(alloc, graph)?;
     let asked = asked(alloc, graph, &links, rates)?;
     let blocks = graph.len();

@@ -2,7 +2,7 @@
 use Rattle.std.specs.Prelude.{◌≡◌, ℕ, ◌+◌, ◌-◌, ◌^◌, ◌<◌, ◌≤◌, min, ℤ, List, [], ◌∷◌, ◌++◌, length, drop, fold, true, false, if◌then◌else◌, Option, Some, None, IsTrue, All, slice_index_or, slice_set}
 use Rattle.std.specs.Option.{option_map_or}
 use Rattle.circular_buffer.specs.Buffer.{keep_last}
-use Rattle.ring_readers.specs.declared.reader.Place.{Place}
+use Rattle.ring_readers.specs.declared.reader.ReaderState.{ReaderState}
 
 -- a buffer with places for its readers: how many items have been written, the last of them, which are kept, how many unread items
 -- a reader may have, the greatest history that a reader may have, and the readers
@@ -11,9 +11,9 @@ pub record RingState : Type 0 where
   pub kept : List ℤ
   pub capacity : ℕ
   pub greatest : ℕ
-  pub readers : List Place
+  pub readers : List ReaderState
 
-abbrev pub ring_state : ℕ → List ℤ → ℕ → ℕ → List Place → RingState
+abbrev pub ring_state : ℕ → List ℤ → ℕ → ℕ → List ReaderState → RingState
 ring_state written kept capacity greatest readers =
     record { written = written; kept = kept; capacity = capacity; greatest = greatest; readers = readers }
 
@@ -22,7 +22,7 @@ abbrev pub most_kept : ℕ → ℕ → ℕ
 most_kept capacity greatest = capacity + greatest - 1
 
 -- a live reader has read no more than was written, and lags no further than the capacity
-pub record IsWithin (written capacity greatest : ℕ) (p : Place) : Type 0 where
+pub record IsWithin (written capacity greatest : ℕ) (p : ReaderState) : Type 0 where
   pub some : 1 ≤ p.history
   pub short : p.history ≤ greatest
   pub reached : IsTrue p.live → p.place ≤ written
@@ -38,18 +38,18 @@ pub record IsRing (ring : RingState) : Type 0 where
   pub readers : All (IsWithin ring.written ring.capacity ring.greatest) ring.readers
 
 -- a place that no reader has
-abbrev pub nobody : Place
+abbrev pub nobody : ReaderState
 nobody = record { place = 0; history = 1; live = false }
 
 -- the place of reader n, among all and in a ring
-abbrev pub place_in : List Place → ℕ → Place
+abbrev pub place_in : List ReaderState → ℕ → ReaderState
 place_in readers n = slice_index_or readers n nobody
 
-abbrev pub reader_at : RingState → ℕ → Place
+abbrev pub reader_at : RingState → ℕ → ReaderState
 reader_at ring n = place_in ring.readers n
 
 -- reader n was added and not dropped, among all and in a ring
-pub record IsLiveAmong (readers : List Place) (n : ℕ) : Type 0 where
+pub record IsLiveAmong (readers : List ReaderState) (n : ℕ) : Type 0 where
   pub there : n < length readers
   pub live : IsTrue (place_in readers n).live
 
@@ -65,11 +65,11 @@ abbrev pub past_of : RingState → ℕ → ℕ
 past_of ring n = (reader_at ring n).history - 1
 
 -- the lesser of a place found so far, if any, and that of a reader, if it is live
-abbrev pub slower : Option ℕ → Place → Option ℕ
+abbrev pub slower : Option ℕ → ReaderState → Option ℕ
 slower found p = if p.live then Some (option_map_or (min p.place) found p.place) else found
 
 -- the least place of a live reader, if one is left
-abbrev pub slowest_of : List Place → Option ℕ
+abbrev pub slowest_of : List ReaderState → Option ℕ
 slowest_of readers = fold slower None readers
 
 -- how many more items may be written: the capacity less the unread items of the slowest live reader

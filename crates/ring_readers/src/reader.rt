@@ -34,7 +34,7 @@ impl Reader {
 
 /// Where a reader of a ring stands.
 #[derive(Clone, Copy, Debug)]
-pub struct Place {
+pub struct ReaderState {
     /// How many items it has taken.
     pub place: u64,
     /// How many items it sees up to each one, that one included.

@@ -5,7 +5,7 @@ ghost use Rattle.ring_readers.specs.State.{IsRing, IsLive, IsEndOf, reader_at, u
 
 use crate::RingFault;
 use crate::copies::{append_range, are_zeros, is_range};
-use crate::reader::{Place, Reader};
+use crate::reader::{Reader, ReaderState};
 use circular_buffer::HeapCircularBuffer;
 use numbers::Number;
 use numbers::vectors::append_copies;
@@ -20,7 +20,7 @@ pub struct Ring<T: Number> {
     capacity: u32,
     greatest: u32,
     written: u64,
-    readers: Vec<Place>,
+    readers: Vec<ReaderState>,
 }
 
 impl<T: Number> Model for Ring<T> {
@@ -66,7 +66,7 @@ impl<T: Number> Ring<T> {
     {
         self.readers.reserve(1)?;
         let reader = Reader::numbered(self.readers.len());
-        self.readers.push_reserved(Place {
+        self.readers.push_reserved(ReaderState {
             place: 0,
             history,
             live: true,

@@ -2,7 +2,7 @@
 use items::{BlockName, Mark};
 
 /// A command, with the name of the block that it is for.
-#[derive(Drop)]
+#[derive(Debug, Drop)]
 pub enum Command {
     /// Put items, and marks on them, at the end of a source's tape.
     Feed {
@@ -55,7 +55,7 @@ pub enum Command {
 }
 
 /// What a line says.
-#[derive(Drop)]
+#[derive(Debug, Drop)]
 pub enum Line {
     /// Nothing: it is a comment, or has only spaces.
     Nothing,

@@ -50,7 +50,7 @@ pub trait ByteOut {
 }
 
 /// A reader as a source of bytes. No failed read is tried again, an interrupted one neither.
-#[derive(Drop)]
+#[derive(Debug, Drop)]
 pub struct ReadEnd<R> {
     pub reader: R,
     pub failures: u64,
@@ -90,7 +90,7 @@ impl<R: Read> ByteIn for ReadEnd<R> {
 
 /// A writer as a place for bytes. A write that takes nothing failed. No failed write is tried again, an interrupted one
 /// neither.
-#[derive(Drop)]
+#[derive(Debug, Drop)]
 pub struct WriteEnd<W> {
     pub writer: W,
     pub failures: u64,

@@ -5,6 +5,7 @@ ghost use Rattle.script_text.specs.Lines.{line_feed, without_return};
 
 use crate::bytes::position_from;
 use std::alloc::{AllocError, Global};
+use std::fmt;
 use std::marker::Model;
 
 const LINE_FEED: u8 = b'\n';
@@ -38,6 +39,12 @@ pub struct LineSplitter {
     start: usize,
     searched: usize,
     taken: u64,
+}
+
+impl fmt::Debug for LineSplitter {
+    fn fmt<W: fmt::Write>(&self, f: &mut fmt::Formatter<W>) -> fmt::Result {
+        f.debug_struct("LineSplitter").finish_non_exhaustive()
+    }
 }
 
 impl Model for LineSplitter {

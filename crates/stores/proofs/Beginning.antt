@@ -15,7 +15,7 @@ use Rattle.stream_laws.specs.CanRun.{CanRun}
 use Rattle.flowgraph.specs.declared.parts.Connection.{Connection}
 use Rattle.flowgraph.specs.Flowgraph.{Flowgraph, net_of, node_of, connection_of}
 use Rattle.stream_model.specs.Meaning.{Meaning}
-use Rattle.ring_readers.specs.declared.reader.Place.{Place}
+use Rattle.ring_readers.specs.declared.reader.ReaderState.{ReaderState}
 use Rattle.ring_readers.specs.State.{ring_state, empty_ring, with_reader}
 use Rattle.buffers.specs.Buffer.{BufferState}
 use Rattle.plant_laws.specs.Stored.{OutputBuffer}
@@ -82,7 +82,7 @@ module _ (net : Network) where
         ∙ ap (λ h. (let b = buffer_with item capacity greatest (take k (map connection_of cs)) in record b { ring = with_reader b.ring h })) reads
         ∙ ap (λ (c : model.Connection). (let b = buffer_with item capacity greatest (take k (map connection_of cs)) in record b { ring = with_reader b.ring (node_at net c.to).meaning.history }))
         (sym (get_or-map connection_of cs k nothing_there no_connection lt))
-        ∙ ap (λ (ps : List Place). (let b : OutputBuffer = record { item = item; ring = ring_state 0 [] capacity greatest ps; tags = [] } in b))
+        ∙ ap (λ (ps : List ReaderState). (let b : OutputBuffer = record { item = item; ring = ring_state 0 [] capacity greatest ps; tags = [] } in b))
         (sym (map_more (first_place net) (map connection_of cs) k no_connection (rw length-map lt)))
 
 -- each part is as it is when a plant is opened, and so is the whole

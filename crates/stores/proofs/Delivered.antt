@@ -7,7 +7,7 @@ use Rattle.std.proofs.lemmas.List.Elements.{All-map}
 use Rattle.stream_model.specs.Network.{Network, State, writers_of, readers_of, used_outputs}
 use Rattle.stream_model.specs.Machine.{Capacities, Job}
 use Rattle.stream_model.proofs.Given.{map-numbers_from}
-use Rattle.ring_readers.specs.declared.reader.Place.{Place}
+use Rattle.ring_readers.specs.declared.reader.ReaderState.{ReaderState}
 use Rattle.ring_readers.specs.State.{slowest_of}
 use Rattle.ring_readers.proofs.SlowestReader.{slowest-meets}
 use Rattle.plant_laws.specs.Stored.{Stored, buffer_at}
@@ -33,21 +33,21 @@ module _ (net : Network) (caps : Capacities) (st : State) (stored : Stored) (hol
   pub read_is : (b p : ℕ) → b < length net.nodes → p < used_outputs net b → is_read (buffer_at stored b p) ≡ not (has_no_reader net caps st b p)
   read_is b p in' used = at (has_no_reader net caps st b p) refl
     where
-      places : List Place
+      places : List ReaderState
       places = (buffer_at stored b p).ring.readers
 
       are : (buffer_at stored b p).ring.readers ≡ map (place_of net st) (readers_of net b p)
       are = (holds.buffers b p in' used).readers
 
-      dead : has_no_reader net caps st b p ≡ true → All (λ (q : Place). IsTrue q.live → ⊥) (map (place_of net st) (readers_of net b p))
+      dead : has_no_reader net caps st b p ≡ true → All (λ (q : ReaderState). IsTrue q.live → ⊥) (map (place_of net st) (readers_of net b p))
       dead none =
-          All-map (λ (q : Place). IsTrue q.live → ⊥) (place_of net st) (readers_of net b p)
+          All-map (λ (q : ReaderState). IsTrue q.live → ⊥) (place_of net st) (readers_of net b p)
           (λ k d lt live. let done = none_reads net caps st b p none k d lt in let off = ap not done in false≢true (sym off ∙ live))
 
       at : (t : Bool) → has_no_reader net caps st b p ≡ t → is_read (buffer_at stored b p) ≡ not t
       at true none =
           nobody_left (slowest_of (buffer_at stored b p).ring.readers)
-          (slowest-meets (λ _. ⊥) (buffer_at stored b p).ring.readers (subst (All (λ (q : Place). IsTrue q.live → ⊥)) (sym are) (dead none)))
+          (slowest-meets (λ _. ⊥) (buffer_at stored b p).ring.readers (subst (All (λ (q : ReaderState). IsTrue q.live → ⊥)) (sym are) (dead none)))
       at false read = somebody_left (slowest_of (buffer_at stored b p).ring.readers) (read_lives net caps st b p read (buffer_at stored b p).ring.readers are)
 
   module _ (b : ℕ) (in' : b < length net.nodes) where

@@ -7,7 +7,7 @@ use Rattle.items.specs.declared.marks.Mark.{Mark}
 use Rattle.items.specs.declared.marks.Tag.{Tag}
 use Rattle.items.specs.Tags.{tag_of}
 use Rattle.tags.specs.TagList.{insert_tags}
-use Rattle.recordings.specs.Recording.{RecordingState}
+use Rattle.stores.specs.Recording.{RecordingState}
 use Rattle.stores.specs.Marks.{mark_of, stamped}
 use Rattle.stores.specs.Tapes.{TapeState, longer_tape}
 

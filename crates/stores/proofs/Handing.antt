@@ -1,5 +1,5 @@
 -- What is stored, and the state, after a block was handed something.
-use Rattle.std.proofs.Common.{◌≡◌, ℕ, ℤ, ◌<◌, List, [], ◌∷◌, ◌++◌, length, map, refl, ap, sym, ◌∙◌, true, Option, Some}
+use Rattle.std.proofs.Common.{◌≡◌, ℕ, ℤ, ◌<◌, List, [], ◌++◌, length, map, refl, ap, sym, ◌∙◌, true, Option, Some}
 use Rattle.std.specs.Prelude.{slice_index_or, slice_set}
 use Rattle.std.proofs.lemmas.List.{get_or-map}
 use Rattle.std.proofs.Math.Seq.{map-set_same}
@@ -10,7 +10,7 @@ use Rattle.stream_model.specs.Settings.{Held, put_setting}
 use Rattle.stream_model.specs.Machine.{with_handed, with_tape, tag_of}
 use Rattle.settings.specs.Timelines.{Settings}
 use Rattle.tags.specs.TagList.{insert_tags}
-use Rattle.recordings.specs.Recording.{RecordingState}
+use Rattle.stores.specs.Recording.{RecordingState}
 use Rattle.buffers.specs.Buffer.{BufferState}
 use Rattle.plant_laws.specs.Stored as stored
 use Rattle.plant_laws.specs.Stored.{Stored, Tape, tape_at, timeline_at}

@@ -18,7 +18,7 @@ use Rattle.machine_laws.specs.Sound.{fired, reached, Sound}
 use Rattle.machine_laws.specs.Bounds.{IsSmall}
 use Rattle.machine_laws.proofs.Bounding.{counts_are_small}
 use Rattle.machine_laws.proofs.Frames.{sound-moved}
-use Rattle.ring_readers.specs.declared.reader.Place.{Place}
+use Rattle.ring_readers.specs.declared.reader.ReaderState.{ReaderState}
 use Rattle.plant_laws.specs.Stored.{Stored}
 use Rattle.plant_laws.specs.Holds.{Holds}
 use Rattle.plant_laws.specs.Claims.{MayFire}
@@ -116,7 +116,7 @@ module _ (names : List (List ℕ)) (net : Network) (can : CanRun net) (valid : I
           record {
             live = serves.live;
             place = serves.place;
-            history = ap (λ (q : Place). q.history) (place_here net can caps st sound stored holds b count may p used) ∙ ap (λ k. (node_at net k).meaning.history) is.to;
+            history = ap (λ (q : ReaderState). q.history) (place_here net can caps st sound stored holds b count may p used) ∙ ap (λ k. (node_at net k).meaning.history) is.to;
             unread = serves.unread;
             rises = taken_by-rises (node_at net b) (can.sound b) p (fired st b) (next) (omega arith);
             type = (holds.buffers c.from c.out_port is.from (output_used net can b p used)).type ∙ input_type b p used;

@@ -1,3 +1,5 @@
+mod Copies
+mod Sames
 pub mod Views
 mod Feeding
 mod Growing

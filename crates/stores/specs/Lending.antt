@@ -11,7 +11,7 @@ use Rattle.settings.specs.declared.value.Held.{Held}
 use Rattle.settings.specs.Values.{held_of}
 use Rattle.ring_readers.specs.State.{IsLive, empty_ring, reader_at, unread_of}
 use Rattle.buffers.specs.Buffer.{BufferState}
-use Rattle.recordings.specs.Recording.{RecordingState}
+use Rattle.stores.specs.Recording.{RecordingState}
 use Rattle.block_kinds.specs.Work.{IsReady}
 use Rattle.plant_laws.specs.Stored.{Stored, tape_at, timeline_at, word_at}
 use Rattle.plant_laws.specs.Holds.{HasPlaces}

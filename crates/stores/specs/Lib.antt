@@ -1,3 +1,4 @@
+pub mod Recording
 pub mod Marks
 pub mod Tapes
 pub mod Stores

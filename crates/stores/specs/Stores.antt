@@ -1,5 +1,5 @@
 -- What the fields of a plant stand for.
-use Rattle.std.specs.Prelude.{◌≡◌, ◌++◌, ℕ, ℤ, List, [], ◌∷◌, map, Option, Some, None}
+use Rattle.std.specs.Prelude.{◌≡◌, ◌++◌, ℕ, ℤ, List, [], map, Option, Some, None}
 use Rattle.std.specs.Arc.{arc_value}
 use Rattle.stream_model.specs.Tags as model_tags
 use Rattle.stream_model.specs.Network as model
@@ -8,7 +8,7 @@ use Rattle.stream_model.specs.Machine.{with_tape, tag_of}
 use Rattle.tags.specs.TagList.{insert_tags}
 use Rattle.stream_model.specs.Settings.{Held, put_setting}
 use Rattle.settings.specs.Timelines.{Settings}
-use Rattle.recordings.specs.Recording.{RecordingState}
+use Rattle.stores.specs.Recording.{RecordingState}
 use Rattle.buffers.specs.Buffer.{BufferState}
 use Rattle.plant_laws.specs.Stored.{Tape, OutputBuffer, Collected, Stored}
 use Rattle.plant_laws.specs.Calls.{TakesOneMore}

@@ -12,11 +12,23 @@ use std::marker::Model;
 use std::sync::Arc;
 
 /// What a block was handed, as it was at one moment. The tape is shared, so that no item of it is copied. A contract sees it as the machine has it.
-#[derive(Drop)]
 pub struct IntakeCopy {
     tape: Arc<Tape, Global>,
     closed: bool,
     settings: Vec<Held>,
+}
+
+// By hand, so that no crate above proves the drop of each part again.
+impl Drop for IntakeCopy {
+    fn drop(self) {
+        let IntakeCopy {
+            tape,
+            closed: _,
+            settings,
+        } = self;
+        drop(tape);
+        drop(settings);
+    }
 }
 
 impl Model for IntakeCopy {

@@ -10,10 +10,10 @@ ghost use Rattle.stores.specs.Stores.{buffer_of, collected_of};
 ghost use Rattle.stores.specs.Opening.{LeadInside, HaveCapacities, IsUnhanded, AreUnhanded, history_among};
 
 use crate::intake::Intake;
+use crate::recording::Recording;
 use block_kinds::Block;
 use buffers::Buffer;
 use flowgraph::{BlockId, Connection, Valid};
-use recordings::Recording;
 use ring_readers::RingFault;
 use std::alloc::{AllocError, Global};
 
@@ -117,7 +117,7 @@ fn buffer<B: Block>(
     requires port { port < used_outputs (net_of B.meaning graph.now) block.0 }
     ensures { IfOk result (λ buffer. buffer_of buffer ≡ empty_buffer (net_of B.meaning graph.now) (map (λ row. row.items) capacities.now) block.0 port) }
 {
-    graph.in_order();
+    graph.recall();
     let capacity = capacity_at(capacities, block.0 as usize, port);
     let readers = graph.readers(block, port);
     let greatest = greatest_history(graph, readers);

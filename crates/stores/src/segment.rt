@@ -5,8 +5,8 @@ ghost use Rattle.stream_model.specs.Tags.{tags_within};
 ghost use Rattle.items.specs.Items.{type_of, numbers_of};
 ghost use Rattle.items.specs.Tags.{tag_of};
 
+use crate::recording::Recording;
 use items::{ItemFault, Items};
-use recordings::Recording;
 use std::alloc::{AllocError, Global};
 use tags::Tag;
 

@@ -13,16 +13,15 @@ ghost use Rattle.plant_laws.specs.Opening.{stored_opening};
 use crate::intake::Intake;
 use crate::kept::Kept;
 use crate::opening::{all_handed, buffers, sinks, words};
+use crate::recording::Recording;
 use crate::segment::{Segment, cut};
 use block_kinds::Block;
 use buffers::Buffer;
 use flowgraph::{BlockId, Valid};
-use recordings::Recording;
 use std::alloc::{AllocError, Global};
 use tags::Tag;
 
 /// What a plant stores, block by block.
-#[derive(Drop)]
 pub struct Stores {
     /// Tapes and settings.
     pub handed: Vec<Intake>,
@@ -34,6 +33,24 @@ pub struct Stores {
     pub sinks: Vec<Recording>,
     /// A place for the tags that a commit brings to one output.
     pub brought: Vec<Tag>,
+}
+
+// By hand, so that no crate above proves the drop of each part again.
+impl Drop for Stores {
+    fn drop(self) {
+        let Stores {
+            handed,
+            words,
+            buffers,
+            sinks,
+            brought,
+        } = self;
+        drop(handed);
+        drop(words);
+        drop(buffers);
+        drop(sinks);
+        drop(brought);
+    }
 }
 
 impl Stores {

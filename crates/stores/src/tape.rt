@@ -6,8 +6,8 @@ ghost use Rattle.items.specs.Items.{type_of, numbers_of};
 ghost use Rattle.stores.specs.Marks.{mark_of, stamped};
 ghost use Rattle.stores.specs.Tapes.{blank_tape, longer_tape};
 
+use crate::recording::{Recording, are_same};
 use items::{ItemType, Items, Mark, Tag};
-use recordings::{Recording, are_same};
 use std::alloc::{AllocError, Global};
 use std::marker::Model;
 

@@ -16,7 +16,7 @@ use Rattle.stream_model.specs.Machine as machine
 use Rattle.stream_model.specs.Machine.{Capacities, Job, Reply, job_of, counts_of, claim_of, claimed_by, with_progress, ended, next, commit_of, is_in_flight, jobs_agree, feed_of, close_of, set_of, read_of, set_wanted, place_setting, marks_fit, longest_tape, is_wanted, floor_of}
 use Rattle.machine_laws.specs.Stays.{in_flight}
 use Rattle.machine_laws.proofs.Choices.{if_both}
-use Rattle.flights.proofs.Agreeing.{jobs_same}
+use Rattle.machine_laws.proofs.Agreeing.{jobs_same}
 use Rattle.threads.specs.Recorded.{flights_in}
 use Rattle.threads.proofs.Claims.{claims}
 

@@ -27,7 +27,7 @@ use std::thread;
 use std::thread::{JoinHandle, Parker, Scope, Threads};
 
 /// How a run with callers ended.
-#[derive(Drop)]
+#[derive(Debug, Drop)]
 pub struct Finished<B: Block, C: Drop> {
     /// How it ended, with the plant.
     pub outcome: Outcome<B>,
@@ -170,7 +170,7 @@ fn out_of_memory<B: Block>(plant: Plant<B>) -> RunFault<B>
     requires { is_idle plant.state ≡ true }
     ensures { GivesBackLive B.meaning B.eq (opening_of plant) result }
 {
-    plant.in_order();
+    plant.recall();
     RunFault::Memory(plant)
 }
 

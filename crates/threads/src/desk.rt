@@ -19,6 +19,7 @@ use items::{Items, Mark};
 use plant::{Closed, Fed, Piece, PlantFault, Taken};
 use settings::Value;
 use std::alloc::Global;
+use std::fmt;
 use std::marker::Model;
 use std::sync::{Arc, Wait};
 
@@ -38,6 +39,12 @@ pub struct Desk<'a, B: Block, G: Gate + Drop> {
     pub(crate) graph: &'a Valid<B>,
     pub(crate) number: u32,
     pub(crate) log: Vec<Entry>,
+}
+
+impl<'a, B: Block, G: Gate + Drop> fmt::Debug for Desk<'a, B, G> {
+    fn fmt<W: fmt::Write>(&self, f: &mut fmt::Formatter<W>) -> fmt::Result {
+        f.debug_struct("Desk").finish_non_exhaustive()
+    }
 }
 
 impl<'a, B: Block, G: Gate + Drop> Model for Desk<'a, B, G> {

@@ -14,10 +14,10 @@ ghost use Rattle.threads.specs.History.{asked_by, said_by, said_of, noted_by};
 use flowgraph::BlockId;
 use items::{Items, Mark};
 use plant::{Closed, Fed, Piece, PlantFault, Taken};
-use recordings::are_same;
 use settings::Value;
 use std::alloc::{AllocError, Global};
 use std::sync::Arc;
+use stores::are_same;
 
 /// Who made a call.
 #[derive(Clone, Copy, Debug, PartialEq, Eq)]
@@ -49,7 +49,7 @@ pub struct Setting {
 }
 
 /// A call of a plant with its arguments. What may be long is shared.
-#[derive(Drop)]
+#[derive(Debug, Drop)]
 pub enum Call {
     /// Of a source.
     Feed(Arc<Feed, Global>),
@@ -66,7 +66,7 @@ pub enum Call {
 }
 
 /// What a call returned.
-#[derive(Drop)]
+#[derive(Debug, Drop)]
 pub enum Answer {
     /// How many items the tape holds then.
     Fed(u64),
@@ -87,7 +87,7 @@ pub enum Answer {
 }
 
 /// A call that was made while threads ran, with its reply.
-#[derive(Drop)]
+#[derive(Debug, Drop)]
 pub struct Entry {
     pub caller: CallerId,
     pub call: Call,

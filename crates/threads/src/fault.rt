@@ -9,7 +9,7 @@ use std::fmt;
 
 /// Why a run did not come to its end. A plant that is returned has what was handed to it, after `live` by its callers too, with no claim in flight,
 /// and may be run again.
-#[derive(Drop)]
+#[derive(Debug, Drop)]
 pub enum RunFault<B: Block> {
     /// Out of memory before the run, or for a claim during it.
     Memory(Plant<B>),

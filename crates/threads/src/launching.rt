@@ -56,7 +56,7 @@ fn out_of_memory<B: Block>(plant: Plant<B>) -> RunFault<B>
     requires { is_idle plant.state ≡ true }
     ensures { GivesBack B.meaning B.eq (handed_of plant) result }
 {
-    plant.in_order();
+    plant.recall();
     RunFault::Memory(plant)
 }
 

@@ -4,7 +4,7 @@ ghost use Rattle.std.specs.Prelude.{◌≡◌, ◌≤◌, IfOk};
 ghost use Rattle.stream_model.specs.Machine as machine;
 ghost use Rattle.stream_model.specs.Machine.{next, commit_of};
 ghost use Rattle.flowgraph.specs.Flowgraph.{net_of};
-ghost use Rattle.flights.specs.Flight.{is_own};
+ghost use Rattle.plant.specs.Own.{is_own};
 ghost use Rattle.plant.specs.Answers.{Answered, IsOf, IsTaken, claim_reply, reply_of};
 
 use flowgraph::{Block, BlockId};

@@ -5,7 +5,7 @@ use plant::Plant;
 
 /// How a run came to its end, with the plant. It has what was handed in, after `live` what its callers fed, closed and set too, and no claim in
 /// flight.
-#[derive(Drop)]
+#[derive(Debug, Drop)]
 pub enum Outcome<B: Block> {
     /// Each block is done, and each sink holds its whole stream.
     Done(Plant<B>),

@@ -6,7 +6,7 @@ ghost use Rattle.stream_model.specs.Machine as machine;
 ghost use Rattle.stream_model.specs.Machine.{is_idle, commit_of};
 ghost use Rattle.settings.specs.Values.{value_of};
 ghost use Rattle.flowgraph.specs.Flowgraph.{net_of};
-ghost use Rattle.flights.specs.Flight.{is_own};
+ghost use Rattle.plant.specs.Own.{is_own};
 ghost use Rattle.plant.specs.Answers.{IsOf, claim_reply, piece_reply, reply_of};
 ghost use Rattle.threads.specs.declared.entry.CallerId.TheVariants as caller;
 ghost use Rattle.threads.specs.declared.entry.Call.TheVariants as call;
@@ -173,7 +173,7 @@ impl<B: Block> Recorded<B> {
         ensures noted { IsClaimNoted B.meaning (caller.Worker block) (asked_by (call.Claim block max)) self.old self.new (reply_of claim_reply result) }
         ensures of_graph { IfOk result (IsOf self.old.plant.graph) }
     {
-        self.plant.in_order();
+        self.plant.recall();
         self.history.reserve(self.flights + 2)?;
         match self.plant.claim(alloc, block, max)? {
             Claim::Claimed(job) => {
@@ -202,7 +202,7 @@ impl<B: Block> Recorded<B> {
     pub fn commit(&mut self, worked: Worked<B>) -> Result<Did, Worked<B>>
         ensures { IsBack B.meaning (commit_of (net_of B.meaning self.old.plant.graph) self.old.plant.state (is_own B.eq self.old.plant.graph worked.graph worked.job.block) worked.job) self.old self.new worked worked.job.block result }
     {
-        self.plant.in_order();
+        self.plant.recall();
         let block = worked.block();
         let did = self.plant.commit(worked)?;
         self.flights -= 1;
@@ -218,7 +218,7 @@ impl<B: Block> Recorded<B> {
     pub fn came_from(self, opening: &Opening<B>) -> Option<(Plant<B>, Vec<Entry>)>
         ensures { IfSome result (λ r. CameTo B.meaning B.eq opening.now (map noted_by r.1.items) r.0) }
     {
-        self.plant.in_order();
+        self.plant.recall();
         if !self.plant.idle() || !self.opening.agrees(opening) {
             return None;
         }

@@ -16,6 +16,7 @@ use crate::worker::Shared;
 use flowgraph::Block;
 use plant::{Handed, Headway, Plant, Watch};
 use std::alloc::Global;
+use std::fmt;
 use std::marker::Model;
 use std::sync::{Arc, Wait};
 use std::thread::{JoinHandle, Threads};
@@ -28,6 +29,12 @@ pub struct Running<B: Block, G: Gate + Drop> {
     pub(crate) workers: Vec<JoinHandle<()>>,
     pub(crate) handed: Handed<B>,
     pub(crate) asked: bool,
+}
+
+impl<B: Block, G: Gate + Drop> fmt::Debug for Running<B, G> {
+    fn fmt<W: fmt::Write>(&self, f: &mut fmt::Formatter<W>) -> fmt::Result {
+        f.debug_struct("Running").finish_non_exhaustive()
+    }
 }
 
 impl<B: Block, G: Gate + Drop> Model for Running<B, G> {
@@ -134,7 +141,7 @@ fn ended<B: Block>(
 pub(crate) fn came_back<B: Block>(plant: &Plant<B>, handed: &Handed<B>) -> bool
     ensures { result ≡ true → CameBack B.meaning B.eq handed.now plant.now }
 {
-    plant.in_order();
+    plant.recall();
     plant.idle() && plant.agrees(handed)
 }
 

@@ -24,6 +24,7 @@ use kinds::Kind;
 use plant::{Closed, Fed, Plant, PlantFault, Taken, Unwatched, Watch};
 use settings::Value;
 use std::alloc::{AllocError, Global};
+use std::fmt;
 use std::marker::Model;
 use std::sync::{Arc, Wait};
 use std::thread::Threads;
@@ -37,6 +38,12 @@ use threads::{
 #[derive(Drop)]
 pub struct TopBlock {
     plant: Plant<Kind>,
+}
+
+impl fmt::Debug for TopBlock {
+    fn fmt<W: fmt::Write>(&self, f: &mut fmt::Formatter<W>) -> fmt::Result {
+        f.debug_struct("TopBlock").finish_non_exhaustive()
+    }
 }
 
 impl Model for TopBlock {

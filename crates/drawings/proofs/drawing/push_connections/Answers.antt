@@ -8,11 +8,11 @@ use Rattle.drawings.proofs.drawing.push_connections.Goals as goal
 
 pub drawn_connection-connection-requires-clause-from : goal.drawn_connection-connection-requires-clause-from
 drawn_connection-connection-requires-clause-from c =
-    (ends_are_blocks c.args.graph.now c.connections-connection-items.result.now c.connections-connection-items.ensures c.loop-number.number c.loop-number-test.true c.in_order.ensures.valid.graph.ends).0
+    (ends_are_blocks c.args.graph.now c.connections-connection-items.result.now c.connections-connection-items.ensures c.loop-number.number c.loop-number-test.true c.recall.ensures.valid.graph.ends).0
 
 pub drawn_connection-connection-requires-clause-to : goal.drawn_connection-connection-requires-clause-to
 drawn_connection-connection-requires-clause-to c =
-    (ends_are_blocks c.args.graph.now c.connections-connection-items.result.now c.connections-connection-items.ensures c.loop-number.number c.loop-number-test.true c.in_order.ensures.valid.graph.ends).1
+    (ends_are_blocks c.args.graph.now c.connections-connection-items.result.now c.connections-connection-items.ensures c.loop-number.number c.loop-number-test.true c.recall.ensures.valid.graph.ends).1
 
 pub loop-number-preserved : goal.loop-number-preserved
 loop-number-preserved c =

@@ -1,67 +1,39 @@
-use Rattle.std.proofs.Common.{◌≡◌, None, Some, sym, ap, ◌∙◌, ◌<◌, ℕ, length, get_or, subst, refl, true}
-use Rattle.std.proofs.lemmas.List.{length-map}
+use Rattle.std.proofs.Common.{sym, ◌∙◌}
 use Rattle.stream_model.specs.Machine as machine
-use Rattle.machine_laws.specs.Stays.{in_flight}
-use Rattle.flowgraph.specs.Flowgraph.{net_of, node_of}
 use Rattle.flow.proofs.Sessions.{if_ok}
-use Rattle.flow.proofs.Claiming.{one_at, none_back, one_back, none_keeps, commit_keeps, commit_done, commit_comes, own_block}
+use Rattle.flow.proofs.Claiming.{commit_gives_back, none_stays, none_answered, given_comes, given_keeps, given_answered}
 use Rattle.flow.proofs.claims.commit.Goals as goal
 
 pub unreachable-requires : goal.unreachable-requires
 unreachable-requires g c =
-    let graph = c.args.plant.now.graph in
-    let net = net_of g.B.Block.meaning graph in
-    let st = c.args.plant.now.state in
-    let jobs = c.args.jobs.now in
-    let b = c.args.block.0 in
-    let one : get_or jobs b None ≡ Some c.in-Some.job = one_at jobs b c.index-jobs-block.result (Some c.in-Some.job) c.requires.inside c.in-Some.ensures.value in
-    let low : b < length graph.blocks = subst (λ (n : ℕ). b < n) (c.requires.jobs.places ∙ length-map graph.blocks (node_of g.B.Block.meaning)) c.requires.inside in
-    let own = own_block net c.args.plant.now.capacities st c.in_order.ensures.runs c.in_order.ensures.sound graph jobs c.requires.jobs b c.requires.inside c.in-Some.job one g.B.PartialEq.eq g.met.B.Eq.laws low in
     let back = rw (c.work.ensures.graph, c.work.ensures.job) at c.in-Err.ensures in
-    commit_comes net c.args.plant.now.capacities st c.in_order.ensures.runs c.in_order.ensures.sound graph jobs c.requires.jobs b c.requires.inside c.in-Some.job one _ own back.0
+    given_comes g.B.Block.meaning c.args.plant.now c.recall.ensures.runs c.recall.ensures.sound c.args.jobs.now c.requires.jobs c.args.block.0 c.requires.inside c.index-jobs-block.result
+    c.in-Some.job c.in-Some.ensures.value machine.Commit (commit_gives_back _ _ _) g.B.PartialEq.eq g.met.B.Eq.laws back.0
 
 pub returns-clause-jobs : goal.returns-clause-jobs
 returns-clause-jobs g c =
-    let graph = c.args.plant.now.graph in
-    let net = net_of g.B.Block.meaning graph in
-    let st = c.args.plant.now.state in
-    let jobs = c.args.jobs.now in
-    let b = c.args.block.0 in
-    let one : get_or jobs b None ≡ Some c.in-Some.job = one_at jobs b c.index-jobs-block.result (Some c.in-Some.job) c.requires.inside c.in-Some.ensures.value in
-    let low : b < length graph.blocks = subst (λ (n : ℕ). b < n) (c.requires.jobs.places ∙ length-map graph.blocks (node_of g.B.Block.meaning)) c.requires.inside in
-    let own = own_block net c.args.plant.now.capacities st c.in_order.ensures.runs c.in_order.ensures.sound graph jobs c.requires.jobs b c.requires.inside c.in-Some.job one g.B.PartialEq.eq g.met.B.Eq.laws low in
     let did = rw (c.work.ensures.graph, c.work.ensures.job) at c.in-Ok.ensures in
-    rw (did.1, c.take.ensures.after) (commit_keeps net c.args.plant.now.capacities st c.in_order.ensures.runs c.in_order.ensures.sound graph jobs c.requires.jobs b c.requires.inside c.in-Some.job one _ _ refl)
+    rw (did.1, c.take.ensures.after)
+    (given_keeps g.B.Block.meaning c.args.plant.now c.recall.ensures.runs c.recall.ensures.sound c.args.jobs.now c.requires.jobs c.args.block.0 c.requires.inside c.index-jobs-block.result
+    c.in-Some.job c.in-Some.ensures.value machine.Commit (commit_gives_back _ _ _) g.B.PartialEq.eq g.met.B.Eq.laws)
 
 pub returns-clause-gives : goal.returns-clause-gives
 returns-clause-gives g c =
-    let graph = c.args.plant.now.graph in
-    let net = net_of g.B.Block.meaning graph in
-    let st = c.args.plant.now.state in
-    let jobs = c.args.jobs.now in
-    let b = c.args.block.0 in
-    let one : get_or jobs b None ≡ Some c.in-Some.job = one_at jobs b c.index-jobs-block.result (Some c.in-Some.job) c.requires.inside c.in-Some.ensures.value in
-    let low : b < length graph.blocks = subst (λ (n : ℕ). b < n) (c.requires.jobs.places ∙ length-map graph.blocks (node_of g.B.Block.meaning)) c.requires.inside in
-    let own = own_block net c.args.plant.now.capacities st c.in_order.ensures.runs c.in_order.ensures.sound graph jobs c.requires.jobs b c.requires.inside c.in-Some.job one g.B.PartialEq.eq g.met.B.Eq.laws low in
     let did = rw (c.work.ensures.graph, c.work.ensures.job) at c.in-Ok.ensures in
-    let same = commit_done net c.args.plant.now.capacities st c.in_order.ensures.runs c.in_order.ensures.sound graph jobs c.requires.jobs b c.requires.inside c.in-Some.job one _ own in
     rw (did.1, c.take.ensures.after)
     (if_ok _ _ c.to_line-in-Ok.result c.to_line-in-Ok.ensures (λ line e.
-    one_back jobs c.in-Some.job st _ b (machine.commit_of net st true (in_flight net st b)) (machine.Did c.in-Ok.field-0.0) line.items one (sym (ap (λ r. r.0) same) ∙ did.0) (ap (λ r. r.1) same) e))
+    given_answered g.B.Block.meaning c.args.plant.now c.recall.ensures.runs c.recall.ensures.sound c.args.jobs.now c.requires.jobs c.args.block.0 c.requires.inside c.index-jobs-block.result
+    c.in-Some.job c.in-Some.ensures.value machine.Commit (commit_gives_back _ _ _) g.B.PartialEq.eq g.met.B.Eq.laws (machine.Did c.in-Ok.field-0.0) line.items did.0 e))
 
 pub returns-in_default-clause-jobs : goal.returns-in_default-clause-jobs
 returns-in_default-clause-jobs g c =
-    let jobs = c.args.jobs.now in
-    let b = c.args.block.0 in
-    let none : get_or jobs b None ≡ None = one_at jobs b c.index-jobs-block.result None c.requires.inside (sym c.in_default.is ∙ c.take.ensures.value) in
-    rw c.take.ensures.after (none_keeps _ c.args.plant.now.capacities _ c.in_order.ensures.runs c.in_order.ensures.sound _ jobs c.requires.jobs b c.requires.inside none)
+    rw c.take.ensures.after
+    (none_stays g.B.Block.meaning c.args.plant.now c.recall.ensures.runs c.recall.ensures.sound c.args.jobs.now c.requires.jobs c.args.block.0 c.requires.inside c.index-jobs-block.result
+    (sym c.in_default.is ∙ c.take.ensures.value))
 
 pub returns-in_default-clause-gives : goal.returns-in_default-clause-gives
 returns-in_default-clause-gives g c =
-    let jobs = c.args.jobs.now in
-    let b = c.args.block.0 in
-    let none : get_or jobs b None ≡ None = one_at jobs b c.index-jobs-block.result None c.requires.inside (sym c.in_default.is ∙ c.take.ensures.value) in
-    let net = net_of g.B.Block.meaning c.args.plant.now.graph in
-    let st = c.args.plant.now.state in
     rw c.take.ensures.after
-    (if_ok _ _ c.to_line.result c.to_line.ensures (λ line e. none_back jobs st b (machine.commit_of net st true (in_flight net st b)) line.items none e))
+    (if_ok _ _ c.to_line.result c.to_line.ensures (λ line e.
+    none_answered g.B.Block.meaning c.args.plant.now c.recall.ensures.runs c.recall.ensures.sound c.args.jobs.now c.requires.jobs c.args.block.0 c.requires.inside c.index-jobs-block.result
+    (sym c.in_default.is ∙ c.take.ensures.value) _ line.items e))

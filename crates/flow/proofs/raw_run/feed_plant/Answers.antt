@@ -32,7 +32,7 @@ pub returns-in_err-push-clause-stops : goal.returns-in_err-push-clause-stops
 returns-in_err-push-clause-stops g c =
     let p = err_from_is_err_and c.from_residual-in_err-push.result c.from_residual-in_err-push.ensures.1 in
     rw (p.1, p.2)
-    (no_memory (net_of meaning_of c.args.plant.now.graph) c.args.plant.now.state c.args.source.0 c.args.order (g.I.ByteIn.remaining c.args.input.now) c.in_order.ensures.sound.handed_count
+    (no_memory (net_of meaning_of c.args.plant.now.graph) c.args.plant.now.state c.args.source.0 c.args.order (g.I.ByteIn.remaining c.args.input.now) c.recall.ensures.sound.handed_count
     c.loop-pieces.plant.state (g.I.ByteIn.remaining c.loop-pieces.input) c.loop-pieces.decoder c.loop-pieces.invariant.feeding c.args.number (g.I.ByteIn.remaining c.read.new.self) (take c.in-Ok.read c.read.new.buffer) c.in-Ok.ensures.bytes.0)
 
 pub returns-in_err-put_on-2-clause-stops : goal.returns-in_err-put_on-2-clause-stops
@@ -43,7 +43,7 @@ returns-in_err-put_on-2-clause-stops g c =
     let fault = c.in_err-put_on-2.field-0.0 in
     let ys = numbers_of c.push.new.out in
     rw (p.1, p.2)
-    (refused_more net c.args.plant.now.state c.args.source.0 c.args.order (g.I.ByteIn.remaining c.args.input.now) c.in_order.ensures.sound.handed_count
+    (refused_more net c.args.plant.now.state c.args.source.0 c.args.order (g.I.ByteIn.remaining c.args.input.now) c.recall.ensures.sound.handed_count
     c.loop-pieces.plant.state (g.I.ByteIn.remaining c.loop-pieces.input) c.loop-pieces.decoder c.loop-pieces.invariant.feeding (g.I.ByteIn.remaining c.read.new.self) (take c.in-Ok.read c.read.new.buffer)
     c.push.new.self (type_of c.push.new.out) ys c.in-Ok.ensures.bytes.0 c.in_ok-push.ensures.layout (c.in_ok-push.ensures.item_type ∙ c.loop-pieces.invariant.typed ∙ sym c.loop-pieces.invariant.feeding.typed)
     (c.in_ok-push.ensures.items ∙ ap (λ (zs : List ℤ). zs ++ items_of c.loop-pieces.decoder.item_type c.loop-pieces.decoder.order (c.loop-pieces.decoder.cut ++ take c.in-Ok.read c.read.new.buffer)) c.loop-pieces.invariant.none)
@@ -62,7 +62,7 @@ loop-pieces-preserved g c =
       same = c.in_ok-put_on-2.ensures.same ∙ ap (λ (x : PlantState Kind). in_state x last) c.loop-pieces.invariant.same;
       idle = λ h. c.in_ok-put_on-2.ensures.idle (c.loop-pieces.invariant.idle h);
       feeding =
-          feeding_more net c.args.plant.now.state c.args.source.0 c.args.order (g.I.ByteIn.remaining c.args.input.now) c.in_order.ensures.sound.handed_count
+          feeding_more net c.args.plant.now.state c.args.source.0 c.args.order (g.I.ByteIn.remaining c.args.input.now) c.recall.ensures.sound.handed_count
           c.loop-pieces.plant.state (g.I.ByteIn.remaining c.loop-pieces.input) c.loop-pieces.decoder c.loop-pieces.invariant.feeding (g.I.ByteIn.remaining c.read.new.self) (take c.in-Ok.read c.read.new.buffer)
           c.push.new.self (type_of c.push.new.out) ys c.in-Ok.ensures.bytes.0 c.in_ok-push.ensures.layout (typed ∙ sym c.loop-pieces.invariant.feeding.typed)
           (c.in_ok-push.ensures.items ∙ ap (λ (zs : List ℤ). zs ++ items_of c.loop-pieces.decoder.item_type c.loop-pieces.decoder.order (c.loop-pieces.decoder.cut ++ take c.in-Ok.read c.read.new.buffer)) c.loop-pieces.invariant.none)

@@ -1,21 +1,18 @@
-use Rattle.std.proofs.Common.{◌≡◌, ◌++◌, ◌∙◌, ap, sym, List, ℕ, [], subst, map, OnOk, arith, append-nil, slice_index_or}
+use Rattle.std.proofs.Common.{◌≡◌, ◌++◌, ◌∙◌, ap, sym, List, ℕ, subst, map, OnOk, arith, append-nil}
 use Rattle.std.proofs.lemmas.List.{length-map}
-use Rattle.std.proofs.lemmas.Option.{get_or_from_slice_get}
 use Rattle.items.specs.Items.{numbers_of}
 use Rattle.items.specs.Tags.{tag_of}
-use Rattle.flowgraph.specs.Flowgraph.{Flowgraph, net_of, node_of}
-use Rattle.kinds.specs.declared.kind.Kind.{Kind}
+use Rattle.flowgraph.specs.Flowgraph.{net_of, node_of}
 use Rattle.kinds.specs.Kind.{meaning_of}
 use Rattle.graph_file.specs.Blocks.{drafted}
+use Rattle.flow.proofs.Naming.{name_is}
 use Rattle.flow.proofs.Reporting.{piece_count, no_sink, count_none}
 use Rattle.flow.proofs.reports.add_count.Goals as goal
 
 pub returns-in-Ok : goal.returns-in-Ok
 returns-in-Ok c =
     let p = c.args.plant.now in
-    let named =
-    ap (λ (g : Flowgraph Kind). slice_index_or g.names c.args.block.0 []) (sym c.graph.ensures)
-    ∙ get_or_from_slice_get c.graph.result.now.names c.args.block.0 c.name-name.result.now [] c.name-name.ensures in
+    let named = name_is _ p.graph c.args.block.0 c.name-name.result.now c.graph.ensures c.name-name.ensures in
     let line =
     piece_count (drafted p.graph) p.state c.args.block.0 c.in-Ok.piece.from c.in-Ok.piece.held (numbers_of c.in-Ok.piece.items) (map tag_of c.in-Ok.piece.tags.items) c.in-Ok.piece.done c.name-name.result.now named c.in-Ok.ensures.answered in
     subst (λ (l : List ℕ). OnOk c.add_held.result (c.add_held.new.text.items ≡ c.args.text.now.items ++ l)) line c.add_held.ensures.shown

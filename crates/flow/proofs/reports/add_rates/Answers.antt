@@ -15,7 +15,7 @@ pub add_firings-requires : goal.add_firings-requires
 add_firings-requires c =
     let g = c.args.graph.now in
     ap length c.firings.ensures
-    ∙ firings_each g.names (net_of meaning_of g) c.args.rates.now c.in-Balanced.balanced.firings.items c.in_order.ensures.valid c.in_order.ensures.lawful c.requires (ap answer_of c.in-Balanced.is)
+    ∙ firings_each g.names (net_of meaning_of g) c.args.rates.now c.in-Balanced.balanced.firings.items c.recall.ensures.valid c.recall.ensures.lawful c.requires (ap answer_of c.in-Balanced.is)
     ∙ length-map g.blocks (node_of meaning_of)
 
 pub returns-in_ok-add-in-Balanced : goal.returns-in_ok-add-in-Balanced

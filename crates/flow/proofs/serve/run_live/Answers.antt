@@ -11,7 +11,7 @@ returns-clause-does g c =
       between,
       wrote_run (IsLiveTo c.args.file.now) between (g.O.ByteOut.contents c.written_run.new.output) c.in_ok-text.text.items c.status_of-status.result ended.status c.stalled_one-stalled.result ended.stalled
           (ran_live c.args.file.now c.in_ok-text.text.items c.in-Ok.plant lived.plant _ lived.settled c.all_done-done.result c.status_of-status.result _ lived.ensures.came
-          c.in-Ok.ensures.ok c.in_order.ensures.capacities lived.ensures.settled c.all_done-done.ensures.value c.all_done-done.ensures.whole c.in_ok-text.ensures c.status_of-status.ensures
+          c.in-Ok.ensures.ok c.recall.ensures.capacities lived.ensures.settled c.all_done-done.ensures.value c.all_done-done.ensures.whole c.in_ok-text.ensures c.status_of-status.ensures
           c.stalled_one-stalled.ensures)
           h.0 h.1 h.2,
     ))

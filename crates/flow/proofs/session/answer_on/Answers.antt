@@ -18,7 +18,7 @@ returns-in-Feed-clause-jobs g c =
     let xs = c.deref.result.now in
     let ms = marks_seen c.deref-in-Feed.result.now in
     moved_keeps (feed_numbers net old.state c.args.block.0 xs ms) old c.feed.new.plant g.B.Block.meaning c.args.jobs.now c.requires.jobs
-    (feed_leaves net old.capacities old.state c.in_order.ensures.runs c.in_order.ensures.sound c.args.block.0 xs ms) c.feed.ensures.moves
+    (feed_leaves net old.capacities old.state c.recall.ensures.runs c.recall.ensures.sound c.args.block.0 xs ms) c.feed.ensures.moves
 
 pub returns-in-Feed-clause-answers : goal.returns-in-Feed-clause-answers
 unfolding AnswersOn
@@ -39,7 +39,7 @@ returns-in-Close-clause-jobs g c =
     let old = c.args.plant.now in
     let net = net_of g.B.Block.meaning old.graph in
     moved_keeps (machine.close_of net old.state c.args.block.0) old c.close.new.plant g.B.Block.meaning c.args.jobs.now c.requires.jobs
-    (close_leaves net old.capacities old.state c.in_order.ensures.runs c.in_order.ensures.sound c.args.block.0) c.close.ensures.moves
+    (close_leaves net old.capacities old.state c.recall.ensures.runs c.recall.ensures.sound c.args.block.0) c.close.ensures.moves
 
 pub returns-in-Close-clause-answers : goal.returns-in-Close-clause-answers
 unfolding AnswersOn
@@ -59,7 +59,7 @@ returns-in-Set-clause-jobs g c =
     let net = net_of g.B.Block.meaning old.graph in
     let zs = c.deref-in-Set.result.now in
     moved_keeps (set_numbers net old.state c.args.block.0 c.in-Set.at zs) old c.set.new.plant g.B.Block.meaning c.args.jobs.now c.requires.jobs
-    (set_leaves net old.capacities old.state c.in_order.ensures.runs c.in_order.ensures.sound c.args.block.0 c.in-Set.at zs) c.set.ensures.moves
+    (set_leaves net old.capacities old.state c.recall.ensures.runs c.recall.ensures.sound c.args.block.0 c.in-Set.at zs) c.set.ensures.moves
 
 pub returns-in-Set-clause-answers : goal.returns-in-Set-clause-answers
 unfolding AnswersOn
@@ -103,7 +103,7 @@ returns-in-Step-clause-jobs g c =
     let old = c.args.plant.now in
     let net = net_of g.B.Block.meaning old.graph in
     moved_keeps (machine.step_of net old.capacities old.state c.args.block.0 c.in-Step.max) old c.step.new.plant g.B.Block.meaning c.args.jobs.now c.requires.jobs
-    (step_leaves net old.capacities old.state c.in_order.ensures.runs c.in_order.ensures.sound c.args.block.0 c.in-Step.max) c.step.ensures.moves
+    (step_leaves net old.capacities old.state c.recall.ensures.runs c.recall.ensures.sound c.args.block.0 c.in-Step.max) c.step.ensures.moves
 
 pub returns-in-Step-clause-answers : goal.returns-in-Step-clause-answers
 unfolding AnswersOn

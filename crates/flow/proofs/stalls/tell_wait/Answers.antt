@@ -1,11 +1,9 @@
 use Rattle.std.proofs.Common.{◌≡◌, ◌++◌, ◌∷◌, [], List, ℕ, ap, ◌∙◌, sym, slice_index_or}
 use Rattle.std.specs.Prelude.{codes}
 use Rattle.std.specs.Fmt.{decimal}
-use Rattle.std.proofs.lemmas.Option.{get_or_from_slice_get}
-use Rattle.flowgraph.specs.Flowgraph.{Flowgraph}
-use Rattle.kinds.specs.declared.kind.Kind.{Kind}
 use Rattle.graph_file.specs.Blocks.{drafted}
 use Rattle.flow.specs.Stalls.{wait_line}
+use Rattle.flow.proofs.Naming.{name_is}
 use Rattle.flow.proofs.Stalling.{puts_as, line_of_6, line_of_7}
 use Rattle.flow.proofs.stalls.tell_wait.Goals as goal
 
@@ -13,12 +11,8 @@ pub returns-in-Items : goal.returns-in-Items
 returns-in-Items g c =
     let d = drafted c.args.plant.now.graph in
     let b = c.args.block.0 in
-    let named : slice_index_or d.names b [] ≡ c.name-name.result.now =
-    ap (λ (x : Flowgraph Kind). slice_index_or x.names b []) (sym c.graph-graph.ensures)
-    ∙ get_or_from_slice_get c.graph-graph.result.now.names b c.name-name.result.now [] c.name-name.ensures in
-    let other : slice_index_or d.names c.in-Items.writer.0 [] ≡ c.name.result.now =
-    ap (λ (x : Flowgraph Kind). slice_index_or x.names c.in-Items.writer.0 []) (sym c.graph-graph.ensures)
-    ∙ get_or_from_slice_get c.graph-graph.result.now.names c.in-Items.writer.0 c.name.result.now [] c.name.ensures in
+    let named : slice_index_or d.names b [] ≡ c.name-name.result.now = name_is _ c.args.plant.now.graph b c.name-name.result.now c.graph-graph.ensures c.name-name.ensures in
+    let other : slice_index_or d.names c.in-Items.writer.0 [] ≡ c.name.result.now = name_is _ c.args.plant.now.graph c.in-Items.writer.0 c.name.result.now c.graph-graph.ensures c.name.ensures in
     puts_as _ _ _ _ _
     (ap (λ (t : List ℕ). codes "flow: stalled: " ++ (c.name-name.result.now ++ (codes " waits for items of " ++ (c.name.result.now ++ (codes " on input " ++ (t ++ 10 ∷ [])))))) (c.as_bytes.ensures.value ∙ c.format.ensures.text)
     ∙ ap (λ (x : List ℕ). codes "flow: stalled: " ++ (x ++ (codes " waits for items of " ++ (c.name.result.now ++ (codes " on input " ++ (decimal c.in-Items.port ++ 10 ∷ [])))))) (sym named)
@@ -31,12 +25,8 @@ pub returns-in-Room : goal.returns-in-Room
 returns-in-Room g c =
     let d = drafted c.args.plant.now.graph in
     let b = c.args.block.0 in
-    let named : slice_index_or d.names b [] ≡ c.name-name.result.now =
-    ap (λ (x : Flowgraph Kind). slice_index_or x.names b []) (sym c.graph-graph.ensures)
-    ∙ get_or_from_slice_get c.graph-graph.result.now.names b c.name-name.result.now [] c.name-name.ensures in
-    let other : slice_index_or d.names c.in-Room.reader.0 [] ≡ c.name-in-Room.result.now =
-    ap (λ (x : Flowgraph Kind). slice_index_or x.names c.in-Room.reader.0 []) (sym c.graph-graph.ensures)
-    ∙ get_or_from_slice_get c.graph-graph.result.now.names c.in-Room.reader.0 c.name-in-Room.result.now [] c.name-in-Room.ensures in
+    let named : slice_index_or d.names b [] ≡ c.name-name.result.now = name_is _ c.args.plant.now.graph b c.name-name.result.now c.graph-graph.ensures c.name-name.ensures in
+    let other : slice_index_or d.names c.in-Room.reader.0 [] ≡ c.name-in-Room.result.now = name_is _ c.args.plant.now.graph c.in-Room.reader.0 c.name-in-Room.result.now c.graph-graph.ensures c.name-in-Room.ensures in
     puts_as _ _ _ _ _
     (ap (λ (t : List ℕ). codes "flow: stalled: " ++ (c.name-name.result.now ++ (codes " waits for room on output " ++ (t ++ (codes ", which " ++ (c.name-in-Room.result.now ++ codes " has not read\n")))))) (c.as_bytes-in-Room.ensures.value ∙ c.format-in-Room.ensures.text)
     ∙ ap (λ (x : List ℕ). codes "flow: stalled: " ++ (x ++ (codes " waits for room on output " ++ (decimal c.in-Room.port ++ (codes ", which " ++ (c.name-in-Room.result.now ++ codes " has not read\n")))))) (sym named)

@@ -31,4 +31,4 @@ returns-clause-inside g c =
     let in' : c.args.block.0 < length net.nodes = subst (λ n. c.args.block.0 < n) (sym many) c.requires in
     let told = ap wait_told (c.in-Ok.ensures ∙ told_is net plant.capacities plant.state c.args.block.0 in') in
     subst (λ n. waited_for c.args.block.0 (wait_told (wait_in (Ok c.in-Ok.need))) < n) many
-    (subst (λ n. n < length net.nodes) (ap (waited_for c.args.block.0) (sym told)) (next_inside net plant.capacities plant.state c.in_order.ensures.runs c.args.block.0 in'))
+    (subst (λ n. n < length net.nodes) (ap (waited_for c.args.block.0) (sym told)) (next_inside net plant.capacities plant.state c.recall.ensures.runs c.args.block.0 in'))

@@ -31,7 +31,7 @@ pub returns-in-Ok-clause-idle : goal.returns-in-Ok-clause-idle
 returns-in-Ok-clause-idle c =
     let p = c.args.plant.now in let net = net_of meaning_of p.graph in let b = c.in-Some.block.0 in let some = c.if-max-eq0.false in λ idle.
     stepped_idle (machine.step_of net p.capacities p.state b c.args.max) p c.step.new.self (Some (step_reply c.in-Ok.step)) c.in-Ok.ensures
-    (step_stays net p.capacities p.state b c.args.max c.in_order.ensures.runs c.in_order.ensures.sound (positive c.args.max some) idle) idle
+    (step_stays net p.capacities p.state b c.args.max c.recall.ensures.runs c.recall.ensures.sound (positive c.args.max some) idle) idle
 
 pub returns-in-Err-clause-calls : goal.returns-in-Err-clause-calls
 returns-in-Err-clause-calls c =
@@ -44,4 +44,4 @@ pub returns-in-Err-clause-idle : goal.returns-in-Err-clause-idle
 returns-in-Err-clause-idle c =
     let p = c.args.plant.now in let net = net_of meaning_of p.graph in let b = c.in-Some.block.0 in let some = c.if-max-eq0.false in λ idle.
     stepped_idle (machine.step_of net p.capacities p.state b c.args.max) p c.step.new.self (refusal_of c.in-Err.fault) c.in-Err.ensures
-    (step_stays net p.capacities p.state b c.args.max c.in_order.ensures.runs c.in_order.ensures.sound (positive c.args.max some) idle) idle
+    (step_stays net p.capacities p.state b c.args.max c.recall.ensures.runs c.recall.ensures.sound (positive c.args.max some) idle) idle

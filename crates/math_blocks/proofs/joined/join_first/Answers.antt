@@ -8,10 +8,10 @@ pub returns-then-windows-lt2-clause-numbers : goal.returns-then-windows-lt2-clau
 returns-then-windows-lt2-clause-numbers g c =
     let w = c.index-windows-0.result in
     let t = type_of c.args.out.now in
-    let same : type_of w ≡ t = All-at (λ v. type_of v ≡ t) c.args.windows.now 0 w c.index-windows-0.is (omega arith) c.requires.can.same_type in
-    let long = All-at (λ v. length (numbers_of v) ≡ c.args.count) c.args.windows.now 0 w c.index-windows-0.is (omega arith) c.requires.can.same_length in
-    c.push_slice.ensures.numbers ∙ ap (λ zs. zs ++ numbers_of w) c.requires.can.empty
-    ∙ first_joined g.J.Joins.joins g.J.Joins.pair c.requires.joins t numbers_of c.args.windows.now w c.args.count (omega arith) c.index-windows-0.is long
+    let same : type_of w ≡ t = All-at (λ v. type_of v ≡ t) c.args.windows.now 0 w c.index-windows-0.is (omega arith) c.requires.same_type in
+    let long = All-at (λ v. length (numbers_of v) ≡ c.args.count) c.args.windows.now 0 w c.index-windows-0.is (omega arith) c.requires.same_length in
+    c.push_slice.ensures.numbers ∙ ap (λ zs. zs ++ numbers_of w) c.requires.empty
+    ∙ first_joined g.J.Joins.joins g.J.Joins.pair g.met.J.Joins.one_by_one t numbers_of c.args.windows.now w c.args.count (omega arith) c.index-windows-0.is long
     (subst (λ s. AreItems s (numbers_of w)) same c.in_range.ensures)
 
 pub returns-clause-numbers : goal.returns-clause-numbers
@@ -19,11 +19,11 @@ returns-clause-numbers g c =
     let w = c.index-windows-0.result in
     let v = c.index-windows-1.result in
     let t = type_of c.args.out.now in
-    let w_type : type_of w ≡ t = All-at (λ u. type_of u ≡ t) c.args.windows.now 0 w c.index-windows-0.is (omega arith) c.requires.can.same_type in
-    let v_type : type_of v ≡ t = All-at (λ u. type_of u ≡ t) c.args.windows.now 1 v c.index-windows-1.is (omega arith) c.requires.can.same_type in
-    let w_long = All-at (λ u. length (numbers_of u) ≡ c.args.count) c.args.windows.now 0 w c.index-windows-0.is (omega arith) c.requires.can.same_length in
-    let v_long = All-at (λ u. length (numbers_of u) ≡ c.args.count) c.args.windows.now 1 v c.index-windows-1.is (omega arith) c.requires.can.same_length in
-    let alone = first_joined g.J.Joins.joins g.J.Joins.pair c.requires.joins t numbers_of c.args.windows.now w c.args.count (omega arith) c.index-windows-0.is w_long
+    let w_type : type_of w ≡ t = All-at (λ u. type_of u ≡ t) c.args.windows.now 0 w c.index-windows-0.is (omega arith) c.requires.same_type in
+    let v_type : type_of v ≡ t = All-at (λ u. type_of u ≡ t) c.args.windows.now 1 v c.index-windows-1.is (omega arith) c.requires.same_type in
+    let w_long = All-at (λ u. length (numbers_of u) ≡ c.args.count) c.args.windows.now 0 w c.index-windows-0.is (omega arith) c.requires.same_length in
+    let v_long = All-at (λ u. length (numbers_of u) ≡ c.args.count) c.args.windows.now 1 v c.index-windows-1.is (omega arith) c.requires.same_length in
+    let alone = first_joined g.J.Joins.joins g.J.Joins.pair g.met.J.Joins.one_by_one t numbers_of c.args.windows.now w c.args.count (omega arith) c.index-windows-0.is w_long
     (subst (λ s. AreItems s (numbers_of w)) w_type c.in_range.ensures) in
-    next_joined g.J.Joins.joins g.J.Joins.pair c.requires.joins t (type_of v) numbers_of c.args.windows.now 1 c.args.count v (numbers_of w) (numbers_of c.join_pair.new.out)
+    next_joined g.J.Joins.joins g.J.Joins.pair g.met.J.Joins.one_by_one t (type_of v) numbers_of c.args.windows.now 1 c.args.count v (numbers_of w) (numbers_of c.join_pair.new.out)
     (omega arith) c.index-windows-1.is v_long v_type alone c.join_pair.ensures.numbers

@@ -7,7 +7,7 @@ pub returns-in-Ok-clause-right : goal.returns-in-Ok-clause-right
 returns-in-Ok-clause-right g c =
     rw (c.in-Ok.ensures.ok)
     (record {
-      keeps = keeps_opened (net_of g.B.Block.meaning c.args.graph) c.args.fresh c.requires c.in_order.ensures.runs;
+      keeps = keeps_opened (net_of g.B.Block.meaning c.args.graph) c.args.fresh c.requires c.recall.ensures.runs;
       built = record { rates = c.requires.rates; capacities = c.requires.capacities; places = c.requires.places };
     })
 

@@ -7,5 +7,5 @@ use Rattle.rates.proofs.answers.balance.Goals as goal
 pub rates_of-requires : goal.rates_of-requires
 rates_of-requires g c =
     let net = net_of g.B.Block.meaning c.args.graph.now in
-    let named : IsNamed net net = record { same = refl; rates = has_rates c.args.graph.now.names net c.in_order.ensures.valid c.in_order.ensures.runs c.in_order.ensures.counts } in
+    let named : IsNamed net net = record { same = refl; rates = has_rates c.args.graph.now.names net c.recall.ensures.valid c.recall.ensures.runs c.recall.ensures.counts } in
     search rules

@@ -11,7 +11,7 @@ use Rattle.rates.proofs.Valid.{has_rates, few_ports}
 use Rattle.rates.proofs.sizes.capacities.Goals as goal
 
 pub links-requires : goal.links-requires
-links-requires g c = has_rates c.args.graph.now.names (net_of g.B.Block.meaning c.args.graph.now) c.in_order.ensures.valid c.in_order.ensures.runs c.in_order.ensures.counts
+links-requires g c = has_rates c.args.graph.now.names (net_of g.B.Block.meaning c.args.graph.now) c.recall.ensures.valid c.recall.ensures.runs c.recall.ensures.counts
 
 pub asked-requires : goal.asked-requires
 asked-requires g c =
@@ -19,16 +19,16 @@ asked-requires g c =
     record {
       rates = subst (CanHold net c.args.rates.now) (sym c.deref.ensures.value)
           (record {
-            rates = has_rates c.args.graph.now.names net c.in_order.ensures.valid c.in_order.ensures.runs c.in_order.ensures.counts;
+            rates = has_rates c.args.graph.now.names net c.recall.ensures.valid c.recall.ensures.runs c.recall.ensures.counts;
             table = c.in_ok-links.ensures;
             answer = c.requires;
           });
-      ports = few_ports g.B.Block.meaning c.args.graph.now c.in_order.ensures.valid.graph;
+      ports = few_ports g.B.Block.meaning c.args.graph.now c.recall.ensures.valid.graph;
     }
 
 pub row-requires-clause-rates : goal.row-requires-clause-rates
 row-requires-clause-rates g c =
-    has_rates c.args.graph.now.names (net_of g.B.Block.meaning c.args.graph.now) c.in_order.ensures.valid c.in_order.ensures.runs c.in_order.ensures.counts
+    has_rates c.args.graph.now.names (net_of g.B.Block.meaning c.args.graph.now) c.recall.ensures.valid c.recall.ensures.runs c.recall.ensures.counts
 
 pub row-requires-clause-asked : goal.row-requires-clause-asked
 row-requires-clause-asked g c =

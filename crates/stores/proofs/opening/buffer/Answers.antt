@@ -13,7 +13,7 @@ use Rattle.stores.proofs.opening.buffer.Goals as goal
 pub greatest_history-greatest-requires : goal.greatest_history-greatest-requires
 greatest_history-greatest-requires g c =
     let net = net_of g.B.Block.meaning c.args.graph.now in
-    subst (LeadInside net) (sym c.readers-readers.ensures) (readers_inside net c.in_order.ensures.runs c.args.block.0 c.args.port)
+    subst (LeadInside net) (sym c.readers-readers.ensures) (readers_inside net c.recall.ensures.runs c.args.block.0 c.args.port)
 
 pub new-requires-clause-some_history : goal.new-requires-clause-some_history
 new-requires-clause-some_history g c =
@@ -23,7 +23,7 @@ pub block-requires-in-loop-connection : goal.block-requires-in-loop-connection
 block-requires-in-loop-connection g c =
     let net = net_of g.B.Block.meaning c.args.graph.now in
     to_a_block g.B.Block.meaning c.args.graph.now c.readers-readers.result.now c.loop-connection.connection-index
-    (subst (LeadInside net) (sym c.readers-readers.ensures) (readers_inside net c.in_order.ensures.runs c.args.block.0 c.args.port)) c.loop-connection-test.true
+    (subst (LeadInside net) (sym c.readers-readers.ensures) (readers_inside net c.recall.ensures.runs c.args.block.0 c.args.port)) c.loop-connection-test.true
 
 pub add_reader-requires-clause-short : goal.add_reader-requires-clause-short
 add_reader-requires-clause-short g c =

@@ -8,7 +8,7 @@ returns g c = (
   record {
     graph = graph_self g.B.PartialEq.eq g.met.B.Eq.laws.refl c.args.plant.graph;
     net = refl;
-    capacities = c.in_order.ensures.capacities;
+    capacities = c.recall.ensures.capacities;
     run = record { replies = refl; left = refl };
     idle = c.requires;
   },

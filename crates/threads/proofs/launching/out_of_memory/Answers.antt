@@ -6,7 +6,7 @@ pub returns : goal.returns
 returns g c = record {
   graph = graph_self g.B.PartialEq.eq g.met.B.Eq.laws.refl c.args.plant.graph;
   net = refl;
-  capacities = c.in_order.ensures.capacities;
+  capacities = c.recall.ensures.capacities;
   handed = refl;
   idle = c.requires;
 }

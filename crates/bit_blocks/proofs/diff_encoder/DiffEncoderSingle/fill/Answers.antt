@@ -1,15 +1,15 @@
-use Rattle.std.proofs.Common.{◌∙◌, map}
-use Rattle.items.specs.Items.{numbers_of}
-use Rattle.settings.specs.Values.{held_of}
-use Rattle.bit_blocks.proofs.Encoded.{encode-given, encode-word}
+use Rattle.std.proofs.Common.{◌∙◌}
+use Rattle.bit_blocks.specs.Kinds.{some_encoded}
+use Rattle.bit_blocks.proofs.Codes.{code-given, code-word}
+use Rattle.bit_blocks.proofs.Encoded.{encoder-coded}
 use Rattle.bit_blocks.proofs.diff_encoder.DiffEncoderSingle.fill.Goals as goal
 
 pub returns-clause-items : goal.returns-clause-items
 returns-clause-items c ts xs fed =
     let b = c.args.self.now in
-    c.sum_items.ensures.items ∙ encode-given b.modulus b.some ts xs c.args._first c.args._count c.args.state (numbers_of c.args.window.now) (map held_of c.args._held.now) fed
+    c.sum_items.ensures.numbers ∙ code-given (encoder-coded b.modulus (some_encoded b)) fed
 
 pub returns-clause-word : goal.returns-clause-word
 returns-clause-word c ts xs fed =
     let b = c.args.self.now in
-    c.sum_items.ensures.word ∙ encode-word b.modulus b.some ts xs c.args._first c.args._count c.args.state (numbers_of c.args.window.now) (map held_of c.args._held.now) fed
+    c.sum_items.ensures.behind ∙ code-word (encoder-coded b.modulus (some_encoded b)) fed

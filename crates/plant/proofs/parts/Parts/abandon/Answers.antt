@@ -1,6 +1,6 @@
 use Rattle.std.proofs.Common.{sym, ◌∙◌, length-set}
 use Rattle.flowgraph.specs.Flowgraph.{net_of}
-use Rattle.flights.specs.Flight.{is_own}
+use Rattle.plant.specs.Own.{is_own}
 use Rattle.plant.specs.Plant.{plant_of}
 use Rattle.plant.proofs.Returning.{asked, inside}
 use Rattle.plant.proofs.Abandoning.{abandon_refused, abandon_taken, keeps_abandoned}
@@ -19,7 +19,7 @@ returns-clause-right g c =
     let job = c.args.job.job in
     let is = sym (asked g.B.PartialEq.eq g.B.Block.meaning old.state _ old.graph _ c.args.job.graph _ job c.is_in_flight.result (sym c.deref-2.ensures) c.job.ensures.graph c.job.ensures.job c.is_in_flight.ensures) ∙ c.if-not-is_in_flight.false in
     record {
-      keeps = keeps_abandoned (net_of g.B.Block.meaning old.graph) _ c.args.self.now.stores c.args.self.now.firings c.requires.keeps (rw (← c.deref.ensures) c.in_order.ensures.runs) _ job is
+      keeps = keeps_abandoned (net_of g.B.Block.meaning old.graph) _ c.args.self.now.stores c.args.self.now.firings c.requires.keeps (rw (← c.deref.ensures) c.recall.ensures.runs) _ job is
           (inside g.B.PartialEq.eq g.B.Block.meaning g.met.B.Block.same old.graph c.args.job.graph c.args.self.now.stores c.args.self.now.firings job is)
           c.block-block.result.0 c.abandon.new.self c.block-block.ensures.value c.abandon.ensures.progress;
       built = record { rates = c.requires.built.rates; capacities = c.requires.built.capacities; places = length-set c.args.self.now.lent.items c.block-block.result.0 c.into_lent.result ∙ c.requires.built.places };

@@ -22,7 +22,7 @@ returns-then-tape-clause-answered g c =
     let net = net_of g.B.Block.meaning (arc_value c.args.self.now.graph) in
     let there : source_type_of net c.args.source.0 ≡ Ok c.in_ok-source_type.field-0 = rw (← c.deref-2.ensures) (sym c.source_type.ensures ∙ c.in_ok-source_type.was) in
     let is = source_there net c.args.source.0 c.in_ok-source_type.field-0 there in
-    let again = close_again net _ (rw (← c.deref.ensures) c.in_order.ensures.runs) _ _ c.requires.keeps c.args.source.0 is.inside c.counts_of-tape.result (counted net _ (rw (← c.deref.ensures) c.in_order.ensures.runs) _ _ c.requires.keeps c.args.source.0 is.inside c.index.result.now c.counts_of-tape.result c.index.ensures c.counts_of-tape.ensures) c.in_ok-source_type.field-0 is c.if-tape.true in
+    let again = close_again net _ (rw (← c.deref.ensures) c.recall.ensures.runs) _ _ c.requires.keeps c.args.source.0 is.inside c.counts_of-tape.result (counted net _ (rw (← c.deref.ensures) c.recall.ensures.runs) _ _ c.requires.keeps c.args.source.0 is.inside c.index.result.now c.counts_of-tape.result c.index.ensures c.counts_of-tape.ensures) c.in_ok-source_type.field-0 is c.if-tape.true in
     rw again (refl, refl)
 
 pub returns-clause-right : goal.returns-clause-right
@@ -31,7 +31,7 @@ returns-clause-right g c =
     let there : source_type_of net c.args.source.0 ≡ Ok c.in_ok-source_type.field-0 = rw (← c.deref-2.ensures) (sym c.source_type.ensures ∙ c.in_ok-source_type.was) in
     let is = source_there net c.args.source.0 c.in_ok-source_type.field-0 there in
     record {
-      keeps = keeps_closed net _ (rw (← c.deref.ensures) c.in_order.ensures.runs) _ _ c.requires.keeps c.args.source.0 is.inside c.counts_of-tape.result (counted net _ (rw (← c.deref.ensures) c.in_order.ensures.runs) _ _ c.requires.keeps c.args.source.0 is.inside c.index.result.now c.counts_of-tape.result c.index.ensures c.counts_of-tape.ensures) c.in_ok-source_type.field-0 is
+      keeps = keeps_closed net _ (rw (← c.deref.ensures) c.recall.ensures.runs) _ _ c.requires.keeps c.args.source.0 is.inside c.counts_of-tape.result (counted net _ (rw (← c.deref.ensures) c.recall.ensures.runs) _ _ c.requires.keeps c.args.source.0 is.inside c.index.result.now c.counts_of-tape.result c.index.ensures c.counts_of-tape.ensures) c.in_ok-source_type.field-0 is
           c.index_mut.result.now c.index_mut.ensures.value c.if-tape.false _ (record { handed = refl; words = refl; buffers = refl; sinks = refl; brought = refl });
       built = record { rates = c.requires.built.rates; capacities = c.requires.built.capacities; places = c.requires.built.places };
     }
@@ -41,6 +41,6 @@ returns-clause-answered g c =
     let net = net_of g.B.Block.meaning (arc_value c.args.self.now.graph) in
     let there : source_type_of net c.args.source.0 ≡ Ok c.in_ok-source_type.field-0 = rw (← c.deref-2.ensures) (sym c.source_type.ensures ∙ c.in_ok-source_type.was) in
     let is = source_there net c.args.source.0 c.in_ok-source_type.field-0 there in
-    let now = closes net _ (rw (← c.deref.ensures) c.in_order.ensures.runs) _ _ c.requires.keeps c.args.source.0 is.inside c.counts_of-tape.result (counted net _ (rw (← c.deref.ensures) c.in_order.ensures.runs) _ _ c.requires.keeps c.args.source.0 is.inside c.index.result.now c.counts_of-tape.result c.index.ensures c.counts_of-tape.ensures) c.in_ok-source_type.field-0 is
+    let now = closes net _ (rw (← c.deref.ensures) c.recall.ensures.runs) _ _ c.requires.keeps c.args.source.0 is.inside c.counts_of-tape.result (counted net _ (rw (← c.deref.ensures) c.recall.ensures.runs) _ _ c.requires.keeps c.args.source.0 is.inside c.index.result.now c.counts_of-tape.result c.index.ensures c.counts_of-tape.ensures) c.in_ok-source_type.field-0 is
     c.index_mut.result.now c.index_mut.ensures.value c.if-tape.false in
     rw now (refl, refl)

@@ -2,7 +2,7 @@ use Rattle.std.proofs.Common.{◌<◌, length, refl, arith, sym, ◌∙◌, subs
 use Rattle.std.proofs.lemmas.List.{get_or-set_same}
 use Rattle.flowgraph.specs.Flowgraph.{net_of}
 use Rattle.jobs.specs.declared.job.Lent.{Lent}
-use Rattle.flights.specs.Flight.{is_own}
+use Rattle.plant.specs.Own.{is_own}
 use Rattle.plant.specs.Plant.{IsFlight, IsItsWork, plant_of}
 use Rattle.plant.proofs.Returning.{asked, commit_refused, commit_taken, place_there, inside, flight, work}
 use Rattle.plant.proofs.parts.Parts.commit.Goals as goal
@@ -40,8 +40,8 @@ store-requires-clause-work g c d =
     (subst (λ b. IsItsWork net old.state b lent.windows.items lent.outputs.items c.next_word-word.result) (sym c.block-block.ensures.value)
     (subst (λ w. IsItsWork net old.state job.block lent.windows.items lent.outputs.items w) (sym c.next_word-word.ensures)
     (work g.B.PartialEq.eq g.B.Block.meaning g.met.B.Block.same old.graph c.args.worked.graph c.args.self.now.stores c.args.self.now.firings job is
-    (rw (← c.graph.ensures) c.in_order-2.ensures.runs) (rw (← c.deref.ensures) c.in_order.ensures.runs) _ c.requires.keeps.sound c.in_order-3.ensures.fed
-    lent.windows.items lent.outputs.items _ _ c.in_order-3.ensures.done c.into_lent.ensures.windows c.into_lent.ensures.outputs c.into_lent.ensures.taken c.into_lent.ensures.given)))
+    (rw (← c.graph.ensures) c.recall-2.ensures.runs) (rw (← c.deref.ensures) c.recall.ensures.runs) _ c.requires.keeps.sound c.recall-3.ensures.fed
+    lent.windows.items lent.outputs.items _ _ c.recall-3.ensures.done c.into_lent.ensures.windows c.into_lent.ensures.outputs c.into_lent.ensures.taken c.into_lent.ensures.given)))
 
 pub index_mut-requires : goal.index_mut-requires
 index_mut-requires g c =

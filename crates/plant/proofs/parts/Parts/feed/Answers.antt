@@ -36,7 +36,7 @@ length_with-requires g c =
     let net = net_of g.B.Block.meaning (arc_value c.args.self.now.graph) in
     let there : source_type_of net c.args.source.0 ≡ Ok c.in_ok-item.item = rw (← c.deref-2.ensures) (sym c.source_type.ensures ∙ c.in_ok-item.was) in
     let is = source_there net c.args.source.0 c.in_ok-item.item there in
-    let short = tape_short net _ (rw (← c.deref.ensures) c.in_order.ensures.runs) _ _ c.requires.keeps c.args.source.0 is.inside c.counts_of-tape.result (counted net _ (rw (← c.deref.ensures) c.in_order.ensures.runs) _ _ c.requires.keeps c.args.source.0 is.inside c.index.result.now c.counts_of-tape.result c.index.ensures c.counts_of-tape.ensures) in
+    let short = tape_short net _ (rw (← c.deref.ensures) c.recall.ensures.runs) _ _ c.requires.keeps c.args.source.0 is.inside c.counts_of-tape.result (counted net _ (rw (← c.deref.ensures) c.recall.ensures.runs) _ _ c.requires.keeps c.args.source.0 is.inside c.index.result.now c.counts_of-tape.result c.index.ensures c.counts_of-tape.ensures) in
     omega (arith, short, c.len.ensures.small)
 
 pub returns-in_err-total-clause-answered : goal.returns-in_err-total-clause-answered
@@ -46,7 +46,7 @@ returns-in_err-total-clause-answered g c =
     let is = source_there net c.args.source.0 c.in_ok-item.item there in
     let typed : types_agree (type_of c.args.items.now) c.in_ok-item.item ≡ true = rw (← c.item_type.ensures) (sym c.same_type.ensures ∙ c.if-not-same_type.false) in
     let p = err_from_is_err_and c.from_residual-in_err-total.result c.from_residual-in_err-total.ensures.1 in
-    let no = feed_stopped net _ (rw (← c.deref.ensures) c.in_order.ensures.runs) _ _ c.requires.keeps c.args.source.0 is.inside c.counts_of-tape.result (counted net _ (rw (← c.deref.ensures) c.in_order.ensures.runs) _ _ c.requires.keeps c.args.source.0 is.inside c.index.result.now c.counts_of-tape.result c.index.ensures c.counts_of-tape.ensures) c.in_ok-item.item is (type_of c.args.items.now) (numbers_of c.args.items.now) (map mark_of c.args.marks.now) typed c.in_err-total.field-0.0 (ap (λ n. length_with c.counts_of-tape.result n (map mark_of c.args.marks.now)) (sym c.len.ensures.value) ∙ sym c.length_with.ensures ∙ c.in_err-total.was) in
+    let no = feed_stopped net _ (rw (← c.deref.ensures) c.recall.ensures.runs) _ _ c.requires.keeps c.args.source.0 is.inside c.counts_of-tape.result (counted net _ (rw (← c.deref.ensures) c.recall.ensures.runs) _ _ c.requires.keeps c.args.source.0 is.inside c.index.result.now c.counts_of-tape.result c.index.ensures c.counts_of-tape.ensures) c.in_ok-item.item is (type_of c.args.items.now) (numbers_of c.args.items.now) (map mark_of c.args.marks.now) typed c.in_err-total.field-0.0 (ap (λ n. length_with c.counts_of-tape.result n (map mark_of c.args.marks.now)) (sym c.len.ensures.value) ∙ sym c.length_with.ensures ∙ c.in_err-total.was) in
     rw (p.1, p.2) (answered _ _ _ no.0 no.1)
 
 pub feed-requires : goal.feed-requires
@@ -55,7 +55,7 @@ feed-requires g c =
     let there : source_type_of net c.args.source.0 ≡ Ok c.in_ok-item.item = rw (← c.deref-2.ensures) (sym c.source_type.ensures ∙ c.in_ok-item.was) in
     let is = source_there net c.args.source.0 c.in_ok-item.item there in
     let typed : types_agree (type_of c.args.items.now) c.in_ok-item.item ≡ true = rw (← c.item_type.ensures) (sym c.same_type.ensures ∙ c.if-not-same_type.false) in
-    (types_agree-same (type_of c.args.items.now) c.in_ok-item.item).0 typed ∙ sym (item_is net _ (rw (← c.deref.ensures) c.in_order.ensures.runs) _ _ c.requires.keeps c.args.source.0 is.inside c.index_mut.result.now c.in_ok-item.item c.index_mut.ensures.value is)
+    (types_agree-same (type_of c.args.items.now) c.in_ok-item.item).0 typed ∙ sym (item_is net _ (rw (← c.deref.ensures) c.recall.ensures.runs) _ _ c.requires.keeps c.args.source.0 is.inside c.index_mut.result.now c.in_ok-item.item c.index_mut.ensures.value is)
 
 pub returns-in_err-feed-clause-right : goal.returns-in_err-feed-clause-right
 returns-in_err-feed-clause-right g c =
@@ -63,7 +63,7 @@ returns-in_err-feed-clause-right g c =
     let there : source_type_of net c.args.source.0 ≡ Ok c.in_ok-item.item = rw (← c.deref-2.ensures) (sym c.source_type.ensures ∙ c.in_ok-item.was) in
     let is = source_there net c.args.source.0 c.in_ok-item.item there in
     record {
-      keeps = keeps_same net _ (rw (← c.deref.ensures) c.in_order.ensures.runs) _ _ c.requires.keeps c.args.source.0 is.inside c.index_mut.result.now c.feed.new.self c.index_mut.ensures.value c.in_err-feed.ensures.err _ (record { handed = refl; words = refl; buffers = refl; sinks = refl; brought = refl });
+      keeps = keeps_same net _ (rw (← c.deref.ensures) c.recall.ensures.runs) _ _ c.requires.keeps c.args.source.0 is.inside c.index_mut.result.now c.feed.new.self c.index_mut.ensures.value c.in_err-feed.ensures.err _ (record { handed = refl; words = refl; buffers = refl; sinks = refl; brought = refl });
       built = record { rates = c.requires.built.rates; capacities = c.requires.built.capacities; places = c.requires.built.places };
     }
 
@@ -74,8 +74,8 @@ returns-in_err-feed-clause-answered g c =
     let is = source_there net c.args.source.0 c.in_ok-item.item there in
     let typed : types_agree (type_of c.args.items.now) c.in_ok-item.item ≡ true = rw (← c.item_type.ensures) (sym c.same_type.ensures ∙ c.if-not-same_type.false) in
     let p = err_from_is_err_and c.from_residual-in_err-feed.result c.from_residual-in_err-feed.ensures.1 in
-    let now = feed_now net _ (rw (← c.deref.ensures) c.in_order.ensures.runs) _ _ c.requires.keeps c.args.source.0 is.inside c.counts_of-tape.result (counted net _ (rw (← c.deref.ensures) c.in_order.ensures.runs) _ _ c.requires.keeps c.args.source.0 is.inside c.index.result.now c.counts_of-tape.result c.index.ensures c.counts_of-tape.ensures) c.in_ok-item.item is (type_of c.args.items.now) (numbers_of c.args.items.now) (map mark_of c.args.marks.now) typed c.in_ok-total.total (ap (λ n. length_with c.counts_of-tape.result n (map mark_of c.args.marks.now)) (sym c.len.ensures.value) ∙ sym c.length_with.ensures ∙ c.in_ok-total.was) in
-    let same = state_same net _ (rw (← c.deref.ensures) c.in_order.ensures.runs) _ _ c.requires.keeps c.args.source.0 is.inside c.index_mut.result.now c.feed.new.self c.index_mut.ensures.value c.in_err-feed.ensures.err in
+    let now = feed_now net _ (rw (← c.deref.ensures) c.recall.ensures.runs) _ _ c.requires.keeps c.args.source.0 is.inside c.counts_of-tape.result (counted net _ (rw (← c.deref.ensures) c.recall.ensures.runs) _ _ c.requires.keeps c.args.source.0 is.inside c.index.result.now c.counts_of-tape.result c.index.ensures c.counts_of-tape.ensures) c.in_ok-item.item is (type_of c.args.items.now) (numbers_of c.args.items.now) (map mark_of c.args.marks.now) typed c.in_ok-total.total (ap (λ n. length_with c.counts_of-tape.result n (map mark_of c.args.marks.now)) (sym c.len.ensures.value) ∙ sym c.length_with.ensures ∙ c.in_ok-total.was) in
+    let same = state_same net _ (rw (← c.deref.ensures) c.recall.ensures.runs) _ _ c.requires.keeps c.args.source.0 is.inside c.index_mut.result.now c.feed.new.self c.index_mut.ensures.value c.in_err-feed.ensures.err in
     rw (p.1, p.2, same) (ap (λ (x : machine.Reply × State). takes_memory x.0) now, refl)
 
 pub returns-clause-right : goal.returns-clause-right
@@ -85,7 +85,7 @@ returns-clause-right g c =
     let is = source_there net c.args.source.0 c.in_ok-item.item there in
     let typed : types_agree (type_of c.args.items.now) c.in_ok-item.item ≡ true = rw (← c.item_type.ensures) (sym c.same_type.ensures ∙ c.if-not-same_type.false) in
     record {
-      keeps = keeps_fed net _ (rw (← c.deref.ensures) c.in_order.ensures.runs) _ _ c.requires.keeps c.args.source.0 is.inside c.counts_of-tape.result (counted net _ (rw (← c.deref.ensures) c.in_order.ensures.runs) _ _ c.requires.keeps c.args.source.0 is.inside c.index.result.now c.counts_of-tape.result c.index.ensures c.counts_of-tape.ensures) c.in_ok-item.item is (type_of c.args.items.now) (numbers_of c.args.items.now) (map mark_of c.args.marks.now) typed c.in_ok-total.total (ap (λ n. length_with c.counts_of-tape.result n (map mark_of c.args.marks.now)) (sym c.len.ensures.value) ∙ sym c.length_with.ensures ∙ c.in_ok-total.was) c.index_mut.result.now c.feed.new.self c.index_mut.ensures.value c.in_ok-feed.ensures.ok _ (record { handed = refl; words = refl; buffers = refl; sinks = refl; brought = refl });
+      keeps = keeps_fed net _ (rw (← c.deref.ensures) c.recall.ensures.runs) _ _ c.requires.keeps c.args.source.0 is.inside c.counts_of-tape.result (counted net _ (rw (← c.deref.ensures) c.recall.ensures.runs) _ _ c.requires.keeps c.args.source.0 is.inside c.index.result.now c.counts_of-tape.result c.index.ensures c.counts_of-tape.ensures) c.in_ok-item.item is (type_of c.args.items.now) (numbers_of c.args.items.now) (map mark_of c.args.marks.now) typed c.in_ok-total.total (ap (λ n. length_with c.counts_of-tape.result n (map mark_of c.args.marks.now)) (sym c.len.ensures.value) ∙ sym c.length_with.ensures ∙ c.in_ok-total.was) c.index_mut.result.now c.feed.new.self c.index_mut.ensures.value c.in_ok-feed.ensures.ok _ (record { handed = refl; words = refl; buffers = refl; sinks = refl; brought = refl });
       built = record { rates = c.requires.built.rates; capacities = c.requires.built.capacities; places = c.requires.built.places };
     }
 
@@ -95,5 +95,5 @@ returns-clause-answered g c =
     let there : source_type_of net c.args.source.0 ≡ Ok c.in_ok-item.item = rw (← c.deref-2.ensures) (sym c.source_type.ensures ∙ c.in_ok-item.was) in
     let is = source_there net c.args.source.0 c.in_ok-item.item there in
     let typed : types_agree (type_of c.args.items.now) c.in_ok-item.item ≡ true = rw (← c.item_type.ensures) (sym c.same_type.ensures ∙ c.if-not-same_type.false) in
-    let now = feeds net _ (rw (← c.deref.ensures) c.in_order.ensures.runs) _ _ c.requires.keeps c.args.source.0 is.inside c.counts_of-tape.result (counted net _ (rw (← c.deref.ensures) c.in_order.ensures.runs) _ _ c.requires.keeps c.args.source.0 is.inside c.index.result.now c.counts_of-tape.result c.index.ensures c.counts_of-tape.ensures) c.in_ok-item.item is (type_of c.args.items.now) (numbers_of c.args.items.now) (map mark_of c.args.marks.now) typed c.in_ok-total.total (ap (λ n. length_with c.counts_of-tape.result n (map mark_of c.args.marks.now)) (sym c.len.ensures.value) ∙ sym c.length_with.ensures ∙ c.in_ok-total.was) c.index_mut.result.now c.feed.new.self c.index_mut.ensures.value c.in_ok-feed.ensures.ok in
+    let now = feeds net _ (rw (← c.deref.ensures) c.recall.ensures.runs) _ _ c.requires.keeps c.args.source.0 is.inside c.counts_of-tape.result (counted net _ (rw (← c.deref.ensures) c.recall.ensures.runs) _ _ c.requires.keeps c.args.source.0 is.inside c.index.result.now c.counts_of-tape.result c.index.ensures c.counts_of-tape.ensures) c.in_ok-item.item is (type_of c.args.items.now) (numbers_of c.args.items.now) (map mark_of c.args.marks.now) typed c.in_ok-total.total (ap (λ n. length_with c.counts_of-tape.result n (map mark_of c.args.marks.now)) (sym c.len.ensures.value) ∙ sym c.length_with.ensures ∙ c.in_ok-total.was) c.index_mut.result.now c.feed.new.self c.index_mut.ensures.value c.in_ok-feed.ensures.ok in
     rw (now) (refl, refl)

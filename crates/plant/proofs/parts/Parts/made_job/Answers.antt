@@ -32,7 +32,7 @@ new-requires-2-clause-can g c =
     let net = net_of g.B.Block.meaning (arc_value c.lend.new.self.graph) in
     let its = lent_here c.lend.new.self.lent.items c.args.block.0 lent (rw (c.replace-lent.ensures.value) c.index_mut.ensures.value) net (stored_in c.lend.new.self.stores) c.args.first c.args.count ok.lent in
     let here = subst (λ (x : PlantState g.row.B.Denot). IsLent (net_of g.B.Block.meaning x.graph) (stored_in c.lend.new.self.stores) c.args.block.0 c.args.first c.args.count lent.windows.items lent.held.items lent.outputs.items) ok.same its in
-    may_do g.B.Block.meaning c.args.self.now c.lend.new.self c.args.block.0 c.args.first c.args.count c.deref.result.now c.deref.ensures c.in_order.ensures.valid c.in_order.ensures.runs ok.same ok.right
+    may_do g.B.Block.meaning c.args.self.now c.lend.new.self c.args.block.0 c.args.first c.args.count c.deref.result.now c.deref.ensures c.recall.ensures.valid c.recall.ensures.runs ok.same ok.right
     c.requires.flight lent.windows.items lent.held.items lent.outputs.items here c.index-word.result.now c.index-word.ensures (c.in_ok-graph.graph).value c.in_ok-graph.ensures
 
 pub returns-clause-job : goal.returns-clause-job
@@ -43,5 +43,5 @@ returns-clause-job g c =
     let its = lent_here c.lend.new.self.lent.items c.args.block.0 lent (rw (c.replace-lent.ensures.value) c.index_mut.ensures.value) net (stored_in c.lend.new.self.stores) c.args.first c.args.count ok.lent in
     let here = subst (λ (x : PlantState g.row.B.Denot). IsLent (net_of g.B.Block.meaning x.graph) (stored_in c.lend.new.self.stores) c.args.block.0 c.args.first c.args.count lent.windows.items lent.held.items lent.outputs.items) ok.same its in
     c.new-2.ensures.job
-    ∙ its_job g.B.Block.meaning c.args.self.now c.lend.new.self c.args.block.0 c.args.first c.args.count c.deref.result.now c.deref.ensures c.in_order.ensures.valid c.in_order.ensures.runs ok.same ok.right
+    ∙ its_job g.B.Block.meaning c.args.self.now c.lend.new.self c.args.block.0 c.args.first c.args.count c.deref.result.now c.deref.ensures c.recall.ensures.valid c.recall.ensures.runs ok.same ok.right
     c.requires.flight lent.windows.items lent.held.items lent.outputs.items here c.index-word.result.now c.index-word.ensures

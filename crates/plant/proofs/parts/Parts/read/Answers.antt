@@ -38,7 +38,7 @@ piece-requires-clause-within g c =
     let in' : c.args.sink.0 < length net.nodes = omega (arith, nodes, c.if-len-sink.false) in
     let keeper : is_keeper (role_at net c.args.sink.0) ≡ true = rw (← c.deref-3.ensures) (sym c.is_keeper.ensures ∙ c.if-not-is_keeper.false) in
     let to_is : c.args.from + c.min.result ≡ c.args.from + min c.args.max (c.progress-own.result.firings - c.args.from) = ap (λ n. c.args.from + n) c.min.ensures in
-    let holds = sink_holds net _ (rw (← c.deref.ensures) c.in_order.ensures.runs) _ _ c.requires.keeps c.args.sink.0 c.args.from c.args.max in' keeper c.progress-own.result c.progress-own.ensures.value c.if-own-from.false in
+    let holds = sink_holds net _ (rw (← c.deref.ensures) c.recall.ensures.runs) _ _ c.requires.keeps c.args.sink.0 c.args.from c.args.max in' keeper c.progress-own.result c.progress-own.ensures.value c.if-own-from.false in
     omega (arith, holds, to_is, c.if-own-from.false)
 
 pub returns-in_err-items-clause-answered : goal.returns-in_err-items-clause-answered
@@ -48,7 +48,7 @@ returns-in_err-items-clause-answered g c =
     let in' : c.args.sink.0 < length net.nodes = omega (arith, nodes, c.if-len-sink.false) in
     let keeper : is_keeper (role_at net c.args.sink.0) ≡ true = rw (← c.deref-3.ensures) (sym c.is_keeper.ensures ∙ c.if-not-is_keeper.false) in
     let p = err_from_is_err_and c.from_residual.result c.from_residual.ensures.1 in
-    rw (p.1, p.2) (read_takes net _ (rw (← c.deref.ensures) c.in_order.ensures.runs) _ _ c.requires.keeps c.args.sink.0 c.args.from c.args.max in' keeper c.progress-own.result c.progress-own.ensures.value c.if-own-from.false)
+    rw (p.1, p.2) (read_takes net _ (rw (← c.deref.ensures) c.recall.ensures.runs) _ _ c.requires.keeps c.args.sink.0 c.args.from c.args.max in' keeper c.progress-own.result c.progress-own.ensures.value c.if-own-from.false)
 
 pub returns-clause-answered : goal.returns-clause-answered
 returns-clause-answered g c =
@@ -57,7 +57,7 @@ returns-clause-answered g c =
     let in' : c.args.sink.0 < length net.nodes = omega (arith, nodes, c.if-len-sink.false) in
     let keeper : is_keeper (role_at net c.args.sink.0) ≡ true = rw (← c.deref-3.ensures) (sym c.is_keeper.ensures ∙ c.if-not-is_keeper.false) in
     let to_is : c.args.from + c.min.result ≡ c.args.from + min c.args.max (c.progress-own.result.firings - c.args.from) = ap (λ n. c.args.from + n) c.min.ensures in
-    shown net _ (rw (← c.deref.ensures) c.in_order.ensures.runs) _ _ c.requires.keeps c.args.sink.0 c.args.from c.args.max in' keeper c.progress-own.result c.progress-own.ensures.value c.if-own-from.false (c.args.from + c.min.result) (numbers_of c.in_ok-items.field-0.items) (map tag_of c.in_ok-items.field-0.tags.items) to_is c.in_ok-items.ensures.items c.in_ok-items.ensures.tags
+    shown net _ (rw (← c.deref.ensures) c.recall.ensures.runs) _ _ c.requires.keeps c.args.sink.0 c.args.from c.args.max in' keeper c.progress-own.result c.progress-own.ensures.value c.if-own-from.false (c.args.from + c.min.result) (numbers_of c.in_ok-items.field-0.items) (map tag_of c.in_ok-items.field-0.tags.items) to_is c.in_ok-items.ensures.items c.in_ok-items.ensures.tags
 
 pub returns-clause-whole : goal.returns-clause-whole
 returns-clause-whole g c =
@@ -66,4 +66,4 @@ returns-clause-whole g c =
     let in' : c.args.sink.0 < length net.nodes = omega (arith, nodes, c.if-len-sink.false) in
     let keeper : is_keeper (role_at net c.args.sink.0) ≡ true = rw (← c.deref-3.ensures) (sym c.is_keeper.ensures ∙ c.if-not-is_keeper.false) in
     let to_is : c.args.from + c.min.result ≡ c.args.from + min c.args.max (c.progress-own.result.firings - c.args.from) = ap (λ n. c.args.from + n) c.min.ensures in
-    shown_whole net _ (rw (← c.deref.ensures) c.in_order.ensures.runs) _ _ c.requires.keeps c.args.sink.0 c.args.from c.args.max in' keeper c.progress-own.result c.progress-own.ensures.value c.if-own-from.false (c.args.from + c.min.result) (numbers_of c.in_ok-items.field-0.items) (map tag_of c.in_ok-items.field-0.tags.items) to_is c.in_ok-items.ensures.items c.in_ok-items.ensures.tags
+    shown_whole net _ (rw (← c.deref.ensures) c.recall.ensures.runs) _ _ c.requires.keeps c.args.sink.0 c.args.from c.args.max in' keeper c.progress-own.result c.progress-own.ensures.value c.if-own-from.false (c.args.from + c.min.result) (numbers_of c.in_ok-items.field-0.items) (map tag_of c.in_ok-items.field-0.tags.items) to_is c.in_ok-items.ensures.items c.in_ok-items.ensures.tags

@@ -34,5 +34,5 @@ returns-clause-comes_back g c closed quiet =
     let nodes : c.len-turn-end.result ≡ length net.nodes = rw (← c.deref-2.ensures) c.len-turn-end.ensures.nodes in
     let end = c.loop-turn.auto._turn-end in
     let past : length net.nodes ≤ c.loop-turn._turn = omega (arith, nodes, end, c.loop-turn-test.false) in
-    on_ring net plant.capacities plant.state (rw (← c.deref.ensures) c.in_order.ensures.runs) c.requires.keeps.sound closed quiet c.loop-turn.block.0
+    on_ring net plant.capacities plant.state (rw (← c.deref.ensures) c.recall.ensures.runs) c.requires.keeps.sound closed quiet c.loop-turn.block.0
     (ring_found net plant.capacities plant.state (length net.nodes) c.loop-turn._turn c.loop-turn.block.0 past c.loop-turn.invariant.left)

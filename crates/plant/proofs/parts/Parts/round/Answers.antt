@@ -14,7 +14,7 @@ loop-block-preserved g c =
     let old = plant_of c.args.self.now in
     let now = plant_of c.loop-block.self in
     let so_far = c.loop-block.invariant.stepped in
-    let can : CanRun (net_of g.B.Block.meaning old.graph) = rw (← c.deref.ensures) c.in_order.ensures.runs in
+    let can : CanRun (net_of g.B.Block.meaning old.graph) = rw (← c.deref.ensures) c.recall.ensures.runs in
     let few : c.loop-block.block < length (arc_value c.args.self.now.graph).blocks = omega (arith, c.loop-block-test.true, c.len-block-end.ensures.blocks, ap (λ (x : Flowgraph g.row.B.Denot). length x.blocks) c.deref-2.ensures) in
     let in' : c.loop-block.block < length (net_of g.B.Block.meaning old.graph).nodes = rw length-map few in
     record {
@@ -28,7 +28,7 @@ loop-block-preserved g c =
 pub returns-clause-moved : goal.returns-clause-moved
 returns-clause-moved g c =
     let old = plant_of c.args.self.now in
-    let can : CanRun (net_of g.B.Block.meaning old.graph) = rw (← c.deref.ensures) c.in_order.ensures.runs in
+    let can : CanRun (net_of g.B.Block.meaning old.graph) = rw (← c.deref.ensures) c.recall.ensures.runs in
     let few : length (arc_value c.args.self.now.graph).blocks ≤ c.loop-block.block = omega (arith, c.loop-block-test.false, c.len-block-end.ensures.blocks, ap (λ (x : Flowgraph g.row.B.Denot). length x.blocks) c.deref-2.ensures) in
     let all : length (net_of g.B.Block.meaning old.graph).nodes ≤ c.loop-block.block = rw length-map few in
     has_moved (net_of g.B.Block.meaning old.graph) old.capacities c.args.max old.state can (plant_of c.loop-block.self).state c.requires.right.keeps.sound c.requires.idle c.requires.some c.loop-block.block all c.loop-block.moved c.loop-block.invariant.stepped.states

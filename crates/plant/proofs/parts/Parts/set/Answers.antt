@@ -30,7 +30,7 @@ pub floor-floor-requires-clause-input : goal.floor-floor-requires-clause-input
 floor-floor-requires-clause-input g c =
     let net = net_of g.B.Block.meaning (arc_value c.args.self.now.graph) in
     let is = taken_there net c.args.block.0 (value_of c.args.value) (rw (← c.deref-2.ensures) (sym c.wanted.ensures ∙ ap fault_in c.in_ok-wanted.was)) in
-    input_there net (rw (← c.deref.ensures) c.in_order.ensures.runs) c.args.block.0 (value_of c.args.value) is
+    input_there net (rw (← c.deref.ensures) c.recall.ensures.runs) c.args.block.0 (value_of c.args.value) is
 
 pub returns-then-place-floor-clause-answered : goal.returns-then-place-floor-clause-answered
 returns-then-place-floor-clause-answered g c =
@@ -58,14 +58,14 @@ set-requires g c =
     let floor_is : c.floor-floor.result ≡ floor_of net (state_of c.args.self.now.stores.handed.items c.args.self.now.firings) c.args.block.0 = c.floor-floor.ensures in
     let place_is : c.unwrap_or-place.result ≡ unwrap_or c.args.at (floor_of net (state_of c.args.self.now.stores.handed.items c.args.self.now.firings) c.args.block.0) = c.unwrap_or-place.ensures ∙ ap (unwrap_or c.args.at) floor_is in
     let open' : floor_of net (state_of c.args.self.now.stores.handed.items c.args.self.now.firings) c.args.block.0 ≤ c.unwrap_or-place.result = omega (arith, floor_is, c.if-place-floor.false) in
-    has_timeline net _ (rw (← c.deref.ensures) c.in_order.ensures.runs) _ _ c.requires.keeps c.args.block.0 (value_of c.args.value) is c.args.at c.unwrap_or-place.result place_is open' c.index_mut.result.now c.index_mut.ensures.value
+    has_timeline net _ (rw (← c.deref.ensures) c.recall.ensures.runs) _ _ c.requires.keeps c.args.block.0 (value_of c.args.value) is c.args.at c.unwrap_or-place.result place_is open' c.index_mut.result.now c.index_mut.ensures.value
 
 pub returns-in_err-set-clause-right : goal.returns-in_err-set-clause-right
 returns-in_err-set-clause-right g c =
     let net = net_of g.B.Block.meaning (arc_value c.args.self.now.graph) in
     let is = taken_there net c.args.block.0 (value_of c.args.value) (rw (← c.deref-2.ensures) (sym c.wanted.ensures ∙ ap fault_in c.in_ok-wanted.was)) in
     record {
-      keeps = keeps_same net _ (rw (← c.deref.ensures) c.in_order.ensures.runs) _ _ c.requires.keeps c.args.block.0 is.inside c.index_mut.result.now c.set.new.self c.index_mut.ensures.value c.in_err-set.ensures.err _ (record { handed = refl; words = refl; buffers = refl; sinks = refl; brought = refl });
+      keeps = keeps_same net _ (rw (← c.deref.ensures) c.recall.ensures.runs) _ _ c.requires.keeps c.args.block.0 is.inside c.index_mut.result.now c.set.new.self c.index_mut.ensures.value c.in_err-set.ensures.err _ (record { handed = refl; words = refl; buffers = refl; sinks = refl; brought = refl });
       built = record { rates = c.requires.built.rates; capacities = c.requires.built.capacities; places = c.requires.built.places };
     }
 
@@ -77,8 +77,8 @@ returns-in_err-set-clause-answered g c =
     let place_is : c.unwrap_or-place.result ≡ unwrap_or c.args.at (floor_of net (state_of c.args.self.now.stores.handed.items c.args.self.now.firings) c.args.block.0) = c.unwrap_or-place.ensures ∙ ap (unwrap_or c.args.at) floor_is in
     let open' : floor_of net (state_of c.args.self.now.stores.handed.items c.args.self.now.firings) c.args.block.0 ≤ c.unwrap_or-place.result = omega (arith, floor_is, c.if-place-floor.false) in
     let p = err_from_is_err_and c.from_residual-in_err-set.result c.from_residual-in_err-set.ensures.1 in
-    let same = state_same net _ (rw (← c.deref.ensures) c.in_order.ensures.runs) _ _ c.requires.keeps c.args.block.0 is.inside c.index_mut.result.now c.set.new.self c.index_mut.ensures.value c.in_err-set.ensures.err in
-    rw (p.1, p.2, same) (takes net _ (rw (← c.deref.ensures) c.in_order.ensures.runs) _ _ c.requires.keeps c.args.block.0 (value_of c.args.value) is c.args.at c.unwrap_or-place.result place_is open', refl)
+    let same = state_same net _ (rw (← c.deref.ensures) c.recall.ensures.runs) _ _ c.requires.keeps c.args.block.0 is.inside c.index_mut.result.now c.set.new.self c.index_mut.ensures.value c.in_err-set.ensures.err in
+    rw (p.1, p.2, same) (takes net _ (rw (← c.deref.ensures) c.recall.ensures.runs) _ _ c.requires.keeps c.args.block.0 (value_of c.args.value) is c.args.at c.unwrap_or-place.result place_is open', refl)
 
 pub returns-in_err-set-clause-replaces : goal.returns-in_err-set-clause-replaces
 returns-in_err-set-clause-replaces g c = λ place taken has.
@@ -87,7 +87,7 @@ returns-in_err-set-clause-replaces g c = λ place taken has.
     let floor_is : c.floor-floor.result ≡ floor_of net (state_of c.args.self.now.stores.handed.items c.args.self.now.firings) c.args.block.0 = c.floor-floor.ensures in
     let place_is : c.unwrap_or-place.result ≡ unwrap_or c.args.at (floor_of net (state_of c.args.self.now.stores.handed.items c.args.self.now.firings) c.args.block.0) = c.unwrap_or-place.ensures ∙ ap (unwrap_or c.args.at) floor_is in
     let open' : floor_of net (state_of c.args.self.now.stores.handed.items c.args.self.now.firings) c.args.block.0 ≤ c.unwrap_or-place.result = omega (arith, floor_is, c.if-place-floor.false) in
-    let there = has_place net _ (rw (← c.deref.ensures) c.in_order.ensures.runs) _ _ c.requires.keeps c.args.block.0 (value_of c.args.value) is c.args.at c.unwrap_or-place.result place_is open' c.index_mut.result.now c.index_mut.ensures.value place taken has in
+    let there = has_place net _ (rw (← c.deref.ensures) c.recall.ensures.runs) _ _ c.requires.keeps c.args.block.0 (value_of c.args.value) is c.args.at c.unwrap_or-place.result place_is open' c.index_mut.result.now c.index_mut.ensures.value place taken has in
     let ok = c.in_err-set.ensures.replaces there in
     absurd (cc)
 
@@ -99,7 +99,7 @@ returns-clause-right g c =
     let place_is : c.unwrap_or-place.result ≡ unwrap_or c.args.at (floor_of net (state_of c.args.self.now.stores.handed.items c.args.self.now.firings) c.args.block.0) = c.unwrap_or-place.ensures ∙ ap (unwrap_or c.args.at) floor_is in
     let open' : floor_of net (state_of c.args.self.now.stores.handed.items c.args.self.now.firings) c.args.block.0 ≤ c.unwrap_or-place.result = omega (arith, floor_is, c.if-place-floor.false) in
     record {
-      keeps = keeps_set net _ (rw (← c.deref.ensures) c.in_order.ensures.runs) _ _ c.requires.keeps c.args.block.0 (value_of c.args.value) is c.args.at c.unwrap_or-place.result place_is open' c.index_mut.result.now c.index_mut.ensures.value c.set.new.self c.in_ok-set.ensures.ok _ (record { handed = refl; words = refl; buffers = refl; sinks = refl; brought = refl });
+      keeps = keeps_set net _ (rw (← c.deref.ensures) c.recall.ensures.runs) _ _ c.requires.keeps c.args.block.0 (value_of c.args.value) is c.args.at c.unwrap_or-place.result place_is open' c.index_mut.result.now c.index_mut.ensures.value c.set.new.self c.in_ok-set.ensures.ok _ (record { handed = refl; words = refl; buffers = refl; sinks = refl; brought = refl });
       built = record { rates = c.requires.built.rates; capacities = c.requires.built.capacities; places = c.requires.built.places };
     }
 
@@ -110,5 +110,5 @@ returns-clause-answered g c =
     let floor_is : c.floor-floor.result ≡ floor_of net (state_of c.args.self.now.stores.handed.items c.args.self.now.firings) c.args.block.0 = c.floor-floor.ensures in
     let place_is : c.unwrap_or-place.result ≡ unwrap_or c.args.at (floor_of net (state_of c.args.self.now.stores.handed.items c.args.self.now.firings) c.args.block.0) = c.unwrap_or-place.ensures ∙ ap (unwrap_or c.args.at) floor_is in
     let open' : floor_of net (state_of c.args.self.now.stores.handed.items c.args.self.now.firings) c.args.block.0 ≤ c.unwrap_or-place.result = omega (arith, floor_is, c.if-place-floor.false) in
-    let now = sets net _ (rw (← c.deref.ensures) c.in_order.ensures.runs) _ _ c.requires.keeps c.args.block.0 (value_of c.args.value) is c.args.at c.unwrap_or-place.result place_is open' c.index_mut.result.now c.index_mut.ensures.value c.set.new.self c.in_ok-set.ensures.ok in
+    let now = sets net _ (rw (← c.deref.ensures) c.recall.ensures.runs) _ _ c.requires.keeps c.args.block.0 (value_of c.args.value) is c.args.at c.unwrap_or-place.result place_is open' c.index_mut.result.now c.index_mut.ensures.value c.set.new.self c.in_ok-set.ensures.ok in
     rw now (refl, refl)

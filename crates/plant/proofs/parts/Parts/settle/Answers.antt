@@ -22,7 +22,7 @@ returns-then-all_done-clause-settled g c = sym (c.all_done.ensures (map handed_o
 
 pub returns-then-all_done-clause-whole : goal.returns-then-all_done-clause-whole
 returns-then-all_done-clause-whole g c =
-    all_done_is_whole _ _ _ (rw (← c.deref.ensures) c.in_order.ensures.runs) c.round.ensures.right.keeps.sound (sym (c.all_done.ensures (map handed_of c.round.new.self.stores.handed.items)) ∙ c.if-all_done.true)
+    all_done_is_whole _ _ _ (rw (← c.deref.ensures) c.recall.ensures.runs) c.round.ensures.right.keeps.sound (sym (c.all_done.ensures (map handed_of c.round.new.self.stores.handed.items)) ∙ c.if-all_done.true)
 
 pub returns-then-not-moved-clause-steps : goal.returns-then-not-moved-clause-steps
 returns-then-not-moved-clause-steps g c =
@@ -34,7 +34,7 @@ returns-then-not-moved-clause-settled g c =
 
 pub returns-then-not-moved-clause-whole : goal.returns-then-not-moved-clause-whole
 returns-then-not-moved-clause-whole g c =
-    let i = c.in_order.ensures in
+    let i = c.recall.ensures in
     let new = c.round.new.self in
     let rests = settled_quiet g.B.Block.meaning (plant_of c.rounds.self) (plant_of new) c.round.ensures.same c.in_ok-moved.moved c.if-not-moved.true c.in_ok-moved.ensures.moved (sym (c.all_done.ensures (map handed_of new.stores.handed.items)) ∙ c.if-all_done.false) in
     quiet_misses (arc_value new.graph).names (net_of g.B.Block.meaning (arc_value new.graph)) (answer_of new.rates) (sizes_of new.capacities) (plant_of new).state (rw (← c.deref.ensures) i.valid) (rw (← c.deref.ensures) i.lawful) (rw (← c.deref.ensures) i.runs) (rw (← c.deref.ensures) i.counts)

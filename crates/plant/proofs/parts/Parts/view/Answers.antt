@@ -36,7 +36,7 @@ returns-clause-answered g c =
     let sink_is = get_or-map collected_of s.sinks.items c.args.sink.0 r nothing_collected there ∙ ap collected_of (sym c.index-collected.ensures) in
     ap Some (ap (λ xs. Piece 0 (length xs) xs (map tag_of c.tags.result.now) own.done) c.items.ensures.items
     ∙ ap (λ ts. Piece 0 (length r.items) r.items ts own.done) c.tags.ensures
-    ∙ view_shown net _ (rw (← c.deref.ensures) c.in_order.ensures.runs) _ _ c.requires.keeps c.args.sink.0 in' keeper own c.progress-own.ensures.value (collected_of r) sink_is)
+    ∙ view_shown net _ (rw (← c.deref.ensures) c.recall.ensures.runs) _ _ c.requires.keeps c.args.sink.0 in' keeper own c.progress-own.ensures.value (collected_of r) sink_is)
 
 pub returns-clause-whole : goal.returns-clause-whole
 returns-clause-whole g c =
@@ -48,4 +48,4 @@ returns-clause-whole g c =
     let r = c.index-collected.result.now in
     let there : c.args.sink.0 < length s.sinks.items = omega (arith, in', c.requires.keeps.stored.places.sinks, sym (length-map s.sinks.items collected_of)) in
     let sink_is = get_or-map collected_of s.sinks.items c.args.sink.0 r nothing_collected there ∙ ap collected_of (sym c.index-collected.ensures) in
-    view_whole net _ (rw (← c.deref.ensures) c.in_order.ensures.runs) _ _ c.requires.keeps c.args.sink.0 in' keeper c.progress-own.result c.progress-own.ensures.value (collected_of r) sink_is
+    view_whole net _ (rw (← c.deref.ensures) c.recall.ensures.runs) _ _ c.requires.keeps c.args.sink.0 in' keeper c.progress-own.result c.progress-own.ensures.value (collected_of r) sink_is

@@ -13,7 +13,7 @@ use Rattle.plant.proofs.parts.Parts.work.Goals as goal
 
 pub overflow_mul-multiple : goal.overflow_mul-multiple
 overflow_mul-multiple g c =
-    let small = firings_fit g.B.Block.meaning c.args.self.now c.args.block.0 c.args.first c.args.count c.deref.result.now c.deref.ensures c.in_order.ensures.valid c.in_order.ensures.runs c.requires.right c.requires.flight c.from-multiple.result
+    let small = firings_fit g.B.Block.meaning c.args.self.now c.args.block.0 c.args.first c.args.count c.deref.result.now c.deref.ensures c.recall.ensures.valid c.recall.ensures.runs c.requires.right c.requires.flight c.from-multiple.result
     (c.from-multiple.ensures ∙ sym c.options.ensures.node.multiple ∙ ap (λ (x : Flowgraph g.row.B.Denot). (node_at (net_of g.B.Block.meaning x) c.args.block.0).multiple) c.deref-2.ensures) in
     omega (arith, small)
 
@@ -25,7 +25,7 @@ work-requires g c =
     let meaning : g.B.Block.meaning c.block.result.now ≡ (node_at net c.args.block.0).meaning = c.block.ensures.meaning ∙ ap (λ (x : Flowgraph g.row.B.Denot). (node_at (net_of g.B.Block.meaning x) c.args.block.0).meaning) c.deref-3.ensures in
     let multiple : c.from-multiple.result ≡ (node_at net c.args.block.0).multiple =
     c.from-multiple.ensures ∙ sym c.options.ensures.node.multiple ∙ ap (λ (x : Flowgraph g.row.B.Denot). (node_at (net_of g.B.Block.meaning x) c.args.block.0).multiple) c.deref-2.ensures in
-    can_work g.B.Block.meaning c.args.self.now c.args.block.0 c.args.first c.args.count c.deref.result.now c.deref.ensures c.in_order.ensures.valid c.in_order.ensures.runs c.requires.right c.requires.flight lent.windows.items lent.held.items lent.outputs.items its
+    can_work g.B.Block.meaning c.args.self.now c.args.block.0 c.args.first c.args.count c.deref.result.now c.deref.ensures c.recall.ensures.valid c.recall.ensures.runs c.requires.right c.requires.flight lent.windows.items lent.held.items lent.outputs.items its
     (g.B.Block.meaning c.block.result.now) meaning c.from-multiple.result multiple c.from.result c.from.ensures c.index.result.now c.index.ensures c.deref-4.result.now c.deref-4.ensures.value
     c.deref-5.result.now c.deref-5.ensures.value c.deref_mut.result.now c.deref_mut.ensures.value
 
@@ -44,7 +44,7 @@ returns-clause-work g c =
     let long : length out ≡ length lent.outputs.items =
     sym (length-map out type_of) ∙ ap length c.work.ensures.items.types ∙ length-map c.deref_mut.result.now type_of ∙ ap length c.deref_mut.ensures.value in
     let whole : take lent.outputs.len (out ++ drop (length out) lent.outputs.items) ≡ out = take_at out (drop (length out) lent.outputs.items) lent.outputs.len (omega (arith, long, ap length c.deref_mut.ensures.value, c.deref_mut.ensures.len)) in
-    let done = has_worked g.B.Block.meaning c.args.self.now c.args.block.0 c.args.first c.args.count c.deref.result.now c.deref.ensures c.in_order.ensures.valid c.in_order.ensures.runs c.requires.right c.requires.flight lent.windows.items lent.held.items lent.outputs.items its
+    let done = has_worked g.B.Block.meaning c.args.self.now c.args.block.0 c.args.first c.args.count c.deref.result.now c.deref.ensures c.recall.ensures.valid c.recall.ensures.runs c.requires.right c.requires.flight lent.windows.items lent.held.items lent.outputs.items its
     (g.B.Block.meaning c.block.result.now) meaning c.from-multiple.result multiple c.from.result c.from.ensures c.index.result.now c.index.ensures c.deref-4.result.now c.deref-4.ensures.value
     c.deref-5.result.now c.deref-5.ensures.value c.deref_mut.result.now c.deref_mut.ensures.value
     out c.work.result c.work.ensures.items c.work.ensures.word in

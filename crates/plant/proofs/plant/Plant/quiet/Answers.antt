@@ -10,7 +10,7 @@ use Rattle.plant.proofs.plant.Plant.quiet.Goals as goal
 
 pub returns-clause-whole : goal.returns-clause-whole
 returns-clause-whole g c h =
-    let i = c.in_order.ensures in
+    let i = c.recall.ensures in
     let parts = c.self.inside.parts in
     subst (λ x. IsSettled (net_of g.B.Block.meaning x.graph) x.state) c.self.view_is
     (quiet_settles (arc_value parts.graph).names (net_of g.B.Block.meaning (arc_value parts.graph)) (answer_of parts.rates) (sizes_of parts.capacities) (state_of parts.stores.handed.items parts.firings) (rw (← c.deref.ensures) i.valid) (rw (← c.deref.ensures) i.lawful) (rw (← c.deref.ensures) i.runs) (rw (← c.deref.ensures) i.counts)

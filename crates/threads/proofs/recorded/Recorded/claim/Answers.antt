@@ -27,7 +27,7 @@ invariant_of-self-in-Claimed g c =
     let job = c.in-Claimed.job.job in
     let answered : Answered (next net old.capacities old.state ask) old new (Some (machine.Claimed job)) =
     subst (λ claim. Answered (next net old.capacities old.state ask) old new (Some (claim_reply claim))) c.in-Claimed.is c.in_ok-job.ensures.answered in
-    let more = one_more net old.capacities old.state c.in_order.ensures.sound.progress_count c.args.block.0 c.args.max job (sym answered.0) in
+    let more = one_more net old.capacities old.state c.recall.ensures.sound.progress_count c.args.block.0 c.args.max job (sym answered.0) in
     let rest = kept g.B.Block.meaning old new c.self.inside.opening _ c.self.invariant.0 (asked_by (call.Claim c.args.block c.args.max)) c.self.inside.history.items _ c.push_reserved.new.self.items
     (record { caller = caller.Worker c.args.block; call = call.Claim c.args.block c.args.max; reply = answer.Claimed c.first.result c.count.result }) (caller.Worker c.args.block) refl
     c.in_ok-reserve.ensures.items c.push_reserved.ensures.items refl refl (Some (machine.Claimed job)) answered (λ k. Some (Hands (c.first.ensures k) (c.count.ensures k)))
@@ -42,7 +42,7 @@ invariant_of-self-in-Done g c =
     let ask = machine.Claim c.args.block.0 c.args.max in
     let answered : Answered (next net old.capacities old.state ask) old new (Some machine.Done) =
     subst (λ claim. Answered (next net old.capacities old.state ask) old new (Some (claim_reply claim))) c.in-Done.is c.in_ok-job.ensures.answered in
-    let same = none_more net old.capacities old.state c.in_order.ensures.sound.progress_count c.args.block.0 c.args.max (not_handed (next net old.capacities old.state ask).0 answered.0) in
+    let same = none_more net old.capacities old.state c.recall.ensures.sound.progress_count c.args.block.0 c.args.max (not_handed (next net old.capacities old.state ask).0 answered.0) in
     let rest = kept g.B.Block.meaning old new c.self.inside.opening _ c.self.invariant.0 (asked_by (call.Claim c.args.block c.args.max)) c.self.inside.history.items _ c.push_reserved-in-Done.new.self.items
     (record { caller = caller.Worker c.args.block; call = call.Claim c.args.block c.args.max; reply = answer.Done }) (caller.Worker c.args.block) refl
     c.in_ok-reserve.ensures.items c.push_reserved-in-Done.ensures.items refl refl (Some machine.Done) answered refl

@@ -5,7 +5,7 @@ use Rattle.stream_model.specs.Machine as machine
 use Rattle.stream_model.specs.Machine.{Reply, commit_of}
 use Rattle.machine_laws.specs.Stays.{in_flight}
 use Rattle.flowgraph.specs.Flowgraph.{net_of}
-use Rattle.flights.specs.Flight.{is_own}
+use Rattle.plant.specs.Own.{is_own}
 use Rattle.plant.specs.Answers.{Answered}
 use Rattle.threads.specs.declared.entry.Answer.TheVariants as answer
 use Rattle.threads.specs.declared.entry.CallerId.TheVariants as caller
@@ -20,13 +20,13 @@ use Rattle.threads.proofs.recorded.Recorded.commit.Goals as goal
 pub overflow_sub-self : goal.overflow_sub-self
 overflow_sub-self g c =
     let old = c.self.inside.plant in
-    let taken = taken_back (net_of g.B.Block.meaning old.graph) old.capacities old.state c.in_order.ensures.sound.progress_count _ c.args.worked.job c.in_ok-did.did.0 c.in_ok-did.ensures.0 in
+    let taken = taken_back (net_of g.B.Block.meaning old.graph) old.capacities old.state c.recall.ensures.sound.progress_count _ c.args.worked.job c.in_ok-did.did.0 c.in_ok-did.ensures.0 in
     omega (arith, taken.less, c.self.invariant.1)
 
 pub push_reserved-requires : goal.push_reserved-requires
 push_reserved-requires g c =
     let old = c.self.inside.plant in
-    let taken = taken_back (net_of g.B.Block.meaning old.graph) old.capacities old.state c.in_order.ensures.sound.progress_count _ c.args.worked.job c.in_ok-did.did.0 c.in_ok-did.ensures.0 in
+    let taken = taken_back (net_of g.B.Block.meaning old.graph) old.capacities old.state c.recall.ensures.sound.progress_count _ c.args.worked.job c.in_ok-did.did.0 c.in_ok-did.ensures.0 in
     omega (arith, taken.less, c.self.invariant.1, c.self.invariant.2)
 
 pub invariant_of-self-2 : goal.invariant_of-self-2
@@ -37,7 +37,7 @@ invariant_of-self-2 g c =
     let job = c.args.worked.job in
     let b = c.block-block.result in
     let own = is_own g.B.PartialEq.eq old.graph c.args.worked.graph job.block in
-    let taken = taken_back net old.capacities old.state c.in_order.ensures.sound.progress_count own job c.in_ok-did.did.0 c.in_ok-did.ensures.0 in
+    let taken = taken_back net old.capacities old.state c.recall.ensures.sound.progress_count own job c.in_ok-did.did.0 c.in_ok-did.ensures.0 in
     let same : commit_of net old.state true (in_flight net old.state b.0) ≡ commit_of net old.state own job = ap (λ k. commit_of net old.state true (in_flight net old.state k)) c.block-block.ensures.value ∙ taken.same in
     let answered : Answered (commit_of net old.state true (in_flight net old.state b.0)) old new (Some (machine.Did c.in_ok-did.did.0)) =
     subst (λ (now : Reply × State). Answered now old new (Some (machine.Did c.in_ok-did.did.0))) (sym same) (sym c.in_ok-did.ensures.0, c.in_ok-did.ensures.1) in

@@ -1,4 +1,0 @@
-pub mod Agreeing
-pub mod Sights
-pub mod Claiming
-pub mod Multiples

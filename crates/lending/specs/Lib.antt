@@ -1,4 +1,0 @@
-pub mod Places
-pub mod Tags
-pub mod Windows
-pub mod Spare

@@ -1,0 +1,10 @@
+use Rattle.std.proofs.Common.{◌∙◌, map}
+use Rattle.items.specs.Items.{numbers_of}
+use Rattle.settings.specs.Values.{held_of}
+use Rattle.rate_blocks.proofs.Paced.{integrate-given}
+use Rattle.rate_blocks.proofs.integrate.SumsCounting.fill.Goals as goal
+
+pub returns-clause-items : goal.returns-clause-items
+returns-clause-items c state held ts xs fed =
+    c.make_items.ensures.numbers
+    ∙ rw c.requires.lent.can.item (integrate-given c.args._item c.args.n ts xs c.args._first c.args.count state (numbers_of c.args.window.now) (map held_of held) c.requires.least fed)

@@ -1,0 +1,46 @@
+//! What one block with a number does otherwise than another.
+ghost use Rattle.std.specs.Prelude.{◌≡◌, ◌≤◌, ℕ};
+ghost use Rattle.stream_model.specs.declared.vocabulary.ItemType.{ItemType};
+ghost use Rattle.stream_model.specs.Meaning.{Meaning, IsLawful};
+ghost use Rattle.items.specs.Items.{type_of};
+ghost use Rattle.block_kinds.specs.Shape.{IsShape, IsPlacedBy};
+ghost use Rattle.rate_blocks.specs.Counted.{IsLent, HasGiven, IsPlain};
+
+use block_kinds::Shape;
+use items::{ItemType, Items};
+
+/// What a block makes of one stream by a number.
+pub trait Counting: Drop {
+    /// What the block means, by the type of its items and the number.
+    ghost equation: { ItemType → ℕ → Meaning };
+
+    /// The least number that it takes.
+    ghost LEAST: { ℕ };
+
+    /// The greatest.
+    ghost MOST: { ℕ };
+
+    const LEAST: u64;
+
+    const MOST: u64;
+
+    /// Everything of the block but its equation.
+    fn shape<'a>(item: ItemType, n: u64) -> Shape<'a>
+        requires least { LEAST ≤ n }
+        ensures shape { (p : ℕ) → IsShape (equation item n) p result }
+        ensures placed { (p : ℕ) → IsPlacedBy (equation item n) (λ _ s. s) p result.pace };
+
+    /// Writes what firings `first` to below `first + count` give into the empty `out`. `window` has the items that they take.
+    fn fill(item: ItemType, n: u64, first: u64, count: u64, window: &Items, out: &mut Items)
+        requires least { LEAST ≤ n }
+        requires most { n ≤ MOST }
+        requires lent { IsLent (equation item n) first count window.now out.old }
+        ensures items { HasGiven (equation item n) first count window.now out.new }
+        ensures item_type { type_of out.new ≡ type_of out.old };
+
+    /// The block has one input, one output and no state.
+    ghost plain: { (item : ItemType) (n : ℕ) → IsPlain (equation item n) };
+
+    /// The laws that the runtime rests on.
+    ghost lawful: { (item : ItemType) (n : ℕ) → LEAST ≤ n → n ≤ MOST → IsLawful (equation item n) };
+}

@@ -1,3 +1,0 @@
-mod Copies
-mod Sames
-pub mod Views

@@ -1,5 +1,0 @@
-use Rattle.recordings.proofs.Sames.{same_tags}
-use Rattle.recordings.proofs.recording.are_same.Goals as goal
-
-pub returns : goal.returns
-returns c = same_tags c.args.one.now c.args.other.now c.eq.result c.eq.ensures

@@ -1,0 +1,10 @@
+pub mod States
+pub mod Wires
+pub mod Reading
+pub mod TagCounts
+pub mod WordCounts
+pub mod Rooms
+pub mod WindowLists
+pub mod Bringing
+pub mod Giving
+pub mod Delivering

@@ -1,0 +1,86 @@
+//! Places for items, in the memory that they have where that is enough.
+ghost use Rattle.std.specs.Prelude.{◌≡◌, ◌≤◌, [], length, All, OnOk};
+ghost use Rattle.items.specs.Items.{type_of, numbers_of, spare_of};
+ghost use Rattle.transfers.specs.Places.{IsPlace};
+
+use items::{ItemType, Items};
+use std::alloc::{AllocError, Global};
+
+/// Makes them so many. A new one has no memory.
+pub(crate) fn resize(
+    alloc: Global,
+    places: &mut Vec<Items>,
+    count: usize,
+    item: ItemType,
+) -> Result<(), AllocError>
+    ensures { OnOk result (length places.new.items ≡ count) }
+{
+    // Each claim comes here, and all but the first of a block find as many as they need.
+    if places.len() == count {
+        return Ok(());
+    }
+    cut_or_grow(alloc, places, count, item)
+}
+
+#[inline(never)]
+fn cut_or_grow(
+    alloc: Global,
+    places: &mut Vec<Items>,
+    count: usize,
+    item: ItemType,
+) -> Result<(), AllocError>
+    ensures { OnOk result (length places.new.items ≡ count) }
+{
+    places.truncate(count);
+    for _ in places.len()..count {
+        places.push(Items::empty(alloc, item))?;
+    }
+    Ok(())
+}
+
+/// Makes it an empty place of the type with room for so many items.
+pub(crate) fn make_ready(
+    alloc: Global,
+    place: &mut Items,
+    item: ItemType,
+    room: usize,
+) -> Result<(), AllocError>
+    ensures { OnOk result (IsPlace item room place.new) }
+{
+    if place.item_type() == item {
+        place.clear();
+    } else {
+        *place = Items::empty(alloc, item);
+    }
+    place.reserve(room)
+}
+
+/// Makes them so many empty places of the type, each with room for so many items.
+pub(crate) fn ready_places(
+    alloc: Global,
+    places: &mut Vec<Items>,
+    count: usize,
+    item: ItemType,
+    room: usize,
+) -> Result<(), AllocError>
+    ensures long { OnOk result (length places.new.items ≡ count) }
+    ensures ready { OnOk result (All (IsPlace item room) places.new.items) }
+{
+    resize(alloc, places, count, item)?;
+    make_all_ready(alloc, places, item, room)
+}
+
+// Makes each an empty place of the type with room for so many items.
+fn make_all_ready(
+    alloc: Global,
+    places: &mut [Items],
+    item: ItemType,
+    room: usize,
+) -> Result<(), AllocError>
+    ensures { OnOk result (All (IsPlace item room) places.new) }
+{
+    for place in places.iter_mut() {
+        make_ready(alloc, place, item, room)?;
+    }
+    Ok(())
+}

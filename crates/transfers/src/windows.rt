@@ -1,0 +1,105 @@
+//! The windows of firings.
+ghost use Rattle.std.specs.Prelude.{◌≡◌, ◌+◌, ◌^◌, ◌<◌, ◌≤◌, ℕ, [], length, map, slice_range, slice_index_or, All, OnOk};
+ghost use Rattle.stream_model.specs.Network.{node_at, writers_of};
+ghost use Rattle.items.specs.declared.stream_items.Items.{Items};
+ghost use Rattle.items.specs.Items.{type_of, numbers_of};
+ghost use Rattle.flowgraph.specs.Flowgraph.{net_of};
+ghost use Rattle.stores.specs.Stores.{stored_in};
+ghost use Rattle.stores.specs.Lending.{CanLend, AreWindows};
+ghost use Rattle.transfers.specs.Rows.{rows_of};
+ghost use Rattle.transfers.specs.Steps.{stored_with, CanRead};
+ghost use Rattle.transfers.specs.Windows.{IsWindow};
+
+use crate::firing_range::FiringRange;
+use crate::inputs::{input_of, taken};
+use crate::places::{make_ready, resize};
+use block_kinds::Block;
+use buffers::Buffer;
+use flowgraph::{BlockId, Valid};
+use items::Items;
+use std::alloc::{AllocError, Global};
+use stores::{Recording, Stores};
+
+/// Makes them the windows of these firings.
+pub(crate) fn lend_windows<B: Block>(
+    alloc: Global,
+    stores: &Stores,
+    graph: &Valid<B>,
+    block: BlockId,
+    first: u64,
+    count: u32,
+    windows: &mut Vec<Items>,
+) -> Result<(), AllocError>
+    requires { CanLend (net_of B.meaning graph.now) (stored_in stores.now) block.0 first count }
+    ensures windows { OnOk result (AreWindows (net_of B.meaning graph.now) (stored_in stores.now) block.0 first count (map numbers_of windows.new.items)) }
+    ensures types { OnOk result (All (λ w. type_of w ≡ (node_at (net_of B.meaning graph.now) block.0).meaning.inputs.item) windows.new.items) }
+{
+    graph.recall();
+    let firings = FiringRange::new(block, first, count);
+    let item = graph.input_type(block);
+    if graph.is_source(block) {
+        resize(alloc, windows, 1, item)?;
+        let tape = stores.handed[block.0 as usize].tape.recording();
+        return cut_tape(alloc, tape, first as usize, count as usize, &mut windows[0]);
+    }
+    resize(alloc, windows, graph.inputs(block).len(), item)?;
+    read_inputs(alloc, &stores.buffers, graph, firings, windows)
+}
+
+// Makes the window the items of a tape from the first on.
+fn cut_tape(
+    alloc: Global,
+    tape: &Recording,
+    first: usize,
+    count: usize,
+    window: &mut Items,
+) -> Result<(), AllocError>
+    requires { first + count ≤ length tape.now.items }
+    ensures item { OnOk result (type_of window.new ≡ tape.now.item) }
+    ensures items { OnOk result (numbers_of window.new ≡ slice_range tape.now.items first (first + count)) }
+{
+    let items = tape.items();
+    make_ready(alloc, window, items.item_type(), count)?;
+    window.push_range(items, first, first + count);
+    Ok(())
+}
+
+// Makes each window what the input of its number reads with the items that the firings take.
+fn read_inputs<B: Block>(
+    alloc: Global,
+    buffers: &[Vec<Buffer>],
+    graph: &Valid<B>,
+    firings: FiringRange,
+    windows: &mut [Items],
+) -> Result<(), AllocError>
+    requires reads { CanRead (net_of B.meaning graph.now) (stored_with [] (rows_of (λ row. row.items) buffers.now)) firings.block.0 firings.first firings.next }
+    requires many { length windows.old ≡ length (writers_of (net_of B.meaning graph.now) firings.block.0) }
+    ensures { OnOk result ((p : ℕ) (d : Items) → p < length windows.new
+        → IsWindow (net_of B.meaning graph.now) (stored_with [] (rows_of (λ row. row.items) buffers.now)) firings.block.0 p firings.first firings.next (slice_index_or windows.new p d)) }
+{
+    for (port, window) in windows.iter_mut().enumerate() {
+        read_input(alloc, buffers, graph, firings, port, window)?;
+    }
+    Ok(())
+}
+
+// Makes the window what an input reads with the items that the firings take.
+fn read_input<B: Block>(
+    alloc: Global,
+    buffers: &[Vec<Buffer>],
+    graph: &Valid<B>,
+    firings: FiringRange,
+    port: usize,
+    window: &mut Items,
+) -> Result<(), AllocError>
+    requires reads { CanRead (net_of B.meaning graph.now) (stored_with [] (rows_of (λ row. row.items) buffers.now)) firings.block.0 firings.first firings.next }
+    requires port { port < length (writers_of (net_of B.meaning graph.now) firings.block.0) }
+    ensures { OnOk result (IsWindow (net_of B.meaning graph.now) (stored_with [] (rows_of (λ row. row.items) buffers.now)) firings.block.0 port firings.first firings.next window.new) }
+{
+    let (buffer, reader) = input_of(buffers, graph, firings.block, port);
+    let takes = taken(graph, firings, port);
+    let past = buffer.history(reader) as usize - 1;
+    make_ready(alloc, window, buffer.item_type(), past + takes)?;
+    buffer.window(reader, takes, window);
+    Ok(())
+}
