@@ -204,7 +204,7 @@ static inline struct magbelu_answer magbelu_refused_null(char *error, size_t err
 }
 
 /*
- * Tells of the graph of a file, as `flow check FILE` does: its blocks, its connections, its rates.
+ * Reports the graph of a file, as `flow check FILE` does: its blocks, its connections, its rates.
  *
  * `file` has the text of the graph file. The output goes to `output`, where it fits into `output_room` bytes; the line of a refusal goes to `error`, where it
  * fits into `error_room`. Neither has a 0 at its end. To learn how much room is needed, call with a room of 0 first.

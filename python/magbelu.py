@@ -240,12 +240,12 @@ def _texts(name, *given, room=65536):
 
 
 def check(file):
-    """What `flow check` tells of a graph file's text."""
+    """What `flow check` reports of a graph file's text."""
     return _texts("check", file)[0]
 
 
 def run(file):
-    """What `flow run` tells of a graph file's text: what its sinks hold; and whether all blocks came to be done."""
+    """What `flow run` reports of a graph file's text: what its sinks hold; and whether all blocks came to be done."""
     text, status = _texts("run", file)
     return text, status == 0
 

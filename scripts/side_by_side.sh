@@ -95,7 +95,7 @@ start_ready() {
     done
 }
 
-# Waits for one crate to end, and tells of it.
+# Waits for one crate to end, and reports it.
 take_one() {
     local crate ended status=0 seconds
     wait -n -p ended "${running[@]}" || status=$?

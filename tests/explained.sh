@@ -12,14 +12,14 @@ place() {
     printf '%s--> %s:%s\n%s |\n%s | %s\n%s | %s^ %s' "$margin" "$1" "$2" "$margin" "$line" "$3" "$margin" "$4" "$5"
 }
 
-# shows NAME REFUSAL LINE:COLUMN TEXT PAD SAYING [COMMAND]: what is told of the graph file of that name
+# shows NAME REFUSAL LINE:COLUMN TEXT PAD SAYING [COMMAND]: what is said of the graph file of that name
 shows() { ends "explained_$1" 1 '' "flow: refused $2"$'\n'"$(place "$1.toml" "${@:3:4}")" "${7:-check}" --explain "$1.toml"; }
 
 # text NAME BYTES: a graph file; edited NAME BASE CHANGE: one made of another, by a change that sed makes
 text() { printf '%b' "$2" >"$room/graphs/$1.toml"; }
 edited() { sed -E "$3" "$room/graphs/$2.toml" >"$room/graphs/$1.toml"; }
 
-# bad_line NAME COMMAND GRAPH LINES REPLIES NUMBER:COLUMN TEXT PAD SAYING: what is told of a line of a script
+# bad_line NAME COMMAND GRAPH LINES REPLIES NUMBER:COLUMN TEXT PAD SAYING: what is said of a line of a script
 bad_line() {
     printf '%b' "$4" >"$room/cases/explained_$1"
     ends "explained_$1" 1 "$5" "flow: refused 50 BadLine ${6%%:*}"$'\n'"$(place "standard input" "${@:6}")" "$2" --explain "$3.toml"

@@ -56,7 +56,7 @@ raw to_nowhere '' 0 'sink out 2\ndone\n' '' -o out=/dev/null fed.toml
 raw one_of_two_sources '\x05\x06' 0 'sink out 2 60 62\ndone\n' '' -i s=bytes.raw -i t=- two_sources.toml
 raw path_with_an_equals_sign '' 4 '' 'flow: refused 51 Read input 0' -i src=a=b plain.toml
 
-# Tags. They are told with the sink, or written by themselves.
+# Tags. They are reported with the sink, or written by themselves.
 sed '1s/^/feed = [{ source = "s", items = [1, 2], tags = [{ at = 1, key = "k", value = -5 }, { at = 0, key = "a.b", value = 7 }] }, { source = "t", items = [1, 2] }]\n/' \
     "$room/graphs/two_sources.toml" >"$room/graphs/tagged.toml"
 tags='@0:a.b=7/0\n@1:k=-5/0\n'

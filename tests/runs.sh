@@ -44,7 +44,7 @@ ends quiet_stall 3 'sink out 3 3 6 9\nstalled\n' '' run --quiet uneven.toml
 ends quiet_stall_on_one_thread 3 'sink out 3 3 6 9\nstalled\n' '' run --one-thread -q uneven.toml
 live_stalls live_stall uneven '' 'sink out 3 3 6 9\nstalled\n' "${ring[@]}" "$opener" "$rates"
 live_stalls live_stall_of_a_closed_source uneven 'close src\n' 'closed 20\nsink out 3 3 6 9\nstalled\n' "${ring[@]}" "$opener" "$rates"
-# The ring is told from its lowest block on, and the first of its blocks without room is named.
+# The ring is reported from its lowest block on, and the first of its blocks without room is named.
 file full_twice 'feed = [{ source = "src", items = [1, 2, 3, 4, 5, 6, 7, 8, 9, 10] }]
 block = [
     { name = "p", kind = "not", type = "byte", capacity = 1 },

@@ -141,7 +141,7 @@ def sink_line(name, graph):
 
 
 def held_as_run(text, feeds=()):
-    """A graph that is held, fed these pieces with a rest after each, comes to what a run tells of it."""
+    """A graph that is held, fed these pieces with a rest after each, comes to what a run reports of it."""
     blocks = tomllib.loads(text)["block"]
     graph = magbelu.Graph.from_text(text)
     for source, items in feeds:

@@ -125,7 +125,7 @@ one_back jobs job st after b now reply line one is to l =
     let kept = kept_set jobs b None in
     rw yes (inl (l ∙ ap reply_line (sym is), ap (λ s. record { state = s; kept = kept_in (set jobs b None) }) to ∙ ap (λ ks. record { state = now.1; kept = ks }) kept))
 
--- what is told of a claim that is kept
+-- the reply to a claim that is kept
 pub claimed_gives : {J : Type 0} (jobs : List (Option J)) (job : J) (st after : State) (b : ℕ) (now : Reply × State) (claimed : Job) (first count : ℕ) (line : List ℕ) → first ≡ claimed.first → count ≡ claimed.count →
     machine.Claimed claimed ≡ now.0 → after ≡ now.1 → line ≡ line_text (claimed_text first count) →
     Gives (told (takes_memory now.0) (kept_by b (kept_in jobs) now.0) now) (record { state = st; kept = kept_in jobs }) (record { state = after; kept = kept_in (set jobs b (Some job)) }) line

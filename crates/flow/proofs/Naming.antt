@@ -23,7 +23,7 @@ found_inside meaning g valid name r e = subst (λ (o : Option BlockId). IfSome o
     by_place None h = tt
     by_place (Some b) h = subst (λ (n : ℕ). b < n) (valid.graph.named ∙ length-map g.blocks (node_of meaning)) (position-Some (bytes_eq name) g.names b [] h).0
 
--- the name that a graph tells of a block is that of the graph that it is
+-- the name that a graph has of a block is that of the graph that it is
 pub name_is : {B : Type 0} (told g : Flowgraph B) (b : ℕ) (name : List ℕ) → told ≡ g → slice_get told.names b ≡ Some name → slice_index_or g.names b [] ≡ name
 name_is {B} told g b name same e = ap (λ (x : Flowgraph B). slice_index_or x.names b []) (sym same) ∙ get_or_from_slice_get told.names b name [] e
 

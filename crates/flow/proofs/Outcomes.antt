@@ -54,7 +54,7 @@ pub no_more : (a n : ℕ) → n ≡ 0 → a ≡ a + n
 no_more a n e = omega (arith, e)
 
 module _ {A : Type 0} (IsDone : List ℕ → ℕ → Type 0) (r : Result A Refusal) where
-  -- what was told was written
+  -- what was reported was written
   pub wrote : (out out' : Option (List ℕ)) (text : List ℕ) (status : ℕ) (result : Result ℕ Fault) → IsDone text status →
       IfOk result (λ s. (s ≡ status) × Appends out out' text) → IfOk result (Writes IsDone out out')
   wrote out out' text status (Ok s) h k = (text, subst (IsDone text) (sym k.0) h, k.1)
@@ -66,7 +66,7 @@ module _ {A : Type 0} (IsDone : List ℕ → ℕ → Type 0) (r : Result A Refus
   wrote_not out out' text status (Ok s) h k = tt
   wrote_not out out' text status (Err e) h k = subst (WritesNot IsDone r out out') (sym k.0) (text, status, h, k.1)
 
-  -- nothing was told
+  -- nothing was reported
   pub refused_not : (out : Option (List ℕ)) (fault : Fault) → Refuses r fault → WritesNot IsDone r out out fault
   refused_not out (File fault) h = (h, refl)
   refused_not out (Script (BadLine n)) h = h

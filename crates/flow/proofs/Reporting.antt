@@ -1,4 +1,4 @@
--- Texts that tell of each block in turn.
+-- Texts with a line for each block in turn.
 use Rattle.std.proofs.Common.{◌≡◌, ℕ, ◌+◌, ◌-◌, ◌≤◌, ◌<◌, min, List, [], ◌++◌, length, take, drop, Bool, true, false, not, refl, ap, sym, ◌∙◌, append_assoc, arith, ltb-true, ltb-false, nat_lt, ℤ}
 use Rattle.std.specs.Prelude.{slice_range, if◌then◌else◌}
 use Rattle.std.specs.List.{flat_map}

@@ -1,4 +1,4 @@
--- Walks along a ring of waits and over the blocks, which take at most a turn for each block, and what is told of a ring.
+-- Walks along a ring of waits and over the blocks, which take at most a turn for each block, and the lines of a ring.
 use Rattle.std.proofs.Common.{◌≡◌, ◌≢◌, ℕ, suc, zero, ◌+◌, ◌-◌, ◌<◌, ◌≤◌, List, [], ◌∷◌, ◌++◌, length, drop, get_or, min, Bool, true, false, refl, ap, sym, ◌∙◌, subst, arith, cond, append-nil}
 use Rattle.std.specs.Prelude.{◌==◌, Option, Result, None, Ok, Err, Some}
 use Rattle.std.specs.List.{flat_map}
@@ -146,7 +146,7 @@ module _ (plant : PlantState Kind) (graph : Flowgraph Kind) (turns turn : ℕ) (
   pub open_goes_on : (r : Result (Unit {0}) Broken) (a c last : Stream) → Puts (Ok tt) a c (line turn) → Puts r c last (flat_map line (drop (turn + 1) blocks)) → Puts r a last (flat_map line (drop turn blocks))
   open_goes_on r a c last p rest = let wrote = puts_as (Ok tt) a c _ _ (ap line (sym turn_is)) p in puts_more line blocks turn 0 in_blocks r a c last wrote.0 wrote.1 rest
 
--- the waits of a ring were told, and what may open it
+-- the waits of a ring were written, and what may open it
 module _ (plant : PlantState Kind) (b first : ℕ) (full : Option ℕ) (rates : List ℕ) where
   abbrev of : ℕ → List ℕ
   of low = ring_from (net_of meaning_of plant.graph) plant.capacities plant.state low (length (net_of meaning_of plant.graph).nodes) low

@@ -71,7 +71,7 @@ module _ (net : Network) (st : State) (b : ℕ) where
             by_value None h = absurd (let no : false ≡ true = h in cc)
             by_value (Some v) h = subst (λ (now : Reply × State). Wants (Some w) now.0) (sym (set_at in' v)) (fit_wants at w v taps h)
 
-        -- what is told where numbers are no value, or have no memory
+        -- what is answered where numbers are no value, or have no memory
         pub tells_no_value : (fault : PlantFault) (line : List ℕ) → IsValueFor w zs (Err fault) → line ≡ refusal_line fault →
             Tells (takes_memory (set_numbers net st b at zs).0 || taps_wanted (node_at net b).meaning.setting (set_numbers net st b at zs).0) (set_numbers net st b at zs) st st line
         tells_no_value WrongSetting line h l = let no = set_unfit h in inl (l ∙ ap (λ (now : Reply × State). reply_line now.0) (sym no), ap (λ (now : Reply × State). now.1) (sym no))

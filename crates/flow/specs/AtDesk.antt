@@ -55,12 +55,12 @@ AreFor net b zs (Err fault.ItemRange) = (ms : List Mark) → feed_request net b 
 AreFor net b zs (Err fault.Memory) = (ms : List Mark) → feed_request net b zs ms ≡ Makes (machine.Feed b (given_type net b) zs ms)
 AreFor net b zs (Err _) = ⊥
 
--- the reply that is told: the one that there is, or that memory ran out
+-- the reply that is given: the one that there is, or that memory ran out
 abbrev pub told_reply : Option Reply → Reply
 told_reply None = no_memory
 told_reply (Some reply) = reply
 
--- a refusal is told, or the call is made: it joins the desk's log with the reply that is told. Or memory ran out, and no call was made
+-- a refusal is given, or the call is made: it joins the desk's log with the reply that is given. Or memory ran out, and no call was made
 abbrev pub Follows : {B : Type 0} → Request → DeskState B → DeskState B → List ℕ → Type 0
 Follows (Refuses code) old new line = (new ≡ old) × (line ≡ reply_line (Refused code))
 Follows (Makes call) old new line = (reply : Option Reply) × IsLogged (Asks call) old new reply × (line ≡ reply_line (told_reply reply))

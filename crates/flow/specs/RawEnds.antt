@@ -108,6 +108,6 @@ is_elsewhere elsewhere b = list_any (λ sink. sink.0 == b) elsewhere
 abbrev pub told_line : Draft → State → List BlockId → ℕ → List ℕ
 told_line d st elsewhere b = if is_elsewhere elsewhere b then count_line d st b else sink_line d st b
 
--- what is told of a run that came to rest in a state, where what these sinks hold is written elsewhere
+-- the report of a run that came to rest in a state, where what these sinks hold is written elsewhere
 abbrev pub raw_text : Draft → State → List BlockId → List ℕ
 raw_text d st elsewhere = each_block d (told_line d st elsewhere) ++ line_text (if is_all_done st then done_text else stalled_text)

@@ -1,4 +1,4 @@
--- What is told of a graph, and of a run at its end.
+-- The report of a graph, and of a run at its end.
 use Rattle.std.specs.Prelude.{ℕ, List, [], ◌++◌, length, take, slice_index, slice_index_or, if◌then◌else◌}
 use Rattle.std.specs.List.{flat_map}
 use Rattle.stream_model.specs.Lists.{below}
@@ -31,7 +31,7 @@ rates_text d (Balanced q) = line_text balanced_text ++ each_block d (firings_lin
 rates_text d Uneven = line_text uneven_text
 rates_text d TooLarge = line_text too_large_text
 
--- what is told of a valid graph
+-- the report of a valid graph
 abbrev pub check_text : Draft → List ℕ
 check_text d = line_text (blocks_text (length d.net.nodes)) ++ line_text (connections_text (length d.net.connections)) ++ rates_text d (balance_of d.net)
 
@@ -41,7 +41,7 @@ held_line d st b =
     let held = (progress_at st.progress b).firings in
     line_text (sink_text (name_at d b) held (take held (input (entering d.net st.handed b) 0)) (tags_within 0 held (tags_entering d.net st.handed b 0)))
 
--- nothing is told of a block that keeps no items
+-- a block that keeps no items has no line
 abbrev pub sink_line : Draft → State → ℕ → List ℕ
 sink_line d st b = if is_keeper (role_at d.net b) then held_line d st b else []
 
@@ -50,6 +50,6 @@ abbrev pub settled_text : Settled → List ℕ
 settled_text Done = done_text
 settled_text Quiet = stalled_text
 
--- what is told of a run that came to rest in a state
+-- the report of a run that came to rest in a state
 abbrev pub run_text : Draft → State → List ℕ
 run_text d st = each_block d (sink_line d st) ++ line_text (if is_all_done st then done_text else stalled_text)

@@ -70,7 +70,7 @@ Fails r (Run fault) = IsOk r
 Fails r (File fault) = Refuses r (File fault)
 Fails r (Script fault) = Refuses r (Script fault)
 
--- a check of a file: what is told of its graph
+-- a check of a file: the report of its graph
 pub record IsCheck (file text : List ℕ) (status : ℕ) : Type 0 where
   pub graph : Draft
   pub valid : graph_in file ≡ Ok graph
@@ -96,7 +96,7 @@ pub record IsAtRest (net : Network) (caps : Capacities) (st : State) : Type 0 wh
   pub whole : is_all_done st ≡ true → IsWhole net st
   pub quiet : is_all_done st ≡ false → is_quiet net caps st ≡ true
 
--- a run of a file in threads: its plant with all sources closed came to rest, with what it was handed, and what is told of it then. Which block fired
+-- a run of a file in threads: its plant with all sources closed came to rest, with what it was handed, and is reported as it was then. Which block fired
 -- when is nowhere said
 pub record IsRun (file text : List ℕ) (status : ℕ) : Type 0 where
   pub plant : Opened
@@ -108,7 +108,7 @@ pub record IsRun (file text : List ℕ) (status : ℕ) : Type 0 where
   pub told : text ≡ run_text plant.draft last
   pub well : status ≡ (if is_all_done last then 0 else 3)
 
--- a run of a file on one thread: its plant with all sources closed went on, block by block, until it came to rest, and what is told of it then
+-- a run of a file on one thread: its plant with all sources closed went on, block by block, until it came to rest, and is reported as it was then
 pub record IsRunAlone (file text : List ℕ) (status : ℕ) : Type 0 where
   pub plant : Opened
   pub opens : plant_in file ≡ Ok plant
@@ -119,7 +119,7 @@ pub record IsRunAlone (file text : List ℕ) (status : ℕ) : Type 0 where
   pub well : status ≡ (if is_all_done last then 0 else 3)
 
 -- a run of a file in threads with its sources left open, of which calls were made meanwhile: its plant came where a history of calls leads, to rest, and
--- what is told of it then
+-- the report of it then
 pub record IsLive (file text : List ℕ) (status : ℕ) : Type 0 where
   pub plant : Opened
   pub opens : plant_in file ≡ Ok plant
@@ -256,17 +256,17 @@ abbrev pub Puts : Result (Unit {0}) Broken → Stream → Stream → List ℕ �
 Puts (Ok done) old new text = Appends old.bytes new.bytes text × (new.failed ≡ old.failed)
 Puts (Err broken) old new text = AppendsBeginning old.bytes new.bytes text × (new.failed ≡ old.failed + 1)
 
--- it is told why a plant stalled, of its rates only where they are known
+-- why a plant stalled is explained, with its rates only where they are known
 abbrev pub Explains : Opened → Stream → Stream → Type 0
 Explains plant old new = (known : Bool) × Tries old new (stall_text (uneven_line known (balance_of plant.draft.net)) plant.draft plant.capacities plant.state)
 
--- it is told of the plant that stalled, if there is one and that is wanted; else nothing is
+-- the plant that stalled is explained, if there is one and that is wanted; else nothing is
 abbrev pub Remarks : Notes → Option Opened → Stream → Stream → Type 0
 Remarks Shown (Some plant) old new = Explains plant old new
 Remarks Shown None old new = new ≡ old
 Remarks Hidden stalled old new = new ≡ old
 
--- a command was done, and nothing is told of a fault, but it may be told why a run stalled; or it was not, the fault is told, and the status is the one
+-- a command was done, and no fault is reported, but why a run stalled may be explained; or it was not, the fault is reported, and the status is the one
 -- that it brings
 pub data Serves (notes : Notes) (c : Action) (file : List ℕ) (input input' output output' errors errors' : Stream) : ℕ → Type 0 where
   Well : (status : ℕ) (stalled : Option Opened) → Does c file input.bytes input'.bytes output.bytes output'.bytes status stalled →

@@ -154,7 +154,7 @@ abbrev pub wait_told : Result Wait PlantFault → Wait
 wait_told (Ok wait) = wait
 wait_told (Err fault) = IsOver
 
--- what is told of a wait
+-- the text of a wait
 abbrev pub wait_text : List (List ℕ) → Wait → List ℕ
 wait_text names IsOver = reply_text machine.Done
 wait_text names HasClaim = reply_text machine.Busy
@@ -163,7 +163,7 @@ wait_text names ForFeed = waits_feed_text
 wait_text names (ForItems port writer) = waits_items_text port (slice_index_or names writer [])
 wait_text names (ForRoom port reader) = waits_room_text port (slice_index_or names reader [])
 
--- what block b waits for is told, and nothing changes
+-- what block b waits for is answered, and nothing changes
 abbrev pub why_answer : Graph → Standing → ℕ → Answer
 why_answer g s b = record { text = wait_text g.names (wait_of g.net g.caps s.state b); wants_memory = false; after = s }
 
@@ -190,7 +190,7 @@ abbrev pub settled_line : Settled → List ℕ
 settled_line rest.Done = line_text (settle_text true)
 settled_line rest.Quiet = line_text (settle_text false)
 
--- the network settled so, and that is told
+-- the network settled so, and that is answered
 pub record Rests (g : Graph) (st : State) (line : List ℕ) : Type 0 where
   pub how : Settled
   pub settled : HasSettled g.net g.caps st how

@@ -9,7 +9,7 @@ use Rattle.flow.specs.declared.script.ScriptFault.TheVariants as script
 use Rattle.flow.specs.declared.start.StartFault.{StartFault}
 use Rattle.flow.specs.declared.start.StartFault.TheVariants.{NoText, BadWords, NoFile, Memory}
 
--- a word that is no UTF-8 is told; otherwise only memory can run out
+-- a word that is no UTF-8 is reported; otherwise only memory can run out
 abbrev pub words_fault : ErrorKind → StartFault
 words_fault kind.InvalidData = NoText
 words_fault _ = Memory
@@ -24,7 +24,7 @@ abbrev pub file_fault : ErrorKind → StartFault
 file_fault kind.OutOfMemory = Memory
 file_fault _ = NoFile
 
--- memory and a file are told as they are of a command; the text of bad words comes from what reads them
+-- memory and a file are reported as they are of a command; the text of bad words comes from what reads them
 abbrev pub start_text : StartFault → List ℕ
 start_text NoText = line_text (codes "error: a word is no UTF-8")
 start_text BadWords = []

@@ -1,4 +1,4 @@
-//! What is told of a graph, and of a run at its end.
+//! The report of a graph, and of a run at its end.
 
 ghost use Rattle.std.specs.Prelude.{◌≡◌, ◌++◌, ◌<◌, ◌^◌, length, IfOk, OnOk};
 ghost use Rattle.flowgraph.specs.Flowgraph.{net_of};

@@ -1,4 +1,4 @@
-//! Runs of the plants of graph files, and what is told of them.
+//! Runs of the plants of graph files, and their reports.
 
 ghost use Rattle.std.specs.Prelude.{◌≡◌, Some, None, IfOk, IfErr, if◌then◌else◌};
 ghost use Rattle.std.specs.Option.{option_map};

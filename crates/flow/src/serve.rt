@@ -37,9 +37,9 @@ pub(crate) const TURN: u32 = 65_536;
 /// What the program is asked to do with a graph file.
 #[derive(Clone, Copy, Debug, PartialEq, Eq)]
 pub enum Action {
-    /// To tell of its graph.
+    /// To report its graph.
     Check,
-    /// To tell of its graph where its feeds go onto the tapes as well.
+    /// To report its graph once its feeds have gone onto the tapes as well.
     CheckFeeds,
     /// To write its graph as text from which a picture is made.
     Draw(Format),
@@ -144,7 +144,7 @@ fn unstalled(done: Result<u8, Fault>) -> Result<Ended, Fault>
     }
 }
 
-/// Writes what is told of the graph of a file, and gives the status.
+/// Writes the report of the graph of a file, and gives the status.
 pub fn check<O: ByteOut>(alloc: Global, file: &[u8], output: &mut O) -> Result<u8, Fault>
     requires writes { O.failed output.old < 2 ^ 64 - 1 }
     ensures does { IfOk result (Writes (IsCheck file.now) (O.contents output.old) (O.contents output.new)) }
@@ -289,7 +289,7 @@ fn run_live<R: Threads + Wait + Sync, I: ByteIn + Send, O: ByteOut + Send, W: Wa
     written_run(output, Ran { outcome, stalled })
 }
 
-// What is told of the graph of a file.
+// The report of the graph of a file.
 fn check_file(alloc: Global, file: &[u8]) -> Result<Outcome, Fault>
     ensures ok { IfOk result (λ outcome. IsCheck file.now outcome.text.items outcome.status) }
     ensures refused { IfErr result (Refuses (graph_in file.now)) }
@@ -327,7 +327,7 @@ fn picture_of(alloc: Global, format: Format, graph: &Valid<Kind>) -> Result<Vec<
     drawn(alloc, graph, &rates, format)
 }
 
-// What is told of a valid graph.
+// The report of a valid graph.
 fn told_of(alloc: Global, graph: &Valid<Kind>) -> Result<Vec<u8>, AllocError>
     ensures { IfOk result (λ text. text.items ≡ check_text (drafted graph.now)) }
 {

@@ -21,7 +21,7 @@ use rates::{Rates, balance};
 use script_text::{Broken, ByteOut};
 use std::alloc::Global;
 
-/// Whether it is told why a run stalled.
+/// Whether it is explained why a run stalled.
 #[derive(Clone, Copy, Debug, PartialEq, Eq)]
 pub enum Notes {
     Shown,

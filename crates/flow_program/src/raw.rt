@@ -52,7 +52,7 @@ fn obey<R: Threads + Wait + Copy + Send + 'static, W: Watch>(
     for (number, end) in ends.inputs.iter().enumerate() {
         feed(rt, &mut run, ends, number, end, reason)?;
     }
-    // A name that is none is told before the run.
+    // A name that is none is refused before the run.
     let outputs = sinks(rt, &run, &ends.outputs, false)?;
     let tags = sinks(rt, &run, &ends.tags, true)?;
     let ran = match call.action {

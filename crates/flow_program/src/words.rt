@@ -32,7 +32,7 @@ impl Call<'_> {
         is_terminal && !self.is_quiet
     }
 
-    /// Whether it is told why a run stalled, unless the words say no.
+    /// Whether it is explained why a run stalled, unless the words say no.
     pub fn notes(&self) -> Notes
         ensures { result ≡ (if self.now.is_quiet then Hidden else Shown) }
     {
@@ -181,7 +181,7 @@ fn live_command<'a>(alloc: Global) -> Result<clap::Command<'a>, clap::Error> {
     .arg(quiet(alloc))?)
 }
 
-// The word that says no to what is told beside the report.
+// The word that turns off what is written beside the report.
 fn quiet<'a>(alloc: Global) -> Arg<'a> {
     Arg::new(alloc, "quiet")
         .short('q')

@@ -28,7 +28,7 @@ use Rattle.flowgraph.proofs.Assembly.{net, nodes, reaches_same}
 abbrev most : ℕ
 most = most_gain + 1
 
--- a product with what was told of a factor tells as much
+-- a product with what is known of a factor says as much
 capped-mul : (i x : ℕ) → min most (i * min most x) ≡ min most (i * x)
 capped-mul i x =
     elim (cases_lt most x) [
@@ -255,7 +255,7 @@ module _ {B : Type 0} (meaning : B → Meaning) (es : List (Entry B)) (cs : List
         (b : ℕ) → b < length es → get_or gains b 0 ≡ min most (gain_by (length es) (net meaning es cs) b)
     told_last turns gains reached told = told_all gains (told.0, told.1, carried_all (λ b. get_or gains b 0) reached told.1 (length es), told.3)
 
--- a product is above the limit where it is told so
+-- a product is above the limit where that is found
 pub above_limit : (g x : ℕ) → x ≡ min (most_gain + 1) g → most_gain < x → nat_lt most_gain g ≡ true
 above_limit g x e more = lt-ltb most_gain g (omega arith)
 

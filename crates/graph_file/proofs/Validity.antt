@@ -1,4 +1,4 @@
--- What is told of a graph that is not valid.
+-- The refusal of a graph that is not valid.
 use Rattle.std.proofs.Common.{◌≡◌, ◌≢◌, ℕ, ◌<◌, Bool, true, List, ◌∷◌, [], length, map, slice_get, Option, None, Some, option_map, Err, refl, arith, ap, ◌∙◌, sym, subst, inl, inr}
 use Rattle.std.specs.Prelude.{◌⊎◌, ◌||◌, ◌&&◌, ◌==◌, not, nat_lt}
 use Rattle.std.proofs.lemmas.List.{length-map}

@@ -48,7 +48,7 @@ tested-other ms =
     unless-other (key_fault ms Name) _ (value_fault-other Name (at_key Name ms))
     (unless-other (key_fault ms Kind) _ (value_fault-other Kind (at_key Kind ms)) (tested_as-other (kind_named (text_at ms Kind)) ms))
 
--- so what is wrong with a table is told as it is
+-- so what is wrong with a table is reported as it is
 pub tested-refused : (ms : Members) (takes : Bool) (fault : KeyFault) → Err fault ≡ tested ms → IsRefused takes (block_in ms) fault
 tested-refused ms takes UnknownKey e = ap (λ r. block_at r ms) (sym e)
 tested-refused ms takes (MissingKey k) e = ap (λ r. block_at r ms) (sym e)

@@ -1,4 +1,4 @@
--- What is told of a call, from what the program writes.
+-- The answer of a call, from what the program writes.
 use Rattle.std.proofs.Common.{◌≡◌, ℕ, List, [], ◌++◌, sym, ◌∙◌, subst}
 use Rattle.std.specs.Prelude.{Option, Some, Result}
 use Rattle.std.specs.Io.KnownBytes.{Appends}

@@ -22,7 +22,7 @@ pub record ToldWell (text : List ℕ) (status : ℕ) (out out' : List ℕ) (a : 
   pub output : out' ≡ shown text out
   pub answer : a ≡ record { status = status; number = 0; output_len = length text; error_len = 0 }
 
--- the line that tells of a fault, or a beginning of it where memory ran out
+-- the line of a fault, or a beginning of it where memory ran out
 abbrev pub IsLineOf : Fault → List ℕ → Type 0
 IsLineOf fault line = (failed : ℕ) × Tries (stream (Some []) 0) (stream (Some line) failed) (fault_line fault)
 
@@ -34,7 +34,7 @@ pub record ToldBadly (text : List ℕ) (fault : Fault) (out out' err err' : List
   pub error : err' ≡ shown line err
   pub answer : a ≡ record { status = status_of fault; number = fault_number fault; output_len = length text; error_len = length line }
 
--- a call was done, and nothing is told of a fault; or it was not, and its fault is told
+-- a call was done, and no fault is reported; or it was not, and its fault is reported
 pub data Answers (Does : List ℕ → ℕ → Type 0) (DoesNot : List ℕ → Fault → Type 0) (out out' err err' : List ℕ) (a : Answer) : Type 0 where
   Done : (text : List ℕ) → (status : ℕ) → Does text status → ToldWell text status out out' a → err' ≡ err → Answers Does DoesNot out out' err err' a
   Failed : (text : List ℕ) → (fault : Fault) → DoesNot text fault → ToldBadly text fault out out' err err' a → Answers Does DoesNot out out' err err' a
@@ -62,7 +62,7 @@ pub record ToldRaw (fault : RawFault) (err err' : List ℕ) (a : Answer) : Type 
 abbrev pub order_of : ℕ → ByteOrder
 order_of n = if n == 0 then Little else Big
 
--- a run with raw items was done, and nothing is told of a fault; or it was not, nothing is written but the line of its fault
+-- a run with raw items was done, and no fault is reported; or it was not, nothing is written but the line of its fault
 pub data AnswersRun (file : List ℕ) (order : ByteOrder) (inputs : List Input) (outputs : List Output) (lens lens' out out' err err' : List ℕ) (a : Answer) : Type 0 where
   Ran : (all bytes : List ℕ) → (status : ℕ) → RunsBetween file order inputs outputs all bytes status →
       lens' ≡ shown all lens → ToldWell bytes status out out' a → err' ≡ err → AnswersRun file order inputs outputs lens lens' out out' err err' a

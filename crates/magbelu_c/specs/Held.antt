@@ -22,7 +22,7 @@ pub data Opens (file : List ℕ) (old new : Option (PlantState Kind)) (err err' 
   Refused : old ≡ None → new ≡ None → (fault : Fault) → Refuses (plant_in file) fault → ToldBadly [] fault [] [] err err' a → Opens file old new err err' a
   IsOpen : (p : PlantState Kind) → old ≡ Some p → new ≡ Some p → err' ≡ err → a ≡ answered 1 56 → Opens file old new err err' a
 
--- no plant is held from now on, and whether one was is told
+-- no plant is held from now on, and whether one was is answered
 abbrev pub freed : Option (PlantState Kind) → Reply
 freed None = not_open
 freed (Some p) = done 0 0

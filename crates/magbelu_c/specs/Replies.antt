@@ -114,7 +114,7 @@ abbrev pub settled_reply : Settled → Reply
 settled_reply rest.Done = done 0 0
 settled_reply rest.Quiet = record { status = 3; number = 0; what = 0; value = 0 }
 
--- the plant settled so, and that is told
+-- the plant settled so, and that is answered
 pub record Rests (p : PlantState Kind) (r : Reply) : Type 0 where
   pub how : Settled
   pub settled : HasSettled (net_of meaning_of p.graph) p.capacities p.state how

@@ -46,7 +46,7 @@ pub(crate) fn run_between(
     if let Err(fault) = feed_all(alloc, &mut run, order, inputs) {
         return Err(fault);
     }
-    // A name that is none is told before the run.
+    // A name that is none is refused before the run.
     if let Err(fault) = test_names(run.graph(), outputs) {
         return Err(fault);
     }

@@ -20,7 +20,7 @@ pub extern "C" fn magbelu_version() -> u32
     VERSION
 }
 
-/// Tells of the graph of a file, as `flow check` does.
+/// Reports the graph of a file, as `flow check` does.
 #[unsafe(no_mangle)]
 pub extern "C" fn magbelu_bytes_check(
     alloc: Global,

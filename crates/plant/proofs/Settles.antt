@@ -77,7 +77,7 @@ module _ {B : Type 0} (meaning : B → Meaning) (max : ℕ) (old : PlantState B)
       idle = idle;
     }
 
--- what a round tells of the plant before it and after it
+-- what a round says of the plant before it and after it
 module _ {B : Type 0} (meaning : B → Meaning) (old new : PlantState B) (same : IsSame old new) where
   pub fewer_left : (moved : Bool) → moved ≡ true → HasMoved (net_of meaning old.graph) old.capacities old.state new.state moved → steps_left (net_of meaning new.graph) new.state < steps_left (net_of meaning old.graph) old.state
   fewer_left moved e has =

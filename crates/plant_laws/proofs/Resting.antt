@@ -1,4 +1,4 @@
--- A call whose reply tells of no change makes none.
+-- A call whose reply reports no change makes none.
 use Rattle.std.proofs.Common.{◌≡◌, ℕ, ℤ, ◌+◌, Bool, false, not, List, length, Option, Some, None, refl}
 use Rattle.std.specs.Prelude.{nat_lt}
 use Rattle.std.proofs.lemmas.Bool.{lt-ltb}
@@ -14,7 +14,7 @@ use Rattle.machine_laws.proofs.Choices.{if_both}
 use Rattle.plant_laws.specs.Calls.{tells_change, OtherwiseNothingChanges, DoneBlocksStayDone}
 
 module _ (st : State) where
-  -- the state is as it was, unless the reply tells of a change
+  -- the state is as it was, unless the reply reports a change
   abbrev pub Rests : Reply × State → Type 0
   Rests r = tells_change r.0 ≡ false → r.1 ≡ st
 

@@ -123,7 +123,7 @@ module _ (net : Network) (rates : HasRates net) (q : List ℕ) (balanced : IsBal
           not_past = λ j lt. elim (cases_lt (suc j) step) [ inl h ↦ stepped.not_past j h | inr h ↦ none j (omega arith) ];
         }
 
--- what is told of the skips before a step
+-- what is known of the skips before a step
 pub past_told : (net : Network) (q : List ℕ) (step : ℕ) (before after needed : List ℕ) → IsStepped net q step before after needed → (j : ℕ) → step ≡ suc j →
     list_all (λ b. is_past_skip (node_at net b).meaning.shift (get_or before b 0)) (below (length net.nodes)) ≡ is_past_skips net q j
 past_told net q step before after needed stepped j e =

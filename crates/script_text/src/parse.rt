@@ -250,7 +250,7 @@ fn parse_max(field: &[u8]) -> Option<u32>
     Some(max as u32)
 }
 
-// Whether the fields are items and then marks. So a bad line is told from others before memory is asked for.
+// Whether the fields are items and then marks. So a bad line is told apart before memory is asked for.
 fn are_given(fields: &[u8]) -> bool
     ensures { IsTrue result ↔ IsSome (given_of (fields_of fields.now)) }
 {

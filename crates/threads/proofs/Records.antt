@@ -60,7 +60,7 @@ module _ {B : Type 0} (meaning : B → Meaning) (old new : PlantState B) (o : Op
       ∙ (λ k. history ++ record { caller = by k; asked = same k; said = (noted_by e).said } ∷ []) in
       subst (λ l. IsRecord meaning (record { plant = new; opening = o; history = l })) (sym list) (noted caller (noted_by e).said went)
 
-  -- the same of an answer that a contract tells of, with the count of claims in flight
+  -- the same of an answer that a contract speaks of, with the count of claims in flight
   pub kept : (es mid fs : List Entry) (e : Entry) (caller : CallerId) → map noted_by es ≡ history → mid ≡ es → fs ≡ mid ++ e ∷ [] → (noted_by e).caller ≡ caller → (noted_by e).asked ≡ asked →
       (r : Option Reply) → Answered now old new r → Some (noted_by e).said ≡ option_map said_of r → (n m : ℕ) → n ≡ flights_in old.state → flights_in now.1 + n ≡ flights_in old.state + m →
       IsRecord meaning (record { plant = new; opening = o; history = map noted_by fs }) × (m ≡ flights_in new.state)
@@ -79,7 +79,7 @@ pub begun : {B : Type 0} (meaning : B → Meaning) (p : PlantState B) (o : Openi
 begun meaning p o es graph state none =
     subst (λ l. IsRecord meaning (record { plant = p; opening = o; history = map noted_by l })) (sym none) (record { graph = sym graph; run = record { replies = refl; left = sym state } })
 
--- an answer that tells of no change, or none
+-- an answer that reports no change, or none
 abbrev tells : Option Reply → Bool
 tells None = false
 tells (Some reply) = tells_change reply

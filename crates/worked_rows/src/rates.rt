@@ -136,7 +136,7 @@ pub fn joins_shifted_streams()
 {}
 
 /// A ratio above the limit ends the search at once, also where the connections do not hold: its denominator as
-/// its numerator, 1,048,576 each. Where the ratios are small, connections that do not hold are told before counts
+/// its numerator, 1,048,576 each. Where the ratios are small, connections that do not hold are reported before counts
 /// that are too many: of the two denominators 1,021 and 1,019 a whole solution takes 1,040,399.
 pub fn tells_too_large_from_uneven()
     ensures denominator { balance_of (uneven_beside (keep_one_in_n Byte 1024) (keep_one_in_n Byte 1024)) ≡ TooLarge }

@@ -8,7 +8,7 @@ use Rattle.flowgraph.proofs.Places.{none_of}
 use Rattle.flowgraph.proofs.Assembly.{stop, go, alone, tests, looped, steep, net}
 use Rattle.flowgraph.proofs.graph.tested.Goals as goal
 
--- where nothing is told of loops, no block was found
+-- where no loop is reported, no block was found
 none_found : (o : Option ℕ) → told Blocks (option_map Loop o) ≡ None → o ≡ None
 none_found None e = refl
 none_found (Some b) e = absurd (cc)
