@@ -1,7 +1,7 @@
 # shellcheck shell=bash
 # For scripts to source: crates that stand outside crates/ and run unproved, as rt try compiles them with checks, so that the gate has no proof of them
 # to make. Each is put together in a copy of the checkout: the tests of the folders of tests/ with .test files, and the programs of
-# benches/ and examples/.
+# benches/ and examples/. The room for these copies, and what puts the crates below into one, also serve the script that turns definitions.
 # shellcheck source=scripts/program.sh
 source "$(dirname -- "$(readlink -f -- "${BASH_SOURCE[0]}")")/../scripts/program.sh"
 

@@ -2,27 +2,22 @@
 # Turned definitions: each has to be refused by the laws. The gate tries an edit in its own crate alone, and these definitions stand
 # below the laws that hold them, so this script tries them in a copy of the crates of definitions and laws.
 set -euo pipefail
-# shellcheck source=scripts/program.sh
-source "$(dirname -- "$(readlink -f -- "${BASH_SOURCE[0]}")")/../scripts/program.sh"
+# shellcheck source=tests/apart.sh
+source "$(dirname -- "$(readlink -f -- "${BASH_SOURCE[0]}")")/apart.sh"
 
-crates=(stream_model stream_laws graph_model machine_laws)
-room=$(mktemp -d)
-trap 'rm -rf -- "$room"' EXIT
-mkdir "$room/crates"
-for crate in "${crates[@]}"; do
-    echo "${line_of[$crate]}" >>"$room/crates.txt"
-    mkdir "$room/crates/$crate"
-    find "$top/crates/$crate" -mindepth 1 -maxdepth 1 ! -name out -exec cp -a -t "$room/crates/$crate" -- {} +
-done
+# The laws of machines, and the crates of definitions and laws below them.
+order=()
+put_below turned machine_laws
+crates=$room/turned/crates
 
 # is_proved CRATE: whether the crate of the copy is proved, with all below it
 is_proved() {
-    (cd "$room/crates/$1" && rt check >"$room/said" 2>&1 </dev/null)
+    (cd "$crates/$1" && rt check >"$room/said" 2>&1 </dev/null)
 }
 
 # refuses CRATE FILE OLD NEW: with NEW in place of OLD, which stands once in the file, the crate is not proved
 refuses() {
-    local file=$room/crates/$2 whole
+    local file=$crates/$2 whole
     whole=$(<"$file")
     if [[ $whole != *"$3"* || ${whole/"$3"/} == *"$3"* ]]; then
         echo "definitions: '$3' does not stand once in $2" >&2

@@ -1,7 +1,7 @@
 #!/usr/bin/env bash
 # What a newcomer meets who calls ./flow and ./build: in a checkout that is not built, that was edited since, from another folder,
 # through a link, without the toolchain, where nothing can be written, beside another ./build, with a crate that is not proved.
-# One run goes through the toolchain; for the others tests/rt_in_its_place stands in its place, so nothing is proved here.
+# One run goes through the toolchain, and a build of three crates; for the others tests/rt_in_its_place stands in its place.
 set -euo pipefail
 # shellcheck source=scripts/program.sh
 source "$(dirname -- "$(readlink -f -- "${BASH_SOURCE[0]}")")/../scripts/program.sh"
@@ -78,6 +78,8 @@ wait_for() {
 
 # shellcheck source=tests/newcomer/runs.sh
 source "$top/tests/newcomer/runs.sh"
+# shellcheck source=tests/newcomer/real_build.sh
+source "$top/tests/newcomer/real_build.sh"
 # shellcheck source=tests/newcomer/builds.sh
 source "$top/tests/newcomer/builds.sh"
 # shellcheck source=tests/newcomer/library_for_c.sh
@@ -90,6 +92,7 @@ source "$top/tests/newcomer/stopped_builds.sh"
 copy_tree
 link_tools
 real_run_is_unproved
+real_build_proves_and_links
 unproved_runs_pass_all_on
 failures_pass_on
 limits_are_told

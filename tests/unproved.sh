@@ -5,25 +5,28 @@ set -euo pipefail
 # shellcheck source=tests/apart.sh
 source "$(dirname -- "$(readlink -f -- "${BASH_SOURCE[0]}")")/apart.sh"
 
-# run_tests COUNT FOLDER..: so many tests stand in these folders, and all pass. They are one crate, so that what stands below them is compiled once.
+# run_tests: the tests of all folders with a lib.test are run, and pass. They are one crate, so that what stands below them is compiled once. There are
+# as many as `#[test]` lines in .test files, so that no file is left out which is not named, and no folder that has no lib.test.
 run_tests() {
-    local folder own=$room/all/crates/all_tests status=0
+    local lib folder count own=$room/all/crates/all_tests status=0
     put_apart all flow raw_items rates firings clap
-    for folder in "${@:2}"; do
+    for lib in "$top"/tests/*/lib.test; do
+        folder=$(basename -- "$(dirname -- "$lib")")
         mkdir "$own/src/$folder"
         put_tests "$folder" "$own/src/$folder"
         mv -- "$own/src/$folder/lib.rt" "$own/src/$folder.rt"
         printf '#[cfg(test)]\nmod %s;\n' "$folder" >>"$own/src/lib.rt"
     done
+    count=$(cat "$top"/tests/*/*.test | grep -cxF '#[test]' || true)
     # (tests/terminal stands over these files of the program)
     cp -- "$top/crates/$program_crate/src/"{ends,terminal,words}.rt "$own/src/terminal"
     (cd "$own" && rt try --test) >"$room/said" 2>&1 </dev/null || status=$?
-    if [[ $status != 0 ]] || ! grep -q "^test result: ok\. $1 passed" "$room/said"; then
-        echo "unproved: the tests of ${*:2}:" >&2
+    if [[ $status != 0 || $count == 0 ]] || ! grep -q "^test result: ok\. $count passed" "$room/said"; then
+        echo "unproved: of the $count tests of tests/ not all passed:" >&2
         cat "$room/said" >&2
         exit 1
     fi
-    echo "$1 tests of ${*:2} passed"
+    echo "$count tests of tests/ passed"
 }
 
 # run_program PROGRAM: as it was put, it writes what its file stdout has
@@ -47,7 +50,7 @@ is_quoted() {
     echo "README.md quotes $1"
 }
 
-run_tests 118 leaves kernels blocks flowgraphs plants threads graph_files streams terminal
+run_tests
 for bench in kernel_bench graph_bench thread_bench; do
     put_bench "$bench"
     run_program "$bench"

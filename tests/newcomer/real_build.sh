@@ -1,0 +1,59 @@
+# shellcheck shell=bash disable=SC2154
+# For tests/newcomer.sh to source: what ./build does with the toolchain itself, in a checkout of two low crates and a program over them.
+
+small=$room/small
+
+# writes_program BODY: the program of the small checkout, with this body of a function that gives the greatest byte
+writes_program() {
+    cat >"$small/crates/$program_crate/src/main.rt" <<END
+//! Prints the greatest byte.
+#![tactic(auto)]
+ghost use Rattle.std.specs.Prelude.{◌≡◌, pos};
+
+use numbers::range::greatest;
+use stream_model::ItemType;
+
+fn greatest_byte() -> i64
+    ensures { result ≡ pos 255 }
+{
+    $1
+}
+
+fn main(rt: HostRuntime) {
+    let byte = greatest_byte();
+    let _ = println!(rt; "{byte}");
+}
+END
+}
+
+copy_low_crates() {
+    local it
+    mkdir -p "$small/crates/$program_crate/src"
+    for it in build scripts HANDLES; do
+        cp -r -- "$top/$it" "$small/"
+    done
+    for it in stream_model numbers; do
+        tar -C "$top" --exclude="./crates/$it/out" -cf - "./crates/$it" | tar -C "$small" -xf -
+    done
+    printf '%s\n' stream_model: "numbers: stream_model" "$program_crate: stream_model numbers" >"$small/crates.txt"
+}
+
+# The program is refused where its clause is false, and built and linked where it is true; a second build proves nothing.
+real_build_proves_and_links() {
+    local it built=$small/crates/$program_crate/out/built/$program_crate
+    copy_low_crates
+    writes_program "greatest(ItemType::Short)"
+    calls 1 "$small/build"
+    grep -q "^build: $program_crate is NOT proved" "$room/errors" || wrong "a false clause is proved"
+    [[ ! -e $built ]] || wrong "a program is built that is not proved"
+    writes_program "greatest(ItemType::Byte)"
+    calls 0 "$small/build"
+    for it in stream_model numbers; do
+        grep -q " $it is proved already$" "$room/errors" || wrong "$it is proved again"
+    done
+    grep -q " $program_crate proved, " "$room/errors" || wrong "the program is not proved"
+    calls 0 "$built"
+    writes output 255
+    calls 0 "$small/build"
+    grep -q " $program_crate is proved already$" "$room/errors" || wrong "the program is proved again"
+}
