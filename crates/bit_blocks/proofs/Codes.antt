@@ -5,7 +5,7 @@ use Rattle.stream_model.specs.Lists.{item, numbers_from}
 use Rattle.stream_model.specs.Settings.{Held}
 use Rattle.stream_model.specs.Meaning.{Meaning, IsFed, input, given_items}
 use Rattle.items.specs.declared.stream_items.Items.{Items}
-use Rattle.settings.specs.declared.value.Held as lent
+use Rattle.block_kinds.specs.declared.single.Batch.{Batch}
 use Rattle.block_kinds.specs.Fill.{CanFill}
 use Rattle.block_kinds.specs.Shape.{IsPaced}
 use Rattle.block_kinds.proofs.Fills.{paced, there-fill, length-paced, item-paced}
@@ -61,13 +61,13 @@ module _ {m : Meaning} {start : ℕ} {is_word : ℕ → Type 0} {gives next : �
   long {ts} {xs} {first} {n} {state} {w} {hs} fed = length-paced m 1 1 pace ts xs first n state w hs fed ∙ omega (arith, one)
 
   -- what is lent to such a block is room for its code
-  pub code-can : {first n state : ℕ} {window : Items} {held : List lent.Held} {out : Items} → CanFill m first n state window held out → CanCode window out
-  code-can {first} {n} can =
+  pub code-can : {b : Batch} {out : Items} → CanFill m b out → CanCode b.window.now out
+  code-can {b} can =
       record {
         from = can.item ∙ ap (λ (m : Meaning). m.inputs.item) is.of_bytes;
         to = can.ready.item ∙ ap (λ (m : Meaning). m.outputs.item) is.of_bytes;
         empty = can.ready.empty;
-        room = omega (arith, long can.fed, can.ready.room, pace.given first, pace.given (first + n));
+        room = omega (arith, long can.fed, can.ready.room, pace.given b.first, pace.given (b.first + b.count));
       }
 
 module _ {m : Meaning} {start : ℕ} {is_word : ℕ → Type 0} {gives next : ℕ → ℤ → ℕ} (is : IsCode m start is_word gives next)

@@ -6,6 +6,7 @@ use Rattle.std.proofs.Common.{arith}
 use Rattle.stream_model.specs.Meaning.{Meaning}
 use Rattle.stream_model.specs.Kinds.Bits.{diff_decoder, diff_encoder}
 use Rattle.bit_blocks.specs.declared.k_bits.KBits.{KBits}
+use Rattle.bit_blocks.specs.declared.modulus.Modulus.{Modulus}
 use Rattle.bit_blocks.specs.declared.register.Register.{Register}
 use Rattle.bit_blocks.specs.declared.register_block.RegisterBlock.{RegisterBlock}
 use Rattle.bit_blocks.specs.declared.diff_encoder.DiffEncoder.{DiffEncoder}
@@ -16,16 +17,14 @@ abbrev pub k_bits_of : {P : _} → (ℕ → Meaning) → KBits P → Meaning
 k_bits_of meant b = meant b.k
 
 abbrev pub diff_decoder_of : DiffDecoder → Meaning
-diff_decoder_of b = diff_decoder b.modulus
-
-pub some_of : (b : DiffDecoder) → 1 ≤ b.modulus
-some_of b = let two = b.some in omega arith
+diff_decoder_of b = diff_decoder b.modulus.value
 
 abbrev pub diff_encoder_of : DiffEncoder → Meaning
-diff_encoder_of b = diff_encoder b.modulus
+diff_encoder_of b = diff_encoder b.modulus.value
 
-pub some_encoded : (b : DiffEncoder) → 1 ≤ b.modulus
-some_encoded b = let two = b.some in omega arith
+-- a modulus is not 0
+pub some_modulus : (m : Modulus) → 1 ≤ m.value
+some_modulus m = let two = m.some in omega arith
 
 -- a block with a register, of which this is the equation by the register's bits, its mask and what it holds at first
 abbrev pub register_block_of : {S : _} → (ℕ → ℕ → ℕ → Meaning) → RegisterBlock S → Meaning

@@ -1,10 +1,7 @@
 //! The block that adds the bits of a shift register with feedback to its input.
 
-use crate::code::code;
-use crate::register::Register;
 use crate::register_block::RegisterBlock;
-use crate::scrambling::{Feed, Scrambling, Shifting};
-use items::Items;
+use crate::scrambling::{Feed, Scrambling};
 
 /// An additive scrambler: each output is the input plus the next bit of a shift register with feedback, modulo 2. Only the lowest bit of a byte
 /// counts. GNU Radio's `additive_scrambler_bb` has the bits of its register in front of this sequence.
@@ -30,10 +27,6 @@ impl Scrambling for OwnFeed {
     ghost use Rattle.bit_blocks.specs.Scrambled.{additive_scrambler-coded};
 
     ghost equation = { additive_scrambler };
-
-    fn code(register: &Register, start: u64, items: &Items, out: &mut Items) -> u64 {
-        code(Shifting::<OwnFeed>::new(register), start, items, out)
-    }
 
     ghost coded = { additive_scrambler-coded };
 

@@ -2,7 +2,8 @@
 ghost use Rattle.std.specs.Prelude.{◌≡◌, ◌≤◌, ◌↔◌, IsOk, IfOk, IfErr};
 ghost use Rattle.stream_model.specs.Kinds.Bits.{diff_decoder};
 
-use block_kinds::{Block, ByPace, Held, ParamFault, Parameter, Shape, Single, work_single};
+use crate::modulus::Modulus;
+use block_kinds::{Batch, Block, ByPace, Held, ParamFault, Parameter, Shape, Single, work_single};
 use items::{ItemType, Items};
 use lane_filters::diff_decode;
 use lane_work::{ByteWork, make_bytes};
@@ -10,9 +11,7 @@ use lane_work::{ByteWork, make_bytes};
 /// The difference of each byte and the one before it, modulo `modulus`, as GNU Radio's `diff_decoder_bb`.
 #[derive(Debug, Drop, PartialEq, Eq)]
 pub struct DiffDecoder {
-    modulus: u32,
-    ghost some: { 2 ≤ modulus },
-    ghost few: { modulus ≤ 256 },
+    modulus: Modulus,
 }
 
 impl DiffDecoder {
@@ -24,10 +23,9 @@ impl DiffDecoder {
         ensures range { IsOk result ↔ ((2 ≤ modulus) × (modulus ≤ 256)) }
         ensures err { IfErr result (λ fault. fault ≡ ParamFault.BadParameter Parameter.Modulus) }
     {
-        if modulus < 2 || 256 < modulus {
-            return Err(ParamFault::BadParameter(Parameter::Modulus));
-        }
-        Ok(DiffDecoder { modulus })
+        Ok(DiffDecoder {
+            modulus: Modulus::new(modulus)?,
+        })
     }
 }
 
@@ -38,10 +36,10 @@ impl ByteWork for DiffDecoder {
 
     ghost can_make = { λ b xs count. length xs ≡ 1 + count };
 
-    ghost makes = { λ b xs count. kernels.diff_decode b.modulus (item xs 0) (drop 1 xs) };
+    ghost makes = { λ b xs count. kernels.diff_decode b.modulus.value (item xs 0) (drop 1 xs) };
 
     fn make(&self, items: &[u8], out: &mut [u8]) {
-        diff_decode(self.modulus, items[0], &items[1..], out);
+        diff_decode(self.modulus.value, items[0], &items[1..], out);
     }
 }
 
@@ -51,16 +49,8 @@ impl Single for DiffDecoder {
 
     ghost equation = { diff_decoder_of };
 
-    fn fill(
-        &self,
-        _state: u64,
-        _first: u64,
-        count: u64,
-        window: &Items,
-        _held: &[Held],
-        out: &mut Items,
-    ) -> u64 {
-        make_bytes(self, window, count as usize, out);
+    fn fill(&self, batch: &Batch<'_>, out: &mut Items) -> u64 {
+        make_bytes(self, batch.window, batch.count as usize, out);
         0
     }
 
@@ -69,10 +59,10 @@ impl Single for DiffDecoder {
 
 impl Block for DiffDecoder {
     ghost use Rattle.std.proofs.Common.{ap};
+    ghost use Rattle.stream_model.specs.Kinds.Bits.{diff_decoder};
     ghost use Rattle.kind_laws.specs.Bits.{diff_decoder-lawful};
     ghost use Rattle.block_kinds.specs.SameItem.{same_number};
-    ghost use Rattle.bit_blocks.specs.Kinds.{diff_decoder_of, some_of};
-    ghost use Rattle.stream_model.specs.Kinds.Bits.{diff_decoder};
+    ghost use Rattle.bit_blocks.specs.Kinds.{diff_decoder_of, some_modulus};
 
     ghost meaning = { diff_decoder_of };
 
@@ -97,7 +87,7 @@ impl Block for DiffDecoder {
         work_single(self, state, first, count, windows, held, out)
     }
 
-    ghost lawful = { λ b. diff_decoder-lawful b.modulus (some_of b) b.few };
+    ghost lawful = { λ b. diff_decoder-lawful b.modulus.value (some_modulus b.modulus) b.modulus.few };
 
-    ghost same = { λ a b e. ap diff_decoder (same_number a.modulus b.modulus e) };
+    ghost same = { λ a b e. ap diff_decoder (same_number a.modulus.value b.modulus.value e) };
 }

@@ -4,15 +4,14 @@ ghost use Rattle.bit_blocks.specs.Codes.{summed, CanCode, HasCoded};
 ghost use Rattle.stream_model.specs.Kinds.Bits.{diff_encoder};
 
 use crate::code::{Coder, code};
-use block_kinds::{Block, ByPace, Held, ParamFault, Parameter, Shape, Single, work_single};
+use crate::modulus::Modulus;
+use block_kinds::{Batch, Block, ByPace, Held, ParamFault, Parameter, Shape, Single, work_single};
 use items::{ItemType, Items};
 
 /// The sum of all bytes so far, modulo `modulus`, as GNU Radio's `diff_encoder_bb`.
 #[derive(Debug, Drop, PartialEq, Eq)]
 pub struct DiffEncoder {
-    modulus: u32,
-    ghost some: { 2 ≤ modulus },
-    ghost few: { modulus ≤ 256 },
+    modulus: Modulus,
 }
 
 impl DiffEncoder {
@@ -24,35 +23,27 @@ impl DiffEncoder {
         ensures range { IsOk result ↔ ((2 ≤ modulus) × (modulus ≤ 256)) }
         ensures err { IfErr result (λ fault. fault ≡ ParamFault.BadParameter Parameter.Modulus) }
     {
-        if modulus < 2 || 256 < modulus {
-            return Err(ParamFault::BadParameter(Parameter::Modulus));
-        }
-        Ok(DiffEncoder { modulus })
+        Ok(DiffEncoder {
+            modulus: Modulus::new(modulus)?,
+        })
     }
 }
 
-// The steps of a sum modulo a number.
-#[derive(Clone, Copy)]
-struct Summing {
-    modulus: u32,
-    ghost some: { 2 ≤ modulus },
-    ghost few: { modulus ≤ 256 },
-}
-
-impl Coder for Summing {
+// The code of the sums by a modulus.
+impl Coder for Modulus {
     ghost use Rattle.std.specs.Prelude.{◌<◌};
     ghost use Rattle.bit_blocks.specs.Codes.{summed};
 
-    ghost is_word = { λ b word. word < b.modulus };
+    ghost is_word = { λ b word. word < b.value };
 
-    ghost gives = { λ b. summed b.modulus };
+    ghost gives = { λ b. summed b.value };
 
-    ghost next = { λ b. summed b.modulus };
+    ghost next = { λ b. summed b.value };
 
     // The byte is divided, which waits for no other step, and not the sum.
     fn step(self, word: u64, byte: u8) -> (u8, u64) {
-        let modulus = u64::from(self.modulus);
-        let sum = word + u64::from(u32::from(byte) % self.modulus);
+        let modulus = u64::from(self.value);
+        let sum = word + u64::from(u32::from(byte) % self.value);
         let sum = if sum < modulus { sum } else { sum - modulus };
         (sum as u8, sum)
     }
@@ -60,20 +51,18 @@ impl Coder for Summing {
 
 // Writes the sums of the items, from a sum on, into an empty `out` with room for it, and answers the last sum. Where the compiler knows the
 // modulus, it needs no division.
-fn sum_items(modulus: u32, state: u64, items: &Items, out: &mut Items) -> u64
-    requires some { 2 ≤ modulus }
-    requires few { modulus ≤ 256 }
-    requires word { state < modulus }
+fn sum_items(modulus: Modulus, state: u64, items: &Items, out: &mut Items) -> u64
+    requires word { state < modulus.value }
     requires can { CanCode items.now out.old }
-    ensures { HasCoded (summed modulus) (summed modulus) state items.now out.new result }
+    ensures { HasCoded (summed modulus.value) (summed modulus.value) state items.now out.new result }
 {
-    match modulus {
-        2 => code(Summing { modulus: 2 }, state, items, out),
-        4 => code(Summing { modulus: 4 }, state, items, out),
-        8 => code(Summing { modulus: 8 }, state, items, out),
-        16 => code(Summing { modulus: 16 }, state, items, out),
-        256 => code(Summing { modulus: 256 }, state, items, out),
-        _ => code(Summing { modulus }, state, items, out),
+    match modulus.value {
+        2 => code(Modulus { value: 2 }, state, items, out),
+        4 => code(Modulus { value: 4 }, state, items, out),
+        8 => code(Modulus { value: 8 }, state, items, out),
+        16 => code(Modulus { value: 16 }, state, items, out),
+        256 => code(Modulus { value: 256 }, state, items, out),
+        _ => code(modulus, state, items, out),
     }
 }
 
@@ -83,16 +72,8 @@ impl Single for DiffEncoder {
 
     ghost equation = { diff_encoder_of };
 
-    fn fill(
-        &self,
-        state: u64,
-        _first: u64,
-        _count: u64,
-        window: &Items,
-        _held: &[Held],
-        out: &mut Items,
-    ) -> u64 {
-        sum_items(self.modulus, state, window, out)
+    fn fill(&self, batch: &Batch<'_>, out: &mut Items) -> u64 {
+        sum_items(self.modulus, batch.state, batch.window, out)
     }
 
     ghost single = { λ b. record { in_least = refl; in_most = refl; out_least = refl; out_most = refl } };
@@ -100,10 +81,10 @@ impl Single for DiffEncoder {
 
 impl Block for DiffEncoder {
     ghost use Rattle.std.proofs.Common.{ap};
+    ghost use Rattle.stream_model.specs.Kinds.Bits.{diff_encoder};
     ghost use Rattle.kind_laws.specs.Bits.{diff_encoder-lawful};
     ghost use Rattle.block_kinds.specs.SameItem.{same_number};
-    ghost use Rattle.bit_blocks.specs.Kinds.{diff_encoder_of, some_encoded};
-    ghost use Rattle.stream_model.specs.Kinds.Bits.{diff_encoder};
+    ghost use Rattle.bit_blocks.specs.Kinds.{diff_encoder_of, some_modulus};
 
     ghost meaning = { diff_encoder_of };
 
@@ -125,7 +106,7 @@ impl Block for DiffEncoder {
         work_single(self, state, first, count, windows, held, out)
     }
 
-    ghost lawful = { λ b. diff_encoder-lawful b.modulus (some_encoded b) b.few };
+    ghost lawful = { λ b. diff_encoder-lawful b.modulus.value (some_modulus b.modulus) b.modulus.few };
 
-    ghost same = { λ a b e. ap diff_encoder (same_number a.modulus b.modulus e) };
+    ghost same = { λ a b e. ap diff_encoder (same_number a.modulus.value b.modulus.value e) };
 }

@@ -2,7 +2,9 @@
 ghost use Rattle.std.specs.Prelude.{◌≡◌, ◌≤◌, ◌↔◌, IsOk, IfOk, IfErr};
 
 use crate::packing::Packing;
-use block_kinds::{Block, ByPace, Held, ParamFault, Parameter, Shape, Single, ports, work_single};
+use block_kinds::{
+    Batch, Block, ByPace, Held, ParamFault, Parameter, Shape, Single, ports, work_single,
+};
 use items::{ItemType, Items};
 use lane_work::{ByteWork, make_bytes};
 use std::marker::PhantomData;
@@ -55,17 +57,9 @@ impl<P: Packing> Single for KBits<P> {
 
     ghost equation = { k_bits_of P.equation };
 
-    fn fill(
-        &self,
-        _state: u64,
-        _first: u64,
-        count: u64,
-        window: &Items,
-        _held: &[Held],
-        out: &mut Items,
-    ) -> u64 {
+    fn fill(&self, batch: &Batch<'_>, out: &mut Items) -> u64 {
         let (_taken, given) = P::pace(self.k);
-        make_bytes(self, window, (given * count) as usize, out);
+        make_bytes(self, batch.window, (given * batch.count) as usize, out);
         0
     }
 

@@ -7,6 +7,7 @@ pub mod descrambler;
 pub mod diff_decoder;
 pub mod diff_encoder;
 pub mod k_bits;
+mod modulus;
 pub mod pack_k_bits;
 mod packing;
 pub mod register;

@@ -3,7 +3,7 @@ ghost use Rattle.std.specs.Prelude.{◌≡◌};
 
 use crate::register::Register;
 use crate::scrambling::Scrambling;
-use block_kinds::{Block, ByPace, Held, Shape, Single, work_single};
+use block_kinds::{Batch, Block, ByPace, Held, Shape, Single, work_single};
 use items::{ItemType, Items};
 use std::marker::PhantomData;
 
@@ -36,16 +36,8 @@ impl<S: Scrambling> Single for RegisterBlock<S> {
 
     ghost equation = { register_block_of S.equation };
 
-    fn fill(
-        &self,
-        state: u64,
-        _first: u64,
-        _count: u64,
-        window: &Items,
-        _held: &[Held],
-        out: &mut Items,
-    ) -> u64 {
-        S::code(&self.register, state, window, out)
+    fn fill(&self, batch: &Batch<'_>, out: &mut Items) -> u64 {
+        S::code(&self.register, batch.state, batch.window, out)
     }
 
     ghost single = { λ b. code-single (S.coded b.register.bits b.register.mask b.register.init b.register.is.bits_least) };

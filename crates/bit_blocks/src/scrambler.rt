@@ -1,10 +1,7 @@
 //! The block that scrambles bits: each output is the input with earlier outputs.
 
-use crate::code::code;
-use crate::register::Register;
 use crate::register_block::RegisterBlock;
-use crate::scrambling::{Feed, Scrambling, Shifting};
-use items::Items;
+use crate::scrambling::{Feed, Scrambling};
 
 /// A multiplicative scrambler: each output is the input plus earlier outputs, modulo 2. Only the lowest bit of a byte counts. GNU Radio's
 /// `scrambler_bb` gives the bits of its register first.
@@ -30,10 +27,6 @@ impl Scrambling for OutputFeed {
     ghost use Rattle.bit_blocks.specs.Scrambled.{scrambler-coded};
 
     ghost equation = { scrambler };
-
-    fn code(register: &Register, start: u64, items: &Items, out: &mut Items) -> u64 {
-        code(Shifting::<OutputFeed>::new(register), start, items, out)
-    }
 
     ghost coded = { scrambler-coded };
 

@@ -3,7 +3,7 @@ ghost use Rattle.std.specs.Prelude.{◌≡◌, ◌^◌, ◌<◌, ◌≤◌, ◌-
 ghost use Rattle.stream_model.specs.Meaning.{Meaning, IsLawful};
 ghost use Rattle.bit_blocks.specs.Codes.{given_bit, fed_register, IsCode, CanCode, HasCoded};
 
-use crate::code::Coder;
+use crate::code::{Coder, code};
 use crate::register::{Register, Taps};
 use items::Items;
 use std::marker::PhantomData;
@@ -22,7 +22,7 @@ pub trait Feed {
 }
 
 /// The kinds of blocks with a shift register.
-pub trait Scrambling: Feed + Drop {
+pub trait Scrambling: Feed + Drop + Sized {
     /// What a block means by its register: the bits, the mask and what it holds at first.
     ghost equation: { ℕ → ℕ → ℕ → Meaning };
 
@@ -30,7 +30,10 @@ pub trait Scrambling: Feed + Drop {
     fn code(register: &Register, start: u64, items: &Items, out: &mut Items) -> u64
         requires word { start < 2 ^ register.now.bits }
         requires can { CanCode items.now out.old }
-        ensures { HasCoded (given_bit register.now.bits register.now.mask) (fed_register Self.fed register.now.bits register.now.mask) start items.now out.new result };
+        ensures { HasCoded (given_bit register.now.bits register.now.mask) (fed_register Self.fed register.now.bits register.now.mask) start items.now out.new result }
+    {
+        code(Shifting::<Self>::new(register), start, items, out)
+    }
 
     /// The equation is this code of bytes, from what the register holds at first on.
     ghost coded: { (bits mask init : ℕ) → 2 ≤ bits

@@ -5,7 +5,7 @@ use Rattle.std.proofs.lemmas.List.Elements.{All-nil, All-cons}
 use Rattle.std.proofs.lemmas.Bool.{cases_lt, eqb-true, eqb-false}
 use Rattle.std.proofs.lemmas.Bool.Decides.{nat_tests}
 use Rattle.stream_model.specs.Lists.{numbers_from}
-use Rattle.stream_model.specs.Settings.{Value, Held, latest, setting_at, in_force, made_at, between}
+use Rattle.stream_model.specs.Settings.{Value, Held, latest, setting_at, made_at, between}
 use Rattle.block_kinds.specs.InForce.{AreRising, AreOver}
 
 -- what holds of both cases of a test holds of the choice

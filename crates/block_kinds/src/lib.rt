@@ -12,5 +12,5 @@ pub use fault::{ParamFault, Parameter};
 pub use placing::{ByPace, Placing};
 pub use settings::{Held, Taps, Value};
 pub use shape::{Pace, Setting, Shape, any_ports, ports};
-pub use single::{Single, work_single};
+pub use single::{Batch, Single, work_single};
 pub use stream_model::{Policy, Role, Shift, Signature, Wanted};

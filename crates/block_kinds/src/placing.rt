@@ -13,6 +13,7 @@ pub trait Placing<B> {
 }
 
 /// The places of blocks whose paces say where tags go. With `Pace::Placed` a tag would stay on the item of its number.
+#[derive(Debug)]
 pub struct ByPace;
 
 impl<B> Placing<B> for ByPace {

@@ -9,28 +9,33 @@ ghost use Rattle.block_kinds.specs.Work.{CanWork, HasWorked, IsWorkOf};
 use items::Items;
 use settings::Held;
 
+/// A batch of firings of a block with one input and one output: those that one call does.
+#[derive(Clone, Copy, Debug)]
+pub struct Batch<'a> {
+    /// The number of its first firing.
+    pub first: u64,
+    /// How many firings it has.
+    pub count: u64,
+    /// The state word before them.
+    pub state: u64,
+    /// The items that they take, behind the past that they read.
+    pub window: &'a Items,
+    /// The settings in force over these items.
+    pub held: &'a [Held],
+}
+
 /// A block with one input, or a source, and one output.
 pub trait Single {
     /// What the block means.
     ghost equation: { Self → Meaning };
 
-    /// Does firings `first` to below `first + count`: writes what they give into the empty `out`, and returns the state
-    /// word after them. `state` is the word before them, `window` has the items that they take behind the past that they
-    /// read, and `held` the settings in force over these items. It takes no memory.
-    fn fill(
-        &self,
-        state: u64,
-        first: u64,
-        count: u64,
-        window: &Items,
-        held: &[Held],
-        out: &mut Items,
-    ) -> u64
-        requires { CanFill (equation self.now) first count state window.now held.now out.old }
-        ensures items { HasFilled (equation self.now) first count state window.now held.now out.new }
+    /// Does the firings of a batch: writes what they give into the empty `out`, and returns the state word after them. It takes no memory.
+    fn fill(&self, batch: &Batch<'_>, out: &mut Items) -> u64
+        requires { CanFill (equation self.now) batch.now out.old }
+        ensures items { HasFilled (equation self.now) batch.now out.new }
         ensures item_type { type_of out.new ≡ type_of out.old }
-        ensures word { (ts : List model.Held) (xs : List (List ℤ)) → IsFillOf (equation self.now) ts xs first count state window.now held.now
-            → result ≡ (equation self.now).word ts xs (first + count) };
+        ensures word { (ts : List model.Held) (xs : List (List ℤ)) → IsFillOf (equation self.now) ts xs batch.now
+            → result ≡ (equation self.now).word ts xs (batch.now.first + batch.now.count) };
 
     /// The block has these ports.
     ghost single: { (b : Self) → IsSingle (equation b) };
@@ -51,5 +56,12 @@ pub fn work_single<S: Single>(
     ensures word { (ts : List model.Held) (xs : List (List ℤ)) → IsWorkOf (S.equation block.now) ts xs first count state windows.now held.now
         → result ≡ (S.equation block.now).word ts xs (first + count) }
 {
-    block.fill(state, first, count, &windows[0], held, &mut out[0])
+    let batch = Batch {
+        first,
+        count,
+        state,
+        window: &windows[0],
+        held,
+    };
+    block.fill(&batch, &mut out[0])
 }

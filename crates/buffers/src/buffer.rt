@@ -15,6 +15,7 @@ use crate::rings::Rings;
 use items::{ItemType, Items};
 use ring_readers::{Reader, RingFault};
 use std::alloc::{AllocError, Global};
+use std::fmt;
 use std::marker::Model;
 use tags::{Tag, Tags};
 
@@ -31,6 +32,12 @@ impl Drop for Buffer {
         let Buffer { rings, tags } = self;
         drop(rings);
         drop(tags);
+    }
+}
+
+impl fmt::Debug for Buffer {
+    fn fmt<W: fmt::Write>(&self, f: &mut fmt::Formatter<W>) -> fmt::Result {
+        f.debug_struct("Buffer").finish_non_exhaustive()
     }
 }
 

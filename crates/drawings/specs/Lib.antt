@@ -1,5 +1,4 @@
 pub mod Pieces
-pub mod KindNames
 pub mod Parts
 pub mod Words
 pub mod Dot

@@ -3,14 +3,13 @@ use Rattle.std.specs.Prelude.{ℕ, List, [], length, Option, Some, None, slice_g
 use Rattle.std.specs.Option.{option_map}
 use Rattle.stream_model.specs.declared.vocabulary.ItemType.{ItemType}
 use Rattle.stream_model.specs.Network as model
-use Rattle.stream_model.specs.Network.{Network, no_connection, node_at, writers_of, used_outputs}
+use Rattle.stream_model.specs.Network.{no_connection, node_at, writers_of, used_outputs}
 use Rattle.stream_model.specs.Machine.{Capacities, capacity_at}
 use Rattle.graph_model.specs.Rates.{Balance, Balanced, Uneven, TooLarge}
 use Rattle.flowgraph.specs.Flowgraph.{Flowgraph, net_of}
 use Rattle.kinds.specs.declared.kind.Kind.{Kind}
 use Rattle.kinds.specs.Kind.{meaning_of}
-use Rattle.kind_keys.specs.Kinds.{kind_text}
-use Rattle.drawings.specs.KindNames.{kind_of}
+use Rattle.kinds.specs.KindNames.{kind_text, name_of}
 use Rattle.drawings.specs.declared.parts.DrawnBlock.{DrawnBlock}
 use Rattle.drawings.specs.declared.parts.DrawnEnd.{DrawnEnd}
 use Rattle.drawings.specs.declared.parts.DrawnConnection.{DrawnConnection}
@@ -56,7 +55,7 @@ name_at g b = slice_index_or g.names b []
 -- the name of the kind of a block, if there is one
 abbrev pub kind_shown : Option Kind → List ℕ
 kind_shown None = []
-kind_shown (Some k) = kind_text (kind_of k)
+kind_shown (Some k) = kind_text (name_of k)
 
 -- the name of the kind of block b
 abbrev pub kind_at : Flowgraph Kind → ℕ → List ℕ

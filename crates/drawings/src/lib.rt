@@ -3,7 +3,6 @@
 
 mod dot;
 pub mod drawing;
-mod kind_names;
 mod mermaid;
 mod parts;
 mod pieces;

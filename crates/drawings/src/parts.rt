@@ -6,7 +6,6 @@ ghost use Rattle.kinds.specs.Kind.{meaning_of};
 ghost use Rattle.rates.specs.Answer.{answer_of, sizes_of};
 ghost use Rattle.drawings.specs.Parts.{box_seen, end_seen, arrow_seen, box_at, end_at, arrow_of, firings_at};
 
-use crate::kind_names::kind_name;
 use block_kinds::Block;
 use flowgraph::{BlockId, Connection, Valid};
 use kinds::Kind;
@@ -56,7 +55,7 @@ pub(crate) fn drawn_block<'a>(
 {
     DrawnBlock {
         name: graph.name(block),
-        kind: kind_name(graph.block(block)).text().as_bytes(),
+        kind: graph.block(block).name().text().as_bytes(),
         firings: firings_of(rates, block),
         inputs: graph.inputs(block).len(),
         outputs: graph.outputs(block),

@@ -4,8 +4,9 @@ use crate::entries::{Entry, entries_of};
 use crate::frame::Finding;
 use crate::tokens::{Mark, Span, next_token, part, rest};
 use graph_file::FilePlace;
+use kind_keys::Key;
 use kind_keys::table::{text_at, values_at};
-use kind_keys::{Key, KindName};
+use kinds::KindName;
 use std::alloc::{AllocError, Global};
 use toml::{Table, Value};
 

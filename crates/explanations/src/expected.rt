@@ -5,7 +5,8 @@ use block_kinds::Parameter;
 use graph_file::FilePlace;
 use items::ItemType;
 use kind_keys::table::{small_at, type_at};
-use kind_keys::{Key, KindName, ValueForm};
+use kind_keys::{Key, ValueForm, keys_of};
+use kinds::KindName;
 use std::alloc::{AllocError, Global};
 
 const ANY_TYPE: &str = "\"byte\", \"short\" or \"int\"";
@@ -32,7 +33,7 @@ pub(crate) fn known_keys(document: &Document<'_>, place: FilePlace) -> &'static 
     match place {
         FilePlace::Top => &[Key::Block, Key::Connect, Key::Feed],
         FilePlace::Block(_) => match document.kind_at(place) {
-            Some(kind) => kind.keys(),
+            Some(kind) => keys_of(kind),
             None => &[Key::Name, Key::Kind],
         },
         FilePlace::Connect(_) => &[Key::From, Key::To, Key::FromPort, Key::ToPort],

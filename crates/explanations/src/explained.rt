@@ -1,24 +1,14 @@
 //! Why a graph file is refused, shown at its place.
-ghost use Rattle.std.specs.Prelude.{◌≡◌, ◌↔◌, Some, IfOk, IsNone, IsSome};
-ghost use Rattle.graph_file.specs.Refusals.{told};
-ghost use Rattle.explanations.specs.Explained.{IsAccepted};
+ghost use Rattle.std.specs.Prelude.{◌↔◌, IfOk, IsNone};
+ghost use Rattle.graph_file.specs.Accepted.{IsAccepted};
 
 use crate::document::Document;
 use crate::feed_faults::feed_finding;
 use crate::frame::{Finding, framed};
 use crate::graph_faults::{graph_finding, negative_finding};
 use crate::table_faults::table_finding;
-use graph_file::{FileFault, read_graph};
+use graph_file::{Depth, FileFault, fault_of};
 use std::alloc::{AllocError, Global};
-
-/// How far a file is read.
-#[derive(Clone, Copy, Debug, PartialEq, Eq)]
-pub enum Depth {
-    /// Up to its valid graph.
-    Graph,
-    /// Up to its plant, with the feeds on the tapes.
-    Plant,
-}
 
 /// Where and why a graph file of this name is refused, in lines that show the place, or `None` where it is not.
 pub fn explain(
@@ -35,36 +25,6 @@ pub fn explain(
             let finding = finding_of(alloc, text, &fault)?;
             Ok(Some(framed(alloc, name, text, 1, &finding)?))
         }
-    }
-}
-
-// Why a file is refused.
-fn fault_of(alloc: Global, text: &[u8], depth: Depth) -> Result<Option<FileFault>, AllocError>
-    ensures { IfOk result (λ fault. IsNone fault ↔ IsAccepted depth text.now) }
-{
-    let file = match read_graph(alloc, text) {
-        Ok(file) => file,
-        Err(fault) => return unless_memory(fault),
-    };
-    match depth {
-        Depth::Graph => match file.validate(alloc) {
-            Ok(_) => Ok(None),
-            Err(fault) => unless_memory(fault),
-        },
-        Depth::Plant => match file.open(alloc) {
-            Ok(_) => Ok(None),
-            Err(fault) => unless_memory(fault),
-        },
-    }
-}
-
-// A fault that says something of the file.
-fn unless_memory(fault: FileFault) -> Result<Option<FileFault>, AllocError>
-    ensures { IfOk result (λ kept. (kept ≡ Some fault) × IsSome (told fault)) }
-{
-    match fault {
-        FileFault::Memory => Err(AllocError),
-        fault => Ok(Some(fault)),
     }
 }
 

@@ -15,6 +15,6 @@ mod ports;
 mod table_faults;
 mod tokens;
 
-pub use explained::{Depth, explain};
+pub use explained::explain;
 pub use lines::KeptLines;
 pub use noted::{Noted, at_device};

@@ -10,7 +10,8 @@ use crate::tokens::part;
 use block_kinds::Parameter;
 use graph_file::FilePlace;
 use kind_keys::table::{text_at, value_at};
-use kind_keys::{Key, KeyFault, KindName, ValueForm};
+use kind_keys::{Key, KeyFault, ValueForm};
+use kinds::KindName;
 use std::alloc::AllocError;
 use toml::Value;
 

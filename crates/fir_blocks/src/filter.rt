@@ -6,7 +6,9 @@ use crate::filter_rate::FilterRate;
 use crate::parameters::first_bad;
 use crate::polyphase::Polyphase;
 use crate::stretch::filter_items;
-use block_kinds::{Block, ByPace, Held, ParamFault, Setting, Shape, Single, ports, work_single};
+use block_kinds::{
+    Batch, Block, ByPace, Held, ParamFault, Setting, Shape, Single, ports, work_single,
+};
 use items::{ItemType, Items};
 use numbers::vectors::narrowed;
 use std::alloc::Global;
@@ -75,16 +77,15 @@ impl<R: FilterRate> Single for Filter<R> {
 
     ghost equation = { filter_of R.equation };
 
-    fn fill(
-        &self,
-        _state: u64,
-        first: u64,
-        count: u64,
-        window: &Items,
-        held: &[Held],
-        out: &mut Items,
-    ) -> u64 {
-        filter_items(&self.polyphase(), window, held, first, count as usize, out);
+    fn fill(&self, batch: &Batch<'_>, out: &mut Items) -> u64 {
+        filter_items(
+            &self.polyphase(),
+            batch.window,
+            batch.held,
+            batch.first,
+            batch.count as usize,
+            out,
+        );
         0
     }
 

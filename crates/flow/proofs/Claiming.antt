@@ -25,7 +25,8 @@ use Rattle.plant.specs.Answers.{takes_memory}
 use Rattle.script_text.specs.Replies.{line_text, claimed_text}
 use Rattle.plant.specs.Plant.{PlantState}
 use Rattle.flow.specs.Session.{SessionState, KeepsJobs, IsFlying, Gives, is_there, kept_in, kept_by, told, give_back, reply_line, none_kept}
-use Rattle.flow.proofs.Flying.{Leaves, claims, block_of, call_leaves}
+use Rattle.machine_laws.proofs.Claiming.{claims}
+use Rattle.flow.proofs.Flying.{Leaves, block_of, call_leaves}
 
 not_same : (b c : ℕ) → (b == c) ≡ false → c ≡ b → ⊥
 not_same b c e same = let yes : nat_eq b b ≡ false = ap (λ k. nat_eq b k) (sym same) ∙ e in let no = nat_eq_equiv.refl b in absurd (let contrary : true ≡ false = sym no ∙ yes in cc)

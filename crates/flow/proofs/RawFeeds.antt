@@ -5,7 +5,7 @@ use Rattle.stream_model.specs.declared.vocabulary.ItemType.{ItemType}
 use Rattle.stream_model.specs.Network.{Network, State, Handed, nothing_handed, node_at, handed_at, role_at, is_source}
 use Rattle.stream_model.specs.Numbers.{types_agree}
 use Rattle.stream_model.specs.Machine as machine
-use Rattle.stream_model.specs.Machine.{Reply, Fed, Refused, with_handed, with_tape, feed_of, longest_tape, marks_fit}
+use Rattle.stream_model.specs.Machine.{Reply, Fed, Refused, with_handed, with_tape, feed_of, longest_tape}
 use Rattle.machine_laws.proofs.Choices.{if_both, not_false}
 use Rattle.plant.specs.declared.fault.PlantFault.{PlantFault}
 use Rattle.plant.specs.declared.fault.PlantFault.TheVariants as plant

@@ -11,7 +11,7 @@ use Rattle.std.proofs.lemmas.Str.{IsUtf8-from_is_utf8, is_utf8-from_IsUtf8}
 use Rattle.toml.specs.Parse.{parse_document}
 use Rattle.stream_model.specs.Network.{Network, State, role_at, is_source, opening}
 use Rattle.stream_model.specs.Machine as machine
-use Rattle.stream_model.specs.Machine.{Reply, Refused, close_of, feed_of, is_idle, marks_fit, longest_tape}
+use Rattle.stream_model.specs.Machine.{Reply, Refused, is_idle}
 use Rattle.stream_model.specs.Tags.{Mark}
 use Rattle.machine_laws.proofs.Choices.{if_both}
 use Rattle.plant.specs.Feeding.{are_items, given_type, feed_numbers}

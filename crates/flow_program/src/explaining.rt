@@ -1,8 +1,9 @@
 //! What stands behind the line of a refusal, where the words ask for it. Where memory runs out, nothing does.
 
 use crate::words::Call;
-use explanations::{Depth, KeptLines, at_device, explain};
+use explanations::{KeptLines, at_device, explain};
 use flow::serve::Action;
+use graph_file::Depth;
 use script_text::ByteIn;
 use std::io::Error;
 

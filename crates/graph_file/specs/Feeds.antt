@@ -12,7 +12,7 @@ use Rattle.graph_file.specs.declared.feed.Feed.{Feed}
 use Rattle.graph_file.specs.Refusals.{Refusal, at_table}
 use Rattle.graph_file.specs.Steps.{unless}
 use Rattle.graph_file.specs.Connections.{only_fault}
-use Rattle.graph_file.specs.Names.{tag_key_of}
+use Rattle.items.specs.Name.{name_of}
 
 -- what is fed: the name of a source, its items, and its tags
 pub record Fed : Type 0 where
@@ -36,7 +36,7 @@ mark_with (Some key) ms = Some (record { at = number_at ms keys.MarkAt; key = ke
 -- the same, where nothing is wrong with the table
 abbrev pub mark_without : Option KeyFault → Members → Option FileMark
 mark_without (Some fault) ms = None
-mark_without None ms = mark_with (tag_key_of (text_at ms keys.MarkKey)) ms
+mark_without None ms = mark_with (name_of 16 (text_at ms keys.MarkKey)) ms
 
 -- the tag of a table, where it is one
 abbrev pub mark_in : Option Members → Option FileMark

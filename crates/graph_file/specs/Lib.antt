@@ -3,7 +3,7 @@ pub mod Texts
 pub mod Steps
 pub mod Blocks
 pub mod Connections
-pub mod Names
 pub mod Feeds
 pub mod File
 pub mod Opening
+pub mod Accepted

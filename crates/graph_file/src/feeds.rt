@@ -4,8 +4,8 @@ ghost use Rattle.toml.specs.Data.{as_table};
 ghost use Rattle.toml.specs.View.{view, table_view, items_view};
 ghost use Rattle.graph_file.specs.Refusals.{IsRefused};
 ghost use Rattle.graph_file.specs.Steps.{steps, step_in, StepsTake, TakesIn};
-ghost use Rattle.graph_file.specs.Feeds.{Fed, fed, feed_step, feed_in, mark_in, marks_of, FeedTakes};
-ghost use Rattle.graph_file.specs.Names.{tag_key_of};
+ghost use Rattle.graph_file.specs.Feeds.{fed, feed_step, feed_in, mark_in, marks_of, FeedTakes};
+ghost use Rattle.items.specs.Name.{name_of};
 
 use crate::fault::{FileFault, FilePlace, table_fault};
 use crate::feed::{Feed, FileMark};
@@ -143,7 +143,7 @@ fn mark_of(table: &Table) -> Option<FileMark>
 }
 
 fn tag_key(text: &[u8]) -> Option<TagKey>
-    ensures { result ≡ tag_key_of text.now }
+    ensures { result ≡ name_of 16 text.now }
 {
     TagKey::new(text)
 }

@@ -1,6 +1,7 @@
 //! The reading of graph files.
 #![tactic(auto)]
 
+pub mod accepted;
 mod blocks;
 mod connections;
 pub mod fault;
@@ -11,6 +12,7 @@ mod only;
 mod opening;
 pub mod pieces;
 
+pub use accepted::{Depth, fault_of};
 pub use fault::{EndName, FileFault, FilePlace};
 pub use feed::{Feed, FileMark};
 pub use file::{File, read_graph};

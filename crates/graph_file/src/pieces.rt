@@ -12,7 +12,7 @@ use plant::PlantFault;
 use std::fmt;
 
 /// A piece of a text.
-#[derive(Clone, Copy)]
+#[derive(Clone, Copy, Debug)]
 pub enum Piece<'a> {
     /// A text as it is.
     Text(&'a str),
@@ -23,7 +23,7 @@ pub enum Piece<'a> {
 }
 
 /// A text in pieces, one behind the other. Where it has fewer, the last ones are empty.
-#[derive(Clone, Copy)]
+#[derive(Clone, Copy, Debug)]
 pub struct Pieces<'a> {
     pub list: [Piece<'a>; 6],
 }

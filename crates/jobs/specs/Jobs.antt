@@ -10,6 +10,7 @@ use Rattle.settings.specs.declared.value.Held.{Held}
 use Rattle.settings.specs.Values.{held_of}
 use Rattle.block_kinds.specs.Work.{CanWork, least_windows, most_windows}
 use Rattle.flowgraph.specs.Flowgraph.{Flowgraph}
+use Rattle.jobs.specs.declared.claimed.Claimed.{Claimed}
 
 -- a job: firings of a block of this graph
 pub record JobState (B : Type 0) : Type 0 where
@@ -27,6 +28,10 @@ pub record WorkedState (B : Type 0) : Type 0 where
 abbrev pub job_of : ℕ → ℕ → ℕ → ℕ → List Items → List Held → ℕ → Job
 job_of outputs block first count windows held word =
     record { block = block; outputs = outputs; first = first; count = count; windows = map numbers_of windows; held = map held_of held; word = word }
+
+-- the job of firings that were claimed
+abbrev pub job_in : {B P : Type 0} → Claimed B P → Job
+job_in c = job_of (length c.lent.outputs.items) c.block.0 c.first c.count c.lent.windows.items c.lent.held.items c.word
 
 -- the block may do these firings
 abbrev pub CanDo : Network → Job → List Items → List Held → List Items → Type 0

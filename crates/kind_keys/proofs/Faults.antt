@@ -3,11 +3,12 @@ use Rattle.std.proofs.Common.{◌≡◌, ◌≢◌, Bool, true, false, List, [],
 use Rattle.toml.specs.Data.{Data, Members}
 use Rattle.kind_keys.specs.declared.key.Key.{Key}
 use Rattle.kind_keys.specs.declared.key.Key.TheVariants.{Name, Kind}
-use Rattle.kind_keys.specs.declared.kind_name.KindName.{KindName}
+use Rattle.kinds.specs.declared.kind_name.KindName.{KindName}
 use Rattle.kind_keys.specs.declared.fault.KeyFault.{KeyFault}
 use Rattle.kind_keys.specs.declared.fault.KeyFault.TheVariants.{UnknownKey, MissingKey, WrongType, UnknownKind, BadParameter, Memory}
 use Rattle.kind_keys.specs.Keys.{form_of, is_needed}
-use Rattle.kind_keys.specs.Kinds.{kind_named, keys_of}
+use Rattle.kinds.specs.KindNames.{kind_named}
+use Rattle.kind_keys.specs.Kinds.{keys_of}
 use Rattle.kind_keys.specs.Tables.{at_key, value_fault, key_fault, keys_fault, or_else, has_only, fits, text_at}
 use Rattle.kind_keys.specs.Reading.{unless, only, tested_as, tested, block_at, block_in, IsRefused}
 

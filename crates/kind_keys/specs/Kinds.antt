@@ -1,5 +1,5 @@
--- The kinds: their names, the keys of each, and what a block of each means.
-use Rattle.std.specs.Prelude.{ℕ, ◌^◌, ℤ, pos, int_le, List, [], ◌∷◌, length, sum, Bool, true, false, ◌&&◌, nat_le, nat_lt, Option, Some, None, Result, Ok, Err, find, bytes_eq, codes}
+-- The kinds: the keys of each, and what a block of each means.
+use Rattle.std.specs.Prelude.{ℕ, ◌^◌, ℤ, pos, int_le, List, [], ◌∷◌, length, sum, Bool, true, false, ◌&&◌, nat_le, nat_lt, Option, Some, None, Result, Ok, Err}
 use Rattle.std.specs.List.{list_all}
 use Rattle.toml.specs.Data.{Members}
 use Rattle.stream_model.specs.declared.vocabulary.ItemType.{ItemType}
@@ -16,57 +16,9 @@ use Rattle.block_kinds.specs.declared.fault.Parameter.{Parameter}
 use Rattle.block_kinds.specs.declared.fault.Parameter.TheVariants as parameters
 use Rattle.kind_keys.specs.declared.key.Key.{Key}
 use Rattle.kind_keys.specs.declared.key.Key.TheVariants as keys
-use Rattle.kind_keys.specs.declared.kind_name.KindName.{KindName}
-use Rattle.kind_keys.specs.declared.kind_name.KindName.TheVariants as kinds
+use Rattle.kinds.specs.declared.kind_name.KindName.{KindName}
+use Rattle.kinds.specs.declared.kind_name.KindName.TheVariants as kinds
 use Rattle.kind_keys.specs.Tables.{number_at, count_at, small_at, numbers_at, type_at}
-
--- the name of a kind in a graph file
-abbrev pub kind_text : KindName → List ℕ
-kind_text kinds.VectorSource = codes "vector_source"
-kind_text kinds.VectorSink = codes "vector_sink"
-kind_text kinds.NullSink = codes "null_sink"
-kind_text kinds.AddConst = codes "add_const"
-kind_text kinds.MultiplyConst = codes "multiply_const"
-kind_text kinds.Scale = codes "scale"
-kind_text kinds.Add = codes "add"
-kind_text kinds.And = codes "and"
-kind_text kinds.Or = codes "or"
-kind_text kinds.Xor = codes "xor"
-kind_text kinds.Not = codes "not"
-kind_text kinds.MapBb = codes "map_bb"
-kind_text kinds.Convert = codes "convert"
-kind_text kinds.MovingSum = codes "moving_sum"
-kind_text kinds.Fir = codes "fir"
-kind_text kinds.InterpFir = codes "interp_fir"
-kind_text kinds.PackKBits = codes "pack_k_bits"
-kind_text kinds.UnpackKBits = codes "unpack_k_bits"
-kind_text kinds.DiffEncoder = codes "diff_encoder"
-kind_text kinds.DiffDecoder = codes "diff_decoder"
-kind_text kinds.Scrambler = codes "scrambler"
-kind_text kinds.Descrambler = codes "descrambler"
-kind_text kinds.AdditiveScrambler = codes "additive_scrambler"
-kind_text kinds.KeepOneInN = codes "keep_one_in_n"
-kind_text kinds.Integrate = codes "integrate"
-kind_text kinds.Repeat = codes "repeat"
-kind_text kinds.Interleave = codes "interleave"
-kind_text kinds.Deinterleave = codes "deinterleave"
-kind_text kinds.StreamMux = codes "stream_mux"
-kind_text kinds.Head = codes "head"
-kind_text kinds.SkipHead = codes "skiphead"
-kind_text kinds.Delay = codes "delay"
-
--- all kinds
-abbrev pub all_kinds : List KindName
-all_kinds =
-    kinds.VectorSource ∷ kinds.VectorSink ∷ kinds.NullSink ∷ kinds.AddConst ∷ kinds.MultiplyConst ∷ kinds.Scale ∷ kinds.Add ∷ kinds.And
-    ∷ kinds.Or ∷ kinds.Xor ∷ kinds.Not ∷ kinds.MapBb ∷ kinds.Convert ∷ kinds.MovingSum ∷ kinds.Fir ∷ kinds.InterpFir ∷ kinds.PackKBits
-    ∷ kinds.UnpackKBits ∷ kinds.DiffEncoder ∷ kinds.DiffDecoder ∷ kinds.Scrambler ∷ kinds.Descrambler ∷ kinds.AdditiveScrambler
-    ∷ kinds.KeepOneInN ∷ kinds.Integrate ∷ kinds.Repeat ∷ kinds.Interleave ∷ kinds.Deinterleave ∷ kinds.StreamMux ∷ kinds.Head
-    ∷ kinds.SkipHead ∷ kinds.Delay ∷ []
-
--- the kind of a name
-abbrev pub kind_named : List ℕ → Option KindName
-kind_named text = find (λ kind. bytes_eq text (kind_text kind)) all_kinds
 
 -- the key of the type of a block's items
 abbrev pub item_type : Key

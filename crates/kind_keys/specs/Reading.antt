@@ -8,11 +8,12 @@ use Rattle.block_kinds.specs.declared.fault.Parameter.TheVariants as parameters
 use Rattle.block_kinds.specs.declared.fault.ParamFault.{ParamFault}
 use Rattle.block_kinds.specs.declared.fault.ParamFault.TheVariants as param
 use Rattle.kind_keys.specs.declared.key.Key.TheVariants.{Name, Kind}
-use Rattle.kind_keys.specs.declared.kind_name.KindName.{KindName}
+use Rattle.kinds.specs.declared.kind_name.KindName.{KindName}
 use Rattle.kind_keys.specs.declared.fault.KeyFault.{KeyFault}
 use Rattle.kind_keys.specs.declared.fault.KeyFault.TheVariants.{UnknownKey, MissingKey, WrongType, UnknownKind, BadParameter, Memory}
 use Rattle.kind_keys.specs.Tables.{text_at, small_at, count_at, key_fault, keys_fault, has_only}
-use Rattle.kind_keys.specs.Kinds.{kind_named, keys_of, keeps_list, made, registered, parameter}
+use Rattle.kinds.specs.KindNames.{kind_named}
+use Rattle.kind_keys.specs.Kinds.{keys_of, keeps_list, made, registered, parameter}
 
 -- a fault of a maker as one of a table
 abbrev pub carried : ParamFault → KeyFault

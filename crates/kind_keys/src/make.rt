@@ -7,10 +7,9 @@ ghost use Rattle.kind_keys.specs.Reading.{IsBad, IsRegisterOf, IsBadRegister};
 ghost use Rattle.kind_keys.specs.Tables as tables;
 ghost use Rattle.kind_keys.specs.declared.key.Key.TheVariants as key;
 ghost use Rattle.stream_model.specs.declared.vocabulary.ItemType.TheVariants as types;
-ghost use Rattle.kind_keys.specs.declared.kind_name.KindName.TheVariants as kinds;
+ghost use Rattle.kinds.specs.declared.kind_name.KindName.TheVariants as kinds;
 
 use crate::key::Key;
-use crate::kind_name::KindName;
 use crate::table::{count_at, first_numbers_at, number_at, small_at, type_at};
 use arrayvec::ArrayVec;
 use bit_blocks::{
@@ -20,7 +19,7 @@ use bit_blocks::{
 use block_kinds::{ParamFault, Parameter};
 use fir_blocks::{Fir, InterpFir};
 use items::ItemType;
-use kinds::{Kind, NullSink, VectorSink, VectorSource};
+use kinds::{Kind, KindName, NullSink, VectorSink, VectorSource};
 use math_blocks::{
     Add, AddConst, And, Convert, MapBb, MovingSum, MultiplyConst, Not, Or, Scale, Xor,
 };

@@ -6,10 +6,10 @@ ghost use Rattle.kind_keys.specs.Reading.{block_in, tested, takes_memory, IsRefu
 
 use crate::fault::KeyFault;
 use crate::key::Key;
-use crate::kind_name::KindName;
+use crate::keys::keys_of;
 use crate::make::make;
 use crate::table::{has_only, key_fault, keys_fault, text_at};
-use kinds::Kind;
+use kinds::{Kind, KindName};
 use std::alloc::Global;
 use toml::Table;
 
@@ -42,10 +42,11 @@ fn tested(table: &Table) -> Result<KindName, KeyFault>
     let Some(kind) = KindName::named(text_at(table, Key::Kind)) else {
         return Err(KeyFault::UnknownKind);
     };
-    if !has_only(table, kind.keys()) {
+    let keys = keys_of(kind);
+    if !has_only(table, keys) {
         return Err(KeyFault::UnknownKey);
     }
-    match keys_fault(table, kind.keys()) {
+    match keys_fault(table, keys) {
         Some(fault) => Err(fault),
         None => Ok(kind),
     }

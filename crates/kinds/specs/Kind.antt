@@ -10,7 +10,7 @@ use Rattle.math_blocks.specs.Joined.{joined-same}
 use Rattle.fir_blocks.specs.Kinds.{filter_of, filter-same}
 use Rattle.rate_blocks.specs.Kinds.{counted_of}
 use Rattle.rate_blocks.specs.Mux.{interleave_of, deinterleave_of, stream_mux_of, interleave_of-lawful, deinterleave_of-lawful, stream_mux_of-lawful, stream_mux_of-same}
-use Rattle.bit_blocks.specs.Kinds.{k_bits_of, diff_decoder_of, diff_encoder_of, register_block_of, some_of, some_encoded, same_register}
+use Rattle.bit_blocks.specs.Kinds.{k_bits_of, diff_decoder_of, diff_encoder_of, register_block_of, some_modulus, same_register}
 use Rattle.kind_laws.specs.Ends.{vector_source-lawful, vector_sink-lawful, null_sink-lawful}
 use Rattle.kind_laws.specs.Math.{add_const-lawful, multiply_const-lawful, scale-lawful, add-lawful, and_of-lawful, or_of-lawful, xor_of-lawful, not_of-lawful, convert-lawful, moving_sum-lawful}
 use Rattle.kind_laws.specs.Filters.{fir-lawful, interp_fir-lawful}
@@ -88,8 +88,8 @@ meaning_of-lawful (SkipHead b) = skiphead-lawful b.item b.n
 meaning_of-lawful (Delay b) = delay-lawful b.item b.n b.most
 meaning_of-lawful (PackKBits b) = pack_k_bits-lawful b.k b.some b.few
 meaning_of-lawful (UnpackKBits b) = unpack_k_bits-lawful b.k b.some b.few
-meaning_of-lawful (DiffDecoder b) = diff_decoder-lawful b.modulus (some_of b) b.few
-meaning_of-lawful (DiffEncoder b) = diff_encoder-lawful b.modulus (some_encoded b) b.few
+meaning_of-lawful (DiffDecoder b) = diff_decoder-lawful b.modulus.value (some_modulus b.modulus) b.modulus.few
+meaning_of-lawful (DiffEncoder b) = diff_encoder-lawful b.modulus.value (some_modulus b.modulus) b.modulus.few
 meaning_of-lawful (Scrambler b) = scrambler-lawful b.register.bits b.register.mask b.register.init b.register.is.init_most
 meaning_of-lawful (Descrambler b) = descrambler-lawful b.register.bits b.register.mask b.register.init b.register.is.init_most
 meaning_of-lawful (AdditiveScrambler b) = additive_scrambler-lawful b.register.bits b.register.mask b.register.init b.register.is.init_most
@@ -115,16 +115,16 @@ meaning_of-same (InterpFir a) (InterpFir b) e = filter-same interp_fir a b e
 meaning_of-same (KeepOneInN a) (KeepOneInN b) e = same_sized keep_one_in_n a.item b.item a.n b.n e
 meaning_of-same (Integrate a) (Integrate b) e = same_sized integrate a.item b.item a.n b.n e
 meaning_of-same (Repeat a) (Repeat b) e = same_sized repeat a.item b.item a.n b.n e
-meaning_of-same (Interleave a) (Interleave b) e = same_sized interleave a.item b.item a.ports b.ports e
-meaning_of-same (Deinterleave a) (Deinterleave b) e = same_sized deinterleave a.item b.item a.ports b.ports e
+meaning_of-same (Interleave a) (Interleave b) e = same_sized interleave a.item b.item a.ports.value b.ports.value e
+meaning_of-same (Deinterleave a) (Deinterleave b) e = same_sized deinterleave a.item b.item a.ports.value b.ports.value e
 meaning_of-same (StreamMux a) (StreamMux b) e = stream_mux_of-same a b e
 meaning_of-same (Head a) (Head b) e = same_sized head a.item b.item a.n b.n e
 meaning_of-same (SkipHead a) (SkipHead b) e = same_sized skiphead a.item b.item a.n b.n e
 meaning_of-same (Delay a) (Delay b) e = same_sized delay a.item b.item a.n b.n e
 meaning_of-same (PackKBits a) (PackKBits b) e = ap pack_k_bits (same_number a.k b.k e)
 meaning_of-same (UnpackKBits a) (UnpackKBits b) e = ap unpack_k_bits (same_number a.k b.k e)
-meaning_of-same (DiffDecoder a) (DiffDecoder b) e = ap diff_decoder (same_number a.modulus b.modulus e)
-meaning_of-same (DiffEncoder a) (DiffEncoder b) e = ap diff_encoder (same_number a.modulus b.modulus e)
+meaning_of-same (DiffDecoder a) (DiffDecoder b) e = ap diff_decoder (same_number a.modulus.value b.modulus.value e)
+meaning_of-same (DiffEncoder a) (DiffEncoder b) e = ap diff_encoder (same_number a.modulus.value b.modulus.value e)
 meaning_of-same (Scrambler a) (Scrambler b) e = same_register scrambler a.register b.register e
 meaning_of-same (Descrambler a) (Descrambler b) e = same_register descrambler a.register b.register e
 meaning_of-same (AdditiveScrambler a) (AdditiveScrambler b) e = same_register additive_scrambler a.register b.register e

@@ -2,7 +2,7 @@
 ghost use Rattle.std.specs.Prelude.{◌≡◌};
 ghost use Rattle.stream_model.specs.Kinds.Ends.{vector_source};
 
-use block_kinds::{Block, ByPace, Held, Role, Shape, Single, ports, work_single};
+use block_kinds::{Batch, Block, ByPace, Held, Role, Shape, Single, ports, work_single};
 use items::{ItemType, Items};
 
 /// The tape that the block is fed, item for item. As GNU Radio's `vector_source_x`, but it starts empty and does not repeat.
@@ -28,16 +28,8 @@ impl Single for VectorSource {
 
     ghost equation = { source_meaning };
 
-    fn fill(
-        &self,
-        _state: u64,
-        _first: u64,
-        _count: u64,
-        window: &Items,
-        _held: &[Held],
-        out: &mut Items,
-    ) -> u64 {
-        out.push_slice(window);
+    fn fill(&self, batch: &Batch<'_>, out: &mut Items) -> u64 {
+        out.push_slice(batch.window);
         0
     }
 
@@ -45,8 +37,8 @@ impl Single for VectorSource {
 }
 
 impl Block for VectorSource {
-    ghost use Rattle.kind_laws.specs.Ends.{vector_source-lawful};
     ghost use Rattle.stream_model.specs.Kinds.Ends.{vector_source};
+    ghost use Rattle.kind_laws.specs.Ends.{vector_source-lawful};
     ghost use Rattle.block_kinds.specs.SameItem.{same_item};
     ghost use Rattle.kinds.specs.Ends.{source_meaning};
 

@@ -3,6 +3,7 @@ pub mod Choices
 pub mod Frames
 pub mod Handing
 pub mod Deciding
+pub mod Claiming
 pub mod Inputs
 pub mod Ports
 pub mod Lengths

@@ -6,7 +6,7 @@ pub use bit_blocks::{
 };
 pub use block_kinds::{ParamFault, Parameter, Taps, Value};
 pub use fir_blocks::{Fir, InterpFir};
-pub use kinds::{Kind, NullSink, VectorSink, VectorSource};
+pub use kinds::{Kind, KindName, NullSink, VectorSink, VectorSource};
 pub use math_blocks::{
     Add, AddConst, And, Convert, MapBb, MovingSum, MultiplyConst, Not, Or, Scale, Xor,
 };

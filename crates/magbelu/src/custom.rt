@@ -1,6 +1,6 @@
 //! Blocks of your own: a graph takes any type that implements [`Block`]. [`Single`] makes that easier for one input and one output.
 
 pub use block_kinds::{
-    Block, ByPace, Held, Pace, Placing, Role, Setting, Shape, Shift, Signature, Single, Wanted,
-    any_ports, ports, work_single,
+    Batch, Block, ByPace, Held, Pace, Placing, Role, Setting, Shape, Shift, Signature, Single,
+    Wanted, any_ports, ports, work_single,
 };

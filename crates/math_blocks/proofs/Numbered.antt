@@ -18,11 +18,8 @@ is_item : (u : ItemType) (v : Value) → IsWanted (any_number u) v → IsItem u 
 is_item u (Number z) h = record { above = h.0; below = h.1 }
 is_item u (Taps h) none = absurd none
 
-module _ (t u : ItemType) (v : ℤ) (gives : ℤ → ℤ → ℤ) (ts : List Held) (xs : List (List ℤ)) (first n state : ℕ) (ws : List (List ℤ)) (w : List ℤ) (hs : List Held)
-    (one : ws ≡ w ∷ []) (fed_all : IsFed (each_of t u v gives) ts xs first n state ws hs) where
-  fed : IsFed (each_of t u v gives) ts xs first n state (w ∷ []) hs
-  fed = subst (λ vs. IsFed (each_of t u v gives) ts xs first n state vs hs) one fed_all
-
+module _ (t u : ItemType) (v : ℤ) (gives : ℤ → ℤ → ℤ) (ts : List Held) (xs : List (List ℤ)) (first n state : ℕ) (w : List ℤ) (hs : List Held)
+    (fed : IsFed (each_of t u v gives) ts xs first n state (w ∷ []) hs) where
   count : length w ≡ n
   count = length-paced (each_of t u v gives) 1 1 (paced _ _ 1 1 1 _ _ 0 _ (each_of t u v gives).out (omega arith)) ts xs first n state w hs fed ∙ omega arith
 

@@ -1,5 +1,5 @@
 -- The work of a block with one output.
-use Rattle.std.proofs.Common.{◌≡◌, ℕ, ℤ, List, [], ◌∷◌, length, map, get_or, set, arith, ap, sym, ◌∙◌}
+use Rattle.std.proofs.Common.{◌≡◌, ℕ, ℤ, List, [], ◌∷◌, length, map, get_or, set, ap, sym, ◌∙◌}
 use Rattle.stream_model.specs.Settings as model
 use Rattle.stream_model.specs.Meaning.{Meaning, given_items, given_outputs}
 use Rattle.items.specs.declared.stream_items.Items.{Items}
@@ -20,9 +20,3 @@ one_worked m first n state windows held old place new one same gives =
           ap (map numbers_of) (one_output old new one) ∙ ap (λ ys. ys ∷ []) (gives ts xs fed) ∙ ap (given_outputs m ts xs first n) (sym one);
       types = one_kept type_of old place new one same;
     }
-
--- and of its one window
-pub one_window : {X Y : Type 0} (f : X → Y) (ws : List X) (w : X) → length ws ≡ 1 → w ≡ get_or ws 0 w → map f ws ≡ f w ∷ []
-one_window f [] w one is = absurd (omega arith)
-one_window f (v ∷ []) w one is = ap (λ u. f u ∷ []) (sym is)
-one_window f (v ∷ u ∷ ws) w one is = absurd (omega arith)

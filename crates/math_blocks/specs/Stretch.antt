@@ -1,11 +1,13 @@
 -- Stretches of items between two settings, where the settings are numbers.
-use Rattle.std.specs.Prelude.{ℕ, ℤ, pos, List, [], ◌∷◌, All, Some}
+use Rattle.std.specs.Prelude.{◌≡◌, refl, ℕ, ℤ, pos, List, [], ◌∷◌, All, Some}
+use Rattle.std.proofs.Common.{subst}
 use Rattle.stream_model.specs.declared.vocabulary.ItemType.{ItemType}
 use Rattle.stream_model.specs.Numbers.{IsItem}
 use Rattle.stream_model.specs.Lists.{item}
 use Rattle.stream_model.specs.Meaning.{Meaning, input}
 use Rattle.stream_model.specs.Settings.{Held, Number, latest}
 use Rattle.stream_model.specs.Kinds.Shapes.{sync, any_number, number_set, number_at}
+use Rattle.block_kinds.specs.Fill.{IsSingle}
 
 -- each item made of the one at its place and the number in force there, which is of type u, and v where none is set
 abbrev pub each_of : ItemType → ItemType → ℤ → (ℤ → ℤ → ℤ) → Meaning
@@ -15,6 +17,10 @@ each_of t u v gives =
       own = Some (Number v);
       out = λ ts xs p n. gives (number_at v ts n) (item (input xs 0) n);
     }
+
+-- such a block has one input and one output
+pub each-single : {m : Meaning} (t u : ItemType) (v : ℤ) (gives : ℤ → ℤ → ℤ) → each_of t u v gives ≡ m → IsSingle m
+each-single t u v gives is = subst IsSingle is (record { in_least = refl; in_most = refl; out_least = refl; out_most = refl })
 
 -- each of these settings sets a number in the type's range
 abbrev pub SetItems : ItemType → List Held → Type 0

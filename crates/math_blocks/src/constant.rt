@@ -7,8 +7,10 @@ ghost use Rattle.stream_model.specs.Kernels.{listed};
 ghost use Rattle.stream_model.specs.Meaning.{Meaning, IsLawful};
 ghost use Rattle.math_blocks.specs.Stretch.{each_of};
 
-use crate::stretch::{EachItem, work_each};
-use block_kinds::{Block, ByPace, Held, ParamFault, Parameter, Setting, Shape};
+use crate::stretch::{EachItem, fill_each};
+use block_kinds::{
+    Batch, Block, ByPace, Held, ParamFault, Parameter, Setting, Shape, Single, work_single,
+};
 use items::{ItemType, Items};
 use lane_kernels::SimdLane;
 use numbers::Number;
@@ -81,6 +83,19 @@ impl<A: Applies> EachItem for Constant<A> {
     ghost in_range = { λ b. b.in_range };
 }
 
+impl<A: Applies> Single for Constant<A> {
+    ghost use Rattle.math_blocks.specs.Stretch.{each-single};
+
+    ghost equation = { λ b. A.equation b.item b.value };
+
+    fn fill(&self, batch: &Batch<'_>, out: &mut Items) -> u64 {
+        fill_each(self, batch, out);
+        0
+    }
+
+    ghost single = { λ b. each-single b.item b.item b.value (A.gives b.item) (A.is_applied b.item b.value) };
+}
+
 impl<A: Applies> Block for Constant<A> {
     ghost use Rattle.math_blocks.specs.Kinds.{constant-same};
 
@@ -104,7 +119,7 @@ impl<A: Applies> Block for Constant<A> {
         held: &[Held],
         out: &mut [Items],
     ) -> u64 {
-        work_each(self, state, first, count, windows, held, out)
+        work_single(self, state, first, count, windows, held, out)
     }
 
     ghost lawful = { λ b. A.lawful b.item b.value b.in_range };

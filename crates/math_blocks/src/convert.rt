@@ -4,7 +4,7 @@ ghost use Rattle.stream_model.specs.Kinds.Math.{convert};
 ghost use Rattle.stream_model.specs.Kernels as kernels;
 ghost use Rattle.items.specs.Items.{type_of, numbers_of, spare_of};
 
-use block_kinds::{Block, ByPace, Held, Shape, Single, work_single};
+use block_kinds::{Batch, Block, ByPace, Held, Shape, Single, work_single};
 use items::{ItemType, Items};
 use lane_kernels::{NarrowsTo, SimdLane, WidensTo, narrow, widen};
 use numbers::Number;
@@ -76,16 +76,8 @@ impl Single for Convert {
 
     ghost equation = { convert_of };
 
-    fn fill(
-        &self,
-        _state: u64,
-        _first: u64,
-        _count: u64,
-        window: &Items,
-        _held: &[Held],
-        out: &mut Items,
-    ) -> u64 {
-        convert_items(window, out);
+    fn fill(&self, batch: &Batch<'_>, out: &mut Items) -> u64 {
+        convert_items(batch.window, out);
         0
     }
 

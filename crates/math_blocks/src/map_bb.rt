@@ -6,7 +6,7 @@ ghost use Rattle.stream_model.specs.Lists.{item};
 ghost use Rattle.stream_model.specs.Kernels.{listed};
 ghost use Rattle.stream_model.specs.Kinds.Math.{looked_up, map_bb};
 
-use block_kinds::{Block, ByPace, Held, ParamFault, Parameter, Shape, Single, work_single};
+use block_kinds::{Batch, Block, ByPace, Held, ParamFault, Parameter, Shape, Single, work_single};
 use items::{ItemType, Items};
 use lane_work::{ByteWork, make_bytes};
 use numbers::vectors::narrowed;
@@ -101,16 +101,8 @@ impl Single for MapBb {
 
     ghost equation = { map_bb_of };
 
-    fn fill(
-        &self,
-        _state: u64,
-        _first: u64,
-        count: u64,
-        window: &Items,
-        _held: &[Held],
-        out: &mut Items,
-    ) -> u64 {
-        make_bytes(self, window, count as usize, out);
+    fn fill(&self, batch: &Batch<'_>, out: &mut Items) -> u64 {
+        make_bytes(self, batch.window, batch.count as usize, out);
         0
     }
 

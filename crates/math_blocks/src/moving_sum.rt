@@ -2,7 +2,7 @@
 ghost use Rattle.std.specs.Prelude.{◌≡◌, ◌≤◌, ◌↔◌, IsOk, IfOk, IfErr};
 ghost use Rattle.stream_model.specs.Kinds.Math.{moving_sum};
 
-use block_kinds::{Block, ByPace, Held, ParamFault, Parameter, Shape, Single, work_single};
+use block_kinds::{Batch, Block, ByPace, Held, ParamFault, Parameter, Shape, Single, work_single};
 use items::{ItemType, Items};
 use lane_kernels::SimdLane;
 use lane_work::{LaneWork, make_items, sum_of};
@@ -63,16 +63,8 @@ impl Single for MovingSum {
 
     ghost equation = { moving_sum_of };
 
-    fn fill(
-        &self,
-        _state: u64,
-        _first: u64,
-        count: u64,
-        window: &Items,
-        _held: &[Held],
-        out: &mut Items,
-    ) -> u64 {
-        make_items(self, window, count as usize, out);
+    fn fill(&self, batch: &Batch<'_>, out: &mut Items) -> u64 {
+        make_items(self, batch.window, batch.count as usize, out);
         0
     }
 
@@ -80,10 +72,10 @@ impl Single for MovingSum {
 }
 
 impl Block for MovingSum {
+    ghost use Rattle.stream_model.specs.Kinds.Math.{moving_sum};
     ghost use Rattle.kind_laws.specs.Math.{moving_sum-lawful};
     ghost use Rattle.block_kinds.specs.SameItem.{same_sized};
     ghost use Rattle.math_blocks.specs.Kinds.{moving_sum_of};
-    ghost use Rattle.stream_model.specs.Kinds.Math.{moving_sum};
 
     ghost meaning = { moving_sum_of };
 

@@ -2,7 +2,7 @@
 ghost use Rattle.std.specs.Prelude.{◌≡◌};
 ghost use Rattle.stream_model.specs.Kinds.Math.{not_of};
 
-use block_kinds::{Block, ByPace, Held, Shape, Single, work_single};
+use block_kinds::{Batch, Block, ByPace, Held, Shape, Single, work_single};
 use items::{ItemType, Items};
 use lane_kernels::{SimdLane, append_not};
 use lane_work::{AppendWork, append_items};
@@ -43,16 +43,8 @@ impl Single for Not {
 
     ghost equation = { not_block_of };
 
-    fn fill(
-        &self,
-        _state: u64,
-        _first: u64,
-        count: u64,
-        window: &Items,
-        _held: &[Held],
-        out: &mut Items,
-    ) -> u64 {
-        append_items(self, window, count as usize, out);
+    fn fill(&self, batch: &Batch<'_>, out: &mut Items) -> u64 {
+        append_items(self, batch.window, batch.count as usize, out);
         0
     }
 
@@ -60,10 +52,10 @@ impl Single for Not {
 }
 
 impl Block for Not {
+    ghost use Rattle.stream_model.specs.Kinds.Math.{not_of};
     ghost use Rattle.kind_laws.specs.Math.{not_of-lawful};
     ghost use Rattle.block_kinds.specs.SameItem.{same_item};
     ghost use Rattle.math_blocks.specs.Kinds.{not_block_of};
-    ghost use Rattle.stream_model.specs.Kinds.Math.{not_of};
 
     ghost meaning = { not_block_of };
 

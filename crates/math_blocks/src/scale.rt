@@ -4,8 +4,10 @@ ghost use Rattle.stream_model.specs.declared.vocabulary.ItemType.TheVariants as 
 ghost use Rattle.stream_model.specs.Numbers.{IsItem};
 ghost use Rattle.stream_model.specs.Kinds.Math.{scale};
 
-use crate::stretch::{EachItem, work_each};
-use block_kinds::{Block, ByPace, Held, ParamFault, Parameter, Setting, Shape};
+use crate::stretch::{EachItem, fill_each};
+use block_kinds::{
+    Batch, Block, ByPace, Held, ParamFault, Parameter, Setting, Shape, Single, work_single,
+};
 use items::{ItemType, Items};
 use lane_kernels::{SimdLane, append_scale_sat};
 use numbers::Number;
@@ -64,6 +66,20 @@ impl EachItem for Scale {
     ghost in_range = { λ b. b.in_range };
 }
 
+impl Single for Scale {
+    ghost use Rattle.std.specs.Prelude.{refl};
+    ghost use Rattle.math_blocks.specs.Kinds.{scale_of};
+
+    ghost equation = { scale_of };
+
+    fn fill(&self, batch: &Batch<'_>, out: &mut Items) -> u64 {
+        fill_each(self, batch, out);
+        0
+    }
+
+    ghost single = { λ b. record { in_least = refl; in_most = refl; out_least = refl; out_most = refl } };
+}
+
 impl Block for Scale {
     ghost use Rattle.kind_laws.specs.Math.{scale-lawful};
     ghost use Rattle.math_blocks.specs.Kinds.{scale_of, scale-same};
@@ -92,7 +108,7 @@ impl Block for Scale {
         held: &[Held],
         out: &mut [Items],
     ) -> u64 {
-        work_each(self, state, first, count, windows, held, out)
+        work_single(self, state, first, count, windows, held, out)
     }
 
     ghost lawful = { λ b. scale-lawful b.item b.factor b.shift b.in_range };

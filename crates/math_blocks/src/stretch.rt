@@ -7,11 +7,11 @@ ghost use Rattle.stream_model.specs.Kernels.{listed};
 ghost use Rattle.stream_model.specs.Kinds.Shapes.{number_set};
 ghost use Rattle.items.specs.Items.{type_of, numbers_of, spare_of};
 ghost use Rattle.settings.specs.Values.{value_of, held_of};
+ghost use Rattle.block_kinds.specs.Fill.{CanFill, HasFilled};
 ghost use Rattle.block_kinds.specs.InForce.{AreOver};
-ghost use Rattle.block_kinds.specs.Work.{CanWork, HasWorked};
 ghost use Rattle.math_blocks.specs.Stretch.{SetItems, each_of, number_among, end_before};
 
-use block_kinds::{Held, Value};
+use block_kinds::{Batch, Held, Value};
 use items::Items;
 use lane_kernels::SimdLane;
 
@@ -116,21 +116,11 @@ fn run_items<B: EachItem>(block: &B, items: &Items, held: &[Held], from: u64, ou
     }
 }
 
-/// The `work` of a block that makes each item of one item, by a number that may be set.
-pub(crate) fn work_each<B: EachItem>(
-    block: &B,
-    state: u64,
-    first: u64,
-    count: u64,
-    windows: &[Items],
-    held: &[Held],
-    out: &mut [Items],
-) -> u64
-    requires { CanWork (each_of (B.takes block.now) (B.number_type block.now) (B.own block.now) (B.gives block.now)) first count state windows.now held.now out.old }
-    ensures items { HasWorked (each_of (B.takes block.now) (B.number_type block.now) (B.own block.now) (B.gives block.now)) first count state
-        windows.now held.now out.old out.new }
-    ensures word { result ≡ 0 }
+/// What `fill` writes, of a block that makes each item of one item, by a number that may be set.
+pub(crate) fn fill_each<B: EachItem>(block: &B, batch: &Batch<'_>, out: &mut Items)
+    requires { CanFill (each_of (B.takes block.now) (B.number_type block.now) (B.own block.now) (B.gives block.now)) batch.now out.old }
+    ensures items { HasFilled (each_of (B.takes block.now) (B.number_type block.now) (B.own block.now) (B.gives block.now)) batch.now out.new }
+    ensures item_type { type_of out.new ≡ type_of out.old }
 {
-    run_items(block, &windows[0], held, first, &mut out[0]);
-    0
+    run_items(block, batch.window, batch.held, batch.first, out);
 }

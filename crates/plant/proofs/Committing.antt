@@ -3,7 +3,7 @@ use Rattle.std.proofs.Common.{◌≡◌, ℕ, ℤ, ◌<◌, ◌+◌, List, map, 
 use Rattle.std.proofs.lemmas.Bool.{cases_eq, cond-true}
 use Rattle.stream_model.specs.Network.{Network, Progress, State, no_progress, progress_at}
 use Rattle.stream_model.specs.Machine as machine
-use Rattle.stream_model.specs.Machine.{Capacities, Call, Job, Reply, job_of, next, is_in_flight, commit_of}
+use Rattle.stream_model.specs.Machine.{Capacities, Call, Reply, job_of, next, is_in_flight, commit_of}
 use Rattle.graph_model.specs.Graphs.{IsValidGraph}
 use Rattle.stream_laws.specs.CanRun.{CanRun}
 use Rattle.machine_laws.specs.Sound.{Sound}

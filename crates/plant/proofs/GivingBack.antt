@@ -6,9 +6,9 @@ use Rattle.std.specs.Prelude.{nat_lt, ◌&&◌}
 use Rattle.stream_model.specs.Meaning.{windows_of, held_of}
 use Rattle.stream_model.specs.Network.{Network, Progress, State, node_at, handed_at, no_progress, progress_at, used_outputs, entering}
 use Rattle.stream_model.specs.Claims as claims
-use Rattle.stream_model.specs.Claims.{IsDone, IsBusy, Ends, Fires, LacksItems, LacksRoom, Counts, decide}
+use Rattle.stream_model.specs.Claims.{IsDone, IsBusy, Ends, Fires, LacksItems, LacksRoom, decide}
 use Rattle.stream_model.specs.Machine as machine
-use Rattle.stream_model.specs.Machine.{Capacities, Abandon, Claim, Job, Reply, Abandoned, Claimed, Did, Refused, no_such_block, with_progress, counts_of, claimed_by, claim_of, is_in_flight, jobs_agree, job_of, abandon_of, commit_of, commit_claimed, next, step_of}
+use Rattle.stream_model.specs.Machine.{Capacities, Abandon, Claim, Job, Reply, Abandoned, Claimed, Did, with_progress, counts_of, claimed_by, claim_of, is_in_flight, jobs_agree, job_of, abandon_of, commit_of, commit_claimed, next, step_of}
 use Rattle.stream_laws.specs.CanRun.{CanRun}
 use Rattle.machine_laws.specs.Stays.{in_flight}
 use Rattle.machine_laws.proofs.Deciding.{Reason, decide-reason}

@@ -9,7 +9,7 @@ use Rattle.stream_model.specs.Machine as machine
 use Rattle.stream_model.specs.declared.vocabulary.ItemType.{ItemType}
 use Rattle.stream_model.specs.Numbers.{types_agree}
 use Rattle.stream_model.specs.Tags.{Mark}
-use Rattle.stream_model.specs.Machine.{Capacities, Call, Reply, next, with_handed, with_tape, marks_fit, close_of, feed_of, longest_tape}
+use Rattle.stream_model.specs.Machine.{Capacities, Call, Reply, next, with_handed, with_tape, close_of, feed_of, longest_tape}
 use Rattle.plant_laws.proofs.Handing.{feeding_holds, closing_holds}
 use Rattle.stream_laws.specs.CanRun.{CanRun}
 use Rattle.machine_laws.specs.Sound.{Sound}

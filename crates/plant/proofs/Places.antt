@@ -2,7 +2,7 @@
 use Rattle.std.proofs.Common.{◌≡◌, ℕ, List, get_or, sym, subst}
 use Rattle.stream_model.specs.Network.{Network, State}
 use Rattle.items.specs.declared.stream_items.Items.{Items}
-use Rattle.jobs.specs.declared.job.Lent.{Lent}
+use Rattle.jobs.specs.declared.lent.Lent.{Lent}
 use Rattle.plant_laws.specs.Stored.{Stored}
 use Rattle.stores.specs.Lending.{IsLent}
 use Rattle.plant.specs.Plant.{IsItsWork}

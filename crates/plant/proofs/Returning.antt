@@ -6,7 +6,7 @@ use Rattle.std.proofs.lemmas.Bool.Decides.{Decides-ltb}
 use Rattle.stream_model.specs.Meaning.{Meaning}
 use Rattle.stream_model.specs.Network.{Network, Progress, State, progress_at}
 use Rattle.stream_model.specs.Machine as machine
-use Rattle.stream_model.specs.Machine.{Capacities, Job, Reply, job_of, jobs_agree, next, is_in_flight, commit_of, abandon_of, Refused}
+use Rattle.stream_model.specs.Machine.{Capacities, Job, Reply, job_of, jobs_agree, is_in_flight, commit_of, Refused}
 use Rattle.stream_laws.specs.CanRun.{CanRun}
 use Rattle.machine_laws.specs.Sound.{Sound}
 use Rattle.items.specs.declared.stream_items.Items.{Items}

@@ -8,7 +8,7 @@ use Rattle.stream_model.specs.Network.{progress_at}
 use Rattle.stream_laws.specs.CanRun.{CanRun}
 use Rattle.graph_model.specs.Graphs.{IsValidGraph}
 use Rattle.flowgraph.specs.Flowgraph.{Flowgraph, net_of}
-use Rattle.jobs.specs.declared.job.Lent.{Lent}
+use Rattle.jobs.specs.declared.lent.Lent.{Lent}
 use Rattle.rates.specs.Answer.{sizes_of}
 use Rattle.stores.specs.declared.stores.Stores.{Stores}
 use Rattle.stores.specs.Stores.{stored_in}

@@ -9,7 +9,7 @@ use Rattle.stream_model.specs.declared.vocabulary.Role.TheVariants.{Source, Work
 use Rattle.stream_model.specs.Settings.{Value, Held, put_setting}
 use Rattle.stream_model.specs.Meaning.{Meaning, KeepsRole}
 use Rattle.stream_model.specs.Network as model
-use Rattle.stream_model.specs.Network.{Network, Progress, State, node_at, role_at, is_source, handed_at, progress_at, nothing_handed, writers_of, taken_by}
+use Rattle.stream_model.specs.Network.{Network, Progress, State, node_at, role_at, is_source, handed_at, writers_of}
 use Rattle.stream_model.specs.Machine as machine
 use Rattle.stream_model.specs.Machine.{Capacities, Reply, Refused, is_wanted, floor_of, place_setting, set_wanted, set_of, with_handed, next}
 use Rattle.graph_model.specs.Graphs.{IsValidGraph}

@@ -6,7 +6,7 @@ use Rattle.stream_model.specs.Tags.{Tag, tags_within}
 use Rattle.stream_model.specs.Network as model
 use Rattle.stream_model.specs.Network.{Network, State, role_at, is_keeper, progress_at}
 use Rattle.stream_model.specs.Machine as machine
-use Rattle.stream_model.specs.Machine.{Capacities, Reply, Refused, Piece, HoldsAll, read_of}
+use Rattle.stream_model.specs.Machine.{Capacities, Refused, Piece, HoldsAll, read_of}
 use Rattle.stream_laws.specs.CanRun.{CanRun}
 use Rattle.machine_laws.specs.Sound.{fired}
 use Rattle.machine_laws.proofs.Wholes.{done_piece_is_whole}

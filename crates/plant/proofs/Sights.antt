@@ -20,7 +20,7 @@ use Rattle.buffers.specs.Buffer.{BufferState}
 use Rattle.flowgraph.specs.declared.parts.Input.{Input}
 use Rattle.flowgraph.specs.Wiring.{writers_in, IsItsReader}
 use Rattle.plant_laws.specs.Stored as plain
-use Rattle.plant_laws.specs.Stored.{Stored, tape_at, timeline_at, buffer_at}
+use Rattle.plant_laws.specs.Stored.{tape_at, timeline_at, buffer_at}
 use Rattle.plant_laws.specs.Claims.{MayFire, Serves, held_over, input_buffer, input_reader}
 use Rattle.plant_laws.proofs.Windows.{length-windows}
 use Rattle.plant_laws.proofs.Serving.{flights_may_fire, firings_are_served, is_end, enough, job_window}

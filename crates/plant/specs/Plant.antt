@@ -11,7 +11,7 @@ use Rattle.machine_laws.specs.Stalls.{AreClosed}
 use Rattle.items.specs.declared.stream_items.Items.{Items}
 use Rattle.items.specs.Items.{type_of, numbers_of}
 use Rattle.flowgraph.specs.Flowgraph.{Flowgraph, net_of}
-use Rattle.jobs.specs.declared.job.Lent.{Lent}
+use Rattle.jobs.specs.declared.lent.Lent.{Lent}
 use Rattle.rates.specs.Answer.{AreRates, answer_of, sizes_of}
 use Rattle.plant_laws.specs.Holds.{Holds}
 use Rattle.plant_laws.specs.Calls.{IsWorked}

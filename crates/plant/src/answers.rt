@@ -48,15 +48,6 @@ pub enum Step {
 #[derive(Clone, Copy, Debug, PartialEq, Eq)]
 pub struct Did(pub u32);
 
-/// What the buffer of an output keeps.
-#[derive(Clone, Copy, Debug, PartialEq, Eq)]
-pub struct Stored {
-    /// The last items that were given.
-    pub items: usize,
-    /// The tags on items that were given and that a reader may still take.
-    pub tags: usize,
-}
-
 /// What a sink shows.
 #[derive(Debug, Drop)]
 pub struct Piece {

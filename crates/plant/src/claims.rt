@@ -18,7 +18,7 @@ use crate::parts::Parts;
 use crate::source_tapes::SourceTapes;
 use firings::Decision;
 use flowgraph::{Block, BlockId};
-use jobs::{Job, Lent};
+use jobs::{Claimed, Job, Lent};
 use std::alloc::{AllocError, Global};
 use std::mem::replace;
 use std::sync::Arc;
@@ -142,7 +142,14 @@ impl<B: Block> Parts<B> {
         self.lend(alloc, block, first, count)?;
         let lent = replace(&mut self.lent[block.0 as usize], Lent::new(alloc));
         let word = self.stores.words[block.0 as usize];
-        Ok(Job::new(graph, block, first, count, word, lent))
+        Ok(Job::new(Claimed {
+            graph,
+            block,
+            first,
+            count,
+            word,
+            lent,
+        }))
     }
 
     // Does the firings of the claim in flight of a block and commits them. If it is out of memory the claim is given up.

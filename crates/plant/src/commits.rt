@@ -9,7 +9,6 @@ ghost use Rattle.plant.specs.Plant.{IsRight, IsFlight, IsDoneBy, plant_of, with_
 ghost use Rattle.plant.specs.Answers.{IsTaken};
 
 use crate::answers::Did;
-use crate::brought::Brought;
 use crate::flight::is_in_flight;
 use crate::parts::Parts;
 use flowgraph::{Block, BlockId};
@@ -25,17 +24,13 @@ impl<B: Block> Parts<B> {
             IsTaken (λ d. machine.Did d.0) (commit_of (net_of B.meaning old.graph) old.state (is_own B.eq old.graph worked.graph worked.job.block) worked.job) old (plant_of self.new) worked result }
     {
         self.graph.recall();
-        if !is_in_flight(
-            &self.stores,
-            &self.firings,
-            &self.graph,
-            &Brought::worked(&worked),
-        ) {
+        let claimed = worked.claimed();
+        if !is_in_flight(&self.stores, &self.firings, &self.graph, claimed) {
             return Err(worked);
         }
-        worked.graph().recall();
+        claimed.graph.recall();
         worked.recall();
-        let (block, first, count) = (worked.block(), worked.first(), worked.count());
+        let (block, first, count) = (claimed.block, claimed.first, claimed.count);
         let word = worked.next_word();
         self.lent[block.0 as usize] = worked.into_lent();
         self.store(block, first, count, word);
@@ -50,12 +45,7 @@ impl<B: Block> Parts<B> {
             IsTaken (λ u. machine.Abandoned) (abandon_of (net_of B.meaning old.graph) old.state (is_own B.eq old.graph job.graph job.job.block) job.job) old (plant_of self.new) job result }
     {
         self.graph.recall();
-        if !is_in_flight(
-            &self.stores,
-            &self.firings,
-            &self.graph,
-            &Brought::job(&job),
-        ) {
+        if !is_in_flight(&self.stores, &self.firings, &self.graph, job.claimed()) {
             return Err(job);
         }
         let block = job.block();

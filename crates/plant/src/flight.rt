@@ -7,17 +7,18 @@ ghost use Rattle.machine_laws.specs.Stays.{in_flight};
 ghost use Rattle.items.specs.Items.{numbers_of};
 ghost use Rattle.settings.specs.Values.{held_of};
 ghost use Rattle.flowgraph.specs.Flowgraph.{net_of};
-ghost use Rattle.jobs.specs.Jobs.{AreTaken, job_of};
+ghost use Rattle.std.specs.Arc.{arc_value};
+ghost use Rattle.jobs.specs.Jobs.{AreTaken, job_in};
 ghost use Rattle.stores.specs.Stores.{state_of};
 ghost use Rattle.plant.specs.Flight.{IsStored, IsClaim};
 ghost use Rattle.plant.specs.Own.{is_own};
 
-use crate::brought::Brought;
 use crate::seen::{are_held, are_seen, is_cut};
 use block_kinds::Block;
 use firings::{Firings, Progress};
 use flowgraph::{BlockId, Valid};
 use items::Items;
+use jobs::Claimed;
 use settings::Held;
 use stores::Stores;
 use stream_model::Role;
@@ -28,15 +29,15 @@ pub(crate) fn is_in_flight<B: Block>(
     stores: &Stores,
     firings: &Firings,
     graph: &Valid<B>,
-    job: &Brought<'_, B>,
+    job: &Claimed<B>,
 ) -> bool
     requires stored { IsStored (net_of B.meaning graph.now) stores.now firings.now }
-    requires types { AreTaken (net_of B.meaning job.now.graph.now) job.now.block.0 job.now.windows.now }
+    requires types { AreTaken (net_of B.meaning (arc_value job.now.graph)) job.now.block.0 job.now.lent.windows.items }
     ensures { result ≡ machine.is_in_flight (net_of B.meaning graph.now) (state_of stores.now.handed.items firings.now)
-        (is_own B.eq graph.now job.now.graph.now job.now.block.0)
-        (job_of job.now.outputs job.now.block.0 job.now.first job.now.count job.now.windows.now job.now.held.now job.now.word) }
+        (is_own B.eq graph.now (arc_value job.now.graph) job.now.block.0)
+        (job_in job.now) }
 {
-    is_same_block(graph, job.graph, job.block) && is_claim(stores, firings, graph, job)
+    is_same_block(graph, &job.graph, job.block) && is_claim(stores, firings, graph, job)
 }
 
 // Whether both graphs have the block, and it is the same in both.
@@ -52,29 +53,36 @@ fn is_claim<B: Block>(
     stores: &Stores,
     firings: &Firings,
     graph: &Valid<B>,
-    job: &Brought<'_, B>,
+    job: &Claimed<B>,
 ) -> bool
     requires block { job.now.block.0 < length graph.now.blocks }
     requires stored { IsStored (net_of B.meaning graph.now) stores.now firings.now }
-    requires types { AreTaken (net_of B.meaning graph.now) job.now.block.0 job.now.windows.now }
+    requires types { AreTaken (net_of B.meaning graph.now) job.now.block.0 job.now.lent.windows.items }
     ensures { IsTrue result ↔ IsClaim (net_of B.meaning graph.now) stores.now firings.now
-        (job_of job.now.outputs job.now.block.0 job.now.first job.now.count job.now.windows.now job.now.held.now job.now.word) }
+        (job_in job.now) }
 {
     graph.recall();
     let outputs = graph.outputs(job.block);
     let word = stores.words[job.block.0 as usize];
     are_its_numbers(job, firings.progress(job.block), outputs, word)
-        && is_given(stores, firings, graph, job.block, job.windows, job.held)
+        && is_given(
+            stores,
+            firings,
+            graph,
+            job.block,
+            &job.lent.windows,
+            &job.lent.held,
+        )
 }
 
 // Whether something is claimed, and the job is of as many firings from the same one on, of a block with so many used outputs in this state.
-fn are_its_numbers<B: Block>(job: &Brought<'_, B>, own: Progress, outputs: usize, word: u64) -> bool
-    ensures { IsTrue result ↔ ((0 < own.claimed) × (job.now.first ≡ own.firings) × (job.now.count ≡ own.claimed) × (job.now.outputs ≡ outputs) × (job.now.word ≡ word)) }
+fn are_its_numbers<B: Block>(job: &Claimed<B>, own: Progress, outputs: usize, word: u64) -> bool
+    ensures { IsTrue result ↔ ((0 < own.claimed) × (job.now.first ≡ own.firings) × (job.now.count ≡ own.claimed) × (length job.now.lent.outputs.items ≡ outputs) × (job.now.word ≡ word)) }
 {
     0 < own.claimed
         && job.first == own.firings
         && job.count == own.claimed
-        && job.outputs == outputs
+        && job.lent.outputs.len() == outputs
         && job.word == word
 }
 

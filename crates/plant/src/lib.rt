@@ -2,7 +2,6 @@
 #![tactic(auto)]
 
 pub mod answers;
-mod brought;
 mod checks;
 mod claims;
 mod commits;
@@ -19,9 +18,7 @@ pub mod settle;
 mod source_tapes;
 mod waits;
 
-pub use answers::{
-    Claim, Closed, Did, Fed, Headway, Piece, Settled, SinkView, Step, Stored, Taken,
-};
+pub use answers::{Claim, Closed, Did, Fed, Headway, Piece, Settled, SinkView, Step, Taken};
 pub use checks::source_type;
 pub use fault::PlantFault;
 pub use firings::{BlockNeed, Need};
@@ -30,3 +27,4 @@ pub use handed::{Handed, Opening};
 pub use jobs::{Job, Worked};
 pub use plant::Plant;
 pub use settle::{Unwatched, Watch};
+pub use stores::Stored;

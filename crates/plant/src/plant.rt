@@ -30,9 +30,7 @@ ghost use Rattle.plant.specs.Headway.{headway_of};
 ghost use Rattle.plant.specs.Runs.{Made, Leads, IsRun};
 ghost use Rattle.plant.specs.Waits.{need_of, wait_in};
 
-use crate::answers::{
-    Claim, Closed, Did, Fed, Headway, Piece, Settled, SinkView, Step, Stored, Taken,
-};
+use crate::answers::{Claim, Closed, Did, Fed, Headway, Piece, Settled, SinkView, Step, Taken};
 use crate::checks::source_type;
 use crate::fault::PlantFault;
 use crate::handed::{Handed, Opening};
@@ -49,6 +47,7 @@ use std::alloc::{AllocError, Global};
 use std::fmt;
 use std::marker::Model;
 use std::sync::Arc;
+use stores::Stored;
 
 /// A flowgraph with what it was handed and how far it is. A contract sees the graph, the capacities, and the machine's state.
 pub struct Plant<B: Block> {

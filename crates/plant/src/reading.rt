@@ -10,12 +10,12 @@ ghost use Rattle.plant.specs.Answers.{AnsweredBy, reply_of, piece_reply, view_of
 ghost use Rattle.plant.specs.Keeping.{IsKeptOf, port_fault};
 ghost use Rattle.plant.specs.Setting.{fault_in};
 
-use crate::answers::{Piece, SinkView, Stored};
+use crate::answers::{Piece, SinkView};
 use crate::fault::PlantFault;
 use crate::parts::Parts;
 use flowgraph::{Block, BlockId};
 use std::alloc::Global;
-use stores::{Kept, Segment};
+use stores::Stored;
 
 impl<B: Block> Parts<B> {
     /// What a sink holds from item `from` on, at most `max` items of it, with the tags on them.
@@ -43,12 +43,12 @@ impl<B: Block> Parts<B> {
             return Err(PlantFault::BeyondEnd);
         }
         let to = from + max.min(own.firings - from);
-        let Segment { items, tags } = self.stores.piece(alloc, sink, from, to)?;
+        let collected = &self.stores.sinks[sink.0 as usize];
         Ok(Piece {
             from,
             held: own.firings,
-            items,
-            tags,
+            items: collected.slice(alloc, from, to)?,
+            tags: Vec::from_slice(alloc, collected.tags(from, to))?,
             done: own.done,
         })
     }
@@ -106,7 +106,6 @@ impl<B: Block> Parts<B> {
         if self.graph.outputs(block) <= port {
             return Err(PlantFault::NoSuchPort);
         }
-        let Kept { items, tags } = self.stores.kept(block, port);
-        Ok(Stored { items, tags })
+        Ok(self.stores.kept(block, port))
     }
 }

@@ -1,25 +1,24 @@
--- What a block of one stream without a state is lent, and what it makes.
-use Rattle.std.specs.Prelude.{◌≡◌, ℕ, ℤ, List}
-use Rattle.stream_model.specs.Settings as model
+-- Blocks of one stream with a number.
+use Rattle.std.specs.Prelude.{◌≡◌, refl}
+use Rattle.std.proofs.Common.{subst, sym}
+use Rattle.stream_model.specs.declared.vocabulary.ItemType.{ItemType}
 use Rattle.stream_model.specs.Meaning.{Meaning}
-use Rattle.items.specs.declared.stream_items.Items.{Items}
-use Rattle.settings.specs.declared.value.Held.{Held}
-use Rattle.block_kinds.specs.Fill.{IsSingle, CanFill, HasFilled}
+use Rattle.stream_model.specs.Kinds.Shapes.{sync}
+use Rattle.block_kinds.specs.Fill.{IsSingle}
 
--- one input and one output, and no state
-pub record IsPlain (m : Meaning) : Type 0 where
-  pub single : IsSingle m
-  pub words : (ts : List model.Held) (xs : List (List ℤ)) (k : ℕ) → m.word ts xs k ≡ 0
+-- as `sync` in its ports, and in that it has no past, no setting and no state; its counts, limit, places of tags and items are its own
+abbrev pub IsPlain : ItemType → Meaning → Type 0
+IsPlain t m =
+    m ≡ record (sync t t) {
+      rate = m.rate;
+      shift = m.shift;
+      taken = m.taken;
+      given = m.given;
+      place = m.place;
+      limit = m.limit;
+      out = m.out;
+    }
 
-pub plain-single : {m : Meaning} → IsPlain m → IsSingle m
-plain-single is = is.single
-
--- what comes from some streams, whatever the settings and the state
-pub record IsLent (m : Meaning) (first n : ℕ) (window out : Items) : Type 0 where
-  pub state : ℕ
-  pub held : List Held
-  pub can : CanFill m first n state window held out
-
--- exactly what the firings give
-abbrev pub HasGiven : Meaning → ℕ → ℕ → Items → Items → Type 0
-HasGiven m first n window out = (state : ℕ) (held : List Held) → HasFilled m first n state window held out
+-- so it has one input and one output
+pub plain-single : {t : ItemType} {m : Meaning} → IsPlain t m → IsSingle m
+plain-single is = subst IsSingle (sym is) (record { in_least = refl; in_most = refl; out_least = refl; out_most = refl })

@@ -15,16 +15,16 @@ use Rattle.rate_blocks.specs.declared.deinterleave.Deinterleave.{Deinterleave}
 use Rattle.rate_blocks.specs.declared.stream_mux.StreamMux.{StreamMux}
 
 abbrev pub interleave_of : Interleave → Meaning
-interleave_of b = interleave b.item b.ports
+interleave_of b = interleave b.item b.ports.value
 
 abbrev pub deinterleave_of : Deinterleave → Meaning
-deinterleave_of b = deinterleave b.item b.ports
+deinterleave_of b = deinterleave b.item b.ports.value
 
 pub interleave_of-lawful : (b : Interleave) → IsLawful (interleave_of b)
-interleave_of-lawful b = interleave-lawful b.item b.ports b.some (omega (arith, b.few))
+interleave_of-lawful b = interleave-lawful b.item b.ports.value b.ports.some (omega (arith, b.ports.few))
 
 pub deinterleave_of-lawful : (b : Deinterleave) → IsLawful (deinterleave_of b)
-deinterleave_of-lawful b = deinterleave-lawful b.item b.ports b.some (omega (arith, b.few))
+deinterleave_of-lawful b = deinterleave-lawful b.item b.ports.value b.ports.some (omega (arith, b.ports.few))
 
 -- the lengths of a mux, one for each input
 abbrev pub lengths_of : StreamMux → List ℕ

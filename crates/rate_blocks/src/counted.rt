@@ -2,7 +2,7 @@
 ghost use Rattle.std.specs.Prelude.{◌≡◌, ◌≤◌, ◌↔◌, IsOk, IfOk, IfErr};
 
 use crate::counting::Counting;
-use block_kinds::{Block, ByPace, Held, ParamFault, Parameter, Shape, Single, work_single};
+use block_kinds::{Batch, Block, ByPace, Held, ParamFault, Parameter, Shape, Single, work_single};
 use items::{ItemType, Items};
 use std::marker::PhantomData;
 
@@ -44,16 +44,8 @@ impl<C: Counting> Single for Counted<C> {
 
     ghost equation = { counted_of C.equation };
 
-    fn fill(
-        &self,
-        _state: u64,
-        first: u64,
-        count: u64,
-        window: &Items,
-        _held: &[Held],
-        out: &mut Items,
-    ) -> u64 {
-        C::fill(self.item, self.n, first, count, window, out);
+    fn fill(&self, batch: &Batch<'_>, out: &mut Items) -> u64 {
+        C::fill(self.item, self.n, batch, out);
         0
     }
 

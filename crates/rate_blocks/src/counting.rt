@@ -3,10 +3,11 @@ ghost use Rattle.std.specs.Prelude.{◌≡◌, ◌≤◌, ℕ};
 ghost use Rattle.stream_model.specs.declared.vocabulary.ItemType.{ItemType};
 ghost use Rattle.stream_model.specs.Meaning.{Meaning, IsLawful};
 ghost use Rattle.items.specs.Items.{type_of};
+ghost use Rattle.block_kinds.specs.Fill.{CanFill, HasFilled};
 ghost use Rattle.block_kinds.specs.Shape.{IsShape, IsPlacedBy};
-ghost use Rattle.rate_blocks.specs.Counted.{IsLent, HasGiven, IsPlain};
+ghost use Rattle.rate_blocks.specs.Counted.{IsPlain};
 
-use block_kinds::Shape;
+use block_kinds::{Batch, Shape};
 use items::{ItemType, Items};
 
 /// What a block makes of one stream by a number.
@@ -30,16 +31,16 @@ pub trait Counting: Drop {
         ensures shape { (p : ℕ) → IsShape (equation item n) p result }
         ensures placed { (p : ℕ) → IsPlacedBy (equation item n) (λ _ s. s) p result.pace };
 
-    /// Writes what firings `first` to below `first + count` give into the empty `out`. `window` has the items that they take.
-    fn fill(item: ItemType, n: u64, first: u64, count: u64, window: &Items, out: &mut Items)
+    /// Does the firings of a batch: writes what they give into the empty `out`.
+    fn fill(item: ItemType, n: u64, batch: &Batch<'_>, out: &mut Items)
         requires least { LEAST ≤ n }
         requires most { n ≤ MOST }
-        requires lent { IsLent (equation item n) first count window.now out.old }
-        ensures items { HasGiven (equation item n) first count window.now out.new }
+        requires can { CanFill (equation item n) batch.now out.old }
+        ensures items { HasFilled (equation item n) batch.now out.new }
         ensures item_type { type_of out.new ≡ type_of out.old };
 
-    /// The block has one input, one output and no state.
-    ghost plain: { (item : ItemType) (n : ℕ) → IsPlain (equation item n) };
+    /// The block has one input and one output, and no past, setting or state.
+    ghost plain: { (item : ItemType) (n : ℕ) → IsPlain item (equation item n) };
 
     /// The laws that the runtime rests on.
     ghost lawful: { (item : ItemType) (n : ℕ) → LEAST ≤ n → n ≤ MOST → IsLawful (equation item n) };

@@ -2,6 +2,7 @@
 ghost use Rattle.std.specs.Prelude.{◌≡◌, ◌≤◌, ◌<◌, ◌^◌, ◌↔◌, All, [], length, map, IsOk, IfOk, IfErr};
 ghost use Rattle.stream_model.specs.Kinds.Rates.{deinterleave};
 
+use crate::port_count::PortCount;
 use block_kinds::{Block, ByPace, Held, ParamFault, Parameter, Shape, ports};
 use items::{ItemType, Items};
 use lane_kernels::SimdLane;
@@ -11,9 +12,7 @@ use lane_work::{AppendWork, append_items};
 #[derive(Debug, Drop, PartialEq, Eq)]
 pub struct Deinterleave {
     item: ItemType,
-    ports: u64,
-    ghost some: { 1 ≤ ports },
-    ghost few: { ports ≤ 16 },
+    ports: PortCount,
 }
 
 impl Deinterleave {
@@ -25,10 +24,10 @@ impl Deinterleave {
         ensures range { IsOk result ↔ ((1 ≤ ports) × (ports ≤ 16)) }
         ensures err { IfErr result (λ fault. fault ≡ ParamFault.BadParameter Parameter.Ports) }
     {
-        if ports < 1 || 16 < ports {
-            return Err(ParamFault::BadParameter(Parameter::Ports));
-        }
-        Ok(Deinterleave { item, ports })
+        Ok(Deinterleave {
+            item,
+            ports: PortCount::new(ports)?,
+        })
     }
 }
 
@@ -62,8 +61,8 @@ impl Block for Deinterleave {
     type Places = ByPace;
 
     fn shape(&self, _input: usize) -> Shape<'_> {
-        let outputs = ports(self.ports as u32, self.item);
-        Shape::at_rate(ports(1, self.item), outputs, self.ports, 1)
+        let outputs = ports(self.ports.value as u32, self.item);
+        Shape::at_rate(ports(1, self.item), outputs, self.ports.value, 1)
     }
 
     fn work(
@@ -75,7 +74,7 @@ impl Block for Deinterleave {
         _held: &[Held],
         out: &mut [Items],
     ) -> u64 {
-        let step = self.ports as usize;
+        let step = self.ports.value as usize;
         for at in 0..out.len() {
             append_items(
                 &EachOf { step, at },
@@ -89,5 +88,5 @@ impl Block for Deinterleave {
 
     ghost lawful = { deinterleave_of-lawful };
 
-    ghost same = { λ a b. same_sized deinterleave a.item b.item a.ports b.ports };
+    ghost same = { λ a b. same_sized deinterleave a.item b.item a.ports.value b.ports.value };
 }

@@ -2,7 +2,7 @@
 
 use crate::counted::Counted;
 use crate::counting::Counting;
-use block_kinds::{Pace, Shape};
+use block_kinds::{Batch, Pace, Shape};
 use items::{ItemType, Items};
 
 /// `n` zeros, and then all of the input with its tags. GNU Radio's `delay` gives only as many items as come in.
@@ -34,12 +34,12 @@ impl Counting for Late {
         }
     }
 
-    fn fill(_item: ItemType, _n: u64, _first: u64, count: u64, window: &Items, out: &mut Items) {
-        out.push_zeros(count as usize - window.len());
-        out.push_slice(window);
+    fn fill(_item: ItemType, _n: u64, batch: &Batch<'_>, out: &mut Items) {
+        out.push_zeros(batch.count as usize - batch.window.len());
+        out.push_slice(batch.window);
     }
 
-    ghost plain = { λ _ _. record { single = record { in_least = refl; in_most = refl; out_least = refl; out_most = refl }; words = λ _ _ _. refl } };
+    ghost plain = { λ _ _. refl };
 
     ghost lawful = { λ t n _ most. delay-lawful t n most };
 }

@@ -2,7 +2,7 @@
 
 use crate::counted::Counted;
 use crate::counting::Counting;
-use block_kinds::Shape;
+use block_kinds::{Batch, Shape};
 use items::{ItemType, Items};
 
 /// The first `n` items; then the block is done. As GNU Radio's `head`.
@@ -34,11 +34,11 @@ impl Counting for First {
         }
     }
 
-    fn fill(_item: ItemType, _n: u64, _first: u64, _count: u64, window: &Items, out: &mut Items) {
-        out.push_slice(window);
+    fn fill(_item: ItemType, _n: u64, batch: &Batch<'_>, out: &mut Items) {
+        out.push_slice(batch.window);
     }
 
-    ghost plain = { λ _ _. record { single = record { in_least = refl; in_most = refl; out_least = refl; out_most = refl }; words = λ _ _ _. refl } };
+    ghost plain = { λ _ _. refl };
 
     ghost lawful = { λ t n _ _. head-lawful t n };
 }

@@ -2,6 +2,7 @@
 ghost use Rattle.std.specs.Prelude.{◌≡◌, ◌≤◌, ◌^◌, ◌↔◌, IsOk, IfOk, IfErr};
 ghost use Rattle.stream_model.specs.Kinds.Rates.{interleave};
 
+use crate::port_count::PortCount;
 use block_kinds::{Block, ByPace, Held, ParamFault, Parameter, Shape, ports};
 use items::{ItemType, Items};
 use lane_kernels::SimdLane;
@@ -11,9 +12,7 @@ use lane_work::{InputWork, append_inputs};
 #[derive(Debug, Drop, PartialEq, Eq)]
 pub struct Interleave {
     item: ItemType,
-    ports: u64,
-    ghost some: { 1 ≤ ports },
-    ghost few: { ports ≤ 16 },
+    ports: PortCount,
 }
 
 impl Interleave {
@@ -25,10 +24,10 @@ impl Interleave {
         ensures range { IsOk result ↔ ((1 ≤ ports) × (ports ≤ 16)) }
         ensures err { IfErr result (λ fault. fault ≡ ParamFault.BadParameter Parameter.Ports) }
     {
-        if ports < 1 || 16 < ports {
-            return Err(ParamFault::BadParameter(Parameter::Ports));
-        }
-        Ok(Interleave { item, ports })
+        Ok(Interleave {
+            item,
+            ports: PortCount::new(ports)?,
+        })
     }
 }
 
@@ -61,8 +60,8 @@ impl Block for Interleave {
     type Places = ByPace;
 
     fn shape(&self, _input: usize) -> Shape<'_> {
-        let inputs = ports(self.ports as u32, self.item);
-        Shape::at_rate(inputs, ports(1, self.item), 1, self.ports)
+        let inputs = ports(self.ports.value as u32, self.item);
+        Shape::at_rate(inputs, ports(1, self.item), 1, self.ports.value)
     }
 
     fn work(
@@ -74,7 +73,7 @@ impl Block for Interleave {
         _held: &[Held],
         out: &mut [Items],
     ) -> u64 {
-        let total = self.ports * count;
+        let total = self.ports.value * count;
         let rounds = Rounds {
             count: count as usize,
         };
@@ -84,5 +83,5 @@ impl Block for Interleave {
 
     ghost lawful = { interleave_of-lawful };
 
-    ghost same = { λ a b. same_sized interleave a.item b.item a.ports b.ports };
+    ghost same = { λ a b. same_sized interleave a.item b.item a.ports.value b.ports.value };
 }

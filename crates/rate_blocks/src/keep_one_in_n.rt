@@ -3,7 +3,7 @@ ghost use Rattle.std.specs.Prelude.{◌≤◌};
 
 use crate::counted::Counted;
 use crate::counting::Counting;
-use block_kinds::{Shape, ports};
+use block_kinds::{Batch, Shape, ports};
 use items::{ItemType, Items};
 use lane_kernels::SimdLane;
 use lane_work::{LaneWork, make_items};
@@ -54,11 +54,11 @@ impl Counting for Lasts {
         Shape::at_rate(ports(1, item), ports(1, item), n, 1)
     }
 
-    fn fill(_item: ItemType, n: u64, _first: u64, count: u64, window: &Items, out: &mut Items) {
-        make_items(&Lasts { n }, window, count as usize, out);
+    fn fill(_item: ItemType, n: u64, batch: &Batch<'_>, out: &mut Items) {
+        make_items(&Lasts { n }, batch.window, batch.count as usize, out);
     }
 
-    ghost plain = { λ _ _. record { single = record { in_least = refl; in_most = refl; out_least = refl; out_most = refl }; words = λ _ _ _. refl } };
+    ghost plain = { λ _ _. refl };
 
     ghost lawful = { keep_one_in_n-lawful };
 }

@@ -9,6 +9,7 @@ pub mod head;
 pub mod integrate;
 pub mod interleave;
 pub mod keep_one_in_n;
+mod port_count;
 pub mod repeat;
 pub mod skiphead;
 pub mod stream_mux;

@@ -4,7 +4,7 @@ ghost use Rattle.rate_blocks.specs.Repeats.{repeated};
 
 use crate::counted::Counted;
 use crate::counting::Counting;
-use block_kinds::{Shape, ports};
+use block_kinds::{Batch, Shape, ports};
 use items::{ItemType, Items};
 use lane_kernels::SimdLane;
 use lane_work::{AppendWork, append_items};
@@ -101,11 +101,11 @@ impl Counting for Copies {
         Shape::at_rate(ports(1, item), ports(1, item), 1, n)
     }
 
-    fn fill(_item: ItemType, n: u64, _first: u64, count: u64, window: &Items, out: &mut Items) {
-        append_items(&Copies { n }, window, (n * count) as usize, out);
+    fn fill(_item: ItemType, n: u64, batch: &Batch<'_>, out: &mut Items) {
+        append_items(&Copies { n }, batch.window, (n * batch.count) as usize, out);
     }
 
-    ghost plain = { λ _ _. record { single = record { in_least = refl; in_most = refl; out_least = refl; out_most = refl }; words = λ _ _ _. refl } };
+    ghost plain = { λ _ _. refl };
 
     ghost lawful = { repeat-lawful };
 }

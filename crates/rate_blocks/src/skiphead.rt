@@ -2,7 +2,7 @@
 
 use crate::counted::Counted;
 use crate::counting::Counting;
-use block_kinds::{Pace, Shape};
+use block_kinds::{Batch, Pace, Shape};
 use items::{ItemType, Items};
 
 /// All but the first `n` items, as GNU Radio's `skiphead`. A tag on one of these goes to the first item that is given.
@@ -34,12 +34,13 @@ impl Counting for Rest {
         }
     }
 
-    fn fill(_item: ItemType, n: u64, first: u64, _count: u64, window: &Items, out: &mut Items) {
-        let skipped = n.saturating_sub(first) as usize;
+    fn fill(_item: ItemType, n: u64, batch: &Batch<'_>, out: &mut Items) {
+        let window = batch.window;
+        let skipped = n.saturating_sub(batch.first) as usize;
         out.push_range(window, skipped.min(window.len()), window.len());
     }
 
-    ghost plain = { λ _ _. record { single = record { in_least = refl; in_most = refl; out_least = refl; out_most = refl }; words = λ _ _ _. refl } };
+    ghost plain = { λ _ _. refl };
 
     ghost lawful = { λ t n _ _. skiphead-lawful t n };
 }

@@ -10,6 +10,7 @@ use circular_buffer::HeapCircularBuffer;
 use numbers::Number;
 use numbers::vectors::append_copies;
 use std::alloc::Global;
+use std::fmt;
 use std::marker::Model;
 
 /// A bounded buffer with one writer and several readers. A contract sees what was written, what is
@@ -21,6 +22,12 @@ pub struct Ring<T: Number> {
     greatest: u32,
     written: u64,
     readers: Vec<ReaderState>,
+}
+
+impl<T: Number> fmt::Debug for Ring<T> {
+    fn fmt<W: fmt::Write>(&self, f: &mut fmt::Formatter<W>) -> fmt::Result {
+        f.debug_struct("Ring").finish_non_exhaustive()
+    }
 }
 
 impl<T: Number> Model for Ring<T> {

@@ -2,6 +2,5 @@ pub mod LineLemmas
 pub mod EndLemmas
 pub mod FieldLemmas
 pub mod NumberLemmas
-pub mod NameLemmas
 pub mod ScriptLemmas
 pub mod AskableLemmas

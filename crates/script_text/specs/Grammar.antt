@@ -1,10 +1,9 @@
 -- What a line of a script says.
-use Rattle.std.specs.Prelude.{◌⊎◌, ℕ, suc, ◌<◌, ◌≤◌, ℤ, List, [], ◌∷◌, Bool, ◌&&◌, ◌==◌, nat_lt, nat_le, length, if◌then◌else◌, codes, Option, Some, None}
-use Rattle.std.specs.List.{list_all}
+use Rattle.std.specs.Prelude.{◌⊎◌, ℕ, suc, ◌<◌, ◌≤◌, ℤ, List, [], ◌∷◌, ◌==◌, nat_lt, length, if◌then◌else◌, codes, Option, Some, None}
 use Rattle.std.specs.Option.{option_map}
 use Rattle.std.specs.Str.{bytes_eq}
 use Rattle.stream_model.specs.Tags.{Mark}
-use Rattle.items.specs.Name.{is_name_byte}
+use Rattle.items.specs.Name.{name_of}
 use Rattle.script_text.specs.Lines.{begins_with, longest_line, most_lines}
 use Rattle.script_text.specs.Numbers.{offset_of, max_of, integer_of}
 use Rattle.script_text.specs.Fields.{fields_of, cut_at}
@@ -85,13 +84,6 @@ equals_sign = 61
 
 abbrev pub at_sign : ℕ
 at_sign = 64
-
--- a name of 1 to most bytes, each an ASCII letter, a digit, `_`, `.` or `-`
-abbrev pub is_name : ℕ → List ℕ → Bool
-is_name most bytes = nat_lt 0 (length bytes) && nat_le (length bytes) most && list_all is_name_byte bytes
-
-abbrev pub name_of : ℕ → List ℕ → Option (List ℕ)
-name_of most bytes = if is_name most bytes then Some bytes else None
 
 -- the name of a block
 abbrev pub block_of : List ℕ → Option (List ℕ)

@@ -1,8 +1,9 @@
 //! Lines as commands.
 ghost use Rattle.std.specs.Prelude.{◌≡◌, ◌≢◌, ◌↔◌, [], ◌∷◌, IsTrue, IsSome, IfOk, OnErr, IfSome, IfNone, None};
 ghost use Rattle.std.specs.Option.{option_map};
+ghost use Rattle.items.specs.Name.{name_of};
 ghost use Rattle.script_text.specs.Fields.{fields_of};
-ghost use Rattle.script_text.specs.Grammar.{SaysList, says, parsed_line, command_of, feed_of, close_of, set_of, claim_of, commit_of, abandon_of, step_of, read_of, why_of, quiet_of, settle_of, name_alone, name_and_max, only_two, place_of, integers_of, given_of, marks_of, mark_of, mark_at, name_of, with_items};
+ghost use Rattle.script_text.specs.Grammar.{SaysList, says, parsed_line, command_of, feed_of, close_of, set_of, claim_of, commit_of, abandon_of, step_of, read_of, why_of, quiet_of, settle_of, name_alone, name_and_max, only_two, place_of, integers_of, given_of, marks_of, mark_of, mark_at, with_items};
 ghost use Rattle.script_text.specs.Numbers.{max_of, integer_of};
 ghost use Rattle.script_text.specs.Commands.{line_seen, command_seen, marks_seen, mark_seen};
 

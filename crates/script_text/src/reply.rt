@@ -4,6 +4,7 @@ ghost use Rattle.std.specs.Prelude.{◌≡◌, ◌++◌, IfOk, OnOk};
 use crate::print::{push_counted, push_held, push_named};
 use items::{Items, Tag};
 use std::alloc::{AllocError, Global};
+use std::fmt;
 
 /// What a command is answered.
 #[derive(Clone, Copy)]
@@ -59,6 +60,12 @@ pub enum Reply<'a> {
     Quiet(bool),
     /// No block can act any more: whether each is done.
     Settled(bool),
+}
+
+impl fmt::Debug for Reply<'_> {
+    fn fmt<W: fmt::Write>(&self, f: &mut fmt::Formatter<W>) -> fmt::Result {
+        f.debug_struct("Reply").finish_non_exhaustive()
+    }
 }
 
 impl Reply<'_> {

@@ -4,6 +4,7 @@ ghost use Rattle.std.specs.Prelude.{◌≡◌, ◌++◌, IfOk, OnOk};
 use crate::print::{push_counted, push_held, push_named};
 use items::{Items, Tag};
 use std::alloc::{AllocError, Global};
+use std::fmt;
 
 /// A line of the report on a graph that was checked, or on a run at its end.
 #[derive(Clone, Copy)]
@@ -34,6 +35,12 @@ pub enum Report<'a> {
     Done,
     /// Not all blocks are done, and none can act.
     Stalled,
+}
+
+impl fmt::Debug for Report<'_> {
+    fn fmt<W: fmt::Write>(&self, f: &mut fmt::Formatter<W>) -> fmt::Result {
+        f.debug_struct("Report").finish_non_exhaustive()
+    }
 }
 
 impl Report<'_> {

@@ -17,7 +17,7 @@ use Rattle.plant_laws.specs.Stored.{Stored, Tape, tape_at, timeline_at}
 use Rattle.plant_laws.specs.Changes.{with_fed, with_closed, with_settings}
 use Rattle.stores.specs.declared.intake.Intake.{Intake}
 use Rattle.stores.specs.Stores.{handed_of, tape_of, stored_of, state_of, IsAsBefore, IsFed, IsSet}
-use Rattle.stores.proofs.Stored.{state_set, tape_set, timeline_set}
+use Rattle.stores.proofs.Places.{state_set, tape_set, timeline_set}
 
 module _ (hs : List Intake) (b : ℕ) (old : Intake) (in' : b < length hs) (here : old ≡ slice_index_or hs b old) where
   module _ (ps : List Progress) where

@@ -4,7 +4,7 @@ pub mod Views
 mod Feeding
 mod Growing
 pub mod Beginning
-pub mod Stored
+pub mod Places
 pub mod Capacities
 pub mod Handing
 pub mod Lendable

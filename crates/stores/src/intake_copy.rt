@@ -8,6 +8,7 @@ use crate::intake::Intake;
 use crate::tape::Tape;
 use settings::{Held, Timeline};
 use std::alloc::{AllocError, Global};
+use std::fmt;
 use std::marker::Model;
 use std::sync::Arc;
 
@@ -28,6 +29,12 @@ impl Drop for IntakeCopy {
         } = self;
         drop(tape);
         drop(settings);
+    }
+}
+
+impl fmt::Debug for IntakeCopy {
+    fn fmt<W: fmt::Write>(&self, f: &mut fmt::Formatter<W>) -> fmt::Result {
+        f.debug_struct("IntakeCopy").finish_non_exhaustive()
     }
 }
 

@@ -3,17 +3,15 @@
 
 pub mod intake;
 pub mod intake_copy;
-pub mod kept;
 mod opening;
 pub mod recording;
-pub mod segment;
+pub mod stored;
 pub mod stores;
 pub mod tape;
 
 pub use intake::Intake;
 pub use intake_copy::IntakeCopy;
-pub use kept::Kept;
 pub use recording::{Recording, are_same};
-pub use segment::Segment;
+pub use stored::Stored;
 pub use stores::Stores;
 pub use tape::Tape;

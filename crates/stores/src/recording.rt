@@ -1,12 +1,12 @@
 //! Streams that are kept whole, items and tags: those of tapes, and what sinks have collected.
-ghost use Rattle.std.specs.Prelude.{◌≡◌, ◌+◌, ◌<◌, ◌≤◌, ◌^◌, [], ◌++◌, ◌↔◌, length, map, slice_range, IfOk, OnOk, OnErr, IsOk, IsTrue, ◌==◌};
+ghost use Rattle.std.specs.Prelude.{◌≡◌, ◌+◌, ◌<◌, ◌≤◌, ◌^◌, [], ◌++◌, ◌↔◌, length, map, slice_range, IfOk, OnOk, IsOk, IsTrue, ◌==◌};
 ghost use Rattle.stream_model.specs.Tags.{tags_within};
 ghost use Rattle.items.specs.Items as typed;
 ghost use Rattle.items.specs.Items.{numbers_of, spare_of};
 ghost use Rattle.items.specs.Tags.{tag_of};
 ghost use Rattle.tags.specs.TagList.{insert_tags};
 
-use items::{ItemType, Items};
+use items::{ItemFault, ItemType, Items};
 use std::alloc::{AllocError, Global};
 use std::marker::Model;
 use tags::{Tag, Tags};
@@ -102,6 +102,20 @@ impl Recording {
         ensures items { numbers_of result.now ≡ self.now.items }
     {
         &self.items
+    }
+
+    /// A copy of items `from` to below `to`. It fails only where the allocator refuses.
+    pub fn slice(&self, alloc: Global, from: u64, to: u64) -> Result<Items, AllocError>
+        requires ordered { from ≤ to }
+        requires within { to ≤ length self.now.items }
+        ensures item { IfOk result (λ items. typed.type_of items ≡ self.now.item) }
+        ensures items { IfOk result (λ items. numbers_of items ≡ slice_range self.now.items from to) }
+    {
+        match self.items.slice(alloc, from as usize, to as usize) {
+            Ok(items) => Ok(items),
+            Err(ItemFault::Memory) => Err(AllocError),
+            Err(ItemFault::ItemRange) => unreachable!(),
+        }
     }
 
     /// The tags on items `from` to below `to`.

@@ -1,24 +1,22 @@
 //! All that is stored, block by block.
 
-ghost use Rattle.std.specs.Prelude.{◌≡◌, ◌<◌, ◌≤◌, [], length, map, min, slice_range, IfOk, IfSome, None, ◌+◌};
+ghost use Rattle.std.specs.Prelude.{◌≡◌, ◌<◌, ◌≤◌, [], length, map, min, IfOk, IfSome, None, ◌+◌};
 ghost use Rattle.ring_readers.specs.State.{most_kept, slowest_of};
 ghost use Rattle.stream_model.specs.Tags.{tags_within};
 ghost use Rattle.stream_model.specs.Network.{nothing_handed};
-ghost use Rattle.items.specs.Items.{type_of, numbers_of};
-ghost use Rattle.items.specs.Tags.{tag_of};
 ghost use Rattle.flowgraph.specs.Flowgraph.{net_of};
-ghost use Rattle.plant_laws.specs.Stored.{buffers_in, buffer_at, sink_at};
+ghost use Rattle.plant_laws.specs.Stored.{buffers_in, buffer_at};
 ghost use Rattle.plant_laws.specs.Opening.{stored_opening};
 
 use crate::intake::Intake;
-use crate::kept::Kept;
 use crate::opening::{all_handed, buffers, sinks, words};
 use crate::recording::Recording;
-use crate::segment::{Segment, cut};
+use crate::stored::Stored;
 use block_kinds::Block;
 use buffers::Buffer;
 use flowgraph::{BlockId, Valid};
 use std::alloc::{AllocError, Global};
+use std::fmt;
 use tags::Tag;
 
 /// What a plant stores, block by block.
@@ -53,6 +51,12 @@ impl Drop for Stores {
     }
 }
 
+impl fmt::Debug for Stores {
+    fn fmt<W: fmt::Write>(&self, f: &mut fmt::Formatter<W>) -> fmt::Result {
+        f.debug_struct("Stores").finish_non_exhaustive()
+    }
+}
+
 impl Stores {
     ghost use Rattle.stores.specs.Stores.{stored_in, handed_of};
     ghost use Rattle.stores.specs.Opening.{HaveCapacities};
@@ -77,26 +81,9 @@ impl Stores {
             brought: Vec::new(alloc),
         })
     }
-    /// A copy of items `from` to below `to` of what a sink has collected, with the tags on them. It fails only where the allocator refuses.
-    pub fn piece(
-        &self,
-        alloc: Global,
-        sink: BlockId,
-        from: u64,
-        to: u64,
-    ) -> Result<Segment, AllocError>
-        requires sink { sink.0 < length (stored_in self.now).sinks }
-        requires ordered { from ≤ to }
-        requires within { to ≤ length (sink_at (stored_in self.now) sink.0).items }
-        ensures item { IfOk result (λ segment. type_of segment.items ≡ (sink_at (stored_in self.now) sink.0).item) }
-        ensures items { IfOk result (λ segment. numbers_of segment.items ≡ slice_range (sink_at (stored_in self.now) sink.0).items from to) }
-        ensures tags { IfOk result (λ segment. map tag_of segment.tags.items ≡ tags_within from to (sink_at (stored_in self.now) sink.0).tags) }
-    {
-        cut(alloc, &self.sinks[sink.0 as usize], from, to)
-    }
 
     /// How much the buffer of an output keeps.
-    pub fn kept(&self, block: BlockId, port: usize) -> Kept
+    pub fn kept(&self, block: BlockId, port: usize) -> Stored
         requires { port < length (buffers_in (stored_in self.now).buffers block.0) }
         ensures items { result.items ≡ length (buffer_at (stored_in self.now) block.0 port).ring.kept }
         ensures tags { let buffer = buffer_at (stored_in self.now) block.0 port in
@@ -106,7 +93,7 @@ impl Stores {
         ensures none { slowest_of (buffer_at (stored_in self.now) block.0 port).ring.readers ≡ None → result.tags ≡ 0 }
     {
         let buffer = &self.buffers[block.0 as usize][port];
-        Kept {
+        Stored {
             items: buffer.items(),
             tags: buffer.tags_kept(),
         }

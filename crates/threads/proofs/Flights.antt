@@ -18,7 +18,7 @@ use Rattle.machine_laws.specs.Stays.{in_flight}
 use Rattle.machine_laws.proofs.Choices.{if_both}
 use Rattle.machine_laws.proofs.Agreeing.{jobs_same}
 use Rattle.threads.specs.Recorded.{flights_in}
-use Rattle.threads.proofs.Claims.{claims}
+use Rattle.machine_laws.proofs.Claiming.{claims}
 
 abbrev flies : Progress → ℕ
 flies s = cond (s.claimed == 0) 0 1

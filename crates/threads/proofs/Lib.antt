@@ -1,5 +1,4 @@
 mod Agreeing
-mod Claims
 mod Flights
 mod Histories
 mod Records

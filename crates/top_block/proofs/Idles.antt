@@ -1,5 +1,5 @@
 -- Feeding, closing and setting leave how far the blocks are, so that what is idle stays so.
-use Rattle.std.proofs.Common.{◌≡◌, ℕ, zero, suc, List, [], ◌∷◌, length, map, Bool, true, refl, ap, sym, subst, ◌∙◌, ◌+◌, not, Some, None, ℤ}
+use Rattle.std.proofs.Common.{◌≡◌, ℕ, zero, suc, List, [], ◌∷◌, length, map, true, refl, ap, sym, subst, ◌∙◌, ◌+◌, not, Some, None, ℤ}
 use Rattle.std.specs.Prelude.{nat_lt, ◌==◌, Option}
 use Rattle.std.specs.List.{list_all}
 use Rattle.stream_model.specs.Network.{Network, Node, State, Progress, node_at, role_at, handed_at, no_progress, is_source, opening}

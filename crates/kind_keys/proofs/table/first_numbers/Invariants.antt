@@ -1,4 +1,4 @@
-use Rattle.std.proofs.Common.{◌≡◌, ◌++◌, drop, length}
+use Rattle.std.proofs.Common.{◌≡◌, ◌++◌, drop}
 use Rattle.toml.specs.View.{items_view}
 use Rattle.arrayvec.specs.ArrayVec.{array_vec_len}
 use Rattle.kind_keys.specs.Tables.{numbers_of}

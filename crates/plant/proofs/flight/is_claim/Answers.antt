@@ -1,16 +1,18 @@
-use Rattle.std.proofs.Common.{◌<◌, ◌∙◌, length, ap, sym, arith}
+use Rattle.std.proofs.Common.{◌<◌, ◌∙◌, length, map, ap, sym, arith}
 use Rattle.std.proofs.lemmas.List.{length-map, get_or_default}
 use Rattle.stream_model.specs.Network.{Progress, progress_at}
 use Rattle.stream_model.specs.Machine.{Job}
+use Rattle.items.specs.Items.{numbers_of}
+use Rattle.settings.specs.Values.{held_of}
 use Rattle.flowgraph.specs.Flowgraph.{net_of, node_of}
-use Rattle.jobs.specs.Jobs.{job_of}
+use Rattle.jobs.specs.Jobs.{job_in}
 use Rattle.plant.proofs.InFlight.{AreOwn, is_claim, claim_is}
 use Rattle.plant.proofs.flight.is_claim.Given.{Over}
 use Rattle.plant.proofs.flight.is_claim.Goals.{After-are_its_numbers}
 use Rattle.plant.proofs.flight.is_claim.Goals as goal
 
 abbrev job : (g : Over) (c : After-are_its_numbers g) → Job
-job g c = let j = c.args.job.now in job_of j.outputs j.block.0 j.first j.count j.windows.now j.held.now j.word
+job g c = job_in c.args.job.now
 
 -- what the job is compared with is its block's own
 own : (g : Over) (c : After-are_its_numbers g) → AreOwn (net_of g.B.Block.meaning c.args.graph.now) c.args.stores.now c.args.firings.now c.args.job.now.block.0 c.progress.result.firings c.progress.result.claimed c.outputs-outputs.result c.index-word.result.now
@@ -31,16 +33,18 @@ returns-then-are_its_numbers g c =
     let at = (goal.at.returns-then-are_its_numbers g c).After-are_its_numbers in
     let its = own g at in
     let numbers = c.are_its_numbers.ensures.0 c.if-are_its_numbers.true in
+    let windows = ap (map numbers_of) c.deref.ensures.value in
+    let held = ap (map held_of) c.deref-then-are_its_numbers.ensures.value in
     let some : 0 < (progress_at c.args.firings.now c.args.job.now.block.0).claimed = (let more = numbers.0 in let same = its.claimed in omega arith) in (
       λ t. is_claim c.args.graph.now.names net c.recall.ensures.runs c.recall.ensures.valid c.args.stores.now c.args.firings.now c.requires.stored (job g at) its.inside some (record {
         first = numbers.1 ∙ its.first;
         count = numbers.2 ∙ its.claimed;
         outputs = numbers.3 ∙ its.used;
         word = numbers.4 ∙ its.state;
-        held = (c.is_given.ensures.0 t).0;
-        windows = (c.is_given.ensures.0 t).1;
+        held = sym held ∙ (c.is_given.ensures.0 t).0;
+        windows = sym windows ∙ (c.is_given.ensures.0 t).1;
       }),
-      λ claim. let is = claim_is c.args.graph.now.names net c.recall.ensures.runs c.recall.ensures.valid c.args.stores.now c.args.firings.now c.requires.stored (job g at) its.inside some claim in c.is_given.ensures.1 (is.held, is.windows),
+      λ claim. let is = claim_is c.args.graph.now.names net c.recall.ensures.runs c.recall.ensures.valid c.args.stores.now c.args.firings.now c.requires.stored (job g at) its.inside some claim in c.is_given.ensures.1 (held ∙ is.held, windows ∙ is.windows),
     )
 
 pub returns-else-are_its_numbers : goal.returns-else-are_its_numbers

@@ -1,4 +1,4 @@
-use Rattle.script_text.proofs.NameLemmas.{name_found}
+use Rattle.items.proofs.Names.{name_found}
 use Rattle.script_text.proofs.name.block_name.Goals as goal
 
 pub returns : goal.returns

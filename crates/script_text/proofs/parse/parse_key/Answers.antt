@@ -1,4 +1,4 @@
-use Rattle.script_text.proofs.NameLemmas.{name_found}
+use Rattle.items.proofs.Names.{name_found}
 use Rattle.script_text.proofs.parse.parse_key.Goals as goal
 
 pub returns : goal.returns

@@ -6,6 +6,6 @@ use Rattle.bit_blocks.proofs.diff_decoder.DiffDecoderSingle.fill.Goals as goal
 
 pub returns-clause-items : goal.returns-clause-items
 returns-clause-items c ts xs fed =
-    let b = c.args.self.now in
-    c.make_bytes.ensures.numbers
-    ∙ decode-given b.modulus ts xs c.args._first c.args.count c.args._state (numbers_of c.args.window.now) (map held_of c.args._held.now) fed
+    let m = c.args.self.now.modulus in
+    let batch = c.args.batch.now in
+    c.make_bytes.ensures.numbers ∙ decode-given m.value ts xs batch.first batch.count batch.state (numbers_of batch.window.now) (map held_of batch.held.now) fed

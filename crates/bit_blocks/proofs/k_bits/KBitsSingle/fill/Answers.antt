@@ -5,7 +5,7 @@ use Rattle.bit_blocks.proofs.k_bits.KBitsSingle.fill.Goals as goal
 pub make_bytes-requires-clause-can : goal.make_bytes-requires-clause-can
 make_bytes-requires-clause-can g c =
     let b = c.args.self.now in
-    ap (λ i. g.P.Packing.taken b.k * (i * c.args.count)) c.pace-taken.ensures.given ∙ all_taken (g.met.P.Packing.packed b.k b.some) c.requires.fed
+    ap (λ i. g.P.Packing.taken b.k * (i * c.args.batch.now.count)) c.pace-taken.ensures.given ∙ all_taken (g.met.P.Packing.packed b.k b.some) c.requires.fed
 
 pub returns-clause-items : goal.returns-clause-items
 returns-clause-items g c ts xs fed =

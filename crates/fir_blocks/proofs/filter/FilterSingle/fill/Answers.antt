@@ -12,10 +12,11 @@ filter_items-requires-clause-over g c = are_over c.polyphase.ensures c.requires.
 
 pub returns-clause-items : goal.returns-clause-items
 returns-clause-items g c ts xs fed =
+    let batch = c.args.batch.now in
     let f = c.polyphase.result in
     let is = c.polyphase.ensures in
     let type = c.requires.item ∙ ap (λ (m : Meaning). m.inputs.item) is.shaped in
-    let hs = map held_of c.args.held.now in
+    let hs = map held_of batch.held.now in
     c.filter_items.ensures.numbers
-    ∙ (λ i. listed (f.given * c.args.count) (λ k. phased (type i) f (taps_among hs (f.taken * (c.args.first + k / f.given))) (numbers_of c.args.window.now) k))
+    ∙ (λ i. listed (f.given * batch.count) (λ k. phased (type i) f (taps_among hs (f.taken * (batch.first + k / f.given))) (numbers_of batch.window.now) k))
     ∙ filtered-given is fed

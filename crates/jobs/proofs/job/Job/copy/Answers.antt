@@ -11,20 +11,20 @@ use Rattle.jobs.proofs.job.Job.copy.Goals as goal
 
 pub invariant_of-result : goal.invariant_of-result
 invariant_of-result g c =
-    let same : arc_value c.in_ok-try_clone.field-0 ≡ arc_value c.self.inside.graph = search rules in
-    let lent = c.self.inside.lent in
+    let same : arc_value c.in_ok-try_clone.field-0 ≡ arc_value c.self.inside.claimed.graph = search rules in
+    let lent = c.self.inside.claimed.lent in
     let numbers : map numbers_of c.in_ok-copied_windows.field-0.items ≡ map numbers_of lent.windows.items = search rules in
     let types : map type_of c.in_ok-copied_windows.field-0.items ≡ map type_of lent.windows.items = search rules in
     let held : map held_of c.in_ok-copied_settings.field-0.items ≡ map held_of lent.held.items = search rules in
     let like : AreLike c.in_ok-like_outputs.field-0.items lent.outputs.items = search rules in
-    let n = node_at (net_of g.B.Block.meaning (arc_value c.self.inside.graph)) c.self.inside.block.0 in
-    let can = can_copy n.meaning (n.multiple * c.self.inside.first) (n.multiple * c.self.inside.count) c.self.inside.word lent.windows.items c.in_ok-copied_windows.field-0.items lent.held.items c.in_ok-copied_settings.field-0.items lent.outputs.items c.in_ok-like_outputs.field-0.items numbers types held like c.self.invariant.2 in
+    let n = node_at (net_of g.B.Block.meaning (arc_value c.self.inside.claimed.graph)) c.self.inside.claimed.block.0 in
+    let can = can_copy n.meaning (n.multiple * c.self.inside.claimed.first) (n.multiple * c.self.inside.claimed.count) c.self.inside.claimed.word lent.windows.items c.in_ok-copied_windows.field-0.items lent.held.items c.in_ok-copied_settings.field-0.items lent.outputs.items c.in_ok-like_outputs.field-0.items numbers types held like c.self.invariant.2 in
     rw same (c.self.invariant.0, length_all_zip IsLike c.in_ok-like_outputs.field-0.items lent.outputs.items like ∙ c.self.invariant.1, can)
 
 pub returns : goal.returns
 returns g c =
-    let same : arc_value c.in_ok-try_clone.field-0 ≡ arc_value c.self.inside.graph = search rules in
-    let lent = c.self.inside.lent in
+    let same : arc_value c.in_ok-try_clone.field-0 ≡ arc_value c.self.inside.claimed.graph = search rules in
+    let lent = c.self.inside.claimed.lent in
     let numbers : map numbers_of c.in_ok-copied_windows.field-0.items ≡ map numbers_of lent.windows.items = search rules in
     let held : map held_of c.in_ok-copied_settings.field-0.items ≡ map held_of lent.held.items = search rules in
     let like : AreLike c.in_ok-like_outputs.field-0.items lent.outputs.items = search rules in
@@ -32,13 +32,13 @@ returns g c =
     (λ i. record {
       graph = same i;
       job = record {
-        block = c.self.inside.block.0;
+        block = c.self.inside.claimed.block.0;
         outputs = many i;
-        first = c.self.inside.first;
-        count = c.self.inside.count;
+        first = c.self.inside.claimed.first;
+        count = c.self.inside.claimed.count;
         windows = numbers i;
         held = held i;
-        word = c.self.inside.word;
+        word = c.self.inside.claimed.word;
       };
     })
     ∙ c.self.view_is

@@ -5,8 +5,8 @@ use Rattle.jobs.proofs.job.Job.into_lent.Goals as goal
 
 pub returns-clause-taken : goal.returns-clause-taken
 returns-clause-taken g c =
-    subst (λ job. AreTaken (net_of g.B.Block.meaning job.graph) job.job.block c.self.inside.lent.windows.items) c.self.view_is c.self.invariant.2.types
+    subst (λ job. AreTaken (net_of g.B.Block.meaning job.graph) job.job.block c.self.inside.claimed.lent.windows.items) c.self.view_is c.self.invariant.2.types
 
 pub returns-clause-given : goal.returns-clause-given
 returns-clause-given g c =
-    subst (λ job. AreGiven (net_of g.B.Block.meaning job.graph) job.job.block c.self.inside.lent.outputs.items) c.self.view_is (λ k d within. (c.self.invariant.2.ready k d within).item)
+    subst (λ job. AreGiven (net_of g.B.Block.meaning job.graph) job.job.block c.self.inside.claimed.lent.outputs.items) c.self.view_is (λ k d within. (c.self.invariant.2.ready k d within).item)

@@ -11,7 +11,7 @@ use Rattle.jobs.proofs.job.Job.work.Goals as goal
 
 pub invariant_of-result : goal.invariant_of-result
 invariant_of-result g c =
-    let own = c.self.inside in
+    let own = c.self.inside.claimed in
     let windows = own.lent.windows.items in
     let held = own.lent.held.items in
     let places = own.lent.outputs.items in

@@ -10,14 +10,14 @@ pub returns-then-not-is_in_flight-clause-taken : goal.returns-then-not-is_in_fli
 returns-then-not-is_in_flight-clause-taken g c =
     let old = plant_of c.args.self.now in
     let job = c.args.job.job in
-    let is = sym (asked g.B.PartialEq.eq g.B.Block.meaning old.state _ old.graph _ c.args.job.graph _ job c.is_in_flight.result (sym c.deref-2.ensures) c.job.ensures.graph c.job.ensures.job c.is_in_flight.ensures) ∙ c.if-not-is_in_flight.true in
+    let is = sym (asked g.B.PartialEq.eq g.B.Block.meaning old.state _ old.graph _ c.args.job.graph _ job c.is_in_flight.result (sym c.deref-2.ensures) c.claimed.ensures.graph c.claimed.ensures.job c.is_in_flight.ensures) ∙ c.if-not-is_in_flight.true in
     abandon_refused old c.args.job (net_of g.B.Block.meaning old.graph) (is_own g.B.PartialEq.eq old.graph c.args.job.graph job.block) job is
 
 pub returns-clause-right : goal.returns-clause-right
 returns-clause-right g c =
     let old = plant_of c.args.self.now in
     let job = c.args.job.job in
-    let is = sym (asked g.B.PartialEq.eq g.B.Block.meaning old.state _ old.graph _ c.args.job.graph _ job c.is_in_flight.result (sym c.deref-2.ensures) c.job.ensures.graph c.job.ensures.job c.is_in_flight.ensures) ∙ c.if-not-is_in_flight.false in
+    let is = sym (asked g.B.PartialEq.eq g.B.Block.meaning old.state _ old.graph _ c.args.job.graph _ job c.is_in_flight.result (sym c.deref-2.ensures) c.claimed.ensures.graph c.claimed.ensures.job c.is_in_flight.ensures) ∙ c.if-not-is_in_flight.false in
     record {
       keeps = keeps_abandoned (net_of g.B.Block.meaning old.graph) _ c.args.self.now.stores c.args.self.now.firings c.requires.keeps (rw (← c.deref.ensures) c.recall.ensures.runs) _ job is
           (inside g.B.PartialEq.eq g.B.Block.meaning g.met.B.Block.same old.graph c.args.job.graph c.args.self.now.stores c.args.self.now.firings job is)
@@ -29,5 +29,5 @@ pub returns-clause-taken : goal.returns-clause-taken
 returns-clause-taken g c =
     let old = plant_of c.args.self.now in
     let job = c.args.job.job in
-    let is = sym (asked g.B.PartialEq.eq g.B.Block.meaning old.state _ old.graph _ c.args.job.graph _ job c.is_in_flight.result (sym c.deref-2.ensures) c.job.ensures.graph c.job.ensures.job c.is_in_flight.ensures) ∙ c.if-not-is_in_flight.false in
+    let is = sym (asked g.B.PartialEq.eq g.B.Block.meaning old.state _ old.graph _ c.args.job.graph _ job c.is_in_flight.result (sym c.deref-2.ensures) c.claimed.ensures.graph c.claimed.ensures.job c.is_in_flight.ensures) ∙ c.if-not-is_in_flight.false in
     abandon_taken old (net_of g.B.Block.meaning old.graph) (is_own g.B.PartialEq.eq old.graph c.args.job.graph job.block) job c.block-block.result.0 c.abandon.new.self is c.block-block.ensures.value c.abandon.ensures.progress

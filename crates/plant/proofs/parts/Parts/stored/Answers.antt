@@ -12,4 +12,4 @@ returns-clause-kept g c =
     let in' : c.args.block.0 < length net.nodes = omega (arith, nodes, c.if-len-block.false) in
     let many : c.outputs.result ≡ used_outputs net c.args.block.0 = rw (← c.deref-3.ensures) c.outputs.ensures.value in
     let used : c.args.port < used_outputs net c.args.block.0 = omega (arith, many, c.if-outputs-port.false) in
-    is_kept net _ _ _ (rw (← c.deref.ensures) c.recall.ensures.runs) c.requires.keeps.sound c.requires.keeps.stored c.args.block.0 c.args.port in' used _ c.kept-items.ensures.tags c.kept-items.ensures.all c.kept-items.ensures.near c.kept-items.ensures.none
+    is_kept net _ _ _ (rw (← c.deref.ensures) c.recall.ensures.runs) c.requires.keeps.sound c.requires.keeps.stored c.args.block.0 c.args.port in' used _ c.kept.ensures.tags c.kept.ensures.all c.kept.ensures.near c.kept.ensures.none

@@ -4,7 +4,7 @@ use Rattle.std.proofs.lemmas.List.{length-map, take_at, get_or-set_same}
 use Rattle.stream_model.specs.Network.{node_at}
 use Rattle.items.specs.Items.{type_of}
 use Rattle.flowgraph.specs.Flowgraph.{Flowgraph, net_of}
-use Rattle.jobs.specs.declared.job.Lent.{Lent}
+use Rattle.jobs.specs.declared.lent.Lent.{Lent}
 use Rattle.stores.specs.Stores.{stored_in}
 use Rattle.plant.specs.Plant.{IsItsWork, plant_of}
 use Rattle.plant.proofs.Places.{lent_here}

@@ -17,7 +17,7 @@ append_items-requires-clause-can c =
     let there : 0 < length ws = omega (arith, can.inputs_least) in (
       ap (λ w. length (numbers_of w)) c.index-windows-0.is
           ∙ ap length (sym (get_or-map numbers_of ws 0 c.index-windows-0.result [] there))
-          ∙ length-deinterleaved b.item b.ports b.some can.settings can.streams c.args._first c.args.count c.args._state (map held_of c.args._held.now) (map numbers_of ws) can.fed
+          ∙ length-deinterleaved b.item b.ports.value b.ports.some can.settings can.streams c.args._first c.args.count c.args._state (map held_of c.args._held.now) (map numbers_of ws) can.fed
           (omega (arith, there, length-map ws numbers_of)),
       omega (arith, can.outputs_most),
     )
@@ -35,7 +35,7 @@ returns-clause-items c =
           ext_map numbers_of out (given_outputs (deinterleave_of b) ts xs c.args._first c.args.count (length old)) [] (omega (arith, length-map_numbers gives 0 (length old))) (λ p d h.
           let place : 0 + p ≡ p = omega arith in
           (c.loop-at.invariant.done p d (omega (arith, h))).0
-          ∙ deinterleave-given b.item b.ports b.some ts xs c.args._first c.args.count c.args._state (map held_of c.args._held.now) (map numbers_of ws) p fed
+          ∙ deinterleave-given b.item b.ports.value b.ports.some ts xs c.args._first c.args.count c.args._state (map held_of c.args._held.now) (map numbers_of ws) p fed
           (omega (arith, can.inputs_least, length-map ws numbers_of)) (omega (arith, h, can.outputs_most))
           ∙ sym (get_or-map_numbers gives 0 (length old) p [] (omega (arith, h)) ∙ ap gives place));
       types = ext_map type_of out (map type_of old) Byte (omega (arith, length-map old type_of)) (λ p d h.

@@ -5,7 +5,8 @@ use Rattle.rate_blocks.proofs.Moved.{head-given}
 use Rattle.rate_blocks.proofs.head.FirstCounting.fill.Goals as goal
 
 pub returns-clause-items : goal.returns-clause-items
-returns-clause-items c state held ts xs fed =
+returns-clause-items c ts xs fed =
+    let batch = c.args.batch.now in
     c.push_slice.ensures.numbers
-    ∙ (λ i. c.requires.lent.can.ready.empty i ++ numbers_of c.args.window.now)
-    ∙ head-given c.args._item c.args._n ts xs c.args._first c.args._count state (numbers_of c.args.window.now) (map held_of held) fed
+    ∙ (λ i. c.requires.can.ready.empty i ++ numbers_of batch.window.now)
+    ∙ head-given c.args._item c.args._n ts xs batch.first batch.count batch.state (numbers_of batch.window.now) (map held_of batch.held.now) fed

@@ -12,9 +12,9 @@ pub append_inputs-requires-clause-can : goal.append_inputs-requires-clause-can
 append_inputs-requires-clause-can c =
     let b = c.args.self.now in
     let can = c.requires in
-    let ports : length (map numbers_of c.args.windows.now) ≡ b.ports = omega (arith, length-map c.args.windows.now numbers_of, can.inputs_least, can.inputs_most) in (
+    let ports : length (map numbers_of c.args.windows.now) ≡ b.ports.value = omega (arith, length-map c.args.windows.now numbers_of, can.inputs_least, can.inputs_most) in (
       ap (λ n. n * c.args.count) (sym ports),
-      all-interleaved b.item b.ports b.some can.settings can.streams c.args._first c.args.count c.args._state (map held_of c.args._held.now) (map numbers_of c.args.windows.now) can.fed,
+      all-interleaved b.item b.ports.value b.ports.some can.settings can.streams c.args._first c.args.count c.args._state (map held_of c.args._held.now) (map numbers_of c.args.windows.now) can.fed,
     )
 
 pub returns-clause-items : goal.returns-clause-items
@@ -28,7 +28,7 @@ returns-clause-items c =
           ap (map numbers_of) (one_output out c.append_inputs.new.out one)
           ∙ ap (λ ys. ys ∷ [])
           (c.append_inputs.ensures.numbers
-          ∙ interleave-given b.item b.ports b.some ts xs c.args._first c.args.count c.args._state (map held_of c.args._held.now) (map numbers_of c.args.windows.now) fed
+          ∙ interleave-given b.item b.ports.value b.ports.some ts xs c.args._first c.args.count c.args._state (map held_of c.args._held.now) (map numbers_of c.args.windows.now) fed
           (omega (arith, can.inputs_least, can.inputs_most, length-map c.args.windows.now numbers_of)))
           ∙ ap (given_outputs (interleave_of b) ts xs c.args._first c.args.count) (sym one);
       types = one_kept type_of out c.index-out-0.result c.append_inputs.new.out one c.append_inputs.ensures.item_type;

@@ -5,6 +5,7 @@ use Rattle.rate_blocks.proofs.Paced.{repeat-given}
 use Rattle.rate_blocks.proofs.repeat.CopiesCounting.fill.Goals as goal
 
 pub returns-clause-items : goal.returns-clause-items
-returns-clause-items c state held ts xs fed =
+returns-clause-items c ts xs fed =
+    let batch = c.args.batch.now in
     c.append_items.ensures.numbers
-    ∙ repeat-given c.args._item c.args.n ts xs c.args._first c.args.count state (numbers_of c.args.window.now) (map held_of held) c.requires.least fed
+    ∙ repeat-given c.args._item c.args.n ts xs batch.first batch.count batch.state (numbers_of batch.window.now) (map held_of batch.held.now) c.requires.least fed

@@ -5,10 +5,11 @@ use Rattle.rate_blocks.proofs.Moved.{skip-given}
 use Rattle.rate_blocks.proofs.skiphead.RestCounting.fill.Goals as goal
 
 pub returns-clause-items : goal.returns-clause-items
-returns-clause-items c state held ts xs fed =
-    let w = numbers_of c.args.window.now in
+returns-clause-items c ts xs fed =
+    let batch = c.args.batch.now in
+    let w = numbers_of batch.window.now in
     c.push_range.ensures.numbers
-    ∙ (λ i. c.requires.lent.can.ready.empty i ++ slice_range w c.min.result (c.len-2.ensures.value i))
-    ∙ skip-given c.args._item c.args.n ts xs c.args.first c.args._count state w (map held_of held) c.min.result fed
+    ∙ (λ i. c.requires.can.ready.empty i ++ slice_range w c.min.result (c.len-2.ensures.value i))
+    ∙ skip-given c.args._item c.args.n ts xs batch.first batch.count batch.state w (map held_of batch.held.now) c.min.result fed
     (λ h. omega (arith, c.min.ensures, c.saturating_sub-skipped.ensures, c.len.ensures.value), λ h. omega (arith, c.min.ensures, c.saturating_sub-skipped.ensures, c.len.ensures.value))
     (omega (arith, c.min.ensures, c.len.ensures.value))

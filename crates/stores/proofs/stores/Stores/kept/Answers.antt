@@ -3,7 +3,7 @@ use Rattle.std.specs.Option.{IfSome}
 use Rattle.ring_readers.specs.State.{most_kept, slowest_of}
 use Rattle.stream_model.specs.Tags.{tags_within}
 use Rattle.plant_laws.specs.Stored.{OutputBuffer}
-use Rattle.stores.proofs.Stored.{port_inside, buffer_here}
+use Rattle.stores.proofs.Places.{port_inside, buffer_here}
 use Rattle.stores.proofs.stores.Stores.kept.Goals as goal
 
 pub index-buffer-requires : goal.index-buffer-requires

@@ -1,9 +1,8 @@
-//! The names of kinds.
+//! The kinds by name.
 ghost use Rattle.std.specs.Prelude.{◌≡◌};
-ghost use Rattle.kind_keys.specs.Kinds.{all_kinds, kind_text, kind_named, keys_of};
+ghost use Rattle.kinds.specs.KindNames.{all_kinds, kind_text, kind_named, name_of};
 
-use crate::key::Key;
-use block_kinds::Parameter;
+use crate::kind::Kind;
 
 /// A kind of blocks.
 #[derive(Clone, Copy, Debug, PartialEq, Eq)]
@@ -77,22 +76,6 @@ const KINDS: [KindName; 32] = [
     KindName::Delay,
 ];
 
-const ITEM_TYPE: Key = Key::Parameter(Parameter::ItemType);
-
-// The keys of a block with a type, inputs and outputs.
-macro_rules! keys {
-    ($($parameter:ident),*) => {
-        &[
-            Key::Name,
-            Key::Kind,
-            $(Key::Parameter(Parameter::$parameter),)*
-            Key::Tags,
-            Key::Multiple,
-            Key::Capacity,
-        ]
-    };
-}
-
 impl KindName {
     /// All kinds, in the order in which their names are looked up.
     pub fn all() -> &'static [KindName]
@@ -150,37 +133,46 @@ impl KindName {
             KindName::Delay => "delay",
         }
     }
+}
 
-    /// The keys of a block of the kind, in the order in which they are tested.
-    pub fn keys(&self) -> &'static [Key]
-        ensures { result.now ≡ keys_of self.now }
+impl Kind {
+    /// The kind of the block.
+    pub fn name(&self) -> KindName
+        ensures { result ≡ name_of self.now }
     {
         match self {
-            KindName::VectorSource => &[Key::Name, Key::Kind, ITEM_TYPE, Key::Capacity],
-            KindName::VectorSink | KindName::NullSink => &[Key::Name, Key::Kind, ITEM_TYPE],
-            KindName::Add | KindName::And | KindName::Or | KindName::Xor | KindName::Not => {
-                keys!(ItemType)
-            }
-            KindName::AddConst | KindName::MultiplyConst => keys!(ItemType, Value),
-            KindName::Scale => keys!(ItemType, Factor, Shift),
-            KindName::MapBb => keys!(Map),
-            KindName::Convert => keys!(ItemType, To),
-            KindName::MovingSum => keys!(ItemType, Length),
-            KindName::Fir => keys!(ItemType, Taps, Decimation, Shift),
-            KindName::InterpFir => keys!(ItemType, Taps, Interpolation, Shift),
-            KindName::PackKBits | KindName::UnpackKBits => keys!(K),
-            KindName::DiffEncoder | KindName::DiffDecoder => keys!(Modulus),
-            KindName::Scrambler | KindName::Descrambler | KindName::AdditiveScrambler => {
-                keys!(Bits, Mask, Init)
-            }
-            KindName::KeepOneInN
-            | KindName::Integrate
-            | KindName::Repeat
-            | KindName::Head
-            | KindName::SkipHead
-            | KindName::Delay => keys!(ItemType, N),
-            KindName::Interleave | KindName::Deinterleave => keys!(ItemType, Ports),
-            KindName::StreamMux => keys!(ItemType, Lengths),
+            Kind::VectorSource(_) => KindName::VectorSource,
+            Kind::VectorSink(_) => KindName::VectorSink,
+            Kind::NullSink(_) => KindName::NullSink,
+            Kind::AddConst(_) => KindName::AddConst,
+            Kind::MultiplyConst(_) => KindName::MultiplyConst,
+            Kind::Scale(_) => KindName::Scale,
+            Kind::Add(_) => KindName::Add,
+            Kind::And(_) => KindName::And,
+            Kind::Or(_) => KindName::Or,
+            Kind::Xor(_) => KindName::Xor,
+            Kind::Not(_) => KindName::Not,
+            Kind::Convert(_) => KindName::Convert,
+            Kind::MapBb(_) => KindName::MapBb,
+            Kind::MovingSum(_) => KindName::MovingSum,
+            Kind::Fir(_) => KindName::Fir,
+            Kind::InterpFir(_) => KindName::InterpFir,
+            Kind::KeepOneInN(_) => KindName::KeepOneInN,
+            Kind::Integrate(_) => KindName::Integrate,
+            Kind::Repeat(_) => KindName::Repeat,
+            Kind::Interleave(_) => KindName::Interleave,
+            Kind::Deinterleave(_) => KindName::Deinterleave,
+            Kind::StreamMux(_) => KindName::StreamMux,
+            Kind::Head(_) => KindName::Head,
+            Kind::SkipHead(_) => KindName::SkipHead,
+            Kind::Delay(_) => KindName::Delay,
+            Kind::PackKBits(_) => KindName::PackKBits,
+            Kind::UnpackKBits(_) => KindName::UnpackKBits,
+            Kind::DiffDecoder(_) => KindName::DiffDecoder,
+            Kind::DiffEncoder(_) => KindName::DiffEncoder,
+            Kind::Scrambler(_) => KindName::Scrambler,
+            Kind::Descrambler(_) => KindName::Descrambler,
+            Kind::AdditiveScrambler(_) => KindName::AdditiveScrambler,
         }
     }
 }

@@ -1,7 +1,7 @@
 use Rattle.std.proofs.Common.{◌≡◌, ℕ, ◌+◌, ◌-◌, ◌*◌, ◌/◌, ◌%◌, ◌<◌, ◌≤◌, arith, ap, sym, ◌∙◌}
 use Rattle.std.proofs.lemmas.Nat.{mod-mul-add, mod_below}
-use Rattle.bit_blocks.proofs.diff_encoder.SummingCoder.step.Goals as goal
-use Rattle.bit_blocks.proofs.diff_encoder.SummingCoder.step.Goals.{then-sum-modulus, else-sum-modulus}
+use Rattle.bit_blocks.proofs.diff_encoder.ModulusCoder.step.Goals as goal
+use Rattle.bit_blocks.proofs.diff_encoder.ModulusCoder.step.Goals.{then-sum-modulus, else-sum-modulus}
 
 -- where the sum with the rest of a byte is within the modulus
 below : (w b m : ℕ) → 0 < m → w + b % m < m → w + b % m ≡ (w + b) % m
@@ -19,7 +19,7 @@ above w b m some small most =
 
 pub returns-clause-given : goal.returns-clause-given
 returns-clause-given c =
-    let m = c.args.self.modulus in
+    let m = c.args.self.value in
     let two : 2 ≤ m = c.args.self.some in
     let rest : c.from-2.result ≡ c.args.byte % m = c.from-2.ensures ∙ ap (λ n. n % m) c.from.ensures in
     elim c.if-sum-modulus.branch [
