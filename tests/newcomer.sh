@@ -49,11 +49,11 @@ link_tools() {
     done
 }
 
-# calls STATUS COMMAND..: runs the command in the folder elsewhere, and tests its status
+# calls STATUS COMMAND..: runs the command in the folder elsewhere, for `limit` seconds at the most, and tests its status
 calls() {
     local wanted=$1 status=0
     shift
-    (cd "$elsewhere" && exec timeout 600 "$@") >"$room/output" 2>"$room/errors" || status=$?
+    (cd "$elsewhere" && exec timeout "${limit-600}" "$@") >"$room/output" 2>"$room/errors" || status=$?
     [[ $status == "$wanted" ]] || wrong "$*: status $status in place of $wanted"
 }
 

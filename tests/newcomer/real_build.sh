@@ -40,7 +40,8 @@ copy_low_crates() {
 
 # The program is refused where its clause is false, and built and linked where it is true; a second build proves nothing.
 real_build_proves_and_links() {
-    local it built=$small/crates/$program_crate/out/built/$program_crate
+    # (beside other scripts, on two slow processors)
+    local limit=3600 it built=$small/crates/$program_crate/out/built/$program_crate
     copy_low_crates
     writes_program "greatest(ItemType::Short)"
     calls 1 "$small/build"
