@@ -1,4 +1,5 @@
 pub mod Cuts
+pub mod Follows
 pub mod Inserted
 pub mod Kept
 pub mod Order

@@ -21,7 +21,7 @@ use Rattle.tags.specs.TagList.{insert_tags, kept_of}
 use Rattle.tags.proofs.Order.{stored_in_order}
 use Rattle.tags.proofs.Rows.{from_place}
 
-not_greater : (o : Ordering) → is_le o ≡ true → is_gt o ≡ false
+pub not_greater : (o : Ordering) → is_le o ≡ true → is_gt o ≡ false
 not_greater Less e = refl
 not_greater Equal e = refl
 not_greater Greater e = cc
@@ -60,6 +60,19 @@ ordered_append (u ∷ us) vs t o p before after =
     (All-append (λ v. is_gt (tag_cmp u v) ≡ false) us vs (later u us o) (all_after u t vs (before 0 t (omega arith)) after))
     (ordered_append us vs t (rest_ordered u us o) p (λ k d h. before (suc k) d (omega (arith, h))) after)
 
+ordered_take : (n : ℕ) (xs : List items.Tag) → IsOrdered (map tag_of xs) → IsOrdered (map tag_of (take n xs))
+ordered_take n xs o =
+    subst IsOrdered (take-map tag_of n xs)
+    (λ i j d lt h. let short = length-take n (map tag_of xs) in
+    rw (get_or-take n (map tag_of xs) i d (omega (arith, lt, h, short)), get_or-take n (map tag_of xs) j d (omega (arith, h, short))) (o i j d lt (omega (arith, h, short))))
+
+-- so what is in order with more behind it has these where they go
+pub in_place : (n : ℕ) (xs : List items.Tag) → IsOrdered (map tag_of xs) → map tag_of xs ≡ insert_tags (map tag_of (drop n xs)) (map tag_of (take n xs))
+in_place n xs o =
+    sym (inserted (map tag_of (drop n xs)) (map tag_of (take n xs)) (map tag_of xs) (ordered_take n xs o)
+    (subst (IsPermutation (map tag_of (drop n xs) ++ map tag_of (take n xs))) (sym (map-append tag_of (take n xs) (drop n xs)) ∙ ap (map tag_of) (take-append-drop n xs))
+    (IsPermutation-append_comm (map tag_of (drop n xs)) (map tag_of (take n xs)))) o)
+
 -- the tags up to another come first
 pub upto_come_first : (t : items.Tag) (xs : List items.Tag) → IsOrdered (map tag_of xs) → IsPartitionedBy (λ u. is_le (tag_cmp (tag_of u) (tag_of t))) xs
 upto_come_first t xs o i j d le h e =
@@ -67,12 +80,6 @@ upto_come_first t xs o i j d le h e =
       | inl lt ↦ not_above _ (not_greater-trans (tag_of (slice_index_or xs i d)) (tag_of (slice_index_or xs j d)) (tag_of t) (stored_in_order xs o i j d lt h) (not_greater _ e))
       | inr ge ↦ let same : i ≡ j = omega (arith, le, ge) in rw same e
     ]
-
-ordered_take : (n : ℕ) (xs : List items.Tag) → IsOrdered (map tag_of xs) → IsOrdered (map tag_of (take n xs))
-ordered_take n xs o =
-    subst IsOrdered (take-map tag_of n xs)
-    (λ i j d lt h. let short = length-take n (map tag_of xs) in
-    rw (get_or-take n (map tag_of xs) i d (omega (arith, lt, h, short)), get_or-take n (map tag_of xs) j d (omega (arith, h, short))) (o i j d lt (omega (arith, h, short))))
 
 -- a tag goes behind all where the last is not behind it
 pub stored_push : (t : items.Tag) (xs : List items.Tag) → IsOrdered (map tag_of xs) → 0 < length xs → ((d : items.Tag) → is_le (tag_cmp (tag_of (slice_index_or xs (length xs - 1) d)) (tag_of t)) ≡ true)
@@ -84,7 +91,7 @@ stored_push t xs o some le =
     (All-cons (λ u. is_gt (tag_cmp (tag_of t) u) ≡ false) (tag_of t) [] (let same = tied_itself tag_total (tag_of t) in rw same refl) (All-nil _)))
 
 -- what a sort makes is in order
-ordered_sort : (ys : List items.Tag) (t : items.Tag) → IsSorted tag_order ys → IsOrdered (map tag_of ys)
+pub ordered_sort : (ys : List items.Tag) (t : items.Tag) → IsSorted tag_order ys → IsOrdered (map tag_of ys)
 ordered_sort ys t sorted i j d lt h =
     let short : j < length ys = omega (arith, h, length-map ys tag_of) in
     let earlier : i < length ys = omega (arith, lt, short) in

@@ -1,5 +1,5 @@
 //! The tags of a stream, in their order.
-ghost use Rattle.std.specs.Prelude.{◌≡◌, ◌+◌, ◌<◌, ◌≤◌, ◌↔◌, [], ◌∷◌, ◌++◌, length, map, take, drop, insert, nat_lt, All, true, false, IsTrue, IsNone, IfSome, IsOk, OnOk, OnErr, vec_len, vec_capacity};
+ghost use Rattle.std.specs.Prelude.{◌≡◌, ◌+◌, ◌-◌, ◌<◌, ◌≤◌, ◌↔◌, [], ◌∷◌, ◌++◌, length, map, take, drop, insert, nat_lt, All, true, false, IsTrue, IsNone, IfSome, IsOk, OnOk, OnErr, vec_len, vec_capacity};
 ghost use Rattle.std.specs.Ordering.{is_lt, is_le};
 ghost use Rattle.std.specs.List.Sorted.{IsPartitionPoint};
 ghost use Rattle.stream_model.specs.Tags.{IsOrdered, tag_cmp, insert_tag, tags_within};
@@ -136,10 +136,12 @@ impl Tags {
         ensures spare { self.new.spare + length self.new.tags ≡ self.old.spare + length self.old.tags }
     {
         let gone = self.gone + count_before(&self.row[self.gone..], before);
-        if gone <= self.row.len() - gone {
+        let kept = self.row.len() - gone;
+        if gone <= kept {
             self.gone = gone;
         } else {
-            drop(self.row.drain(..gone));
+            move_to_front(&mut self.row, gone);
+            self.row.truncate(kept);
             self.gone = 0;
         }
     }
@@ -185,13 +187,26 @@ fn append(row: &mut Vec<Tag>, more: &[Tag])
     }
 }
 
-// Moves the tags from place `kept` on to their places among those before it, which are in order.
+// Whether all tags are in order, of which those before place `kept` are.
+fn are_in_order(tags: &[Tag], kept: usize) -> bool
+    requires within { kept ≤ length tags.now }
+    requires ordered { IsOrdered (map tag_of (take kept tags.now)) }
+    ensures { result ≡ true → IsOrdered (map tag_of tags.now) }
+{
+    tags[kept.saturating_sub(1)..].is_sorted()
+}
+
+// Moves the tags from place `kept` on to their places among those before it, which are in order. The common case, tags in order that
+// go behind all others, takes one comparison for each.
 fn sort_in(tags: &mut [Tag], kept: usize)
     requires within { kept ≤ length tags.old }
     requires ordered { IsOrdered (map tag_of (take kept tags.old)) }
     ensures len { length tags.new ≡ length tags.old }
     ensures tags { map tag_of tags.new ≡ insert_tags (map tag_of (drop kept tags.old)) (map tag_of (take kept tags.old)) }
 {
+    if are_in_order(tags, kept) {
+        return;
+    }
     let (before, more) = tags.split_at(kept);
     if let Some(least) = least_of(more) {
         let place = count_upto(before, least);
@@ -214,6 +229,17 @@ fn count_upto(tags: &[Tag], tag: &Tag) -> usize
     ensures point { IsPartitionPoint (λ t. is_le (tag_cmp (tag_of t) (tag_of tag.now)) ≡ true) (λ t. is_le (tag_cmp (tag_of t) (tag_of tag.now)) ≡ false) tags.now result }
 {
     tags.partition_point(|before| before <= tag)
+}
+
+// Moves the tags from place `gone` on to the front, where there are no fewer before them.
+fn move_to_front(row: &mut [Tag], gone: usize)
+    requires within { gone ≤ length row.old }
+    requires few { length row.old - gone ≤ gone }
+    ensures len { length row.new ≡ length row.old }
+    ensures front { take (length row.old - gone) row.new ≡ drop gone row.old }
+{
+    let (front, rest) = row.split_at_mut(gone);
+    front[..rest.len()].copy_from_slice(rest);
 }
 
 // How many of the tags are on items before `offset`.

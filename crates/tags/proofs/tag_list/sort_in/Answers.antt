@@ -4,9 +4,12 @@ use Rattle.std.proofs.lemmas.List.{take-append-drop, take-append-le}
 use Rattle.stream_model.specs.Tags.{IsOrdered}
 use Rattle.items.specs.Tags.{tag_of}
 use Rattle.tags.specs.TagList.{insert_tags}
-use Rattle.tags.proofs.Sorted.{sorted_in, parted, all_behind}
+use Rattle.tags.proofs.Sorted.{in_place, sorted_in, parted, all_behind}
 use borrow.Rule.Slice.PartMut.{put_mid}
 use Rattle.tags.proofs.tag_list.sort_in.Goals as goal
+
+pub returns-then-are_in_order-clause-tags : goal.returns-then-are_in_order-clause-tags
+returns-then-are_in_order-clause-tags c = in_place c.args.kept c.args.tags.now (c.are_in_order.ensures c.if-are_in_order.true)
 
 pub returns-in-Some-clause-tags : goal.returns-in-Some-clause-tags
 returns-in-Some-clause-tags c =
