@@ -1,4 +1,4 @@
--- The numbers and the texts of refusals.
+-- The numbers, the names and the texts of refusals.
 use Rattle.std.specs.Prelude.{ℕ, List, ◌++◌, codes}
 use Rattle.block_kinds.specs.declared.fault.Parameter.{Parameter}
 use Rattle.block_kinds.specs.declared.fault.Parameter.TheVariants.{ItemType, Value, Factor, Shift, Map, To, Length, Taps, Decimation, Interpolation, K, Modulus, Bits, Mask, Init, N, Ports, Lengths}
@@ -9,6 +9,11 @@ use Rattle.block_kinds.specs.declared.fault.ParamFault.TheVariants.{BadParameter
 abbrev pub number_of : ParamFault → ℕ
 number_of (BadParameter p) = 10
 number_of Memory = 32
+
+-- the name beside it
+abbrev pub name_of : ParamFault → List ℕ
+name_of (BadParameter p) = codes "BadParameter"
+name_of Memory = codes "Memory"
 
 -- the name that a graph gives a parameter
 abbrev pub parameter_text : Parameter → List ℕ

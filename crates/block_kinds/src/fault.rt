@@ -1,6 +1,6 @@
 //! Why a block could not be made.
 ghost use Rattle.std.specs.Prelude.{◌≡◌, Some};
-ghost use Rattle.block_kinds.specs.Fault.{number_of, parameter_text, text_of};
+ghost use Rattle.block_kinds.specs.Fault.{number_of, name_of, parameter_text, text_of};
 ghost use Rattle.block_kinds.specs.declared.fault.ParamFault.TheVariants.{Memory};
 
 use std::alloc::AllocError;
@@ -102,6 +102,16 @@ impl ParamFault {
         match self {
             ParamFault::BadParameter(_) => 10,
             ParamFault::Memory => 32,
+        }
+    }
+
+    /// The name beside the number.
+    pub fn name(&self) -> &'static str
+        ensures { result.now ≡ name_of self.now }
+    {
+        match self {
+            ParamFault::BadParameter(_) => "BadParameter",
+            ParamFault::Memory => "Memory",
         }
     }
 }

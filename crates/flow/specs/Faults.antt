@@ -5,11 +5,11 @@ use Rattle.graph_file.specs.declared.fault.FileFault.{FileFault}
 use Rattle.graph_file.specs.Refusals.{number_of}
 use Rattle.graph_file.specs.Texts as files
 use Rattle.script_text.specs.Replies.{line_text}
+use Rattle.threads.specs.Fault as runs
 use Rattle.flow.specs.declared.fault.Fault.{Fault}
 use Rattle.flow.specs.declared.fault.Fault.TheVariants.{File, Script, Run}
 use Rattle.flow.specs.declared.script.ScriptFault.{ScriptFault}
 use Rattle.flow.specs.declared.script.ScriptFault.TheVariants as script
-use Rattle.flow.specs.Threads.{thread_fault_number, thread_fault_text}
 
 -- the number of a script's fault, and of any
 abbrev pub script_fault_number : ScriptFault → ℕ
@@ -21,7 +21,7 @@ script_fault_number script.Memory = 32
 abbrev pub fault_number : Fault → ℕ
 fault_number (File fault) = number_of fault
 fault_number (Script fault) = script_fault_number fault
-fault_number (Run fault) = thread_fault_number fault
+fault_number (Run fault) = runs.number_of fault
 
 -- number, name and detail of a script's fault
 abbrev pub script_fault_text : ScriptFault → List ℕ
@@ -34,7 +34,7 @@ script_fault_text script.Memory = codes "32 Memory"
 abbrev pub fault_text : Fault → List ℕ
 fault_text (File fault) = files.fault_text fault
 fault_text (Script fault) = script_fault_text fault
-fault_text (Run fault) = thread_fault_text fault
+fault_text (Run fault) = files.head (runs.number_of fault) (runs.name_of fault)
 
 -- the line that tells a fault
 abbrev pub fault_line : Fault → List ℕ

@@ -5,11 +5,11 @@ ghost use Rattle.flow.specs.declared.fault.Fault.TheVariants.{File, Run, Script}
 ghost use Rattle.flow.specs.declared.script.ScriptFault.TheVariants.{Memory};
 
 use crate::script::ScriptFault;
-use crate::thread_fault::ThreadFault;
 use graph_file::{FileFault, Pieces};
 use std::alloc::AllocError;
 use std::fmt;
 use thiserror::Error;
+use threads::RunError;
 
 // The number by which a file reports that memory ran out.
 const NO_MEMORY: u32 = 32;
@@ -22,7 +22,7 @@ pub enum Fault {
     /// A line is refused, or a device or memory failed.
     Script(ScriptFault),
     /// A run in threads came to no end.
-    Run(ThreadFault),
+    Run(RunError),
 }
 
 impl Fault {
@@ -63,7 +63,7 @@ impl Fault {
         match self {
             Fault::File(fault) => fault.pieces(),
             Fault::Script(fault) => fault.pieces(),
-            Fault::Run(fault) => fault.pieces(),
+            Fault::Run(fault) => Pieces::alone(fault.number(), fault.name()),
         }
     }
 }
@@ -84,10 +84,10 @@ impl From<ScriptFault> for Fault {
     }
 }
 
-impl From<ThreadFault> for Fault {
+impl From<RunError> for Fault {
     ghost from_gives = { λ fault e. e ≡ Run fault };
 
-    fn from(fault: ThreadFault) -> Fault {
+    fn from(fault: RunError) -> Fault {
         Fault::Run(fault)
     }
 }

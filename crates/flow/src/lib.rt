@@ -23,5 +23,4 @@ pub mod stalls;
 pub mod start;
 pub mod tag_text;
 pub mod telling;
-pub mod thread_fault;
 mod waits;

@@ -15,14 +15,13 @@ ghost use Rattle.flow.specs.Threads.{HasCome};
 use crate::fault::Fault;
 use crate::line_caller::LineCaller;
 use crate::running::turns;
-use crate::thread_fault::ThreadFault;
 use kinds::Kind;
 use plant::{Plant, Settled, Watch};
 use script_text::{ByteIn, ByteOut, LineSplitter};
 use std::alloc::{AllocError, Global};
 use std::sync::{Arc, Wait};
 use std::thread::Threads;
-use threads::{Finished, Open, Outcome};
+use threads::{Finished, Open, Outcome, RunError};
 use top_block::TopBlock;
 
 /// Runs a plant in threads while the lines of `input` make calls of it, each answered on `output` before the next is read. At the end of the input
@@ -44,7 +43,7 @@ pub(crate) fn live_plant<R: Threads + Wait + Sync, I: ByteIn + Send, O: ByteOut 
     let callers = one_caller(alloc, input, output)?;
     match TopBlock::from_plant(plant).start_live_watched(rt, alloc, gate, callers, turns(), watch) {
         Ok(finished) => came_to_rest(finished),
-        Err(fault) => Err(Fault::Run(ThreadFault::of(fault))),
+        Err(fault) => Err(Fault::Run(fault.error())),
     }
 }
 
@@ -94,6 +93,6 @@ fn came_to_rest<I: ByteIn, O: ByteOut>(
         Outcome::Done(plant) => Ok((plant, Settled::Done)),
         Outcome::Stalled(plant) => Ok((plant, Settled::Quiet)),
         // Only a fault asks for a stop.
-        Outcome::Stopped(_) => Err(Fault::Run(ThreadFault::Foreign)),
+        Outcome::Stopped(_) => Err(Fault::Run(RunError::Foreign)),
     }
 }

@@ -149,17 +149,11 @@ impl RawFault {
 fn placed(word: &'static str, place: EndPlace) -> Pieces<'static>
     ensures { joined result ≡ word.now ++ place_text place }
 {
-    let none = Piece::Text("");
-    Pieces {
-        list: [
-            Piece::Text(word),
-            Piece::Text(place.word()),
-            Piece::Number(place.number() as u64),
-            none,
-            none,
-            none,
-        ],
-    }
+    Pieces::of([
+        Piece::Text(word),
+        Piece::Text(place.word()),
+        Piece::Number(place.number() as u64),
+    ])
 }
 
 impl From<Fault> for RawFault {

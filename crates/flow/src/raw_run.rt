@@ -11,7 +11,7 @@ ghost use Rattle.graph_file.specs.declared.fault.FileFault.{FileFault};
 ghost use Rattle.graph_file.specs.Opening.{opened_of};
 ghost use Rattle.graph_file.specs.Refusals.{IsRefused};
 ghost use Rattle.flow.specs.declared.fault.Fault.TheVariants.{File, Run};
-ghost use Rattle.flow.specs.declared.thread_fault.ThreadFault.{ThreadFault};
+ghost use Rattle.threads.specs.declared.fault.RunError.{RunError};
 ghost use Rattle.flow.specs.RawEnds.{ComesToRest, StepsToRest};
 ghost use Rattle.flow.specs.declared.raw_fault.RawFault.TheVariants.{Whole, End};
 ghost use Rattle.flow.specs.declared.raw_fault.EndFault.TheVariants.{CutItem};
@@ -114,7 +114,7 @@ impl RawRun {
         watch: &mut W,
     ) -> Result<RanRaw, RawFault>
         ensures rests { IfOk result (λ ran. ComesToRest (opened_of self) (opened_of ran)) }
-        ensures failed { IfErr result (λ fault. (why : ThreadFault) × (fault ≡ Whole (Run why))) }
+        ensures failed { IfErr result (λ fault. (why : RunError) × (fault ≡ Whole (Run why))) }
     {
         let RawRun { plant } = self;
         plant.recall();

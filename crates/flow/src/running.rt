@@ -8,13 +8,12 @@ ghost use Rattle.plant.specs.Settling.{HasSettled};
 ghost use Rattle.threads.specs.Outcomes.{CameBack, handed_of};
 ghost use Rattle.top_block.specs.Closing.{with_all_closed};
 
-use crate::thread_fault::ThreadFault;
 use kinds::Kind;
 use plant::{Plant, Settled, Watch};
 use std::alloc::Global;
 use std::sync::Wait;
 use std::thread::Threads;
-use threads::{Outcome, Turns};
+use threads::{Outcome, RunError, Turns};
 use top_block::TopBlock;
 
 // How many firings a worker claims at once, at most.
@@ -26,7 +25,7 @@ pub(crate) fn run_plant<R: Threads + Wait + Copy + Send + 'static, W: Watch>(
     alloc: Global,
     plant: Plant<Kind>,
     watch: &mut W,
-) -> Result<(Plant<Kind>, Settled), ThreadFault>
+) -> Result<(Plant<Kind>, Settled), RunError>
     requires { is_idle plant.state ≡ true }
     ensures came_back { IfOk result (λ r. CameBack meaning_of ⟦<Kind as PartialEq>⟧.eq (handed_of (with_all_closed meaning_of plant)) r.0) }
     ensures settled { IfOk result (λ r. HasSettled (net_of meaning_of r.0.graph) r.0.capacities r.0.state r.1) }
@@ -37,9 +36,9 @@ pub(crate) fn run_plant<R: Threads + Wait + Copy + Send + 'static, W: Watch>(
             Ok(Outcome::Stalled(plant)) => Ok((plant, Settled::Quiet)),
             // Nobody asks for a stop.
             Ok(Outcome::Stopped(_)) => unreachable!(),
-            Err(fault) => Err(ThreadFault::of(fault)),
+            Err(fault) => Err(fault.error()),
         },
-        Err(fault) => Err(ThreadFault::of(fault)),
+        Err(fault) => Err(fault.error()),
     }
 }
 

@@ -27,6 +27,22 @@ number_of (OneToOne b) = 11
 number_of (Gain b) = 12
 number_of Memory = 32
 
+-- the name beside it
+abbrev pub name_of : GraphFault → List ℕ
+name_of DuplicateName = codes "DuplicateName"
+name_of UnknownBlock = codes "UnknownBlock"
+name_of (PortRange b s p) = codes "PortRange"
+name_of (InputTaken b p) = codes "InputTaken"
+name_of (PortGap b s p) = codes "PortGap"
+name_of (TypeMismatch b p) = codes "TypeMismatch"
+name_of (Loop b) = codes "Loop"
+name_of (TooFewPorts b) = codes "TooFewPorts"
+name_of (TooLarge l) = codes "TooLarge"
+name_of (BadParameter o) = codes "BadParameter"
+name_of (OneToOne b) = codes "OneToOne"
+name_of (Gain b) = codes "Gain"
+name_of Memory = codes "Memory"
+
 -- what is printed of a side, of what a graph has too many of, and of what is wrong with a block that is added
 abbrev pub side_text : Side → List ℕ
 side_text In = codes "in"

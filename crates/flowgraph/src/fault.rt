@@ -1,6 +1,6 @@
 //! Why a graph is refused.
 ghost use Rattle.std.specs.Prelude.{◌≡◌, Some};
-ghost use Rattle.flowgraph.specs.Fault.{number_of, side_text, limit_text, option_text, text_of};
+ghost use Rattle.flowgraph.specs.Fault.{number_of, name_of, side_text, limit_text, option_text, text_of};
 ghost use Rattle.flowgraph.specs.declared.fault.GraphFault.TheVariants.{Memory};
 
 use crate::parts::BlockId;
@@ -111,16 +111,71 @@ impl GraphFault {
             GraphFault::Memory => 32,
         }
     }
+
+    /// The name beside the number.
+    pub fn name(&self) -> &'static str
+        ensures { result.now ≡ name_of self.now }
+    {
+        match self {
+            GraphFault::DuplicateName => "DuplicateName",
+            GraphFault::UnknownBlock => "UnknownBlock",
+            GraphFault::PortRange { .. } => "PortRange",
+            GraphFault::InputTaken { .. } => "InputTaken",
+            GraphFault::PortGap { .. } => "PortGap",
+            GraphFault::TypeMismatch { .. } => "TypeMismatch",
+            GraphFault::Loop { .. } => "Loop",
+            GraphFault::TooFewPorts { .. } => "TooFewPorts",
+            GraphFault::TooLarge(_) => "TooLarge",
+            GraphFault::BadParameter(_) => "BadParameter",
+            GraphFault::OneToOne { .. } => "OneToOne",
+            GraphFault::Gain { .. } => "Gain",
+            GraphFault::Memory => "Memory",
+        }
+    }
+}
+
+impl Side {
+    /// The word for the side.
+    pub fn text(&self) -> &'static str
+        ensures { result.now ≡ side_text self.now }
+    {
+        match self {
+            Side::In => "in",
+            Side::Out => "out",
+        }
+    }
+}
+
+impl BlockOption {
+    /// The name that a graph gives it.
+    pub fn text(&self) -> &'static str
+        ensures { result.now ≡ option_text self.now }
+    {
+        match self {
+            BlockOption::Name => "name",
+            BlockOption::Multiple => "multiple",
+            BlockOption::Capacity => "capacity",
+        }
+    }
+}
+
+impl Limit {
+    /// What there are too many of.
+    pub fn text(&self) -> &'static str
+        ensures { result.now ≡ limit_text self.now }
+    {
+        match self {
+            Limit::Blocks => "blocks",
+            Limit::Connections => "connections",
+        }
+    }
 }
 
 impl fmt::Display for Side {
     ghost output = { λ side. Some (side_text side) };
 
     fn fmt<W: fmt::Write>(&self, f: &mut fmt::Formatter<W>) -> fmt::Result {
-        f.write_str(match self {
-            Side::In => "in",
-            Side::Out => "out",
-        })
+        f.write_str(self.text())
     }
 }
 
@@ -128,11 +183,7 @@ impl fmt::Display for BlockOption {
     ghost output = { λ option. Some (option_text option) };
 
     fn fmt<W: fmt::Write>(&self, f: &mut fmt::Formatter<W>) -> fmt::Result {
-        f.write_str(match self {
-            BlockOption::Name => "name",
-            BlockOption::Multiple => "multiple",
-            BlockOption::Capacity => "capacity",
-        })
+        f.write_str(self.text())
     }
 }
 
@@ -140,10 +191,7 @@ impl fmt::Display for Limit {
     ghost output = { λ limit. Some (limit_text limit) };
 
     fn fmt<W: fmt::Write>(&self, f: &mut fmt::Formatter<W>) -> fmt::Result {
-        f.write_str(match self {
-            Limit::Blocks => "blocks",
-            Limit::Connections => "connections",
-        })
+        f.write_str(self.text())
     }
 }
 

@@ -1,5 +1,5 @@
 -- Why a graph file is refused.
-use Rattle.std.specs.Prelude.{◌≡◌, ℕ, ℤ, List, [], length, nat_le, if◌then◌else◌, Option, Some, None, Result, Err, string_bytes}
+use Rattle.std.specs.Prelude.{◌≡◌, ℕ, ℤ, List, [], length, nat_le, if◌then◌else◌, Option, Some, None, Result, Err, string_bytes, codes}
 use Rattle.flowgraph.specs.declared.fault.GraphFault as graph_fault
 use Rattle.flowgraph.specs.Fault as graph_faults
 use Rattle.flowgraph.specs.declared.fault.Side.{Side}
@@ -7,7 +7,9 @@ use Rattle.kind_keys.specs.declared.fault.KeyFault.{KeyFault}
 use Rattle.kind_keys.specs.declared.fault.KeyFault.TheVariants as key
 use Rattle.plant.specs.declared.fault.PlantFault.{PlantFault}
 use Rattle.plant.specs.declared.fault.PlantFault.TheVariants as plant
+use Rattle.plant.specs.Fault as feeds
 use Rattle.plant.specs.Fault.{number_of as feed_number}
+use Rattle.kind_keys.specs.Fault as tables
 use Rattle.graph_file.specs.declared.fault.FilePlace.{FilePlace}
 use Rattle.graph_file.specs.declared.fault.EndName.{EndName}
 use Rattle.graph_file.specs.declared.fault.EndName.TheVariants as ends
@@ -64,19 +66,19 @@ told_feed n plant.Memory = None
 told_feed n fault = Some (of_feed n (feed_number fault))
 
 -- the number by which a fault is reported
-abbrev pub table_number : KeyFault → ℕ
-table_number key.UnknownKey = 41
-table_number (key.MissingKey k) = 42
-table_number (key.WrongType k) = 43
-table_number key.UnknownKind = 44
-table_number (key.BadParameter p) = 10
-table_number key.Memory = 32
-
--- the same, of any fault
 abbrev pub number_of : FileFault → ℕ
 number_of file.Syntax = 40
-number_of (file.Table place fault) = table_number fault
+number_of (file.Table place fault) = tables.number_of fault
 number_of (file.Graph place fault name) = graph_faults.number_of fault
 number_of (file.NegativePort name side port) = 3
 number_of (file.Feed n fault) = feed_number fault
 number_of file.Memory = 32
+
+-- the name beside it
+abbrev pub name_of : FileFault → List ℕ
+name_of file.Syntax = codes "Syntax"
+name_of (file.Table place fault) = tables.name_of fault
+name_of (file.Graph place fault name) = graph_faults.name_of fault
+name_of (file.NegativePort name side port) = codes "PortRange"
+name_of (file.Feed n fault) = feeds.name_of fault
+name_of file.Memory = codes "Memory"

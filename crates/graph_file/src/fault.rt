@@ -78,7 +78,7 @@ impl EndName {
 }
 
 impl FileFault {
-    ghost use Rattle.graph_file.specs.Refusals.{number_of};
+    ghost use Rattle.graph_file.specs.Refusals.{number_of, name_of};
 
     /// The number by which the refusal is reported: 1 to 12, 20 to 26, 32, or 40 to 44.
     pub fn number(&self) -> u32
@@ -86,18 +86,25 @@ impl FileFault {
     {
         match self {
             FileFault::Syntax => 40,
-            FileFault::Table { fault, .. } => match fault {
-                KeyFault::UnknownKey => 41,
-                KeyFault::MissingKey(_) => 42,
-                KeyFault::WrongType(_) => 43,
-                KeyFault::UnknownKind => 44,
-                KeyFault::BadParameter(_) => 10,
-                KeyFault::Memory => 32,
-            },
+            FileFault::Table { fault, .. } => fault.number(),
             FileFault::Graph { fault, .. } => fault.number(),
             FileFault::NegativePort { .. } => 3,
             FileFault::Feed { fault, .. } => fault.number(),
             FileFault::Memory => 32,
+        }
+    }
+
+    /// The name beside the number.
+    pub fn name(&self) -> &'static str
+        ensures { result.now ≡ name_of self.now }
+    {
+        match self {
+            FileFault::Syntax => "Syntax",
+            FileFault::Table { fault, .. } => fault.name(),
+            FileFault::Graph { fault, .. } => fault.name(),
+            FileFault::NegativePort { .. } => "PortRange",
+            FileFault::Feed { fault, .. } => fault.name(),
+            FileFault::Memory => "Memory",
         }
     }
 
@@ -106,7 +113,7 @@ impl FileFault {
         ensures { texts.joined result ≡ texts.fault_text self.now }
     {
         match self {
-            FileFault::Syntax => Pieces::named("40 Syntax", ""),
+            FileFault::Syntax | FileFault::Memory => Pieces::alone(self.number(), self.name()),
             FileFault::Table { place, fault } => table_pieces(*place, *fault),
             FileFault::Graph { place, fault, name } => graph_pieces(*place, *fault, name.as_str()),
             FileFault::NegativePort { name, side, port } => negative_pieces(
@@ -115,7 +122,6 @@ impl FileFault {
                 *port,
             ),
             FileFault::Feed { feed, fault } => feed_pieces(*feed, *fault),
-            FileFault::Memory => Pieces::named("32 Memory", ""),
         }
     }
 }

@@ -1,6 +1,6 @@
 //! Why items could not be made.
 ghost use Rattle.std.specs.Prelude.{◌≡◌, Some};
-ghost use Rattle.items.specs.Fault.{number_of, text_of};
+ghost use Rattle.items.specs.Fault.{number_of, name_of, text_of};
 ghost use Rattle.items.specs.declared.fault.ItemFault.TheVariants.{Memory};
 
 use std::alloc::AllocError;
@@ -24,6 +24,16 @@ impl ItemFault {
         match self {
             ItemFault::ItemRange => 24,
             ItemFault::Memory => 32,
+        }
+    }
+
+    /// The name beside the number.
+    pub fn name(&self) -> &'static str
+        ensures { result.now ≡ name_of self.now }
+    {
+        match self {
+            ItemFault::ItemRange => "ItemRange",
+            ItemFault::Memory => "Memory",
         }
     }
 }

@@ -1,5 +1,6 @@
 //! What may be wrong with a table of a graph file.
 ghost use Rattle.std.specs.Prelude.{◌≡◌};
+ghost use Rattle.kind_keys.specs.Fault.{number_of, name_of};
 ghost use Rattle.kind_keys.specs.declared.fault.KeyFault.TheVariants.{BadParameter, Memory};
 
 use crate::key::Key;
@@ -20,6 +21,36 @@ pub enum KeyFault {
     BadParameter(Parameter),
     /// Memory ran out.
     Memory,
+}
+
+impl KeyFault {
+    /// The number by which the fault is reported: 10, 32, or 41 to 44.
+    pub fn number(&self) -> u32
+        ensures { result ≡ number_of self.now }
+    {
+        match self {
+            KeyFault::UnknownKey => 41,
+            KeyFault::MissingKey(_) => 42,
+            KeyFault::WrongType(_) => 43,
+            KeyFault::UnknownKind => 44,
+            KeyFault::BadParameter(_) => 10,
+            KeyFault::Memory => 32,
+        }
+    }
+
+    /// The name beside the number.
+    pub fn name(&self) -> &'static str
+        ensures { result.now ≡ name_of self.now }
+    {
+        match self {
+            KeyFault::UnknownKey => "UnknownKey",
+            KeyFault::MissingKey(_) => "MissingKey",
+            KeyFault::WrongType(_) => "WrongType",
+            KeyFault::UnknownKind => "UnknownKind",
+            KeyFault::BadParameter(_) => "BadParameter",
+            KeyFault::Memory => "Memory",
+        }
+    }
 }
 
 impl From<ParamFault> for KeyFault {

@@ -1,11 +1,10 @@
 //! Conversions into an error, for `?`: of each fault, of a failed allocation, and of what a call that failed hands back, which is dropped.
 
 ghost use Rattle.std.specs.Prelude.{◌≡◌};
-ghost use Rattle.magbelu.specs.Errors.{number_of, text_of, run_error};
 ghost use Rattle.magbelu.specs.declared.error.Error.TheVariants.{Items, Block, Graph, Plant, NoJob, File, Run, Memory};
 ghost use Rattle.threads.specs.Fault as threads;
 
-use crate::error::{Error, RunError};
+use crate::error::Error;
 use block_kinds::{Block, ParamFault};
 use flowgraph::{Graph, GraphFault, Valid};
 use graph_file::FileFault;
@@ -92,10 +91,10 @@ impl From<FileFault> for Error {
 
 /// The plant in the fault is dropped. To run it again, match on the fault instead.
 impl<B: Block> From<RunFault<B>> for Error {
-    ghost from_gives = { λ fault e. (e ≡ Run (run_error fault)) × (number_of e ≡ threads.number_of fault) × (text_of e ≡ threads.text_of fault) };
+    ghost from_gives = { λ fault e. e ≡ Run (threads.error_of fault) };
 
     fn from(fault: RunFault<B>) -> Error {
-        Error::Run(RunError::of(fault))
+        Error::Run(fault.error())
     }
 }
 

@@ -1,16 +1,15 @@
 //! One error type, to which `?` converts the fault of any call.
 
 ghost use Rattle.std.specs.Prelude.{◌≡◌, Some};
-ghost use Rattle.magbelu.specs.Errors.{number_of, text_of, name_of, run_error, run_number, run_text};
+ghost use Rattle.magbelu.specs.Errors.{number_of, text_of, name_of};
 
-use crate::names;
-use block_kinds::{Block, ParamFault};
+use block_kinds::ParamFault;
 use flowgraph::GraphFault;
 use graph_file::FileFault;
 use items::ItemFault;
 use plant::PlantFault;
 use std::fmt;
-use threads::RunFault;
+use threads::RunError;
 
 /// Why a call was refused, or why a run in threads failed. Number, name and text are those of the fault that it was converted from.
 #[derive(Debug, Drop, thiserror::Error)]
@@ -31,17 +30,6 @@ pub enum Error {
     Run(RunError),
     /// Out of memory.
     Memory,
-}
-
-/// Why a run in threads failed: a `RunFault` without the plant that it gives back.
-#[derive(Clone, Copy, Debug, PartialEq, Eq)]
-pub enum RunError {
-    /// Out of memory.
-    Memory,
-    /// A thread could not be started.
-    Thread,
-    /// What came back is not what was handed in.
-    Foreign,
 }
 
 impl Error {
@@ -66,51 +54,15 @@ impl Error {
         ensures { result.now ≡ name_of self.now }
     {
         match self {
-            Error::Items(fault) => names::of_items(*fault),
-            Error::Block(fault) => names::of_block(*fault),
-            Error::Graph(fault) => names::of_graph(*fault),
-            Error::Plant(fault) => names::of_plant(*fault),
+            Error::Items(fault) => fault.name(),
+            Error::Block(fault) => fault.name(),
+            Error::Graph(fault) => fault.name(),
+            Error::Plant(fault) => fault.name(),
             Error::NoJob => "NoJob",
-            Error::File(fault) => names::of_file(fault),
-            Error::Run(fault) => names::of_run(*fault),
+            Error::File(fault) => fault.name(),
+            Error::Run(fault) => fault.name(),
             Error::Memory => "Memory",
         }
-    }
-}
-
-impl RunError {
-    /// The fault without the plant that it gives back.
-    pub fn of<B: Block>(fault: RunFault<B>) -> RunError
-        ensures { result ≡ run_error fault }
-    {
-        match fault {
-            RunFault::Memory(_) => RunError::Memory,
-            RunFault::Thread(_) => RunError::Thread,
-            RunFault::Foreign => RunError::Foreign,
-        }
-    }
-
-    /// The number of the fault: 60, 61 or 62.
-    pub fn number(&self) -> u32
-        ensures { result ≡ run_number self.now }
-    {
-        match self {
-            RunError::Memory => 60,
-            RunError::Thread => 61,
-            RunError::Foreign => 62,
-        }
-    }
-}
-
-impl fmt::Display for RunError {
-    ghost output = { λ fault. Some (run_text fault) };
-
-    fn fmt<W: fmt::Write>(&self, f: &mut fmt::Formatter<W>) -> fmt::Result {
-        f.write_str(match self {
-            RunError::Memory => "out of memory",
-            RunError::Thread => "a thread could not be started",
-            RunError::Foreign => "what came back is not what was handed in",
-        })
     }
 }
 

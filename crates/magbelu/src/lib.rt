@@ -16,10 +16,10 @@ pub mod custom;
 pub mod error;
 pub mod files;
 pub mod graphs;
-mod names;
 pub mod plants;
 pub mod prelude;
 pub mod runs;
 pub mod streams;
 
-pub use error::{Error, RunError};
+pub use error::Error;
+pub use runs::RunError;

@@ -3,8 +3,8 @@
 pub use crate::blocks::{
     Add, AddConst, Fir, Kind, MultiplyConst, NullSink, Taps, Value, VectorSink, VectorSource,
 };
-pub use crate::error::{Error, RunError};
+pub use crate::error::Error;
 pub use crate::graphs::{BlockId, Graph, Options, Policy};
 pub use crate::plants::{Claim, Piece, Plant, Settled, Step};
-pub use crate::runs::{Outcome, TopBlock};
+pub use crate::runs::{Outcome, RunError, TopBlock};
 pub use crate::streams::{ItemFault, ItemType, Items, Mark, Tag, TagKey};

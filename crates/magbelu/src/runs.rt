@@ -1,7 +1,8 @@
 //! Running a graph with a thread for each block: to its end, or live, with callers that feed, set and read in the meantime.
 
 pub use threads::{
-    Answer, Call, Caller, CallerId, Desk, Entry, Feed, Finished, Gate, Open, Outcome, RunFault,
-    Running, Setting, Turns, launch, launch_open, launch_with, live, live_watched, run, run_with,
+    Answer, Call, Caller, CallerId, Desk, Entry, Feed, Finished, Gate, Open, Outcome, RunError,
+    RunFault, Running, Setting, Turns, launch, launch_open, launch_with, live, live_watched, run,
+    run_with,
 };
 pub use top_block::{TopBlock, close_all};

@@ -1,7 +1,7 @@
 //! The refusals of a plant.
 
 ghost use Rattle.std.specs.Prelude.{◌≡◌, Some};
-ghost use Rattle.plant.specs.Fault.{number_of};
+ghost use Rattle.plant.specs.Fault.{number_of, name_of};
 ghost use Rattle.plant.specs.Texts.{text_of};
 ghost use Rattle.plant.specs.declared.fault.PlantFault.TheVariants.{Memory};
 
@@ -59,6 +59,27 @@ impl PlantFault {
             PlantFault::BeyondEnd => 31,
             PlantFault::Memory => 32,
             PlantFault::NoSuchPort => 33,
+        }
+    }
+
+    /// The name beside the number.
+    pub fn name(&self) -> &'static str
+        ensures { result.now ≡ name_of self.now }
+    {
+        match self {
+            PlantFault::NoSuchBlock => "NoSuchBlock",
+            PlantFault::NotSource => "NotSource",
+            PlantFault::NotSink => "NotSink",
+            PlantFault::Closed => "Closed",
+            PlantFault::ItemRange => "ItemRange",
+            PlantFault::TagPlace => "TagPlace",
+            PlantFault::TapeFull => "TapeFull",
+            PlantFault::Late { .. } => "Late",
+            PlantFault::NoSetting => "NoSetting",
+            PlantFault::WrongSetting => "WrongSetting",
+            PlantFault::BeyondEnd => "BeyondEnd",
+            PlantFault::NoSuchPort => "NoSuchPort",
+            PlantFault::Memory => "Memory",
         }
     }
 }

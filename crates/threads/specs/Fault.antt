@@ -1,16 +1,30 @@
--- The numbers and texts of what may stop a run in threads.
+-- The numbers, names and texts of what may stop a run in threads.
 use Rattle.std.specs.Prelude.{ℕ, List, codes}
 use Rattle.threads.specs.declared.fault.RunFault.{RunFault}
-use Rattle.threads.specs.declared.fault.RunFault.TheVariants.{Memory, Thread, Foreign}
+use Rattle.threads.specs.declared.fault.RunFault.TheVariants as faults
+use Rattle.threads.specs.declared.fault.RunError.{RunError}
+use Rattle.threads.specs.declared.fault.RunError.TheVariants.{Memory, Thread, Foreign}
 
--- the number by which a fault is reported
-abbrev pub number_of : {B P : Type 0} → RunFault B P → ℕ
-number_of (Memory p) = 60
-number_of (Thread p) = 61
+-- a fault without the plant that it gives back
+abbrev pub error_of : {B P : Type 0} → RunFault B P → RunError
+error_of (faults.Memory p) = Memory
+error_of (faults.Thread p) = Thread
+error_of faults.Foreign = Foreign
+
+-- the number by which it is reported
+abbrev pub number_of : RunError → ℕ
+number_of Memory = 60
+number_of Thread = 61
 number_of Foreign = 62
 
+-- the name beside it
+abbrev pub name_of : RunError → List ℕ
+name_of Memory = codes "Memory"
+name_of Thread = codes "Thread"
+name_of Foreign = codes "Foreign"
+
 -- what is printed of it
-abbrev pub text_of : {B P : Type 0} → RunFault B P → List ℕ
-text_of (Memory p) = codes "out of memory"
-text_of (Thread p) = codes "a thread could not be started"
+abbrev pub text_of : RunError → List ℕ
+text_of Memory = codes "out of memory"
+text_of Thread = codes "a thread could not be started"
 text_of Foreign = codes "what came back is not what was handed in"

@@ -1,7 +1,7 @@
 //! What may stop a run in threads.
 
 ghost use Rattle.std.specs.Prelude.{◌≡◌, Some};
-ghost use Rattle.threads.specs.Fault.{number_of, text_of};
+ghost use Rattle.threads.specs.Fault.{error_of, number_of, name_of, text_of};
 
 use flowgraph::Block;
 use plant::Plant;
@@ -19,27 +19,77 @@ pub enum RunFault<B: Block> {
     Foreign,
 }
 
+/// Why a run in threads failed: a `RunFault` without the plant that it gives back.
+#[derive(Clone, Copy, Debug, PartialEq, Eq)]
+pub enum RunError {
+    /// Out of memory.
+    Memory,
+    /// A thread could not be started.
+    Thread,
+    /// What came back is not what was handed in.
+    Foreign,
+}
+
 impl<B: Block> RunFault<B> {
+    /// The fault without the plant that it gives back.
+    pub fn error(&self) -> RunError
+        ensures { result ≡ error_of self.now }
+    {
+        match self {
+            RunFault::Memory(_) => RunError::Memory,
+            RunFault::Thread(_) => RunError::Thread,
+            RunFault::Foreign => RunError::Foreign,
+        }
+    }
+
+    /// The number by which the fault is reported: 60, 61 or 62.
+    pub fn number(&self) -> u32
+        ensures { result ≡ number_of (error_of self.now) }
+    {
+        self.error().number()
+    }
+}
+
+impl RunError {
     /// The number by which the fault is reported: 60, 61 or 62.
     pub fn number(&self) -> u32
         ensures { result ≡ number_of self.now }
     {
         match self {
-            RunFault::Memory(_) => 60,
-            RunFault::Thread(_) => 61,
-            RunFault::Foreign => 62,
+            RunError::Memory => 60,
+            RunError::Thread => 61,
+            RunError::Foreign => 62,
+        }
+    }
+
+    /// The name beside the number.
+    pub fn name(&self) -> &'static str
+        ensures { result.now ≡ name_of self.now }
+    {
+        match self {
+            RunError::Memory => "Memory",
+            RunError::Thread => "Thread",
+            RunError::Foreign => "Foreign",
         }
     }
 }
 
 impl<B: Block> fmt::Display for RunFault<B> {
+    ghost output = { λ fault. Some (text_of (error_of fault)) };
+
+    fn fmt<W: fmt::Write>(&self, f: &mut fmt::Formatter<W>) -> fmt::Result {
+        write!(f, "{}", self.error())
+    }
+}
+
+impl fmt::Display for RunError {
     ghost output = { λ fault. Some (text_of fault) };
 
     fn fmt<W: fmt::Write>(&self, f: &mut fmt::Formatter<W>) -> fmt::Result {
         f.write_str(match self {
-            RunFault::Memory(_) => "out of memory",
-            RunFault::Thread(_) => "a thread could not be started",
-            RunFault::Foreign => "what came back is not what was handed in",
+            RunError::Memory => "out of memory",
+            RunError::Thread => "a thread could not be started",
+            RunError::Foreign => "what came back is not what was handed in",
         })
     }
 }

@@ -23,7 +23,7 @@ mod worker;
 pub use calling::{Finished, live, live_watched};
 pub use desk::{Caller, Desk};
 pub use entry::{Answer, Call, CallerId, Entry, Feed, Setting};
-pub use fault::RunFault;
+pub use fault::{RunError, RunFault};
 pub use gate::{Gate, Open};
 pub use launching::{launch, launch_open, launch_with};
 pub use outcome::Outcome;
