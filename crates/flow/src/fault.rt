@@ -107,10 +107,7 @@ impl fmt::Display for Fault {
     ghost output = { λ fault. Some (fault_text fault) };
 
     fn fmt<W: fmt::Write>(&self, f: &mut fmt::Formatter<W>) -> fmt::Result {
-        match self {
-            Fault::File(fault) => write!(f, "{fault}"),
-            Fault::Script(fault) => write!(f, "{fault}"),
-            Fault::Run(fault) => write!(f, "{fault}"),
-        }
+        let pieces = self.pieces();
+        write!(f, "{pieces}")
     }
 }
