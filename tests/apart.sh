@@ -51,10 +51,13 @@ put_apart() {
 # put_bench PROGRAM: a program of benches/ over the libraries of its line in benches/uses.txt, in the checkout $room/PROGRAM
 put_bench() {
     local file here=$room/$1 order=() libraries=()
-    read -ra libraries < <(sed -n "s/^$1: //p" "$top/benches/uses.txt")
+    read -ra libraries < <(sed -n "s/^$1\( shared\)\?: //p" "$top/benches/uses.txt")
     put_below "$1" "${libraries[@]}"
     echo "$1: ${libraries[*]}" >>"$here/crates.txt"
     cp -a -- "$top/benches/$1" "$here/crates/$1"
+    if grep -q "^$1 shared:" "$top/benches/uses.txt"; then
+        cp -- "$top/benches/shared/"* "$here/crates/$1/src"
+    fi
     while IFS= read -r file; do
         mv -- "$file" "${file%.apart}"
     done < <(find "$here/crates/$1" -name '*.apart')
