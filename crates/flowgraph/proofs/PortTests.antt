@@ -56,37 +56,46 @@ module _ {B : Type 0} (meaning : B → Meaning) (es : List (Entry B)) (cs : List
   nodes = length-map es (node_of meaning)
 
   -- the ports of each block, from the tables
-  pub table_at : (s : _) (ps : List Ports) → ps ≡ map (ports_at cs s) (below (length es)) → (b : ℕ) (d : Ports) → b < length es → get_or ps b d ≡ ports_at cs s b
+  table_at : (s : _) (ps : List Ports) → ps ≡ map (ports_at cs s) (below (length es)) → (b : ℕ) (d : Ports) → b < length es → get_or ps b d ≡ ports_at cs s b
   table_at s ps are b d low = ap (λ t. get_or t b d) are ∙ get_or-map-range_with_len (ports_at cs s) 0 (length es) b b d low (omega arith)
 
-  pub table_length : (s : _) (ps : List Ports) → ps ≡ map (ports_at cs s) (below (length es)) → length ps ≡ length es
-  table_length s ps are = ap length are ∙ length-map-range_with_len (ports_at cs s) 0 (length es)
+  pub in_table : (s : _) (ps : List Ports) → ps ≡ map (ports_at cs s) (below (length es)) → (b : ℕ) → b < length es → b < length ps
+  in_table s ps are b low = let same = ap length are ∙ length-map-range_with_len (ports_at cs s) 0 (length es) in omega arith
 
   pub node_is : (b : ℕ) (e : Entry B) → b < length es → e ≡ get_or es b e → node_at net b ≡ node_of meaning e
   node_is b e low is =
       get_or_default net.nodes b no_node (node_of meaning e) (let n = nodes in omega arith)
       ∙ get_or-map (node_of meaning) es b e (node_of meaning e) low ∙ ap (node_of meaning) (sym is)
 
-  module _ (b : ℕ) (low : b < length es) where
-    in_net : b < length net.nodes
-    in_net = let n = nodes in omega arith
+  in_net : (b : ℕ) → b < length es → b < length net.nodes
+  in_net b low = let n = nodes in omega arith
 
-    pub gap_is : (x y : Ports) → x ≡ ports_at cs side.In b → y ≡ ports_at cs side.Out b → gap_in b x y ≡ gap_fault net b
-    gap_is x y ex ey = λ i. gap_in b (ex i) (ey i)
+  -- what the tests say of the ports of a block that stand in the tables
+  module _ (ins outs : List Ports) (ei : ins ≡ map (ports_at cs side.In) (below (length es))) (eo : outs ≡ map (ports_at cs side.Out) (below (length es)))
+      (b : ℕ) (low : b < length es) (x y d f : Ports) (ix : x ≡ get_or ins b d) (iy : y ≡ get_or outs b f) where
+    x_is : x ≡ ports_at cs side.In b
+    x_is = ix ∙ table_at side.In ins ei b d low
 
-    module _ (e : Entry B) (x y : Ports) (is : e ≡ get_or es b e) (ex : x ≡ ports_at cs side.In b) (ey : y ≡ ports_at cs side.Out b) where
+    y_is : y ≡ ports_at cs side.Out b
+    y_is = iy ∙ table_at side.Out outs eo b f low
+
+    pub gap_is : gap_in b x y ≡ gap_fault net b
+    gap_is = λ i. gap_in b (x_is i) (y_is i)
+
+    module _ (e : Entry B) (is : e ≡ get_or es b e) where
       pub few_is : (nat_lt x.used (meaning e.block).inputs.least || nat_lt y.used (meaning e.block).outputs.least) ≡ few_at net b
-      few_is = let n = sym (node_is b e low is) in λ i. nat_lt (ex i).used (n i).meaning.inputs.least || nat_lt (ey i).used (n i).meaning.outputs.least
+      few_is = let n = sym (node_is b e low is) in λ i. nat_lt (x_is i).used (n i).meaning.inputs.least || nat_lt (y_is i).used (n i).meaning.outputs.least
 
       pub unequal_is : (is_one e.options.policy && not (x.used == y.used)) ≡ unequal_at net b
-      unequal_is = let n = sym (node_is b e low is) in λ i. is_one (n i).policy && not ((ex i).used == (ey i).used)
+      unequal_is = let n = sym (node_is b e low is) in λ i. is_one (n i).policy && not ((x_is i).used == (y_is i).used)
 
+  module _ (b : ℕ) (low : b < length es) where
     pub gap_found :
         (rest : List (Option GraphFault)) → ((k : ℕ) → k < b → gap_fault net k ≡ None) → (o : Option GraphFault) → gap_fault net b ≡ o → (f : code.GraphFault) → told Blocks o ≡ Some f →
         Some f ≡ told Blocks (first_fault (first_fault (map (gap_fault net) (below (length net.nodes))) ∷ rest))
     gap_found rest before None is f tells = absurd (let bad = tells in cc)
     gap_found rest before (Some x) is f tells =
-        sym (ap (told Blocks) (first-is (first_fault (map (gap_fault net) (below (length net.nodes)))) rest x (refusal-first (gap_fault net) (length net.nodes) b in_net before x is)) ∙ tells)
+        sym (ap (told Blocks) (first-is (first_fault (map (gap_fault net) (below (length net.nodes)))) rest x (refusal-first (gap_fault net) (length net.nodes) b (in_net b low) before x is)) ∙ tells)
 
   abbrev pub past_gaps : List (Option GraphFault)
   past_gaps = lowest net (few_at net) TooFewPorts ∷ lowest net (unequal_at net) OneToOne ∷ []
