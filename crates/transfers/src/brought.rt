@@ -94,6 +94,7 @@ fn bring_all<B: Block>(
 }
 
 // Appends the tags on the items of an input, each where the block moves it.
+#[inline(always)]
 fn bring_from<B: Block>(
     list: &mut Vec<Tag>,
     buffers: &[Vec<Buffer>],

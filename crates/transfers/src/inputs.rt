@@ -54,7 +54,8 @@ pub(crate) fn taken<B: Block>(graph: &Valid<B>, firings: FiringRange, port: usiz
     graph.takes(firings.block, port, firings.first, firings.next) as usize
 }
 
-/// The tags on the items that the firings take of an input.
+/// The tags on the items that the firings take of an input. Each claim and each commit asks for them, most often in vain.
+#[inline(always)]
 pub(crate) fn tags_on<'a, B: Block>(
     buffers: &'a [Vec<Buffer>],
     graph: &Valid<B>,
