@@ -5,15 +5,10 @@ use Rattle.block_kinds.specs.declared.fault.Parameter.TheVariants.{ItemType, Val
 use Rattle.block_kinds.specs.declared.fault.ParamFault.{ParamFault}
 use Rattle.block_kinds.specs.declared.fault.ParamFault.TheVariants.{BadParameter, Memory}
 
--- the number by which a refusal is reported
-abbrev pub number_of : ParamFault → ℕ
-number_of (BadParameter p) = 10
-number_of Memory = 32
-
--- the name beside it
-abbrev pub name_of : ParamFault → List ℕ
-name_of (BadParameter p) = codes "BadParameter"
-name_of Memory = codes "Memory"
+-- the number by which a refusal is reported, and the name beside it
+abbrev pub row_of : ParamFault → ℕ × List ℕ
+row_of (BadParameter p) = (10, codes "BadParameter")
+row_of Memory = (32, codes "Memory")
 
 -- the name that a graph gives a parameter
 abbrev pub parameter_text : Parameter → List ℕ

@@ -1,8 +1,9 @@
 //! Why a block could not be made.
 ghost use Rattle.std.specs.Prelude.{◌≡◌, Some};
-ghost use Rattle.block_kinds.specs.Fault.{number_of, name_of, parameter_text, text_of};
+ghost use Rattle.block_kinds.specs.Fault.{row_of, parameter_text, text_of};
 ghost use Rattle.block_kinds.specs.declared.fault.ParamFault.TheVariants.{Memory};
 
+use items::Refusal;
 use std::alloc::AllocError;
 use std::error::Error;
 use std::fmt;
@@ -94,24 +95,13 @@ pub enum ParamFault {
     Memory,
 }
 
-impl ParamFault {
-    /// The number by which the refusal is reported: 10 or 32.
-    pub fn number(&self) -> u32
-        ensures { result ≡ number_of self.now }
-    {
-        match self {
-            ParamFault::BadParameter(_) => 10,
-            ParamFault::Memory => 32,
-        }
-    }
+impl Refusal for ParamFault {
+    ghost row = { row_of };
 
-    /// The name beside the number.
-    pub fn name(&self) -> &'static str
-        ensures { result.now ≡ name_of self.now }
-    {
+    fn row(&self) -> (u32, &'static str) {
         match self {
-            ParamFault::BadParameter(_) => "BadParameter",
-            ParamFault::Memory => "Memory",
+            ParamFault::BadParameter(_) => (10, "BadParameter"),
+            ParamFault::Memory => (32, "Memory"),
         }
     }
 }

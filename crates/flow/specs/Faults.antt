@@ -1,9 +1,9 @@
 -- How the program says why it stops.
-use Rattle.std.specs.Prelude.{ℕ, List, ◌++◌, ◌==◌, codes, if◌then◌else◌}
+use Rattle.std.specs.Prelude.{ℕ, List, [], ◌++◌, ◌==◌, codes, if◌then◌else◌}
 use Rattle.std.specs.Fmt.{decimal}
 use Rattle.graph_file.specs.declared.fault.FileFault.{FileFault}
-use Rattle.graph_file.specs.Refusals.{number_of}
-use Rattle.graph_file.specs.Texts as files
+use Rattle.graph_file.specs.Refusals as files
+use Rattle.graph_file.specs.Texts.{head, fault_text as file_text}
 use Rattle.script_text.specs.Replies.{line_text}
 use Rattle.threads.specs.Fault as runs
 use Rattle.flow.specs.declared.fault.Fault.{Fault}
@@ -11,30 +11,33 @@ use Rattle.flow.specs.declared.fault.Fault.TheVariants.{File, Script, Run}
 use Rattle.flow.specs.declared.script.ScriptFault.{ScriptFault}
 use Rattle.flow.specs.declared.script.ScriptFault.TheVariants as script
 
--- the number of a script's fault, and of any
-abbrev pub script_fault_number : ScriptFault → ℕ
-script_fault_number (script.BadLine n) = 50
-script_fault_number script.Read = 51
-script_fault_number script.Write = 52
-script_fault_number script.Memory = 32
+-- the number and the name of a script's fault, and of any
+abbrev pub script_row : ScriptFault → ℕ × List ℕ
+script_row (script.BadLine n) = (50, codes "BadLine")
+script_row script.Read = (51, codes "Read")
+script_row script.Write = (52, codes "Write")
+script_row script.Memory = (32, codes "Memory")
 
-abbrev pub fault_number : Fault → ℕ
-fault_number (File fault) = number_of fault
-fault_number (Script fault) = script_fault_number fault
-fault_number (Run fault) = runs.number_of fault
+abbrev pub row_of : Fault → ℕ × List ℕ
+row_of (File fault) = files.row_of fault
+row_of (Script fault) = script_row fault
+row_of (Run fault) = runs.row_of fault
 
--- number, name and detail of a script's fault
+-- what is said behind the name of a script's fault
+abbrev pub script_rest : ScriptFault → List ℕ
+script_rest (script.BadLine n) = codes " " ++ decimal n
+script_rest script.Read = []
+script_rest script.Write = []
+script_rest script.Memory = []
+
+-- number, name and detail of a script's fault, and of any
 abbrev pub script_fault_text : ScriptFault → List ℕ
-script_fault_text (script.BadLine n) = codes "50 BadLine " ++ decimal n
-script_fault_text script.Read = codes "51 Read"
-script_fault_text script.Write = codes "52 Write"
-script_fault_text script.Memory = codes "32 Memory"
+script_fault_text fault = head (script_row fault) ++ script_rest fault
 
--- number, name and detail of a fault
 abbrev pub fault_text : Fault → List ℕ
-fault_text (File fault) = files.fault_text fault
+fault_text (File fault) = file_text fault
 fault_text (Script fault) = script_fault_text fault
-fault_text (Run fault) = files.head (runs.number_of fault) (runs.name_of fault)
+fault_text (Run fault) = head (runs.row_of fault)
 
 -- the line that tells a fault
 abbrev pub fault_line : Fault → List ℕ
@@ -46,7 +49,7 @@ memory_number = 32
 
 -- the exit status that a fault brings: 4 for memory, devices and threads, 1 for a file and for a line
 abbrev pub status_of_file : FileFault → ℕ
-status_of_file fault = if number_of fault == memory_number then 4 else 1
+status_of_file fault = if files.number_of fault == memory_number then 4 else 1
 
 abbrev pub status_of : Fault → ℕ
 status_of (File fault) = status_of_file fault

@@ -1,8 +1,9 @@
 -- How a run with raw items says why it stops.
 use Rattle.std.specs.Prelude.{ℕ, List, ◌++◌, codes}
 use Rattle.std.specs.Fmt.{decimal}
+use Rattle.graph_file.specs.Texts.{head}
 use Rattle.script_text.specs.Replies.{line_text}
-use Rattle.flow.specs.Faults.{fault_number, fault_text, status_of}
+use Rattle.flow.specs.Faults.{row_of, fault_text, status_of}
 use Rattle.flow.specs.declared.raw_fault.EndFault.{EndFault}
 use Rattle.flow.specs.declared.raw_fault.EndFault.TheVariants.{NoSuchBlock, NotSource, NotSink, Closed, TapeFull, Read, Write, CutItem}
 use Rattle.flow.specs.declared.raw_fault.EndPlace.{EndPlace}
@@ -10,27 +11,16 @@ use Rattle.flow.specs.declared.raw_fault.EndPlace.TheVariants.{Input, Output, Ta
 use Rattle.flow.specs.declared.raw_fault.RawFault.{RawFault}
 use Rattle.flow.specs.declared.raw_fault.RawFault.TheVariants.{Whole, End}
 
--- the number of what is wrong at an end
-abbrev pub end_number : EndFault → ℕ
-end_number NoSuchBlock = 20
-end_number NotSource = 21
-end_number NotSink = 22
-end_number Closed = 23
-end_number TapeFull = 26
-end_number Read = 51
-end_number Write = 52
-end_number CutItem = 53
-
--- number and name of what is wrong at an end
-abbrev pub end_text : EndFault → List ℕ
-end_text NoSuchBlock = codes "20 NoSuchBlock"
-end_text NotSource = codes "21 NotSource"
-end_text NotSink = codes "22 NotSink"
-end_text Closed = codes "23 Closed"
-end_text TapeFull = codes "26 TapeFull"
-end_text Read = codes "51 Read"
-end_text Write = codes "52 Write"
-end_text CutItem = codes "53 CutItem"
+-- the number and the name of what is wrong at an end
+abbrev pub end_row : EndFault → ℕ × List ℕ
+end_row NoSuchBlock = (20, codes "NoSuchBlock")
+end_row NotSource = (21, codes "NotSource")
+end_row NotSink = (22, codes "NotSink")
+end_row Closed = (23, codes "Closed")
+end_row TapeFull = (26, codes "TapeFull")
+end_row Read = (51, codes "Read")
+end_row Write = (52, codes "Write")
+end_row CutItem = (53, codes "CutItem")
 
 -- the words for places, between spaces
 abbrev pub place_word : EndPlace → List ℕ
@@ -46,15 +36,15 @@ place_number (Tags n) = n
 abbrev pub place_text : EndPlace → List ℕ
 place_text place = place_word place ++ decimal (place_number place)
 
--- the number of a fault
-abbrev pub raw_fault_number : RawFault → ℕ
-raw_fault_number (Whole fault) = fault_number fault
-raw_fault_number (End place fault) = end_number fault
+-- the number and the name of a fault
+abbrev pub raw_row : RawFault → ℕ × List ℕ
+raw_row (Whole fault) = row_of fault
+raw_row (End place fault) = end_row fault
 
 -- number, name and detail of a fault
 abbrev pub raw_fault_text : RawFault → List ℕ
 raw_fault_text (Whole fault) = fault_text fault
-raw_fault_text (End place fault) = end_text fault ++ place_text place
+raw_fault_text (End place fault) = head (end_row fault) ++ place_text place
 
 -- the line that tells a fault
 abbrev pub raw_fault_line : RawFault → List ℕ

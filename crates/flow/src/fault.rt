@@ -6,6 +6,7 @@ ghost use Rattle.flow.specs.declared.script.ScriptFault.TheVariants.{Memory};
 
 use crate::script::ScriptFault;
 use graph_file::{FileFault, Pieces};
+use items::Refusal;
 use std::alloc::AllocError;
 use std::fmt;
 use thiserror::Error;
@@ -25,19 +26,23 @@ pub enum Fault {
     Run(RunError),
 }
 
-impl Fault {
-    ghost use Rattle.flow.specs.Faults.{fault_number, status_of};
+impl Refusal for Fault {
+    ghost use Rattle.flow.specs.Faults.{row_of};
 
-    /// The number of the refusal, with which its text begins.
-    pub fn number(&self) -> u32
-        ensures { result ≡ fault_number self.now }
-    {
+    ghost row = { row_of };
+
+    fn row(&self) -> (u32, &'static str) {
         match self {
-            Fault::File(fault) => fault.number(),
-            Fault::Script(fault) => fault.number(),
-            Fault::Run(fault) => fault.number(),
+            Fault::File(fault) => fault.row(),
+            Fault::Script(fault) => fault.row(),
+            Fault::Run(fault) => fault.row(),
         }
     }
+}
+
+impl Fault {
+    ghost use Rattle.graph_file.specs.Texts.{joined};
+    ghost use Rattle.flow.specs.Faults.{fault_text, status_of};
 
     /// The exit status that the fault brings: 4 for memory, devices and threads, 1 for every other refusal.
     pub fn status(&self) -> u8
@@ -50,11 +55,6 @@ impl Fault {
             | Fault::Run(_) => 4,
         }
     }
-}
-
-impl Fault {
-    ghost use Rattle.graph_file.specs.Texts.{joined};
-    ghost use Rattle.flow.specs.Faults.{fault_text};
 
     /// The text of the fault in pieces, for which no memory is asked.
     pub fn pieces(&self) -> Pieces<'_>
@@ -63,7 +63,7 @@ impl Fault {
         match self {
             Fault::File(fault) => fault.pieces(),
             Fault::Script(fault) => fault.pieces(),
-            Fault::Run(fault) => Pieces::alone(fault.number(), fault.name()),
+            Fault::Run(fault) => Pieces::alone(fault.row()),
         }
     }
 }

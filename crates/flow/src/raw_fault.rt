@@ -4,12 +4,13 @@ ghost use Rattle.std.specs.Prelude.{◌≡◌, ◌++◌, codes};
 ghost use Rattle.flow.specs.declared.fault.Fault.TheVariants.{Script};
 ghost use Rattle.flow.specs.declared.raw_fault.RawFault.TheVariants.{Whole};
 ghost use Rattle.flow.specs.declared.script.ScriptFault.TheVariants.{Memory};
-ghost use Rattle.graph_file.specs.Texts.{joined};
-ghost use Rattle.flow.specs.RawFaults.{end_number, end_text, place_word, place_number, place_text};
+ghost use Rattle.graph_file.specs.Texts.{head, joined};
+ghost use Rattle.flow.specs.RawFaults.{end_row, place_word, place_number, place_text};
 
 use crate::fault::Fault;
 use crate::script::ScriptFault;
 use graph_file::{Piece, Pieces};
+use items::Refusal;
 use std::alloc::AllocError;
 use std::fmt;
 use thiserror::Error;
@@ -55,36 +56,19 @@ pub enum RawFault {
     End(EndPlace, EndFault),
 }
 
-impl EndFault {
-    /// The number of the refusal.
-    pub fn number(self) -> u32
-        ensures { result ≡ end_number self }
-    {
-        match self {
-            EndFault::NoSuchBlock => 20,
-            EndFault::NotSource => 21,
-            EndFault::NotSink => 22,
-            EndFault::Closed => 23,
-            EndFault::TapeFull => 26,
-            EndFault::Read => 51,
-            EndFault::Write => 52,
-            EndFault::CutItem => 53,
-        }
-    }
+impl Refusal for EndFault {
+    ghost row = { end_row };
 
-    /// The number of the refusal and its name.
-    pub fn text(self) -> &'static str
-        ensures { result.now ≡ end_text self }
-    {
+    fn row(&self) -> (u32, &'static str) {
         match self {
-            EndFault::NoSuchBlock => "20 NoSuchBlock",
-            EndFault::NotSource => "21 NotSource",
-            EndFault::NotSink => "22 NotSink",
-            EndFault::Closed => "23 Closed",
-            EndFault::TapeFull => "26 TapeFull",
-            EndFault::Read => "51 Read",
-            EndFault::Write => "52 Write",
-            EndFault::CutItem => "53 CutItem",
+            EndFault::NoSuchBlock => (20, "NoSuchBlock"),
+            EndFault::NotSource => (21, "NotSource"),
+            EndFault::NotSink => (22, "NotSink"),
+            EndFault::Closed => (23, "Closed"),
+            EndFault::TapeFull => (26, "TapeFull"),
+            EndFault::Read => (51, "Read"),
+            EndFault::Write => (52, "Write"),
+            EndFault::CutItem => (53, "CutItem"),
         }
     }
 }
@@ -110,18 +94,21 @@ impl EndPlace {
     }
 }
 
-impl RawFault {
-    ghost use Rattle.flow.specs.RawFaults.{raw_fault_number, raw_fault_text, raw_status_of};
+impl Refusal for RawFault {
+    ghost use Rattle.flow.specs.RawFaults.{raw_row};
 
-    /// The number of the refusal, with which its text begins.
-    pub fn number(&self) -> u32
-        ensures { result ≡ raw_fault_number self.now }
-    {
+    ghost row = { raw_row };
+
+    fn row(&self) -> (u32, &'static str) {
         match self {
-            RawFault::Whole(fault) => fault.number(),
-            RawFault::End(_, fault) => fault.number(),
+            RawFault::Whole(fault) => fault.row(),
+            RawFault::End(_, fault) => fault.row(),
         }
     }
+}
+
+impl RawFault {
+    ghost use Rattle.flow.specs.RawFaults.{raw_fault_text, raw_status_of};
 
     /// The exit status that the fault brings: 4 for memory, devices and threads, 1 for every other refusal.
     pub fn status(&self) -> u8
@@ -140,20 +127,17 @@ impl RawFault {
     {
         match self {
             RawFault::Whole(fault) => fault.pieces(),
-            RawFault::End(place, fault) => placed(fault.text(), *place),
+            RawFault::End(place, fault) => placed(fault.row(), *place),
         }
     }
 }
 
-// A word and a place.
-fn placed(word: &'static str, place: EndPlace) -> Pieces<'static>
-    ensures { joined result ≡ word.now ++ place_text place }
+// The number and the name of a fault, and its place.
+fn placed(row: (u32, &'static str), place: EndPlace) -> Pieces<'static>
+    ensures { joined result ≡ head (row.entry.0, row.entry.1.now) ++ place_text place }
 {
-    Pieces::of([
-        Piece::Text(word),
-        Piece::Text(place.word()),
-        Piece::Number(place.number() as u64),
-    ])
+    let number = Piece::Number(place.number() as u64);
+    Pieces::of(row, [Piece::Text(place.word()), number, Piece::Text("")])
 }
 
 impl From<Fault> for RawFault {

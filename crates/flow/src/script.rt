@@ -13,7 +13,8 @@ ghost use Rattle.flow.specs.declared.script.ScriptFault.TheVariants.{Memory};
 use crate::answerer::Answerer;
 use crate::session::Session;
 use block_kinds::Block;
-use graph_file::Pieces;
+use graph_file::{Piece, Pieces};
+use items::Refusal;
 use plant::Plant;
 use script_text::{ByteIn, ByteOut, Command, Line, LineSplitter, last_line, next_line};
 use std::alloc::{AllocError, Global};
@@ -35,31 +36,37 @@ pub enum ScriptFault {
     Memory,
 }
 
-impl ScriptFault {
-    ghost use Rattle.graph_file.specs.Texts.{joined};
-    ghost use Rattle.flow.specs.Faults.{script_fault_number, script_fault_text};
+impl Refusal for ScriptFault {
+    ghost use Rattle.flow.specs.Faults.{script_row};
 
-    /// The number of the fault, with which its text begins.
-    pub fn number(&self) -> u32
-        ensures { result ≡ script_fault_number self.now }
-    {
+    ghost row = { script_row };
+
+    fn row(&self) -> (u32, &'static str) {
         match self {
-            ScriptFault::BadLine(_) => 50,
-            ScriptFault::Read => 51,
-            ScriptFault::Write => 52,
-            ScriptFault::Memory => 32,
+            ScriptFault::BadLine(_) => (50, "BadLine"),
+            ScriptFault::Read => (51, "Read"),
+            ScriptFault::Write => (52, "Write"),
+            ScriptFault::Memory => (32, "Memory"),
         }
     }
+}
+
+impl ScriptFault {
+    ghost use Rattle.graph_file.specs.Texts.{joined};
+    ghost use Rattle.flow.specs.Faults.{script_fault_text};
 
     /// The text of the fault in pieces, for which no memory is asked.
     pub fn pieces(&self) -> Pieces<'static>
         ensures { joined result ≡ script_fault_text self.now }
     {
         match self {
-            ScriptFault::BadLine(number) => Pieces::counted("50 BadLine ", *number),
-            ScriptFault::Read => Pieces::named("51 Read", ""),
-            ScriptFault::Write => Pieces::named("52 Write", ""),
-            ScriptFault::Memory => Pieces::named("32 Memory", ""),
+            ScriptFault::BadLine(number) => Pieces::of(
+                self.row(),
+                [Piece::Text(" "), Piece::Number(*number), Piece::Text("")],
+            ),
+            ScriptFault::Read | ScriptFault::Write | ScriptFault::Memory => {
+                Pieces::alone(self.row())
+            }
         }
     }
 }

@@ -11,37 +11,21 @@ use Rattle.flowgraph.specs.declared.fault.Limit.TheVariants.{Blocks, Connections
 use Rattle.flowgraph.specs.declared.fault.GraphFault.{GraphFault}
 use Rattle.flowgraph.specs.declared.fault.GraphFault.TheVariants.{DuplicateName, UnknownBlock, PortRange, InputTaken, PortGap, TypeMismatch, Loop, TooFewPorts, TooLarge, BadParameter, OneToOne, Gain, Memory}
 
--- the number by which a refusal is reported
-abbrev pub number_of : GraphFault → ℕ
-number_of DuplicateName = 1
-number_of UnknownBlock = 2
-number_of (PortRange b s p) = 3
-number_of (InputTaken b p) = 4
-number_of (PortGap b s p) = 5
-number_of (TypeMismatch b p) = 6
-number_of (Loop b) = 7
-number_of (TooFewPorts b) = 8
-number_of (TooLarge l) = 9
-number_of (BadParameter o) = 10
-number_of (OneToOne b) = 11
-number_of (Gain b) = 12
-number_of Memory = 32
-
--- the name beside it
-abbrev pub name_of : GraphFault → List ℕ
-name_of DuplicateName = codes "DuplicateName"
-name_of UnknownBlock = codes "UnknownBlock"
-name_of (PortRange b s p) = codes "PortRange"
-name_of (InputTaken b p) = codes "InputTaken"
-name_of (PortGap b s p) = codes "PortGap"
-name_of (TypeMismatch b p) = codes "TypeMismatch"
-name_of (Loop b) = codes "Loop"
-name_of (TooFewPorts b) = codes "TooFewPorts"
-name_of (TooLarge l) = codes "TooLarge"
-name_of (BadParameter o) = codes "BadParameter"
-name_of (OneToOne b) = codes "OneToOne"
-name_of (Gain b) = codes "Gain"
-name_of Memory = codes "Memory"
+-- the number by which a refusal is reported, and the name beside it
+abbrev pub row_of : GraphFault → ℕ × List ℕ
+row_of DuplicateName = (1, codes "DuplicateName")
+row_of UnknownBlock = (2, codes "UnknownBlock")
+row_of (PortRange b s p) = (3, codes "PortRange")
+row_of (InputTaken b p) = (4, codes "InputTaken")
+row_of (PortGap b s p) = (5, codes "PortGap")
+row_of (TypeMismatch b p) = (6, codes "TypeMismatch")
+row_of (Loop b) = (7, codes "Loop")
+row_of (TooFewPorts b) = (8, codes "TooFewPorts")
+row_of (TooLarge l) = (9, codes "TooLarge")
+row_of (BadParameter o) = (10, codes "BadParameter")
+row_of (OneToOne b) = (11, codes "OneToOne")
+row_of (Gain b) = (12, codes "Gain")
+row_of Memory = (32, codes "Memory")
 
 -- what is printed of a side, of what a graph has too many of, and of what is wrong with a block that is added
 abbrev pub side_text : Side → List ℕ

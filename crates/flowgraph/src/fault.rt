@@ -1,9 +1,10 @@
 //! Why a graph is refused.
 ghost use Rattle.std.specs.Prelude.{◌≡◌, Some};
-ghost use Rattle.flowgraph.specs.Fault.{number_of, name_of, side_text, limit_text, option_text, text_of};
+ghost use Rattle.flowgraph.specs.Fault.{row_of, side_text, limit_text, option_text, text_of};
 ghost use Rattle.flowgraph.specs.declared.fault.GraphFault.TheVariants.{Memory};
 
 use crate::parts::BlockId;
+use items::Refusal;
 use std::alloc::AllocError;
 use std::error::Error;
 use std::fmt;
@@ -90,46 +91,24 @@ pub enum GraphFault {
     Memory,
 }
 
-impl GraphFault {
-    /// The number by which the refusal is reported: 1 to 12, or 32.
-    pub fn number(&self) -> u32
-        ensures { result ≡ number_of self.now }
-    {
-        match self {
-            GraphFault::DuplicateName => 1,
-            GraphFault::UnknownBlock => 2,
-            GraphFault::PortRange { .. } => 3,
-            GraphFault::InputTaken { .. } => 4,
-            GraphFault::PortGap { .. } => 5,
-            GraphFault::TypeMismatch { .. } => 6,
-            GraphFault::Loop { .. } => 7,
-            GraphFault::TooFewPorts { .. } => 8,
-            GraphFault::TooLarge(_) => 9,
-            GraphFault::BadParameter(_) => 10,
-            GraphFault::OneToOne { .. } => 11,
-            GraphFault::Gain { .. } => 12,
-            GraphFault::Memory => 32,
-        }
-    }
+impl Refusal for GraphFault {
+    ghost row = { row_of };
 
-    /// The name beside the number.
-    pub fn name(&self) -> &'static str
-        ensures { result.now ≡ name_of self.now }
-    {
+    fn row(&self) -> (u32, &'static str) {
         match self {
-            GraphFault::DuplicateName => "DuplicateName",
-            GraphFault::UnknownBlock => "UnknownBlock",
-            GraphFault::PortRange { .. } => "PortRange",
-            GraphFault::InputTaken { .. } => "InputTaken",
-            GraphFault::PortGap { .. } => "PortGap",
-            GraphFault::TypeMismatch { .. } => "TypeMismatch",
-            GraphFault::Loop { .. } => "Loop",
-            GraphFault::TooFewPorts { .. } => "TooFewPorts",
-            GraphFault::TooLarge(_) => "TooLarge",
-            GraphFault::BadParameter(_) => "BadParameter",
-            GraphFault::OneToOne { .. } => "OneToOne",
-            GraphFault::Gain { .. } => "Gain",
-            GraphFault::Memory => "Memory",
+            GraphFault::DuplicateName => (1, "DuplicateName"),
+            GraphFault::UnknownBlock => (2, "UnknownBlock"),
+            GraphFault::PortRange { .. } => (3, "PortRange"),
+            GraphFault::InputTaken { .. } => (4, "InputTaken"),
+            GraphFault::PortGap { .. } => (5, "PortGap"),
+            GraphFault::TypeMismatch { .. } => (6, "TypeMismatch"),
+            GraphFault::Loop { .. } => (7, "Loop"),
+            GraphFault::TooFewPorts { .. } => (8, "TooFewPorts"),
+            GraphFault::TooLarge(_) => (9, "TooLarge"),
+            GraphFault::BadParameter(_) => (10, "BadParameter"),
+            GraphFault::OneToOne { .. } => (11, "OneToOne"),
+            GraphFault::Gain { .. } => (12, "Gain"),
+            GraphFault::Memory => (32, "Memory"),
         }
     }
 }

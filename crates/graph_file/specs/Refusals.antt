@@ -8,7 +8,6 @@ use Rattle.kind_keys.specs.declared.fault.KeyFault.TheVariants as key
 use Rattle.plant.specs.declared.fault.PlantFault.{PlantFault}
 use Rattle.plant.specs.declared.fault.PlantFault.TheVariants as plant
 use Rattle.plant.specs.Fault as feeds
-use Rattle.plant.specs.Fault.{number_of as feed_number}
 use Rattle.kind_keys.specs.Fault as tables
 use Rattle.graph_file.specs.declared.fault.FilePlace.{FilePlace}
 use Rattle.graph_file.specs.declared.fault.EndName.{EndName}
@@ -40,7 +39,7 @@ told file.Syntax = Some syntax
 told (file.Table place fault) = Some (at_table place fault)
 told (file.Graph place fault name) = Some (of_graph place fault name.bytes)
 told (file.NegativePort name side port) = Some (negative_port (end_text name) side port)
-told (file.Feed n fault) = Some (of_feed n (feed_number fault))
+told (file.Feed n fault) = Some (of_feed n (feeds.number_of fault))
 told file.Memory = None
 
 -- the refusal is the one to be reported, where one is reported
@@ -63,22 +62,17 @@ told_table place key.Memory = None
 
 abbrev pub told_feed : ℕ → PlantFault → Option Refusal
 told_feed n plant.Memory = None
-told_feed n fault = Some (of_feed n (feed_number fault))
+told_feed n fault = Some (of_feed n (feeds.number_of fault))
 
--- the number by which a fault is reported
+-- the number by which a fault is reported, and the name beside it
+abbrev pub row_of : FileFault → ℕ × List ℕ
+row_of file.Syntax = (40, codes "Syntax")
+row_of (file.Table place fault) = tables.row_of fault
+row_of (file.Graph place fault name) = graph_faults.row_of fault
+row_of (file.NegativePort name side port) = (3, codes "PortRange")
+row_of (file.Feed n fault) = feeds.row_of fault
+row_of file.Memory = (32, codes "Memory")
+
+-- its number alone
 abbrev pub number_of : FileFault → ℕ
-number_of file.Syntax = 40
-number_of (file.Table place fault) = tables.number_of fault
-number_of (file.Graph place fault name) = graph_faults.number_of fault
-number_of (file.NegativePort name side port) = 3
-number_of (file.Feed n fault) = feed_number fault
-number_of file.Memory = 32
-
--- the name beside it
-abbrev pub name_of : FileFault → List ℕ
-name_of file.Syntax = codes "Syntax"
-name_of (file.Table place fault) = tables.name_of fault
-name_of (file.Graph place fault name) = graph_faults.name_of fault
-name_of (file.NegativePort name side port) = codes "PortRange"
-name_of (file.Feed n fault) = feeds.name_of fault
-name_of file.Memory = codes "Memory"
+number_of fault = (row_of fault).0

@@ -5,15 +5,11 @@ use Rattle.std.specs.Fmt.{decimal, signed_decimal}
 use Rattle.flowgraph.specs.declared.fault.GraphFault.{GraphFault}
 use Rattle.flowgraph.specs.declared.fault.GraphFault.TheVariants as graph
 use Rattle.flowgraph.specs.declared.fault.Side.{Side}
-use Rattle.flowgraph.specs.Fault as graphs
 use Rattle.flowgraph.specs.Fault.{side_text, limit_text, option_text}
 use Rattle.kind_keys.specs.declared.fault.KeyFault.{KeyFault}
 use Rattle.kind_keys.specs.declared.fault.KeyFault.TheVariants as key
-use Rattle.kind_keys.specs.Fault as tables
 use Rattle.block_kinds.specs.Fault.{parameter_text}
 use Rattle.kind_keys.specs.Keys.{text_of}
-use Rattle.plant.specs.declared.fault.PlantFault.{PlantFault}
-use Rattle.plant.specs.Fault as feeds
 use Rattle.graph_file.specs.declared.fault.FilePlace.{FilePlace}
 use Rattle.graph_file.specs.declared.fault.FilePlace.TheVariants.{Top, Block, Connect, Feed}
 use Rattle.graph_file.specs.declared.fault.FileFault.{FileFault}
@@ -21,7 +17,7 @@ use Rattle.graph_file.specs.declared.fault.FileFault.TheVariants as file
 use Rattle.graph_file.specs.declared.pieces.Piece.{Piece}
 use Rattle.graph_file.specs.declared.pieces.Piece.TheVariants as pieces
 use Rattle.graph_file.specs.declared.pieces.Pieces.{Pieces}
-use Rattle.graph_file.specs.Refusals.{end_text}
+use Rattle.graph_file.specs.Refusals.{row_of, end_text}
 
 -- the words for places
 abbrev pub place_text : FilePlace → List ℕ
@@ -31,8 +27,8 @@ place_text (Connect n) = codes "connect " ++ decimal n
 place_text (Feed n) = codes "feed " ++ decimal n
 
 -- the number of a refusal, and its name
-abbrev pub head : ℕ → List ℕ → List ℕ
-head number name = decimal number ++ codes " " ++ name
+abbrev pub head : ℕ × List ℕ → List ℕ
+head row = decimal row.0 ++ codes " " ++ row.1
 
 -- what is said behind the name: of what is wrong with the table of a place
 abbrev pub table_rest : FilePlace → KeyFault → List ℕ
@@ -59,27 +55,22 @@ graph_rest place (graph.OneToOne b) name = codes " " ++ name
 graph_rest place (graph.Gain b) name = codes " " ++ name
 graph_rest place graph.Memory name = []
 
--- the whole of these, the refusal of a negative port, and that of a feed
-abbrev pub table_text : FilePlace → KeyFault → List ℕ
-table_text place fault = head (tables.number_of fault) (tables.name_of fault) ++ table_rest place fault
+-- of a port of the block of this name that is negative
+abbrev pub negative_rest : List ℕ → Side → ℤ → List ℕ
+negative_rest name side port = codes " " ++ name ++ codes " " ++ side_text side ++ codes " " ++ signed_decimal port
 
-abbrev pub graph_text : FilePlace → GraphFault → List ℕ → List ℕ
-graph_text place fault name = head (graphs.number_of fault) (graphs.name_of fault) ++ graph_rest place fault name
-
-abbrev pub negative_text : List ℕ → Side → ℤ → List ℕ
-negative_text name side port = head 3 (codes "PortRange") ++ codes " " ++ name ++ codes " " ++ side_text side ++ codes " " ++ signed_decimal port
-
-abbrev pub feed_text : ℕ → PlantFault → List ℕ
-feed_text n fault = head (feeds.number_of fault) (feeds.name_of fault) ++ codes " feed " ++ decimal n
+-- of a fault
+abbrev pub rest_of : FileFault → List ℕ
+rest_of file.Syntax = []
+rest_of (file.Table place fault) = table_rest place fault
+rest_of (file.Graph place fault name) = graph_rest place fault name.bytes
+rest_of (file.NegativePort name side port) = negative_rest (end_text name) side port
+rest_of (file.Feed n fault) = codes " feed " ++ decimal n
+rest_of file.Memory = []
 
 -- what a fault prints
 abbrev pub fault_text : FileFault → List ℕ
-fault_text file.Syntax = head 40 (codes "Syntax")
-fault_text (file.Table place fault) = table_text place fault
-fault_text (file.Graph place fault name) = graph_text place fault name.bytes
-fault_text (file.NegativePort name side port) = negative_text (end_text name) side port
-fault_text (file.Feed n fault) = feed_text n fault
-fault_text file.Memory = head 32 (codes "Memory")
+fault_text fault = head (row_of fault) ++ rest_of fault
 
 -- the text of a piece, and of all pieces one behind the other
 abbrev pub piece_text : Piece → List ℕ

@@ -1,12 +1,13 @@
 //! Why a graph file is refused.
 ghost use Rattle.std.specs.Prelude.{◌≡◌, ◌↔◌, ◌⊎◌, ◌<◌, length, None, Some};
 ghost use Rattle.graph_file.specs.declared.fault.FileFault.TheVariants.{Memory};
-ghost use Rattle.graph_file.specs.Refusals.{told, told_table, told_feed, of_graph, negative_port, short, end_text};
+ghost use Rattle.graph_file.specs.Refusals.{told, told_table, told_feed, of_graph, negative_port, short, end_text, row_of};
 ghost use Rattle.graph_file.specs.Texts as texts;
 
 use crate::pieces::{Pieces, feed_pieces, graph_pieces, negative_pieces, table_pieces};
 use arrayvec::ArrayString;
 use flowgraph::{GraphFault, Side};
+use items::Refusal;
 use kind_keys::KeyFault;
 use plant::PlantFault;
 use std::alloc::{AllocError, AllocFailed, Global};
@@ -77,46 +78,33 @@ impl EndName {
     }
 }
 
+impl Refusal for FileFault {
+    ghost row = { row_of };
+
+    fn row(&self) -> (u32, &'static str) {
+        match self {
+            FileFault::Syntax => (40, "Syntax"),
+            FileFault::Table { fault, .. } => fault.row(),
+            FileFault::Graph { fault, .. } => fault.row(),
+            FileFault::NegativePort { .. } => (3, "PortRange"),
+            FileFault::Feed { fault, .. } => fault.row(),
+            FileFault::Memory => (32, "Memory"),
+        }
+    }
+}
+
 impl FileFault {
-    ghost use Rattle.graph_file.specs.Refusals.{number_of, name_of};
-
-    /// The number by which the refusal is reported: 1 to 12, 20 to 26, 32, or 40 to 44.
-    pub fn number(&self) -> u32
-        ensures { result ≡ number_of self.now }
-    {
-        match self {
-            FileFault::Syntax => 40,
-            FileFault::Table { fault, .. } => fault.number(),
-            FileFault::Graph { fault, .. } => fault.number(),
-            FileFault::NegativePort { .. } => 3,
-            FileFault::Feed { fault, .. } => fault.number(),
-            FileFault::Memory => 32,
-        }
-    }
-
-    /// The name beside the number.
-    pub fn name(&self) -> &'static str
-        ensures { result.now ≡ name_of self.now }
-    {
-        match self {
-            FileFault::Syntax => "Syntax",
-            FileFault::Table { fault, .. } => fault.name(),
-            FileFault::Graph { fault, .. } => fault.name(),
-            FileFault::NegativePort { .. } => "PortRange",
-            FileFault::Feed { fault, .. } => fault.name(),
-            FileFault::Memory => "Memory",
-        }
-    }
-
     /// The text of the fault in pieces. It takes no memory.
     pub fn pieces(&self) -> Pieces<'_>
         ensures { texts.joined result ≡ texts.fault_text self.now }
     {
+        let row = self.row();
         match self {
-            FileFault::Syntax | FileFault::Memory => Pieces::alone(self.number(), self.name()),
+            FileFault::Syntax | FileFault::Memory => Pieces::alone(row),
             FileFault::Table { place, fault } => table_pieces(*place, *fault),
             FileFault::Graph { place, fault, name } => graph_pieces(*place, *fault, name.as_str()),
             FileFault::NegativePort { name, side, port } => negative_pieces(
+                row,
                 name.text(),
                 *side,
                 *port,

@@ -2,12 +2,16 @@
 ghost use Rattle.std.specs.Prelude.{◌≡◌, ◌++◌, codes};
 ghost use Rattle.std.specs.List.{flat_map};
 ghost use Rattle.std.specs.Fmt.{decimal};
+ghost use Rattle.flowgraph.specs.Fault as graphs;
 ghost use Rattle.flowgraph.specs.Fault.{side_text};
+ghost use Rattle.kind_keys.specs.Fault as tables;
+ghost use Rattle.plant.specs.Fault as feeds;
 ghost use Rattle.graph_file.specs.Texts as texts;
 ghost use Rattle.graph_file.specs.Texts.{piece_text, joined};
 
 use crate::fault::FilePlace;
 use flowgraph::{GraphFault, Side};
+use items::Refusal;
 use kind_keys::KeyFault;
 use plant::PlantFault;
 use std::fmt;
@@ -35,41 +39,26 @@ const NONE: Piece<'static> = Piece::Text("");
 const SPACE: Piece<'static> = Piece::Text(" ");
 
 impl<'a> Pieces<'a> {
-    /// A word, and a text behind it.
-    pub fn named(word: &'a str, text: &'a str) -> Pieces<'a>
-        ensures { joined result ≡ word.now ++ text.now }
+    /// The number of a refusal, and its name.
+    pub fn alone(row: (u32, &'static str)) -> Pieces<'static>
+        ensures { joined result ≡ texts.head (row.entry.0, row.entry.1.now) }
     {
-        Pieces::of([Piece::Text(word), Piece::Text(text), NONE])
+        Pieces::headed(row, [NONE; 6])
     }
 
-    /// A word, and a number behind it.
-    pub fn counted(word: &'a str, number: u64) -> Pieces<'a>
-        ensures { joined result ≡ word.now ++ decimal number }
-    {
-        Pieces::of([Piece::Text(word), Piece::Number(number), NONE])
-    }
-
-    /// These pieces.
-    pub fn of(pieces: [Piece<'a>; 3]) -> Pieces<'a>
-        ensures { joined result ≡ flat_map piece_text pieces.entry }
+    /// The same, and these pieces behind them.
+    pub fn of(row: (u32, &'static str), pieces: [Piece<'a>; 3]) -> Pieces<'a>
+        ensures { joined result ≡ texts.head (row.entry.0, row.entry.1.now) ++ flat_map piece_text pieces.entry }
     {
         let [first, second, third] = pieces;
-        Pieces {
-            list: [first, second, third, NONE, NONE, NONE, NONE, NONE, NONE],
-        }
+        Pieces::headed(row, [first, second, third, NONE, NONE, NONE])
     }
 
-    /// The number of a refusal, and its name.
-    pub fn alone(number: u32, name: &'a str) -> Pieces<'a>
-        ensures { joined result ≡ texts.head number name.now }
+    // The same, and up to six pieces.
+    fn headed(row: (u32, &'static str), rest: [Piece<'a>; 6]) -> Pieces<'a>
+        ensures { joined result ≡ texts.head (row.entry.0, row.entry.1.now) ++ flat_map piece_text rest.entry }
     {
-        Pieces::headed(number, name, [NONE; 6])
-    }
-
-    // The same, and these pieces behind them.
-    fn headed(number: u32, name: &'a str, rest: [Piece<'a>; 6]) -> Pieces<'a>
-        ensures { joined result ≡ texts.head number name.now ++ flat_map piece_text rest.entry }
-    {
+        let (number, name) = row;
         let [first, second, third, fourth, fifth, sixth] = rest;
         Pieces {
             list: [
@@ -116,63 +105,66 @@ impl fmt::Display for Pieces<'_> {
 
 /// What is wrong with the table of a place.
 pub(crate) fn table_pieces(place: FilePlace, fault: KeyFault) -> Pieces<'static>
-    ensures { joined result ≡ texts.table_text place fault }
+    ensures { joined result ≡ texts.head (tables.row_of fault) ++ texts.table_rest place fault }
 {
-    let (number, word) = (fault.number(), fault.name());
+    let row = fault.row();
     match fault {
-        KeyFault::UnknownKey | KeyFault::UnknownKind => {
-            Pieces::headed(number, word, placed(place))
-        }
+        KeyFault::UnknownKey | KeyFault::UnknownKind => Pieces::headed(row, placed(place)),
         KeyFault::MissingKey(key) | KeyFault::WrongType(key) => {
-            Pieces::headed(number, word, placed_with(place, key.text()))
+            Pieces::headed(row, placed_with(place, key.text()))
         }
         KeyFault::BadParameter(parameter) => {
-            Pieces::headed(number, word, placed_with(place, parameter.text()))
+            Pieces::headed(row, placed_with(place, parameter.text()))
         }
-        KeyFault::Memory => Pieces::alone(number, word),
+        KeyFault::Memory => Pieces::alone(row),
     }
 }
 
 /// Why the graph is refused at a place. `name` is that of the block that the refusal names.
 pub(crate) fn graph_pieces<'a>(place: FilePlace, fault: GraphFault, name: &'a str) -> Pieces<'a>
-    ensures { joined result ≡ texts.graph_text place fault name.now }
+    ensures { joined result ≡ texts.head (graphs.row_of fault) ++ texts.graph_rest place fault name.now }
 {
-    let (number, word) = (fault.number(), fault.name());
+    let row = fault.row();
     match fault {
-        GraphFault::UnknownBlock => Pieces::headed(number, word, placed(place)),
+        GraphFault::UnknownBlock => Pieces::headed(row, placed(place)),
         GraphFault::PortRange { side, port, .. } | GraphFault::PortGap { side, port, .. } => {
-            Pieces::headed(number, word, sided(name, side, Piece::Number(port as u64)))
+            Pieces::headed(row, sided(name, side, Piece::Number(port as u64)))
         }
         GraphFault::InputTaken { port, .. } | GraphFault::TypeMismatch { port, .. } => {
-            Pieces::headed(number, word, ported(name, port))
+            Pieces::headed(row, ported(name, port))
         }
         GraphFault::DuplicateName
         | GraphFault::Loop { .. }
         | GraphFault::TooFewPorts { .. }
         | GraphFault::OneToOne { .. }
-        | GraphFault::Gain { .. } => Pieces::headed(number, word, spoken(name)),
-        GraphFault::TooLarge(limit) => Pieces::headed(number, word, spoken(limit.text())),
+        | GraphFault::Gain { .. } => Pieces::headed(row, spoken(name)),
+        GraphFault::TooLarge(limit) => Pieces::headed(row, spoken(limit.text())),
         GraphFault::BadParameter(option) => {
-            Pieces::headed(number, word, placed_with(place, option.text()))
+            Pieces::headed(row, placed_with(place, option.text()))
         }
-        GraphFault::Memory => Pieces::alone(number, word),
+        GraphFault::Memory => Pieces::alone(row),
     }
 }
 
 /// The refusal of a negative port of the block of this name.
-pub(crate) fn negative_pieces<'a>(name: &'a str, side: Side, port: i64) -> Pieces<'a>
-    ensures { joined result ≡ texts.negative_text name.now side port }
+pub(crate) fn negative_pieces<'a>(
+    row: (u32, &'static str),
+    name: &'a str,
+    side: Side,
+    port: i64,
+) -> Pieces<'a>
+    ensures { joined result ≡ texts.head (row.entry.0, row.entry.1.now) ++ texts.negative_rest name.now side port }
 {
-    Pieces::headed(3, "PortRange", sided(name, side, Piece::Signed(port)))
+    Pieces::headed(row, sided(name, side, Piece::Signed(port)))
 }
 
 /// The refusal of a feed, counted from 0.
 pub(crate) fn feed_pieces(feed: usize, fault: PlantFault) -> Pieces<'static>
-    ensures { joined result ≡ texts.feed_text feed fault }
+    ensures { joined result ≡ texts.head (feeds.row_of fault) ++ codes " feed " ++ decimal feed }
 {
     let feed = Piece::Number(feed as u64);
     let rest = [Piece::Text(" feed "), feed, NONE, NONE, NONE, NONE];
-    Pieces::headed(fault.number(), fault.name(), rest)
+    Pieces::headed(fault.row(), rest)
 }
 
 // A text.

@@ -3,15 +3,10 @@ use Rattle.std.specs.Prelude.{ℕ, List, codes}
 use Rattle.items.specs.declared.fault.ItemFault.{ItemFault}
 use Rattle.items.specs.declared.fault.ItemFault.TheVariants.{ItemRange, Memory}
 
--- the number by which a refusal is reported
-abbrev pub number_of : ItemFault → ℕ
-number_of ItemRange = 24
-number_of Memory = 32
-
--- the name beside it
-abbrev pub name_of : ItemFault → List ℕ
-name_of ItemRange = codes "ItemRange"
-name_of Memory = codes "Memory"
+-- the number by which a refusal is reported, and the name beside it
+abbrev pub row_of : ItemFault → ℕ × List ℕ
+row_of ItemRange = (24, codes "ItemRange")
+row_of Memory = (32, codes "Memory")
 
 -- what is printed of it
 abbrev pub text_of : ItemFault → List ℕ

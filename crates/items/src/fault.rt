@@ -1,8 +1,9 @@
 //! Why items could not be made.
 ghost use Rattle.std.specs.Prelude.{◌≡◌, Some};
-ghost use Rattle.items.specs.Fault.{number_of, name_of, text_of};
+ghost use Rattle.items.specs.Fault.{row_of, text_of};
 ghost use Rattle.items.specs.declared.fault.ItemFault.TheVariants.{Memory};
 
+use crate::refusal::Refusal;
 use std::alloc::AllocError;
 use std::error::Error;
 use std::fmt;
@@ -16,24 +17,13 @@ pub enum ItemFault {
     Memory,
 }
 
-impl ItemFault {
-    /// The number by which the refusal is reported: 24 or 32.
-    pub fn number(&self) -> u32
-        ensures { result ≡ number_of self.now }
-    {
-        match self {
-            ItemFault::ItemRange => 24,
-            ItemFault::Memory => 32,
-        }
-    }
+impl Refusal for ItemFault {
+    ghost row = { row_of };
 
-    /// The name beside the number.
-    pub fn name(&self) -> &'static str
-        ensures { result.now ≡ name_of self.now }
-    {
+    fn row(&self) -> (u32, &'static str) {
         match self {
-            ItemFault::ItemRange => "ItemRange",
-            ItemFault::Memory => "Memory",
+            ItemFault::ItemRange => (24, "ItemRange"),
+            ItemFault::Memory => (32, "Memory"),
         }
     }
 }

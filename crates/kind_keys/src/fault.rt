@@ -1,10 +1,11 @@
 //! What may be wrong with a table of a graph file.
 ghost use Rattle.std.specs.Prelude.{◌≡◌};
-ghost use Rattle.kind_keys.specs.Fault.{number_of, name_of};
+ghost use Rattle.kind_keys.specs.Fault.{row_of};
 ghost use Rattle.kind_keys.specs.declared.fault.KeyFault.TheVariants.{BadParameter, Memory};
 
 use crate::key::Key;
 use block_kinds::{ParamFault, Parameter};
+use items::Refusal;
 use std::alloc::{AllocError, AllocFailed};
 
 /// What is wrong with a table.
@@ -23,32 +24,17 @@ pub enum KeyFault {
     Memory,
 }
 
-impl KeyFault {
-    /// The number by which the fault is reported: 10, 32, or 41 to 44.
-    pub fn number(&self) -> u32
-        ensures { result ≡ number_of self.now }
-    {
-        match self {
-            KeyFault::UnknownKey => 41,
-            KeyFault::MissingKey(_) => 42,
-            KeyFault::WrongType(_) => 43,
-            KeyFault::UnknownKind => 44,
-            KeyFault::BadParameter(_) => 10,
-            KeyFault::Memory => 32,
-        }
-    }
+impl Refusal for KeyFault {
+    ghost row = { row_of };
 
-    /// The name beside the number.
-    pub fn name(&self) -> &'static str
-        ensures { result.now ≡ name_of self.now }
-    {
+    fn row(&self) -> (u32, &'static str) {
         match self {
-            KeyFault::UnknownKey => "UnknownKey",
-            KeyFault::MissingKey(_) => "MissingKey",
-            KeyFault::WrongType(_) => "WrongType",
-            KeyFault::UnknownKind => "UnknownKind",
-            KeyFault::BadParameter(_) => "BadParameter",
-            KeyFault::Memory => "Memory",
+            KeyFault::UnknownKey => (41, "UnknownKey"),
+            KeyFault::MissingKey(_) => (42, "MissingKey"),
+            KeyFault::WrongType(_) => (43, "WrongType"),
+            KeyFault::UnknownKind => (44, "UnknownKind"),
+            KeyFault::BadParameter(_) => (10, "BadParameter"),
+            KeyFault::Memory => (32, "Memory"),
         }
     }
 }

@@ -1,17 +1,18 @@
 //! One error type, to which `?` converts the fault of any call.
 
-ghost use Rattle.std.specs.Prelude.{◌≡◌, Some};
-ghost use Rattle.magbelu.specs.Errors.{number_of, text_of, name_of};
+ghost use Rattle.std.specs.Prelude.{Some};
+ghost use Rattle.magbelu.specs.Errors.{row_of, text_of};
 
 use block_kinds::ParamFault;
 use flowgraph::GraphFault;
 use graph_file::FileFault;
-use items::ItemFault;
+use items::{ItemFault, Refusal};
 use plant::PlantFault;
 use std::fmt;
 use threads::RunError;
 
-/// Why a call was refused, or why a run in threads failed. Number, name and text are those of the fault that it was converted from.
+/// Why a call was refused, or why a run in threads failed. Number, name and text are those of the fault that it was converted from: 1 to 12, 20 to 33,
+/// 40 to 44, or 60 to 62, and a name as `Loop` or `Memory`.
 #[derive(Debug, Drop, thiserror::Error)]
 pub enum Error {
     /// Items could not be made.
@@ -32,36 +33,19 @@ pub enum Error {
     Memory,
 }
 
-impl Error {
-    /// The number of the refusal: 1 to 12, 20 to 33, 40 to 44, or 60 to 62.
-    pub fn number(&self) -> u32
-        ensures { result ≡ number_of self.now }
-    {
-        match self {
-            Error::Items(fault) => fault.number(),
-            Error::Block(fault) => fault.number(),
-            Error::Graph(fault) => fault.number(),
-            Error::Plant(fault) => fault.number(),
-            Error::NoJob => 30,
-            Error::File(fault) => fault.number(),
-            Error::Run(fault) => fault.number(),
-            Error::Memory => 32,
-        }
-    }
+impl Refusal for Error {
+    ghost row = { row_of };
 
-    /// The name of the refusal, as `Loop` or `Memory`.
-    pub fn name(&self) -> &'static str
-        ensures { result.now ≡ name_of self.now }
-    {
+    fn row(&self) -> (u32, &'static str) {
         match self {
-            Error::Items(fault) => fault.name(),
-            Error::Block(fault) => fault.name(),
-            Error::Graph(fault) => fault.name(),
-            Error::Plant(fault) => fault.name(),
-            Error::NoJob => "NoJob",
-            Error::File(fault) => fault.name(),
-            Error::Run(fault) => fault.name(),
-            Error::Memory => "Memory",
+            Error::Items(fault) => fault.row(),
+            Error::Block(fault) => fault.row(),
+            Error::Graph(fault) => fault.row(),
+            Error::Plant(fault) => fault.row(),
+            Error::NoJob => (30, "NoJob"),
+            Error::File(fault) => fault.row(),
+            Error::Run(fault) => fault.row(),
+            Error::Memory => (32, "Memory"),
         }
     }
 }

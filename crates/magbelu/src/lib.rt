@@ -8,6 +8,8 @@
 //! - [`files`]: graph files.
 //! - [`custom`]: writing a block of your own.
 //! - [`prelude`]: what most programs use.
+//!
+//! An [`Error`], and each fault that it is made of, is a [`Refusal`]: a number, which stays what it is from version to version, and a name.
 #![tactic(auto)]
 
 pub mod blocks;
@@ -22,4 +24,5 @@ pub mod runs;
 pub mod streams;
 
 pub use error::Error;
+pub use items::Refusal;
 pub use runs::RunError;

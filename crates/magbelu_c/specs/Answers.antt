@@ -2,11 +2,11 @@
 use Rattle.std.specs.Prelude.{◌≡◌, ℕ, ◌==◌, List, [], ◌++◌, length, drop, nat_le, Option, Some, Result, if◌then◌else◌}
 use Rattle.graph_file.specs.Refusals.{Refusal}
 use Rattle.flow.specs.declared.fault.Fault.{Fault}
-use Rattle.flow.specs.Faults.{fault_line, fault_number, status_of}
+use Rattle.flow.specs.Faults.{fault_line, row_of, status_of}
 use Rattle.raw_items.specs.declared.byte_order.ByteOrder.{ByteOrder}
 use Rattle.raw_items.specs.declared.byte_order.ByteOrder.TheVariants.{Little, Big}
 use Rattle.flow.specs.declared.raw_fault.RawFault.{RawFault}
-use Rattle.flow.specs.RawFaults.{raw_fault_line, raw_fault_number, raw_status_of}
+use Rattle.flow.specs.RawFaults.{raw_fault_line, raw_row, raw_status_of}
 use Rattle.flow.specs.Serve.{IsScript, StopsScript, Tries, WritesNot, stream}
 use Rattle.magbelu_c.specs.declared.answer.Answer.{Answer}
 use Rattle.magbelu_c.specs.declared.tables.Input.{Input}
@@ -32,7 +32,7 @@ pub record ToldBadly (text : List ℕ) (fault : Fault) (out out' err err' : List
   pub tells : IsLineOf fault line
   pub output : out' ≡ shown text out
   pub error : err' ≡ shown line err
-  pub answer : a ≡ record { status = status_of fault; number = fault_number fault; output_len = length text; error_len = length line }
+  pub answer : a ≡ record { status = status_of fault; number = (row_of fault).0; output_len = length text; error_len = length line }
 
 -- a call was done, and no fault is reported; or it was not, and its fault is reported
 pub data Answers (Does : List ℕ → ℕ → Type 0) (DoesNot : List ℕ → Fault → Type 0) (out out' err err' : List ℕ) (a : Answer) : Type 0 where
@@ -56,7 +56,7 @@ pub record ToldRaw (fault : RawFault) (err err' : List ℕ) (a : Answer) : Type 
   pub failed : ℕ
   pub tells : Tries (stream (Some []) 0) (stream (Some line) failed) (raw_fault_line fault)
   pub error : err' ≡ shown line err
-  pub answer : a ≡ record { status = raw_status_of fault; number = raw_fault_number fault; output_len = 0; error_len = length line }
+  pub answer : a ≡ record { status = raw_status_of fault; number = (raw_row fault).0; output_len = 0; error_len = length line }
 
 -- the order of the bytes of an item that a number names
 abbrev pub order_of : ℕ → ByteOrder

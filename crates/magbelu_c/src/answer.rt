@@ -7,6 +7,7 @@ use crate::shows::show;
 use flow::fault::Fault;
 use flow::raw_fault::RawFault;
 use flow::telling::{report, report_raw};
+use items::Refusal;
 use script_text::WriteEnd;
 use std::alloc::Global;
 

@@ -4,6 +4,7 @@ ghost use Rattle.std.specs.Prelude.{◌≡◌};
 ghost use Rattle.plant.specs.Answers.{refusal_of, step_reply};
 ghost use Rattle.magbelu_c.specs.Replies.{done, no_memory, refused, told_maybe, told_of};
 
+use items::Refusal;
 use plant::{Need, PlantFault, Step};
 
 /// What came of a call of a held plant.

@@ -18,7 +18,7 @@ use Rattle.plant.specs.declared.answers.Claim.TheVariants as claim
 use Rattle.plant.specs.declared.answers.Step.{Step}
 use Rattle.plant.specs.declared.answers.Step.TheVariants as step
 use Rattle.plant.specs.declared.fault.PlantFault.{PlantFault}
-use Rattle.plant.specs.declared.fault.PlantFault.TheVariants.{NoSuchBlock, NotSource, NotSink, Closed, ItemRange, TagPlace, TapeFull, Late, NoSetting, WrongSetting, BeyondEnd, NoSuchPort, Memory}
+use Rattle.plant.specs.declared.fault.PlantFault.TheVariants.{NoSuchBlock, NotSource, Late, Memory}
 use Rattle.plant.specs.Fault.{number_of}
 use Rattle.plant.specs.Plant.{PlantState}
 
@@ -26,17 +26,7 @@ use Rattle.plant.specs.Plant.{PlantState}
 abbrev pub refusal_of : PlantFault → Option Reply
 refusal_of Memory = None
 refusal_of (Late floor) = Some (machine.Late floor)
-refusal_of NoSuchBlock = Some (Refused (number_of NoSuchBlock))
-refusal_of NotSource = Some (Refused (number_of NotSource))
-refusal_of NotSink = Some (Refused (number_of NotSink))
-refusal_of Closed = Some (Refused (number_of Closed))
-refusal_of ItemRange = Some (Refused (number_of ItemRange))
-refusal_of TagPlace = Some (Refused (number_of TagPlace))
-refusal_of TapeFull = Some (Refused (number_of TapeFull))
-refusal_of NoSetting = Some (Refused (number_of NoSetting))
-refusal_of WrongSetting = Some (Refused (number_of WrongSetting))
-refusal_of BeyondEnd = Some (Refused (number_of BeyondEnd))
-refusal_of NoSuchPort = Some (Refused (number_of NoSuchPort))
+refusal_of fault = Some (Refused (number_of fault))
 
 -- the reply that a result is, where it is one
 abbrev pub reply_of : {R : Type 0} → (R → Reply) → Result R PlantFault → Option Reply

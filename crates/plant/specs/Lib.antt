@@ -1,5 +1,4 @@
 pub mod Fault
-pub mod Texts
 pub mod Plant
 pub mod Own
 pub mod Flight

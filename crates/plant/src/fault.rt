@@ -1,10 +1,10 @@
 //! The refusals of a plant.
 
 ghost use Rattle.std.specs.Prelude.{◌≡◌, Some};
-ghost use Rattle.plant.specs.Fault.{number_of, name_of};
-ghost use Rattle.plant.specs.Texts.{text_of};
+ghost use Rattle.plant.specs.Fault.{row_of, text_of};
 ghost use Rattle.plant.specs.declared.fault.PlantFault.TheVariants.{Memory};
 
+use items::Refusal;
 use std::alloc::AllocError;
 use std::error::Error;
 use std::fmt;
@@ -40,46 +40,24 @@ pub enum PlantFault {
     Memory,
 }
 
-impl PlantFault {
-    /// The number by which the refusal is reported: 20 to 29, or 31 to 33.
-    pub fn number(&self) -> u32
-        ensures { result ≡ number_of self.now }
-    {
-        match self {
-            PlantFault::NoSuchBlock => 20,
-            PlantFault::NotSource => 21,
-            PlantFault::NotSink => 22,
-            PlantFault::Closed => 23,
-            PlantFault::ItemRange => 24,
-            PlantFault::TagPlace => 25,
-            PlantFault::TapeFull => 26,
-            PlantFault::Late { .. } => 27,
-            PlantFault::NoSetting => 28,
-            PlantFault::WrongSetting => 29,
-            PlantFault::BeyondEnd => 31,
-            PlantFault::Memory => 32,
-            PlantFault::NoSuchPort => 33,
-        }
-    }
+impl Refusal for PlantFault {
+    ghost row = { row_of };
 
-    /// The name beside the number.
-    pub fn name(&self) -> &'static str
-        ensures { result.now ≡ name_of self.now }
-    {
+    fn row(&self) -> (u32, &'static str) {
         match self {
-            PlantFault::NoSuchBlock => "NoSuchBlock",
-            PlantFault::NotSource => "NotSource",
-            PlantFault::NotSink => "NotSink",
-            PlantFault::Closed => "Closed",
-            PlantFault::ItemRange => "ItemRange",
-            PlantFault::TagPlace => "TagPlace",
-            PlantFault::TapeFull => "TapeFull",
-            PlantFault::Late { .. } => "Late",
-            PlantFault::NoSetting => "NoSetting",
-            PlantFault::WrongSetting => "WrongSetting",
-            PlantFault::BeyondEnd => "BeyondEnd",
-            PlantFault::NoSuchPort => "NoSuchPort",
-            PlantFault::Memory => "Memory",
+            PlantFault::NoSuchBlock => (20, "NoSuchBlock"),
+            PlantFault::NotSource => (21, "NotSource"),
+            PlantFault::NotSink => (22, "NotSink"),
+            PlantFault::Closed => (23, "Closed"),
+            PlantFault::ItemRange => (24, "ItemRange"),
+            PlantFault::TagPlace => (25, "TagPlace"),
+            PlantFault::TapeFull => (26, "TapeFull"),
+            PlantFault::Late { .. } => (27, "Late"),
+            PlantFault::NoSetting => (28, "NoSetting"),
+            PlantFault::WrongSetting => (29, "WrongSetting"),
+            PlantFault::BeyondEnd => (31, "BeyondEnd"),
+            PlantFault::Memory => (32, "Memory"),
+            PlantFault::NoSuchPort => (33, "NoSuchPort"),
         }
     }
 }

@@ -11,17 +11,11 @@ error_of (faults.Memory p) = Memory
 error_of (faults.Thread p) = Thread
 error_of faults.Foreign = Foreign
 
--- the number by which it is reported
-abbrev pub number_of : RunError → ℕ
-number_of Memory = 60
-number_of Thread = 61
-number_of Foreign = 62
-
--- the name beside it
-abbrev pub name_of : RunError → List ℕ
-name_of Memory = codes "Memory"
-name_of Thread = codes "Thread"
-name_of Foreign = codes "Foreign"
+-- the number by which it is reported, and the name beside it
+abbrev pub row_of : RunError → ℕ × List ℕ
+row_of Memory = (60, codes "Memory")
+row_of Thread = (61, codes "Thread")
+row_of Foreign = (62, codes "Foreign")
 
 -- what is printed of it
 abbrev pub text_of : RunError → List ℕ

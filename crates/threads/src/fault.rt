@@ -1,9 +1,10 @@
 //! What may stop a run in threads.
 
 ghost use Rattle.std.specs.Prelude.{◌≡◌, Some};
-ghost use Rattle.threads.specs.Fault.{error_of, number_of, name_of, text_of};
+ghost use Rattle.threads.specs.Fault.{error_of, row_of, text_of};
 
 use flowgraph::Block;
+use items::Refusal;
 use plant::Plant;
 use std::fmt;
 
@@ -41,35 +42,24 @@ impl<B: Block> RunFault<B> {
             RunFault::Foreign => RunError::Foreign,
         }
     }
+}
 
-    /// The number by which the fault is reported: 60, 61 or 62.
-    pub fn number(&self) -> u32
-        ensures { result ≡ number_of (error_of self.now) }
-    {
-        self.error().number()
+impl<B: Block> Refusal for RunFault<B> {
+    ghost row = { λ fault. row_of (error_of fault) };
+
+    fn row(&self) -> (u32, &'static str) {
+        self.error().row()
     }
 }
 
-impl RunError {
-    /// The number by which the fault is reported: 60, 61 or 62.
-    pub fn number(&self) -> u32
-        ensures { result ≡ number_of self.now }
-    {
-        match self {
-            RunError::Memory => 60,
-            RunError::Thread => 61,
-            RunError::Foreign => 62,
-        }
-    }
+impl Refusal for RunError {
+    ghost row = { row_of };
 
-    /// The name beside the number.
-    pub fn name(&self) -> &'static str
-        ensures { result.now ≡ name_of self.now }
-    {
+    fn row(&self) -> (u32, &'static str) {
         match self {
-            RunError::Memory => "Memory",
-            RunError::Thread => "Thread",
-            RunError::Foreign => "Foreign",
+            RunError::Memory => (60, "Memory"),
+            RunError::Thread => (61, "Thread"),
+            RunError::Foreign => (62, "Foreign"),
         }
     }
 }
