@@ -1,5 +1,6 @@
 //! Codes that go on from byte to byte.
 ghost use Rattle.std.specs.Prelude.{◌≡◌, ◌+◌, ◌-◌, ◌≤◌, ℕ, ℤ, pos, [], map, length, vec_len, vec_capacity};
+ghost use Rattle.items.specs.Items.{numbers_of, spare_of};
 ghost use Rattle.bit_blocks.specs.Codes.{coded, word_after, CanCode, HasCoded};
 
 use items::Items;
@@ -78,7 +79,8 @@ pub(crate) fn follow<C: Coder>(coder: C, start: u64, items: &[u8]) -> u64
 pub(crate) fn code<C: Coder>(coder: C, start: u64, items: &Items, out: &mut Items) -> u64
     requires word { C.is_word coder start }
     requires can { CanCode items.now out.old }
-    ensures { HasCoded (C.gives coder) (C.next coder) start items.now out.new result }
+    ensures coded { HasCoded (C.gives coder) (C.next coder) start items.now out.new result }
+    ensures room { spare_of out.old ≤ spare_of out.new + length (numbers_of out.new) }
 {
     match (items, out) {
         (Items::Byte(items), Items::Byte(out)) => code_bytes(coder, start, items, out),

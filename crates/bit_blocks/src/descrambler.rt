@@ -29,6 +29,7 @@ impl Feed for InputFeed {
 fn append(out: &mut Vec<u8>, more: &[u8])
     requires { vec_len out.old + length more.now ≤ vec_capacity out.old }
     ensures items { out.new.items ≡ out.old.items ++ more.now }
+    ensures capacity { vec_capacity out.old ≤ vec_capacity out.new }
 {
     match out.extend_from_slice(more) {
         Ok(()) => {}
@@ -44,6 +45,7 @@ fn descramble(register: &Register, start: u64, bytes: &[u8], out: &mut Vec<u8>) 
     requires room { length bytes.now ≤ vec_capacity out.old - vec_len out.old }
     ensures items { map pos out.new.items ≡ coded (given_bit register.now.bits register.now.mask) (followed register.now.bits) start (map pos bytes.now) }
     ensures word { result ≡ word_after (followed register.now.bits) start (map pos bytes.now) }
+    ensures capacity { vec_capacity out.old ≤ vec_capacity out.new }
 {
     let coder = Shifting::<InputFeed>::new(register);
     let first = bytes.len().min(MOST_BITS);

@@ -1,5 +1,6 @@
 //! The block that sums up all bytes modulo a number.
-ghost use Rattle.std.specs.Prelude.{◌≡◌, ◌≤◌, ◌<◌, ◌↔◌, [], length, IsOk, IfOk, IfErr};
+ghost use Rattle.std.specs.Prelude.{◌≡◌, ◌+◌, ◌≤◌, ◌<◌, ◌↔◌, [], length, IsOk, IfOk, IfErr};
+ghost use Rattle.items.specs.Items.{numbers_of, spare_of};
 ghost use Rattle.bit_blocks.specs.Codes.{summed, CanCode, HasCoded};
 ghost use Rattle.stream_model.specs.Kinds.Bits.{diff_encoder};
 
@@ -54,7 +55,8 @@ impl Coder for Modulus {
 fn sum_items(modulus: Modulus, state: u64, items: &Items, out: &mut Items) -> u64
     requires word { state < modulus.value }
     requires can { CanCode items.now out.old }
-    ensures { HasCoded (summed modulus.value) (summed modulus.value) state items.now out.new result }
+    ensures coded { HasCoded (summed modulus.value) (summed modulus.value) state items.now out.new result }
+    ensures room { spare_of out.old ≤ spare_of out.new + length (numbers_of out.new) }
 {
     match modulus.value {
         2 => code(Modulus { value: 2 }, state, items, out),

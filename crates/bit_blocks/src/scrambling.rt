@@ -1,5 +1,6 @@
 //! What one block with a shift register does otherwise than another.
-ghost use Rattle.std.specs.Prelude.{◌≡◌, ◌^◌, ◌<◌, ◌≤◌, ◌-◌, ◌+◌, ◌*◌, ◌%◌, ℕ};
+ghost use Rattle.std.specs.Prelude.{◌≡◌, ◌^◌, ◌<◌, ◌≤◌, ◌-◌, ◌+◌, ◌*◌, ◌%◌, ℕ, length};
+ghost use Rattle.items.specs.Items.{numbers_of, spare_of};
 ghost use Rattle.stream_model.specs.Meaning.{Meaning, IsLawful};
 ghost use Rattle.bit_blocks.specs.Codes.{given_bit, fed_register, IsCode, CanCode, HasCoded};
 
@@ -30,7 +31,8 @@ pub trait Scrambling: Feed + Drop + Sized {
     fn code(register: &Register, start: u64, items: &Items, out: &mut Items) -> u64
         requires word { start < 2 ^ register.now.bits }
         requires can { CanCode items.now out.old }
-        ensures { HasCoded (given_bit register.now.bits register.now.mask) (fed_register Self.fed register.now.bits register.now.mask) start items.now out.new result }
+        ensures coded { HasCoded (given_bit register.now.bits register.now.mask) (fed_register Self.fed register.now.bits register.now.mask) start items.now out.new result }
+        ensures room { spare_of out.old ≤ spare_of out.new + length (numbers_of out.new) }
     {
         code(Shifting::<Self>::new(register), start, items, out)
     }

@@ -1,5 +1,5 @@
 -- What a call of `work` is given, and what it makes.
-use Rattle.std.specs.Prelude.{◌≡◌, ℕ, ◌+◌, ◌^◌, ◌<◌, ◌≤◌, ℤ, List, [], map, length, All}
+use Rattle.std.specs.Prelude.{◌≡◌, ℕ, ◌+◌, ◌^◌, ◌<◌, ◌≤◌, ℤ, List, [], map, length, All, slice_index_or}
 use Rattle.stream_model.specs.declared.vocabulary.Role.{Role}
 use Rattle.stream_model.specs.declared.vocabulary.Role.TheVariants.{Source, Work, Keep, Discard}
 use Rattle.stream_model.specs.declared.vocabulary.Signature.{Signature}
@@ -50,7 +50,8 @@ pub record CanWork (m : Meaning) (first n state : ℕ) (windows : List Items) (h
   pub takes : (p : ℕ) → p < length windows → m.taken p (first + n) < 2 ^ 63
   pub gives : m.given (first + n) < 2 ^ 63
 
--- what `work` has written: on each output exactly what the firings give
+-- what `work` has written: on each output exactly what the firings give, and no place has less room than before, with what it now holds
 pub record HasWorked (m : Meaning) (first n state : ℕ) (windows : List Items) (held : List Held) (old new : List Items) : Type 0 where
   pub items : (ts : List model.Held) (xs : List (List ℤ)) → IsWorkOf m ts xs first n state windows held → map numbers_of new ≡ given_outputs m ts xs first n (length old)
   pub types : map type_of new ≡ map type_of old
+  pub room : (p : ℕ) (d : Items) → p < length old → spare_of (slice_index_or old p d) ≤ spare_of (slice_index_or new p d) + length (numbers_of (slice_index_or new p d))

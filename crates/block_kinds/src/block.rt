@@ -151,7 +151,7 @@ pub trait Block: Eq + Drop {
 
     /// Does firings `first` to below `first + count`: writes what they give into the empty places `out`, one for each used output, and returns the
     /// state word after them. `state` is the word before them, `windows` has for each used input the items that they take behind the past that they
-    /// read, and `held` the settings in force over these items. It takes no memory.
+    /// read, and `held` the settings in force over these items. It takes no memory, and no place loses any.
     fn work(
         &self,
         state: u64,

@@ -1,8 +1,8 @@
 //! Blocks with one input and one output.
-ghost use Rattle.std.specs.Prelude.{◌≡◌, ◌+◌, List, ℤ};
+ghost use Rattle.std.specs.Prelude.{◌≡◌, ◌≤◌, ◌+◌, List, ℤ, length};
 ghost use Rattle.stream_model.specs.Meaning.{Meaning};
 ghost use Rattle.stream_model.specs.Settings as model;
-ghost use Rattle.items.specs.Items.{type_of};
+ghost use Rattle.items.specs.Items.{type_of, numbers_of, spare_of};
 ghost use Rattle.block_kinds.specs.Fill.{IsSingle, IsFillOf, CanFill, HasFilled};
 ghost use Rattle.block_kinds.specs.Work.{CanWork, HasWorked, IsWorkOf};
 
@@ -29,11 +29,13 @@ pub trait Single {
     /// What the block means.
     ghost equation: { Self → Meaning };
 
-    /// Does the firings of a batch: writes what they give into the empty `out`, and returns the state word after them. It takes no memory.
+    /// Does the firings of a batch: writes what they give into the empty `out`, and returns the state word after them. It takes no memory, and `out`
+    /// loses none.
     fn fill(&self, batch: &Batch<'_>, out: &mut Items) -> u64
         requires { CanFill (equation self.now) batch.now out.old }
         ensures items { HasFilled (equation self.now) batch.now out.new }
         ensures item_type { type_of out.new ≡ type_of out.old }
+        ensures room { spare_of out.old ≤ spare_of out.new + length (numbers_of out.new) }
         ensures word { (ts : List model.Held) (xs : List (List ℤ)) → IsFillOf (equation self.now) ts xs batch.now
             → result ≡ (equation self.now).word ts xs (batch.now.first + batch.now.count) };
 

@@ -189,6 +189,7 @@ impl Buffer {
         ensures items { (stream : List ℤ) → IsEndOf self.now.ring stream →
             let place = (reader_at self.now.ring reader).place in
             numbers_of out.new ≡ numbers_of out.old ++ window stream (past_of self.now.ring reader) place (place + count) }
+        ensures len { length (numbers_of out.new) ≡ length (numbers_of out.old) + past_of self.now.ring reader + count }
         ensures spare { spare_of out.old ≤ spare_of out.new + past_of self.now.ring reader + count }
     {
         self.rings.window(reader, count, out)

@@ -162,6 +162,7 @@ impl Rings {
         ensures items { (stream : List ℤ) → IsEndOf (ring_of self.now) stream →
             let place = (reader_at (ring_of self.now) reader).place in
             numbers_of out.new ≡ numbers_of out.old ++ window stream (past_of (ring_of self.now) reader) place (place + count) }
+        ensures len { length (numbers_of out.new) ≡ length (numbers_of out.old) + past_of (ring_of self.now) reader + count }
         ensures spare { spare_of out.old ≤ spare_of out.new + past_of (ring_of self.now) reader + count }
     {
         on_ring_and_items!(self, out, (ring, values) => ring.window(reader, count, values))

@@ -104,8 +104,9 @@ fn filter_lanes<T: TapLane>(
     requires empty { map T.number out.old.items ≡ [] }
     requires takes { length window.now ≡ filter.now.branch - 1 + filter.now.taken * count }
     requires room { filter.now.given * count ≤ vec_capacity out.old - vec_len out.old }
-    ensures { map T.number out.new.items ≡ listed (filter.now.given * count)
+    ensures items { map T.number out.new.items ≡ listed (filter.now.given * count)
         (λ n. phased T.kind filter.now (taps_among (map held_of held.now) (filter.now.taken * (first + n / filter.now.given))) (map T.number window.now) n) }
+    ensures capacity { vec_capacity out.old ≤ vec_capacity out.new }
 {
     append_copies(out, filter.given * count, T::narrow(0));
     write_stretches(filter, window, held, first, count, out);
@@ -131,6 +132,7 @@ pub(crate) fn filter_items(
     ensures item_type { type_of out.new ≡ type_of out.old }
     ensures numbers { numbers_of out.new ≡ listed (filter.now.given * count)
         (λ n. phased (type_of window.now) filter.now (taps_among (map held_of held.now) (filter.now.taken * (first + n / filter.now.given))) (numbers_of window.now) n) }
+    ensures room { spare_of out.old ≤ spare_of out.new + length (numbers_of out.new) }
 {
     match (window, out) {
         (Items::Short(window), Items::Short(out)) => filter_lanes(

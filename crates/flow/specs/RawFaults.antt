@@ -3,6 +3,8 @@ use Rattle.std.specs.Prelude.{ℕ, List, ◌++◌, codes}
 use Rattle.std.specs.Fmt.{decimal}
 use Rattle.graph_file.specs.Texts.{head}
 use Rattle.script_text.specs.Replies.{line_text}
+use Rattle.plant.specs.declared.fault.PlantFault.TheVariants as plant
+use Rattle.plant.specs.Fault as plants
 use Rattle.flow.specs.Faults.{row_of, fault_text, status_of}
 use Rattle.flow.specs.declared.raw_fault.EndFault.{EndFault}
 use Rattle.flow.specs.declared.raw_fault.EndFault.TheVariants.{NoSuchBlock, NotSource, NotSink, Closed, TapeFull, Read, Write, CutItem}
@@ -11,13 +13,13 @@ use Rattle.flow.specs.declared.raw_fault.EndPlace.TheVariants.{Input, Output, Ta
 use Rattle.flow.specs.declared.raw_fault.RawFault.{RawFault}
 use Rattle.flow.specs.declared.raw_fault.RawFault.TheVariants.{Whole, End}
 
--- the number and the name of what is wrong at an end
+-- the number and the name of what is wrong at an end: those of the plant, where it refuses the same
 abbrev pub end_row : EndFault → ℕ × List ℕ
-end_row NoSuchBlock = (20, codes "NoSuchBlock")
-end_row NotSource = (21, codes "NotSource")
-end_row NotSink = (22, codes "NotSink")
-end_row Closed = (23, codes "Closed")
-end_row TapeFull = (26, codes "TapeFull")
+end_row NoSuchBlock = plants.row_of plant.NoSuchBlock
+end_row NotSource = plants.row_of plant.NotSource
+end_row NotSink = plants.row_of plant.NotSink
+end_row Closed = plants.row_of plant.Closed
+end_row TapeFull = plants.row_of plant.TapeFull
 end_row Read = (51, codes "Read")
 end_row Write = (52, codes "Write")
 end_row CutItem = (53, codes "CutItem")

@@ -11,6 +11,7 @@ use crate::fault::Fault;
 use crate::script::ScriptFault;
 use graph_file::{Piece, Pieces};
 use items::Refusal;
+use plant::PlantFault;
 use std::alloc::AllocError;
 use std::fmt;
 use thiserror::Error;
@@ -61,11 +62,11 @@ impl Refusal for EndFault {
 
     fn row(&self) -> (u32, &'static str) {
         match self {
-            EndFault::NoSuchBlock => (20, "NoSuchBlock"),
-            EndFault::NotSource => (21, "NotSource"),
-            EndFault::NotSink => (22, "NotSink"),
-            EndFault::Closed => (23, "Closed"),
-            EndFault::TapeFull => (26, "TapeFull"),
+            EndFault::NoSuchBlock => PlantFault::NoSuchBlock.row(),
+            EndFault::NotSource => PlantFault::NotSource.row(),
+            EndFault::NotSink => PlantFault::NotSink.row(),
+            EndFault::Closed => PlantFault::Closed.row(),
+            EndFault::TapeFull => PlantFault::TapeFull.row(),
             EndFault::Read => (51, "Read"),
             EndFault::Write => (52, "Write"),
             EndFault::CutItem => (53, "CutItem"),

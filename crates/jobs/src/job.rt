@@ -1,11 +1,12 @@
 //! Jobs.
-ghost use Rattle.std.specs.Prelude.{◌≡◌, ◌<◌, [], length, map, All, slice_index_or, IfOk};
+ghost use Rattle.std.specs.Prelude.{◌≡◌, ◌*◌, ◌<◌, [], length, map, All, slice_index_or, IfOk};
 ghost use Rattle.std.specs.Arc.{arc_value};
-ghost use Rattle.stream_model.specs.Network.{used_outputs};
+ghost use Rattle.stream_model.specs.Network.{node_at, used_outputs};
 ghost use Rattle.items.specs.Items.{numbers_of};
 ghost use Rattle.settings.specs.Values.{held_of};
+ghost use Rattle.block_kinds.specs.Work.{IsReady};
 ghost use Rattle.flowgraph.specs.Flowgraph.{net_of};
-ghost use Rattle.jobs.specs.Jobs.{CanDo, AreTaken, AreGiven, job_in};
+ghost use Rattle.jobs.specs.Jobs.{CanDo, AreTaken, job_in};
 
 use crate::claimed::Claimed;
 use crate::copies::{copied_settings, copied_windows, like_outputs};
@@ -103,9 +104,9 @@ impl<B: Block> Job<B> {
         ensures windows { map numbers_of result.windows.items ≡ self.job.windows }
         ensures held { map held_of result.held.items ≡ self.job.held }
         ensures outputs { length result.outputs.items ≡ self.job.outputs }
-        ensures empty { All (λ out. numbers_of out ≡ []) result.outputs.items }
         ensures taken { AreTaken (net_of B.meaning self.graph) self.job.block result.windows.items }
-        ensures given { AreGiven (net_of B.meaning self.graph) self.job.block result.outputs.items }
+        ensures ready { let n = node_at (net_of B.meaning self.graph) self.job.block in
+            All (IsReady n.meaning (n.multiple * self.job.first) (n.multiple * self.job.count)) result.outputs.items }
     {
         self.claimed.lent
     }

@@ -1,5 +1,5 @@
 //! What a job is lent.
-ghost use Rattle.std.specs.Prelude.{◌≡◌, []};
+ghost use Rattle.std.specs.Prelude.{◌≡◌, [], vec_capacity};
 
 use items::Items;
 use settings::Held;
@@ -20,6 +20,7 @@ impl Lent {
         ensures windows { result.windows.items ≡ [] }
         ensures held { result.held.items ≡ [] }
         ensures outputs { result.outputs.items ≡ [] }
+        ensures memory { (vec_capacity result.windows ≡ 0) × (vec_capacity result.held ≡ 0) × (vec_capacity result.outputs ≡ 0) }
     {
         Lent {
             windows: Vec::new(alloc),

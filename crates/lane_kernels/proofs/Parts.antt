@@ -1,8 +1,8 @@
 -- What holds of a list of items, from what holds of its parts.
 use Rattle.std.proofs.Common.{◌≡◌, ℕ, zero, suc, ◌+◌, ◌≤◌, ◌∙◌, ap, sym, refl, arith, List, [], ◌∷◌, ◌++◌, length, map, take, drop, ℤ}
 use Rattle.std.specs.Simd.Lanes.{zip2}
-use Rattle.std.proofs.lemmas.List.{take-map, take_all, take-take, length-map, length-take-le, length-drop, map-append, length-append, take-append-le}
-use Rattle.std.proofs.lemmas.Slice.{take-put_mid}
+use Rattle.std.proofs.lemmas.List.{take-map, take_all, take-take, length-map, length-take-le, length-drop, map-append, length-append, take-append-le, drop-drop}
+use Rattle.std.proofs.lemmas.Slice.{take-put_mid, drop-put_mid}
 use Rattle.std.proofs.lemmas.Simd.{length-zip2}
 use borrow.Rule.Slice.PartMut.{put_mid}
 use Rattle.numbers.proofs.Mapped.{map_part}
@@ -77,6 +77,11 @@ stepped number t at m k n out new e le same before here =
     let long : length new ≡ n = sym (length-map new number) ∙ ap length here ∙ length-take-le n (drop at t) (omega (arith, length-drop at t)) in
     ap (map number) (take-put_mid at k out new m (omega arith) (omega arith)) ∙ map-append number (take at out) new
     ∙ (λ i. before i ++ here i) ∙ sym (take_two at n t) ∙ ap (λ l. take l t) (sym e)
+
+-- behind them stands what stood there
+pub behind : {Y : Type 0} (at m n : ℕ) (out old new : List Y) → m ≡ at + n → m ≤ length out → length new ≡ n → drop at out ≡ drop at old → drop m (put_mid at n out new) ≡ drop m old
+behind at m n out old new e within long same =
+    drop-put_mid at n out new m (omega arith) (omega arith) long ∙ ap (λ k. drop k out) e ∙ sym (drop-drop n at out) ∙ ap (drop n) same ∙ drop-drop n at old ∙ ap (λ k. drop k old) (sym e)
 
 -- and where n is all that is left, these are the numbers
 pub ended : {Y : Type 0} (number : Y → ℤ) (t : List ℤ) (at k n : ℕ) (out new : List Y) → length t ≡ at + n → k ≡ n → length out ≡ length t

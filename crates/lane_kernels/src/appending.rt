@@ -128,7 +128,7 @@ fn push_zip<T: SimdLane, Z: ZipBlock<T>>(a: &[T], b: &[T], made: &mut Vec<T>)
 
 /// The operation at each two items of a turn.
 #[inline(always)]
-fn zip_turn<T: SimdLane, Z: ZipBlock<T>>(a: &[T], b: &[T]) -> [T; TURN]
+pub(crate) fn zip_turn<T: SimdLane, Z: ZipBlock<T>>(a: &[T], b: &[T]) -> [T; TURN]
     requires one { length a.now ≡ TURN }
     requires b_length { length b.now ≡ length a.now }
     ensures { map T.number result ≡ zip2 Z.means (map T.number a.now) (map T.number b.now) }
@@ -159,7 +159,7 @@ fn push_zip_last<T: SimdLane, Z: ZipBlock<T>>(a: &[T], b: &[T], rest: usize, mad
 
 /// The operation at each two of a few items, where a turn begins.
 #[inline(always)]
-fn zip_part<T: SimdLane, Z: ZipBlock<T>>(a: &[T], b: &[T]) -> [T; TURN]
+pub(crate) fn zip_part<T: SimdLane, Z: ZipBlock<T>>(a: &[T], b: &[T]) -> [T; TURN]
     requires few { length a.now ≤ TURN }
     requires b_length { length b.now ≡ length a.now }
     ensures { map T.number (take (length a.now) result) ≡ zip2 Z.means (map T.number a.now) (map T.number b.now) }

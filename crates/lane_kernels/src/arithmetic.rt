@@ -6,6 +6,7 @@ ghost use Rattle.stream_model.specs.Numbers.{wrap};
 use crate::SimdLane;
 use crate::appending::{append_map, append_zip};
 use crate::blocks::{MapBlock, ZipBlock, map_blocks, zip_blocks};
+use crate::joining::zip_into;
 
 struct Sum;
 
@@ -91,6 +92,16 @@ pub fn add_wrap<T: SimdLane>(a: &[T], b: &[T], out: &mut [T])
     ensures { map T.number out.new ≡ Kernels.add_wrap T.kind (map T.number a.now) (map T.number b.now) }
 {
     zip_blocks::<T, Sum>(a, b, out);
+}
+
+/// Adds to each item of `out` the item of `items` at its place, wrapping where a sum leaves the type's range.
+#[tactic(auto, using(crate::proofs::Listed::zipped_is_listed))]
+#[inline(always)]
+pub fn add_wrap_into<T: SimdLane>(items: &[T], out: &mut [T])
+    requires { length items.now ≡ length out.old }
+    ensures { map T.number out.new ≡ Kernels.add_wrap T.kind (map T.number out.old) (map T.number items.now) }
+{
+    zip_into::<T, Sum>(items, out);
 }
 
 /// Adds `c` to each item, wrapping where a sum leaves the type's range.

@@ -2,7 +2,7 @@
 ghost use Rattle.std.proofs.Common.{rules};
 
 use crate::SimdLane;
-use crate::halves::push_halves;
+use crate::picking::push_lanes;
 use crate::scaling::scaled;
 use std::simd::prelude::*;
 
@@ -54,7 +54,11 @@ impl SimdLane for u8 {
     }
 
     fn push_seconds(items: &[u8], port: usize, made: &mut Vec<u8>) {
-        push_halves(items, port, made);
+        push_lanes(items, 2, port, made);
+    }
+
+    fn push_fourths(items: &[u8], port: usize, made: &mut Vec<u8>) {
+        push_lanes(items, 4, port, made);
     }
 
     ghost has_lane = { Prim.search rules };

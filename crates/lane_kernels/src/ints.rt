@@ -57,6 +57,10 @@ impl SimdLane for i32 {
         push_each(items, items.len() / 2, 2, port, made);
     }
 
+    fn push_fourths(items: &[i32], port: usize, made: &mut Vec<i32>) {
+        push_each(items, items.len() / 4, 4, port, made);
+    }
+
     ghost has_lane = { Prim.search rules };
 
     ghost has_few_lanes = { Prim.search rules };

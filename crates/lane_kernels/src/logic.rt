@@ -6,6 +6,7 @@ ghost use Rattle.lane_kernels.specs.Blocks.{joined};
 use crate::SimdLane;
 use crate::appending::{append_map, append_zip};
 use crate::blocks::{MapBlock, ZipBlock, map_blocks, zip_blocks};
+use crate::joining::zip_into;
 
 struct Both;
 
@@ -67,6 +68,16 @@ pub fn and<T: SimdLane>(a: &[T], b: &[T], out: &mut [T])
     zip_blocks::<T, Both>(a, b, out);
 }
 
+/// Leaves each item of `out` the bits that the item of `items` at its place has too.
+#[tactic(auto, using(crate::proofs::Listed::zipped_is_listed))]
+#[inline(always)]
+pub fn and_into<T: SimdLane>(items: &[T], out: &mut [T])
+    requires { length items.now ≡ length out.old }
+    ensures { map T.number out.new ≡ and_bits T.kind (map T.number out.old) (map T.number items.now) }
+{
+    zip_into::<T, Both>(items, out);
+}
+
 /// The bits that either item has.
 #[tactic(auto, using(crate::proofs::Listed::zipped_is_listed))]
 #[inline(always)]
@@ -78,6 +89,16 @@ pub fn or<T: SimdLane>(a: &[T], b: &[T], out: &mut [T])
     zip_blocks::<T, Either>(a, b, out);
 }
 
+/// Gives each item of `out` the bits that the item of `items` at its place has.
+#[tactic(auto, using(crate::proofs::Listed::zipped_is_listed))]
+#[inline(always)]
+pub fn or_into<T: SimdLane>(items: &[T], out: &mut [T])
+    requires { length items.now ≡ length out.old }
+    ensures { map T.number out.new ≡ or_bits T.kind (map T.number out.old) (map T.number items.now) }
+{
+    zip_into::<T, Either>(items, out);
+}
+
 /// The bits that one of two items has alone.
 #[tactic(auto, using(crate::proofs::Listed::zipped_is_listed))]
 #[inline(always)]
@@ -87,6 +108,16 @@ pub fn xor<T: SimdLane>(a: &[T], b: &[T], out: &mut [T])
     ensures { map T.number out.new ≡ xor_bits T.kind (map T.number a.now) (map T.number b.now) }
 {
     zip_blocks::<T, OneAlone>(a, b, out);
+}
+
+/// Turns the bits of each item of `out` that the item of `items` at its place has.
+#[tactic(auto, using(crate::proofs::Listed::zipped_is_listed))]
+#[inline(always)]
+pub fn xor_into<T: SimdLane>(items: &[T], out: &mut [T])
+    requires { length items.now ≡ length out.old }
+    ensures { map T.number out.new ≡ xor_bits T.kind (map T.number out.old) (map T.number items.now) }
+{
+    zip_into::<T, OneAlone>(items, out);
 }
 
 /// The bits that each item lacks.

@@ -58,6 +58,10 @@ impl SimdLane for i16 {
         push_each(items, items.len() / 2, 2, port, made);
     }
 
+    fn push_fourths(items: &[i16], port: usize, made: &mut Vec<i16>) {
+        push_each(items, items.len() / 4, 4, port, made);
+    }
+
     ghost has_lane = { Prim.search rules };
 
     ghost has_few_lanes = { Prim.search rules };

@@ -89,8 +89,17 @@ pub trait SimdLane: Number {
     fn push_seconds(items: &[Self], port: usize, made: &mut Vec<Self>)
         requires port { port < 2 }
         requires room { vec_len made.old + length items.now / 2 ≤ vec_capacity made.old }
-        ensures { map Self.number made.new.items
-            ≡ map Self.number made.old.items ++ deinterleaved (length items.now / 2) 2 port (map Self.number items.now) };
+        ensures items { map Self.number made.new.items
+            ≡ map Self.number made.old.items ++ deinterleaved (length items.now / 2) 2 port (map Self.number items.now) }
+        ensures capacity { vec_capacity made.old ≤ vec_capacity made.new };
+
+    /// The same of every fourth item.
+    fn push_fourths(items: &[Self], port: usize, made: &mut Vec<Self>)
+        requires port { port < 4 }
+        requires room { vec_len made.old + length items.now / 4 ≤ vec_capacity made.old }
+        ensures items { map Self.number made.new.items
+            ≡ map Self.number made.old.items ++ deinterleaved (length items.now / 4) 4 port (map Self.number items.now) }
+        ensures capacity { vec_capacity made.old ≤ vec_capacity made.new };
 
     /// A block has an item.
     ghost has_lane: { 0 < LANES };

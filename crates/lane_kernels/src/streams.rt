@@ -11,7 +11,8 @@ use std::mem;
 pub fn interleave<T: Number>(streams: &[&[T]], rounds: usize, out: &mut Vec<T>)
     requires same_length { All (λ s. length s.now ≡ rounds) streams.now }
     requires room { vec_len out.old + length streams.now * rounds ≤ vec_capacity out.old }
-    ensures { map T.number out.new.items ≡ map T.number out.old.items ++ interleaved rounds (map (λ s. map T.number s.now) streams.now) }
+    ensures items { map T.number out.new.items ≡ map T.number out.old.items ++ interleaved rounds (map (λ s. map T.number s.now) streams.now) }
+    ensures capacity { vec_capacity out.old ≤ vec_capacity out.new }
 {
     let alloc = *out.allocator();
     let mut made = mem::replace(out, Vec::new(alloc));
@@ -24,7 +25,8 @@ pub fn interleave<T: Number>(streams: &[&[T]], rounds: usize, out: &mut Vec<T>)
 fn push_streams<T: Number>(streams: &[&[T]], rounds: usize, made: &mut Vec<T>)
     requires same_length { All (λ s. length s.now ≡ rounds) streams.now }
     requires room { vec_len made.old + length streams.now * rounds ≤ vec_capacity made.old }
-    ensures { map T.number made.new.items ≡ map T.number made.old.items ++ interleaved rounds (map (λ s. map T.number s.now) streams.now) }
+    ensures items { map T.number made.new.items ≡ map T.number made.old.items ++ interleaved rounds (map (λ s. map T.number s.now) streams.now) }
+    ensures capacity { vec_capacity made.new ≡ vec_capacity made.old }
 {
     match streams {
         [a, b] => push_rounds(&[*a, *b], rounds, made),
@@ -40,7 +42,8 @@ fn push_streams<T: Number>(streams: &[&[T]], rounds: usize, made: &mut Vec<T>)
 fn push_rounds<T: Number>(streams: &[&[T]], rounds: usize, made: &mut Vec<T>)
     requires same_length { All (λ s. length s.now ≡ rounds) streams.now }
     requires room { vec_len made.old + length streams.now * rounds ≤ vec_capacity made.old }
-    ensures { map T.number made.new.items ≡ map T.number made.old.items ++ interleaved rounds (map (λ s. map T.number s.now) streams.now) }
+    ensures items { map T.number made.new.items ≡ map T.number made.old.items ++ interleaved rounds (map (λ s. map T.number s.now) streams.now) }
+    ensures capacity { vec_capacity made.new ≡ vec_capacity made.old }
 {
     for round in 0..rounds {
         push_round(streams, round, made);
@@ -66,7 +69,8 @@ fn push_round<T: Number>(streams: &[&[T]], round: usize, made: &mut Vec<T>)
 pub fn deinterleave<T: SimdLane>(items: &[T], streams: usize, port: usize, out: &mut Vec<T>)
     requires port { port < streams }
     requires room { vec_len out.old + length items.now / streams ≤ vec_capacity out.old }
-    ensures { map T.number out.new.items ≡ map T.number out.old.items ++ deinterleaved (length items.now / streams) streams port (map T.number items.now) }
+    ensures items { map T.number out.new.items ≡ map T.number out.old.items ++ deinterleaved (length items.now / streams) streams port (map T.number items.now) }
+    ensures capacity { vec_capacity out.old ≤ vec_capacity out.new }
 {
     let alloc = *out.allocator();
     let mut made = mem::replace(out, Vec::new(alloc));
@@ -74,7 +78,7 @@ pub fn deinterleave<T: SimdLane>(items: &[T], streams: usize, port: usize, out: 
     match streams {
         2 => T::push_seconds(items, port, &mut made),
         3 => push_each(items, count, 3, port, &mut made),
-        4 => push_each(items, count, 4, port, &mut made),
+        4 => T::push_fourths(items, port, &mut made),
         8 => push_each(items, count, 8, port, &mut made),
         _ => push_each(items, count, streams, port, &mut made),
     }
@@ -93,7 +97,8 @@ pub(crate) fn push_each<T: Number>(
     requires port { port < step }
     requires there { count * step ≤ length items.now }
     requires room { vec_len made.old + count ≤ vec_capacity made.old }
-    ensures { map T.number made.new.items ≡ map T.number made.old.items ++ deinterleaved count step port (map T.number items.now) }
+    ensures items { map T.number made.new.items ≡ map T.number made.old.items ++ deinterleaved count step port (map T.number items.now) }
+    ensures capacity { vec_capacity made.new ≡ vec_capacity made.old }
 {
     for k in 0..count {
         made.push_reserved(items[k * step + port]);

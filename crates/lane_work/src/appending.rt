@@ -18,7 +18,8 @@ pub trait AppendWork {
     fn append<T: SimdLane>(&self, items: &[T], count: usize, out: &mut Vec<T>)
         requires can { can_make self.now T.kind (map T.number items.now) count }
         requires room { vec_len out.old + count ≤ vec_capacity out.old }
-        ensures { map T.number out.new.items ≡ map T.number out.old.items ++ makes self.now T.kind (map T.number items.now) count };
+        ensures items { map T.number out.new.items ≡ map T.number out.old.items ++ makes self.now T.kind (map T.number items.now) count }
+        ensures capacity { vec_capacity out.old ≤ vec_capacity out.new };
 }
 
 /// Appends what the work makes to an empty `out` with room for it.
@@ -29,6 +30,7 @@ pub fn append_items<W: AppendWork>(work: &W, items: &Items, count: usize, out: &
     requires can { W.can_make work.now (type_of items.now) (numbers_of items.now) count }
     ensures item_type { type_of out.new ≡ type_of out.old }
     ensures numbers { numbers_of out.new ≡ W.makes work.now (type_of items.now) (numbers_of items.now) count }
+    ensures room { spare_of out.old ≤ spare_of out.new + length (numbers_of out.new) }
 {
     match (items, out) {
         (Items::Byte(items), Items::Byte(out)) => work.append(items, count, out),

@@ -1,6 +1,6 @@
 //! Work that changes items in place by others of the same type.
 ghost use Rattle.std.specs.Prelude.{◌≡◌, ℤ, List, length, map};
-ghost use Rattle.items.specs.Items.{type_of, numbers_of};
+ghost use Rattle.items.specs.Items.{type_of, numbers_of, spare_of};
 
 use items::Items;
 use lane_kernels::SimdLane;
@@ -25,6 +25,7 @@ pub fn change_items<W: LaneChange>(work: &W, items: &Items, out: &mut Items)
     requires can { W.can_change work.now (numbers_of items.now) (numbers_of out.old) }
     ensures item_type { type_of out.new ≡ type_of out.old }
     ensures same_length { length (numbers_of out.new) ≡ length (numbers_of out.old) }
+    ensures room { spare_of out.new ≡ spare_of out.old }
     ensures numbers { W.changes work.now (numbers_of items.now) (numbers_of out.old) (numbers_of out.new) }
 {
     match (items, out) {

@@ -55,7 +55,8 @@ pub trait InputWork {
     fn append<T: SimdLane>(&self, inputs: &[&[T]], count: usize, out: &mut Vec<T>)
         requires can { can_make self.now T.kind (map (λ x. map T.number x.now) inputs.now) count }
         requires room { vec_len out.old + count ≤ vec_capacity out.old }
-        ensures { map T.number out.new.items ≡ map T.number out.old.items ++ makes self.now T.kind (map (λ x. map T.number x.now) inputs.now) count };
+        ensures items { map T.number out.new.items ≡ map T.number out.old.items ++ makes self.now T.kind (map (λ x. map T.number x.now) inputs.now) count }
+        ensures capacity { vec_capacity out.old ≤ vec_capacity out.new };
 }
 
 /// Appends what the work makes of the inputs to an empty `out` with room for it.
@@ -67,6 +68,7 @@ pub fn append_inputs<W: InputWork>(work: &W, inputs: &[Items], count: usize, out
     requires can { W.can_make work.now (type_of out.old) (map numbers_of inputs.now) count }
     ensures item_type { type_of out.new ≡ type_of out.old }
     ensures numbers { numbers_of out.new ≡ W.makes work.now (type_of out.old) (map numbers_of inputs.now) count }
+    ensures room { spare_of out.old ≤ spare_of out.new + length (numbers_of out.new) }
 {
     match out {
         Items::Byte(out) => append_typed(work, inputs, count, out),
@@ -81,7 +83,8 @@ fn append_typed<T: Typed, W: InputWork>(work: &W, inputs: &[Items], count: usize
     requires empty { map T.number out.old.items ≡ [] }
     requires room { vec_len out.old + count ≤ vec_capacity out.old }
     requires can { W.can_make work.now T.kind (map numbers_of inputs.now) count }
-    ensures { map T.number out.new.items ≡ W.makes work.now T.kind (map numbers_of inputs.now) count }
+    ensures items { map T.number out.new.items ≡ W.makes work.now T.kind (map numbers_of inputs.now) count }
+    ensures capacity { vec_capacity out.old ≤ vec_capacity out.new }
 {
     let typed = typed_inputs(inputs);
     work.append(&typed[..inputs.len()], count, out);

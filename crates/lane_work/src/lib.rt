@@ -1,7 +1,7 @@
 //! Work on items of any type, written once over their number types.
 #![tactic(auto)]
 
-ghost use Rattle.std.specs.Prelude.{◌≡◌, ◌≤◌, ◌-◌, ℕ, ℤ, pos, List, [], length, map, vec_len, vec_capacity};
+ghost use Rattle.std.specs.Prelude.{◌≡◌, ◌≤◌, ◌+◌, ◌-◌, ℕ, ℤ, pos, List, [], length, map, vec_len, vec_capacity};
 ghost use Rattle.stream_model.specs.declared.vocabulary.ItemType.{ItemType};
 ghost use Rattle.stream_model.specs.declared.vocabulary.ItemType.TheVariants.{Byte};
 ghost use Rattle.items.specs.Items.{type_of, numbers_of, spare_of};
@@ -41,6 +41,7 @@ pub fn make_items<W: LaneWork>(work: &W, items: &Items, count: usize, out: &mut 
     requires can { W.can_make work.now (type_of items.now) (numbers_of items.now) count }
     ensures item_type { type_of out.new ≡ type_of out.old }
     ensures numbers { numbers_of out.new ≡ W.makes work.now (type_of items.now) (numbers_of items.now) count }
+    ensures room { spare_of out.old ≤ spare_of out.new + length (numbers_of out.new) }
 {
     match (items, out) {
         (Items::Byte(items), Items::Byte(out)) => make_lanes(work, items, count, out),
@@ -54,7 +55,8 @@ fn make_lanes<T: SimdLane, W: LaneWork>(work: &W, items: &[T], count: usize, out
     requires empty { map T.number out.old.items ≡ [] }
     requires room { count ≤ vec_capacity out.old - vec_len out.old }
     requires can { W.can_make work.now T.kind (map T.number items.now) count }
-    ensures { map T.number out.new.items ≡ W.makes work.now T.kind (map T.number items.now) count }
+    ensures items { map T.number out.new.items ≡ W.makes work.now T.kind (map T.number items.now) count }
+    ensures capacity { vec_capacity out.old ≤ vec_capacity out.new }
 {
     append_copies(out, count, T::narrow(0));
     work.make(items, out);
@@ -83,6 +85,7 @@ pub fn make_bytes<W: ByteWork>(work: &W, items: &Items, count: usize, out: &mut 
     requires can { W.can_make work.now (numbers_of items.now) count }
     ensures item_type { type_of out.new ≡ Byte }
     ensures numbers { numbers_of out.new ≡ W.makes work.now (numbers_of items.now) count }
+    ensures room { spare_of out.old ≤ spare_of out.new + length (numbers_of out.new) }
 {
     match (items, out) {
         (Items::Byte(items), Items::Byte(out)) => {

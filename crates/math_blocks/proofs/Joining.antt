@@ -1,8 +1,6 @@
--- Items that are joined, a chunk at a time and an input at a time.
-use Rattle.std.proofs.Common.{◌≡◌, ℕ, ◌+◌, ◌*◌, ◌<◌, ◌≤◌, ℤ, pos, List, [], ◌∷◌, ◌++◌, All, get_or, refl, subst, zero, suc, length, length-append, map, take, drop, arith, ap, sym, ◌∙◌}
-use borrow.Rule.Slice.PartMut.{put_mid}
-use Rattle.std.proofs.lemmas.List.{get_or-take, get_or-drop, length-take-le, length-drop, length-map, drop-map, drop_all, take_more, map-append, get_or-map, take-map, ext_get_or}
-use Rattle.std.proofs.lemmas.Slice.{drop-put_mid}
+-- Items that are joined, an input at a time.
+use Rattle.std.proofs.Common.{◌≡◌, ℕ, ◌+◌, ◌*◌, ◌<◌, ℤ, pos, List, [], ◌∷◌, ◌++◌, All, get_or, refl, subst, length, map, take, arith, ap, sym, ◌∙◌}
+use Rattle.std.proofs.lemmas.List.{length-map, take_more, map-append, get_or-map, ext_get_or}
 use Rattle.stream_model.specs.declared.vocabulary.ItemType.{ItemType}
 use Rattle.stream_model.specs.Numbers.{AreItems}
 use Rattle.stream_model.specs.Settings.{Held}
@@ -14,52 +12,6 @@ use Rattle.kind_laws.specs.Shared.{item-listed, length-listed}
 use Rattle.block_kinds.proofs.Fills.{listed-given}
 use Rattle.block_kinds.proofs.Inputs.{length-inputs, length-port, item-port}
 use Rattle.math_blocks.specs.Joined.{AreJoined, joined_of}
-
--- what `pair` makes of each two items at one place
-abbrev pub two_joined : (ℤ → ℤ → ℤ) → List ℤ → List ℤ → List ℤ
-two_joined pair a b = listed (length b) (λ k. pair (item a k) (item b k))
-
--- item k of a part
-item-part : {X : Type 0} (number : X → ℤ) (at n k : ℕ) (xs : List X) → k < n → item (map number (take n (drop at xs))) k ≡ item (map number xs) (at + k)
-item-part number at n k xs h =
-    ap (λ zs. item zs k) (sym (take-map number n (drop at xs)) ∙ ap (take n) (sym (drop-map number at xs)))
-    ∙ get_or-take n (drop at (map number xs)) k (pos 0) h ∙ get_or-drop at (map number xs) k (pos 0)
-
--- what is made of a chunk is the chunk of what is made
-pub chunk_joined :
-    {X : Type 0} (number : X → ℤ) (pair : ℤ → ℤ → ℤ) (at n : ℕ) (items out initial chunk : List X) (new : List ℤ) → at + n ≤ length items → length items ≡ length out →
-    chunk ≡ take n (drop at out) → drop at out ≡ drop at initial →
-    new ≡ listed (length chunk) (λ k. pair (item (map number chunk) k) (item (map number (take n (drop at items))) k)) →
-    new ≡ take n (drop at (two_joined pair (map number initial) (map number items)))
-chunk_joined number pair at n items out initial chunk new within same is rest wrote =
-    let target = two_joined pair (map number initial) (map number items) in
-    let all : length target ≡ length items = length-listed (length (map number items)) _ ∙ length-map items number in
-    let cut : length (take n (drop at target)) ≡ n = length-take-le n (drop at target) (omega (arith, length-drop at target, all)) in
-    let long : length chunk ≡ n = ap length is ∙ length-take-le n (drop at out) (omega (arith, length-drop at out)) in
-    wrote ∙ ext_get_or (pos 0) _ _ (length-listed (length chunk) _ ∙ long ∙ sym cut) (λ k h.
-    let near : k < n = omega (arith, h, long, length-listed (length chunk) (λ j. pair (item (map number chunk) j) (item (map number (take n (drop at items))) j))) in
-    let first : item (map number chunk) k ≡ item (map number initial) (at + k) =
-    ap (λ c. item (map number c) k) (is ∙ ap (take n) rest) ∙ item-part number at n k initial near in
-    item-listed (length chunk) _ k (omega (arith, long, near))
-    ∙ (λ i. pair (first i) (item-part number at n k items near i))
-    ∙ sym (item-listed (length (map number items)) _ (at + k) (omega (arith, length-map items number)))
-    ∙ sym (get_or-drop at target k (pos 0)) ∙ sym (get_or-take n (drop at target) k (pos 0) near))
-
--- what is written over a part leaves the length as it was, and what comes behind
-pub length-put : {X : Type 0} (at n : ℕ) (out new : List X) → at + n ≤ length out → length new ≡ n → length (put_mid at n out new) ≡ length out
-length-put at n out new within e =
-    omega (arith, length-append (take at out) (new ++ drop n (drop at out)), length-append new (drop n (drop at out)), length-take-le at out (omega arith), length-drop n (drop at out), length-drop at out)
-
-drop-further : {X : Type 0} (a n : ℕ) (xs : List X) → drop (a + n) xs ≡ drop n (drop a xs)
-drop-further zero n xs = let e : zero + n ≡ n = omega arith in ap (λ k. drop k xs) e
-drop-further (suc a) n [] = drop_all (suc a + n) [] (omega arith) ∙ sym (drop_all n [] (omega arith))
-drop-further (suc a) n (x ∷ xs) = let e : suc a + n ≡ suc (a + n) = omega arith in ap (λ k. drop k (x ∷ xs)) e ∙ drop-further a n xs
-
-pub behind_as_it_was :
-    {X : Type 0} (at n : ℕ) (out initial new : List X) → at + n ≤ length out → length new ≡ n → drop at out ≡ drop at initial →
-    drop (at + n) (put_mid at n out new) ≡ drop (at + n) initial
-behind_as_it_was at n out initial new within e rest =
-    drop-put_mid at n out new (at + n) (omega arith) (omega arith) e ∙ drop-further at n out ∙ ap (drop n) rest ∙ sym (drop-further at n initial)
 
 -- the items at one place of some inputs and of one more
 items_at-more :

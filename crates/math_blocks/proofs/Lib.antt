@@ -1,6 +1,5 @@
 pub mod Joining
 pub mod Numbered
-pub mod OneOutput
 pub mod Settings
 pub mod Stretches
 pub mod Summed

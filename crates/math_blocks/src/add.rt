@@ -1,6 +1,6 @@
 //! The block that adds its inputs.
 use crate::joined::{Joined, Joins};
-use lane_kernels::{SimdLane, add_wrap, append_add_wrap};
+use lane_kernels::{SimdLane, add_wrap_into, append_add_wrap};
 
 /// The sum of the items of its 1 to 16 inputs, wrapped to their type, as GNU Radio's `add_xx`.
 pub type Add = Joined<Sum>;
@@ -22,8 +22,8 @@ impl Joins for Sum {
 
     ghost equation = { add };
 
-    fn join<T: SimdLane>(a: &[T], b: &[T], out: &mut [T]) {
-        add_wrap(a, b, out);
+    fn join_into<T: SimdLane>(items: &[T], out: &mut [T]) {
+        add_wrap_into(items, out);
     }
 
     fn append<T: SimdLane>(a: &[T], b: &[T], out: &mut Vec<T>) {

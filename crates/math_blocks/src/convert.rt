@@ -1,5 +1,5 @@
 //! The block that gives items another type.
-ghost use Rattle.std.specs.Prelude.{◌≡◌, ◌≤◌, ◌-◌, [], map, length, vec_len, vec_capacity};
+ghost use Rattle.std.specs.Prelude.{◌≡◌, ◌≤◌, ◌+◌, ◌-◌, [], map, length, vec_len, vec_capacity};
 ghost use Rattle.stream_model.specs.Kinds.Math.{convert};
 ghost use Rattle.stream_model.specs.Kernels as kernels;
 ghost use Rattle.items.specs.Items.{type_of, numbers_of, spare_of};
@@ -32,7 +32,8 @@ impl Convert {
 fn widen_lanes<T: WidensTo<U>, U: SimdLane>(items: &[T], out: &mut Vec<U>)
     requires empty { map U.number out.old.items ≡ [] }
     requires room { length items.now ≤ vec_capacity out.old - vec_len out.old }
-    ensures { map U.number out.new.items ≡ kernels.convert U.kind (map T.number items.now) }
+    ensures items { map U.number out.new.items ≡ kernels.convert U.kind (map T.number items.now) }
+    ensures capacity { vec_capacity out.old ≤ vec_capacity out.new }
 {
     append_copies(out, items.len(), U::narrow(0));
     widen(items, out);
@@ -41,7 +42,8 @@ fn widen_lanes<T: WidensTo<U>, U: SimdLane>(items: &[T], out: &mut Vec<U>)
 fn narrow_lanes<T: NarrowsTo<U>, U: SimdLane>(items: &[T], out: &mut Vec<U>)
     requires empty { map U.number out.old.items ≡ [] }
     requires room { length items.now ≤ vec_capacity out.old - vec_len out.old }
-    ensures { map U.number out.new.items ≡ kernels.convert U.kind (map T.number items.now) }
+    ensures items { map U.number out.new.items ≡ kernels.convert U.kind (map T.number items.now) }
+    ensures capacity { vec_capacity out.old ≤ vec_capacity out.new }
 {
     append_copies(out, items.len(), U::narrow(0));
     narrow(items, out);
@@ -53,6 +55,7 @@ fn convert_items(items: &Items, out: &mut Items)
     requires room { length (numbers_of items.now) ≤ spare_of out.old }
     ensures item_type { type_of out.new ≡ type_of out.old }
     ensures numbers { numbers_of out.new ≡ kernels.convert (type_of out.old) (numbers_of items.now) }
+    ensures room { spare_of out.old ≤ spare_of out.new + length (numbers_of out.new) }
 {
     if items.item_type() == out.item_type() {
         items.in_range();

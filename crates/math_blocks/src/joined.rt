@@ -11,7 +11,6 @@ ghost use Rattle.math_blocks.specs.Joined.{AreJoined, CanJoin, joined_of};
 use block_kinds::{Block, ByPace, Held, Shape, any_ports, ports};
 use items::{ItemType, Items};
 use lane_kernels::SimdLane;
-use numbers::Number;
 use std::marker::PhantomData;
 
 /// How items are joined in one.
@@ -25,19 +24,19 @@ pub trait Joins: Eq + Drop {
     /// What a block means that joins its inputs so.
     ghost equation: { ItemType → Meaning };
 
-    /// Writes what is made of each two items at one place.
-    fn join<T: SimdLane>(a: &[T], b: &[T], out: &mut [T])
-        requires same_length { length a.now ≡ length b.now }
-        requires out_length { length out.old ≡ length a.now }
-        ensures { map T.number out.new ≡ listed (length a.now)
-            (λ k. pair T.kind (item (map T.number a.now) k) (item (map T.number b.now) k)) };
+    /// Writes over each item of `out` what is made of it and the item of `items` at its place.
+    fn join_into<T: SimdLane>(items: &[T], out: &mut [T])
+        requires { length items.now ≡ length out.old }
+        ensures { map T.number out.new ≡ listed (length items.now)
+            (λ k. pair T.kind (item (map T.number out.old) k) (item (map T.number items.now) k)) };
 
-    /// Appends the same where the capacity has room.
+    /// Appends what is made of each two items at one place, where the capacity has room.
     fn append<T: SimdLane>(a: &[T], b: &[T], out: &mut Vec<T>)
         requires same_length { length a.now ≡ length b.now }
         requires room { vec_len out.old + length a.now ≤ vec_capacity out.old }
-        ensures { map T.number out.new.items ≡ map T.number out.old.items ++ listed (length a.now)
-            (λ k. pair T.kind (item (map T.number a.now) k) (item (map T.number b.now) k)) };
+        ensures items { map T.number out.new.items ≡ map T.number out.old.items ++ listed (length a.now)
+            (λ k. pair T.kind (item (map T.number a.now) k) (item (map T.number b.now) k)) }
+        ensures capacity { vec_capacity out.old ≤ vec_capacity out.new };
 
     /// Items may be joined one after the other.
     ghost one_by_one: { AreJoined joins pair };
@@ -97,38 +96,20 @@ impl<J: Joins> Block for Joined<J> {
     ghost same = { joined-same J.equation };
 }
 
-/// How many items are joined at once, from a copy of those that are written over.
-const CHUNK: usize = 256;
-
 /// Joins each item of `out` with the item of `items` at its place.
-fn join_into<T: SimdLane, J: Joins>(items: &[T], out: &mut [T])
-    requires { length items.now ≡ length out.old }
-    ensures { map T.number out.new ≡ listed (length items.now)
-        (λ k. J.pair T.kind (item (map T.number out.old) k) (item (map T.number items.now) k)) }
-{
-    let mut before = [T::narrow(0); CHUNK];
-    let mut at = 0;
-    while at < out.len() {
-        let end = at + CHUNK.min(out.len() - at);
-        let chunk = &mut before[..end - at];
-        chunk.copy_from_slice(&out[at..end]);
-        J::join(chunk, &items[at..end], &mut out[at..end]);
-        at = end;
-    }
-}
-
-/// The same of items of any type.
 fn join_items_into<J: Joins>(items: &Items, out: &mut Items)
     requires same_type { type_of items.now ≡ type_of out.old }
     requires same_length { length (numbers_of items.now) ≡ length (numbers_of out.old) }
     ensures item_type { type_of out.new ≡ type_of out.old }
+    ensures same_length { length (numbers_of out.new) ≡ length (numbers_of out.old) }
     ensures numbers { numbers_of out.new ≡ listed (length (numbers_of items.now))
         (λ k. J.pair (type_of items.now) (item (numbers_of out.old) k) (item (numbers_of items.now) k)) }
+    ensures room { spare_of out.new ≡ spare_of out.old }
 {
     match (items, out) {
-        (Items::Byte(items), Items::Byte(out)) => join_into::<u8, J>(items, out),
-        (Items::Short(items), Items::Short(out)) => join_into::<i16, J>(items, out),
-        (Items::Int(items), Items::Int(out)) => join_into::<i32, J>(items, out),
+        (Items::Byte(items), Items::Byte(out)) => J::join_into(items, out),
+        (Items::Short(items), Items::Short(out)) => J::join_into(items, out),
+        (Items::Int(items), Items::Int(out)) => J::join_into(items, out),
         _ => unreachable!(),
     }
 }
@@ -143,6 +124,7 @@ fn join_pair<J: Joins>(a: &Items, b: &Items, out: &mut Items)
     ensures item_type { type_of out.new ≡ type_of out.old }
     ensures numbers { numbers_of out.new ≡ listed (length (numbers_of b.now))
         (λ k. J.pair (type_of b.now) (item (numbers_of a.now) k) (item (numbers_of b.now) k)) }
+    ensures room { spare_of out.old ≤ spare_of out.new + length (numbers_of out.new) }
 {
     match (a, b, out) {
         (Items::Byte(a), Items::Byte(b), Items::Byte(out)) => append_pair::<u8, J>(a, b, out),
@@ -156,8 +138,9 @@ fn append_pair<T: SimdLane, J: Joins>(a: &[T], b: &[T], out: &mut Vec<T>)
     requires same_length { length (map T.number a.now) ≡ length (map T.number b.now) }
     requires empty { map T.number out.old.items ≡ [] }
     requires room { length (map T.number b.now) ≤ vec_capacity out.old - vec_len out.old }
-    ensures { map T.number out.new.items ≡ listed (length (map T.number b.now))
+    ensures items { map T.number out.new.items ≡ listed (length (map T.number b.now))
         (λ k. J.pair T.kind (item (map T.number a.now) k) (item (map T.number b.now) k)) }
+    ensures capacity { vec_capacity out.old ≤ vec_capacity out.new }
 {
     J::append(a, b, out);
 }
@@ -169,6 +152,7 @@ fn join_first<J: Joins>(windows: &[Items], count: usize, out: &mut Items) -> usi
     ensures there { result ≤ length windows.now }
     ensures item_type { type_of out.new ≡ type_of out.old }
     ensures numbers { numbers_of out.new ≡ listed count (λ k. J.joins (type_of out.old) (items_at (map numbers_of (take result windows.now)) k)) }
+    ensures room { spare_of out.old ≤ spare_of out.new + length (numbers_of out.new) }
 {
     let first = &windows[0];
     first.in_range();
@@ -185,6 +169,7 @@ fn join_windows<J: Joins>(windows: &[Items], count: usize, out: &mut Items)
     requires { CanJoin count windows.now out.old }
     ensures item_type { type_of out.new ≡ type_of out.old }
     ensures numbers { numbers_of out.new ≡ listed count (λ k. J.joins (type_of out.old) (items_at (map numbers_of windows.now) k)) }
+    ensures room { spare_of out.old ≤ spare_of out.new + length (numbers_of out.new) }
 {
     let begun = join_first::<J>(windows, count, out);
     for p in begun..windows.len() {

@@ -1,6 +1,6 @@
 //! The blocks that join the bits of their inputs.
 use crate::joined::{Joined, Joins};
-use lane_kernels::{SimdLane, and, append_and, append_or, append_xor, or, xor};
+use lane_kernels::{SimdLane, and_into, append_and, append_or, append_xor, or_into, xor_into};
 
 /// The bitwise and of the items of its 1 to 16 inputs, as GNU Radio's `and_xx`.
 pub type And = Joined<BitwiseAnd>;
@@ -22,8 +22,8 @@ impl Joins for BitwiseAnd {
 
     ghost equation = { and_of };
 
-    fn join<T: SimdLane>(a: &[T], b: &[T], out: &mut [T]) {
-        and(a, b, out);
+    fn join_into<T: SimdLane>(items: &[T], out: &mut [T]) {
+        and_into(items, out);
     }
 
     fn append<T: SimdLane>(a: &[T], b: &[T], out: &mut Vec<T>) {
@@ -57,8 +57,8 @@ impl Joins for BitwiseOr {
 
     ghost equation = { or_of };
 
-    fn join<T: SimdLane>(a: &[T], b: &[T], out: &mut [T]) {
-        or(a, b, out);
+    fn join_into<T: SimdLane>(items: &[T], out: &mut [T]) {
+        or_into(items, out);
     }
 
     fn append<T: SimdLane>(a: &[T], b: &[T], out: &mut Vec<T>) {
@@ -92,8 +92,8 @@ impl Joins for BitwiseXor {
 
     ghost equation = { xor_of };
 
-    fn join<T: SimdLane>(a: &[T], b: &[T], out: &mut [T]) {
-        xor(a, b, out);
+    fn join_into<T: SimdLane>(items: &[T], out: &mut [T]) {
+        xor_into(items, out);
     }
 
     fn append<T: SimdLane>(a: &[T], b: &[T], out: &mut Vec<T>) {

@@ -79,8 +79,9 @@ fn run_stretches<T: SimdLane, B: EachItem>(
     requires small { from + length items.now < 2 ^ 63 }
     requires empty { map T.number out.old.items ≡ [] }
     requires room { length items.now ≤ vec_capacity out.old - vec_len out.old }
-    ensures { map T.number out.new.items ≡ listed (length items.now)
+    ensures items { map T.number out.new.items ≡ listed (length items.now)
         (λ k. B.gives block.now (number_among (map held_of held.now) (from + k)) (item (map T.number items.now) k)) }
+    ensures capacity { vec_capacity out.old ≤ vec_capacity out.new }
 {
     let to = from + items.len() as u64;
     let mut at = from;
@@ -107,6 +108,7 @@ fn run_items<B: EachItem>(block: &B, items: &Items, held: &[Held], from: u64, ou
     ensures item_type { type_of out.new ≡ type_of out.old }
     ensures numbers { numbers_of out.new ≡ listed (length (numbers_of items.now))
         (λ k. B.gives block.now (number_among (map held_of held.now) (from + k)) (item (numbers_of items.now) k)) }
+    ensures room { spare_of out.old ≤ spare_of out.new + length (numbers_of out.new) }
 {
     match (items, out) {
         (Items::Byte(items), Items::Byte(out)) => run_stretches(block, items, held, from, out),
@@ -121,6 +123,7 @@ pub(crate) fn fill_each<B: EachItem>(block: &B, batch: &Batch<'_>, out: &mut Ite
     requires { CanFill (each_of (B.takes block.now) (B.number_type block.now) (B.own block.now) (B.gives block.now)) batch.now out.old }
     ensures items { HasFilled (each_of (B.takes block.now) (B.number_type block.now) (B.own block.now) (B.gives block.now)) batch.now out.new }
     ensures item_type { type_of out.new ≡ type_of out.old }
+    ensures room { spare_of out.old ≤ spare_of out.new + length (numbers_of out.new) }
 {
     run_items(block, batch.window, batch.held, batch.first, out);
 }

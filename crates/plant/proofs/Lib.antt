@@ -14,6 +14,7 @@ pub mod Returning
 pub mod Abandoning
 pub mod Claiming
 pub mod Lending
+pub mod Lasting
 pub mod Jobs
 pub mod GivingBack
 pub mod Givings

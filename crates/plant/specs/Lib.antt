@@ -13,3 +13,4 @@ pub mod Headway
 pub mod Runs
 pub mod Handed
 pub mod Waits
+pub mod Memory

@@ -1,6 +1,6 @@
 //! Claims, and steps: a claim with its work and its commit in one.
 
-ghost use Rattle.std.specs.Prelude.{◌≡◌, ◌<◌, ◌≤◌, false, length, IfOk, OnOk, OnErr};
+ghost use Rattle.std.specs.Prelude.{◌≡◌, ◌<◌, ◌≤◌, ℕ, true, false, length, IsOk, IfOk, OnOk, OnErr};
 ghost use Rattle.std.specs.Arc.{arc_value};
 ghost use Rattle.stream_model.specs.Network.{node_at};
 ghost use Rattle.stream_model.specs.Claims as claims;
@@ -10,6 +10,7 @@ ghost use Rattle.machine_laws.specs.Stays.{in_flight};
 ghost use Rattle.flowgraph.specs.Flowgraph.{net_of};
 ghost use Rattle.firings.specs.Decision.{answer_of};
 ghost use Rattle.plant.specs.Plant.{IsRight, IsRightBut, IsFlight, IsLentTo, IsDoneBy, plant_of, with_claim_done, without_claim};
+ghost use Rattle.plant.specs.Memory.{LosesNone, NeedsNone};
 ghost use Rattle.plant.specs.Answers.{Answered, IsOf, is_claimed, claim_reply, reply_of, step_reply};
 
 use crate::answers::{Claim, Step};
@@ -54,6 +55,11 @@ impl<B: Block> Parts<B> {
         requires some { 1 ≤ max }
         ensures right { IsRight B.meaning self.new }
         ensures answered { let old = plant_of self.old in Answered (step_of (net_of B.meaning old.graph) old.capacities old.state block.0 max) old (plant_of self.new) (reply_of step_reply result) }
+        ensures succeeds { let old = plant_of self.old in
+            let net = net_of B.meaning old.graph in
+            let counts = counts_of net old.capacities old.state block.0 in
+            (count : ℕ) → claims.decide (node_at net block.0) counts max ≡ claims.Fires count → NeedsNone B.meaning self.old block.0 counts.firings count → block.0 < length old.graph.blocks → IsOk result }
+        ensures keeps { LosesNone B.meaning self.old self.new }
     {
         self.graph.recall();
         if self.graph.len() <= block.0 as usize {
@@ -81,6 +87,8 @@ impl<B: Block> Parts<B> {
         ensures state { let old = plant_of self.old in plant_of self.new ≡ record old { state = (claim_of (net_of B.meaning old.graph) old.capacities old.state block.0 max).1 } }
         ensures right { IsRightBut B.meaning self.new block.0 }
         ensures rest { is_claimed result ≡ false → IsRight B.meaning self.new }
+        ensures lent { self.new.lent.items ≡ self.old.lent.items }
+        ensures stores { is_claimed result ≡ true → self.new.stores ≡ self.old.stores }
     {
         self.graph.recall();
         let decision = self.firings.claim(
@@ -164,6 +172,8 @@ impl<B: Block> Parts<B> {
         requires flight { let old = plant_of self.old in IsFlight (net_of B.meaning old.graph) old.state block.0 first count }
         ensures right { IsRight B.meaning self.new }
         ensures fired { let old = plant_of self.old in OnOk result (plant_of self.new ≡ record old { state = with_claim_done old.state block.0 }) }
+        ensures succeeds { NeedsNone B.meaning self.old block.0 first count → IsOk result }
+        ensures keeps { LosesNone B.meaning self.old self.new }
         ensures given_up { let old = plant_of self.old in OnErr result (plant_of self.new ≡ record old { state = without_claim old.state block.0 }) }
     {
         self.graph.recall();
@@ -188,6 +198,7 @@ impl<B: Block> Parts<B> {
         ensures right { IsRight B.meaning self.new }
         ensures same { plant_of self.new ≡ plant_of self.old }
         ensures work { IsDoneBy B.meaning self.new block.0 result }
+        ensures keeps { LosesNone B.meaning self.old self.new }
     {
         self.graph.recall();
         let multiple = u64::from(self.graph.options(block).multiple);
@@ -216,6 +227,8 @@ impl<B: Block> Parts<B> {
         ensures right { IsRightBut B.meaning self.new block.0 }
         ensures room { OnOk result (IsRight B.meaning self.new) }
         ensures lent { OnOk result (IsLentTo B.meaning self.new block.0 first count) }
+        ensures succeeds { NeedsNone B.meaning self.old block.0 first count → IsOk result }
+        ensures keeps { LosesNone B.meaning self.old self.new }
     {
         self.graph.recall();
         make_room(&mut self.stores, &self.graph, block, first, count)?;

@@ -1,11 +1,12 @@
 //! Jobs that are given back: done, or given up.
 
-ghost use Rattle.std.specs.Prelude.{◌≡◌};
+ghost use Rattle.std.specs.Prelude.{◌≡◌, OnOk};
 ghost use Rattle.stream_model.specs.Machine as machine;
 ghost use Rattle.stream_model.specs.Machine.{commit_of, abandon_of};
 ghost use Rattle.flowgraph.specs.Flowgraph.{net_of};
 ghost use Rattle.plant.specs.Own.{is_own};
 ghost use Rattle.plant.specs.Plant.{IsRight, IsFlight, IsDoneBy, plant_of, with_claim_done};
+ghost use Rattle.plant.specs.Memory.{HoldsJob, HoldsWork};
 ghost use Rattle.plant.specs.Answers.{IsTaken};
 
 use crate::answers::Did;
@@ -22,6 +23,7 @@ impl<B: Block> Parts<B> {
         ensures right { IsRight B.meaning self.new }
         ensures taken { let old = plant_of self.old in
             IsTaken (λ d. machine.Did d.0) (commit_of (net_of B.meaning old.graph) old.state (is_own B.eq old.graph worked.graph worked.job.block) worked.job) old (plant_of self.new) worked result }
+        ensures kept { OnOk result (HoldsWork self.new worked.job.block worked.job.windows worked.outputs) }
     {
         self.graph.recall();
         let claimed = worked.claimed();
@@ -43,6 +45,7 @@ impl<B: Block> Parts<B> {
         ensures right { IsRight B.meaning self.new }
         ensures taken { let old = plant_of self.old in
             IsTaken (λ u. machine.Abandoned) (abandon_of (net_of B.meaning old.graph) old.state (is_own B.eq old.graph job.graph job.job.block) job.job) old (plant_of self.new) job result }
+        ensures kept { OnOk result (HoldsJob (net_of B.meaning job.graph) self.new job.job) }
     {
         self.graph.recall();
         if !is_in_flight(&self.stores, &self.firings, &self.graph, job.claimed()) {
@@ -61,6 +64,7 @@ impl<B: Block> Parts<B> {
         requires work { IsDoneBy B.meaning self.old block.0 word }
         ensures right { IsRight B.meaning self.new }
         ensures state { let old = plant_of self.old in plant_of self.new ≡ record old { state = with_claim_done old.state block.0 } }
+        ensures lent { self.new.lent.items ≡ self.old.lent.items }
     {
         self.graph.recall();
         let lent = &self.lent[block.0 as usize];

@@ -1,8 +1,8 @@
 //! What one block with a number does otherwise than another.
-ghost use Rattle.std.specs.Prelude.{◌≡◌, ◌≤◌, ℕ};
+ghost use Rattle.std.specs.Prelude.{◌≡◌, ◌≤◌, ◌+◌, ℕ, length};
 ghost use Rattle.stream_model.specs.declared.vocabulary.ItemType.{ItemType};
 ghost use Rattle.stream_model.specs.Meaning.{Meaning, IsLawful};
-ghost use Rattle.items.specs.Items.{type_of};
+ghost use Rattle.items.specs.Items.{type_of, numbers_of, spare_of};
 ghost use Rattle.block_kinds.specs.Fill.{CanFill, HasFilled};
 ghost use Rattle.block_kinds.specs.Shape.{IsShape, IsPlacedBy};
 ghost use Rattle.rate_blocks.specs.Counted.{IsPlain};
@@ -37,7 +37,8 @@ pub trait Counting: Drop {
         requires most { n ≤ MOST }
         requires can { CanFill (equation item n) batch.now out.old }
         ensures items { HasFilled (equation item n) batch.now out.new }
-        ensures item_type { type_of out.new ≡ type_of out.old };
+        ensures item_type { type_of out.new ≡ type_of out.old }
+        ensures room { spare_of out.old ≤ spare_of out.new + length (numbers_of out.new) };
 
     /// The block has one input and one output, and no past, setting or state.
     ghost plain: { (item : ItemType) (n : ℕ) → IsPlain item (equation item n) };

@@ -39,7 +39,8 @@ impl AppendWork for Copies {
 fn repeat_each<T: SimdLane>(items: &[T], n: usize, out: &mut Vec<T>)
     requires some { 1 ≤ n }
     requires room { vec_len out.old + n * length items.now ≤ vec_capacity out.old }
-    ensures { map T.number out.new.items ≡ map T.number out.old.items ++ repeated n (map T.number items.now) (length items.now) }
+    ensures items { map T.number out.new.items ≡ map T.number out.old.items ++ repeated n (map T.number items.now) (length items.now) }
+    ensures capacity { vec_capacity out.old ≤ vec_capacity out.new }
 {
     let alloc = *out.allocator();
     let mut made = mem::replace(out, Vec::new(alloc));
@@ -62,7 +63,8 @@ fn repeat_each<T: SimdLane>(items: &[T], n: usize, out: &mut Vec<T>)
 fn push_each<T: SimdLane>(items: &[T], n: usize, made: &mut Vec<T>)
     requires some { 1 ≤ n }
     requires room { vec_len made.old + n * length items.now ≤ vec_capacity made.old }
-    ensures { map T.number made.new.items ≡ map T.number made.old.items ++ repeated n (map T.number items.now) (length items.now) }
+    ensures items { map T.number made.new.items ≡ map T.number made.old.items ++ repeated n (map T.number items.now) (length items.now) }
+    ensures capacity { vec_capacity made.new ≡ vec_capacity made.old }
 {
     for at in 0..items.len() {
         push_copies(items[at], n, made);

@@ -5,6 +5,7 @@ pub mod TagCounts
 pub mod WordCounts
 pub mod Rooms
 pub mod WindowLists
+pub mod PlaceLists
 pub mod Bringing
 pub mod Giving
 pub mod Delivering

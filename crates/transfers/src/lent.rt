@@ -1,11 +1,13 @@
 //! What a job is lent.
-ghost use Rattle.std.specs.Prelude.{◌≡◌, ◌*◌, ◌^◌, ◌<◌, ◌≤◌, length, map, OnOk};
+ghost use Rattle.std.specs.Prelude.{◌≡◌, ◌+◌, ◌*◌, ◌^◌, ◌<◌, ◌≤◌, ℕ, length, map, None, IsOk, OnOk};
 ghost use Rattle.stream_model.specs.Network.{node_at, taken_by};
 ghost use Rattle.settings.specs.Values.{held_of};
 ghost use Rattle.flowgraph.specs.Flowgraph.{net_of};
+ghost use Rattle.plant_laws.specs.Stored.{timeline_at};
 ghost use Rattle.plant_laws.specs.Claims.{held_over};
 ghost use Rattle.stores.specs.Stores.{stored_in};
 ghost use Rattle.stores.specs.Lending.{CanLend, IsLent};
+ghost use Rattle.transfers.specs.Places.{Suffices};
 
 use crate::places::ready_places;
 use crate::windows::lend_windows;
@@ -16,8 +18,8 @@ use settings::{Held, SettingFault, Timeline};
 use std::alloc::{AllocError, Global};
 use stores::Stores;
 
-/// Makes `lent` what a job of these firings is lent, in the memory that it has where that is enough. It fails only where the allocator
-/// refuses, and what `lent` has is then left open.
+/// Makes `lent` what a job of these firings is lent, in the memory that it has where that suffices. It fails only where the allocator
+/// refuses. The items that `lent` has are then left open, but none of its memory is lost.
 pub fn lend<B: Block>(
     alloc: Global,
     stores: &Stores,
@@ -28,7 +30,11 @@ pub fn lend<B: Block>(
     lent: &mut Lent,
 ) -> Result<(), AllocError>
     requires { CanLend (net_of B.meaning graph.now) (stored_in stores.now) block.0 first count }
-    ensures { OnOk result (IsLent (net_of B.meaning graph.now) (stored_in stores.now) block.0 first count lent.new.windows.items lent.new.held.items lent.new.outputs.items) }
+    ensures lent { OnOk result (IsLent (net_of B.meaning graph.now) (stored_in stores.now) block.0 first count lent.new.windows.items lent.new.held.items lent.new.outputs.items) }
+    ensures succeeds { timeline_at (stored_in stores.now) block.0 ≡ None
+        → Suffices (net_of B.meaning graph.now) block.0 first (first + count) lent.old.windows.items lent.old.outputs.items → IsOk result }
+    ensures keeps { (k next : ℕ) → Suffices (net_of B.meaning graph.now) block.0 k next lent.old.windows.items lent.old.outputs.items
+        → Suffices (net_of B.meaning graph.now) block.0 k next lent.new.windows.items lent.new.outputs.items }
 {
     lend_windows(alloc, stores, graph, block, first, count, &mut lent.windows)?;
     graph.recall();
@@ -67,8 +73,9 @@ fn lend_settings<B: Block>(
     requires ordered { first ≤ next }
     requires firings { (node_at (net_of B.meaning graph.now) block.0).multiple * next < 2 ^ 62 }
     requires taken { taken_by (node_at (net_of B.meaning graph.now) block.0) 0 next < 2 ^ 62 }
-    ensures { let n = node_at (net_of B.meaning graph.now) block.0 in
+    ensures held { let n = node_at (net_of B.meaning graph.now) block.0 in
         OnOk result (map held_of held.new.items ≡ held_over timeline.now (taken_by n 0 first) (taken_by n 0 next)) }
+    ensures succeeds { timeline.now ≡ None → IsOk result }
 {
     match timeline {
         None => {

@@ -1,7 +1,7 @@
 //! Places for items, in the memory that they have where that is enough.
-ghost use Rattle.std.specs.Prelude.{◌≡◌, ◌≤◌, [], length, All, OnOk};
+ghost use Rattle.std.specs.Prelude.{◌≡◌, ◌+◌, ◌≤◌, [], length, All, IsOk, OnOk};
 ghost use Rattle.items.specs.Items.{type_of, numbers_of, spare_of};
-ghost use Rattle.transfers.specs.Places.{IsPlace};
+ghost use Rattle.transfers.specs.Places.{IsPlace, ArePlaces, KeepsRoom, KeepRoom, room_of};
 
 use items::{ItemType, Items};
 use std::alloc::{AllocError, Global};
@@ -13,7 +13,9 @@ pub(crate) fn resize(
     count: usize,
     item: ItemType,
 ) -> Result<(), AllocError>
-    ensures { OnOk result (length places.new.items ≡ count) }
+    ensures long { OnOk result (length places.new.items ≡ count) }
+    ensures succeeds { length places.old.items ≡ count → IsOk result }
+    ensures same { length places.old.items ≡ count → places.new.items ≡ places.old.items }
 {
     // Each claim comes here, and all but the first of a block find as many as they need.
     if places.len() == count {
@@ -45,7 +47,9 @@ pub(crate) fn make_ready(
     item: ItemType,
     room: usize,
 ) -> Result<(), AllocError>
-    ensures { OnOk result (IsPlace item room place.new) }
+    ensures ready { OnOk result (IsPlace item room place.new) }
+    ensures succeeds { type_of place.old ≡ item → room ≤ room_of place.old → IsOk result }
+    ensures keeps { type_of place.old ≡ item → KeepsRoom place.old place.new }
 {
     if place.item_type() == item {
         place.clear();
@@ -65,6 +69,8 @@ pub(crate) fn ready_places(
 ) -> Result<(), AllocError>
     ensures long { OnOk result (length places.new.items ≡ count) }
     ensures ready { OnOk result (All (IsPlace item room) places.new.items) }
+    ensures succeeds { ArePlaces item count places.old.items → All (λ p. room ≤ room_of p) places.old.items → IsOk result }
+    ensures keeps { ArePlaces item count places.old.items → KeepRoom places.old.items places.new.items }
 {
     resize(alloc, places, count, item)?;
     make_all_ready(alloc, places, item, room)
@@ -77,7 +83,9 @@ fn make_all_ready(
     item: ItemType,
     room: usize,
 ) -> Result<(), AllocError>
-    ensures { OnOk result (All (IsPlace item room) places.new) }
+    ensures ready { OnOk result (All (IsPlace item room) places.new) }
+    ensures succeeds { All (λ p. type_of p ≡ item) places.old → All (λ p. room ≤ room_of p) places.old → IsOk result }
+    ensures keeps { All (λ p. type_of p ≡ item) places.old → KeepRoom places.old places.new }
 {
     for place in places.iter_mut() {
         make_ready(alloc, place, item, room)?;

@@ -1,10 +1,10 @@
 //! Room for what a commit stores.
-ghost use Rattle.std.specs.Prelude.{◌≡◌, ◌+◌, ◌<◌, ◌≤◌, ℕ, [], length, map, slice_index_or, All, IfOk, OnOk, sum_by};
+ghost use Rattle.std.specs.Prelude.{◌≡◌, ◌+◌, ◌^◌, ◌<◌, ◌≤◌, ℕ, [], length, map, slice_index_or, All, IfOk, IsOk, OnOk, sum_by, vec_capacity};
 ghost use Rattle.flowgraph.specs.Flowgraph.{net_of};
 ghost use Rattle.stores.specs.Stores.{stored_in, buffer_of, collected_of};
 ghost use Rattle.stores.specs.Lending.{CanLend, HasRoom, KeepsAllRoom, no_buffer, no_sink};
 ghost use Rattle.transfers.specs.Rows.{rows_of, HasNoLessRoom};
-ghost use Rattle.transfers.specs.Spare.{HasSpare};
+ghost use Rattle.transfers.specs.Spare.{HasSpare, HasSpareFor};
 ghost use Rattle.transfers.specs.Tags.{tags_on_items};
 
 use crate::firing_range::FiringRange;
@@ -29,11 +29,14 @@ pub fn make_room<B: Block>(
     ensures words { stores.new.words ≡ stores.old.words }
     ensures room { OnOk result (HasRoom (net_of B.meaning graph.now) stores.new block.0 first count) }
     ensures keeps { KeepsAllRoom stores.old stores.new }
+    ensures succeeds { HasSpareFor (net_of B.meaning graph.now) stores.old block.0 first count → IsOk result }
 {
     graph.recall();
     let tags = count_tags(stores, graph, block, first, count)?;
     let at = block.0 as usize;
     reserve_outputs(&mut stores.buffers, at, tags)?;
+    // Else the room would be that behind the tags of the last commit.
+    stores.brought.clear();
     stores.brought.reserve(tags)?;
     if graph.is_keeper(block) {
         reserve_sink(&mut stores.sinks, at, count as usize, tags)?;
@@ -50,7 +53,8 @@ fn count_tags<B: Block>(
     count: u32,
 ) -> Result<usize, AllocError>
     requires { CanLend (net_of B.meaning graph.now) (stored_in stores.now) block.0 first count }
-    ensures { IfOk result (λ n. n ≡ sum_by length (tags_on_items (net_of B.meaning graph.now) (stored_in stores.now) block.0 first (first + count))) }
+    ensures sum { IfOk result (λ n. n ≡ sum_by length (tags_on_items (net_of B.meaning graph.now) (stored_in stores.now) block.0 first (first + count))) }
+    ensures succeeds { sum_by length (tags_on_items (net_of B.meaning graph.now) (stored_in stores.now) block.0 first (first + count)) < 2 ^ 64 → IsOk result }
 {
     graph.recall();
     let firings = FiringRange::new(block, first, count);
@@ -73,6 +77,7 @@ fn reserve_outputs(rows: &mut [Vec<Buffer>], at: usize, tags: usize) -> Result<(
     ensures stored { map (map buffer_of) (map (λ row. row.items) rows.new) ≡ map (map buffer_of) (map (λ row. row.items) rows.old) }
     ensures room { OnOk result (All (λ b. tags ≤ b.spare) (slice_index_or (map (λ row. row.items) rows.new) at [])) }
     ensures keeps { HasNoLessRoom (rows_of (λ row. row.items) rows.old) (rows_of (λ row. row.items) rows.new) }
+    ensures succeeds { All (λ b. tags ≤ b.spare) (slice_index_or (map (λ row. row.items) rows.old) at []) → IsOk result }
 {
     reserve_tags(&mut rows[at], tags)
 }
@@ -82,6 +87,7 @@ fn reserve_tags(buffers: &mut [Buffer], tags: usize) -> Result<(), AllocError>
     ensures stored { map buffer_of buffers.new ≡ map buffer_of buffers.old }
     ensures room { OnOk result (All (λ b. tags ≤ b.spare) buffers.new) }
     ensures keeps { (p : ℕ) → (slice_index_or buffers.old p no_buffer).spare ≤ (slice_index_or buffers.new p no_buffer).spare }
+    ensures succeeds { All (λ b. tags ≤ b.spare) buffers.old → IsOk result }
 {
     for buffer in buffers.iter_mut() {
         buffer.reserve(tags)?;
@@ -100,6 +106,7 @@ fn reserve_sink(
     ensures stored { map collected_of sinks.new ≡ map collected_of sinks.old }
     ensures room { OnOk result (HasSpare items tags (slice_index_or sinks.new at no_sink)) }
     ensures keeps { (a : ℕ) → let old = slice_index_or sinks.old a no_sink in HasSpare old.spare_items old.spare_tags (slice_index_or sinks.new a no_sink) }
+    ensures succeeds { HasSpare items tags (slice_index_or sinks.old at no_sink) → IsOk result }
 {
     sinks[at].reserve(items, tags)
 }

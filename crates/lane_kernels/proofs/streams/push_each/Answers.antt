@@ -11,5 +11,6 @@ loop-k-preserved g c =
       items = listed_more number (λ (k : ℕ). item (map number items) (k * c.args.step + c.args.port)) c.loop-k.k _ c.loop-k.made.items c.push_reserved.new.self.items c.index-items-k.result
           c.push_reserved.ensures.items c.loop-k.invariant.items (read_number number items _ c.index-items-k.result c.index-items-k.is
           (step_within c.loop-k.k c.args.count c.args.step c.args.port _ c.loop-k-test.true c.requires.port c.requires.there));
+      capacity = omega (arith, c.push_reserved.ensures.capacity, c.loop-k.invariant.capacity);
       room = omega (arith, c.loop-k.invariant.room, c.push_reserved.ensures.len, c.push_reserved.ensures.capacity, c.loop-k-test.true);
     }

@@ -76,8 +76,8 @@ loop-i-preserved g c =
       capacity = omega (arith, c.run.ensures.capacity, c.loop-i.invariant.capacity);
     }
 
-pub returns : goal.returns
-returns g c =
+pub returns-clause-items : goal.returns-clause-items
+returns-clause-items g c =
     let at_end : c.loop-i.at ≡ c.args.from + length c.args.items.now = over_none held_of c.args.held.now c.loop-i.i c.loop-i.at (c.args.from + length c.args.items.now) (omega arith) c.loop-i.invariant.over in
     let f = λ (k : ℕ). g.B.EachItem.gives c.args.block.now (number_among (map held_of c.args.held.now) (c.args.from + k)) (item (map g.T.Number.number c.args.items.now) k) in
     c.loop-i.invariant.items ∙ take_all (c.loop-i.at - c.args.from) (listed (length c.args.items.now) f) (omega (arith, at_end, length-listed (length c.args.items.now) f))

@@ -1,4 +1,4 @@
-use Rattle.std.proofs.Common.{length, map}
+use Rattle.std.proofs.Common.{length, map, arith}
 use Rattle.lane_kernels.proofs.Appended.{room_left}
 use Rattle.lane_work.proofs.Written.{read_item}
 use Rattle.rate_blocks.proofs.Copies.{copies_more, first_room}
@@ -13,5 +13,6 @@ loop-at-preserved g c =
     record {
       items = copies_more number c.args.n (map number c.args.items.now) c.loop-at.at _ c.loop-at.made.items c.push_copies.new.made.items c.index-items-at.result c.push_copies.ensures.items
           c.loop-at.invariant.items (read_item number c.args.items.now c.loop-at.at c.index-items-at.result c.index-items-at.is c.loop-at-test.true);
+      capacity = omega (arith, c.push_copies.ensures.capacity, c.loop-at.invariant.capacity);
       room = room_left c.args.n c.loop-at.at (length c.args.items.now) _ _ _ _ c.loop-at-test.true c.push_copies.ensures.len c.push_copies.ensures.capacity c.loop-at.invariant.room;
     }

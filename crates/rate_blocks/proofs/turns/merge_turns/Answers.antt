@@ -8,6 +8,7 @@ pub loop-p-preserved : goal.loop-p-preserved
 loop-p-preserved g c =
     record {
       item_type = c.change_items.ensures.item_type ∙ c.loop-p.invariant.item_type;
+      spare = c.change_items.ensures.room ∙ c.loop-p.invariant.spare;
       size = c.change_items.ensures.same_length ∙ c.loop-p.invariant.size;
       items = next_turn (g.M.TakesTurns.lengths c.args.block.now) c.turn.result c.args.rounds c.loop-p.p (map numbers_of c.args.windows.now) (numbers_of c.index-windows-p.result)
           (numbers_of c.loop-p.out) (numbers_of c.change_items.new.out) c.turn.ensures (omega (arith, c.requires.ports, c.loop-p-test.true))

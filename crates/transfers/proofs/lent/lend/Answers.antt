@@ -1,7 +1,8 @@
 use Rattle.std.proofs.Common.{arith}
 use Rattle.std.proofs.lemmas.List.{length-map}
-use Rattle.flowgraph.specs.Flowgraph.{node_of}
+use Rattle.flowgraph.specs.Flowgraph.{net_of, node_of}
 use Rattle.stores.specs.Stores.{tape_of}
+use Rattle.transfers.proofs.PlaceLists.{still_hold_windows, still_hold_outputs}
 use Rattle.transfers.proofs.lent.lend.Goals as goal
 
 pub index-requires : goal.index-requires
@@ -18,3 +19,12 @@ outputs-requires g c = omega (arith, c.requires.inside, length-map c.args.graph.
 
 pub output_type-requires : goal.output_type-requires
 output_type-requires g c = omega (arith, c.requires.inside, length-map c.args.graph.now.blocks (node_of g.B.Block.meaning))
+
+pub returns-clause-keeps : goal.returns-clause-keeps
+returns-clause-keeps g c k next enough =
+    let net = net_of g.B.Block.meaning c.args.graph.now in
+    record {
+      seen = still_hold_windows net c.args.block.0 k next c.args.lent.now.windows.items c.lend_windows.new.windows.items (c.in_ok-lend_windows.ensures.keeps enough.seen.are) enough.seen;
+      given = still_hold_outputs net c.args.block.0 k next c.args.lent.now.outputs.items c.ready_places.new.places.items
+          (c.ready_places.ensures.keeps (rw (c.output_type.ensures, c.outputs.ensures.value) enough.given.are)) enough.given;
+    }

@@ -40,7 +40,7 @@ pub returns-in_ok-reserve_sink-clause-room : goal.returns-in_ok-reserve_sink-cla
 returns-in_ok-reserve_sink-clause-room g c =
     let at = goal.at.returns-in_ok-reserve_sink-clause-room g c in
     has_room (net_of g.B.Block.meaning c.args.graph.now) c.recall.ensures.runs c.args.stores.now _ c.args.block.0 c.args.first c.args.count c.in_ok-tags.tags c.requires
-    (stored_again c.args.stores.now.handed.items c.args.stores.now.words.items _ _ _ _ (rows_after g at.After-reserve_outputs).stored (sinks_after g at.After-reserve_sink).stored) c.in_ok-tags.ensures
+    (stored_again c.args.stores.now.handed.items c.args.stores.now.words.items _ _ _ _ (rows_after g at.After-reserve_outputs).stored (sinks_after g at.After-reserve_sink).stored) c.in_ok-tags.ensures.sum
     (outputs_have g at.In_ok-reserve_outputs) (omega (arith, c.in_ok-reserve.ensures.ok))
     (λ keeper. subst (λ (rs : List RecordingState). HasSpare c.args.count c.in_ok-tags.tags (get_or rs c.args.block.0 no_sink)) (sym (sinks_back g at.After-reserve_sink)) c.in_ok-reserve_sink.ensures.room)
 
@@ -48,7 +48,7 @@ pub returns-else-is_keeper-clause-room : goal.returns-else-is_keeper-clause-room
 returns-else-is_keeper-clause-room g c =
     let at = goal.at.returns-else-is_keeper-clause-room g c in
     has_room (net_of g.B.Block.meaning c.args.graph.now) c.recall.ensures.runs c.args.stores.now _ c.args.block.0 c.args.first c.args.count c.in_ok-tags.tags c.requires
-    (stored_again c.args.stores.now.handed.items c.args.stores.now.words.items _ _ _ _ (rows_after g at.After-reserve_outputs).stored refl) c.in_ok-tags.ensures
+    (stored_again c.args.stores.now.handed.items c.args.stores.now.words.items _ _ _ _ (rows_after g at.After-reserve_outputs).stored refl) c.in_ok-tags.ensures.sum
     (outputs_have g at.In_ok-reserve_outputs) (omega (arith, c.in_ok-reserve.ensures.ok))
     (λ keeper. absurd (let no = c.is_keeper.ensures in let off = c.if-is_keeper.false in cc))
 
@@ -85,22 +85,22 @@ returns-in_err-reserve_outputs-clause-keeps g c =
 pub returns-in_err-reserve-clause-keeps : goal.returns-in_err-reserve-clause-keeps
 returns-in_err-reserve-clause-keeps g c =
     let at = goal.at.returns-in_err-reserve-clause-keeps g c in
-    record { buffers = (rows_after g at.After-reserve_outputs).room; brought = c.in_err-reserve.ensures.capacity; sinks = λ a. (omega arith, omega arith) }
+    record { buffers = (rows_after g at.After-reserve_outputs).room; brought = omega (arith, c.clear.ensures.capacity, c.in_err-reserve.ensures.capacity); sinks = λ a. (omega arith, omega arith) }
 
 pub returns-in_err-reserve_sink-clause-keeps : goal.returns-in_err-reserve_sink-clause-keeps
 returns-in_err-reserve_sink-clause-keeps g c =
     let at = goal.at.returns-in_err-reserve_sink-clause-keeps g c in
-    record { buffers = (rows_after g at.After-reserve_outputs).room; brought = c.in_ok-reserve.ensures.capacity; sinks = λ a. (let kept = (sinks_after g at.After-reserve_sink).room a in (kept.more_items, kept.more_tags)) }
+    record { buffers = (rows_after g at.After-reserve_outputs).room; brought = omega (arith, c.clear.ensures.capacity, c.in_ok-reserve.ensures.capacity); sinks = λ a. (let kept = (sinks_after g at.After-reserve_sink).room a in (kept.more_items, kept.more_tags)) }
 
 pub returns-in_ok-reserve_sink-clause-keeps : goal.returns-in_ok-reserve_sink-clause-keeps
 returns-in_ok-reserve_sink-clause-keeps g c =
     let at = goal.at.returns-in_ok-reserve_sink-clause-keeps g c in
-    record { buffers = (rows_after g at.After-reserve_outputs).room; brought = c.in_ok-reserve.ensures.capacity; sinks = λ a. (let kept = (sinks_after g at.After-reserve_sink).room a in (kept.more_items, kept.more_tags)) }
+    record { buffers = (rows_after g at.After-reserve_outputs).room; brought = omega (arith, c.clear.ensures.capacity, c.in_ok-reserve.ensures.capacity); sinks = λ a. (let kept = (sinks_after g at.After-reserve_sink).room a in (kept.more_items, kept.more_tags)) }
 
 pub returns-else-is_keeper-clause-keeps : goal.returns-else-is_keeper-clause-keeps
 returns-else-is_keeper-clause-keeps g c =
     let at = goal.at.returns-else-is_keeper-clause-keeps g c in
-    record { buffers = (rows_after g at.After-reserve_outputs).room; brought = c.in_ok-reserve.ensures.capacity; sinks = λ a. (omega arith, omega arith) }
+    record { buffers = (rows_after g at.After-reserve_outputs).room; brought = omega (arith, c.clear.ensures.capacity, c.in_ok-reserve.ensures.capacity); sinks = λ a. (omega arith, omega arith) }
 
 pub reserve_outputs-requires : goal.reserve_outputs-requires
 reserve_outputs-requires g c =

@@ -15,9 +15,9 @@ code-requires-clause-can g c =
 pub returns-clause-items : goal.returns-clause-items
 returns-clause-items g c ts xs fed =
     let r = c.args.self.now.register in
-    c.code.ensures.numbers ∙ code-given (g.met.S.Scrambling.coded r.bits r.mask r.init r.is.bits_least) fed
+    c.code.ensures.coded.numbers ∙ code-given (g.met.S.Scrambling.coded r.bits r.mask r.init r.is.bits_least) fed
 
 pub returns-clause-word : goal.returns-clause-word
 returns-clause-word g c ts xs fed =
     let r = c.args.self.now.register in
-    c.code.ensures.behind ∙ code-word (g.met.S.Scrambling.coded r.bits r.mask r.init r.is.bits_least) fed
+    c.code.ensures.coded.behind ∙ code-word (g.met.S.Scrambling.coded r.bits r.mask r.init r.is.bits_least) fed

@@ -4,8 +4,8 @@ use Rattle.stream_model.specs.Kinds.Math.{items_at}
 use Rattle.items.specs.Items.{numbers_of}
 use Rattle.settings.specs.Values.{held_of}
 use Rattle.block_kinds.specs.Work.{CanWork, HasWorked}
+use Rattle.block_kinds.proofs.Outputs.{one_worked}
 use Rattle.math_blocks.specs.Joined.{joined_of}
-use Rattle.math_blocks.proofs.OneOutput.{one_worked}
 use Rattle.math_blocks.proofs.Joining.{length-joined, joined-given}
 use Rattle.math_blocks.proofs.joined.JoinedBlock.work.Goals as goal
 
@@ -35,6 +35,6 @@ returns-clause-items g c =
     let item = ap (λ s. listed c.args.count (λ k. joins s (items_at (map numbers_of windows) k))) (can.ready 0 c.index-out-0.result (omega (arith, one))).item in
     subst (λ m. HasWorked m c.args._first c.args.count c.args._state windows c.args._held.now out (set out 0 c.join_windows.new.out)) same
     (one_worked (joined_of joins t) c.args._first c.args.count c.args._state windows c.args._held.now out c.index-out-0.result c.join_windows.new.out one
-    c.join_windows.ensures.item_type
+    c.join_windows.ensures.item_type c.join_windows.ensures.room
     (λ ts xs fed.
     c.join_windows.ensures.numbers ∙ item ∙ joined-given joins t ts xs c.args._first c.args.count c.args._state held (map numbers_of windows) fed))

@@ -6,9 +6,11 @@ use Rattle.items.specs.Items.{type_of}
 use Rattle.flowgraph.specs.Flowgraph.{Flowgraph, net_of}
 use Rattle.jobs.specs.declared.lent.Lent.{Lent}
 use Rattle.stores.specs.Stores.{stored_in}
+use Rattle.transfers.proofs.PlaceLists.{still_hold_outputs}
 use Rattle.plant.specs.Plant.{IsItsWork, plant_of}
 use Rattle.plant.proofs.Places.{lent_here}
 use Rattle.plant.proofs.Working.{firings_fit, can_work, has_worked}
+use Rattle.plant.proofs.Lasting.{lasts, worked_places}
 use Rattle.plant.proofs.parts.Parts.work.Goals as goal
 
 pub overflow_mul-multiple : goal.overflow_mul-multiple
@@ -49,3 +51,17 @@ returns-clause-work g c =
     c.deref-5.result.now c.deref-5.ensures.value c.deref_mut.result.now c.deref_mut.ensures.value
     out c.work.result c.work.ensures.items c.work.ensures.word in
     λ d. subst (λ (l : Lent). IsItsWork net (plant_of c.args.self.now).state b l.windows.items l.outputs.items c.work.result) (sym (get_or-set_same all b _ d there)) (rw whole done)
+
+pub returns-clause-keeps : goal.returns-clause-keeps
+returns-clause-keeps g c =
+    let net = net_of g.B.Block.meaning (arc_value c.args.self.now.graph) in
+    let all = c.args.self.now.lent.items in
+    let b = c.args.block.0 in
+    let there : b < length all = (let places = c.requires.right.built.places in let inside = c.requires.flight.inside in omega arith) in
+    let lent = c.index_mut-lent.result.now in
+    let its = lent_here all b lent c.index_mut-lent.ensures.value net (stored_in c.args.self.now.stores) c.args.first c.args.count c.requires.lent in
+    let out = c.work.new.out in
+    let kept = worked_places _ _ _ lent.outputs.items c.deref_mut.result.now out its.ready c.deref_mut.ensures.value c.work.ensures.items.types c.work.ensures.items.room in
+    let whole : take lent.outputs.len (out ++ drop (length out) lent.outputs.items) ≡ out = take_at out (drop (length out) lent.outputs.items) lent.outputs.len (omega (arith, kept.many, ap length c.deref_mut.ensures.value, c.deref_mut.ensures.len)) in
+    lasts net all b lent _ c.index_mut-lent.ensures.value there
+    (λ k next serves. record { seen = serves.seen; given = rw whole (still_hold_outputs net b k next lent.outputs.items out kept serves.given) })

@@ -40,4 +40,5 @@ returns-clause-items c =
           ∙ sym (get_or-map_numbers gives 0 (length old) p [] (omega (arith, h)) ∙ ap gives place));
       types = ext_map type_of out (map type_of old) Byte (omega (arith, length-map old type_of)) (λ p d h.
           (c.loop-at.invariant.done p d (omega (arith, h))).1 ∙ sym (get_or-map type_of old p d Byte (omega (arith, h))));
+      room = λ p d h. (c.loop-at.invariant.done p d (omega (arith, h))).2;
     }

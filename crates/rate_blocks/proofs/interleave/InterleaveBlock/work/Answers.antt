@@ -1,9 +1,8 @@
-use Rattle.std.proofs.Common.{◌≡◌, ◌*◌, ◌∷◌, [], length, map, arith, ap, sym, ◌∙◌}
+use Rattle.std.proofs.Common.{◌≡◌, ◌*◌, length, map, arith, ap, sym, ◌∙◌}
 use Rattle.std.proofs.lemmas.List.{length-map}
-use Rattle.stream_model.specs.Meaning.{given_outputs}
-use Rattle.items.specs.Items.{type_of, numbers_of}
+use Rattle.items.specs.Items.{numbers_of}
 use Rattle.settings.specs.Values.{held_of}
-use Rattle.block_kinds.proofs.Outputs.{one_output, one_kept}
+use Rattle.block_kinds.proofs.Outputs.{one_worked}
 use Rattle.rate_blocks.specs.Mux.{interleave_of}
 use Rattle.rate_blocks.proofs.Interleaved.{all-interleaved, interleave-given}
 use Rattle.rate_blocks.proofs.interleave.InterleaveBlock.work.Goals as goal
@@ -21,15 +20,8 @@ pub returns-clause-items : goal.returns-clause-items
 returns-clause-items c =
     let b = c.args.self.now in
     let can = c.requires in
-    let out = c.args.out.now in
-    let one : length out ≡ 1 = omega (arith, can.outputs_least, can.outputs_most) in
-    record {
-      items = λ ts xs fed.
-          ap (map numbers_of) (one_output out c.append_inputs.new.out one)
-          ∙ ap (λ ys. ys ∷ [])
-          (c.append_inputs.ensures.numbers
-          ∙ interleave-given b.item b.ports.value b.ports.some ts xs c.args._first c.args.count c.args._state (map held_of c.args._held.now) (map numbers_of c.args.windows.now) fed
-          (omega (arith, can.inputs_least, can.inputs_most, length-map c.args.windows.now numbers_of)))
-          ∙ ap (given_outputs (interleave_of b) ts xs c.args._first c.args.count) (sym one);
-      types = one_kept type_of out c.index-out-0.result c.append_inputs.new.out one c.append_inputs.ensures.item_type;
-    }
+    one_worked (interleave_of b) c.args._first c.args.count c.args._state c.args.windows.now c.args._held.now c.args.out.now c.index-out-0.result c.append_inputs.new.out
+    (omega (arith, can.outputs_least, can.outputs_most)) c.append_inputs.ensures.item_type c.append_inputs.ensures.room (λ ts xs fed.
+    c.append_inputs.ensures.numbers
+    ∙ interleave-given b.item b.ports.value b.ports.some ts xs c.args._first c.args.count c.args._state (map held_of c.args._held.now) (map numbers_of c.args.windows.now) fed
+    (omega (arith, can.inputs_least, can.inputs_most, length-map c.args.windows.now numbers_of)))
