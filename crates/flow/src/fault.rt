@@ -5,12 +5,13 @@ ghost use Rattle.flow.specs.declared.fault.Fault.TheVariants.{File, Run, Script}
 ghost use Rattle.flow.specs.declared.script.ScriptFault.TheVariants.{Memory};
 
 use crate::script::ScriptFault;
+use flowgraph::Block;
 use graph_file::{FileFault, Pieces};
 use items::Refusal;
 use std::alloc::AllocError;
 use std::fmt;
 use thiserror::Error;
-use threads::RunError;
+use threads::{RunError, RunFault};
 
 // The number by which a file reports that memory ran out.
 const NO_MEMORY: u32 = 32;
@@ -84,11 +85,13 @@ impl From<ScriptFault> for Fault {
     }
 }
 
-impl From<RunError> for Fault {
-    ghost from_gives = { λ fault e. e ≡ Run fault };
+impl<B: Block> From<RunFault<B>> for Fault {
+    ghost use Rattle.threads.specs.Fault.{error_of};
 
-    fn from(fault: RunError) -> Fault {
-        Fault::Run(fault)
+    ghost from_gives = { λ fault e. e ≡ Run (error_of fault) };
+
+    fn from(fault: RunFault<B>) -> Fault {
+        Fault::Run(fault.error())
     }
 }
 

@@ -43,7 +43,7 @@ pub(crate) fn live_plant<R: Threads + Wait + Sync, I: ByteIn + Send, O: ByteOut 
     let callers = one_caller(alloc, input, output)?;
     match TopBlock::from_plant(plant).start_live_watched(rt, alloc, gate, callers, turns(), watch) {
         Ok(finished) => came_to_rest(finished),
-        Err(fault) => Err(Fault::Run(fault.error())),
+        Err(fault) => Err(Fault::from(fault)),
     }
 }
 

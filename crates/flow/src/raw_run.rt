@@ -123,7 +123,7 @@ impl RawRun {
                 plant.recall();
                 Ok(RanRaw::new(plant, settled))
             }
-            Err(fault) => Err(RawFault::Whole(Fault::Run(fault))),
+            Err(fault) => Err(RawFault::Whole(Fault::Run(fault.error()))),
         }
     }
 

@@ -1,11 +1,11 @@
 //! A plant that runs in threads until it comes to rest.
 
-ghost use Rattle.std.specs.Prelude.{◌≡◌, true, IfOk};
+ghost use Rattle.std.specs.Prelude.{◌≡◌, true, IfOk, IfErr};
 ghost use Rattle.stream_model.specs.Machine.{is_idle};
 ghost use Rattle.flowgraph.specs.Flowgraph.{net_of};
 ghost use Rattle.kinds.specs.Kind.{meaning_of};
 ghost use Rattle.plant.specs.Settling.{HasSettled};
-ghost use Rattle.threads.specs.Outcomes.{CameBack, handed_of};
+ghost use Rattle.threads.specs.Outcomes.{CameBack, GivesBack, handed_of};
 ghost use Rattle.top_block.specs.Closing.{with_all_closed};
 
 use kinds::Kind;
@@ -13,22 +13,24 @@ use plant::{Plant, Settled, Watch};
 use std::alloc::Global;
 use std::sync::Wait;
 use std::thread::Threads;
-use threads::{Outcome, RunError, Turns};
+use threads::{Outcome, RunFault, Turns};
 use top_block::TopBlock;
 
 // How many firings a worker claims at once, at most.
 const TURN: u32 = 65_536;
 
-/// Closes the sources of a plant, runs it in threads, and shows it to `watch` until it comes to rest. It gives the plant back as it is then.
+/// Closes the sources of a plant, runs it in threads, and shows it to `watch` until it comes to rest. It gives the plant back as it is then, and
+/// a run that fails gives it back in its fault.
 pub(crate) fn run_plant<R: Threads + Wait + Copy + Send + 'static, W: Watch>(
     rt: R,
     alloc: Global,
     plant: Plant<Kind>,
     watch: &mut W,
-) -> Result<(Plant<Kind>, Settled), RunError>
+) -> Result<(Plant<Kind>, Settled), RunFault<Kind>>
     requires { is_idle plant.state ≡ true }
     ensures came_back { IfOk result (λ r. CameBack meaning_of ⟦<Kind as PartialEq>⟧.eq (handed_of (with_all_closed meaning_of plant)) r.0) }
     ensures settled { IfOk result (λ r. HasSettled (net_of meaning_of r.0.graph) r.0.capacities r.0.state r.1) }
+    ensures fails { IfErr result (GivesBack meaning_of ⟦<Kind as PartialEq>⟧.eq (handed_of (with_all_closed meaning_of plant))) }
 {
     match TopBlock::from_plant(plant).start_turns(rt, alloc, turns()) {
         Ok(running) => match running.wait_watched(&rt, watch) {
@@ -36,9 +38,9 @@ pub(crate) fn run_plant<R: Threads + Wait + Copy + Send + 'static, W: Watch>(
             Ok(Outcome::Stalled(plant)) => Ok((plant, Settled::Quiet)),
             // Nobody asks for a stop.
             Ok(Outcome::Stopped(_)) => unreachable!(),
-            Err(fault) => Err(fault.error()),
+            Err(fault) => Err(fault),
         },
-        Err(fault) => Err(fault.error()),
+        Err(fault) => Err(fault),
     }
 }
 
