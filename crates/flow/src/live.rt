@@ -1,13 +1,13 @@
 //! A run in threads of which an input makes calls, line by line.
 
-ghost use Rattle.std.specs.Prelude.{◌≡◌, ◌≤◌, map, true, vec_len, IfOk, IfErr};
+ghost use Rattle.std.specs.Prelude.{List, ◌≡◌, ◌≤◌, map, true, vec_len, IfOk, IfErr};
 ghost use Rattle.stream_model.specs.Machine.{is_idle};
 ghost use Rattle.flowgraph.specs.Flowgraph.{net_of};
 ghost use Rattle.kinds.specs.Kind.{meaning_of};
 ghost use Rattle.kinds.specs.declared.kind.Kind.{Kind};
 ghost use Rattle.plant.specs.Handed.{OpeningState};
 ghost use Rattle.plant.specs.Settling.{HasSettled};
-ghost use Rattle.threads.specs.History.{noted_by};
+ghost use Rattle.threads.specs.History.{Noted, noted_by};
 ghost use Rattle.threads.specs.Live.{EndsLive, opening_of};
 ghost use Rattle.flow.specs.Serve.{IsNoFile};
 ghost use Rattle.flow.specs.Threads.{HasCome};
@@ -15,6 +15,7 @@ ghost use Rattle.flow.specs.Threads.{HasCome};
 use crate::fault::Fault;
 use crate::line_caller::LineCaller;
 use crate::running::turns;
+use crate::script::ScriptFault;
 use kinds::Kind;
 use plant::{Plant, Settled, Watch};
 use script_text::{ByteIn, ByteOut, LineSplitter};
@@ -84,11 +85,39 @@ fn came_to_rest<I: ByteIn, O: ByteOut>(
         callers,
         ..
     } = finished;
+    match fault_of(callers) {
+        Some(fault) => Err(stopped_by(fault, &outcome)),
+        None => rested(outcome),
+    }
+}
+
+// Why the lines of the first of these callers stopped that were not answered to their end.
+fn fault_of<I: ByteIn, O: ByteOut>(callers: Vec<LineCaller<'_, I, O>>) -> Option<ScriptFault> {
     for caller in callers {
         if let Some(fault) = caller.fault {
-            return Err(Fault::Script(fault));
+            return Some(fault);
         }
     }
+    None
+}
+
+// Why a run ended that lines asked to end.
+fn stopped_by(fault: ScriptFault, outcome: &Outcome<Kind>) -> Fault
+    ensures { IsNoFile result }
+{
+    match outcome {
+        Outcome::Done(_) | Outcome::Stopped(_) => Fault::Script(fault),
+        // Whoever stops by a fault asks for a stop.
+        Outcome::Stalled(_) => Fault::Run(RunError::Foreign),
+    }
+}
+
+// The plant of a run that nobody asked to end.
+fn rested(outcome: Outcome<Kind>) -> Result<(Plant<Kind>, Settled), Fault>
+    ensures came { IfOk result (λ r. (o : OpeningState Kind) (history : List Noted) → EndsLive meaning_of ⟦<Kind as PartialEq>⟧.eq o history outcome →
+        HasCome meaning_of ⟦<Kind as PartialEq>⟧.eq o r.0 × HasSettled (net_of meaning_of r.0.graph) r.0.capacities r.0.state r.1) }
+    ensures no_file { IfErr result IsNoFile }
+{
     match outcome {
         Outcome::Done(plant) => Ok((plant, Settled::Done)),
         Outcome::Stalled(plant) => Ok((plant, Settled::Quiet)),
