@@ -132,6 +132,9 @@ struct magbelu_answer magbelu_bytes_run(const uint8_t *file, size_t file_len, ui
 struct magbelu_answer magbelu_bytes_script(const uint8_t *file, size_t file_len, const uint8_t *script, size_t script_len, uint8_t *output,
                                            size_t output_room, uint8_t *error, size_t error_room);
 
+struct magbelu_answer magbelu_bytes_explain(const uint8_t *name, size_t name_len, const uint8_t *file, size_t file_len, uint8_t *output,
+                                            size_t output_room, uint8_t *error, size_t error_room);
+
 struct magbelu_answer magbelu_bytes_run_items(const uint8_t *file, size_t file_len, uint32_t big_endian, const struct magbelu_input *inputs,
                                               size_t input_count, const struct magbelu_output *outputs, size_t output_count, uint64_t *lens,
                                               size_t lens_room, uint8_t *bytes, size_t bytes_room, uint8_t *error, size_t error_room);
@@ -242,6 +245,28 @@ static inline struct magbelu_answer magbelu_script(const void *file, size_t file
     }
     return magbelu_bytes_script(magbelu_read_at(file), file_len, magbelu_read_at(script), script_len, magbelu_write_at(output, &none), output_room,
                                 magbelu_write_at(error, &none), error_room);
+}
+
+/*
+ * Shows where a graph file is refused. The answer and its line are those of magbelu_open, and the output has the place in the file and what stands or may stand
+ * there, as lines for a person, which `flow --explain FILE` writes too:
+ *
+ *     --> graph.toml:9:1
+ *      |
+ *    9 | valu = 10
+ *      | ^ a block of the kind add_const has no key `valu`; it has: name, kind, type, value, tags, multiple, capacity
+ *
+ * `name` is what the file is called there; one that is no UTF-8 is shown as `?`. Of a file that is not refused the output is empty, and so it is where memory
+ * runs out for these lines. Call it where another call refused the file: it reads the file anew.
+ */
+static inline struct magbelu_answer magbelu_explain(const void *name, size_t name_len, const void *file, size_t file_len, char *output, size_t output_room,
+                                                    char *error, size_t error_room) {
+    uint64_t none = 0;
+    if (magbelu_is_null(name, name_len) || magbelu_is_null(file, file_len) || magbelu_is_null(output, output_room) || magbelu_is_null(error, error_room)) {
+        return magbelu_refused_null(error, error_room);
+    }
+    return magbelu_bytes_explain(magbelu_read_at(name), name_len, magbelu_read_at(file), file_len, magbelu_write_at(output, &none), output_room,
+                                 magbelu_write_at(error, &none), error_room);
 }
 
 /*

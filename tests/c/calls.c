@@ -166,6 +166,35 @@ static void is(struct magbelu_answer answer, uint32_t status, uint32_t number, s
     must(error == NULL || memcmp(error, line, strlen(line)) == 0, line);
 }
 
+/* The places of faults in files, as `flow --explain` shows them. */
+static void explained(char *text, size_t text_room, char *error, size_t error_room) {
+    static const char file[] = "[[block]]", line[] = "flow: refused 42 MissingKey block 0 name\n";
+    static const char place[] = " --> a:1:1\n  |\n1 | [[block]]\n  | ^ a block needs the key `name`: a text\n";
+    static const char feed[] = "feed = [{ source = \"src\", items = [40000] }]";
+    char fed[sizeof chain + sizeof feed - 2];
+    const size_t len = sizeof file - 1, place_len = sizeof place - 1;
+    is(magbelu_explain("a", 1, file, len, text, text_room, error, error_room), 1, 42, place_len, error, line);
+    must(memcmp(text, place, place_len) == 0, "the place of a fault");
+    /* A name that is no text. */
+    is(magbelu_explain("\377", 1, file, len, text, text_room, error, error_room), 1, 42, place_len, error, line);
+    must(memcmp(text, " --> ?:1:1\n", 11) == 0, "the name of a file");
+    /* Without room, and with less than is needed. */
+    is(magbelu_explain("a", 1, file, len, NULL, 0, NULL, 0), 1, 42, place_len, NULL, line);
+    memset(text, '-', text_room);
+    is(magbelu_explain("a", 1, file, len, text, place_len - 1, error, error_room), 1, 42, place_len, error, line);
+    must(text[0] == '-' && text[place_len - 1] == '-', "a place that does not fit was written");
+    /* A feed that is refused. */
+    memcpy(fed, chain, sizeof chain - 1);
+    memcpy(fed + sizeof chain - 1, feed, sizeof feed - 1);
+    is(magbelu_explain("a", 1, fed, sizeof fed, text, text_room, error, error_room), 1, 24, 155, error, "flow: refused 24 ItemRange feed 0\n");
+    must(memcmp(text, " --> a:4:36\n", 12) == 0, "the place of an item");
+    /* Files that are not refused. */
+    is(magbelu_explain("a", 1, chain, sizeof chain - 1, text, text_room, error, error_room), 0, 0, 0, NULL, "");
+    is(magbelu_explain(NULL, 0, NULL, 0, NULL, 0, NULL, 0), 0, 0, 0, NULL, "");
+    is(magbelu_explain(NULL, 1, file, len, text, text_room, error, error_room), 1, 54, 0, error, "magbelu: refused 54 Null\n");
+    is(magbelu_explain("a", 1, NULL, 1, text, text_room, error, error_room), 1, 54, 0, error, "magbelu: refused 54 Null\n");
+}
+
 static void wrong(void) {
     static const char null_line[] = "magbelu: refused 54 Null\n";
     static const char bad_line[] = "close src\nfeed src 1\nnonsense\nclose src\n";
@@ -196,6 +225,8 @@ static void wrong(void) {
     is(magbelu_script(chain, len, refused, strlen(refused), text, sizeof text, error, sizeof error), 0, 0,
        5 * strlen("refused 20\n"), NULL, "");
     must(memcmp(text, "refused 20\nrefused 21\nrefused 24\nrefused 22\nrefused 28\n", 55) == 0, "refusals as replies");
+
+    explained(text, sizeof text, error, sizeof error);
 
     /* Tables. */
     is(magbelu_run_items(chain, len, 0, &input, 1, &output, 1, lens, 1, text, sizeof text, error, sizeof error), 1, 53, 0, error,

@@ -1,5 +1,6 @@
 pub mod Answers
 pub mod Between
+pub mod Explaining
 pub mod Handles
 pub mod Held
 pub mod Kernels

@@ -5,6 +5,7 @@ pub mod answer;
 mod between;
 mod block_calls;
 pub mod calls;
+pub mod explaining;
 pub mod handle;
 pub mod held_calls;
 mod idle;

@@ -1,0 +1,40 @@
+//! A call that shows where a graph file is refused.
+
+ghost use Rattle.magbelu_c.specs.Answers.{Answers};
+ghost use Rattle.magbelu_c.specs.Explaining.{Accepts, Explains};
+
+use crate::answer::{Answer, badly, well};
+use crate::idle::Idle;
+use explanations::explain;
+use flow::fault::Fault;
+use graph_file::Depth;
+use std::alloc::Global;
+
+/// Tells whether the plant of a graph file can be opened. Where it cannot, the output shows the place in the file and what stands there, as `flow --explain`
+/// does, under this name of the file. The output is empty where memory runs out for it.
+#[unsafe(no_mangle)]
+pub extern "C" fn magbelu_bytes_explain(
+    alloc: Global,
+    name: &[u8],
+    file: &[u8],
+    output: &mut [u8],
+    error: &mut [u8],
+) -> Answer
+    ensures { Answers (Accepts file.now) (Explains file.now) output.old output.new error.old error.new result }
+{
+    let fault = match Idle::open(alloc, file) {
+        Ok(_) => return well(0, &[], output),
+        Err(fault) => Fault::File(fault),
+    };
+    let place = place_in(alloc, name, file);
+    badly(alloc, &fault, place.as_bytes(), output, error)
+}
+
+// The lines that show where a file is refused. A name that is no text in UTF-8 stands there as `?`.
+fn place_in(alloc: Global, name: &[u8], file: &[u8]) -> String {
+    let name = std::str::from_utf8(name).unwrap_or("?");
+    match explain(alloc, name, file, Depth::Plant) {
+        Ok(Some(lines)) => lines,
+        Ok(None) | Err(_) => String::new(alloc),
+    }
+}
