@@ -4,6 +4,7 @@ import array
 import pathlib
 import random
 import sys
+import tempfile
 import threading
 
 try:
@@ -33,6 +34,14 @@ def refuses(number, name, call, kind=magbelu.Refused):
         assert (error.number, error.name) == (number, name), error
         return error
     raise AssertionError("%d %s is not refused" % (number, name))
+
+
+def raises(kind, call):
+    try:
+        call()
+    except kind:
+        return
+    raise AssertionError("%s is not raised" % kind.__name__)
 
 
 def examples():
@@ -242,11 +251,22 @@ def what_is_wrong_is_refused():
     refuses(22, "NotSink", lambda: graph.read("add"))
     refuses(24, "ItemRange", lambda: graph.feed("src", [256]))
     refuses(24, "ItemRange", lambda: graph.feed("src", [2**70]))
-    refuses(24, "ItemRange", lambda: graph.feed("src", ["x"]))
+    refuses(24, "ItemRange", lambda: graph.feed("src", [-(2**70)]))
     refuses(25, "TagPlace", lambda: graph.feed("src", [1], tags=[(1, "a", 1)]))
+    refuses(25, "TagPlace", lambda: graph.feed("src", [1], tags=[(-1, "a", 1)]))
+    refuses(25, "TagPlace", lambda: graph.feed("src", [1], tags=[(2**64, "a", 1)]))
     refuses(28, "NoSetting", lambda: graph.set("src", 1))
     refuses(29, "WrongSetting", lambda: graph.set("add", 256))
+    refuses(29, "WrongSetting", lambda: graph.set("add", 2**70))
     refuses(31, "BeyondEnd", lambda: graph.read("out", 1))
+    refuses(31, "BeyondEnd", lambda: graph.read("out", 2**64))
+    # What is no item, and no place of one, is refused behind what is no block.
+    refuses(20, "NoSuchBlock", lambda: graph.feed("none", [2**70]))
+    refuses(20, "NoSuchBlock", lambda: graph.set("none", [2**70]))
+    refuses(22, "NotSink", lambda: graph.read("add", 2**64))
+    assert refuses(20, "NoSuchBlock", lambda: graph.close(b" a\xff")).detail == " a\\xff"
+    graph.settle()
+    assert len(graph.read("out")[0]) == 0
     refuses(23, "Closed", lambda: [graph.close("src"), graph.close("src")])
     refuses(58, "BadKey", lambda: graph.feed("src", [1], tags=[(0, "a b", 1)]))
     refuses(53, "CutItem", lambda: chain("int").feed("src", b"\0"))
@@ -254,6 +274,62 @@ def what_is_wrong_is_refused():
     assert refuses(22, "NotSink", lambda: magbelu.run_items(CHAIN % (3 * ("int",)), [], ["src"])).detail == "output 0"
     error = refuses(50, "BadLine", lambda: magbelu.script(CHAIN % (3 * ("byte",)), "feed src 1 2\nno line\n"))
     assert error.detail == "2" and error.output == "fed 2\n"
+
+
+def nothing_is_cut():
+    """What is no integer goes nowhere: the graph is as it was."""
+    graph = chain("byte")
+    for call in [
+        lambda: graph.feed("src", [0.9]),
+        lambda: graph.feed("src", "12"),
+        lambda: graph.feed("src", [1 + 2j]),
+        lambda: graph.feed("src", [True]),
+        lambda: graph.set("add", 2.9),
+        lambda: graph.step("src", 1.5),
+        lambda: magbelu.run_items(CHAIN % (3 * ("int",)), [("src", array.array("h", [1]))], ["out"]),
+    ]:
+        raises(TypeError, call)
+    for call in [
+        lambda: graph.feed("src", [1], tags=[(0, "k", 2**63)]),
+        lambda: graph.step("src", -1),
+        lambda: graph.set("add", 1, at=2**64 - 1),
+        lambda: magbelu.run_items(CHAIN % (3 * ("int",)), [], [("out", "tag")]),
+    ]:
+        raises(ValueError, call)
+    graph.feed("src", [1], tags=[(0, "least", -(2**63)), (0, "greatest", 2**63 - 1)])
+    assert graph.settle() is False
+    items, tags = graph.read("out", 0, 2**64)
+    assert list(items) == [11] and tags == [(0, "least", -(2**63), 0), (0, "greatest", 2**63 - 1, 0)]
+
+
+def places_of_faults_are_shown():
+    """As `flow --explain` shows them."""
+    text, shown = "[[block]]", " --> %s:1:1\n  |\n1 | [[block]]\n  | ^ a block needs the key `name`: a text\n"
+    for call in [
+        lambda: magbelu.Graph.from_text(text),
+        lambda: magbelu.check(text),
+        lambda: magbelu.run(text),
+        lambda: magbelu.script(text, ""),
+        lambda: magbelu.run_items(text, [], []),
+    ]:
+        error = refuses(42, "MissingKey", call)
+        assert error.detail == "block 0 name" and error.place == shown % "<graph>", error.place
+        assert str(error) == "42 MissingKey block 0 name\n" + (shown % "<graph>").rstrip("\n"), error
+    with tempfile.TemporaryDirectory() as folder:
+        path = pathlib.Path(folder) / "graph.toml"
+        path.write_text(text)
+        assert refuses(42, "MissingKey", lambda: magbelu.Graph.from_file(path)).place == shown % path
+    # A path so long that a first buffer does not take the place.
+    path = 10000 * "p"
+    assert refuses(42, "MissingKey", lambda: magbelu.Graph(text, path)).place == shown % path
+    # What is refused behind the file has no place in it.
+    for number, name, call in [
+        (20, "NoSuchBlock", lambda: chain("byte").close("none")),
+        (50, "BadLine", lambda: magbelu.script(CHAIN % (3 * ("byte",)), "no line\n")),
+        (22, "NotSink", lambda: magbelu.run_items(CHAIN % (3 * ("byte",)), [], ["src"])),
+    ]:
+        error = refuses(number, name, call)
+        assert error.place == "" and "\n" not in str(error), error
 
 
 def threads_call_side_by_side():
@@ -289,6 +365,8 @@ tests = [
     freed_graphs_are_refused,
     raw_items_in_and_out,
     what_is_wrong_is_refused,
+    nothing_is_cut,
+    places_of_faults_are_shown,
     threads_call_side_by_side,
 ]
 for test in tests:

@@ -1,0 +1,202 @@
+"""What python/magbelu.py makes of its arguments before it calls the library, over a library that only notes its calls. tests/c.sh calls it."""
+
+import array
+import ctypes
+import fractions
+
+import magbelu
+
+
+class Number:
+    """An integer of a type of its own."""
+
+    def __init__(self, number):
+        self.number = number
+
+    def __index__(self):
+        return self.number
+
+
+class Noting:
+    """Stands for the library: each call is noted with its numbers, as C gets them, and does nothing."""
+
+    def __init__(self):
+        self.noted = []
+
+    def magbelu_bytes_open(self, plant, *words):
+        return magbelu._Answer(0, 0, 0, 0)
+
+    def magbelu_bytes_free(self, plant):
+        return magbelu._Reply(0, 0, 0, 0)
+
+    def magbelu_bytes_item_size(self, plant, *words):
+        return magbelu._Reply(0, 0, 0, 2)
+
+    def magbelu_bytes_feed(self, plant, name, name_len, big_endian, data, data_len, tags, tag_count):
+        marks = ctypes.cast(tags, ctypes.POINTER(magbelu._Tag))[:tag_count]
+        tags = [(it.offset, ctypes.string_at(it.key, it.key_len), it.value) for it in marks]
+        return self.note("feed", ctypes.string_at(name, name_len), big_endian, ctypes.string_at(data, data_len), tags)
+
+    def magbelu_bytes_feed_numbers(self, plant, name, name_len, data, count, tags, tag_count):
+        return self.note("numbers", ctypes.string_at(name, name_len), ctypes.cast(data, ctypes.POINTER(ctypes.c_int64))[:count])
+
+    def magbelu_bytes_close(self, plant, name, name_len):
+        return self.note("close", ctypes.string_at(name, name_len))
+
+    def magbelu_bytes_set(self, plant, name, name_len, at, number):
+        return self.note("set", at, number)
+
+    def magbelu_bytes_set_taps(self, plant, name, name_len, at, taps, count):
+        return self.note("taps", at, ctypes.cast(taps, ctypes.POINTER(ctypes.c_int16))[:count])
+
+    def magbelu_bytes_step(self, plant, name, name_len, count):
+        return self.note("step", count)
+
+    def magbelu_bytes_read(self, plant, name, name_len, start, most, *words):
+        self.note("read", start, most)
+        return magbelu._Piece(0, 0, 0, 2, 0, 0)
+
+    def magbelu_bytes_run_items(self, file, file_len, big_endian, inputs, input_count, outputs, output_count, *words):
+        fed = ctypes.cast(inputs, ctypes.POINTER(magbelu._Input))[:input_count]
+        asked = ctypes.cast(outputs, ctypes.POINTER(magbelu._Output))[:output_count]
+        self.note("items", big_endian, [ctypes.string_at(it.bytes, it.len) for it in fed], [it.tags for it in asked])
+        return magbelu._Answer(0, 0, 0, 0)
+
+    def note(self, *words):
+        self.noted.append(words)
+        return magbelu._Reply(0, 0, 0, 0)
+
+
+library = Noting()
+magbelu._library = library
+graph = magbelu.Graph("")
+high, low = 2**63 - 1, -(2**63)
+
+
+def makes(call, *noted):
+    """The call comes to the library so."""
+    del library.noted[:]
+    call()
+    assert library.noted == [noted], library.noted
+
+
+def raises(kind, call):
+    """The call is refused, and does not come to the library."""
+    del library.noted[:]
+    try:
+        call()
+    except kind as error:
+        assert type(error) is kind or kind is magbelu.Refused, repr(error)
+    else:
+        raise AssertionError("%s is not raised, and the library got %s" % (kind.__name__, library.noted))
+    assert library.noted == [], library.noted
+
+
+def items_are_integers():
+    for item in [0.9, 1.0, 1j, "1", b"1", None, True, False, fractions.Fraction(1), [1]]:
+        raises(TypeError, lambda: graph.feed("src", [1, item]))
+    for items in ["12", "", 5, None, {1: 2}, {1}, frozenset(), array.array("f", [1]), array.array("d", [0.9]), array.array("u", "1")]:
+        raises(TypeError, lambda: graph.feed("src", items))
+    for items in [[1, 2], (1, 2), range(1, 3), iter([1, 2]), [Number(1), Number(2)], array.array("q", [1, 2]), array.array("B", [1, 2]), memoryview(array.array("h", [1, 2]))]:
+        makes(lambda: graph.feed("src", items), "numbers", b"src", [1, 2])
+    # What no 64 bits hold is no item: the library gets the nearest number, and refuses that.
+    makes(lambda: graph.feed("src", [2**70, -(2**70), high + 1, low - 1, Number(2**64)]), "numbers", b"src", [high, low, high, low, high])
+
+
+def bytes_are_items():
+    for items in [b"\1\2", bytearray(b"\1\2"), memoryview(b"\1\2"), memoryview(b"\1-\2")[::2], memoryview(bytearray(b"\1\2"))]:
+        makes(lambda: graph.feed("src", items, big_endian=True), "feed", b"src", True, b"\1\2", [])
+    makes(lambda: graph.feed("src", array.array("h", [1, -2]), big_endian=True), "feed", b"src", False, b"\1\0\xfe\xff", [])
+    for items in [memoryview(b"\1\2\3\4").cast("f"), memoryview(b"\1\2\3\4").cast("B", (2, 2)), memoryview(b"\1").cast("?")]:
+        raises(TypeError, lambda: graph.feed("src", items))
+    for order in [1, 0, "little", "big", None, 1.0]:
+        raises(TypeError, lambda: graph.feed("src", b"\1\2", big_endian=order))
+        raises(TypeError, lambda: magbelu.run_items("", [], [], big_endian=order))
+
+
+def tags_are_whole():
+    makes(lambda: graph.feed("src", b"", [(Number(3), "k", Number(-7)), (0, b"k", high), (1, "k", low)]),
+          "feed", b"src", False, b"", [(3, b"k", -7), (0, b"k", high), (1, b"k", low)])
+    # The item of such an offset is on no tape, nor is that of the greatest offset, which the library refuses.
+    for offset in [2**64 - 1, 2**64, 2**64 + 3, -1, 2**70]:
+        makes(lambda: graph.feed("src", b"", [(offset, "k", 1)]), "feed", b"src", False, b"", [(2**64 - 1, b"k", 1)])
+    for value in [2**63, low - 1, 2**64, 2**70]:
+        raises(ValueError, lambda: graph.feed("src", b"", [(0, "k", value)]))
+    for offset, key, value in [(0.0, "k", 1), (0, "k", 1.5), (True, "k", 1), (0, "k", False), ("0", "k", 1), (0, 5, 1), (0, None, 1), (0, "k", None)]:
+        raises(TypeError, lambda: graph.feed("src", b"", [(offset, key, value)]))
+    for tags in [[(0, "k")], [(0, "k", 1, 0)]]:
+        raises(ValueError, lambda: graph.feed("src", b"", tags))
+
+
+def settings_are_whole():
+    makes(lambda: graph.set("a", Number(5)), "set", 2**64 - 1, 5)
+    makes(lambda: graph.set("a", -5, at=Number(7)), "set", 7, -5)
+    makes(lambda: graph.set("a", -5, at=2**64 - 2), "set", 2**64 - 2, -5)
+    makes(lambda: graph.set("a", 2**63), "set", 2**64 - 1, high)
+    makes(lambda: graph.set("a", -(2**70)), "set", 2**64 - 1, low)
+    makes(lambda: graph.set("a", (Number(1), -32768)), "taps", 2**64 - 1, [1, -32768])
+    makes(lambda: graph.set("a", array.array("b", [1, -2])), "taps", 2**64 - 1, [1, -2])
+    # Taps that are no shorts come as none, which no filter takes.
+    for taps in [[1, 2**15], [-(2**15) - 1], [2**70]]:
+        makes(lambda: graph.set("a", taps), "taps", 2**64 - 1, [])
+    for value in [2.9, 2.0, 1j, "2", "", b"\1\0", None, True, [1.0], [True], ["1"], {1: 2}, {1}, memoryview(b"\1")]:
+        raises(TypeError, lambda: graph.set("a", value))
+    for at in [-1, 2**64 - 1, 2**64, 2**70]:
+        raises(ValueError, lambda: graph.set("a", 1, at=at))
+    for at in [0.0, "0", True]:
+        raises(TypeError, lambda: graph.set("a", 1, at=at))
+
+
+def counts_are_whole():
+    makes(lambda: graph.step("s", Number(2)), "step", 2)
+    makes(lambda: graph.step("s", 2**32), "step", 2**32 - 1)
+    makes(lambda: graph.step("s", 0), "step", 0)
+    makes(lambda: graph.read("o", Number(1), Number(2)), "read", 1, 2)
+    makes(lambda: graph.read("o", 2**64, 2**64), "read", 2**64 - 1, 2**64 - 1)
+    makes(lambda: graph.read("o"), "read", 0, 2**64 - 1)
+    for call in [lambda: graph.step("s", -1), lambda: graph.read("o", -1), lambda: graph.read("o", 0, -1), lambda: magbelu.run_items("", [], [], room=-1)]:
+        raises(ValueError, call)
+    for count in [1.0, "1", True]:
+        for call in [lambda: graph.step("s", count), lambda: graph.read("o", count), lambda: graph.read("o", 0, count), lambda: magbelu.run_items("", [], [], room=count)]:
+            raises(TypeError, call)
+    raises(TypeError, lambda: graph.step("s", None))
+    raises(TypeError, lambda: graph.read("o", None))
+
+
+def names_are_text():
+    makes(lambda: graph.close(b"src"), "close", b"src")
+    makes(lambda: graph.close("a\0\u00e4"), "close", b"a\0\xc3\xa4")
+    for name in [5, None, 1.0, ["src"], memoryview(b"src")]:
+        for call in [lambda: graph.close(name), lambda: graph.feed(name, []), lambda: graph.set(name, 1), lambda: graph.step(name), lambda: graph.read(name)]:
+            raises(TypeError, call)
+        for call in [lambda: magbelu.Graph(name), lambda: magbelu.check(name), lambda: magbelu.run(name), lambda: magbelu.script("", name)]:
+            raises(TypeError, call)
+        raises(TypeError, lambda: magbelu.run_items("", [(name, b"")], []))
+    # (what is no text in UTF-8 cannot be a name)
+    raises(UnicodeEncodeError, lambda: graph.close("\udc80"))
+
+
+def raw_inputs_are_bytes():
+    for data in [b"\1\2", bytearray(b"\1\2"), memoryview(b"\1\2"), array.array("B", [1, 2]), array.array("b", [1, 2])]:
+        makes(lambda: magbelu.run_items("", [("src", data)], ["out", ("out", "tags")], big_endian=True), "items", True, [b"\1\2"], [0, 1])
+    for data in [array.array("h", [1]), array.array("f", [1]), array.array("i"), memoryview(b"\1\2").cast("h"), memoryview(b"\1\2\3\4").cast("B", (2, 2)), "12", [1, 2], 5, None]:
+        raises(TypeError, lambda: magbelu.run_items("", [("src", data)], []))
+    for what in ["tag", "Tags", "", "items", None, True, b"tags"]:
+        raises(ValueError, lambda: magbelu.run_items("", [], [("o", what)]))
+    for outputs in ["out", b"out"]:
+        raises(TypeError, lambda: magbelu.run_items("", [], outputs))
+    makes(lambda: magbelu.run_items("", iter([("src", b"")]), iter(["out"])), "items", False, [b""], [0])
+
+
+tests = [
+    items_are_integers,
+    bytes_are_items,
+    tags_are_whole,
+    settings_are_whole,
+    counts_are_whole,
+    names_are_text,
+    raw_inputs_are_bytes,
+]
+for test in tests:
+    test()
+print("c: %d tests of the arguments of python/magbelu.py passed" % len(tests))
