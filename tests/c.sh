@@ -1,7 +1,7 @@
 #!/usr/bin/env bash
 # The library for C, where ./build --c has built it from these sources: c/magbelu.h compiles as C99 and as C++, and over each example and graph file of tests/ the
 # calls from C, with the sanitizers, and from Python give what is expected, and where ./flow is built what it gives. Elsewhere it only compiles the header, and tries
-# what python/magbelu.py makes of its arguments.
+# what python/magbelu makes of its arguments.
 set -euo pipefail
 # shellcheck source=scripts/program.sh
 source "$(dirname -- "$(readlink -f -- "${BASH_SOURCE[0]}")")/../scripts/program.sh"
@@ -91,7 +91,7 @@ END
     printf '@1:mark=7/0\n@3:mark=7/0\n' | cmp -s - "$room/got" || wrong "the tags of examples/echo"
 }
 
-# The tests of python/magbelu.py that stand in this file, where there is a Python
+# The tests of python/magbelu that stand in this file, where there is a Python
 python_tests() { PYTHONDONTWRITEBYTECODE=1 PYTHONPATH=$top/python python3 "$top/tests/c/$1" "$top"; }
 
 if command -v python3 >/dev/null; then
@@ -123,5 +123,5 @@ echo "c: the calls from C are as they must be"
 if [[ -e $c_folder/libmagbelu.so ]] && command -v python3 >/dev/null; then
     MAGBELU_LIBRARY=$c_folder/libmagbelu.so python_tests graphs.py
 else
-    echo "c: python/magbelu.py is left out, for want of python3 or of libmagbelu.so"
+    echo "c: python/magbelu is left out, for want of python3 or of libmagbelu.so"
 fi

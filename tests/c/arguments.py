@@ -1,10 +1,11 @@
-"""What python/magbelu.py makes of its arguments before it calls the library, over a library that only notes its calls. tests/c.sh calls it."""
+"""What python/magbelu makes of its arguments before it calls the library, over a library that only notes its calls. tests/c.sh calls it."""
 
 import array
 import ctypes
 import fractions
 
 import magbelu
+from magbelu import _library
 
 
 class Number:
@@ -24,16 +25,16 @@ class Noting:
         self.noted = []
 
     def magbelu_bytes_open(self, plant, *words):
-        return magbelu._Answer(0, 0, 0, 0)
+        return _library.Answer(0, 0, 0, 0)
 
     def magbelu_bytes_free(self, plant):
-        return magbelu._Reply(0, 0, 0, 0)
+        return _library.Reply(0, 0, 0, 0)
 
     def magbelu_bytes_item_size(self, plant, *words):
-        return magbelu._Reply(0, 0, 0, 2)
+        return _library.Reply(0, 0, 0, 2)
 
     def magbelu_bytes_feed(self, plant, name, name_len, big_endian, data, data_len, tags, tag_count):
-        marks = ctypes.cast(tags, ctypes.POINTER(magbelu._Tag))[:tag_count]
+        marks = ctypes.cast(tags, ctypes.POINTER(_library.Mark))[:tag_count]
         tags = [(it.offset, ctypes.string_at(it.key, it.key_len), it.value) for it in marks]
         return self.note("feed", ctypes.string_at(name, name_len), big_endian, ctypes.string_at(data, data_len), tags)
 
@@ -54,21 +55,21 @@ class Noting:
 
     def magbelu_bytes_read(self, plant, name, name_len, start, most, *words):
         self.note("read", start, most)
-        return magbelu._Piece(0, 0, 0, 2, 0, 0)
+        return _library.Piece(0, 0, 0, 2, 0, 0)
 
     def magbelu_bytes_run_items(self, file, file_len, big_endian, inputs, input_count, outputs, output_count, *words):
-        fed = ctypes.cast(inputs, ctypes.POINTER(magbelu._Input))[:input_count]
-        asked = ctypes.cast(outputs, ctypes.POINTER(magbelu._Output))[:output_count]
+        fed = ctypes.cast(inputs, ctypes.POINTER(_library.Input))[:input_count]
+        asked = ctypes.cast(outputs, ctypes.POINTER(_library.Output))[:output_count]
         self.note("items", big_endian, [ctypes.string_at(it.bytes, it.len) for it in fed], [it.tags for it in asked])
-        return magbelu._Answer(0, 0, 0, 0)
+        return _library.Answer(0, 0, 0, 0)
 
     def note(self, *words):
         self.noted.append(words)
-        return magbelu._Reply(0, 0, 0, 0)
+        return _library.Reply(0, 0, 0, 0)
 
 
 library = Noting()
-magbelu._library = library
+_library._loaded = library
 graph = magbelu.Graph("")
 high, low = 2**63 - 1, -(2**63)
 
@@ -199,4 +200,4 @@ tests = [
 ]
 for test in tests:
     test()
-print("c: %d tests of the arguments of python/magbelu.py passed" % len(tests))
+print("c: %d tests of the arguments of python/magbelu passed" % len(tests))

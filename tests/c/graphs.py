@@ -1,4 +1,4 @@
-"""python/magbelu.py over the examples, raw items, tags, settings, and what is wrong. tests/c.sh calls it, with the top of the checkout."""
+"""python/magbelu over the examples, raw items, tags, settings, and what is wrong. tests/c.sh calls it, with the top of the checkout."""
 
 import array
 import pathlib
@@ -371,4 +371,4 @@ tests = [
 ]
 for test in tests:
     test()
-print("c: %d tests of python/magbelu.py passed" % len(tests))
+print("c: %d tests of python/magbelu passed" % len(tests))

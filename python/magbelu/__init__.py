@@ -1,0 +1,21 @@
+"""Magbelu flowgraphs from Python: this folder and the library libmagbelu.so, which `./build --c` makes. docs/C.md says where it is looked for.
+
+    graph = magbelu.Graph.from_file("graph.toml")
+    graph.feed("src", [250, 1, 2, 3])
+    graph.set("add", 100, at=2)
+    graph.settle()
+    items, tags = graph.read("out")
+
+A graph is a plant that the library holds until the object goes, or `free` is called: it is fed, set, run and read any number of times, and what was read stays
+readable. Calls release the interpreter's lock, so threads may run graphs side by side, each of its own; one graph does one call at a time. Items are `array.array`s, or arrays of
+numpy where that is installed.
+
+Items, tags, settings, places and counts are integers: `int`, those of numpy, and every other type that has `__index__`, but no truth values. Nothing is rounded, cut
+or wrapped: what is no integer is a `TypeError`, what no call could mean a `ValueError`, and what the library refuses a `Refused` with its number.
+"""
+
+from ._errors import Error, OutOfMemory, Refused
+from ._graph import Graph, Tag
+from ._runs import check, run, run_items, script, version
+
+__all__ = ["Error", "Refused", "OutOfMemory", "Tag", "Graph", "check", "run", "script", "run_items", "version"]

@@ -1,0 +1,120 @@
+"""What callers hand in, as the library takes it."""
+
+import array
+import collections.abc
+import operator
+
+from ._library import Lent, Mark
+
+try:
+    import numpy
+except ImportError:
+    numpy = None
+
+MOST = 2**64 - 1
+# The least and the greatest number of 64 bits with a sign. Neither is an item, nor the value of a setting.
+LOW, HIGH = -(2**63), 2**63 - 1
+BOOLS = {bool} if numpy is None else {bool, numpy.bool_}
+
+
+def bytes_of(text):
+    """The bytes of a name or of a text. (Of a number `bytes` makes so many zeros.)"""
+    if isinstance(text, str):
+        return text.encode()
+    if isinstance(text, (bytes, bytearray)):
+        return bytes(text)
+    raise TypeError("a str or bytes is wanted, and not %r" % type(text).__name__)
+
+
+def index(it, what):
+    """An integer as one of Python."""
+    if type(it) in BOOLS:
+        raise TypeError("%s is an integer, and no truth value" % what)
+    try:
+        return operator.index(it)
+    except TypeError:
+        raise TypeError("%s is an integer, and no %r" % (what, type(it).__name__)) from None
+
+
+def count_of(it, what, most):
+    """An integer from 0 on, cut to `most`, behind which a greater one means nothing else."""
+    number = index(it, what)
+    if number < 0:
+        raise ValueError("%s is not negative: %d" % (what, number))
+    return min(number, most)
+
+
+def flag(it, what):
+    if type(it) not in BOOLS:
+        raise TypeError("%s is True or False, and no %r" % (what, type(it).__name__))
+    return bool(it)
+
+
+def within(number):
+    """A number that 64 bits hold: itself, or the nearest one, which is refused where the number would be."""
+    return min(max(number, LOW), HIGH)
+
+
+def is_bytes(data):
+    """Whether an object lends bytes, and not wider items."""
+    try:
+        view = memoryview(data)
+    except TypeError:
+        return False
+    return view.format in ("B", "b", "c") and view.ndim == 1
+
+
+def numbers_of(items):
+    """Integers as an array of 64 bits each."""
+    if numpy is not None and isinstance(items, numpy.ndarray) and items.dtype.kind != "O":
+        if items.dtype.kind not in "iu":
+            raise TypeError("items are integers, and not of dtype %s" % items.dtype)
+        if items.ndim != 1:
+            raise ValueError("items stand in one row, and not in an array of %d dimensions" % items.ndim)
+        if items.dtype.kind == "u" and items.dtype.itemsize == 8:
+            items = numpy.minimum(items, numpy.uint64(HIGH))
+        return array.array("q", items.astype("=i8").tobytes())
+    if isinstance(items, (str, collections.abc.Mapping, collections.abc.Set)):
+        raise TypeError("items are integers in a row, or bytes, and no %r" % type(items).__name__)
+    try:
+        items = list(items)
+    except NotImplementedError as error:
+        # (of a memoryview with a format of its own, or with more than one dimension)
+        raise TypeError(str(error)) from None
+    if not BOOLS.isdisjoint(map(type, items)):
+        raise TypeError("an item is an integer, and no truth value")
+    try:
+        return array.array("q", items)
+    except OverflowError:
+        return array.array("q", [within(operator.index(it)) for it in items])
+
+
+def marks_of(tags):
+    """Tags of a feed as C has them, and their keys, which have to be kept. (An offset beyond 64 bits is on no item, as the greatest is.)"""
+    kept, marks = [], []
+    for offset, key, value in tags:
+        offset, value, key = index(offset, "the offset of a tag"), index(value, "the value of a tag"), Lent(bytes_of(key))
+        if not LOW <= value <= HIGH:
+            raise ValueError("the value of a tag has 64 bits with its sign: %d" % value)
+        kept.append(key)
+        marks.append(Mark(offset if 0 <= offset <= MOST else MOST, value, key.at, key.len))
+    return (Mark * max(len(marks), 1))(*marks), kept
+
+
+def place_of(at):
+    if at is None:
+        return MOST
+    place = index(at, "the place of a setting")
+    # (the greatest number of 64 bits stands for none)
+    if not 0 <= place < MOST:
+        raise ValueError("the place of a setting is from 0 to 2**64 - 2: %d" % place)
+    return place
+
+
+def taps_of(value):
+    """Taps as shorts. (Where one is none, there are no taps at all, which no filter takes either.)"""
+    taps = [index(it, "a tap") for it in value]
+    try:
+        return array.array("h", taps)
+    except OverflowError:
+        return array.array("h")

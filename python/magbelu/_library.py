@@ -1,0 +1,143 @@
+"""The library, as ctypes calls it, and memory that it reads and writes."""
+
+import ctypes
+import mmap
+import os
+import pathlib
+
+from ._errors import OutOfMemory
+
+_VERSION = 1
+
+
+class Answer(ctypes.Structure):
+    _fields_ = [("status", ctypes.c_uint32), ("number", ctypes.c_uint32), ("output_len", ctypes.c_size_t), ("error_len", ctypes.c_size_t)]
+
+
+class Input(ctypes.Structure):
+    _fields_ = [("name", ctypes.c_void_p), ("name_len", ctypes.c_size_t), ("bytes", ctypes.c_void_p), ("len", ctypes.c_size_t)]
+
+
+class Output(ctypes.Structure):
+    _fields_ = [("name", ctypes.c_void_p), ("name_len", ctypes.c_size_t), ("tags", ctypes.c_uint32)]
+
+
+class Plant(ctypes.Structure):
+    _fields_ = [("at", ctypes.c_void_p), ("is_open", ctypes.c_bool)]
+
+
+class Reply(ctypes.Structure):
+    _fields_ = [("status", ctypes.c_uint32), ("number", ctypes.c_uint32), ("what", ctypes.c_uint32), ("value", ctypes.c_uint64)]
+
+
+class Piece(ctypes.Structure):
+    _fields_ = [
+        ("status", ctypes.c_uint32), ("number", ctypes.c_uint32), ("held", ctypes.c_uint64),
+        ("item_size", ctypes.c_size_t), ("bytes_len", ctypes.c_size_t), ("tags_len", ctypes.c_size_t),
+    ]
+
+
+class Mark(ctypes.Structure):
+    _fields_ = [("offset", ctypes.c_uint64), ("value", ctypes.c_int64), ("key", ctypes.c_void_p), ("key_len", ctypes.c_size_t)]
+
+
+def _places():
+    if "MAGBELU_LIBRARY" in os.environ:
+        return [os.environ["MAGBELU_LIBRARY"]]
+    here = pathlib.Path(__file__).resolve().parent
+    return [str(here / "libmagbelu.so"), str(here.parents[1] / "crates/magbelu_c/out/built/libmagbelu.so"), "libmagbelu.so"]
+
+
+def _load():
+    faults = []
+    for place in _places():
+        if os.sep in place and not os.path.exists(place):
+            faults.append("%s is not there" % place)
+            continue
+        try:
+            library = ctypes.CDLL(place)
+        except OSError as error:
+            faults.append(str(error))
+            continue
+        library.magbelu_version.restype = ctypes.c_uint32
+        if library.magbelu_version() != _VERSION:
+            raise ImportError("%s has another version of the calls" % place)
+        try:
+            return _with_types(library)
+        except AttributeError as error:
+            raise ImportError("%s is older than these files: %s" % (place, error)) from None
+    raise ImportError("libmagbelu.so is not found: ./build --c makes it (%s)" % "; ".join(faults))
+
+
+def _with_types(library):
+    """The library, whose calls take and give what c/magbelu.h says."""
+    pair = [ctypes.c_void_p, ctypes.c_size_t]
+    for name, types in {
+        "check": 3 * pair,
+        "run": 3 * pair,
+        "script": 4 * pair,
+        "explain": 4 * pair,
+        "run_items": pair + [ctypes.c_uint32] + 5 * pair,
+    }.items():
+        call = getattr(library, "magbelu_bytes_" + name)
+        call.restype, call.argtypes = Answer, types
+    plant, u64 = [ctypes.c_void_p], [ctypes.c_uint64]
+    for name, types in {
+        "free": plant,
+        "item_size": plant + pair,
+        "feed": plant + pair + [ctypes.c_uint32] + 2 * pair,
+        "feed_numbers": plant + 3 * pair,
+        "close": plant + pair,
+        "set": plant + pair + u64 + [ctypes.c_int64],
+        "set_taps": plant + pair + u64 + pair,
+        "step": plant + pair + [ctypes.c_uint32],
+        "settle": plant,
+    }.items():
+        call = getattr(library, "magbelu_bytes_" + name)
+        call.restype, call.argtypes = Reply, types
+    library.magbelu_bytes_open.restype, library.magbelu_bytes_open.argtypes = Answer, plant + 2 * pair
+    library.magbelu_bytes_read.restype, library.magbelu_bytes_read.argtypes = Piece, plant + pair + 2 * u64 + [ctypes.c_uint32] + 2 * pair
+    return library
+
+
+_loaded = None
+
+
+def calls():
+    """The library, which is loaded at the first call."""
+    global _loaded
+    if _loaded is None:
+        _loaded = _load()
+    return _loaded
+
+
+class Lent:
+    """The place of an object's bytes, which are not copied where the object has them one behind the other."""
+
+    def __init__(self, data):
+        view = memoryview(data)
+        self.len = view.nbytes
+        view = view.cast("B") if view.c_contiguous and view.nbytes else memoryview(view.tobytes() or b"\0")
+        if view.readonly:
+            # (a pointer to bytes is to be had of `bytes` alone)
+            self.kept = view.obj if isinstance(view.obj, bytes) and len(view.obj) == len(view) else bytes(view)
+            self.at = ctypes.cast(ctypes.c_char_p(self.kept), ctypes.c_void_p).value
+        else:
+            self.kept = (ctypes.c_char * len(view)).from_buffer(view)
+            self.at = ctypes.addressof(self.kept)
+
+
+class Room:
+    """Memory for an answer, of which only what is written takes place."""
+
+    def __init__(self, size):
+        self.size = size
+        try:
+            self.map = mmap.mmap(-1, max(size, 1))
+        except (OSError, OverflowError):
+            raise OutOfMemory("32 Memory") from None
+        self.kept = (ctypes.c_char * max(size, 1)).from_buffer(self.map)
+        self.at = ctypes.addressof(self.kept)
+
+    def part(self, start, end):
+        return self.map[start:end]
