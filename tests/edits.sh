@@ -1,0 +1,72 @@
+#!/usr/bin/env bash
+# What holds the edits that must fail: `mutants/held` refuses an edit that names another clause than the log of `rt ci`.
+set -euo pipefail
+top=$(dirname -- "$(dirname -- "$(readlink -f -- "${BASH_SOURCE[0]}")")")
+room=$(mktemp -d)
+trap 'rm -rf -- "$room"' EXIT
+passed=0 failed=0
+
+# expect NAME STATUS TEXT COMMAND..: the command ends with the status, and what it says has the text, or is nothing where the text is empty
+expect() {
+    local status=0
+    "${@:4}" >"$room/said" 2>&1 || status=$?
+    if [[ $status == "$2" ]] && { [[ -n $3 ]] && grep -qF -- "$3" "$room/said" || [[ -z $3 && ! -s $room/said ]]; }; then
+        passed=$((passed + 1))
+    else
+        failed=$((failed + 1))
+        echo "edits: $1: wanted status $2 and '$3', and it was $status and this:" >&2
+        cat "$room/said" >&2
+    fi
+}
+
+# A checkout of one crate with one edit.
+mkdir -p "$room/checkout/mutants" "$room/checkout/crates/small/"{src,must-fail}
+cp -- "$top/mutants/held" "$room/checkout/mutants"
+cat >"$room/checkout/crates/small/src/pair.rt" <<'END'
+impl<T: Number> Adds<u8, T> for Pair<T> {
+    #[inline]
+    fn sum(&self) -> T
+        ensures whole { result ≡ self.now.a + self.now.b }
+    {
+        self.a + self.b
+    }
+}
+END
+
+# log MESSAGE: the log of a run in which the prover says this of the edit
+log() {
+    printf 'rt: small: trying its must-fail edits (1)\nrt: must-fail small/half.edit: %s\n1 passed, 0 failed\n' "$1" >"$room/log"
+}
+
+# holds NAME STATUS TEXT LINE: `held` of that log and an edit with this line
+holds() {
+    printf 'file: src/pair.rt\nold: self.a + self.b\nnew: self.a\n%s\n' "$4" >"$room/checkout/crates/small/must-fail/half.edit"
+    expect "$1" "$2" "$3" "$room/checkout/mutants/held" "$room/log"
+}
+
+note='note: src/pair.rt:2:5: it is not proved that what the function ensures holds when it returns'
+# shellcheck disable=SC2016  # The quotes are the log's.
+log "refused, as it must be: $note (\`returns-clause-whole\`); the facts known there allow values"
+holds 'the clause' 0 '' 'refused by: PairAddsU8::sum ensures whole'
+holds 'another clause' 1 "and the prover 'PairAddsU8::sum ensures whole'" 'refused by: PairAddsU8::sum ensures half'
+holds 'another function' 1 "and the prover 'PairAddsU8::sum ensures whole'" 'refused by: PairAddsU8::double ensures whole'
+holds 'no line' 1 "it names ''" 'note: it lacks one'
+log "refused, as it must be: $note (\`returns\`); the facts known there allow values"
+holds 'a clause without a name' 0 '' 'refused by: PairAddsU8::sum ensures'
+# shellcheck disable=SC2016  # The quotes are the log's.
+log 'refused, as it must be: note: src/pair.rt:6:9: it is not proved that what `add` requires holds at this call (`add-requires`); the facts known'
+holds 'a goal in the body' 0 '' 'refused by: PairAddsU8::sum goal add-requires'
+# shellcheck disable=SC2016  # The quotes are the log's.
+log 'refused, as it must be: ./proofs/pair/PairAddsU8/sum/Answers.antt:5:23: error: `returns-clause-whole`: as printed, the two types differ'
+holds 'an answer' 0 '' 'refused by: PairAddsU8::sum ensures whole'
+log 'refused, as it must be'
+holds 'a refusal without a reason' 1 'the log names no clause' 'refused by: PairAddsU8::sum ensures whole'
+log 'NOT REFUSED: the crate is still proved with this edit'
+holds 'an edit that is let through' 1 'NOT REFUSED' 'refused by: PairAddsU8::sum ensures whole'
+log 'BAD EDIT: it changes nothing'
+holds 'a bad edit' 1 'BAD EDIT' 'refused by: PairAddsU8::sum ensures whole'
+echo >"$room/log"
+holds 'an edit that was not tried' 1 'it has nothing of the edit' 'refused by: PairAddsU8::sum ensures whole'
+
+echo "edits: $passed passed, $failed failed"
+((failed == 0))
