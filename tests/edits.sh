@@ -1,5 +1,6 @@
 #!/usr/bin/env bash
-# What holds the edits that must fail: `mutants/held` refuses an edit that names another clause than the log of `rt ci`.
+# What holds the edits that must fail: `mutants/held` refuses an edit that names another clause than the log of `rt ci`, and `mutants/try` ends as the prover
+# does on the mutants that it lays into a copy, by a stand-in for `rt` that says which it was given.
 set -euo pipefail
 top=$(dirname -- "$(dirname -- "$(readlink -f -- "${BASH_SOURCE[0]}")")")
 room=$(mktemp -d)
@@ -67,6 +68,37 @@ log 'BAD EDIT: it changes nothing'
 holds 'a bad edit' 1 'BAD EDIT' 'refused by: PairAddsU8::sum ensures whole'
 echo >"$room/log"
 holds 'an edit that was not tried' 1 'it has nothing of the edit' 'refused by: PairAddsU8::sum ensures whole'
+
+# The stand-in says which edits it finds, and lets one through where it is told to.
+mkdir -p "$room/bin" "$room/checkout/scripts" "$room/checkout/mutants/"{small,wide} "$room/checkout/crates/"{wide,flow_program}
+cp -- "$top/mutants/try" "$room/checkout/mutants"
+cp -- "$top/scripts/program.sh" "$room/checkout/scripts"
+touch "$room/checkout/mutants/"{small/a,small/b,wide/c}.edit "$room/checkout/HANDLES"
+{
+    echo small:
+    echo wide: small low{1..6}
+    echo flow_program: small
+    printf 'low%s:\n' {1..6}
+} >"$room/checkout/crates.txt"
+cat >"$room/bin/rt" <<'END'
+#!/usr/bin/env bash
+echo "rt $*:" crates/*/must-fail/*
+exit "$LETS_THROUGH"
+END
+chmod +x "$room/bin/rt"
+
+# tries NAME STATUS TEXT LETS_THROUGH WORD..: `try` of these words
+tries() {
+    expect "$1" "$2" "$3" env PATH="$room/bin:$PATH" LETS_THROUGH="$4" "$room/checkout/mutants/try" "${@:5}"
+}
+
+tries 'the mutants of a crate, in place of its edits' 0 'rt must-fail small: crates/small/must-fail/a.edit crates/small/must-fail/b.edit' 0 small
+tries 'the mutants of all crates' 0 'rt must-fail small wide: crates/small/must-fail/a.edit crates/small/must-fail/b.edit crates/wide/must-fail/c.edit' 0
+tries 'a mutant that is let through' 1 'rt must-fail wide: crates/wide/must-fail/c.edit' 1 wide
+tries 'a crate without mutants' 2 'there is no mutants/flow_program' 0 flow_program
+git -C "$room/checkout" init -q
+git -C "$room/checkout" -c user.name=a -c user.email=a@b commit -q --allow-empty -m one
+tries 'in turn, of crates above few others' 0 'try: the mutants of small' 0 --in-turn
 
 echo "edits: $passed passed, $failed failed"
 ((failed == 0))
