@@ -41,33 +41,33 @@ log() {
 
 # holds NAME STATUS TEXT LINE: `held` of that log and an edit with this line
 holds() {
-    printf 'file: src/pair.rt\nold: self.a + self.b\nnew: self.a\n%s\n' "$4" >"$room/checkout/crates/small/must-fail/half.edit"
+    printf '%s\nfile: src/pair.rt\nold: self.a + self.b\nnew: self.a\n' "$4" >"$room/checkout/crates/small/must-fail/half.edit"
     expect "$1" "$2" "$3" "$room/checkout/mutants/held" "$room/log"
 }
 
 note='note: src/pair.rt:2:5: it is not proved that what the function ensures holds when it returns'
 # shellcheck disable=SC2016  # The quotes are the log's.
 log "refused, as it must be: $note (\`returns-clause-whole\`); the facts known there allow values"
-holds 'the clause' 0 '' 'refused by: PairAddsU8::sum ensures whole'
-holds 'another clause' 1 "and the prover 'PairAddsU8::sum ensures whole'" 'refused by: PairAddsU8::sum ensures half'
-holds 'another function' 1 "and the prover 'PairAddsU8::sum ensures whole'" 'refused by: PairAddsU8::double ensures whole'
-holds 'no line' 1 "it names ''" 'note: it lacks one'
+holds 'the clause' 0 '' '# refused by: PairAddsU8::sum ensures whole'
+holds 'another clause' 1 "and the prover 'PairAddsU8::sum ensures whole'" '# refused by: PairAddsU8::sum ensures half'
+holds 'another function' 1 "and the prover 'PairAddsU8::sum ensures whole'" '# refused by: PairAddsU8::double ensures whole'
+holds 'no line' 1 "it names ''" '# It lacks one.'
 log "refused, as it must be: $note (\`returns\`); the facts known there allow values"
-holds 'a clause without a name' 0 '' 'refused by: PairAddsU8::sum ensures'
+holds 'a clause without a name' 0 '' '# refused by: PairAddsU8::sum ensures'
 # shellcheck disable=SC2016  # The quotes are the log's.
 log 'refused, as it must be: note: src/pair.rt:6:9: it is not proved that what `add` requires holds at this call (`add-requires`); the facts known'
-holds 'a goal in the body' 0 '' 'refused by: PairAddsU8::sum goal add-requires'
+holds 'a goal in the body' 0 '' '# refused by: PairAddsU8::sum goal add-requires'
 # shellcheck disable=SC2016  # The quotes are the log's.
 log 'refused, as it must be: ./proofs/pair/PairAddsU8/sum/Answers.antt:5:23: error: `returns-clause-whole`: as printed, the two types differ'
-holds 'an answer' 0 '' 'refused by: PairAddsU8::sum ensures whole'
+holds 'an answer' 0 '' '# refused by: PairAddsU8::sum ensures whole'
 log 'refused, as it must be'
-holds 'a refusal without a reason' 1 'the log names no clause' 'refused by: PairAddsU8::sum ensures whole'
+holds 'a refusal without a reason' 1 'the log names no clause' '# refused by: PairAddsU8::sum ensures whole'
 log 'NOT REFUSED: the crate is still proved with this edit'
-holds 'an edit that is let through' 1 'NOT REFUSED' 'refused by: PairAddsU8::sum ensures whole'
+holds 'an edit that is let through' 1 'NOT REFUSED' '# refused by: PairAddsU8::sum ensures whole'
 log 'BAD EDIT: it changes nothing'
-holds 'a bad edit' 1 'BAD EDIT' 'refused by: PairAddsU8::sum ensures whole'
+holds 'a bad edit' 1 'BAD EDIT' '# refused by: PairAddsU8::sum ensures whole'
 echo >"$room/log"
-holds 'an edit that was not tried' 1 'it has nothing of the edit' 'refused by: PairAddsU8::sum ensures whole'
+holds 'an edit that was not tried' 1 'it has nothing of the edit' '# refused by: PairAddsU8::sum ensures whole'
 
 # The stand-in says which edits it finds, and lets one through where it is told to.
 mkdir -p "$room/bin" "$room/checkout/scripts" "$room/checkout/mutants/"{small,wide} "$room/checkout/crates/"{wide,flow_program}
