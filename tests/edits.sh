@@ -1,5 +1,5 @@
 #!/usr/bin/env bash
-# What holds the edits that must fail: `mutants/held` refuses an edit that names another clause than the log of `rt ci`, and `mutants/try` ends as the prover
+# What holds the edits that must fail: each can be made of the sources as they stand, `mutants/held` refuses an edit that names another clause than the log of `rt ci`, and `mutants/try` ends as the prover
 # does on the mutants that it lays into a copy, by a stand-in for `rt` that says which it was given.
 set -euo pipefail
 top=$(dirname -- "$(dirname -- "$(readlink -f -- "${BASH_SOURCE[0]}")")")
@@ -19,6 +19,33 @@ expect() {
         cat "$room/said" >&2
     fi
 }
+
+# fits FOLDER EDIT..: each old text of the edits stands once in a file of the crate in that folder, as the earlier ones left it
+fits() {
+    local edit line key text file='' old=''
+    for edit in "${@:2}"; do
+        local -A whole=()
+        while IFS= read -r line || [[ -n $line ]]; do
+            key=${line%%:*} text=${line#*: }
+            case $key in
+            file) file=$text whole[$file]=${whole[$file]-$(<"$1/$file")} ;;
+            old) old=$text ;;
+            new)
+                if [[ ${whole[$file]} != *"$old"* || ${whole[$file]/"$old"/} == *"$old"* ]]; then
+                    echo "$edit: '$old' does not stand once in $file"
+                    return 1
+                fi
+                whole[$file]=${whole[$file]/"$old"/"${line#new:}"}
+                ;;
+            esac
+        done <"$edit"
+    done
+}
+
+for folder in "$top"/crates/*/must-fail "$top"/mutants/*/; do
+    crate=${folder#"$top"/*/}
+    expect "the edits of $folder" 0 '' fits "$top/crates/${crate%%/*}" "$folder"/*.edit
+done
 
 # A checkout of one crate with one edit.
 mkdir -p "$room/checkout/mutants" "$room/checkout/crates/small/"{src,must-fail}
