@@ -6,96 +6,79 @@ ghost use Rattle.stream_model.specs.Lists.{numbers_from};
 ghost use Rattle.worked_rows.specs.Kinds.{numbers, output_of, output_in_cuts, firings_of};
 ghost use Rattle.stream_model.specs.Kinds.Rates.{keep_one_in_n, integrate, repeat, interleave, deinterleave, head, skiphead, delay, stream_mux};
 
-/// The last of three; the item after two whole firings is never taken.
-pub fn keeps_one()
-    ensures whole { output_of (keep_one_in_n Byte 3)
+/// The rows, each with what it is about above its clauses.
+pub fn rows()
+    // The last of three; the item after two whole firings is never taken.
+    ensures keeps_one_whole { output_of (keep_one_in_n Byte 3)
         (numbers (1 ∷ 2 ∷ 3 ∷ 4 ∷ 5 ∷ 6 ∷ 7 ∷ []) ∷ []) 0 ≡ numbers (3 ∷ 6 ∷ []) }
-    ensures cut { output_in_cuts (keep_one_in_n Byte 3)
+    ensures keeps_one_cut { output_in_cuts (keep_one_in_n Byte 3)
         [] (numbers (1 ∷ 2 ∷ 3 ∷ 4 ∷ 5 ∷ 6 ∷ 7 ∷ []) ∷ []) 0 ≡ numbers (3 ∷ 6 ∷ []) }
-    ensures firings { firings_of (keep_one_in_n Byte 3) (numbers (1 ∷ 2 ∷ 3 ∷ 4 ∷ 5 ∷ 6 ∷ 7 ∷ []) ∷ [])
+    ensures keeps_one_firings { firings_of (keep_one_in_n Byte 3) (numbers (1 ∷ 2 ∷ 3 ∷ 4 ∷ 5 ∷ 6 ∷ 7 ∷ []) ∷ [])
         ≡ 2 }
-{}
 
-/// A tag goes to the nearest item (ties round up): at one item for four, and at two for one.
-pub fn places_by_rate()
-    ensures down { (keep_one_in_n Byte 4).place 0 1 ≡ 0 }
-    ensures up { (keep_one_in_n Byte 4).place 0 2 ≡ 1 }
-    ensures repeated { (repeat Byte 2).place 0 1 ≡ 2 }
-{}
+    // A tag goes to the nearest item (ties round up): at one item for four, and at two for one.
+    ensures places_by_rate_down { (keep_one_in_n Byte 4).place 0 1 ≡ 0 }
+    ensures places_by_rate_up { (keep_one_in_n Byte 4).place 0 2 ≡ 1 }
+    ensures places_by_rate_repeated { (repeat Byte 2).place 0 1 ≡ 2 }
 
-/// Sums of two; a rest is left.
-pub fn integrates()
-    ensures whole { output_of (integrate Byte 2) (numbers (200 ∷ 100 ∷ 5 ∷ 6 ∷ 7 ∷ []) ∷ []) 0
+    // Sums of two; a rest is left.
+    ensures integrates_whole { output_of (integrate Byte 2) (numbers (200 ∷ 100 ∷ 5 ∷ 6 ∷ 7 ∷ []) ∷ []) 0
         ≡ numbers (44 ∷ 11 ∷ []) }
-    ensures cut { output_in_cuts (integrate Byte 2) [] (numbers (200 ∷ 100 ∷ 5 ∷ 6 ∷ 7 ∷ []) ∷ []) 0
+    ensures integrates_cut { output_in_cuts (integrate Byte 2) [] (numbers (200 ∷ 100 ∷ 5 ∷ 6 ∷ 7 ∷ []) ∷ []) 0
         ≡ numbers (44 ∷ 11 ∷ []) }
-{}
 
-/// Each item twice.
-pub fn repeats()
-    ensures whole { output_of (repeat Byte 2) (numbers (7 ∷ 8 ∷ []) ∷ []) 0
+    // Each item twice.
+    ensures repeats_whole { output_of (repeat Byte 2) (numbers (7 ∷ 8 ∷ []) ∷ []) 0
         ≡ numbers (7 ∷ 7 ∷ 8 ∷ 8 ∷ []) }
-    ensures cut { output_in_cuts (repeat Byte 2) [] (numbers (7 ∷ 8 ∷ []) ∷ []) 0
+    ensures repeats_cut { output_in_cuts (repeat Byte 2) [] (numbers (7 ∷ 8 ∷ []) ∷ []) 0
         ≡ numbers (7 ∷ 7 ∷ 8 ∷ 8 ∷ []) }
-{}
 
-/// An item of each in turn, as long as all have one.
-pub fn interleaves()
-    ensures whole { output_of (interleave Byte 2)
+    // An item of each in turn, as long as all have one.
+    ensures interleaves_whole { output_of (interleave Byte 2)
         (numbers (1 ∷ 2 ∷ 3 ∷ []) ∷ numbers (10 ∷ 20 ∷ []) ∷ []) 0
         ≡ numbers (1 ∷ 10 ∷ 2 ∷ 20 ∷ []) }
-    ensures cut { output_in_cuts (interleave Byte 2)
+    ensures interleaves_cut { output_in_cuts (interleave Byte 2)
         [] (numbers (1 ∷ 2 ∷ 3 ∷ []) ∷ numbers (10 ∷ 20 ∷ []) ∷ []) 0
         ≡ numbers (1 ∷ 10 ∷ 2 ∷ 20 ∷ []) }
-{}
 
-/// An item for each in turn; a rest is left.
-pub fn deinterleaves()
-    ensures first { output_of (deinterleave Byte 3)
+    // An item for each in turn; a rest is left.
+    ensures deinterleaves_first { output_of (deinterleave Byte 3)
         (numbers (1 ∷ 2 ∷ 3 ∷ 4 ∷ 5 ∷ 6 ∷ 7 ∷ []) ∷ []) 0 ≡ numbers (1 ∷ 4 ∷ []) }
-    ensures second { output_of (deinterleave Byte 3)
+    ensures deinterleaves_second { output_of (deinterleave Byte 3)
         (numbers (1 ∷ 2 ∷ 3 ∷ 4 ∷ 5 ∷ 6 ∷ 7 ∷ []) ∷ []) 1 ≡ numbers (2 ∷ 5 ∷ []) }
-    ensures third { output_of (deinterleave Byte 3)
+    ensures deinterleaves_third { output_of (deinterleave Byte 3)
         (numbers (1 ∷ 2 ∷ 3 ∷ 4 ∷ 5 ∷ 6 ∷ 7 ∷ []) ∷ []) 2 ≡ numbers (3 ∷ 6 ∷ []) }
-    ensures third_cut { output_in_cuts (deinterleave Byte 3)
+    ensures deinterleaves_third_cut { output_in_cuts (deinterleave Byte 3)
         [] (numbers (1 ∷ 2 ∷ 3 ∷ 4 ∷ 5 ∷ 6 ∷ 7 ∷ []) ∷ []) 2 ≡ numbers (3 ∷ 6 ∷ []) }
-{}
 
-/// The first three of a hundred; a tag stays where it is.
-pub fn begins()
-    ensures whole { output_of (head Byte 3) (map pos (numbers_from 1 100) ∷ []) 0
+    // The first three of a hundred; a tag stays where it is.
+    ensures begins_whole { output_of (head Byte 3) (map pos (numbers_from 1 100) ∷ []) 0
         ≡ numbers (1 ∷ 2 ∷ 3 ∷ []) }
-    ensures place { (head Byte 3).place 0 2 ≡ 2 }
-{}
+    ensures begins_place { (head Byte 3).place 0 2 ≡ 2 }
 
-/// All but the first two; a tag on one of these goes to the first that is left.
-pub fn skips()
-    ensures whole { output_of (skiphead Byte 2) (numbers (7 ∷ 8 ∷ 9 ∷ []) ∷ []) 0
+    // All but the first two; a tag on one of these goes to the first that is left.
+    ensures skips_whole { output_of (skiphead Byte 2) (numbers (7 ∷ 8 ∷ 9 ∷ []) ∷ []) 0
         ≡ numbers (9 ∷ []) }
-    ensures cut { output_in_cuts (skiphead Byte 2) [] (numbers (7 ∷ 8 ∷ 9 ∷ []) ∷ []) 0
+    ensures skips_cut { output_in_cuts (skiphead Byte 2) [] (numbers (7 ∷ 8 ∷ 9 ∷ []) ∷ []) 0
         ≡ numbers (9 ∷ []) }
-    ensures place_left_out { (skiphead Byte 2).place 0 0 ≡ 0 }
-    ensures place_kept { (skiphead Byte 2).place 0 2 ≡ 0 }
-{}
+    ensures skips_place_left_out { (skiphead Byte 2).place 0 0 ≡ 0 }
+    ensures skips_place_kept { (skiphead Byte 2).place 0 2 ≡ 0 }
 
-/// Two zeros, then the input; a tag moves with its item.
-pub fn delays()
-    ensures whole { output_of (delay Byte 2) (numbers (7 ∷ 8 ∷ []) ∷ []) 0
+    // Two zeros, then the input; a tag moves with its item.
+    ensures delays_whole { output_of (delay Byte 2) (numbers (7 ∷ 8 ∷ []) ∷ []) 0
         ≡ numbers (0 ∷ 0 ∷ 7 ∷ 8 ∷ []) }
-    ensures cut { output_in_cuts (delay Byte 2) [] (numbers (7 ∷ 8 ∷ []) ∷ []) 0
+    ensures delays_cut { output_in_cuts (delay Byte 2) [] (numbers (7 ∷ 8 ∷ []) ∷ []) 0
         ≡ numbers (0 ∷ 0 ∷ 7 ∷ 8 ∷ []) }
-    ensures place { (delay Byte 2).place 0 1 ≡ 3 }
-{}
+    ensures delays_place { (delay Byte 2).place 0 1 ≡ 3 }
 
-/// Two items of the one input, one of the other, in whole rounds; a tag stays on its item.
-pub fn muxes()
-    ensures whole { output_of (stream_mux Byte (2 ∷ 1 ∷ []))
+    // Two items of the one input, one of the other, in whole rounds; a tag stays on its item.
+    ensures muxes_whole { output_of (stream_mux Byte (2 ∷ 1 ∷ []))
         (numbers (1 ∷ 2 ∷ 3 ∷ 4 ∷ 5 ∷ []) ∷ numbers (10 ∷ 20 ∷ 30 ∷ []) ∷ []) 0
         ≡ numbers (1 ∷ 2 ∷ 10 ∷ 3 ∷ 4 ∷ 20 ∷ []) }
-    ensures cut { output_in_cuts (stream_mux Byte (2 ∷ 1 ∷ []))
+    ensures muxes_cut { output_in_cuts (stream_mux Byte (2 ∷ 1 ∷ []))
         [] (numbers (1 ∷ 2 ∷ 3 ∷ 4 ∷ 5 ∷ []) ∷ numbers (10 ∷ 20 ∷ 30 ∷ []) ∷ []) 0
         ≡ numbers (1 ∷ 2 ∷ 10 ∷ 3 ∷ 4 ∷ 20 ∷ []) }
-    ensures place_first { (stream_mux Byte (2 ∷ 1 ∷ [])).place 0 3 ≡ 4 }
-    ensures place_second { (stream_mux Byte (2 ∷ 1 ∷ [])).place 1 1 ≡ 5 }
-    ensures place_past { (stream_mux Byte (2 ∷ 1 ∷ [])).place 0 4 ≡ 6 }
+    ensures muxes_place_first { (stream_mux Byte (2 ∷ 1 ∷ [])).place 0 3 ≡ 4 }
+    ensures muxes_place_second { (stream_mux Byte (2 ∷ 1 ∷ [])).place 1 1 ≡ 5 }
+    ensures muxes_place_past { (stream_mux Byte (2 ∷ 1 ∷ [])).place 0 4 ≡ 6 }
 {}

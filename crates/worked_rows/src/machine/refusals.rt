@@ -10,23 +10,22 @@ ghost use Rattle.worked_rows.specs.Kinds.{numbers, alone};
 ghost use Rattle.stream_model.specs.Kinds.Ends.{null_sink};
 ghost use Rattle.stream_model.specs.Kinds.Filters.{fir};
 
-/// Each call that cannot be answered has its number. Feeding 256 to a source of bytes is feeding
-/// another type.
-pub fn refuses()
-    ensures { replies_of (plus_ten 4096)
+/// The rows, each with what it is about above its clauses.
+pub fn rows()
+    // Each call that cannot be answered has its number. Feeding 256 to a source of bytes is feeding
+    // another type.
+    ensures refuses { replies_of (plus_ten 4096)
         (byte_feed 2 (1 ∷ []) ∷ Feed 0 Short (numbers (256 ∷ [])) []
         ∷ marked_feed 0 (1 ∷ []) (mark 5 (codes "k") (pos 1) ∷ [])
         ∷ Read 1 0 1 ∷ Read 2 1 1 ∷ SetNow 0 (Number (pos 1)) ∷ SetNow 1 (Number (pos 300))
         ∷ Step 9 1 ∷ Commit 1 ∷ Step 0 1 ∷ Close 0 ∷ Close 0 ∷ Step 0 1 ∷ [])
         ≡ Refused 21 ∷ Refused 24 ∷ Refused 25 ∷ Refused 22 ∷ Refused 31 ∷ Refused 28 ∷ Refused 29
         ∷ Refused 20 ∷ Refused 30 ∷ WaitingItems 0 ∷ Closed 0 ∷ Refused 23 ∷ Done ∷ [] }
-{}
 
-/// Where several refusals fit, the first in a fixed order is answered: no such block, then what the
-/// block is not, then the value, and a late setting last; a fed type before a closed tape, and that
-/// before a mark. Marks right before and right behind the fed items are refused.
-pub fn refuses_in_order()
-    ensures { replies_of (plus_ten 4096)
+    // Where several refusals fit, the first in a fixed order is answered: no such block, then what the
+    // block is not, then the value, and a late setting last; a fed type before a closed tape, and that
+    // before a mark. Marks right before and right behind the fed items are refused.
+    ensures refuses_in_order { replies_of (plus_ten 4096)
         (byte_feed 9 (1 ∷ []) ∷ Close 9 ∷ Close 1 ∷ SetAt 9 0 (Number (pos 1))
         ∷ Claim 9 1 ∷ Read 9 0 1
         ∷ byte_feed 0 (1 ∷ 2 ∷ []) ∷ marked_feed 0 (3 ∷ []) (mark 1 (codes "k") (pos 1) ∷ [])
@@ -39,27 +38,21 @@ pub fn refuses_in_order()
         ≡ Refused 20 ∷ Refused 20 ∷ Refused 21 ∷ Refused 20 ∷ Refused 20 ∷ Refused 20
         ∷ Fed 2 ∷ Refused 25 ∷ Refused 25 ∷ Fed 3 ∷ Did 3 ∷ Did 1 ∷ Refused 29 ∷ Refused 29 ∷ Late 1
         ∷ Closed 3 ∷ Refused 24 ∷ Refused 23 ∷ Refused 22 ∷ Refused 31 ∷ Refused 30 ∷ [] }
-{}
 
-/// A sink that drops its input cannot be read.
-pub fn refuses_to_read_what_is_dropped()
-    ensures { replies_of (chain (byte_source ∷ alone (null_sink Byte) ∷ []))
+    // A sink that drops its input cannot be read.
+    ensures refuses_to_read_what_is_dropped { replies_of (chain (byte_source ∷ alone (null_sink Byte) ∷ []))
         (byte_feed 0 (1 ∷ 2 ∷ []) ∷ Step 0 9 ∷ Step 1 9 ∷ Read 1 0 9 ∷ [])
         ≡ Fed 2 ∷ Did 2 ∷ Did 2 ∷ Refused 22 ∷ [] }
-{}
 
-/// A list of taps has to be as long as the filter's own.
-pub fn refuses_other_lengths()
-    ensures { replies_of (through Short (alone (fir Short (numbers (1 ∷ 1 ∷ [])) 1 0)))
+    // A list of taps has to be as long as the filter's own.
+    ensures refuses_other_lengths { replies_of (through Short (alone (fir Short (numbers (1 ∷ 1 ∷ [])) 1 0)))
         (SetNow 1 (Taps (numbers (1 ∷ []))) ∷ SetNow 1 (Taps (numbers (1 ∷ 2 ∷ 3 ∷ [])))
         ∷ SetNow 1 (Number (pos 1)) ∷ SetNow 1 (Taps (numbers (1 ∷ 2 ∷ []))) ∷ [])
         ≡ Refused 29 ∷ Refused 29 ∷ Refused 29 ∷ Taken 0 ∷ [] }
-{}
 
-/// A tape takes 4,294,967,296 items, and not one more.
-pub fn fills_a_tape()
-    ensures last { (tape : List ℤ) → length tape ≡ 4294967295 →
+    // A tape takes 4,294,967,296 items, and not one more.
+    ensures fills_a_tape_last { (tape : List ℤ) → length tape ≡ 4294967295 →
         (feed_of (plus_ten 4096) (with_first_tape tape) 0 Byte (pos 7 ∷ []) []).0 ≡ Fed 4294967296 }
-    ensures above { (tape : List ℤ) → length tape ≡ 4294967295 →
+    ensures fills_a_tape_above { (tape : List ℤ) → length tape ≡ 4294967295 →
         (feed_of (plus_ten 4096) (with_first_tape tape) 0 Byte (pos 7 ∷ pos 8 ∷ []) []).0 ≡ Refused 26 }
 {}
