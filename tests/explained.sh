@@ -134,10 +134,10 @@ shows_text long "block = [$(for n in {100..140}; do printf '{ name = "%s" }, ' "
     '42 MissingKey block 0 kind' 1:10 "block = [{ name = \"100\" }, { name = \"101\" }, { name = \"102\" }, { name = \"103\" }, { name = \"104\" }, { name = \"105\" }, { n..." 'a block needs the key `kind`: a text'
 # Lines of scripts.
 bad_line near_word script plain 'feed src 5\nfed src 6\nclose src\n' 'fed 1\n' 2:1 'fed src 6' 'there is no command `fed`; is `feed` meant?'
-bad_line spaced_line script plain '#\n  step a x\r\n' '' 2:3 '  step a x' 'the line is: step NAME MAX, where MAX is 1 to 4294967295'
+bad_line spaced_line script plain '#\n  step a x\r\n' '' 2:10 '  step a x' 'the line is: step NAME MAX, where MAX is 1 to 4294967295'
 bad_line last_line script plain 'quiet\nset a' 'quiet yes\n' 2:1 'set a' 'the line is: set NAME AT NUMBER.., where AT is an item or now'
-bad_line why_of_two script plain 'why a b\n' '' 1:1 'why a b' 'the line is: why NAME'
-bad_line settle_a_block script plain 'settle a\n' '' 1:1 'settle a' 'the line is: settle'
+bad_line why_of_two script plain 'why a b\n' '' 1:7 'why a b' 'the line is: why NAME'
+bad_line settle_a_block script plain 'settle a\n' '' 1:8 'settle a' 'the line is: settle'
 bad_line live_why live plain 'why a\n' '' 1:1 'why a' '`why` is no command of a live run; there are: feed, close, set, read'
 bad_line live_step live plain 'step a 1\n' '' 1:1 'step a 1' '`step` is no command of a live run; there are: feed, close, set, read'
 bad_line many_lines script plain "$(printf '#%0.s\\n' {1..3000})play \\033[m\\n" '' 3001:1 'play \x1b[m' 'there is no command `play`; there are: feed, close, set, step, claim, commit, abandon, read, why, quiet, settle'

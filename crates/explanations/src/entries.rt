@@ -5,7 +5,7 @@ use graph_file::FilePlace;
 use std::alloc::{AllocError, Global};
 
 /// A table, or a key of one.
-#[derive(Clone, Copy, Debug)]
+#[derive(Clone, Copy)]
 pub(crate) struct Entry {
     /// The table.
     pub table: FilePlace,
@@ -18,7 +18,7 @@ pub(crate) struct Entry {
 }
 
 // What is read.
-#[derive(Clone, Copy, Debug, PartialEq, Eq)]
+#[derive(Clone, Copy, PartialEq, Eq)]
 enum Step {
     // The begin of a line of the document.
     Line,
@@ -31,7 +31,7 @@ enum Step {
 }
 
 // The words of a key or a header.
-#[derive(Clone, Copy, Debug)]
+#[derive(Clone, Copy)]
 struct Path {
     count: usize,
     start: usize,

@@ -4,8 +4,9 @@ ghost use Rattle.graph_file.specs.Accepted.{IsAccepted};
 
 use crate::document::Document;
 use crate::feed_faults::feed_finding;
-use crate::frame::{Finding, framed};
+use crate::frame::{Finding, Source, framed};
 use crate::graph_faults::{graph_finding, negative_finding};
+use crate::shown::Look;
 use crate::table_faults::table_finding;
 use graph_file::{Depth, FileFault, fault_of};
 use std::alloc::{AllocError, Global};
@@ -23,7 +24,13 @@ pub fn explain(
         None => Ok(None),
         Some(fault) => {
             let finding = finding_of(alloc, text, &fault)?;
-            Ok(Some(framed(alloc, name, text, 1, &finding)?))
+            let source = Source {
+                name,
+                text,
+                first_line: 1,
+                look: Look::Line,
+            };
+            Ok(Some(framed(alloc, &source, &finding)?))
         }
     }
 }

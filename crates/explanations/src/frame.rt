@@ -1,7 +1,9 @@
 //! A place of a text, shown as compilers do: where it is, its line, and a mark below the place.
 ghost use Rattle.std.specs.Prelude.{◌≤◌, length};
 
+use crate::shown::{Look, put_shown};
 use crate::tokens::{Span, part, rest};
+use itoa::Buffer;
 use std::alloc::{AllocError, Global};
 
 // So many bytes of a line are shown before the place, where not all are, and in all.
@@ -12,14 +14,25 @@ const SHOWN: usize = 120;
 const NEAR_BEGIN: usize = 80;
 
 /// What is wrong at a place of a text.
-#[derive(Debug, Drop)]
+#[derive(Drop)]
 pub(crate) struct Finding {
     pub place: usize,
     pub message: String,
 }
 
+/// The text in which a place is shown.
+#[derive(Clone, Copy)]
+pub(crate) struct Source<'a> {
+    pub name: &'a str,
+    pub text: &'a [u8],
+    /// The number of its first line.
+    pub first_line: u64,
+    /// How a line of it is shown.
+    pub look: Look,
+}
+
 // A line of a text, without what ends it, and a place in it or at its end. Lines and columns count from 1, a column characters.
-#[derive(Clone, Copy, Debug)]
+#[derive(Clone, Copy)]
 struct Position {
     line: usize,
     column: usize,
@@ -27,94 +40,98 @@ struct Position {
     place: usize,
 }
 
-/// The lines that show a place of the text of this name, the first of whose lines has this number.
+// What is shown of a line, which may be less than all of it.
+#[derive(Clone, Copy)]
+struct Excerpt {
+    before: Span,
+    behind: Span,
+    is_cut_before: bool,
+    is_cut_behind: bool,
+}
+
+/// The lines that show a place of a text.
 pub(crate) fn framed(
     alloc: Global,
-    name: &str,
-    text: &[u8],
-    first_line: u64,
+    source: &Source<'_>,
     finding: &Finding,
 ) -> Result<String, AllocError> {
-    let position = position_of(text, finding.place);
-    let name = shown(alloc, name.as_bytes())?;
-    let number = first_line.saturating_add(position.line.saturating_sub(1) as u64);
-    let column = position.column;
-    let message = finding.message.as_str();
-    let margin = blank(alloc, format!(in alloc; "{number}")?.as_str())?;
-    let (before, behind) = excerpt(alloc, text, position)?;
-    let mark = blank(alloc, before.as_str())?;
-    let space = if before.is_empty() && behind.is_empty() {
-        ""
+    let mut out = String::new(alloc);
+    match put_frame(&mut out, source, finding) {
+        Ok(()) => Ok(out),
+        Err(refusal) => Err(refusal),
+    }
+}
+
+// (Nothing here is owned, so that no early return has anything to drop, which the prover pays for at each.)
+fn put_frame(out: &mut String, source: &Source<'_>, finding: &Finding) -> Result<(), AllocError> {
+    let position = position_of(source.text, finding.place);
+    let line = source
+        .first_line
+        .saturating_add(position.line.saturating_sub(1) as u64);
+    let mut digits = Buffer::new();
+    let number = digits.format(line);
+    put_spaces(out, number.len())?;
+    out.push_str("--> ")?;
+    put_shown(out, source.name.as_bytes(), Look::Word)?;
+    put_place(out, number, position.column)?;
+    put_spaces(out, number.len())?;
+    out.push_str(" |\n")?;
+    out.push_str(number)?;
+    out.push_str(" |")?;
+    let excerpt = excerpt_of(source.text, position);
+    put_excerpt(out, source, excerpt)?;
+    put_spaces(out, number.len())?;
+    out.push_str(" | ")?;
+    put_before(out, source, excerpt, true)?;
+    out.push_str("^ ")?;
+    out.push_str(finding.message.as_str())?;
+    out.push_str("\n")
+}
+
+fn put_place(out: &mut String, line: &str, column: usize) -> Result<(), AllocError> {
+    out.push_str(":")?;
+    out.push_str(line)?;
+    out.push_str(":")?;
+    out.push_str(Buffer::new().format(column))?;
+    out.push_str("\n")
+}
+
+fn put_spaces(out: &mut String, count: usize) -> Result<(), AllocError> {
+    for _ in 0..count {
+        out.push(' ')?;
+    }
+    Ok(())
+}
+
+// What is shown of a line, behind a space where that is something, and its end.
+fn put_excerpt(out: &mut String, source: &Source<'_>, excerpt: Excerpt) -> Result<(), AllocError> {
+    if excerpt.before.start < excerpt.behind.end {
+        out.push(' ')?;
+    }
+    put_before(out, source, excerpt, false)?;
+    put_shown(out, part(source.text, excerpt.behind), source.look)?;
+    if excerpt.is_cut_behind {
+        out.push_str("...")?;
+    }
+    out.push_str("\n")
+}
+
+// What is shown of a line before the place, or as much blank.
+fn put_before(
+    out: &mut String,
+    source: &Source<'_>,
+    excerpt: Excerpt,
+    is_blank: bool,
+) -> Result<(), AllocError> {
+    if excerpt.is_cut_before {
+        out.push_str(if is_blank { "   " } else { "..." })?;
+    }
+    let look = if is_blank {
+        source.look.blank()
     } else {
-        " "
+        source.look
     };
-    format!(in alloc;
-        "{margin}--> {name}:{number}:{column}\n{margin} |\n{number} |{space}{before}{behind}\n{margin} | {mark}^ {message}\n"
-    )
-}
-
-/// A text of bytes, as it is shown: what is no text in UTF-8, and what a terminal would take for a command, as `\xNN`.
-pub(crate) fn shown(alloc: Global, bytes: &[u8]) -> Result<String, AllocError> {
-    let mut out = String::new(alloc);
-    let mut from = 0usize;
-    for _ in 0..bytes.len() {
-        let left = rest(bytes, from);
-        match std::str::from_utf8(left) {
-            Ok(text) => {
-                push_text(&mut out, text)?;
-                return Ok(out);
-            }
-            Err(error) => {
-                let good = Span {
-                    start: 0,
-                    end: error.valid_up_to(),
-                };
-                if let Ok(text) = std::str::from_utf8(part(left, good)) {
-                    push_text(&mut out, text)?;
-                }
-                if let Some(byte) = left.get(good.end) {
-                    push_escaped(&mut out, *byte)?;
-                }
-                from = from.saturating_add(good.end).saturating_add(1);
-            }
-        }
-    }
-    Ok(out)
-}
-
-fn push_text(out: &mut String, text: &str) -> Result<(), AllocError> {
-    for letter in text.chars() {
-        if letter.is_control() && letter != '\t' {
-            let mut buffer = [0u8; 4];
-            for byte in letter.encode_utf8(&mut buffer).as_bytes() {
-                push_escaped(out, *byte)?;
-            }
-        } else {
-            out.push(letter)?;
-        }
-    }
-    Ok(())
-}
-
-fn push_escaped(out: &mut String, byte: u8) -> Result<(), AllocError> {
-    out.push_str("\\x")?;
-    for digit in [byte / 16, byte % 16] {
-        out.push(char::from(if digit < 10 {
-            b'0' + digit
-        } else {
-            b'a' + (digit - 10)
-        }))?;
-    }
-    Ok(())
-}
-
-// As many spaces as a text has characters, and its tabs.
-fn blank(alloc: Global, text: &str) -> Result<String, AllocError> {
-    let mut out = String::new(alloc);
-    for letter in text.chars() {
-        out.push(if letter == '\t' { '\t' } else { ' ' })?;
-    }
-    Ok(out)
+    put_shown(out, part(source.text, excerpt.before), look)
 }
 
 // Where a place is; behind the text, its end.
@@ -174,8 +191,8 @@ fn continues(byte: u8) -> bool {
     byte & 0xC0 == 0x80
 }
 
-// What is shown of a line, before a place and from it on.
-fn excerpt(alloc: Global, text: &[u8], position: Position) -> Result<(String, String), AllocError> {
+// What is shown of a line.
+fn excerpt_of(text: &[u8], position: Position) -> Excerpt {
     let Position { span, place, .. } = position;
     let is_far = place.saturating_sub(span.start) > NEAR_BEGIN;
     let from = if is_far {
@@ -189,21 +206,18 @@ fn excerpt(alloc: Global, text: &[u8], position: Position) -> Result<(String, St
     } else {
         span.end
     };
-    let before = Span {
-        start: from,
-        end: place,
-    };
-    let behind = Span {
-        start: place,
-        end: to,
-    };
-    let mut first = String::from_str(alloc, if is_far { "..." } else { "" })?;
-    first.push_str(shown(alloc, part(text, before))?.as_str())?;
-    let mut last = shown(alloc, part(text, behind))?;
-    if to < span.end {
-        last.push_str("...")?;
+    Excerpt {
+        before: Span {
+            start: from,
+            end: place,
+        },
+        behind: Span {
+            start: place,
+            end: to,
+        },
+        is_cut_before: is_far,
+        is_cut_behind: to < span.end,
     }
-    Ok((first, last))
 }
 
 // The first place from this one on at which a character begins. One has at most four bytes.

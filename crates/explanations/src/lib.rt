@@ -1,6 +1,7 @@
 //! What stands behind a refusal of a graph file or of a line of a script: the place in the text, what was found there and what may stand there.
 #![tactic(auto)]
 
+mod commands;
 mod document;
 mod entries;
 mod expected;
@@ -12,9 +13,11 @@ pub mod lines;
 mod near;
 pub mod noted;
 mod ports;
+pub mod shown;
 mod table_faults;
 mod tokens;
 
 pub use explained::explain;
 pub use lines::KeptLines;
 pub use noted::{Noted, at_device};
+pub use shown::shown;

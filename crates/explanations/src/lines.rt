@@ -1,9 +1,11 @@
 //! The lines of a script that are read, kept so that a bad one can be shown.
 ghost use Rattle.std.specs.Prelude.{◌≡◌};
 
-use crate::frame::{Finding, framed, shown};
+use crate::commands::{CALLS, COMMANDS, bad_place, field_from, grammar};
+use crate::frame::{Finding, Source, framed};
 use crate::near::near_name;
-use crate::tokens::rest;
+use crate::shown::{Look, put_shown};
+use crate::tokens::part;
 use script_text::{Broken, ByteIn, Command, Line, parse_line};
 use std::alloc::{AllocError, Global};
 
@@ -55,13 +57,17 @@ impl<I> KeptLines<I> {
         for line in self.kept.bytes.as_slice().split(|byte| *byte == b'\n') {
             number = number.saturating_add(1);
             let line = without_return(line);
-            if let Some(message) = fault_of_line(alloc, line, is_live)? {
-                let finding = Finding {
-                    place: spaces_before(line),
-                    message,
+            if let Some(finding) = fault_of_line(alloc, line, is_live)? {
+                let source = Source {
+                    name: "standard input",
+                    text: line,
+                    first_line: number,
+                    look: Look::Word,
                 };
-                let lines = framed(alloc, "standard input", line, number, &finding)?;
-                return Ok(Some(lines));
+                return match framed(alloc, &source, &finding) {
+                    Ok(lines) => Ok(Some(lines)),
+                    Err(refusal) => Err(refusal),
+                };
             }
         }
         Ok(None)
@@ -119,29 +125,50 @@ fn without_return(line: &[u8]) -> &[u8] {
     }
 }
 
-fn spaces_before(line: &[u8]) -> usize {
-    for (number, byte) in line.iter().enumerate() {
-        if *byte != b' ' {
-            return number;
-        }
+// What is wrong with a line, and where.
+fn fault_of_line(alloc: Global, line: &[u8], is_live: bool) -> Result<Option<Finding>, AllocError> {
+    let mut message = String::new(alloc);
+    match put_fault(alloc, &mut message, line, is_live) {
+        Ok(Some(place)) => Ok(Some(Finding { place, message })),
+        Ok(None) => Ok(None),
+        Err(refusal) => Err(refusal),
     }
-    0
 }
 
-// What is wrong with a line.
-fn fault_of_line(alloc: Global, line: &[u8], is_live: bool) -> Result<Option<String>, AllocError> {
+// Says what is wrong with a line, and where; nothing of a good one.
+fn put_fault(
+    alloc: Global,
+    message: &mut String,
+    line: &[u8],
+    is_live: bool,
+) -> Result<Option<usize>, AllocError> {
+    let word = field_from(line, 0);
     if line.len() > LONGEST_LINE {
-        let message = String::from_str(alloc, "a line has at most 65536 bytes")?;
-        return Ok(Some(message));
+        message.push_str("a line has at most 65536 bytes")?;
+        return Ok(Some(word.start));
     }
-    let word = first_word(line);
-    match parse_line(alloc, line)? {
-        Line::Nothing => Ok(None),
-        Line::Bad => Ok(Some(bad_word(alloc, word, is_live)?)),
-        Line::Command(command) if is_live && !is_call(&command) => {
-            Ok(Some(bad_word(alloc, word, is_live)?))
+    if is_good(alloc, line, is_live)? {
+        return Ok(None);
+    }
+    let bytes = part(line, word);
+    let words: &[&str] = if is_live { &CALLS } else { &COMMANDS };
+    match grammar(bytes) {
+        Some(text) if is_one_of(words, bytes) => {
+            message.push_str("the line is: ")?;
+            message.push_str(text)?;
+            return Ok(Some(bad_place(alloc, line)?));
         }
-        Line::Command(_) => Ok(None),
+        Some(_) => put_no_call(message, bytes)?,
+        None => put_no_command(alloc, message, bytes, words)?,
+    }
+    Ok(Some(word.start))
+}
+
+fn is_good(alloc: Global, line: &[u8], is_live: bool) -> Result<bool, AllocError> {
+    match parse_line(alloc, line)? {
+        Line::Nothing => Ok(true),
+        Line::Bad => Ok(false),
+        Line::Command(command) => Ok(!is_live || is_call(&command)),
     }
 }
 
@@ -153,70 +180,55 @@ fn is_call(command: &Command) -> bool {
     )
 }
 
-fn first_word(line: &[u8]) -> &[u8] {
-    let from = rest(line, spaces_before(line));
-    match from.iter().position(|byte| *byte == b' ') {
-        Some(end) => &from[..end],
-        None => from,
+fn is_one_of(words: &[&str], word: &[u8]) -> bool {
+    for other in words {
+        if other.as_bytes() == word {
+            return true;
+        }
     }
+    false
 }
 
-const COMMANDS: [&str; 11] = [
-    "feed", "close", "set", "step", "claim", "commit", "abandon", "read", "why", "quiet", "settle",
-];
-
-const CALLS: [&str; 4] = ["feed", "close", "set", "read"];
-
-// What the line of a command is.
-fn grammar(word: &[u8]) -> Option<&'static str> {
-    match word {
-        b"feed" => Some("feed NAME ITEM.. @OFFSET:KEY=VALUE.."),
-        b"close" => Some("close NAME"),
-        b"set" => Some("set NAME AT NUMBER.., where AT is an item or now"),
-        b"step" => Some("step NAME MAX, where MAX is 1 to 4294967295"),
-        b"claim" => Some("claim NAME MAX, where MAX is 1 to 4294967295"),
-        b"commit" => Some("commit NAME"),
-        b"abandon" => Some("abandon NAME"),
-        b"read" => Some("read NAME FROM MAX, where MAX is 1 to 4294967295"),
-        b"why" => Some("why NAME"),
-        b"quiet" => Some("quiet"),
-        b"settle" => Some("settle"),
-        _ => None,
-    }
+// That a command of a script is none of a live run.
+fn put_no_call(message: &mut String, word: &[u8]) -> Result<(), AllocError> {
+    message.push_str("`")?;
+    put_shown(message, word, Look::Word)?;
+    message.push_str("` is no command of a live run; there are: ")?;
+    put_list(message, &CALLS)
 }
 
-// What may stand in place of a bad line that begins with a word.
-fn bad_word(alloc: Global, word: &[u8], is_live: bool) -> Result<String, AllocError> {
-    let names: &[&str] = if is_live { &CALLS } else { &COMMANDS };
-    let is_good = names.iter().any(|name| word == name.as_bytes());
+// That a word is no command, and which is like it, or which there are.
+fn put_no_command(
+    alloc: Global,
+    message: &mut String,
+    word: &[u8],
+    words: &[&str],
+) -> Result<(), AllocError> {
+    message.push_str("there is no command `")?;
+    put_shown(message, word, Look::Word)?;
     let near = match std::str::from_utf8(word) {
-        Ok(text) => near_name(alloc, text, names)?,
+        Ok(text) => near_name(alloc, text, words)?,
         Err(_) => None,
     };
-    let word_shown = shown(alloc, word)?;
-    match (grammar(word), near) {
-        (Some(line), _) if is_good => format!(in alloc; "the line is: {line}"),
-        (None, Some(name)) => format!(in alloc;
-            "there is no command `{word_shown}`; is `{name}` meant?"
-        ),
-        (Some(_), _) => {
-            let list = listed(alloc, names)?;
-            format!(in alloc; "`{word_shown}` is no command of a live run; there are: {list}")
+    match near {
+        Some(name) => {
+            message.push_str("`; is `")?;
+            message.push_str(name)?;
+            message.push_str("` meant?")
         }
-        (None, None) => {
-            let list = listed(alloc, names)?;
-            format!(in alloc; "there is no command `{word_shown}`; there are: {list}")
+        None => {
+            message.push_str("`; there are: ")?;
+            put_list(message, words)
         }
     }
 }
 
-fn listed(alloc: Global, names: &[&str]) -> Result<String, AllocError> {
-    let mut out = String::new(alloc);
-    for name in names {
-        if !out.is_empty() {
-            out.push_str(", ")?;
-        }
-        out.push_str(name)?;
+fn put_list(message: &mut String, words: &[&str]) -> Result<(), AllocError> {
+    let mut mark = "";
+    for word in words {
+        message.push_str(mark)?;
+        message.push_str(word)?;
+        mark = ", ";
     }
-    Ok(out)
+    Ok(())
 }

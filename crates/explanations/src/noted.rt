@@ -1,7 +1,7 @@
 //! Devices, with the reason why one failed.
 ghost use Rattle.std.specs.Prelude.{◌≡◌, None};
 
-use crate::frame::shown;
+use crate::shown::shown;
 use std::alloc::{AllocError, Global};
 use std::io::{Error, Read, Result, Write};
 
