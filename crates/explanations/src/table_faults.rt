@@ -10,11 +10,12 @@ use crate::shown::shown;
 use crate::tokens::part;
 use block_kinds::Parameter;
 use graph_file::FilePlace;
-use kind_keys::table::{text_at, value_at};
+use items::TagKey;
+use kind_keys::table::{has_only, keys_fault, text_at, value_at, values_at};
 use kind_keys::{Key, KeyFault, ValueForm};
 use kinds::KindName;
 use std::alloc::AllocError;
-use toml::Value;
+use toml::{Table, Value};
 
 /// Where a table is wrong, and what may stand there.
 pub(crate) fn table_finding(
@@ -83,6 +84,13 @@ fn wrong_type(document: &Document<'_>, place: FilePlace, key: Key) -> Result<Fin
             message: format!(in alloc; "`{name}` takes {shape}; this item is {found}")?,
         });
     }
+    if let Some(number) = bad_tag(key, value) {
+        let array = document.value_of(place, key);
+        return Ok(Finding {
+            place: document.item_of(array, number),
+            message: format!(in alloc; "`{name}` takes {shape}")?,
+        });
+    }
     let message = match key.form() {
         ValueForm::Choice | ValueForm::Tables if value.is_str() || value.is_array() =>
             format!(in alloc; "`{name}` takes {shape}")?,
@@ -112,6 +120,28 @@ fn misfit(key: Key, value: &Value) -> Option<(usize, &'static str)> {
         }
     }
     None
+}
+
+// The first table of the tags of a feed that is no tag.
+fn bad_tag(key: Key, value: &Value) -> Option<usize> {
+    if key != Key::Marks {
+        return None;
+    }
+    for (number, item) in value.as_array()?.iter().enumerate() {
+        if let Some(table) = item.as_table() {
+            if !is_tag(table) {
+                return Some(number);
+            }
+        }
+    }
+    None
+}
+
+fn is_tag(table: &Table) -> bool {
+    let keys = [Key::MarkAt, Key::MarkKey, Key::MarkValue];
+    has_only(table, &keys)
+        && keys_fault(table, &keys).is_none()
+        && TagKey::new(text_at(table, Key::MarkKey).as_bytes()).is_some()
 }
 
 fn unknown_kind(document: &Document<'_>, place: FilePlace) -> Result<Finding, AllocError> {
@@ -145,5 +175,31 @@ fn bad_parameter(
     let range = range_text(document, place, parameter)?;
     let name = parameter.text();
     let message = format!(in document.alloc; "`{name}` of {owner} takes {range}")?;
-    Ok(document.at_value(place, Key::Parameter(parameter), message))
+    let value = document.value_of(place, Key::Parameter(parameter));
+    Ok(Finding {
+        place: match bad_number(document, place, parameter) {
+            Some(number) => document.item_of(value, number),
+            None => value,
+        },
+        message,
+    })
+}
+
+// The first number of a list that may not stand in it, whatever stands beside it.
+fn bad_number(document: &Document<'_>, place: FilePlace, parameter: Parameter) -> Option<usize> {
+    let (least, most) = match parameter {
+        Parameter::Map => (0, 255),
+        Parameter::Taps => (-32768, 32767),
+        Parameter::Lengths => (1, 1024),
+        _ => return None,
+    };
+    let values = values_at(document.table_at(place)?, Key::Parameter(parameter));
+    for (number, value) in values.iter().enumerate() {
+        if let Some(found) = value.as_integer() {
+            if found < least || most < found {
+                return Some(number);
+            }
+        }
+    }
+    None
 }
