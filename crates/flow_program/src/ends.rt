@@ -71,23 +71,35 @@ impl<T: Drop> From<AllocFailed<T>> for EndsFault {
 impl<'a> Ends<'a> {
     /// The ends that the words of a call name.
     pub fn of_words(alloc: Global, matches: &ArgMatches<'a>) -> Result<Ends<'a>, EndsFault> {
-        let ends = Ends {
-            order: if matches.get_flag("big-endian") {
-                ByteOrder::Big
-            } else {
-                ByteOrder::Little
-            },
-            inputs: named(alloc, matches.get_strs("input"))?,
-            outputs: named(alloc, matches.get_strs("output"))?,
-            tags: named(alloc, matches.get_strs("tags"))?,
+        let order = if matches.get_flag("big-endian") {
+            ByteOrder::Big
+        } else {
+            ByteOrder::Little
         };
-        if names_twice(&ends.outputs) || names_twice(&ends.tags) {
+        let mut ends = Ends {
+            order,
+            inputs: Vec::new(alloc),
+            outputs: Vec::new(alloc),
+            tags: Vec::new(alloc),
+        };
+        match ends.fill(alloc, matches) {
+            Ok(()) => Ok(ends),
+            Err(fault) => Err(fault),
+        }
+    }
+
+    // Adds the ends of all words. (It owns nothing that an early return would have to drop, which the prover pays for at each.)
+    fn fill(&mut self, alloc: Global, matches: &ArgMatches<'a>) -> Result<(), EndsFault> {
+        add_ends(&mut self.inputs, matches.get_strs("input"))?;
+        add_ends(&mut self.outputs, matches.get_strs("output"))?;
+        add_ends(&mut self.tags, matches.get_strs("tags"))?;
+        if names_twice(alloc, &self.outputs)? || names_twice(alloc, &self.tags)? {
             return Err(EndsFault::BlockTwice);
         }
-        if is_twice(&ends.inputs, &[]) || is_twice(&ends.outputs, &ends.tags) {
+        if 1 < standard_ends(&self.inputs) || 1 < self.standard_outputs() {
             return Err(EndsFault::StreamTwice);
         }
-        Ok(ends)
+        Ok(())
     }
 
     /// Whether there are none.
@@ -99,37 +111,59 @@ impl<'a> Ends<'a> {
 
     /// Whether standard output has items or tags.
     pub fn use_output(&self) -> bool {
-        self.outputs
-            .iter()
-            .chain(&self.tags)
-            .any(|end| end.is_standard())
+        0 < self.standard_outputs()
+    }
+
+    fn standard_outputs(&self) -> usize {
+        standard_ends(&self.outputs).saturating_add(standard_ends(&self.tags))
     }
 }
 
-// The ends of words, each split at its first `=`.
-fn named<'a>(alloc: Global, words: Option<&[&'a str]>) -> Result<Vec<NamedEnd<'a>>, EndsFault> {
-    let mut ends = Vec::new(alloc);
+// Adds the ends of words, each split at its first `=`.
+fn add_ends<'a>(ends: &mut Vec<NamedEnd<'a>>, words: Option<&[&'a str]>) -> Result<(), EndsFault> {
     let Some(words) = words else {
-        return Ok(ends);
+        return Ok(());
     };
     for word in words {
         let Some((block, path)) = word.split_once('=') else {
             return Err(EndsFault::NoPath);
         };
-        ends.push(NamedEnd { block, path })?;
+        ends.reserve(1)?;
+        ends.push_reserved(NamedEnd { block, path });
     }
-    Ok(ends)
+    Ok(())
 }
 
 // Whether two ends are of one block.
-fn names_twice(ends: &[NamedEnd<'_>]) -> bool {
-    ends.iter().enumerate().any(|(number, end)| ends[..number]
-        .iter()
-        .any(|other| other.block == end.block))
+fn names_twice(alloc: Global, ends: &[NamedEnd<'_>]) -> Result<bool, AllocError> {
+    let mut blocks = Vec::new(alloc);
+    for end in ends {
+        blocks.reserve(1)?;
+        blocks.push_reserved(end.block);
+    }
+    blocks.sort_unstable();
+    Ok(stand_side_by_side(&blocks))
 }
 
-// Whether more than one of all these ends is the standard stream.
-fn is_twice(ends: &[NamedEnd<'_>], more: &[NamedEnd<'_>]) -> bool {
-    let streams = ends.iter().chain(more).filter(|end| end.is_standard());
-    1 < streams.count()
+// Whether two that are equal stand side by side.
+fn stand_side_by_side(names: &[&str]) -> bool {
+    for pair in names.windows(2) {
+        if let [first, second] = pair {
+            if first == second {
+                return true;
+            }
+        }
+    }
+    false
+}
+
+// How many ends are the standard stream.
+fn standard_ends(ends: &[NamedEnd<'_>]) -> usize {
+    let mut count = 0usize;
+    for end in ends {
+        if end.is_standard() {
+            count = count.saturating_add(1);
+        }
+    }
+    count
 }

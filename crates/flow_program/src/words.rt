@@ -3,9 +3,9 @@
 ghost use Rattle.std.specs.Prelude.{◌≡◌, ◌&&◌, not, if◌then◌else◌};
 ghost use Rattle.flow.specs.declared.stalls.Notes.TheVariants.{Shown, Hidden};
 
-use super::ends::Ends;
+use super::ends::{Ends, EndsFault};
 use clap::error::ErrorKind;
-use clap::{Arg, ArgAction};
+use clap::{Arg, ArgAction, ArgMatches};
 use drawings::Format;
 use flow::serve::Action;
 use flow::stalls::Notes;
@@ -47,11 +47,38 @@ impl Call<'_> {
 /// The call that the words ask for; the first word is none of them.
 pub fn call_of<'a>(alloc: Global, words: &'a [String]) -> Result<Call<'a>, clap::Error> {
     let mut flow = commands(alloc)?;
-    let matches = flow.try_get_matches_from_mut(words)?;
+    match flow.try_get_matches_from_mut(words) {
+        Ok(matches) => match call_in(alloc, &matches) {
+            Ok(call) => Ok(call),
+            Err(fault) => Err(error_of(&mut flow, fault)),
+        },
+        Err(error) => Err(error),
+    }
+}
+
+// The call of words that `clap` took.
+fn call_in<'a>(alloc: Global, matches: &ArgMatches<'a>) -> Result<Call<'a>, EndsFault> {
+    // (that a command and its file are there is known of words that were taken)
     let Some((name, inner)) = matches.subcommand() else {
-        return Err(clap::Error::from(AllocError));
+        return Err(EndsFault::Memory);
     };
-    let action = match name {
+    let Some(path) = inner.get_str("FILE") else {
+        return Err(EndsFault::Memory);
+    };
+    match Ends::of_words(alloc, inner) {
+        Ok(ends) => Ok(Call {
+            action: action_of(name, inner),
+            path,
+            is_quiet: inner.get_flag("quiet"),
+            explains: inner.get_flag("explain"),
+            ends,
+        }),
+        Err(fault) => Err(fault),
+    }
+}
+
+fn action_of(name: &str, inner: &ArgMatches<'_>) -> Action {
+    match name {
         "check" if inner.get_flag("feeds") => Action::CheckFeeds,
         "check" => Action::Check,
         "draw" => Action::Draw(format_of(inner.get_str("format"))),
@@ -59,25 +86,18 @@ pub fn call_of<'a>(alloc: Global, words: &'a [String]) -> Result<Call<'a>, clap:
         "run" => Action::Run,
         "live" => Action::Live,
         _ => Action::Script,
+    }
+}
+
+// What `clap` says of words that name no ends.
+fn error_of(flow: &mut clap::Command<'_>, fault: EndsFault) -> clap::Error {
+    let said = match fault.text() {
+        Some(text) => flow.error(ErrorKind::ValueValidation, text),
+        None => Err(AllocError),
     };
-    let ends = match Ends::of_words(alloc, inner) {
-        Ok(ends) => ends,
-        Err(fault) => {
-            return Err(match fault.text() {
-                Some(text) => flow.error(ErrorKind::ValueValidation, text)?,
-                None => clap::Error::from(AllocError),
-            });
-        }
-    };
-    match inner.get_str("FILE") {
-        Some(path) => Ok(Call {
-            action,
-            path,
-            is_quiet: inner.get_flag("quiet"),
-            explains: inner.get_flag("explain"),
-            ends,
-        }),
-        None => Err(clap::Error::from(AllocError)),
+    match said {
+        Ok(error) => error,
+        Err(refusal) => clap::Error::from(refusal),
     }
 }
 
@@ -89,78 +109,80 @@ fn format_of(word: Option<&str>) -> Format {
     }
 }
 
-// The words that the program knows.
+// The words that the program knows. (Here and below a value is made where it is handed on, so that no early return has another to drop.)
 fn commands<'a>(alloc: Global) -> Result<clap::Command<'a>, clap::Error> {
     // The name of the built file is another.
-    Ok(
-        clap::Command::new(alloc, "flow")
-            .bin_name("flow")?
-            .version(VERSION)
-            .about("Runs a flowgraph that a file describes")
-            .subcommand_required(true)
-            .subcommand(check_command(alloc)?)?
-            .subcommand(draw_command(alloc)?)?
-            .subcommand(run_command(alloc)?)?
-            .subcommand(live_command(alloc)?)?
-            .subcommand(subcommand(
-                alloc,
-                "script",
-                "Runs the commands of standard input on the graph",
-            )?)?,
-    )
+    let flow = clap::Command::new(alloc, "flow")
+        .bin_name("flow")?
+        .version(VERSION)
+        .about("Runs a flowgraph that a file describes")
+        .subcommand_required(true);
+    let flow = with_command(flow, check_command(alloc))?;
+    let flow = with_command(flow, draw_command(alloc))?;
+    let flow = with_command(flow, run_command(alloc))?;
+    let flow = with_command(flow, live_command(alloc))?;
+    with_command(flow, script_command(alloc))
+}
+
+fn with_command<'a>(
+    flow: clap::Command<'a>,
+    command: Result<clap::Command<'a>, clap::Error>,
+) -> Result<clap::Command<'a>, clap::Error> {
+    match command {
+        Ok(command) => Ok(flow.subcommand(command)?),
+        Err(error) => Err(error),
+    }
 }
 
 fn check_command<'a>(alloc: Global) -> Result<clap::Command<'a>, clap::Error> {
-    let feeds = Arg::new(alloc, "feeds")
-        .long("feeds")
-        .action(ArgAction::SetTrue)
-        .help("Tests the feeds too, as a run would");
     let check = subcommand(alloc, "check", "Reads the graph and reports on it")?;
+    let feeds = flag(alloc, "feeds", "Tests the feeds too, as a run would");
     Ok(check.arg(feeds)?)
 }
 
 fn draw_command<'a>(alloc: Global) -> Result<clap::Command<'a>, clap::Error> {
+    let draw = subcommand(
+        alloc,
+        "draw",
+        "Writes the graph as text from which a picture is made",
+    )?;
     let format = Arg::new(alloc, "format")
         .long("format")
         .value_name("FORMAT")
         .value_parser(["dot", "mermaid"].as_slice())
         .default_value("dot")
         .help("The language of the text");
-    Ok(subcommand(
-        alloc,
-        "draw",
-        "Writes the graph as text from which a picture is made",
-    )?
-    .arg(format)?)
+    Ok(draw.arg(format)?)
 }
 
 fn run_command<'a>(alloc: Global) -> Result<clap::Command<'a>, clap::Error> {
-    let one_thread = Arg::new(alloc, "one-thread")
-        .long("one-thread")
-        .action(ArgAction::SetTrue)
-        .help("Runs all blocks on one thread");
     let run = subcommand(
         alloc,
         "run",
         "Runs the graph and prints what its sinks hold",
     )?;
-    with_ends(alloc, run.arg(quiet(alloc))?.arg(one_thread)?)
+    let run = run.arg(quiet(alloc))?;
+    let run = run.arg(flag(alloc, "one-thread", "Runs all blocks on one thread"))?;
+    with_ends(alloc, run)
 }
 
 // The words for files of raw items.
 fn with_ends<'a>(alloc: Global, run: clap::Command<'a>) -> Result<clap::Command<'a>, clap::Error> {
-    let big_endian = Arg::new(alloc, "big-endian")
-        .long("big-endian")
-        .action(ArgAction::SetTrue)
-        .help("Takes the highest byte of a raw item as its first");
+    let run = run.arg(flag(
+        alloc,
+        "big-endian",
+        "Takes the highest byte of a raw item as its first",
+    ))?;
     let input = ends(alloc, "input", "Feeds the raw items of a file to a source").short('i');
+    let run = run.arg(input)?;
     let output = ends(alloc, "output", "Writes the items of a sink to a file, raw").short('o');
+    let run = run.arg(output)?;
     let tags = ends(
         alloc,
         "tags",
         "Writes the tags of a sink to a file, a line each",
     );
-    Ok(run.arg(big_endian)?.arg(input)?.arg(output)?.arg(tags)?)
+    Ok(run.arg(tags)?)
 }
 
 // A word for files, each with its block.
@@ -173,21 +195,38 @@ fn ends<'a>(alloc: Global, name: &'a str, help: &'a str) -> Arg<'a> {
 }
 
 fn live_command<'a>(alloc: Global) -> Result<clap::Command<'a>, clap::Error> {
-    Ok(subcommand(
+    let live = subcommand(
         alloc,
         "live",
         "Runs the graph while the commands of standard input are done",
-    )?
-    .arg(quiet(alloc))?)
+    )?;
+    Ok(live.arg(quiet(alloc))?)
+}
+
+fn script_command<'a>(alloc: Global) -> Result<clap::Command<'a>, clap::Error> {
+    subcommand(
+        alloc,
+        "script",
+        "Runs the commands of standard input on the graph",
+    )
 }
 
 // The word that turns off what is written beside the report.
 fn quiet<'a>(alloc: Global) -> Arg<'a> {
-    Arg::new(alloc, "quiet")
-        .short('q')
-        .long("quiet")
+    flag(
+        alloc,
+        "quiet",
+        "Shows neither progress nor why a run stalled",
+    )
+    .short('q')
+}
+
+// A word that stands for itself.
+fn flag<'a>(alloc: Global, name: &'a str, help: &'a str) -> Arg<'a> {
+    Arg::new(alloc, name)
+        .long(name)
         .action(ArgAction::SetTrue)
-        .help("Shows neither progress nor why a run stalled")
+        .help(help)
 }
 
 // A subcommand that takes a graph file, with its line of help.
@@ -200,14 +239,6 @@ fn subcommand<'a>(
         .required(true)
         .action(ArgAction::Set)
         .help("The graph file");
-    let explain = Arg::new(alloc, "explain")
-        .long("explain")
-        .action(ArgAction::SetTrue)
-        .help("Shows the place of what is refused");
-    Ok(
-        clap::Command::new(alloc, name)
-            .about(help)
-            .arg(file)?
-            .arg(explain)?,
-    )
+    let command = clap::Command::new(alloc, name).about(help).arg(file)?;
+    Ok(command.arg(flag(alloc, "explain", "Shows the place of what is refused"))?)
 }
