@@ -4,11 +4,13 @@
 mod ends;
 mod explaining;
 mod raw;
+mod refusing;
 mod terminal;
 mod words;
 
 use crate::explaining::{REFUSED, explain_device, explain_file, explain_line};
 use crate::raw::run_raw;
+use crate::refusing::{begins_none, buffered};
 use crate::terminal::Terminal;
 use crate::words::{Call, call_of};
 use clap::error::ErrorKind;
@@ -16,7 +18,7 @@ use explanations::{KeptLines, Noted};
 use flow::serve::serve;
 use flow::start::StartFault;
 use script_text::{ReadEnd, WriteEnd};
-use std::io::IsTerminal;
+use std::io::{IsTerminal, Write};
 use std::process::ExitCode;
 use std::sync::Wait;
 use std::thread::Threads;
@@ -48,13 +50,6 @@ fn status<R: Threads + Wait + Copy + Send + Sync + 'static>(threads: R, rt: &Hos
     }
 }
 
-// Tells why no command is begun.
-fn begins_none(rt: &HostRuntime, fault: StartFault) -> u8 {
-    let text = fault.text();
-    let _ = eprint!(rt; "{text}");
-    fault.status()
-}
-
 fn run<R: Threads + Wait + Copy + Send + Sync + 'static>(
     threads: R,
     rt: &HostRuntime,
@@ -78,7 +73,7 @@ fn run<R: Threads + Wait + Copy + Send + Sync + 'static>(
     let reader = ReadEnd::new(Noted::new(rt.reader()));
     let mut input = KeptLines::new(rt.alloc(), reader, call.explains);
     let mut output = WriteEnd::new(Noted::new(std::io::writer(rt)));
-    let mut errors = WriteEnd::new(rt.stderr());
+    let mut errors = buffered(rt.alloc(), rt.stderr());
     let status = serve(
         threads,
         rt.alloc(),
@@ -90,6 +85,7 @@ fn run<R: Threads + Wait + Copy + Send + Sync + 'static>(
         &mut errors,
         &mut terminal,
     );
+    let _ = errors.writer.flush();
     if call.explains {
         if status == REFUSED && !explain_file(rt, &call, &file) {
             explain_line(rt, &call, &input);

@@ -2,6 +2,7 @@
 
 use crate::ends::{Ends, NamedEnd};
 use crate::explaining::{explain_device, explain_end, explain_file};
+use crate::refusing::buffered;
 use crate::words::Call;
 use explanations::Noted;
 use flow::fault::Fault;
@@ -14,7 +15,7 @@ use flow::telling::report_raw;
 use plant::{BlockId, Watch};
 use script_text::{ByteOut, ReadEnd, WriteEnd};
 use std::fs;
-use std::io::{Error, ErrorKind};
+use std::io::{Error, ErrorKind, Write};
 use std::sync::Wait;
 use std::thread::Threads;
 
@@ -26,11 +27,16 @@ pub fn run_raw<R: Threads + Wait + Copy + Send + 'static, W: Watch>(
     file: &[u8],
     watch: &mut W,
 ) -> u8 {
+    let mut errors = buffered(rt.alloc(), rt.stderr());
     let mut reason = None;
     match obey(threads, rt, call, file, watch, &mut reason) {
-        Ok(status) => status,
+        Ok(ran) => {
+            ran.remark(rt.alloc(), call.notes(), &mut errors);
+            ran.status()
+        }
         Err(fault) => {
-            report_raw(&fault, &mut WriteEnd::new(rt.stderr()));
+            report_raw(&fault, &mut errors);
+            let _ = errors.writer.flush();
             if call.explains {
                 explain(rt, call, file, &fault, reason);
             }
@@ -46,7 +52,7 @@ fn obey<R: Threads + Wait + Copy + Send + 'static, W: Watch>(
     file: &[u8],
     watch: &mut W,
     reason: &mut Option<Error>,
-) -> Result<u8, RawFault> {
+) -> Result<RanRaw, RawFault> {
     let ends = &call.ends;
     let mut run = RawRun::open(rt.alloc(), file)?;
     for (number, end) in ends.inputs.iter().enumerate() {
@@ -66,8 +72,7 @@ fn obey<R: Threads + Wait + Copy + Send + 'static, W: Watch>(
         write_tags(rt, &ran, number, end, *sink, reason)?;
     }
     tell(rt, &ran, ends, &outputs)?;
-    ran.remark(rt.alloc(), call.notes(), &mut WriteEnd::new(rt.stderr()));
-    Ok(ran.status())
+    Ok(ran)
 }
 
 // Shows what stands behind a fault, at which a device may have failed for a reason.
