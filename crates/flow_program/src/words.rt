@@ -109,16 +109,35 @@ fn format_of(word: Option<&str>) -> Format {
     }
 }
 
-// The words that the program knows. (Here and below a value is made where it is handed on, so that no early return has another to drop.)
+// The words that the program knows. (Here and below a value is made where it is handed on, so that no early return has another to drop; and few follow one another.)
 fn commands<'a>(alloc: Global) -> Result<clap::Command<'a>, clap::Error> {
+    let flow = bare_flow(alloc)?;
+    let flow = with_reports(alloc, flow)?;
+    with_runs(alloc, flow)
+}
+
+fn bare_flow<'a>(alloc: Global) -> Result<clap::Command<'a>, clap::Error> {
     // The name of the built file is another.
-    let flow = clap::Command::new(alloc, "flow")
-        .bin_name("flow")?
-        .version(VERSION)
-        .about("Runs a flowgraph that a file describes")
-        .subcommand_required(true);
+    Ok(
+        clap::Command::new(alloc, "flow")
+            .bin_name("flow")?
+            .version(VERSION)
+            .about("Runs a flowgraph that a file describes")
+            .subcommand_required(true),
+    )
+}
+
+// The commands that run nothing.
+fn with_reports<'a>(
+    alloc: Global,
+    flow: clap::Command<'a>,
+) -> Result<clap::Command<'a>, clap::Error> {
     let flow = with_command(flow, check_command(alloc))?;
-    let flow = with_command(flow, draw_command(alloc))?;
+    with_command(flow, draw_command(alloc))
+}
+
+// And those that do.
+fn with_runs<'a>(alloc: Global, flow: clap::Command<'a>) -> Result<clap::Command<'a>, clap::Error> {
     let flow = with_command(flow, run_command(alloc))?;
     let flow = with_command(flow, live_command(alloc))?;
     with_command(flow, script_command(alloc))
