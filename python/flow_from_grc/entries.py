@@ -1,0 +1,120 @@
+"""What the table of kinds is made of: an entry says what a block of GNU Radio has, and makes of it what stands for it."""
+
+from __future__ import annotations
+
+from dataclasses import dataclass
+from typing import Callable, Mapping, Optional, Sequence, Union
+
+from .graph import ItemType, Setting
+from .nodes import Node, Part, Port
+from .settings import Settings
+
+ANY = (ItemType.BYTE, ItemType.SHORT, ItemType.INT)
+WIDE = (ItemType.SHORT, ItemType.INT)
+BYTES = (ItemType.BYTE,)
+
+MOST_PORTS = 16
+
+
+@dataclass(frozen=True)
+class Entry:
+    """A block of GNU Radio. `defaults` has the parameters that it may have, with Companion's texts for those that are not given."""
+
+    defaults: Mapping[str, str]
+    make: Callable[[Settings], Node]
+
+
+@dataclass(frozen=True)
+class Number:
+    """A parameter that is a whole number: its names here and there, its default there, and its range, which is the type's if none is given."""
+
+    key: str
+    key_there: str
+    default: str
+    least: Optional[int] = None
+    most: Optional[int] = None
+
+    def read(self, settings: Settings, item: ItemType) -> Setting:
+        """The number that the drawing gives."""
+        least = item.least if self.least is None else self.least
+        most = item.most if self.most is None else self.most
+        return settings.whole(self.key_there, least, most)
+
+
+@dataclass(frozen=True)
+class Numbers:
+    """A parameter that is a list of at most so many whole numbers in a range."""
+
+    key: str
+    key_there: str
+    default: str
+    least: int
+    most: int
+    most_count: int
+
+    def read(self, settings: Settings, _: ItemType) -> Setting:
+        """The list that the drawing gives."""
+        return settings.wholes(self.key_there, self.least, self.most, self.most_count)
+
+
+@dataclass(frozen=True)
+class Choice:
+    """A parameter that has to be this one of its words, and why."""
+
+    key_there: str
+    wanted: str
+    why: str
+
+
+# How many ports a block has on a side: so many, or as many as a parameter says.
+Ports = Union[int, str]
+
+
+def block(
+    kind: str,
+    types: Sequence[ItemType],
+    *parameters: Union[Number, Numbers],
+    inputs: Ports = 1,
+    outputs: Ports = 1,
+    ones: Sequence[str] = ("vlen",),
+    ignored: Sequence[str] = (),
+    choices: Sequence[Choice] = (),
+    first_type: str = "complex",
+    note: Callable[[Mapping[str, Setting]], str] = lambda _: "",
+) -> Entry:
+    """A block for which a kind of its own stands, with items of one of these types; where that is bytes alone it has no parameter for it. Its parameters
+    `ones` have to be 1, and `ignored` say nothing of items. `first_type` is Companion's default type, and `note` tells, of the settings, how GNU Radio's
+    block differs."""
+    is_typed = types is not BYTES
+    defaults = {it.key_there: it.default for it in parameters}
+    defaults.update({it.key_there: it.wanted for it in choices})
+    defaults.update({it: "2" for it in (inputs, outputs) if isinstance(it, str)})
+    defaults.update({it: "1" for it in ones})
+    defaults.update({it: "" for it in ignored})
+    if is_typed:
+        defaults["type"] = first_type
+
+    def make(settings: Settings) -> Node:
+        item = settings.item_type(types) if is_typed else ItemType.BYTE
+        settings.ones(*ones)
+        for it in choices:
+            settings.needs(it.key_there, it.wanted, it.why)
+        part = Part(kind, {"type": str(item)} if is_typed else {})
+        part.settings.update({it.key: it.read(settings, item) for it in parameters})
+        counts = [it if isinstance(it, int) else settings.whole(it, 1, MOST_PORTS) for it in (inputs, outputs)]
+        settings.note(note(part.settings))
+        return Node(settings.block, [item] * counts[0], [item] * counts[1], [part])
+
+    return Entry(defaults, make)
+
+
+def wire(defaults: Mapping[str, str], test: Callable[[Settings], None]) -> Entry:
+    """A block that passes its items on, once `test` has seen that this one does."""
+
+    def make(settings: Settings) -> Node:
+        ports: Sequence[Port] = [settings.item_type(ANY)]
+        settings.ones("vlen")
+        test(settings)
+        return Node(settings.block, ports, ports)
+
+    return Entry({"type": "complex", "vlen": "1", **defaults}, make)

@@ -1,0 +1,99 @@
+"""The table: what stands for each block of GNU Radio, by its id in a drawing."""
+
+from __future__ import annotations
+
+from typing import Mapping
+
+from . import chains, endings, filters, scramblers
+from .entries import ANY, BYTES, MOST_PORTS, WIDE, Choice, Entry, Number, Numbers, block, wire
+from .faults import Code
+from .graph import Setting
+from .settings import Settings
+
+# What a drawing has besides blocks of items: what it is called, how it is shown, and Python that only variables read.
+PASSED_OVER = frozenset(("options", "import", "note", "epy_module", "qtgui_appbackground", "qtgui_grbackground", "qtgui_graphicoverlay", "qtgui_tab_widget"))
+
+
+def _is_on(settings: Settings) -> None:
+    if settings.value("enabled") is not True:
+        raise settings.refused("enabled", Code.BAD_PARAMETER, "it is off and drops its items: draw a Null Sink, and disable what is behind it")
+
+
+def _keeps_no_time(settings: Settings) -> None:
+    settings.note("is left out: a graph here runs as fast as it can")
+
+
+def _delay_note(found: Mapping[str, Setting]) -> str:
+    return "gives its zeros and then all of its input; GNU Radio's leaves out as many items at the end" if found["n"] else ""
+
+
+def _decoder_note(found: Mapping[str, Setting]) -> str:
+    modulus = found["modulus"]
+    assert isinstance(modulus, int)
+    if modulus & (modulus - 1) == 0:
+        return ""
+    return "gives (x[n] - x[n-1]) mod %d; GNU Radio's gives something else where x[n] is the less, as with each modulus that is no power of two" % modulus
+
+
+_ITEMS = Number("n", "num_items", "1024", 0, 1 << 32)
+_STREAMS = Number("ports", "num_streams", "2", 1, MOST_PORTS)
+_BITS = Number("k", "k", "", 1, 8)
+_MODULUS = Number("modulus", "modulus", "", 2, 256)
+_CODING = (Choice("coding", "digital.DIFF_DIFFERENTIAL", "only DIFF_DIFFERENTIAL has a kind"),)
+_PACE = {"samples_per_second": "samp_rate", "ignoretag": "True"}
+_REGISTER = {"mask": "0x8A", "seed": "0x7F", "len": "7"}
+_FILTER = {"type": "ccc", "taps": "", "samp_delay": "0"}
+
+TABLE: Mapping[str, Entry] = {
+    # Sources and sinks.
+    "blocks_vector_source_x": Entry({"type": "complex", "vector": "(0, 0, 0)", "tags": "[]", "repeat": "True", "vlen": "1"}, endings.vector_source),
+    "blocks_file_source": Entry(
+        {"type": "complex", "file": "", "repeat": "True", "vlen": "1", "begin_tag": "pmt.PMT_NIL", "offset": "0", "length": "0"}, endings.file_source
+    ),
+    "blocks_file_sink": Entry({"type": "complex", "file": "", "vlen": "1", "unbuffered": "False", "append": "False"}, endings.file_sink),
+    "blocks_vector_sink_x": block("vector_sink", ANY, outputs=0, ignored=("reserve_items",)),
+    "blocks_null_sink": block("null_sink", ANY, outputs=0, ones=("vlen", "num_inputs"), ignored=("bus_structure_sink",)),
+    # An item for each item.
+    "blocks_add_const_vxx": block("add_const", ANY, Number("value", "const", "0")),
+    "blocks_multiply_const_vxx": block("multiply_const", WIDE, Number("value", "const", "1")),
+    "blocks_multiply_const_xx": block("multiply_const", WIDE, Number("value", "const", "0")),
+    "blocks_add_xx": block("add", WIDE, inputs="num_inputs"),
+    "blocks_and_xx": block("and", ANY, inputs="num_inputs", ones=(), first_type="int"),
+    "blocks_or_xx": block("or", ANY, inputs="num_inputs", ones=(), first_type="int"),
+    "blocks_xor_xx": block("xor", ANY, inputs="num_inputs", ones=(), first_type="int"),
+    "blocks_not_xx": block("not", ANY, ones=(), first_type="int"),
+    "blocks_char_to_short": Entry({"vlen": "1"}, chains.char_to_short),
+    "blocks_moving_average_xx": Entry({"type": "complex", "length": "1000", "scale": "1", "max_iter": "4000", "vlen": "1"}, chains.moving_average),
+    "digital_map_bb": block("map_bb", BYTES, Numbers("map", "map", "", 0, 255, 256), ones=()),
+    # Filters.
+    "fir_filter_xxx": Entry({**_FILTER, "decim": "1"}, filters.fir),
+    "interp_fir_filter_xxx": Entry({**_FILTER, "interp": "1"}, filters.interp_fir),
+    "blocks_short_to_float": Entry({"vlen": "1", "scale": "1"}, filters.short_to_float),
+    "blocks_float_to_short": Entry({"vlen": "1", "scale": "1"}, filters.float_to_short),
+    # Changes of rate and place.
+    "blocks_keep_one_in_n": block("keep_one_in_n", ANY, Number("n", "n", "1", 1, 1024)),
+    "blocks_repeat": block("repeat", ANY, Number("n", "interp", "", 1, 1024)),
+    "blocks_integrate_xx": block("integrate", WIDE, Number("n", "decim", "", 1, 1024)),
+    "blocks_head": block("head", ANY, _ITEMS),
+    "blocks_skiphead": block("skiphead", ANY, _ITEMS),
+    "blocks_delay": block("delay", ANY, Number("n", "delay", "0", 0, 65536), ones=("vlen", "num_ports"), note=_delay_note),
+    # Several ports.
+    "blocks_interleave": Entry({"type": "complex", "num_streams": "2", "blocksize": "1", "vlen": "1"}, chains.interleave),
+    "blocks_deinterleave": block("deinterleave", ANY, _STREAMS, outputs="num_streams", ones=("vlen", "blocksize")),
+    "blocks_streams_to_stream": block("interleave", ANY, _STREAMS, inputs="num_streams"),
+    "blocks_stream_to_streams": block("deinterleave", ANY, _STREAMS, outputs="num_streams"),
+    "blocks_stream_mux": Entry({"type": "complex", "lengths": "(1, 1)", "num_inputs": "2", "vlen": "1"}, chains.stream_mux),
+    # Bits.
+    "blocks_pack_k_bits_bb": block("pack_k_bits", BYTES, _BITS, ones=()),
+    "blocks_unpack_k_bits_bb": block("unpack_k_bits", BYTES, _BITS, ones=()),
+    "digital_diff_encoder_bb": block("diff_encoder", BYTES, _MODULUS, ones=(), choices=_CODING),
+    "digital_diff_decoder_bb": block("diff_decoder", BYTES, _MODULUS, ones=(), choices=_CODING, note=_decoder_note),
+    "digital_scrambler_bb": Entry(_REGISTER, scramblers.scrambler),
+    "digital_descrambler_bb": Entry(_REGISTER, scramblers.descrambler),
+    "digital_additive_scrambler_bb": Entry({**_REGISTER, "count": "0", "bits_per_byte": "1", "reset_tag_key": '""'}, scramblers.additive_scrambler),
+    # What passes items on.
+    "blocks_copy": wire({"enabled": "True", "showports": "False"}, _is_on),
+    "blocks_tag_gate": Entry({"type": "complex", "vlen": "1", "propagate_tags": "False", "single_key": '""'}, chains.tag_gate),
+    "blocks_throttle": wire(_PACE, _keeps_no_time),
+    "blocks_throttle2": wire({**_PACE, "maximum": "0", "limit": "auto"}, _keeps_no_time),
+}
