@@ -38,6 +38,7 @@ def additive_scrambler(settings: Settings) -> Node:
     if fitting != seed:
         text = "no register here begins with bits that its mask does not read; the seed 0x%X gives the same items but for these" % fitting
         raise settings.refused("seed", Code.BAD_PARAMETER, text)
+    settings.note("gives bits alone; GNU Radio's keeps the higher bits of each byte")
     return _node(settings, "additive_scrambler", bits, mask, init_before(mask, seed, bits))
 
 

@@ -104,8 +104,8 @@ class Variables:
             parts.append(self.evaluated(text, "the %s of the tag %s" % (key, shown(block.name))))
         offset, key, value = parts
         if type(offset) is not int or not isinstance(key, Symbol) or not isinstance(value, Long):
-            text = "the tag %s has not a whole offset, a pmt.intern(..) for its key and a pmt.from_long(..) for its value" % shown(block.name)
-            raise Refused(block.line, Code.TAG_PLACE, text)
+            fault = "the tag %s has not a whole offset, a pmt.intern(..) for its key and a pmt.from_long(..) for its value" % shown(block.name)
+            raise Refused(block.line, Code.TAG_PLACE, fault)
         return TagObject(offset, key.text, value.value)
 
     def _refuse_rings(self) -> None:

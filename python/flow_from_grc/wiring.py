@@ -106,7 +106,8 @@ class Wiring:
         if node.parts:
             return _Origin(node, port, node.outputs[port], 0)
         if node.block.name in passed:
-            raise Refused(node.block.line, Code.LOOP, "items go in a circle through %s" % shown(node.block.name))
+            first = min(passed[passed.index(node.block.name):], key=lambda it: self._nodes[it].block.line)
+            raise Refused(self._nodes[first].block.line, Code.LOOP, "items go in a circle through %s" % shown(first))
         before = self._to.get((node.block.name, 0))
         if before is None:
             raise AlreadyReported
