@@ -136,6 +136,10 @@ install_puts_all_in_place() {
     done <"$room/files"
     calls 0 env PATH="$room/tools" "$elsewhere/a prefix/bin/flow" by itself
     writes output "built: by,itself"
+    if python3 -c 'import yaml' 2>/dev/null; then
+        calls 0 "$elsewhere/a prefix/bin/flow-from-grc" "$top/examples/grc/rates.grc"
+        cmp -s "$room/output" "$top/examples/grc/rates.toml" || wrong "flow-from-grc as --install brings it writes something else"
+    fi
     calls 0 env HOME="$room/home" ./build_by_link --install
     [[ -x $room/home/.local/bin/flow ]] || wrong "--install without a prefix brings nothing to ~/.local"
     calls 2 ./build_by_link --fast
