@@ -110,6 +110,21 @@ def calls(tally: Tally) -> None:
         tally.is_so("no yaml", (answer.returncode, answer.stdout, answer.stderr), (127, "", wanted))
 
 
+def quotes(tally: Tally) -> None:
+    """What pages show of calls of flow-from-grc: from a line that begins with $ to the next, or to the end of the fence."""
+    call = re.compile(r"^\$ (?:\./)?flow-from-grc (.*)\n((?:(?!```|\$ ).*\n)*)", re.M)
+    with tempfile.TemporaryDirectory() as folder:
+        room = pathlib.Path(folder)
+        for name in ("examples", "tests"):
+            (room / name).symlink_to(TOP / name)
+        for page in (TOP / "docs" / "FOR_GNU_RADIO_USERS.md", EXAMPLES / "README.md"):
+            found = call.findall(page.read_text())
+            tally.is_so("%s shows calls" % page.name, bool(found), True)
+            for words, wanted in found:
+                answer = convert(words.split(), room)
+                tally.is_so("%s: %s" % (page.name, words), answer.stdout + answer.stderr, wanted)
+
+
 def sinks_of(report: str) -> List[str]:
     """The sinks of a report of flow, by their names, without the sources of tags."""
     lines = [re.sub(r"(@\S+=-?\d+)/\d+", r"\1", it) for it in report.splitlines() if it.startswith("sink ")]
@@ -176,7 +191,7 @@ def in_gnu_radio(tally: Tally) -> None:
 def main() -> int:
     """Tries all, and gives the status."""
     tally = Tally()
-    for part in (drawings, broken_drawings, calls, in_flow, in_gnu_radio):
+    for part in (drawings, broken_drawings, calls, quotes, in_flow, in_gnu_radio):
         part(tally)
     print("%d passed, %d failed" % (tally.passed, len(tally.failed)))
     return 1 if tally.failed else 0
