@@ -1,5 +1,5 @@
 -- How a run ends that callers made calls of.
-use Rattle.std.specs.Prelude.{⊤, ℕ, ◌≡◌, ◌<◌, ◌==◌, List, length, filter, get_or, [], Bool, true, false}
+use Rattle.std.specs.Prelude.{⊤, ℕ, ◌≡◌, ◌==◌, List, filter, get_or, [], Bool, true, false}
 use Rattle.stream_model.specs.Meaning.{Meaning}
 use Rattle.stream_model.specs.Machine.{is_idle, is_all_done, is_quiet}
 use Rattle.graph_model.specs.Rates.{Balanced, balance_of, capacities_of}
@@ -55,6 +55,6 @@ is_at n (caller.Worker b) = false
 abbrev pub noted_at : ℕ → List Noted → List Noted
 noted_at n = filter (λ e. is_at n e.caller)
 
--- each desk's log is what was recorded of it, in that order
+-- each desk's log is what was recorded of it, in that order, and nothing was recorded of a desk that has no log
 abbrev pub AreLogs : List (List Noted) → List Noted → Type 0
-AreLogs logs history = (n : ℕ) → n < length logs → get_or logs n [] ≡ noted_at n history
+AreLogs logs history = (n : ℕ) → get_or logs n [] ≡ noted_at n history

@@ -1,6 +1,6 @@
 //! What a history of calls is made of.
 
-ghost use Rattle.std.specs.Prelude.{◌≡◌, map, IsTrue, IfOk};
+ghost use Rattle.std.specs.Prelude.{◌≡◌, ◌≤◌, ℕ, map, false, IsTrue, IfOk};
 ghost use Rattle.std.specs.Arc.{arc_value};
 ghost use Rattle.std.specs.Option.{option_map};
 ghost use Rattle.stream_model.specs.Machine as machine;
@@ -102,6 +102,16 @@ impl Entry {
         match self.caller {
             CallerId::Desk(number) => number as usize == desk,
             CallerId::Worker(_) => false,
+        }
+    }
+
+    /// Whether a worker made the call, or the caller at one of so many desks.
+    pub fn is_within(&self, desks: usize) -> bool
+        ensures { IsTrue result → (n : ℕ) → desks ≤ n → is_at n self.now.caller ≡ false }
+    {
+        match self.caller {
+            CallerId::Desk(number) => (number as usize) < desks,
+            CallerId::Worker(_) => true,
         }
     }
 

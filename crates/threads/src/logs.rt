@@ -1,17 +1,29 @@
 //! Logs of desks beside the history of all calls.
 
-ghost use Rattle.std.specs.Prelude.{◌≡◌, map, IsTrue};
+ghost use Rattle.std.specs.Prelude.{◌≡◌, ◌≤◌, ℕ, [], map, IsTrue};
 ghost use Rattle.threads.specs.History.{noted_by};
 ghost use Rattle.threads.specs.Live.{AreLogs, noted_at};
 
 use crate::entry::Entry;
 
-/// Whether each log is what was recorded of its desk.
+/// Whether each log is what was recorded of its desk, and nothing was recorded of any other desk.
 pub fn are_logs(logs: &[Vec<Entry>], history: &[Entry]) -> bool
     ensures { IsTrue result → AreLogs (map (λ l. map noted_by l.items) logs.now) (map noted_by history.now) }
 {
     for (desk, log) in logs.iter().enumerate() {
         if !is_log(log, history, desk) {
+            return false;
+        }
+    }
+    are_within(history, logs.len())
+}
+
+// Whether nothing was recorded of a desk beyond so many.
+fn are_within(history: &[Entry], desks: usize) -> bool
+    ensures { IsTrue result → (n : ℕ) → desks ≤ n → noted_at n (map noted_by history.now) ≡ [] }
+{
+    for entry in history {
+        if !entry.is_within(desks) {
             return false;
         }
     }
