@@ -1,5 +1,6 @@
 mod Agreeing
 mod Flights
 mod Histories
+mod Owns
 mod Records
 mod Sames

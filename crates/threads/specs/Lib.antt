@@ -1,7 +1,11 @@
 pub mod Desk
+pub mod Desks
+pub mod Engine
 pub mod Fault
+pub mod Hall
 pub mod History
 pub mod Live
 pub mod Outcomes
 pub mod Recorded
 pub mod Running
+pub mod Worker

@@ -1,5 +1,5 @@
 -- How a run ends that callers made calls of.
-use Rattle.std.specs.Prelude.{⊤, ℕ, ◌≡◌, ◌==◌, List, filter, get_or, [], Bool, true, false}
+use Rattle.std.specs.Prelude.{⊤, ℕ, ◌≡◌, ◌<◌, ◌==◌, List, length, filter, get_or, [], Bool, true, false}
 use Rattle.stream_model.specs.Meaning.{Meaning}
 use Rattle.stream_model.specs.Machine.{is_idle, is_all_done, is_quiet}
 use Rattle.graph_model.specs.Rates.{Balanced, balance_of, capacities_of}

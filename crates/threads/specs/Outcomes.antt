@@ -54,3 +54,9 @@ abbrev pub GivesBack : {B P : Type 0} → (B → Meaning) → (B → B → Bool)
 GivesBack meaning eq h (Memory p) = CameBack meaning eq h p
 GivesBack meaning eq h (Thread p) = CameBack meaning eq h p
 GivesBack meaning eq h Foreign = ⊤
+
+-- a fault tells of memory and of a thread only where that was lacking
+abbrev pub IsSo : {B P : Type 0} → (memory thread : Bool) → RunFault B P → Type 0
+IsSo memory thread (Memory p) = memory ≡ true
+IsSo memory thread (Thread p) = thread ≡ true
+IsSo memory thread Foreign = ⊤

@@ -1,11 +1,16 @@
 //! A run in threads in which callers make calls of the plant.
 
-ghost use Rattle.std.specs.Prelude.{◌≡◌, ◌≤◌, map, true, IfOk, IfErr, vec_len};
+ghost use Rattle.std.specs.Prelude.{◌≡◌, ◌≤◌, map, true, false, not, Some, IfOk, IfErr, IfSome, vec_len};
+ghost use Rattle.std.specs.Arc.{arc_value};
+ghost use Rattle.std.specs.Option.{is_some};
 ghost use Rattle.stream_model.specs.Machine.{is_idle};
+ghost use Rattle.threads.specs.Desks.{IsEmpty};
 ghost use Rattle.threads.specs.History.{noted_by};
 ghost use Rattle.threads.specs.Live.{AreLogs, EndsLive, GivesBackLive, opening_of};
+ghost use Rattle.threads.specs.Outcomes.{IsSo};
 
-use crate::desk::{Caller, Desk};
+use crate::desk::Caller;
+use crate::desks::{Came, Room, at_desks};
 use crate::engine::Engine;
 use crate::entry::Entry;
 use crate::fault::RunFault;
@@ -16,15 +21,15 @@ use crate::logs::are_logs;
 use crate::outcome::Outcome;
 use crate::recorded::Recorded;
 use crate::seats::Seats;
+use crate::shared::Shared;
 use crate::turns::Turns;
-use crate::woken::Woken;
-use crate::worker::{Shared, work};
+use crate::worker::work;
 use flowgraph::{Block, BlockId, Valid};
 use plant::{Opening, Plant, Unwatched, Watch};
 use std::alloc::{AllocError, Global};
 use std::sync::{Arc, Mutex, Wait};
 use std::thread;
-use std::thread::{JoinHandle, Parker, Scope, Threads};
+use std::thread::{Parker, Scope, Threads};
 
 /// How a run with callers ended.
 #[derive(Debug, Drop)]
@@ -61,6 +66,8 @@ where
     requires few { vec_len callers ≤ 16 }
     ensures ends { IfOk result (λ f. EndsLive B.meaning B.eq (opening_of plant) (map noted_by f.history.items) f.outcome) }
     ensures logs { IfOk result (λ f. AreLogs (map (λ l. map noted_by l.items) f.logs.items) (map noted_by f.history.items)) }
+    ensures callers { IfOk result (λ f. vec_len f.callers ≡ vec_len callers) }
+    ensures logged { IfOk result (λ f. vec_len f.logs ≡ vec_len callers) }
     ensures err { IfErr result (GivesBackLive B.meaning B.eq (opening_of plant)) }
 {
     live_watched(rt, alloc, plant, gate, callers, turns, &mut Unwatched)
@@ -88,6 +95,8 @@ where
     requires few { vec_len callers ≤ 16 }
     ensures ends { IfOk result (λ f. EndsLive B.meaning B.eq (opening_of plant) (map noted_by f.history.items) f.outcome) }
     ensures logs { IfOk result (λ f. AreLogs (map (λ l. map noted_by l.items) f.logs.items) (map noted_by f.history.items)) }
+    ensures callers { IfOk result (λ f. vec_len f.callers ≡ vec_len callers) }
+    ensures logged { IfOk result (λ f. vec_len f.logs ≡ vec_len callers) }
     ensures err { IfErr result (GivesBackLive B.meaning B.eq (opening_of plant)) }
 {
     let (hall, rooms) = prepare(alloc, plant, callers.len())?;
@@ -95,39 +104,18 @@ where
         opening,
         graph,
         beds,
-        came,
+        room,
     } = rooms;
     let shared = Shared {
         hall: Mutex::new(hall),
         beds,
         lookout: Parker::new(),
         gate,
+        turns,
     };
-    let came = in_scope(rt, alloc, &shared, &graph, callers, came, turns, watch);
+    let came = in_scope(rt, alloc, &shared, &graph, callers, room, watch);
     let Shared { hall, .. } = shared;
     ended(hall.into_inner(), &opening, came)
-}
-
-// What the callers' threads returned.
-#[derive(Drop)]
-struct Came<C: Drop> {
-    callers: Vec<C>,
-    logs: Vec<Vec<Entry>>,
-    desks: Vec<JoinHandle<(C, Vec<Entry>)>>,
-    // Whether each thread could be started.
-    all: bool,
-}
-
-impl<C: Drop + Send> Came<C> {
-    // Room for what so many callers return.
-    fn new(alloc: Global, callers: usize) -> Result<Came<C>, AllocError> {
-        Ok(Came {
-            callers: Vec::with_capacity(alloc, callers)?,
-            logs: Vec::with_capacity(alloc, callers)?,
-            desks: Vec::with_capacity(alloc, callers)?,
-            all: true,
-        })
-    }
 }
 
 // What a run needs that lies beside its lock.
@@ -136,7 +124,7 @@ struct Rooms<B: Block, C: Drop> {
     opening: Opening<B>,
     graph: Arc<Valid<B>, Global>,
     beds: Vec<Parker>,
-    came: Came<C>,
+    room: Room<C>,
 }
 
 // All that a run needs.
@@ -146,8 +134,11 @@ fn prepare<B: Block, C: Drop + Send>(
     callers: usize,
 ) -> Result<(Hall<B>, Rooms<B, C>), RunFault<B>>
     requires idle { is_idle plant.state ≡ true }
-    ensures ok { IfOk result (λ p. p.1.opening ≡ opening_of plant) }
+    ensures opening { IfOk result (λ p. p.1.opening ≡ opening_of plant) }
+    ensures graph { IfOk result (λ p. arc_value p.1.graph ≡ plant.graph) }
+    ensures room { IfOk result (λ p. IsEmpty p.1.room) }
     ensures err { IfErr result (GivesBackLive B.meaning B.eq (opening_of plant)) }
+    ensures memory { IfErr result (IsSo true false) }
 {
     match (
         rooms_of(alloc, &plant, callers),
@@ -168,7 +159,8 @@ fn prepare<B: Block, C: Drop + Send>(
 // A plant that lacked the memory to run.
 fn out_of_memory<B: Block>(plant: Plant<B>) -> RunFault<B>
     requires { is_idle plant.state ≡ true }
-    ensures { GivesBackLive B.meaning B.eq (opening_of plant) result }
+    ensures back { GivesBackLive B.meaning B.eq (opening_of plant) result }
+    ensures memory { IsSo true false result }
 {
     plant.recall();
     RunFault::Memory(plant)
@@ -180,13 +172,15 @@ fn rooms_of<B: Block, C: Drop + Send>(
     plant: &Plant<B>,
     callers: usize,
 ) -> Result<Rooms<B, C>, AllocError>
-    ensures { IfOk result (λ rooms. rooms.opening ≡ opening_of plant.now) }
+    ensures opening { IfOk result (λ rooms. rooms.opening ≡ opening_of plant.now) }
+    ensures graph { IfOk result (λ rooms. arc_value rooms.graph ≡ plant.now.graph) }
+    ensures room { IfOk result (λ rooms. IsEmpty rooms.room) }
 {
     Ok(Rooms {
         opening: plant.opening(alloc)?,
         graph: plant.share_graph()?,
         beds: make_beds(alloc, plant.graph().len())?,
-        came: Came::new(alloc, callers)?,
+        room: Room::with_capacity(alloc, callers)?,
     })
 }
 
@@ -203,7 +197,7 @@ fn locked_rooms_of<B: Block>(
     ))
 }
 
-// Runs workers and callers, and returns once all their threads have ended.
+// Runs workers and callers, and returns once all their threads have ended: with what the callers left, where each thread could be started.
 fn in_scope<
     B: Block + Send + Sync,
     G: Gate + Drop + Send + Sync,
@@ -216,18 +210,28 @@ fn in_scope<
     shared: &Shared<B, G>,
     graph: &Valid<B>,
     callers: Vec<C>,
-    came: Came<C>,
-    turns: Turns,
+    room: Room<C>,
     watch: &mut W,
-) -> Came<C>
+) -> Option<Came<C>>
 where
     B::Places: Send + Sync,
+    requires few { vec_len callers ≤ 16 }
+    requires empty { IsEmpty room }
+    ensures callers { IfSome result (λ came. vec_len came.callers ≡ vec_len callers) }
+    ensures logs { IfSome result (λ came. vec_len came.logs ≡ vec_len callers) }
 {
-    thread::scope(thread::scope_env(), rt, move |scope| {
-        let came = run_all(rt, alloc, scope, shared, graph, callers, came, turns);
-        shared.show(rt, watch);
-        came
-    })
+    thread::scope(
+        thread::scope_env(),
+        rt,
+        move |scope| -> Option<Came<C>>
+            requires { (vec_len callers ≤ 16) × IsEmpty room }
+            ensures { IfSome result (λ came. (vec_len came.callers ≡ vec_len callers) × (vec_len came.logs ≡ vec_len callers)) }
+        {
+            let came = run_all(rt, alloc, scope, shared, graph, callers, room);
+            shared.show(rt, watch);
+            came
+        },
+    )
 }
 
 // Starts a worker for each block and a thread for each caller, and waits for the callers. Where a thread cannot be started the workers leave.
@@ -247,86 +251,40 @@ fn run_all<
     shared: &'h Shared<B, G>,
     graph: &'h Valid<B>,
     callers: Vec<C>,
-    came: Came<C>,
-    turns: Turns,
-) -> Came<C>
+    room: Room<C>,
+) -> Option<Came<C>>
 where
     B::Places: Send + Sync,
+    requires few { vec_len callers ≤ 16 }
+    requires empty { IsEmpty room }
+    ensures callers { IfSome result (λ came. vec_len came.callers ≡ vec_len callers) }
+    ensures logs { IfSome result (λ came. vec_len came.logs ≡ vec_len callers) }
 {
-    let Came {
-        callers: mut back,
-        mut logs,
-        mut desks,
-        mut all,
-    } = came;
     for (block, _bed) in (0..u32::MAX).zip(&shared.beds) {
         let block = BlockId(block);
-        if scope
-            .spawn(move || work(rt, alloc, shared, block, turns))
-            .is_err()
-        {
-            all = false;
+        if scope.spawn(move || work(rt, alloc, shared, block)).is_err() {
+            shared.end(rt);
+            return None;
         }
     }
-    for (number, caller) in (0..u32::MAX).zip(callers) {
-        match scope.spawn(move || at_desk(rt, alloc, shared, graph, number, caller)) {
-            Ok(desk) => {
-                if desks.push(desk).is_err() {
-                    all = false;
-                }
-            }
-            Err(_) => all = false,
-        }
-    }
-    if !all {
+    let came = at_desks(rt, alloc, scope, shared, graph, callers, room);
+    if came.is_none() {
         shared.end(rt);
     }
-    for desk in desks {
-        let (caller, log) = desk.join(rt);
-        if back.push(caller).is_err() || logs.push(log).is_err() {
-            all = false;
-        }
-    }
-    Came {
-        callers: back,
-        logs,
-        desks: Vec::new(alloc),
-        all,
-    }
-}
-
-// A caller's thread: the caller and its log.
-fn at_desk<B: Block, G: Gate + Drop, C: Caller<B>, R: Wait>(
-    rt: &R,
-    alloc: Global,
-    shared: &Shared<B, G>,
-    graph: &Valid<B>,
-    number: u32,
-    mut caller: C,
-) -> (C, Vec<Entry>) {
-    let mut desk = Desk {
-        shared,
-        graph,
-        number,
-        log: Vec::new(alloc),
-    };
-    caller.run(rt, alloc, &mut desk);
-    let Desk { log, .. } = desk;
-    let mut woken = Woken::new();
-    shared.hall.lock(rt).caller_leaves(&mut woken);
-    shared.wake(&woken);
-    (caller, log)
+    came
 }
 
 // How a run ended that left this.
 fn ended<B: Block, C: Drop>(
     hall: Hall<B>,
     opening: &Opening<B>,
-    came: Came<C>,
+    came: Option<Came<C>>,
 ) -> Result<Finished<B, C>, RunFault<B>>
     ensures ends { IfOk result (λ f. EndsLive B.meaning B.eq opening.now (map noted_by f.history.items) f.outcome) }
     ensures logs { IfOk result (λ f. AreLogs (map (λ l. map noted_by l.items) f.logs.items) (map noted_by f.history.items)) }
+    ensures callers { IfOk result (λ f. came ≡ Some (record { callers = f.callers; logs = f.logs })) }
     ensures err { IfErr result (GivesBackLive B.meaning B.eq opening.now) }
+    ensures told { IfErr result (IsSo hall.starved (not (is_some came))) }
 {
     let Hall {
         engine,
@@ -337,18 +295,12 @@ fn ended<B: Block, C: Drop>(
     let Engine::Noted(recorded) = engine else {
         return Err(RunFault::Foreign);
     };
-    let Came {
-        callers,
-        logs,
-        all,
-        ..
-    } = came;
     let Some((plant, history)) = recorded.came_from(opening) else {
         return Err(RunFault::Foreign);
     };
-    if !all {
+    let Some(Came { callers, logs }) = came else {
         return Err(RunFault::Thread(plant));
-    }
+    };
     if !are_logs(&logs, &history) {
         return Err(RunFault::Foreign);
     }

@@ -12,8 +12,7 @@ ghost use Rattle.threads.specs.Desk.{IsLogged};
 
 use crate::entry::{Answer, Call, CallerId, Entry, Feed, Setting, shared};
 use crate::gate::Gate;
-use crate::woken::Woken;
-use crate::worker::Shared;
+use crate::shared::Shared;
 use flowgraph::{Block, BlockId, Valid};
 use items::{Items, Mark};
 use plant::{Closed, Fed, Piece, PlantFault, Taken};
@@ -35,10 +34,10 @@ pub trait Caller<B: Block> {
 /// neither. A contract sees the plant's graph, the desk's number and its log.
 #[derive(Drop)]
 pub struct Desk<'a, B: Block, G: Gate + Drop> {
-    pub(crate) shared: &'a Shared<B, G>,
-    pub(crate) graph: &'a Valid<B>,
-    pub(crate) number: u32,
-    pub(crate) log: Vec<Entry>,
+    shared: &'a Shared<B, G>,
+    graph: &'a Valid<B>,
+    number: u32,
+    log: Vec<Entry>,
 }
 
 impl<'a, B: Block, G: Gate + Drop> fmt::Debug for Desk<'a, B, G> {
@@ -58,6 +57,31 @@ impl<'a, B: Block, G: Gate + Drop> Model for Desk<'a, B, G> {
 }
 
 impl<'a, B: Block, G: Gate + Drop> Desk<'a, B, G> {
+    // A desk at which no call was made yet.
+    pub(crate) fn new(
+        alloc: Global,
+        shared: &'a Shared<B, G>,
+        graph: &'a Valid<B>,
+        number: u32,
+    ) -> Desk<'a, B, G>
+        ensures { result ≡ record { graph = graph.now; number = number; log = [] } }
+    {
+        Desk {
+            shared,
+            graph,
+            number,
+            log: Vec::new(alloc),
+        }
+    }
+
+    // The calls that were made here.
+    pub(crate) fn into_log(self) -> Vec<Entry>
+        ensures { map noted_by result.items ≡ self.entry.log }
+    {
+        let Desk { log, .. } = self;
+        log
+    }
+
     /// The plant's graph, in which blocks are found by their names.
     pub fn graph(&self) -> &Valid<B>
         ensures { result.now ≡ self.now.graph }
@@ -94,13 +118,7 @@ impl<'a, B: Block, G: Gate + Drop> Desk<'a, B, G> {
             },
         )?;
         let call = Call::Feed(Arc::try_clone(&feed)?);
-        let mut woken = Woken::new();
-        let answer = self
-            .shared
-            .hall
-            .lock(rt)
-            .feed(self.number, feed, &mut woken);
-        self.shared.wake(&woken);
+        let answer = self.shared.feed(rt, self.number, feed);
         if let Some(reply) = Answer::of_feed(answer) {
             self.log.push_reserved(Entry {
                 caller: CallerId::Desk(self.number),
@@ -116,13 +134,7 @@ impl<'a, B: Block, G: Gate + Drop> Desk<'a, B, G> {
         ensures { IsLogged (Asks (machine.Close source.0)) self.old self.new (reply_of (λ c. machine.Closed c.0) result) }
     {
         self.log.reserve(1)?;
-        let mut woken = Woken::new();
-        let answer = self
-            .shared
-            .hall
-            .lock(rt)
-            .close(self.number, source, &mut woken);
-        self.shared.wake(&woken);
+        let answer = self.shared.close(rt, self.number, source);
         if let Some(reply) = Answer::of_close(answer) {
             self.log.push_reserved(Entry {
                 caller: CallerId::Desk(self.number),
@@ -149,7 +161,7 @@ impl<'a, B: Block, G: Gate + Drop> Desk<'a, B, G> {
         let copy = value.copy(alloc)?;
         let setting = shared(alloc, Setting { block, at, value })?;
         let call = Call::Set(Arc::try_clone(&setting)?);
-        let answer = self.shared.hall.lock(rt).set(self.number, setting, copy);
+        let answer = self.shared.set(rt, self.number, setting, copy);
         if let Some(reply) = Answer::of_set(answer) {
             self.log.push_reserved(Entry {
                 caller: CallerId::Desk(self.number),
@@ -174,12 +186,7 @@ impl<'a, B: Block, G: Gate + Drop> Desk<'a, B, G> {
         self.log.reserve(1)?;
         let call = Call::Read(sink, from, max);
         let caller = CallerId::Desk(self.number);
-        match self
-            .shared
-            .hall
-            .lock(rt)
-            .read(alloc, self.number, sink, from, max)
-        {
+        match self.shared.read(rt, alloc, self.number, sink, from, max) {
             Ok((piece, noted)) => {
                 self.log.push_reserved(Entry {
                     caller,
@@ -207,8 +214,6 @@ impl<'a, B: Block, G: Gate + Drop> Desk<'a, B, G> {
     pub fn stop<R: Wait>(&mut self, rt: &R)
         ensures { self.new ≡ self.old }
     {
-        let mut woken = Woken::new();
-        self.shared.hall.lock(rt).stop(&mut woken);
-        self.shared.wake(&woken);
+        self.shared.stop(rt);
     }
 }

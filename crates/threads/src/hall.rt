@@ -1,11 +1,14 @@
 //! What lies under the lock: the plant, and what its workers do.
 
-ghost use Rattle.std.specs.Prelude.{◌≤◌};
+ghost use Rattle.std.specs.Prelude.{◌≡◌, ◌≤◌, ◌-◌, true, None};
+ghost use Rattle.threads.specs.declared.hall.Next.TheVariants as next;
+ghost use Rattle.threads.specs.Hall.{HasBrought, HasNext, HasTurned, IsOwn};
 
 use crate::engine::Engine;
 use crate::seats::{Seats, share_of};
 use crate::turns::Turns;
 use crate::woken::Woken;
+use crate::worker::Worker;
 use flowgraph::{Block, BlockId};
 use jobs::{Job, Worked};
 use plant::{Claim, Need};
@@ -39,7 +42,9 @@ pub struct Hall<B: Block> {
 
 impl<B: Block> Hall<B> {
     /// All workers work, and so many callers have not returned.
-    pub fn new(engine: Engine<B>, seats: Seats, callers: usize) -> Hall<B> {
+    pub fn new(engine: Engine<B>, seats: Seats, callers: usize) -> Hall<B>
+        ensures { result.engine ≡ engine }
+    {
         Hall {
             engine,
             seats,
@@ -52,32 +57,84 @@ impl<B: Block> Hall<B> {
 
     /// How many firings the worker of a block claims at most.
     pub fn share(&self, block: BlockId, turns: Turns) -> u32
-        ensures { 1 ≤ result }
+        ensures some { 1 ≤ result }
+        ensures few { result ≤ turns.most }
     {
         let graph = self.engine.plant().graph();
         if (block.0 as usize) < graph.len() {
             share_of(graph, block, turns)
         } else {
-            1
+            turns.most()
         }
     }
 
-    /// The next turn of a block's worker: what it has done is committed, and its next firings are claimed.
-    pub fn turn(
-        &mut self,
-        alloc: Global,
-        block: BlockId,
-        most: u32,
-        brought: Option<Worked<B>>,
-        woken: &mut Woken,
-    ) -> Next<B>
-        requires { 1 ≤ most }
+    /// The next turn of a worker: what it has done is committed, and its next firings are claimed.
+    pub fn turn(&mut self, alloc: Global, worker: &mut Worker<B>, woken: &mut Woken) -> Next<B>
+        ensures turned { HasTurned B.meaning B.eq worker.old.block.0 worker.old.most worker.old.brought self.old self.new result }
+        ensures own { IsOwn worker.old.block.0 result }
+        ensures brought { worker.new.brought ≡ None }
+        ensures block { worker.new.block ≡ worker.old.block }
+        ensures most { worker.new.most ≡ worker.old.most }
+        ensures others { self.new ≡ record self.old { engine = self.new.engine; seats = self.new.seats; ends = self.new.ends; starved = self.new.starved } }
     {
-        self.seats.works(block);
-        if let Some(worked) = brought {
-            self.commit(worked, woken);
+        self.seats.works(worker.block);
+        self.take_back(worker.brought.take(), woken);
+        self.claim(alloc, worker.block, worker.most, woken)
+    }
+
+    /// Whether nobody works any more, or is to.
+    pub fn is_over(&self) -> bool {
+        self.ends || (self.callers == 0 && self.seats.all_rest())
+    }
+
+    /// A caller has returned. Once none is left the run ends as all rest.
+    pub fn caller_leaves(&mut self, woken: &mut Woken)
+        ensures { self.new ≡ record self.old { callers = self.old.callers - 1; seats = self.new.seats; ends = self.new.ends } }
+    {
+        self.callers = self.callers.saturating_sub(1);
+        self.look(woken);
+    }
+
+    /// The workers are to leave, each once it has committed what it works on.
+    pub fn end(&mut self, woken: &mut Woken) -> Next<B>
+        ensures others { self.new ≡ record self.old { seats = self.new.seats; ends = true } }
+        ensures leaves { result ≡ next.Leave }
+    {
+        self.ends = true;
+        woken.ends = true;
+        self.seats.wake_all(woken);
+        Next::Leave
+    }
+
+    // What comes back is none of the plant's: then the run ends, and what is held is looked at.
+    fn take_back(&mut self, brought: Option<Worked<B>>, woken: &mut Woken)
+        ensures committed { HasBrought B.meaning B.eq brought self.old.engine self.new.engine }
+        ensures others { self.new ≡ record self.old { engine = self.new.engine; seats = self.new.seats; ends = self.new.ends } }
+    {
+        let Some(worked) = brought else {
+            return;
+        };
+        let block = worked.block();
+        match self.engine.commit(worked) {
+            Ok(did) => {
+                let graph = self.engine.plant().graph();
+                if (block.0 as usize) < graph.len() {
+                    self.seats.commits(graph, block, did.0, woken);
+                }
+            }
+            Err(_) => {
+                let _ = self.end(woken);
+            }
         }
-        if self.ends || self.engine.plant().graph().len() <= block.0 as usize {
+    }
+
+    // The next firings of a block are claimed, unless the run ends.
+    fn claim(&mut self, alloc: Global, block: BlockId, most: u32, woken: &mut Woken) -> Next<B>
+        requires { 1 ≤ most }
+        ensures claimed { HasNext B.meaning block.0 most self.old self.new result }
+        ensures others { self.new ≡ record self.old { engine = self.new.engine; seats = self.new.seats; ends = self.new.ends; starved = self.new.starved } }
+    {
+        if self.ends {
             return Next::Leave;
         }
         match self.engine.claim(alloc, block, most) {
@@ -93,42 +150,10 @@ impl<B: Block> Hall<B> {
         }
     }
 
-    /// Whether nobody works any more, or is to.
-    pub fn is_over(&self) -> bool {
-        self.ends || (self.callers == 0 && self.seats.all_rest())
-    }
-
-    /// A caller has returned. Once none is left the run ends as all rest.
-    pub fn caller_leaves(&mut self, woken: &mut Woken) {
-        self.callers = self.callers.saturating_sub(1);
-        self.look(woken);
-    }
-
-    /// The workers are to leave, each once it has committed what it works on.
-    pub fn end(&mut self, woken: &mut Woken) -> Next<B> {
-        self.ends = true;
-        woken.ends = true;
-        self.seats.wake_all(woken);
-        Next::Leave
-    }
-
-    // What comes back is none of the plant's: then the run ends, and what is held is looked at.
-    fn commit(&mut self, worked: Worked<B>, woken: &mut Woken) {
-        let block = worked.block();
-        match self.engine.commit(worked) {
-            Ok(did) => {
-                let graph = self.engine.plant().graph();
-                if (block.0 as usize) < graph.len() {
-                    self.seats.commits(graph, block, did.0, woken);
-                }
-            }
-            Err(_) => {
-                let _ = self.end(woken);
-            }
-        }
-    }
-
-    fn sleep(&mut self, block: BlockId, need: Need, woken: &mut Woken) -> Next<B> {
+    fn sleep(&mut self, block: BlockId, need: Need, woken: &mut Woken) -> Next<B>
+        ensures others { self.new ≡ record self.old { seats = self.new.seats; ends = self.new.ends } }
+        ensures sleeps { result ≡ next.Sleep }
+    {
         let graph = self.engine.plant().graph();
         if (block.0 as usize) < graph.len() {
             self.seats.waits(graph, block, need, woken);
@@ -137,7 +162,10 @@ impl<B: Block> Hall<B> {
         Next::Sleep
     }
 
-    fn leave(&mut self, block: BlockId, woken: &mut Woken) -> Next<B> {
+    fn leave(&mut self, block: BlockId, woken: &mut Woken) -> Next<B>
+        ensures others { self.new ≡ record self.old { seats = self.new.seats; ends = self.new.ends } }
+        ensures leaves { result ≡ next.Leave }
+    {
         let graph = self.engine.plant().graph();
         if (block.0 as usize) < graph.len() {
             self.seats.leaves(graph, block, woken);
@@ -147,7 +175,9 @@ impl<B: Block> Hall<B> {
     }
 
     // Once all rest and no caller is left the run is over, or a worker slept though it could act: then all look again.
-    fn look(&mut self, woken: &mut Woken) {
+    fn look(&mut self, woken: &mut Woken)
+        ensures { self.new ≡ record self.old { seats = self.new.seats; ends = self.new.ends } }
+    {
         if 0 < self.callers || !self.seats.all_rest() {
             return;
         }

@@ -1,13 +1,16 @@
 //! The calls that callers make under the lock.
 
-ghost use Rattle.std.specs.Prelude.{◌≡◌, IfOk};
+ghost use Rattle.std.specs.Prelude.{◌≡◌, true, IfOk};
 ghost use Rattle.std.specs.Arc.{arc_value};
+ghost use Rattle.stream_model.specs.Machine as machine;
 ghost use Rattle.settings.specs.Values.{value_of};
+ghost use Rattle.plant.specs.Answers.{piece_reply, reply_of};
+ghost use Rattle.threads.specs.declared.entry.Call.TheVariants as call;
+ghost use Rattle.threads.specs.Engine.{HasCalled};
+ghost use Rattle.threads.specs.History.{asked_by};
 
-use crate::engine::Engine;
 use crate::entry::{Feed, Setting};
 use crate::hall::Hall;
-use crate::recorded::Recorded;
 use crate::woken::Woken;
 use flowgraph::{Block, BlockId};
 use plant::{Closed, Fed, Piece, PlantFault, Taken};
@@ -22,9 +25,12 @@ impl<B: Block> Hall<B> {
         desk: u32,
         feed: Arc<Feed, Global>,
         woken: &mut Woken,
-    ) -> Result<Fed, PlantFault> {
+    ) -> Result<Fed, PlantFault>
+        ensures called { HasCalled B.meaning desk (asked_by (call.Feed feed)) self.old.engine self.new.engine (reply_of (λ f. machine.Fed f.0) result) }
+        ensures others { self.new ≡ record self.old { engine = self.new.engine; seats = self.new.seats } }
+    {
         let source = feed.source;
-        let answer = self.recorded()?.feed(desk, feed);
+        let answer = self.engine.feed(desk, feed);
         if answer.is_ok() {
             self.seats.wake(source, woken);
         }
@@ -37,8 +43,11 @@ impl<B: Block> Hall<B> {
         desk: u32,
         source: BlockId,
         woken: &mut Woken,
-    ) -> Result<Closed, PlantFault> {
-        let answer = self.recorded()?.close(desk, source);
+    ) -> Result<Closed, PlantFault>
+        ensures called { HasCalled B.meaning desk (asked_by (call.Close source)) self.old.engine self.new.engine (reply_of (λ c. machine.Closed c.0) result) }
+        ensures others { self.new ≡ record self.old { engine = self.new.engine; seats = self.new.seats } }
+    {
+        let answer = self.engine.close(desk, source);
         if answer.is_ok() {
             self.seats.wake(source, woken);
         }
@@ -53,8 +62,10 @@ impl<B: Block> Hall<B> {
         value: Value,
     ) -> Result<Taken, PlantFault>
         requires { value_of value ≡ value_of (arc_value setting).value }
+        ensures called { HasCalled B.meaning desk (asked_by (call.Set setting)) self.old.engine self.new.engine (reply_of (λ t. machine.Taken t.0) result) }
+        ensures others { self.new ≡ record self.old { engine = self.new.engine } }
     {
-        self.recorded()?.set(desk, setting, value)
+        self.engine.set(desk, setting, value)
     }
 
     /// What a sink shows, twice.
@@ -66,22 +77,18 @@ impl<B: Block> Hall<B> {
         from: u64,
         max: u64,
     ) -> Result<(Arc<Piece, Global>, Arc<Piece, Global>), PlantFault>
-        ensures { IfOk result (λ p. arc_value p.0 ≡ arc_value p.1) }
+        ensures called { HasCalled B.meaning desk (asked_by (call.Read sink from max)) self.old.engine self.new.engine (reply_of (λ p. piece_reply (arc_value p.0)) result) }
+        ensures both { IfOk result (λ p. arc_value p.0 ≡ arc_value p.1) }
+        ensures others { self.new ≡ record self.old { engine = self.new.engine } }
     {
-        self.recorded()?.read(alloc, desk, sink, from, max)
+        self.engine.read(alloc, desk, sink, from, max)
     }
 
     /// A caller asks for the end of the run.
-    pub fn stop(&mut self, woken: &mut Woken) {
+    pub fn stop(&mut self, woken: &mut Woken)
+        ensures { self.new ≡ record self.old { seats = self.new.seats; asked = true; ends = true } }
+    {
         self.asked = true;
         let _ = self.end(woken);
-    }
-
-    // A desk stands only where calls are recorded.
-    fn recorded(&mut self) -> Result<&mut Recorded<B>, PlantFault> {
-        match &mut self.engine {
-            Engine::Noted(recorded) => Ok(recorded),
-            Engine::Plain(_) => Err(PlantFault::Memory),
-        }
     }
 }

@@ -1,8 +1,9 @@
 //! The start of a run in threads.
 
-ghost use Rattle.std.specs.Prelude.{◌≡◌, ◌≤◌, true, false, IfOk, IfErr};
+ghost use Rattle.std.specs.Prelude.{◌≡◌, ◌≤◌, true, false, IfOk, IfErr, IfSome};
+ghost use Rattle.std.specs.Arc.{arc_value};
 ghost use Rattle.stream_model.specs.Machine.{is_idle};
-ghost use Rattle.threads.specs.Outcomes.{GivesBack, handed_of};
+ghost use Rattle.threads.specs.Outcomes.{CameBack, GivesBack, IsSo, handed_of};
 
 use crate::engine::Engine;
 use crate::fault::RunFault;
@@ -10,11 +11,12 @@ use crate::gate::{Gate, Open};
 use crate::hall::Hall;
 use crate::running::{Running, came_back};
 use crate::seats::Seats;
+use crate::shared::Shared;
 use crate::turns::Turns;
-use crate::worker::{Shared, work};
+use crate::worker::work;
 use flowgraph::{Block, BlockId};
 use plant::{Handed, Plant};
-use std::alloc::{AllocError, Global};
+use std::alloc::{AllocError, AllocFailed, Global};
 use std::sync::{Arc, Mutex, Wait};
 use std::thread;
 use std::thread::{JoinHandle, Parker, Threads};
@@ -29,7 +31,7 @@ pub fn launch_open<B: Block + Send + Sync + 'static, R: Threads + Wait + Copy + 
 where
     B::Places: Send + Sync + 'static,
     requires { is_idle plant.state ≡ true }
-    ensures ok { IfOk result (λ r. r ≡ record { handed = handed_of plant; asked = false }) }
+    ensures ok { IfOk result (λ r. r ≡ record { handed = handed_of plant; asked = false; most = turns.most }) }
     ensures err { IfErr result (GivesBack B.meaning B.eq (handed_of plant)) }
 {
     let (plant, gate) = with_open_gate(alloc, plant)?;
@@ -44,6 +46,7 @@ fn with_open_gate<B: Block>(
     requires { is_idle plant.state ≡ true }
     ensures ok { IfOk result (λ p. p.0 ≡ plant) }
     ensures err { IfErr result (GivesBack B.meaning B.eq (handed_of plant)) }
+    ensures memory { IfErr result (IsSo true false) }
 {
     match Arc::new(alloc, Open) {
         Ok(gate) => Ok((plant, gate)),
@@ -54,7 +57,8 @@ fn with_open_gate<B: Block>(
 // A plant that lacked the memory to run.
 fn out_of_memory<B: Block>(plant: Plant<B>) -> RunFault<B>
     requires { is_idle plant.state ≡ true }
-    ensures { GivesBack B.meaning B.eq (handed_of plant) result }
+    ensures back { GivesBack B.meaning B.eq (handed_of plant) result }
+    ensures memory { IsSo true false result }
 {
     plant.recall();
     RunFault::Memory(plant)
@@ -80,7 +84,7 @@ pub fn launch<
 where
     B::Places: Send + Sync + 'static,
     requires { is_idle plant.state ≡ true }
-    ensures ok { IfOk result (λ r. r ≡ record { handed = handed_of plant; asked = false }) }
+    ensures ok { IfOk result (λ r. r ≡ record { handed = handed_of plant; asked = false; most = 1024 }) }
     ensures err { IfErr result (GivesBack B.meaning B.eq (handed_of plant)) }
 {
     launch_with(rt, alloc, plant, gate, Turns::default())
@@ -101,7 +105,7 @@ pub fn launch_with<
 where
     B::Places: Send + Sync + 'static,
     requires { is_idle plant.state ≡ true }
-    ensures ok { IfOk result (λ r. r ≡ record { handed = handed_of plant; asked = false }) }
+    ensures ok { IfOk result (λ r. r ≡ record { handed = handed_of plant; asked = false; most = turns.most }) }
     ensures err { IfErr result (GivesBack B.meaning B.eq (handed_of plant)) }
 {
     let Prepared {
@@ -115,10 +119,11 @@ where
         beds,
         lookout: Parker::new(),
         gate,
+        turns,
     };
     match Arc::new(alloc, shared) {
-        Ok(shared) => start_all(rt, alloc, shared, workers, handed, turns),
-        Err(refused) => Err(given_back(refused.value, &handed, true)),
+        Ok(shared) => start_all(rt, alloc, shared, workers, handed),
+        Err(refused) => Err(lacked(refused, &handed)),
     }
 }
 
@@ -127,6 +132,7 @@ fn prepare<B: Block>(alloc: Global, plant: Plant<B>) -> Result<Prepared<B>, RunF
     requires { is_idle plant.state ≡ true }
     ensures ok { IfOk result (λ p. p.handed ≡ handed_of plant) }
     ensures err { IfErr result (GivesBack B.meaning B.eq (handed_of plant)) }
+    ensures memory { IfErr result (IsSo true false) }
 {
     match rooms_of(alloc, &plant) {
         Ok((handed, seats, beds, workers)) => Ok(Prepared {
@@ -175,15 +181,15 @@ fn start_all<
     shared: Arc<Shared<B, G>, Global>,
     mut workers: Vec<JoinHandle<()>>,
     handed: Handed<B>,
-    turns: Turns,
 ) -> Result<Running<B, G>, RunFault<B>>
 where
     B::Places: Send + Sync + 'static,
-    ensures ok { IfOk result (λ r. r ≡ record { handed = handed; asked = false }) }
+    ensures ok { IfOk result (λ r. r ≡ record { handed = handed; asked = false; most = (arc_value shared).turns.most }) }
     ensures err { IfErr result (GivesBack B.meaning B.eq handed) }
+    ensures thread { IfErr result (IsSo false true) }
 {
     for (block, _bed) in (0..u32::MAX).zip(&shared.beds) {
-        match start(rt, alloc, &shared, BlockId(block), turns) {
+        match start(rt, alloc, &shared, BlockId(block)) {
             Some(worker) => {
                 if workers.push(worker).is_err() {
                     return Err(called_back(rt, shared, workers, &handed));
@@ -210,13 +216,12 @@ fn start<
     alloc: Global,
     shared: &Arc<Shared<B, G>, Global>,
     block: BlockId,
-    turns: Turns,
 ) -> Option<JoinHandle<()>>
 where
     B::Places: Send + Sync + 'static,
 {
     let shared = Arc::try_clone(shared).ok()?;
-    thread::spawn(&rt, move || work(&rt, alloc, &*shared, block, turns)).ok()
+    thread::spawn(&rt, move || work(&rt, alloc, &*shared, block)).ok()
 }
 
 // Has the workers that were started leave, and gives the plant back.
@@ -226,35 +231,50 @@ fn called_back<B: Block, G: Gate + Drop, R: Threads + Wait + Copy>(
     workers: Vec<JoinHandle<()>>,
     handed: &Handed<B>,
 ) -> RunFault<B>
-    ensures { GivesBack B.meaning B.eq handed.now result }
+    ensures back { GivesBack B.meaning B.eq handed.now result }
+    ensures thread { IsSo false true result }
 {
     shared.end(&rt);
     for worker in workers {
         worker.join(&rt);
     }
-    match Arc::try_unwrap(shared) {
-        Ok(shared) => given_back(shared, handed, false),
-        Err(_) => RunFault::Foreign,
+    let Ok(shared) = Arc::try_unwrap(shared) else {
+        return RunFault::Foreign;
+    };
+    match given_back(shared, handed) {
+        Some(plant) => RunFault::Thread(plant),
+        None => RunFault::Foreign,
     }
 }
 
-// The plant of a run that could not begin, in a fault.
+// Gives the plant back where there was no memory for what its threads share.
+fn lacked<B: Block, G: Gate + Drop>(
+    refused: AllocFailed<Shared<B, G>>,
+    handed: &Handed<B>,
+) -> RunFault<B>
+    ensures back { GivesBack B.meaning B.eq handed.now result }
+    ensures memory { IsSo true false result }
+{
+    match given_back(refused.value, handed) {
+        Some(plant) => RunFault::Memory(plant),
+        None => RunFault::Foreign,
+    }
+}
+
+// The plant of a run that could not begin, where it has what was handed in.
 fn given_back<B: Block, G: Gate + Drop>(
     shared: Shared<B, G>,
     handed: &Handed<B>,
-    is_memory: bool,
-) -> RunFault<B>
-    ensures { GivesBack B.meaning B.eq handed.now result }
+) -> Option<Plant<B>>
+    ensures { IfSome result (CameBack B.meaning B.eq handed.now) }
 {
     let Hall { engine, .. } = shared.hall.into_inner();
     let Engine::Plain(plant) = engine else {
-        return RunFault::Foreign;
+        return None;
     };
-    if !came_back(&plant, handed) {
-        RunFault::Foreign
-    } else if is_memory {
-        RunFault::Memory(plant)
+    if came_back(&plant, handed) {
+        Some(plant)
     } else {
-        RunFault::Thread(plant)
+        None
     }
 }

@@ -3,6 +3,7 @@
 
 mod calling;
 pub mod desk;
+mod desks;
 mod engine;
 pub mod entry;
 pub mod fault;
@@ -16,6 +17,7 @@ pub mod outcome;
 mod recorded;
 pub mod running;
 mod seats;
+mod shared;
 pub mod turns;
 mod woken;
 mod worker;

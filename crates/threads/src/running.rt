@@ -2,7 +2,7 @@
 
 ghost use Rattle.std.specs.Prelude.{◌≡◌, true, false, IfOk, IfErr};
 ghost use Rattle.stream_model.specs.Machine.{is_idle};
-ghost use Rattle.threads.specs.Outcomes.{EndsIn, GivesBack, CameBack, handed_of};
+ghost use Rattle.threads.specs.Outcomes.{EndsIn, GivesBack, CameBack, IsSo, handed_of};
 ghost use Rattle.threads.specs.Running.{RunState};
 
 use crate::engine::Engine;
@@ -11,8 +11,8 @@ use crate::gate::Gate;
 use crate::hall::Hall;
 use crate::launching::launch_with;
 use crate::outcome::Outcome;
+use crate::shared::Shared;
 use crate::turns::Turns;
-use crate::worker::Shared;
 use flowgraph::Block;
 use plant::{Handed, Headway, Plant, Watch};
 use std::alloc::Global;
@@ -22,7 +22,8 @@ use std::sync::{Arc, Wait};
 use std::thread::{JoinHandle, Threads};
 
 /// A plant at work in threads, one for each of its blocks. Where it is dropped its workers go on by themselves, and are cut off as the program
-/// ends; `wait` gives the plant back. A contract sees what was handed in, and whether a stop was asked for.
+/// ends; `wait` gives the plant back. A contract sees what was handed in, whether a stop was asked for, and how many firings a worker claims at
+/// most.
 #[derive(Drop)]
 pub struct Running<B: Block, G: Gate + Drop> {
     pub(crate) shared: Arc<Shared<B, G>, Global>,
@@ -38,11 +39,12 @@ impl<B: Block, G: Gate + Drop> fmt::Debug for Running<B, G> {
 }
 
 impl<B: Block, G: Gate + Drop> Model for Running<B, G> {
+    ghost use Rattle.std.specs.Arc.{arc_value};
     ghost use Rattle.threads.specs.Running.{RunState};
 
     ghost Value = { RunState B };
 
-    ghost view = { λ r. record { handed = r.handed; asked = r.asked } };
+    ghost view = { λ r. record { handed = r.handed; asked = r.asked; most = (arc_value r.shared).turns.most } };
 }
 
 impl<B: Block, G: Gate + Drop> Running<B, G> {
@@ -75,6 +77,7 @@ impl<B: Block, G: Gate + Drop> Running<B, G> {
     ) -> Result<Outcome<B>, RunFault<B>>
         ensures ok { IfOk result (EndsIn B.meaning B.eq self.handed self.asked) }
         ensures err { IfErr result (GivesBack B.meaning B.eq self.handed) }
+        ensures told { IfErr result (IsSo true false) }
     {
         self.shared.show(rt, watch);
         self.wait(rt)
@@ -85,6 +88,7 @@ impl<B: Block, G: Gate + Drop> Running<B, G> {
     pub fn wait<R: Threads + Wait>(self, rt: &R) -> Result<Outcome<B>, RunFault<B>>
         ensures ok { IfOk result (EndsIn B.meaning B.eq self.handed self.asked) }
         ensures err { IfErr result (GivesBack B.meaning B.eq self.handed) }
+        ensures told { IfErr result (IsSo true false) }
     {
         let Running {
             shared,
@@ -110,6 +114,7 @@ fn ended<B: Block>(
 ) -> Result<Outcome<B>, RunFault<B>>
     ensures ok { IfOk result (EndsIn B.meaning B.eq handed.now asked) }
     ensures err { IfErr result (GivesBack B.meaning B.eq handed.now) }
+    ensures told { IfErr result (IsSo hall.starved false) }
 {
     let Hall {
         engine,

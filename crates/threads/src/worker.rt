@@ -1,104 +1,53 @@
 //! The worker of a block.
 
-ghost use Rattle.std.specs.Prelude.{◌≤◌};
+ghost use Rattle.std.specs.Prelude.{◌≡◌, ◌≤◌, None};
+ghost use Rattle.threads.specs.Worker.{BringsJob};
 
 use crate::gate::Gate;
-use crate::hall::{Hall, Next};
-use crate::turns::Turns;
-use crate::woken::{BITS, Woken};
+use crate::hall::Next;
+use crate::shared::Shared;
+use crate::woken::Woken;
 use flowgraph::{Block, BlockId};
-use jobs::Worked;
-use plant::{Headway, Watch};
+use jobs::{Job, Worked};
 use std::alloc::Global;
-use std::hint::spin_loop;
-use std::sync::{Arc, Mutex, Wait};
-use std::thread::Parker;
+use std::sync::Wait;
 
-// So often a worker looks whether the lock is free before it sleeps for it, some microseconds long: most turns hold it for less.
-const LOOKS: u32 = 500;
-
-/// What all workers share.
+/// A worker between two turns.
 #[derive(Drop)]
-pub struct Shared<B: Block, G: Gate + Drop> {
-    pub hall: Mutex<Hall<B>>,
-    /// For each block where its worker sleeps.
-    pub beds: Vec<Parker>,
-    /// Where who looks on sleeps between two looks.
-    pub lookout: Parker,
-    pub gate: Arc<G, Global>,
+pub struct Worker<B: Block> {
+    /// The block that it claims for.
+    pub block: BlockId,
+    /// How many firings it claims at most.
+    pub most: u32,
+    /// What it has done since its last turn.
+    pub brought: Option<Worked<B>>,
+    ghost some: { 1 ≤ most },
 }
 
-impl<B: Block, G: Gate + Drop> Shared<B, G> {
-    /// Wakes workers. The lock is not held.
-    pub fn wake(&self, woken: &Woken) {
-        for (beds, word) in self.beds.chunks(BITS).zip(woken.words()) {
-            let mut bits = *word;
-            for _ in 0..bits.count_ones() {
-                if let Some(bed) = beds.get(bits.trailing_zeros() as usize) {
-                    bed.unpark();
-                }
-                bits &= bits.wrapping_sub(1);
-            }
-        }
-        if woken.ends {
-            self.lookout.unpark();
-        }
-        if woken.missed {
-            self.gate.missed();
-        }
-    }
-
-    /// How many items all sources were fed, and how many of these they have given by now. It takes the lock, and looks at each block.
-    pub fn headway<R: Wait>(&self, rt: &R) -> Headway {
-        self.hall.lock(rt).engine.plant().headway()
-    }
-
-    /// Shows `watch` how far the plant is until the run is over, each time that its pause is over.
-    pub fn show<R: Wait, W: Watch>(&self, rt: &R, watch: &mut W) {
-        if let Some(pause) = watch.pause() {
-            for _ in rt.forever() {
-                if self.hall.lock(rt).is_over() {
-                    break;
-                }
-                self.lookout.park_timeout(rt, pause);
-                watch.show(self.headway(rt));
-            }
-        }
-        watch.end();
-    }
-
-    /// Has the workers leave, each once it has committed what it works on.
-    pub fn end<R: Wait>(&self, rt: &R) {
-        let mut woken = Woken::new();
-        let _ = self.hall.lock(rt).end(&mut woken);
-        self.wake(&woken);
-    }
-
-    // The next turn of a block's worker, under the lock.
-    fn turn<R: Wait>(
-        &self,
-        rt: &R,
-        alloc: Global,
-        block: BlockId,
-        most: u32,
-        brought: Option<Worked<B>>,
-        woken: &mut Woken,
-    ) -> Next<B>
+impl<B: Block> Worker<B> {
+    /// A worker that has done nothing yet.
+    fn new(block: BlockId, most: u32) -> Worker<B>
         requires { 1 ≤ most }
+        ensures block { result.block ≡ block }
+        ensures most { result.most ≡ most }
+        ensures brought { result.brought ≡ None }
     {
-        for _ in 0..LOOKS {
-            if let Some(mut hall) = self.hall.try_lock() {
-                return hall.turn(alloc, block, most, brought, woken);
-            }
-            spin_loop();
+        Worker {
+            block,
+            most,
+            brought: None,
         }
-        self.hall.lock(rt).turn(alloc, block, most, brought, woken)
     }
 
-    fn sleep<R: Wait>(&self, rt: &R, block: BlockId) {
-        if let Some(bed) = self.beds.get(block.0 as usize) {
-            bed.park(rt);
-        }
+    /// Passes the gate and does a job of its block, with no lock held.
+    fn works<G: Gate>(&mut self, gate: &G, job: Job<B>)
+        requires { job.job.block ≡ self.old.block.0 }
+        ensures brings { BringsJob job self.new.brought }
+        ensures block { self.new.block ≡ self.old.block }
+        ensures most { self.new.most ≡ self.old.most }
+    {
+        gate.pass(self.block, job.first());
+        self.brought = Some(job.work());
     }
 }
 
@@ -108,20 +57,14 @@ pub fn work<B: Block, G: Gate + Drop, R: Wait>(
     alloc: Global,
     shared: &Shared<B, G>,
     block: BlockId,
-    turns: Turns,
 ) {
-    let most = shared.hall.lock(rt).share(block, turns);
-    let mut brought = None;
+    let mut worker = Worker::new(block, shared.share(rt, block));
     for _ in rt.forever() {
         let mut woken = Woken::new();
-        let next = shared.turn(rt, alloc, block, most, brought, &mut woken);
-        brought = None;
+        let next = shared.turn(rt, alloc, &mut worker, &mut woken);
         shared.wake(&woken);
         match next {
-            Next::Work(job) => {
-                shared.gate.pass(block, job.first());
-                brought = Some(job.work());
-            }
+            Next::Work(job) => worker.works(&*shared.gate, job),
             Next::Sleep => shared.sleep(rt, block),
             Next::Leave => return,
         }

@@ -118,7 +118,7 @@ impl TopBlock {
         rt: R,
         alloc: Global,
     ) -> Result<Running<Kind, Open>, RunFault<Kind>>
-        ensures ok { IfOk result (λ r. r ≡ record { handed = handed_of (with_all_closed meaning_of self); asked = false }) }
+        ensures ok { IfOk result (λ r. r ≡ record { handed = handed_of (with_all_closed meaning_of self); asked = false; most = 1024 }) }
         ensures err { IfErr result (GivesBack meaning_of ⟦<Kind as PartialEq>⟧.eq (handed_of (with_all_closed meaning_of self))) }
     {
         self.start_turns(rt, alloc, Turns::default())
@@ -131,7 +131,7 @@ impl TopBlock {
         alloc: Global,
         turns: Turns,
     ) -> Result<Running<Kind, Open>, RunFault<Kind>>
-        ensures ok { IfOk result (λ r. r ≡ record { handed = handed_of (with_all_closed meaning_of self); asked = false }) }
+        ensures ok { IfOk result (λ r. r ≡ record { handed = handed_of (with_all_closed meaning_of self); asked = false; most = turns.most }) }
         ensures err { IfErr result (GivesBack meaning_of ⟦<Kind as PartialEq>⟧.eq (handed_of (with_all_closed meaning_of self))) }
     {
         let TopBlock { mut plant } = self;
@@ -155,7 +155,10 @@ impl TopBlock {
         }
     }
 
-    /// As `run`, with a gate and turns of any length.
+    /// As `run`, with a gate and turns of any length. It answers `Outcome::Done` where all blocks came to their end, as they do in each graph of
+    /// balanced rates, and `Stalled` where none can act before that. It fails with `RunFault::Memory` where memory ran out, before the run or for a
+    /// claim, and with `RunFault::Thread` where a thread could not be started; both return the plant with its sources closed. `RunFault::Foreign`
+    /// should never come.
     pub fn run_with<
         G: Gate + Drop + Send + Sync + 'static,
         R: Threads + Wait + Copy + Send + 'static,
@@ -176,7 +179,9 @@ impl TopBlock {
 
     /// Starts a worker for each block and a thread for each of at most 16 callers, and waits until all callers have returned and the plant has come
     /// to rest. Sources that are open stay open: callers feed and close them. A run that comes to rest while one is open and
-    /// still read is `Stalled`. Fails as `threads::live` does.
+    /// still read is `Stalled`; one that a caller stops before all blocks are done is `Stopped`, and one in which all blocks are done is `Done`.
+    /// It fails with `RunFault::Memory` where memory ran out, before the run or for a claim, and with `RunFault::Thread` where a thread could not be
+    /// started; both return the plant where the calls have led it, without the callers. `RunFault::Foreign` should never come.
     pub fn start_live<
         G: Gate + Drop + Send + Sync,
         C: Caller<Kind> + Drop + Send,
@@ -191,6 +196,8 @@ impl TopBlock {
         requires { vec_len callers ≤ 16 }
         ensures ends { IfOk result (λ f. EndsLive meaning_of ⟦<Kind as PartialEq>⟧.eq (opening_of self) (map noted_by f.history.items) f.outcome) }
         ensures logs { IfOk result (λ f. AreLogs (map (λ l. map noted_by l.items) f.logs.items) (map noted_by f.history.items)) }
+        ensures callers { IfOk result (λ f. vec_len f.callers ≡ vec_len callers) }
+        ensures logged { IfOk result (λ f. vec_len f.logs ≡ vec_len callers) }
         ensures err { IfErr result (GivesBackLive meaning_of ⟦<Kind as PartialEq>⟧.eq (opening_of self)) }
     {
         self.start_live_watched(rt, alloc, gate, callers, Turns::default(), &mut Unwatched)
@@ -214,6 +221,8 @@ impl TopBlock {
         requires { vec_len callers ≤ 16 }
         ensures ends { IfOk result (λ f. EndsLive meaning_of ⟦<Kind as PartialEq>⟧.eq (opening_of self) (map noted_by f.history.items) f.outcome) }
         ensures logs { IfOk result (λ f. AreLogs (map (λ l. map noted_by l.items) f.logs.items) (map noted_by f.history.items)) }
+        ensures callers { IfOk result (λ f. vec_len f.callers ≡ vec_len callers) }
+        ensures logged { IfOk result (λ f. vec_len f.logs ≡ vec_len callers) }
         ensures err { IfErr result (GivesBackLive meaning_of ⟦<Kind as PartialEq>⟧.eq (opening_of self)) }
     {
         let TopBlock { plant } = self;

@@ -2,8 +2,8 @@ use Rattle.std.proofs.Common.{[], refl}
 use Rattle.threads.proofs.Agreeing.{graph_self}
 use Rattle.threads.proofs.calling.out_of_memory.Goals as goal
 
-pub returns : goal.returns
-returns g c = (
+pub returns-clause-back : goal.returns-clause-back
+returns-clause-back g c = (
   [],
   record {
     graph = graph_self g.B.PartialEq.eq g.met.B.Eq.laws.refl c.args.plant.graph;

@@ -1,0 +1,189 @@
+//! What workers and callers share, and the calls that they make under its lock. Each takes the lock for one call of `Hall`, whose clauses say what
+//! it does; of what lies under a lock no clause of these can speak.
+
+ghost use Rattle.std.specs.Prelude.{◌≡◌, ◌≤◌, None, IfOk};
+ghost use Rattle.std.specs.Arc.{arc_value};
+ghost use Rattle.settings.specs.Values.{value_of};
+ghost use Rattle.threads.specs.Hall.{IsOwn};
+
+use crate::entry::{Feed, Setting};
+use crate::gate::Gate;
+use crate::hall::{Hall, Next};
+use crate::turns::Turns;
+use crate::woken::{BITS, Woken};
+use crate::worker::Worker;
+use flowgraph::{Block, BlockId};
+use plant::{Closed, Fed, Headway, Piece, PlantFault, Taken, Watch};
+use settings::Value;
+use std::alloc::Global;
+use std::hint::spin_loop;
+use std::sync::{Arc, Mutex, MutexGuard, Wait};
+use std::thread::Parker;
+
+// So often a worker looks whether the lock is free before it sleeps for it, some microseconds long: most turns hold it for less.
+const LOOKS: u32 = 500;
+
+/// What all workers and callers share.
+#[derive(Drop)]
+pub struct Shared<B: Block, G: Gate + Drop> {
+    pub hall: Mutex<Hall<B>>,
+    /// For each block where its worker sleeps.
+    pub beds: Vec<Parker>,
+    /// Where who looks on sleeps between two looks.
+    pub lookout: Parker,
+    pub gate: Arc<G, Global>,
+    /// How much a worker does in one turn.
+    pub turns: Turns,
+}
+
+impl<B: Block, G: Gate + Drop> Shared<B, G> {
+    /// Wakes workers. The lock is not held.
+    pub fn wake(&self, woken: &Woken) {
+        for (beds, word) in self.beds.chunks(BITS).zip(woken.words()) {
+            let mut bits = *word;
+            for _ in 0..bits.count_ones() {
+                if let Some(bed) = beds.get(bits.trailing_zeros() as usize) {
+                    bed.unpark();
+                }
+                bits &= bits.wrapping_sub(1);
+            }
+        }
+        if woken.ends {
+            self.lookout.unpark();
+        }
+        if woken.missed {
+            self.gate.missed();
+        }
+    }
+
+    /// How many items all sources were fed, and how many of these they have given by now. It takes the lock, and looks at each block.
+    pub fn headway<R: Wait>(&self, rt: &R) -> Headway {
+        self.hall.lock(rt).engine.plant().headway()
+    }
+
+    /// Shows `watch` how far the plant is until the run is over, each time that its pause is over.
+    pub fn show<R: Wait, W: Watch>(&self, rt: &R, watch: &mut W) {
+        if let Some(pause) = watch.pause() {
+            for _ in rt.forever() {
+                if self.hall.lock(rt).is_over() {
+                    break;
+                }
+                self.lookout.park_timeout(rt, pause);
+                watch.show(self.headway(rt));
+            }
+        }
+        watch.end();
+    }
+
+    /// Has the workers leave, each once it has committed what it works on.
+    pub fn end<R: Wait>(&self, rt: &R) {
+        let mut woken = Woken::new();
+        let _ = self.hall.lock(rt).end(&mut woken);
+        self.wake(&woken);
+    }
+
+    /// How many firings the worker of a block claims at most.
+    pub fn share<R: Wait>(&self, rt: &R, block: BlockId) -> u32
+        ensures some { 1 ≤ result }
+        ensures few { result ≤ self.now.turns.most }
+    {
+        self.hall.lock(rt).share(block, self.turns)
+    }
+
+    /// The next turn of a worker.
+    pub fn turn<R: Wait>(
+        &self,
+        rt: &R,
+        alloc: Global,
+        worker: &mut Worker<B>,
+        woken: &mut Woken,
+    ) -> Next<B>
+        ensures own { IsOwn worker.old.block.0 result }
+        ensures brought { worker.new.brought ≡ None }
+        ensures block { worker.new.block ≡ worker.old.block }
+        ensures most { worker.new.most ≡ worker.old.most }
+    {
+        self.locked(rt).turn(alloc, worker, woken)
+    }
+
+    // The lock, for which it sleeps only once it was looked for some time.
+    fn locked<R: Wait>(&self, rt: &R) -> MutexGuard<'_, Hall<B>> {
+        for _ in 0..LOOKS {
+            if let Some(hall) = self.hall.try_lock() {
+                return hall;
+            }
+            spin_loop();
+        }
+        self.hall.lock(rt)
+    }
+
+    /// The worker of a block sleeps until it is woken.
+    pub fn sleep<R: Wait>(&self, rt: &R, block: BlockId) {
+        if let Some(bed) = self.beds.get(block.0 as usize) {
+            bed.park(rt);
+        }
+    }
+
+    /// Feeds a source for a desk.
+    pub fn feed<R: Wait>(
+        &self,
+        rt: &R,
+        desk: u32,
+        feed: Arc<Feed, Global>,
+    ) -> Result<Fed, PlantFault> {
+        let mut woken = Woken::new();
+        let answer = self.hall.lock(rt).feed(desk, feed, &mut woken);
+        self.wake(&woken);
+        answer
+    }
+
+    /// Closes a source's tape for a desk.
+    pub fn close<R: Wait>(&self, rt: &R, desk: u32, source: BlockId) -> Result<Closed, PlantFault> {
+        let mut woken = Woken::new();
+        let answer = self.hall.lock(rt).close(desk, source, &mut woken);
+        self.wake(&woken);
+        answer
+    }
+
+    /// Sets the value of a block's setting, which is `value`, for a desk.
+    pub fn set<R: Wait>(
+        &self,
+        rt: &R,
+        desk: u32,
+        setting: Arc<Setting, Global>,
+        value: Value,
+    ) -> Result<Taken, PlantFault>
+        requires { value_of value ≡ value_of (arc_value setting).value }
+    {
+        self.hall.lock(rt).set(desk, setting, value)
+    }
+
+    /// What a sink shows to a desk, twice.
+    pub fn read<R: Wait>(
+        &self,
+        rt: &R,
+        alloc: Global,
+        desk: u32,
+        sink: BlockId,
+        from: u64,
+        max: u64,
+    ) -> Result<(Arc<Piece, Global>, Arc<Piece, Global>), PlantFault>
+        ensures { IfOk result (λ p. arc_value p.0 ≡ arc_value p.1) }
+    {
+        self.hall.lock(rt).read(alloc, desk, sink, from, max)
+    }
+
+    /// A caller asks for the end of the run.
+    pub fn stop<R: Wait>(&self, rt: &R) {
+        let mut woken = Woken::new();
+        self.hall.lock(rt).stop(&mut woken);
+        self.wake(&woken);
+    }
+
+    /// A caller has returned.
+    pub fn caller_leaves<R: Wait>(&self, rt: &R) {
+        let mut woken = Woken::new();
+        self.hall.lock(rt).caller_leaves(&mut woken);
+        self.wake(&woken);
+    }
+}
