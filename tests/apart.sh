@@ -1,6 +1,6 @@
 # shellcheck shell=bash
 # For scripts to source: crates that stand outside crates/ and run unproved, as rt try compiles them with checks, so that the gate has no proof of them
-# to make. Each is put together in a copy of the checkout: the tests of the folders of tests/ with .test files, and the programs of
+# to make. Each is put together in a copy of the checkout: the tests of the folders of tests/ with a lib.rs, and the programs of
 # benches/ and examples/. The room for these copies, and what puts the crates below into one, also serve the script that turns definitions.
 # shellcheck source=scripts/program.sh
 source "$(dirname -- "$(readlink -f -- "${BASH_SOURCE[0]}")")/../scripts/program.sh"
@@ -24,11 +24,11 @@ put_below() {
     done
 }
 
-# put_tests FOLDER ROOM: the .test files of a folder of tests/, as sources, in this room
+# put_tests FOLDER ROOM: the .rs files of a folder of tests/, as sources, in this room
 put_tests() {
     local file
-    for file in "$top/tests/$1"/*.test; do
-        cp -- "$file" "$2/$(basename -- "$file" .test).rt"
+    for file in "$top/tests/$1"/*.rs; do
+        cp -- "$file" "$2/$(basename -- "$file" .rs).rt"
     done
 }
 
@@ -59,8 +59,11 @@ put_bench() {
         cp -- "$top/benches/shared/"* "$here/crates/$1/src"
     fi
     while IFS= read -r file; do
-        mv -- "$file" "${file%.apart}"
-    done < <(find "$here/crates/$1" -name '*.apart')
+        mv -- "$file" "${file%.rs}.rt"
+    done < <(find "$here/crates/$1" -name '*.rs')
+    while IFS= read -r file; do
+        mv -- "$file" "${file%.agda}.antt"
+    done < <(find "$here/crates/$1" -name '*.agda')
 }
 
 # put_example PROGRAM LIBRARY..: a program of examples/ over these libraries, in the checkout $room/PROGRAM. Its source ends in .rs, for the gate wants no .rt

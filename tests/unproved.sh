@@ -5,19 +5,19 @@ set -euo pipefail
 # shellcheck source=tests/apart.sh
 source "$(dirname -- "$(readlink -f -- "${BASH_SOURCE[0]}")")/apart.sh"
 
-# run_tests: the tests of all folders with a lib.test are run, and pass. They are one crate, so that what stands below them is compiled once. There are
-# as many as `#[test]` lines in .test files, so that no file is left out which is not named, and no folder that has no lib.test.
+# run_tests: the tests of all folders with a lib.rs are run, and pass. They are one crate, so that what stands below them is compiled once. There are
+# as many as `#[test]` lines in their files, so that no file is left out which is not named, and no folder that has no lib.rs.
 run_tests() {
     local lib folder count own=$room/all/crates/all_tests status=0
     put_apart all flow raw_items rates firings clap
-    for lib in "$top"/tests/*/lib.test; do
+    for lib in "$top"/tests/*/lib.rs; do
         folder=$(basename -- "$(dirname -- "$lib")")
         mkdir "$own/src/$folder"
         put_tests "$folder" "$own/src/$folder"
         mv -- "$own/src/$folder/lib.rt" "$own/src/$folder.rt"
         printf '#[cfg(test)]\nmod %s;\n' "$folder" >>"$own/src/lib.rt"
     done
-    count=$(cat "$top"/tests/*/*.test | grep -cxF '#[test]' || true)
+    count=$(cat "$top"/tests/*/*.rs | grep -cxF '#[test]' || true)
     # (tests/terminal stands over these files of the program)
     cp -- "$top/crates/$program_crate/src/"{ends,terminal,words}.rt "$own/src/terminal"
     (cd "$own" && rt try --test) >"$room/said" 2>&1 </dev/null || status=$?
