@@ -5,12 +5,15 @@ set -euo pipefail
 # shellcheck source=tests/apart.sh
 source "$(dirname -- "$(readlink -f -- "${BASH_SOURCE[0]}")")/../tests/apart.sh"
 
+room=$(mktemp -d)
+trap 'rm -rf -- "$room"' EXIT
+
 if [[ $# != 1 && $# != 2 || ! -d $top/benches/$1 ]]; then
     echo "measure: it takes the name of a program in benches/, and perhaps that of a part" >&2
     exit 2
 fi
-put_bench "$1"
-for crate in "$room/$1"/crates/*; do
+put_bench tree "$1"
+for crate in "$room"/tree/crates/*; do
     for kept in incremental rlib; do
         if [[ -e $top/crates/${crate##*/}/out/$kept ]]; then
             mkdir -p "$crate/out"
@@ -18,4 +21,4 @@ for crate in "$room/$1"/crates/*; do
         fi
     done
 done
-cd -- "$room/$1/crates/$1" && rt run -- measure "${@:2}"
+cd -- "$room/tree/crates/$1" && rt run -- measure "${@:2}"

@@ -1,4 +1,4 @@
-"""What python/magbelu makes of its arguments before it calls the library, over a library that only notes its calls. tests/c.sh calls it."""
+"""What python/magbelu makes of its arguments before it calls the library, over a library that only notes its calls. tests/parts/c.sh calls it."""
 
 import array
 import ctypes

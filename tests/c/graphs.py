@@ -1,4 +1,4 @@
-"""python/magbelu over the examples, raw items, tags, settings, and what is wrong. tests/c.sh calls it, with the top of the checkout."""
+"""python/magbelu over the examples, raw items, tags, settings, and what is wrong. tests/parts/c.sh calls it, with the top of the checkout."""
 
 import array
 import pathlib

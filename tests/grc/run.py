@@ -1,5 +1,5 @@
 #!/usr/bin/env python3
-"""Tries flow-from-grc. It ends with `N passed, 0 failed`.
+"""Tries flow-from-grc, as the part `grc` of ./test: `run.py list` prints the names of the cases, `run.py run ROOM` tries those that ROOM/wanted has.
 
 cases/      drawings, each with the graph file that it stands for, and what standard error has; with NAME.samples, also what each of its sinks holds in GNU Radio
 broken/     drawings that are refused, each with the line that says so
@@ -10,6 +10,7 @@ Where flow is built (./build), the graphs run, and where GNU Radio is installed,
 
 from __future__ import annotations
 
+import functools
 import os
 import pathlib
 import re
@@ -18,7 +19,8 @@ import struct
 import subprocess
 import sys
 import tempfile
-from typing import Dict, List, Mapping, Sequence
+from dataclasses import dataclass
+from typing import Callable, Dict, Iterator, List, Mapping, Sequence, Tuple
 
 HERE = pathlib.Path(__file__).resolve().parent
 TOP = HERE.parent.parent
@@ -49,20 +51,13 @@ def made_recording() -> bytes:
         return path.read_bytes()
 
 
-class Tally:
-    """How many cases passed, and those that failed."""
+@dataclass(frozen=True)
+class Case:
+    """A name, and a call that gives what came and what was wanted, or None where that cannot be tried here."""
 
-    def __init__(self) -> None:
-        self.passed = 0
-        self.failed: List[str] = []
-
-    def is_so(self, name: str, found: object, wanted: object) -> None:
-        """Counts a case, and shows what came and what was wanted where these differ."""
-        if found == wanted:
-            self.passed += 1
-            return
-        self.failed.append(name)
-        print("grc: %s: wanted\n%s\nin place of\n%s" % (name, wanted, found), file=sys.stderr)
+    name: str
+    outcome: Callable[[], Tuple[object, object]]
+    lacks: str = ""
 
 
 def convert(words: Sequence[str], room: pathlib.Path, env: Mapping[str, str] = os.environ) -> "subprocess.CompletedProcess[str]":
@@ -70,59 +65,100 @@ def convert(words: Sequence[str], room: pathlib.Path, env: Mapping[str, str] = o
     return subprocess.run([sys.executable, str(CONVERTER), *words], cwd=room, env=env, capture_output=True, text=True)
 
 
-def drawings(tally: Tally) -> None:
-    """The graph files of drawings."""
-    for path in sorted([*(HERE / "cases").glob("*.grc"), *EXAMPLES.glob("*.grc")]):
-        answer = convert([path.name], path.parent)
-        tally.is_so(path.stem, (answer.returncode, answer.stdout), (0, path.with_suffix(".toml").read_text()))
-        errors = path.with_suffix(".err")
-        if errors.exists():
-            tally.is_so(path.stem + ".err", answer.stderr, errors.read_text())
+def drawing(path: pathlib.Path) -> Tuple[object, object]:
+    """The graph file of a drawing, and what standard error has where that stands beside it."""
+    answer = convert([path.name], path.parent)
+    errors = path.with_suffix(".err")
+    wanted = errors.read_text() if errors.exists() else answer.stderr
+    return (answer.returncode, answer.stdout, answer.stderr), (0, path.with_suffix(".toml").read_text(), wanted)
 
 
-def broken_drawings(tally: Tally) -> None:
+def broken_drawing(path: pathlib.Path) -> Tuple[object, object]:
     """One line for each that is refused, and nothing on standard output."""
+    answer = convert([path.name], path.parent)
+    return (answer.returncode, answer.stdout, answer.stderr), (1, "", path.with_suffix(".err").read_text())
+
+
+def drawings() -> Iterator[Case]:
+    """Those that have a graph file, and those that are refused."""
+    for path in sorted([*(HERE / "cases").glob("*.grc"), *EXAMPLES.glob("*.grc")]):
+        yield Case("drawn/" + path.stem, lambda path=path: drawing(path))
     for path in sorted((HERE / "broken").glob("*.grc")):
-        answer = convert([path.name], path.parent)
-        wanted = path.with_suffix(".err").read_text()
-        tally.is_so("broken/" + path.stem, (answer.returncode, answer.stdout, answer.stderr), (1, "", wanted))
+        yield Case("broken/" + path.stem, lambda path=path: broken_drawing(path))
 
 
-def calls(tally: Tally) -> None:
+def in_room(call: Callable[[pathlib.Path], Tuple[object, object]]) -> Callable[[], Tuple[object, object]]:
+    """The same call in a folder of its own, with a drawing in it."""
+
+    def outcome() -> Tuple[object, object]:
+        with tempfile.TemporaryDirectory() as folder:
+            room = pathlib.Path(folder)
+            shutil.copy(EXAMPLES / "adders.grc", room)
+            return call(room)
+
+    return outcome
+
+
+def to_a_file(room: pathlib.Path) -> Tuple[object, object]:
+    """The graph goes to the file, and the command line to standard error."""
+    answer = convert(["-o", "made.toml", "adders.grc"], room)
+    text = (EXAMPLES / "adders.toml").read_text().replace("graph.toml", "made.toml")
+    made = (room / "made.toml").read_text()
+    wanted = "flow run -o early=early.u8 -o late=late.u8 made.toml"
+    return (answer.returncode, answer.stdout, answer.stderr.splitlines()[-1], made), (0, "", wanted, text)
+
+
+def status_of(*words: str) -> Callable[[pathlib.Path], Tuple[object, object]]:
+    """Words that are none of its own."""
+    return lambda room: (convert(words, room).returncode, 2)
+
+
+def refusal_of(text: str, *words: str) -> Callable[[pathlib.Path], Tuple[object, object]]:
+    """A file that cannot be read or written."""
+
+    def call(room: pathlib.Path) -> Tuple[object, object]:
+        answer = convert(words, room)
+        return (answer.returncode, answer.stderr), (4, "flow-from-grc: refused %s: No such file or directory\n" % text)
+
+    return call
+
+
+def without_yaml(room: pathlib.Path) -> Tuple[object, object]:
+    """A Python that has no module yaml."""
+    (room / "yaml.py").write_text("raise ImportError\n")
+    answer = convert(["adders.grc"], room, {**os.environ, "PYTHONPATH": str(room)})
+    wanted = "flow-from-grc: Python has no module yaml: the package python3-yaml of Debian, or PyYAML of pip, has it\n"
+    return (answer.returncode, answer.stdout, answer.stderr), (127, "", wanted)
+
+
+def calls() -> Iterator[Case]:
     """Words, files that are not there, and a Python without yaml."""
-    with tempfile.TemporaryDirectory() as folder:
-        room = pathlib.Path(folder)
-        shutil.copy(EXAMPLES / "adders.grc", room)
-        wanted = "flow run -o early=early.u8 -o late=late.u8 made.toml"
-        answer = convert(["-o", "made.toml", "adders.grc"], room)
-        tally.is_so("to a file", (answer.returncode, answer.stdout, answer.stderr.splitlines()[-1]), (0, "", wanted))
-        text = (EXAMPLES / "adders.toml").read_text().replace("graph.toml", "made.toml")
-        tally.is_so("the file", (room / "made.toml").read_text(), text)
-        tally.is_so("no words", convert([], room).returncode, 2)
-        tally.is_so("other words", convert(["--fast", "adders.grc"], room).returncode, 2)
-        answer = convert(["none.grc"], room)
-        tally.is_so("no file", (answer.returncode, answer.stderr), (4, "flow-from-grc: refused 51 Read none.grc: No such file or directory\n"))
-        answer = convert(["-o", "none/made.toml", "adders.grc"], room)
-        tally.is_so("no folder", (answer.returncode, answer.stderr), (4, "flow-from-grc: refused 52 Write none/made.toml: No such file or directory\n"))
-        (room / "yaml.py").write_text("raise ImportError\n")
-        answer = convert(["adders.grc"], room, {**os.environ, "PYTHONPATH": str(room)})
-        wanted = "flow-from-grc: Python has no module yaml: the package python3-yaml of Debian, or PyYAML of pip, has it\n"
-        tally.is_so("no yaml", (answer.returncode, answer.stdout, answer.stderr), (127, "", wanted))
+    yield Case("calls/to_a_file", in_room(to_a_file))
+    yield Case("calls/no_words", in_room(status_of()))
+    yield Case("calls/other_words", in_room(status_of("--fast", "adders.grc")))
+    yield Case("calls/no_file", in_room(refusal_of("51 Read none.grc", "none.grc")))
+    yield Case("calls/no_folder", in_room(refusal_of("52 Write none/made.toml", "-o", "none/made.toml", "adders.grc")))
+    yield Case("calls/no_yaml", in_room(without_yaml))
 
 
-def quotes(tally: Tally) -> None:
+def quotes() -> Iterator[Case]:
     """What pages show of calls of flow-from-grc: from a line that begins with $ to the next, or to the end of the fence."""
     call = re.compile(r"^\$ (?:\./)?flow-from-grc (.*)\n((?:(?!```|\$ ).*\n)*)", re.M)
+    for page in (TOP / "docs" / "FOR_GNU_RADIO_USERS.md", EXAMPLES / "README.md"):
+        found = call.findall(page.read_text())
+        yield Case("pages/%s/shows_calls" % page.stem, lambda found=found: (bool(found), True))
+        for number, (words, wanted) in enumerate(found):
+            yield Case("pages/%s/%d" % (page.stem, number), lambda words=words, wanted=wanted: (quoted(words), wanted))
+
+
+def quoted(words: str) -> str:
+    """What a call writes whose files have their names from the top."""
     with tempfile.TemporaryDirectory() as folder:
         room = pathlib.Path(folder)
         for name in ("examples", "tests"):
             (room / name).symlink_to(TOP / name)
-        for page in (TOP / "docs" / "FOR_GNU_RADIO_USERS.md", EXAMPLES / "README.md"):
-            found = call.findall(page.read_text())
-            tally.is_so("%s shows calls" % page.name, bool(found), True)
-            for words, wanted in found:
-                answer = convert(words.split(), room)
-                tally.is_so("%s: %s" % (page.name, words), answer.stdout + answer.stderr, wanted)
+        answer = convert(words.split(), room)
+        return answer.stdout + answer.stderr
 
 
 def sinks_of(report: str) -> List[str]:
@@ -131,23 +167,38 @@ def sinks_of(report: str) -> List[str]:
     return sorted(lines)
 
 
-def in_flow(tally: Tally) -> None:
-    """The graphs run: in the program that ./build made."""
-    if not FLOW.exists():
-        print("grc: left out: runs of the graphs, since flow is not built")
-        return
-    samples = hand_made_samples()
-    with tempfile.TemporaryDirectory() as folder:
-        room = pathlib.Path(folder)
-        (room / "recording.s16").write_bytes(made_recording())
-        for path in sorted(EXAMPLES.glob("*.grc")):
-            words = convert(["-o", str(room / "graph.toml"), str(path)], room).stderr.splitlines()[-1].split()
-            subprocess.run([str(FLOW), *words[1:]], cwd=room, check=False, stdout=subprocess.DEVNULL)
-        for name, wanted in samples.items():
-            tally.is_so("flow: " + name, (room / name).read_bytes() if (room / name).exists() else None, wanted)
-        for path in sorted((HERE / "cases").glob("*.samples")):
-            answer = subprocess.run([str(FLOW), "run", str(path.with_suffix(".toml"))], capture_output=True, text=True)
-            tally.is_so("flow: " + path.stem, sinks_of(answer.stdout), path.read_text().splitlines())
+def runs(where: str, lacks: str, example: Callable[[pathlib.Path, pathlib.Path], None], sinks: Callable[[pathlib.Path], List[str]]) -> Iterator[Case]:
+    """The files that the examples write where they run, and what the sinks of the other drawings hold there."""
+
+    @functools.lru_cache(maxsize=None)
+    def written() -> Dict[str, bytes]:
+        with tempfile.TemporaryDirectory() as folder:
+            room = pathlib.Path(folder)
+            (room / "recording.s16").write_bytes(made_recording())
+            for path in sorted(EXAMPLES.glob("*.grc")):
+                example(path, room)
+            return {it.name: it.read_bytes() for it in room.iterdir() if it.is_file()}
+
+    for name in ("early.u8", "late.u8", "filtered.s16", "sums.s32"):
+        yield Case("%s/%s" % (where, name), lambda name=name: (written().get(name), hand_made_samples()[name]), lacks)
+    for path in sorted((HERE / "cases").glob("*.samples")):
+        yield Case("%s/%s" % (where, path.stem), lambda path=path: (sinks(path), path.read_text().splitlines()), lacks)
+
+
+def run_in_flow(path: pathlib.Path, room: pathlib.Path) -> None:
+    """Runs the command line that flow-from-grc gives of a drawing."""
+    words = convert(["-o", str(room / "graph.toml"), str(path)], room).stderr.splitlines()[-1].split()
+    subprocess.run([str(FLOW), *words[1:]], cwd=room, check=False, stdout=subprocess.DEVNULL)
+
+
+def sinks_in_flow(path: pathlib.Path) -> List[str]:
+    """What flow reports of the graph file."""
+    return sinks_of(subprocess.run([str(FLOW), "run", str(path.with_suffix(".toml"))], capture_output=True, text=True, check=False).stdout)
+
+
+def in_flow() -> Iterator[Case]:
+    """The graphs run in the program that ./build made."""
+    yield from runs("flow", "" if FLOW.exists() else "./build has not built flow", run_in_flow, sinks_in_flow)
 
 
 # Prints what the vector sinks of a drawing hold that grcc has built, as flow does.
@@ -163,39 +214,61 @@ for name, it in sorted(vars(top).items()):
 """
 
 
-def in_gnu_radio(tally: Tally) -> None:
-    """The drawings run in GNU Radio: what they are held against above is what it gives."""
-    if not shutil.which("grcc", path=SYSTEM["PATH"]):
-        print("grc: left out: runs of the drawings, since GNU Radio is not installed")
-        return
+def run_in_gnu_radio(path: pathlib.Path, room: pathlib.Path) -> List[str]:
+    """Has grcc build a drawing, and runs it."""
+    env = {**SYSTEM, "HOME": str(room), "PYTHONPATH": str(room)}
+    subprocess.run(["grcc", "-o", str(room), str(path)], env=env, cwd=room, capture_output=True, check=False)
+    name = re.search(r"^    id: (\w+)$", path.read_text(), re.M)
+    words = ["/usr/bin/python3", "-c", SHOW_SINKS, name.group(1) if name else ""]
+    answer = subprocess.run(words, env=env, cwd=room, capture_output=True, text=True, check=False)
+    return answer.stdout.splitlines() or answer.stderr.splitlines()
+
+
+def sinks_in_gnu_radio(path: pathlib.Path) -> List[str]:
+    """What the sinks of a drawing hold there."""
     with tempfile.TemporaryDirectory() as folder:
-        room = pathlib.Path(folder)
-        env = {**SYSTEM, "HOME": folder, "PYTHONPATH": folder}
-        (room / "recording.s16").write_bytes(made_recording())
-
-        def run(path: pathlib.Path) -> List[str]:
-            subprocess.run(["grcc", "-o", folder, str(path)], env=env, cwd=room, capture_output=True, check=False)
-            name = re.search(r"^    id: (\w+)$", path.read_text(), re.M)
-            words = ["/usr/bin/python3", "-c", SHOW_SINKS, name.group(1) if name else ""]
-            answer = subprocess.run(words, env=env, cwd=room, capture_output=True, text=True, check=False)
-            return answer.stdout.splitlines() or answer.stderr.splitlines()
-
-        for path in sorted(EXAMPLES.glob("*.grc")):
-            run(path)
-        for name, wanted in hand_made_samples().items():
-            tally.is_so("GNU Radio: " + name, (room / name).read_bytes() if (room / name).exists() else None, wanted)
-        for path in sorted((HERE / "cases").glob("*.samples")):
-            tally.is_so("GNU Radio: " + path.stem, run(path.with_suffix(".grc")), path.read_text().splitlines())
+        return run_in_gnu_radio(path.with_suffix(".grc"), pathlib.Path(folder))
 
 
-def main() -> int:
-    """Tries all, and gives the status."""
-    tally = Tally()
-    for part in (drawings, broken_drawings, calls, quotes, in_flow, in_gnu_radio):
-        part(tally)
-    print("%d passed, %d failed" % (tally.passed, len(tally.failed)))
-    return 1 if tally.failed else 0
+def in_gnu_radio() -> Iterator[Case]:
+    """The drawings run in GNU Radio: what they are held against above is what it gives."""
+    lacks = "" if shutil.which("grcc", path=SYSTEM["PATH"]) else "GNU Radio is not installed"
+    yield from runs("gnu_radio", lacks, lambda path, room: run_in_gnu_radio(path, room) and None, sinks_in_gnu_radio)
+
+
+def cases() -> Iterator[Case]:
+    """All of them."""
+    for part in (drawings, calls, quotes, in_flow, in_gnu_radio):
+        yield from part()
+
+
+def tell(results: "pathlib.Path", case: Case) -> None:
+    """Tries a case, and adds how it ended to the results."""
+    name = "grc/" + case.name
+    if case.lacks:
+        print("left out: %s: %s" % (name, case.lacks))
+        kind = "left_out"
+    else:
+        found, wanted = case.outcome()
+        kind = "passed" if found == wanted else "failed"
+        if kind == "failed":
+            print("FAILED %s\n    wanted %s\n    and there came %s" % (name, wanted, found))
+    with results.open("a") as out:
+        out.write("%s %s\n" % (kind, name))
+
+
+def main(words: Sequence[str]) -> None:
+    """Lists the cases, or tries those that are wanted."""
+    if words == ["list"]:
+        for case in cases():
+            print("grc/" + case.name)
+        return
+    room = pathlib.Path(words[1])
+    wanted = set((room / "wanted").read_text().split())
+    for case in cases():
+        if "grc/" + case.name in wanted:
+            tell(room / "results", case)
 
 
 if __name__ == "__main__":
-    sys.exit(main())
+    main(sys.argv[1:])

@@ -1,5 +1,5 @@
-# shellcheck shell=bash disable=SC2154
-# For tests/newcomer.sh to source: what ./build proves and installs, with tests/rt_in_its_place in the place of rt and of the prover.
+# shellcheck shell=bash disable=SC2154,SC2034
+# For tests/parts/newcomer.sh to source: what ./build proves and installs, with tests/newcomer/rt_in_its_place in the place of rt and of the prover.
 
 # begin_anew: forgets what was proved so far
 begin_anew() { rm -f "$room/bin/proved" "$room/bin/jobs"; }
@@ -102,7 +102,7 @@ crates_are_proved_side_by_side() {
         fi
     done
     if ((${#pair[@]} < 2 || $(awk '/^MemAvailable:/ { print $2 }' /proc/meminfo) < 8 * 1024 * 1024)); then
-        echo "newcomer: skipped: two crates side by side, for want of such crates or of memory"
+        why_not="two crates side by side need such crates, and 8 GiB of memory"
         return
     fi
     printf '#!/bin/sh\necho 4\n' >"$room/bin/nproc"

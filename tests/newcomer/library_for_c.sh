@@ -1,5 +1,5 @@
 # shellcheck shell=bash disable=SC2154
-# For tests/newcomer.sh to source: what ./build --c makes.
+# For tests/parts/newcomer.sh to source: what ./build --c makes.
 
 # What the program has in common with it is proved already.
 build_makes_the_library_for_c() {

@@ -1,5 +1,13 @@
-# shellcheck shell=bash disable=SC2154
-# For tests/newcomer.sh to source: what ./build does with the toolchain itself, in a checkout of two low crates and a program over them.
+# shellcheck shell=bash disable=SC2154,SC2034
+# For tests/parts/toolchain.sh to source: what ./flow does with the toolchain itself, and what ./build does, in a checkout of two low crates and a program over them.
+
+# By the toolchain, through a link, with a relative path, CDPATH, and input that comes later than rt try waits for it.
+real_run_is_unproved() {
+    (sleep 2.5 && cat "$tree/examples/add_const/script") |
+        calls 0 env CDPATH="$room:$tree" ./flow_by_link script "a graph.toml"
+    cmp -s "$room/output" "$tree/examples/add_const/expected" || wrong "a real run unproved writes something else"
+    writes errors "$unproved"
+}
 
 small=$room/small
 

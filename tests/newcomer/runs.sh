@@ -1,13 +1,5 @@
-# shellcheck shell=bash disable=SC2154
-# For tests/newcomer.sh to source: what ./flow does where nothing is built, where something is, and where it was edited since.
-
-# By the toolchain, through a link, with a relative path, CDPATH, and input that comes later than rt try waits for it.
-real_run_is_unproved() {
-    (sleep 2.5 && cat "$tree/examples/add_const/script") |
-        calls 0 env CDPATH="$room:$tree" ./flow_by_link script "a graph.toml"
-    cmp -s "$room/output" "$tree/examples/add_const/expected" || wrong "a real run unproved writes something else"
-    writes errors "$unproved"
-}
+# shellcheck shell=bash disable=SC2154,SC2034
+# For tests/parts/newcomer.sh to source: what ./flow does where nothing is built, where something is, and where it was edited since.
 
 # From here on rt, with the toolchain that it names, is the one in its place. It writes its words, its input and what FILE holds.
 unproved_runs_pass_all_on() {
@@ -131,7 +123,7 @@ without_writing_flow_runs() {
     local mount=(unshare --map-root-user --mount)
     local script="mount --bind \"\$1\" \"\$1\" && mount -o remount,bind,ro \"\$1\" && shift && exec \"\$@\""
     if ! "${mount[@]}" sh -c "$script" sh "$tree" true 2>/dev/null; then
-        echo "newcomer: skipped: a checkout that cannot be written, since nothing can be mounted here"
+        why_not="nothing can be mounted here"
         return
     fi
     mv "$own/out" "$room/out"

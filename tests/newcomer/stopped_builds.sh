@@ -1,5 +1,5 @@
 # shellcheck shell=bash disable=SC2154
-# For tests/newcomer.sh to source: what ./build leaves where a proof fails, where a source is edited meanwhile, beside another ./build, and where it is stopped.
+# For tests/parts/newcomer.sh to source: what ./build leaves where a proof fails, where a source is edited meanwhile, beside another ./build, and where it is stopped.
 
 # fails_at CRATE SAYING: a ./build ends in 1, names the file in which the crate's prover says this, and leaves no program
 fails_at() {

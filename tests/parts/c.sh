@@ -3,14 +3,12 @@
 # calls from C, with the sanitizers, and from Python give what is expected, and where ./flow is built what it gives. Elsewhere it only compiles the header, and tries
 # what python/magbelu makes of its arguments.
 set -euo pipefail
-# shellcheck source=scripts/program.sh
-source "$(dirname -- "$(readlink -f -- "${BASH_SOURCE[0]}")")/../scripts/program.sh"
+# shellcheck source=tests/part.sh
+source "$(dirname -- "$(readlink -f -- "${BASH_SOURCE[0]}")")/../part.sh"
 
-room=$(mktemp -d)
-trap 'rm -rf -- "$room"' EXIT
-
+# wrong SAYING: ends the case
 wrong() {
-    echo "c: $1" >&2
+    echo "$1"
     exit 1
 }
 
@@ -37,7 +35,9 @@ as_flow() {
     if is_fresh; then
         "$program" "$@" >"$room/flow_output" 2>"$room/flow_said" || status=$?
         grep -v '^flow: stalled: ' "$room/flow_said" >"$room/flow_errors" || true
-        cmp -s "$room/output" "$room/flow_output" && cmp -s "$room/errors" "$room/flow_errors" || wrong "flow $* writes something else"
+        if ! cmp -s "$room/output" "$room/flow_output" || ! cmp -s "$room/errors" "$room/flow_errors"; then
+            wrong "flow $* writes something else"
+        fi
     fi
 }
 
@@ -91,37 +91,75 @@ END
     printf '@1:mark=7/0\n@3:mark=7/0\n' | cmp -s - "$room/got" || wrong "the tags of examples/echo"
 }
 
-# The tests of python/magbelu that stand in this file, where there is a Python
+# tells_calls: the calls from C, over the examples, the graph files and raw items
+tells_calls() {
+    local it
+    cc -std=c99 -pedantic -Wall -Wextra -Werror -g -fsanitize=address,undefined -fno-sanitize-recover=undefined -pthread -I"$top/c" "$top/tests/c/calls.c" \
+        "$c_folder/libmagbelu.a" -o "$room/calls"
+    calls 0 wrong
+    calls 0 held
+    for it in "$top"/examples/*/; do
+        if [[ -e ${it}graph.toml ]]; then
+            example "${it%/}"
+        fi
+    done
+    for it in "$top"/tests/graphs/*.toml; do
+        graph "$it"
+    done
+    raw_items
+}
+
+# python_tests FILE: the tests of python/magbelu that stand in this file
 python_tests() { PYTHONDONTWRITEBYTECODE=1 PYTHONPATH=$top/python python3 "$top/tests/c/$1" "$top"; }
 
-if command -v python3 >/dev/null; then
-    python_tests arguments.py
-fi
-if ! command -v cc >/dev/null; then
-    echo "c: left out: this machine has no C compiler"
-    exit
-fi
-compiles_header
-if ! is_fresh "$c_folder/libmagbelu.a" "$c_crate"; then
-    echo "c: the header compiles; the calls are left out, since ./build --c has not built them from these sources"
-    exit
-fi
-cc -std=c99 -pedantic -Wall -Wextra -Werror -g -fsanitize=address,undefined -fno-sanitize-recover=undefined -pthread -I"$top/c" "$top/tests/c/calls.c" \
-    "$c_folder/libmagbelu.a" -o "$room/calls"
-calls 0 wrong
-calls 0 held
-for folder in "$top"/examples/*/; do
-    if [[ -e ${folder}graph.toml ]]; then
-        example "${folder%/}"
+tells_arguments() { python_tests arguments.py; }
+
+tells_python() { MAGBELU_LIBRARY=$c_folder/libmagbelu.so python_tests graphs.py; }
+
+list() {
+    if command -v python3 >/dev/null; then
+        echo c/arguments
     fi
-done
-for file in "$top"/tests/graphs/*.toml; do
-    graph "$file"
-done
-raw_items
-echo "c: the calls from C are as they must be"
-if [[ -e $c_folder/libmagbelu.so ]] && command -v python3 >/dev/null; then
-    MAGBELU_LIBRARY=$c_folder/libmagbelu.so python_tests graphs.py
-else
-    echo "c: python/magbelu is left out, for want of python3 or of libmagbelu.so"
-fi
+    if command -v cc >/dev/null; then
+        echo c/header
+        echo c/calls
+        echo c/python
+    fi
+}
+
+# try CASE FUNCTION: the function is the case, if it is wanted
+try() {
+    local said status=0
+    if ! is_wanted "$1"; then
+        return
+    fi
+    # (where it fails it ends there: in a condition it would go on)
+    set +e
+    said=$(set -e && "$2" 2>&1)
+    status=$?
+    set -e
+    if [[ $status == 0 ]]; then
+        passed "$1"
+    else
+        failed "$1" <<<"$said"
+    fi
+}
+
+run() {
+    local why="./build --c has not built the library from these sources"
+    try c/arguments tells_arguments
+    try c/header compiles_header
+    if is_fresh "$c_folder/libmagbelu.a" "$c_crate"; then
+        try c/calls tells_calls
+        why="there is no python3, or no libmagbelu.so"
+    elif is_wanted c/calls; then
+        left_out c/calls <<<"$why"
+    fi
+    if is_fresh "$c_folder/libmagbelu.so" "$c_crate" && command -v python3 >/dev/null; then
+        try c/python tells_python
+    elif is_wanted c/python; then
+        left_out c/python <<<"$why"
+    fi
+}
+
+"$1"

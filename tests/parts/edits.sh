@@ -1,22 +1,30 @@
 #!/usr/bin/env bash
-# What holds the edits that must fail: each can be made of the sources as they stand, `mutants/held` refuses an edit that names another clause than the log of `rt ci`, and `mutants/try` ends as the prover
-# does on the mutants that it lays into a copy, by a stand-in for `rt` that says which it was given.
+# What holds the edits that must fail: each can be made of the sources as they stand, `mutants/held` refuses an edit that names another clause than the log of `rt ci`,
+# and `mutants/try` ends as the prover does on the mutants that it lays into a copy, by a stand-in for `rt` that says which it was given.
 set -euo pipefail
-top=$(dirname -- "$(dirname -- "$(readlink -f -- "${BASH_SOURCE[0]}")")")
+# shellcheck source=tests/part.sh
+source "$(dirname -- "$(readlink -f -- "${BASH_SOURCE[0]}")")/../part.sh"
+
+mode=${1-}
+results=$room
 room=$(mktemp -d)
 trap 'rm -rf -- "$room"' EXIT
-passed=0 failed=0
 
 # expect NAME STATUS TEXT COMMAND..: the command ends with the status, and what it says has the text, or is nothing where the text is empty
 expect() {
-    local status=0
+    local status=0 name=edits/${1// /_}
+    if [[ $mode == list ]]; then
+        echo "$name"
+        return
+    fi
+    if ! room=$results is_wanted "$name"; then
+        return
+    fi
     "${@:4}" >"$room/said" 2>&1 || status=$?
     if [[ $status == "$2" ]] && { [[ -n $3 ]] && grep -qF -- "$3" "$room/said" || [[ -z $3 && ! -s $room/said ]]; }; then
-        passed=$((passed + 1))
+        room=$results passed "$name"
     else
-        failed=$((failed + 1))
-        echo "edits: $1: wanted status $2 and '$3', and it was $status and this:" >&2
-        cat "$room/said" >&2
+        { echo "wanted status $2 and '$3', and it was $status and this:" && cat "$room/said"; } | room=$results failed "$name"
     fi
 }
 
@@ -43,8 +51,9 @@ fits() {
 }
 
 for folder in "$top"/crates/*/must-fail "$top"/mutants/*/; do
-    crate=${folder#"$top"/*/}
-    expect "the edits of $folder" 0 '' fits "$top/crates/${crate%%/*}" "$folder"/*.edit
+    kind=${folder#"$top/"} kind=${kind%/}
+    crate=${kind#*/}
+    expect "$kind" 0 '' fits "$top/crates/${crate%%/*}" "$folder"/*.edit
 done
 
 # A checkout of one crate with one edit.
@@ -126,6 +135,3 @@ tries 'a crate without mutants' 2 'there is no mutants/flow_program' 0 flow_prog
 git -C "$room/checkout" init -q
 git -C "$room/checkout" -c user.name=a -c user.email=a@b commit -q --allow-empty -m one
 tries 'in turn, of crates above few others' 0 'try: the mutants of small' 0 --in-turn
-
-echo "edits: $passed passed, $failed failed"
-((failed == 0))

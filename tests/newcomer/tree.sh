@@ -1,13 +1,6 @@
-#!/usr/bin/env bash
-# What a newcomer meets who calls ./flow and ./build: in a checkout that is not built, that was edited since, from another folder,
-# through a link, without the toolchain, where nothing can be written, beside another ./build, with a crate that is not proved.
-# One run goes through the toolchain, and a build of three crates; for the others tests/rt_in_its_place stands in its place.
-set -euo pipefail
-# shellcheck source=scripts/program.sh
-source "$(dirname -- "$(readlink -f -- "${BASH_SOURCE[0]}")")/../scripts/program.sh"
+# shellcheck shell=bash disable=SC2154,SC2034
+# For tests/parts/newcomer.sh and tests/parts/toolchain.sh to source: a checkout of a newcomer, and what tests a call of ./flow or ./build there.
 
-room=$(mktemp -d)
-trap 'rm -rf -- "$room"' EXIT
 # A name that a careless script takes apart.
 tree="$room/a checkout"
 elsewhere=$room/elsewhere
@@ -16,10 +9,22 @@ built=$tree${program#"$top"}
 unproved="flow: not built from these sources yet: running it unproved, which compiles it each time; ./build proves and builds it once, in some $build_minutes minutes"
 lacks="there is no rt in PATH: it is the command of the Rattle toolchain, which proves and compiles this repository"
 
+# wrong SAYING: ends the part, since each case goes on from where the one before it left off
 wrong() {
-    echo "newcomer: $1" >&2
-    sed 's/^/| /' "$room/output" "$room/errors" >&2
+    { echo "$1" && sed 's/^/| /' "$room/output" "$room/errors"; } | failed "$this_case"
     exit 1
+}
+
+# try CASE FUNCTION: the function is the case
+try() {
+    this_case=$1
+    why_not=
+    "$2"
+    if [[ -n $why_not ]]; then
+        left_out "$1" <<<"$why_not"
+    elif is_wanted "$1"; then
+        passed "$1"
+    fi
 }
 
 # copy_tree: the checkout as git would bring it
@@ -27,12 +32,12 @@ copy_tree() {
     mkdir -p "$tree" "$elsewhere" "$room/bin" "$room/tools"
     tar -C "$top" --exclude=./.git --exclude="./crates/*/out" -cf - . | tar -C "$tree" -xf -
     mkdir -p "$room/bin/a kit/bin"
-    cp "$top/tests/rt_in_its_place" "$room/bin/rt"
-    cp "$top/tests/rt_in_its_place" "$room/bin/a kit/bin/rattle"
-    cp "$top/tests/rt_in_its_place" "$room/bin/a kit/bin/rattle-link"
+    cp "$top/tests/newcomer/rt_in_its_place" "$room/bin/rt"
+    cp "$top/tests/newcomer/rt_in_its_place" "$room/bin/a kit/bin/rattle"
+    cp "$top/tests/newcomer/rt_in_its_place" "$room/bin/a kit/bin/rattle-link"
     mkdir -p "$room/bin/a kit/toolchain/bin" "$room/bin/a kit/c"
-    cp "$top/tests/rt_in_its_place" "$room/bin/a kit/toolchain/bin/llvm-ar"
-    cp "$top/tests/rt_in_its_place" "$room/bin/cc"
+    cp "$top/tests/newcomer/rt_in_its_place" "$room/bin/a kit/toolchain/bin/llvm-ar"
+    cp "$top/tests/newcomer/rt_in_its_place" "$room/bin/cc"
     echo "the C of the system" >"$room/bin/a kit/c/libos_c.a"
     echo "the C of the heap" >"$room/bin/a kit/c/liblibc_c.a"
     echo "a toolchain" >"$room/bin/version"
@@ -76,38 +81,5 @@ wait_for() {
     wrong "this never came: $*"
 }
 
-# shellcheck source=tests/newcomer/runs.sh
-source "$top/tests/newcomer/runs.sh"
-# shellcheck source=tests/newcomer/real_build.sh
-source "$top/tests/newcomer/real_build.sh"
-# shellcheck source=tests/newcomer/builds.sh
-source "$top/tests/newcomer/builds.sh"
-# shellcheck source=tests/newcomer/library_for_c.sh
-source "$top/tests/newcomer/library_for_c.sh"
-# shellcheck source=tests/newcomer/stopped_builds.sh
-source "$top/tests/newcomer/stopped_builds.sh"
-
 : >"$room/output"
 : >"$room/errors"
-copy_tree
-link_tools
-real_run_is_unproved
-real_build_proves_and_links
-unproved_runs_pass_all_on
-failures_pass_on
-limits_are_told
-places_are_shown
-without_rt_nothing_is_lost_but_a_line
-edits_are_seen
-build_proves_each_crate_once
-build_makes_the_library_for_c
-edit_proves_what_stands_on_it
-install_puts_all_in_place
-crates_are_proved_side_by_side
-failed_build_leaves_no_half_program
-end_without_verdict_is_no_proof
-edits_during_a_build_are_seen
-second_build_waits
-interrupted_build_leaves_nothing
-without_writing_flow_runs
-echo "newcomer: all is as it must be"

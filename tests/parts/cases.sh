@@ -1,0 +1,156 @@
+#!/usr/bin/env bash
+# Calls of the program: those of tests/cases, those of the folders of examples/, and those that pages show, all over one build of it, unproved. A call is a
+# folder as tests/README.md describes; those of examples and pages are made here. A run is made a second time on one thread, and has to end in the same way.
+set -euo pipefail
+# shellcheck source=tests/part.sh
+source "$(dirname -- "$(readlink -f -- "${BASH_SOURCE[0]}")")/../part.sh"
+# shellcheck source=tests/parts/shown.sh
+source "$top/tests/parts/shown.sh"
+
+# Of each case the folder that describes it.
+declare -A folder_of=()
+
+# add CASE FOLDER: the case, and the second run of a run
+add() {
+    local words=()
+    folder_of[$1]=$2
+    echo "$1"
+    if [[ -e $2/args ]]; then
+        mapfile -t words <"$2/args"
+    fi
+    if [[ ${words[0]-} == run && " ${words[*]} " != *" --one-thread "* ]]; then
+        folder_of[$1/one_thread]=$2
+        echo "$1/one_thread"
+    fi
+}
+
+# list MADE: the names of all cases; what is made of examples and pages stands in the folder MADE
+list() {
+    local folder
+    for folder in "$top"/tests/cases/*/*/; do
+        folder=${folder%/}
+        add "${folder#"$top/tests/"}" "$folder"
+    done
+    make_shown "$1"
+    for folder in "${made[@]}"; do
+        add "$folder" "$1/$folder"
+    done
+}
+
+# word_of FOLDER WORD: prints the word as the program gets it, which runs in a folder of its own: where it is a file, or NAME=FILE, of the case or of
+# tests/graphs, by its whole path
+word_of() {
+    local before='' file=$2
+    if [[ $2 == *=* ]]; then
+        before=${2%%=*}=
+        file=${2#*=}
+    fi
+    if [[ -n $file && -f $1/$file ]]; then
+        echo "$before$1/$file"
+    elif [[ $file == tests/graphs/* && -f $top/$file ]]; then
+        echo "$before$top/$file"
+    else
+        echo "$2"
+    fi
+}
+
+# file_of FOLDER NAME: prints which file holds that of a case, an empty one where it has none
+file_of() { [[ -e $1/$2 ]] && echo "$1/$2" || echo /dev/null; }
+
+# build: the program, unproved, as rt compiles it with checks. To rt each case is a second's work, to the program none: so rt runs it once, in which it copies
+# the file `program`, which lies where it runs, and all cases call the copy, as rt would.
+build() {
+    local kit
+    kit=$(dirname -- "$(rt doc)")
+    start=("$kit/toolchain/lib/ld-linux-x86-64.so.2" --inhibit-cache --library-path "$kit/toolchain/lib" "$room/program")
+    mkdir "$room/copy"
+    : >"$room/copy/copy"
+    printf '%s\n' run --one-thread -i from=program -o "to=$room/program" "$top/tests/parts/copy.toml" >"$room/copy/copy.args"
+    (cd -- "$top/crates/$program_crate" && rt try --seconds 600 --cases "$room/copy") >"$room/said" 2>&1 </dev/null || true
+    if [[ ! -s $room/program ]]; then
+        echo "the program is not built, or did not copy itself:"
+        tail -n 40 "$room/said"
+        return 1
+    fi
+    chmod +x "$room/program"
+}
+
+# without TEXT: standard input, but for this text
+# shellcheck disable=SC2001
+without() { LC_ALL=C sed "s|$(sed 's/[][\\.*^$|]/\\&/g' <<<"$1")||g"; }
+
+# call CASE: calls the program in a folder of its own and with no environment, and keeps what it writes, and its status
+call() {
+    local folder=${folder_of[$1]} came=$room/came/$1/came words=() at status=0
+    if [[ -e $folder/args ]]; then
+        mapfile -t words <"$folder/args"
+    fi
+    for at in "${!words[@]}"; do
+        words[at]=$(word_of "$folder" "${words[at]}")
+    done
+    if [[ $1 == */one_thread ]]; then
+        words=("${words[0]}" --one-thread "${words[@]:1}")
+    fi
+    mkdir -p "$came/here"
+    (cd -- "$came/here" && exec env -i timeout 60 "${start[@]}" "${words[@]}") <"$(file_of "$folder" stdin)" >"$came/stdout" 2>"$came/errors" || status=$?
+    echo "$status" >"$came/status"
+    # (a path is shown as the case names it)
+    without "$folder/" <"$came/errors" | without "$top/" >"$came/stderr"
+}
+
+# call_all: as many side by side as there are processors
+call_all() {
+    local it lanes
+    lanes=$(nproc)
+    while IFS= read -r it; do
+        while (($(jobs -rp | wc -l) >= lanes)); do
+            wait -n || true
+        done
+        call "$it" &
+    done <"$room/wanted"
+    wait
+}
+
+# is_right CASE: whether it ended as its folder wants, and shows what differs where it did not
+is_right() {
+    local folder=${folder_of[$1]} came=$room/came/$1/came wanted=0 right=0
+    if [[ -e $folder/status ]]; then
+        wanted=$(<"$folder/status")
+    fi
+    if [[ $(<"$came/status") != "$wanted" ]]; then
+        echo "status: wanted $wanted, and it ended in $(<"$came/status")"
+        right=1
+    fi
+    differs stdout "$(file_of "$folder" stdout)" "$came/stdout" || right=1
+    if [[ ! -e $folder/stderr.any ]]; then
+        differs stderr "$(file_of "$folder" stderr)" "$came/stderr" || right=1
+    elif [[ ! -s $came/stderr ]]; then
+        echo "stderr: wanted some text, and none came"
+        right=1
+    fi
+    return "$right"
+}
+
+run() {
+    local it wrong start=()
+    mkdir -p "$room/made"
+    list "$room/made" >/dev/null
+    build
+    call_all
+    while IFS= read -r it; do
+        if wrong=$(is_right "$it"); then
+            passed "$it"
+        else
+            failed "$it" <<<"flow $(paste -sd ' ' "$(file_of "${folder_of[$it]}" args)")"$'\n'"$wrong"
+        fi
+    done <"$room/wanted"
+}
+
+case $1 in
+list)
+    made_here=$(mktemp -d)
+    trap 'rm -rf -- "$made_here"' EXIT
+    list "$made_here"
+    ;;
+run) run ;;
+esac

@@ -1,0 +1,129 @@
+#!/usr/bin/env bash
+# Calls of a plant, runs in threads with a caller and without, commands of the program on graph files with lines, runs between raw streams, and the reading of the
+# program's words and file, in each of which one allocation fails: a case for each allocation. The program of tests/memory ends with status 0 each time. And
+# rounds of a plant in which no allocation is made, so that none of them comes to fail. Tried are each eighth allocation, beginning with that of MEMORY_EIGHTH, 0
+# to 7, or of the day of the month, or with MEMORY_EIGHTH=all each one.
+set -euo pipefail
+# shellcheck source=tests/part.sh
+source "$(dirname -- "$(readlink -f -- "${BASH_SOURCE[0]}")")/../part.sh"
+
+eighth=${MEMORY_EIGHTH:-$(($(date +%-d) % 8))}
+# The allocation that is refused. The program makes so many others before its own that each of its own comes to be this one.
+refused=400
+# Of each task, a few more than the allocations that are made up to its end (in threads the schedule changes their number), and how many of the first are
+# left out, since another task makes them too: `check` reads and tests a file as all do that take one, and `calls` opens a plant as `live` does before its run.
+# The bounds are near, since each case takes its time; the cases at the bounds, which are always tried, test them.
+file=130
+declare -A most=([calls]=165 [live]=165 [launch]=330 [whole_run]=330 [start]=331 [launch_nothing]=14 [check]=172 [feeds]=202 [draw]=165 [run]=254 [alone]=226
+    [chain]=195 [script]=244 [lines]=230 [tags]=255 [settings]=215 [fork]=245 [raw]=212 [raw_alone]=208 [stall]=208 [words]=26 [call]=116 [file]=24 [steady]=171)
+declare -A left_out=([calls]=0 [live]=96 [launch]=240 [whole_run]=240 [start]=240 [launch_nothing]=0 [check]=0 [feeds]=$file [draw]=$file [run]=$file [alone]=$file
+    [chain]=0 [script]=$file [lines]=$file [tags]=$file [settings]=$file [fork]=$file [raw]=$file [raw_alone]=$file [stall]=$file [words]=0 [call]=0 [file]=0 [steady]=163)
+
+# list: each case has the number of the allocation of its task that is refused
+list() {
+    local task at
+    for task in $(printf '%s\n' "${!most[@]}" | LC_ALL=C sort); do
+        for ((at = left_out[$task] + 1; at <= most[$task]; at++)); do
+            if [[ $eighth == all ]] || ((at % 8 == eighth || at == left_out[$task] + 1 || at == most[$task])); then
+                echo "memory/$task/$at"
+            fi
+        done
+        if [[ $eighth == all ]]; then
+            echo "memory/$task/sum"
+        fi
+    done
+}
+
+# said_of CASE: prints what the program said in it: whether the allocation that failed was one of those of the task
+said_of() { grep -xFA 1 "== ${1//\//:}" "$room/output" | tail -n 1 || true; }
+
+# wanted_of TASK AT: prints what it has to say, as a pattern. At the greatest number none of its own is refused any more. At the least one is already, or none is
+# yet, where nothing else makes its first ones. In steady rounds none is made: the one that is refused comes before them or behind them.
+wanted_of() {
+    local first='(inside|outside)'
+    case $1 in
+    calls | check | live | launch | whole_run | start | launch_nothing | chain | words | call | file) first=outside ;;
+    steady) first=early ;;
+    *) first=inside ;;
+    esac
+    if (($2 == most[$1])); then
+        echo outside
+    elif (($2 == left_out[$1] + 1)); then
+        echo "$first"
+    elif [[ $1 == steady ]]; then
+        echo '(early|outside)'
+    else
+        echo '(inside|outside)'
+    fi
+}
+
+# least_of TASK: prints how many allocations of its own it has at least: `calls` and `check` as many as others leave out
+least_of() {
+    case $1 in
+    calls) echo "${left_out[live]}" ;;
+    check) echo "$file" ;;
+    steady) echo 0 ;;
+    *) echo 1 ;;
+    esac
+}
+
+# sum TASK: whether it had so many refused
+sum() {
+    local own
+    own=$(grep -A 1 "^== memory:$1:" "$room/output" | grep -cx inside || true)
+    if ((own >= $(least_of "$1"))); then
+        passed "memory/$1/sum"
+    else
+        failed "memory/$1/sum" <<<"wanted $(least_of "$1") allocations of its own at least, and there were $own"
+    fi
+}
+
+# judge TASK AT: whether a case ended well, and said what it has to
+judge() {
+    local name=memory/$1/$2 said wanted
+    said=$(said_of "$name")
+    wanted=$(wanted_of "$1" "$2")
+    if grep -q "^case=${name//\//:} run=ended status=0 " "$room/said" && [[ $said =~ ^$wanted$ ]]; then
+        passed "$name"
+    else
+        {
+            echo "allocation $2 of $1 fails: wanted status 0 and ${wanted//|/ or }, and there came \"$said\" and"
+            awk -v line="case=${name//\//:} " 'index($0, line) == 1 { printf "%s", held; print; exit } /^case=/ { held = ""; next } { held = held $0 "\n" }' "$room/said"
+        } | failed "$name"
+    fi
+}
+
+put() {
+    local task at _
+    put_apart tree memory_tests flow clap
+    put_sources "$top/tests/memory" "$room/tree/crates/memory_tests/src"
+    # (these read the words of the program)
+    cp -- "$top/crates/$program_crate/src/"{ends,words}.rt "$room/tree/crates/memory_tests/src"
+    mkdir -p "$room/given"
+    while IFS=/ read -r _ task at; do
+        if [[ $at != sum ]]; then
+            # (the file of a case is its standard input, and what a task reads that takes a file)
+            printf '%3000s' '' >"$room/given/memory:$task:$at"
+            printf '%s\n' "$task" $((refused - at)) >"$room/given/memory:$task:$at.args"
+            if [[ $task == @(words|call|file) ]]; then
+                echo '{}' >>"$room/given/memory:$task:$at.args"
+            fi
+        fi
+    done <"$room/wanted"
+}
+
+run() {
+    local task at _
+    echo "memory: MEMORY_EIGHTH=$eighth"
+    put
+    (cd -- "$room/tree/crates/memory_tests" && rt try --fail-alloc "$refused" --cases "$room/given") >"$room/output" 2>"$room/said" </dev/null || true
+    while IFS=/ read -r _ task at; do
+        if [[ $at == sum ]]; then
+            sum "$task"
+        else
+            judge "$task" "$at"
+        fi
+    done <"$room/wanted"
+}
+
+"$1"

@@ -1,0 +1,51 @@
+#!/usr/bin/env bash
+# What a newcomer meets who calls ./flow and ./build: in a checkout that is not built, that was edited since, from another folder,
+# through a link, without the toolchain, where nothing can be written, beside another ./build, with a crate that is not proved.
+# tests/newcomer/rt_in_its_place stands in the place of the toolchain; tests/parts/toolchain.sh has what goes through that itself. Each case goes on from where
+# the one before it left off, so that all up to the last that is wanted are run.
+set -euo pipefail
+# shellcheck source=tests/part.sh
+source "$(dirname -- "$(readlink -f -- "${BASH_SOURCE[0]}")")/../part.sh"
+
+cases=(
+    unproved_runs_pass_all_on
+    failures_pass_on
+    limits_are_told
+    places_are_shown
+    without_rt_nothing_is_lost_but_a_line
+    edits_are_seen
+    build_proves_each_crate_once
+    build_makes_the_library_for_c
+    edit_proves_what_stands_on_it
+    install_puts_all_in_place
+    crates_are_proved_side_by_side
+    failed_build_leaves_no_half_program
+    end_without_verdict_is_no_proof
+    edits_during_a_build_are_seen
+    second_build_waits
+    interrupted_build_leaves_nothing
+    without_writing_flow_runs
+)
+
+list() { printf 'newcomer/%s\n' "${cases[@]}"; }
+
+run() {
+    local it last
+    # shellcheck source=tests/newcomer/tree.sh
+    source "$top/tests/newcomer/tree.sh"
+    for it in runs builds library_for_c stopped_builds; do
+        # shellcheck source=tests/newcomer/runs.sh
+        source "$top/tests/newcomer/$it.sh"
+    done
+    copy_tree
+    link_tools
+    last=$(tail -n 1 "$room/wanted")
+    for it in "${cases[@]}"; do
+        try "newcomer/$it" "$it"
+        if [[ newcomer/$it == "$last" ]]; then
+            break
+        fi
+    done
+}
+
+"$1"

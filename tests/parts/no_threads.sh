@@ -1,0 +1,28 @@
+#!/usr/bin/env bash
+# Runs in threads of which none can be started, as there is no room for its stack: each is told 61, and its plant comes back and settles on one thread. It compiles
+# the program of tests/memory once more, so ./test tries it by its name alone.
+set -euo pipefail
+# shellcheck source=tests/part.sh
+source "$(dirname -- "$(readlink -f -- "${BASH_SOURCE[0]}")")/../part.sh"
+
+list() { echo no_threads/each_run_is_told_61; }
+
+run() {
+    put_apart tree memory_tests flow clap
+    put_sources "$top/tests/memory" "$room/tree/crates/memory_tests/src"
+    # (these read the words of the program)
+    cp -- "$top/crates/$program_crate/src/"{ends,words}.rt "$room/tree/crates/memory_tests/src"
+    mkdir "$room/given"
+    : >"$room/given/no_threads"
+    printf '%s\n' no_threads 0 >"$room/given/no_threads.args"
+    # The C library gives a thread a stack of this many KiB, which are more than there are addresses. The first thread of a process has its own way.
+    ulimit -s 137438953472
+    (cd -- "$room/tree/crates/memory_tests" && rt try --cases "$room/given") >"$room/output" 2>"$room/said" </dev/null || true
+    if grep -q '^case=no_threads run=ended status=0 ' "$room/said" && grep -qx refused "$room/output"; then
+        passed no_threads/each_run_is_told_61
+    else
+        cat -- "$room/said" "$room/output" | failed no_threads/each_run_is_told_61
+    fi
+}
+
+"$1"

@@ -1,0 +1,132 @@
+# shellcheck shell=bash disable=SC2154
+# For tests/parts/cases.sh to source: cases of what is shown elsewhere, each made as a folder like those of tests/cases: the files of examples/, and the calls
+# of `flow` on examples that README.md, docs/ and the examples show behind a `$`, each with what it writes.
+
+# Of each case that was made its name, which is its folder below that of all.
+made=()
+
+# make CASE STDOUT STDERR STATUS WORD..: a case, in the folder of all, `shown`
+make() {
+    local folder=$shown/$1
+    made+=("$1")
+    mkdir -p "$folder"
+    printf '%s\n' "${@:5}" >"$folder/args"
+    echo "$4" >"$folder/status"
+    [[ -z $2 ]] || printf '%s\n' "$2" >"$folder/stdout"
+    [[ -z $3 ]] || printf '%s\n' "$3" >"$folder/stderr"
+}
+
+# end_of OUTPUT: prints the status of a call that writes this: one that stalls says so in its last line
+end_of() { [[ ${1##*$'\n'} == stalled ]] && echo 3 || echo 0; }
+
+# make_example FOLDER: what `check`, `run`, its script or its live run, whichever it has a file for, writes for its graph file
+make_example() {
+    local name file wanted errors it
+    name=examples/$(basename -- "$1")
+    for it in check run script live; do
+        file=$1/expected_$it
+        if [[ $it == script ]]; then
+            file=$1/expected
+        fi
+        if [[ ! -e $file ]]; then
+            continue
+        fi
+        wanted=$(<"$file")
+        errors=''
+        if [[ $it == run && -e $1/expected_stall ]]; then
+            errors=$(<"$1/expected_stall")
+        fi
+        make "$name/$it" "$wanted" "$errors" "$(end_of "$wanted")" "$it" graph.toml
+        cp -- "$1/graph.toml" "$shown/$name/$it"
+        if [[ -e $1/$it ]]; then
+            cp -- "$1/$it" "$shown/$name/$it/stdin"
+        fi
+    done
+}
+
+# make_recording: the recording of examples/signal through its filter, beside what make.py computes from the filter's equation. The files have the sums that
+# the example shows.
+make_recording() {
+    local maker=$top/examples/signal/make.py name=examples/signal/recorded wanted
+    mkdir -p "$shown/$name"
+    "$maker" recording "$shown/$name/recording.s16"
+    "$maker" filtered "$shown/$name/filtered.s16"
+    if ! (cd -- "$shown/$name" && sha256sum --check --quiet "$top/examples/signal/SHA256SUMS") >&2; then
+        echo "examples/signal/make.py makes other files" >&2
+        exit 1
+    fi
+    wanted="sink out 10002 $(od -An -v -td2 "$shown/$name/filtered.s16" | xargs) @0:rx_rate=480000/0 @2:lead=20/0"$'\n'done
+    make "$name" "$wanted" '' 0 run -i adc=recording.s16 graph.toml
+    cp -- "$top/examples/signal/graph.toml" "$shown/$name"
+}
+
+# make_call CASE OUTPUT WORD..: a call as a page shows it, with < FILE for its standard input. What it says of a stall goes to standard error
+make_call() {
+    local name=$1 output=$2 words=() graph='' input='' errors
+    shift 2
+    while (($# > 0)); do
+        case $1 in
+        '<') input=$2 && shift ;;
+        examples/*.toml) graph=$1 && words+=(graph.toml) ;;
+        *) words+=("$1") ;;
+        esac
+        shift
+    done
+    errors=$(grep '^flow: stalled: ' <<<"$output" || true)
+    output=$(grep -v '^flow: stalled: ' <<<"$output" || true)
+    make "$name" "$output" "$errors" "$(end_of "$output")" "${words[@]}"
+    cp -- "$top/$graph" "$shown/$name/graph.toml"
+    if [[ -n $input ]]; then
+        cp -- "$top/$input" "$shown/$name/stdin"
+    fi
+}
+
+# make_calls_of FILE: the calls that a page shows; in a fence without a language each runs from its `$` to the next, or to the end of the fence. (Those with
+# files of raw items are of examples/signal, whose recording is a case of its own.)
+make_calls_of() {
+    local line page call='' words=() output='' in_fence=0 number=0
+    page=${1#"$top"/}
+    page=pages/${page%.md}
+    while IFS= read -r line || [[ -n $line ]]; do
+        if [[ $line == '```'* || $line == '$ '* ]]; then
+            if [[ $call =~ ^(\./)?flow\ ([a-z].*)$ && $call == *examples/* && $call != *' -o '* ]]; then
+                number=$((number + 1))
+                read -ra words <<<"${BASH_REMATCH[2]}"
+                make_call "$page/$number" "${output%$'\n'}" "${words[@]}"
+            fi
+            call='' output=''
+        fi
+        if [[ $line == '```' ]]; then
+            in_fence=$((in_fence == 0))
+        elif [[ $line == '```'* ]]; then
+            in_fence=2
+        elif [[ $in_fence == 1 && $line == '$ '* ]]; then
+            call=${line#'$ '}
+        elif [[ -n $call ]]; then
+            output+=$line$'\n'
+        fi
+    done <"$1"
+    if [[ $page =~ ^pages/(README|docs/FORMATS)$ ]] && ((number == 0)); then
+        echo "$1 shows no call of flow" >&2
+        exit 1
+    fi
+}
+
+# make_shown FOLDER: all of these, in the folder
+make_shown() {
+    local folder page shown=$1
+    for folder in "$top"/examples/*/; do
+        # (a folder without one has a program, which tests/parts/programs.sh runs)
+        if [[ -e ${folder}graph.toml ]]; then
+            make_example "${folder%/}"
+        fi
+    done
+    if command -v python3 >/dev/null; then
+        make_recording
+    else
+        echo "left out: the recording of examples/signal, since there is no python3" >&2
+    fi
+    for page in "$top"/README.md "$top"/docs/*.md "$top"/examples/*/README.md; do
+        make_calls_of "$page"
+    done
+}
