@@ -3,6 +3,8 @@
 
 # By the toolchain, through a link, with a relative path, CDPATH, and input that comes later than rt try waits for it.
 real_run_is_unproved() {
+    # (beside others, on two slow processors)
+    local limit=3600
     (sleep 2.5 && cat "$tree/examples/add_const/script") |
         calls 0 env CDPATH="$room:$tree" ./flow_by_link script "a graph.toml"
     cmp -s "$room/output" "$tree/examples/add_const/expected" || wrong "a real run unproved writes something else"
@@ -48,7 +50,6 @@ copy_low_crates() {
 
 # The program is refused where its clause is false, and built and linked where it is true; a second build proves nothing.
 real_build_proves_and_links() {
-    # (beside other scripts, on two slow processors)
     local limit=3600 it built=$small/crates/$program_crate/out/built/$program_crate
     copy_low_crates
     writes_program "greatest(ItemType::Short)"
