@@ -6,7 +6,7 @@ use crate::document::Document;
 use crate::feed_faults::feed_finding;
 use crate::frame::{Finding, Source, framed};
 use crate::graph_faults::{graph_finding, negative_finding};
-use crate::shown::Look;
+use crate::looks::Look;
 use crate::table_faults::table_finding;
 use graph_file::{Depth, FileFault, fault_of};
 use std::alloc::{AllocError, Global};

@@ -1,7 +1,7 @@
 //! A place of a text, shown as compilers do: where it is, its line, and a mark below the place.
 ghost use Rattle.std.specs.Prelude.{◌≤◌, length};
 
-use crate::shown::{Look, put_shown};
+use crate::looks::{Look, put_shown};
 use crate::tokens::{Span, part, rest};
 use itoa::Buffer;
 use std::alloc::{AllocError, Global};

@@ -3,9 +3,9 @@
 use crate::document::Document;
 use crate::expected::item_text;
 use crate::frame::Finding;
+use crate::looks::shown;
 use crate::near::hint;
 use crate::ports::{joined_ports, port_of, ports_text, sides_of, used_ports};
-use crate::shown::shown;
 use flowgraph::{BlockOption, GraphFault, Limit, Side};
 use graph_file::FilePlace;
 use kind_keys::Key;

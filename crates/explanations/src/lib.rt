@@ -10,14 +10,14 @@ mod feed_faults;
 mod frame;
 mod graph_faults;
 pub mod lines;
+pub mod looks;
 mod near;
 pub mod noted;
 mod ports;
-pub mod shown;
 mod table_faults;
 mod tokens;
 
 pub use explained::explain;
 pub use lines::KeptLines;
+pub use looks::shown;
 pub use noted::{Noted, at_device};
-pub use shown::shown;

@@ -3,8 +3,8 @@ ghost use Rattle.std.specs.Prelude.{◌≡◌};
 
 use crate::commands::{CALLS, COMMANDS, bad_place, field_from, grammar};
 use crate::frame::{Finding, Source, framed};
+use crate::looks::{Look, put_shown};
 use crate::near::near_name;
-use crate::shown::{Look, put_shown};
 use crate::tokens::part;
 use script_text::{Broken, ByteIn, Command, Line, parse_line};
 use std::alloc::{AllocError, Global};

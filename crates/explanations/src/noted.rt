@@ -1,7 +1,7 @@
 //! Devices, with the reason why one failed.
 ghost use Rattle.std.specs.Prelude.{◌≡◌, None};
 
-use crate::shown::shown;
+use crate::looks::shown;
 use std::alloc::{AllocError, Global};
 use std::io::{Error, Read, Result, Write};
 

@@ -5,8 +5,8 @@ use crate::expected::{
     known_keys, listed_keys, listed_kinds, owner, range_text, shape_text, type_text,
 };
 use crate::frame::Finding;
+use crate::looks::shown;
 use crate::near::near_name;
-use crate::shown::shown;
 use crate::tokens::part;
 use block_kinds::Parameter;
 use graph_file::FilePlace;
