@@ -28,3 +28,29 @@ differs() { diff --text -U 3 --label "$1 wanted" --label "$1 that came" -- "$2" 
 
 # is_wanted CASE: whether this case is to be tried
 is_wanted() { grep -qxF -- "$1" "$room/wanted"; }
+
+# build_copy FOLDER [WORD..] -- CALL..: a program, unproved, as rt compiles it with checks, as $room/program; `start` has the words that start it. To rt each
+# call of a program is a second's work, to the program none: so rt runs it once, with these words to it and those of the call to the program, which copies the file
+# `program` that lies where it runs, and all cases call the copy, as rt would.
+build_copy() {
+    local kit folder=$1 words=()
+    shift
+    while [[ $1 != -- ]]; do
+        words+=("$1")
+        shift
+    done
+    shift
+    kit=$(dirname -- "$(rt doc)")
+    # shellcheck disable=SC2034  # It is for the scripts that source this.
+    start=("$kit/toolchain/lib/ld-linux-x86-64.so.2" --inhibit-cache --library-path "$kit/toolchain/lib" "$room/program")
+    mkdir "$room/copy"
+    : >"$room/copy/copy"
+    printf '%s\n' "$@" >"$room/copy/copy.args"
+    (cd -- "$folder" && rt try --seconds 600 "${words[@]}" --cases "$room/copy") >"$room/said" 2>&1 </dev/null || true
+    if [[ ! -s $room/program ]]; then
+        echo "the program is not built, or did not copy itself:"
+        tail -n 40 "$room/said"
+        return 1
+    fi
+    chmod +x "$room/program"
+}

@@ -21,7 +21,7 @@ use crate::launches::Way;
 use crate::served::Case;
 use items::Refusal;
 use std::alloc::Global;
-use std::env;
+use std::{env, fs};
 use std::process::{Abort, ExitCode};
 use std::sync::Wait;
 use std::thread::Threads;
@@ -48,6 +48,7 @@ enum Task {
     File,
     Steady,
     NoThreads,
+    Copy,
 }
 
 // What runs in threads may be handed on.
@@ -72,6 +73,7 @@ fn main(rt: HostRuntime) -> ExitCode {
         },
         Task::Steady => (go_on(&rt, alloc, before), None),
         Task::NoThreads => (no_threads_task(rt, alloc), None),
+        Task::Copy => (copy_task(&rt, &path), None),
     };
     let _ = println!(rt; "{came}");
     if let Some(number) = fault {
@@ -223,6 +225,17 @@ fn no_threads_task(rt: impl Host, alloc: Global) -> &'static str {
     "refused"
 }
 
+// The program, which lies where it runs, is copied to this place: there it runs without what makes it slow.
+fn copy_task(rt: &HostRuntime, to: &str) -> &'static str {
+    let Ok(program) = fs::read(rt, "program") else {
+        return "unread";
+    };
+    match fs::write(rt, to, &program) {
+        Ok(()) => "copied",
+        Err(_) => "unwritten",
+    }
+}
+
 // Where the failing allocation came in a run with steady rounds: before them, in them, or behind them.
 fn go_on(rt: &impl Abort, alloc: Global, before: u32) -> &'static str {
     let ready = steady::make_ready(alloc);
@@ -282,6 +295,7 @@ fn task_of(name: &str) -> Option<Task> {
         "file" => Task::File,
         "steady" => Task::Steady,
         "no_threads" => Task::NoThreads,
+        "copy" => Task::Copy,
         _ => return None,
     })
 }

@@ -57,22 +57,9 @@ word_of() {
 # file_of FOLDER NAME: prints which file holds that of a case, an empty one where it has none
 file_of() { [[ -e $1/$2 ]] && echo "$1/$2" || echo /dev/null; }
 
-# build: the program, unproved, as rt compiles it with checks. To rt each case is a second's work, to the program none: so rt runs it once, in which it copies
-# the file `program`, which lies where it runs, and all cases call the copy, as rt would.
+# build: the program, unproved
 build() {
-    local kit
-    kit=$(dirname -- "$(rt doc)")
-    start=("$kit/toolchain/lib/ld-linux-x86-64.so.2" --inhibit-cache --library-path "$kit/toolchain/lib" "$room/program")
-    mkdir "$room/copy"
-    : >"$room/copy/copy"
-    printf '%s\n' run --one-thread -i from=program -o "to=$room/program" "$top/tests/parts/copy.toml" >"$room/copy/copy.args"
-    (cd -- "$top/crates/$program_crate" && rt try --seconds 600 --cases "$room/copy") >"$room/said" 2>&1 </dev/null || true
-    if [[ ! -s $room/program ]]; then
-        echo "the program is not built, or did not copy itself:"
-        tail -n 40 "$room/said"
-        return 1
-    fi
-    chmod +x "$room/program"
+    build_copy "$top/crates/$program_crate" -- run --one-thread -i from=program -o "to=$room/program" "$top/tests/parts/copy.toml"
 }
 
 # without TEXT: standard input, but for this text

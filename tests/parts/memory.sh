@@ -35,7 +35,7 @@ list() {
 }
 
 # said_of CASE: prints what the program said in it: whether the allocation that failed was one of those of the task
-said_of() { grep -xFA 1 "== ${1//\//:}" "$room/output" | tail -n 1 || true; }
+said_of() { head -n 1 "$room/came/$1.stdout"; }
 
 # wanted_of TASK AT: prints what it has to say, as a pattern. At the greatest number none of its own is refused any more. At the least one is already, or none is
 # yet, where nothing else makes its first ones. In steady rounds none is made: the one that is refused comes before them or behind them.
@@ -70,7 +70,7 @@ least_of() {
 # sum TASK: whether it had so many refused
 sum() {
     local own
-    own=$(grep -A 1 "^== memory:$1:" "$room/output" | grep -cx inside || true)
+    own=$(cat -- "$room/came/memory/$1/"*.stdout | grep -cx inside || true)
     if ((own >= $(least_of "$1"))); then
         passed "memory/$1/sum"
     else
@@ -80,43 +80,62 @@ sum() {
 
 # judge TASK AT: whether a case ended well, and said what it has to
 judge() {
-    local name=memory/$1/$2 said wanted
+    local name=memory/$1/$2 said wanted status
     said=$(said_of "$name")
     wanted=$(wanted_of "$1" "$2")
-    if grep -q "^case=${name//\//:} run=ended status=0 " "$room/said" && [[ $said =~ ^$wanted$ ]]; then
+    status=$(<"$room/came/$name.status")
+    if [[ $status == 0 && $said =~ ^$wanted$ ]]; then
         passed "$name"
     else
         {
-            echo "allocation $2 of $1 fails: wanted status 0 and ${wanted//|/ or }, and there came \"$said\" and"
-            awk -v line="case=${name//\//:} " 'index($0, line) == 1 { printf "%s", held; print; exit } /^case=/ { held = ""; next } { held = held $0 "\n" }' "$room/said"
+            echo "allocation $2 of $1 fails: wanted status 0 and ${wanted//|/ or }, and there came status $status, \"$said\" and"
+            cat -- "$room/came/$name.errors"
         } | failed "$name"
     fi
 }
 
-put() {
-    local task at _
+# build: the program, in which the allocation of that number fails, as rt compiles it
+build() {
     put_apart tree memory_tests flow clap
     put_sources "$top/tests/memory" "$room/tree/crates/memory_tests/src"
     # (these read the words of the program)
     cp -- "$top/crates/$program_crate/src/"{ends,words}.rt "$room/tree/crates/memory_tests/src"
-    mkdir -p "$room/given"
+    build_copy "$room/tree/crates/memory_tests" --fail-alloc "$refused" -- copy 0 "$room/program"
+}
+
+# call TASK AT: calls the program so that this allocation of the task fails, and keeps what it writes, and its status
+call() {
+    local came=$room/came/memory/$1/$2 words=("$1" $((refused - $2))) status=0
+    if [[ $1 == @(words|call|file) ]]; then
+        words+=("$room/file")
+    fi
+    env -i timeout 60 "${start[@]}" "${words[@]}" </dev/null >"$came.stdout" 2>"$came.errors" || status=$?
+    echo "$status" >"$came.status"
+}
+
+# call_all: as many side by side as there are processors
+call_all() {
+    local task at _ lanes
+    lanes=$(nproc)
     while IFS=/ read -r _ task at; do
         if [[ $at != sum ]]; then
-            # (the file of a case is its standard input, and what a task reads that takes a file)
-            printf '%3000s' '' >"$room/given/memory:$task:$at"
-            printf '%s\n' "$task" $((refused - at)) >"$room/given/memory:$task:$at.args"
-            if [[ $task == @(words|call|file) ]]; then
-                echo '{}' >>"$room/given/memory:$task:$at.args"
-            fi
+            mkdir -p "$room/came/memory/$task"
+            while (($(jobs -rp | wc -l) >= lanes)); do
+                wait -n || true
+            done
+            call "$task" "$at" &
         fi
     done <"$room/wanted"
+    wait
 }
 
 run() {
     local task at _
     echo "memory: MEMORY_EIGHTH=$eighth"
-    put
-    (cd -- "$room/tree/crates/memory_tests" && rt try --fail-alloc "$refused" --cases "$room/given") >"$room/output" 2>"$room/said" </dev/null || true
+    build || return
+    # (what a task reads that takes a file)
+    printf '%3000s' '' >"$room/file"
+    call_all
     while IFS=/ read -r _ task at; do
         if [[ $at == sum ]]; then
             sum "$task"
