@@ -3,4 +3,5 @@
 mod balances;
 mod claims;
 mod drawn;
+mod limits;
 mod refusals;

@@ -10,6 +10,7 @@ cases=(
     unturned
     done_reader_needs_no_room
     claim_in_flight_fits
+    feed_past_the_limit
     tag_an_item_early
     end_a_firing_early
     end_with_items_left
@@ -54,6 +55,12 @@ done_reader_needs_no_room() {
 claim_in_flight_fits() {
     refuses machine_laws machine_laws/specs/Sound.antt \
         'Fits net caps st b (reached st b)' 'Fits net caps st b (fired st b)'
+}
+
+# Limits: what is fed is not counted.
+feed_past_the_limit() {
+    refuses machine_laws stream_model/specs/Machine.antt \
+        'nat_lt s.longest (length s.tape + length xs)' 'nat_lt s.longest (length s.tape)'
 }
 
 # Tags: one may come an item early.

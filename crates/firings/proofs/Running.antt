@@ -13,11 +13,12 @@ use Rattle.stream_model.specs.Claims.{InputCounts, Counts, decide}
 use Rattle.stream_model.specs.Machine as machine
 use Rattle.stream_model.specs.Machine.{Capacities, Claim, is_waiting, tape_counts, input_counts, counts_in, counts_out, counts_of, claim_of, is_quiet, is_idle}
 use Rattle.stream_model.proofs.Streams.{given_by-rises, taken_by-rises}
+use Rattle.graph_model.specs.Gains.{most_grown}
 use Rattle.graph_model.specs.Graphs.{IsValidGraph}
 use Rattle.stream_laws.specs.CanRun.{CanRun}
 use Rattle.machine_laws.specs.Sound.{Sound, reached}
 use Rattle.machine_laws.specs.Bounds as bounds
-use Rattle.machine_laws.proofs.Bounding.{counts_are_small}
+use Rattle.machine_laws.proofs.Bounding.{counts_are_small, alone_fits}
 use Rattle.machine_laws.proofs.Sounds.{calls_keep_sound}
 use Rattle.machine_laws.proofs.Moving as moving
 use Rattle.machine_laws.proofs.Inputs.{below-at}
@@ -95,7 +96,7 @@ claim_waits net caps st b max first = waits_by net st b first (decide (node_at n
 module _ (names : List (List ℕ)) (net : Network) (caps : Capacities) (tapes : List Tape) (can : CanRun net) (valid : IsValidGraph names net) where
   module _ (ps : List model.Progress) (running : IsRunning net caps tapes ps) (b : ℕ) (in' : b < length net.nodes) where
     small_at : bounds.IsSmall net (state_of running.handed ps) b
-    small_at = counts_are_small names net caps (state_of running.handed ps) can valid running.sound b in'
+    small_at = counts_are_small names net caps (state_of running.handed ps) can valid running.within running.sound b in'
 
     pub few_reached : (progress_at ps b).firings + (progress_at ps b).claimed < 2 ^ 62
     few_reached =
@@ -114,7 +115,7 @@ module _ (names : List (List ℕ)) (net : Network) (caps : Capacities) (tapes : 
         taped = handed ∙ running.sound.handed_count;
         short = λ k d lt.
             let there : k < length net.nodes = rw (← running.sound.handed_count, ← handed) lt in
-            let short = (running.sound.handed k there).short in
+            let short : length (handed_at running.handed k).tape ≤ most_grown = tape_fits k (is_source (role_at net k)) there refl in
             let there' : k < length running.handed = rw (← handed) lt in
             let same : get_or tapes k d ≡ tape_of (handed_at running.handed k) = ap (λ ts. get_or ts k d) (sym running.tapes_are) ∙ get_or-map tape_of running.handed k nothing_handed d there' in
             rw same short;
@@ -128,6 +129,10 @@ module _ (names : List (List ℕ)) (net : Network) (caps : Capacities) (tapes : 
               taken = λ p used. (let all = small.taken p used in let rises = taken_by-rises (node_at net b) (can.sound b) p (progress_at ps b).firings (reached st b) up in omega arith);
             };
       }
+    where
+      tape_fits : (k : ℕ) (s : Bool) → k < length net.nodes → is_source (role_at net k) ≡ s → length (handed_at running.handed k).tape ≤ most_grown
+      tape_fits k true there e = let short = (running.sound.handed k there).short in let fits = alone_fits net can k (handed_at running.handed k).longest there (running.within k there e) in omega arith
+      tape_fits k false there e = let none = (running.sound.handed k there).tape e in omega arith
 
 -- a claim that was decided over a situation, here s, and made of the block's own progress another
 module _ {B : Type 0} (meaning : B → Meaning) (looked s : Seen B) (same : looked ≡ s) (max : ℕ) (decision : Decision)
@@ -157,7 +162,7 @@ module _ {B : Type 0} (meaning : B → Meaning) (looked s : Seen B) (same : look
         let kept = calls_keep_sound net s.capacities (state_of running.handed s.progress) can running.sound (Claim s.block max) in
         let inside = lt-ltb s.block (length net.nodes) in' in
         let there : Sound net s.capacities (claim_of net s.capacities (state_of running.handed s.progress) s.block max).1 = rw inside at kept in
-        record { handed = running.handed; tapes_are = running.tapes_are; sound = subst (Sound net s.capacities) (progress_after running.handed running.tapes_are) there }
+        record { handed = running.handed; tapes_are = running.tapes_are; within = running.within; sound = subst (Sound net s.capacities) (progress_after running.handed running.tapes_are) there }
 
     pub claimed_small : (names : List (List ℕ)) → IsValidGraph names net → claimed.firings + claimed.claimed < 2 ^ 62
     claimed_small names valid =
@@ -214,7 +219,7 @@ module _ (ps : List model.Progress) (b : ℕ) (there : b < length ps) (some : 0 
       ((net : Network) → CanRun net → (caps : Capacities) (hs : List Handed) → Sound net caps (state_of hs ps) → b < length net.nodes → Sound net caps (state_of hs new)) → StaysRunning ps new
   stays new moved = λ net caps tapes can running.
       let in' : b < length net.nodes = rw (← running.sound.progress_count) there in
-      record { handed = running.handed; tapes_are = running.tapes_are; sound = moved net can caps running.handed running.sound in' }
+      record { handed = running.handed; tapes_are = running.tapes_are; within = running.within; sound = moved net can caps running.handed running.sound in' }
 
   pub commit_runs : StaysRunning ps (committed ps b)
   commit_runs = stays (committed ps b) (λ net can caps hs sound in'. moving.committed net can caps (state_of hs ps) sound b in' some)

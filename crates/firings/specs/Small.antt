@@ -1,6 +1,7 @@
 -- What sums and products of counts rest on.
 use Rattle.std.specs.Prelude.{ℕ, ◌≡◌, ◌*◌, ◌^◌, ◌<◌, ◌≤◌, List, length, All}
 use Rattle.stream_model.specs.Network.{Network, Progress, node_at, writers_of, taken_by, given_by, progress_at}
+use Rattle.graph_model.specs.Gains.{most_grown}
 use Rattle.stream_laws.specs.CanRun.{CanRun}
 use Rattle.flowgraph.specs.declared.parts.Connection.{Connection}
 use Rattle.firings.specs.declared.progress.Tape.{Tape}
@@ -16,7 +17,7 @@ pub record AreSmall (net : Network) (tapes : List Tape) (ps : List Progress) : T
   pub runs : CanRun net
   pub blocks : length ps ≡ length net.nodes
   pub taped : length tapes ≡ length net.nodes
-  pub short : All (λ t. t.length ≤ 2 ^ 32) tapes
+  pub short : All (λ t. t.length ≤ most_grown) tapes
   pub small : (b : ℕ) → b < length net.nodes → IsSmall net b (progress_at ps b).firings
 
 -- a connection leads to an input that there is

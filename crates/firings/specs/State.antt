@@ -3,6 +3,7 @@ use Rattle.std.specs.Prelude.{ℕ, ◌≡◌, pos, List, [], map, length, replic
 use Rattle.stream_model.specs.Network as model
 use Rattle.stream_model.specs.Network.{Network, Handed, State}
 use Rattle.stream_model.specs.Machine.{Capacities}
+use Rattle.graph_model.specs.Gains.{AreWithinGain}
 use Rattle.stream_laws.specs.CanRun.{CanRun}
 use Rattle.machine_laws.specs.Sound.{Sound}
 use Rattle.firings.specs.declared.progress.Progress.{Progress}
@@ -24,16 +25,17 @@ HasTapes tapes hs = map tape_of hs ≡ tapes
 
 -- a tape of zeros, of this length and mark
 abbrev pub zeros : Tape → Handed
-zeros t = record { tape = replicate t.length (pos 0); tags = []; closed = t.closed; settings = [] }
+zeros t = record { tape = replicate t.length (pos 0); tags = []; closed = t.closed; settings = []; longest = t.length }
 
 -- a state with such tapes and this progress
 abbrev pub lent : List Tape → List model.Progress → State
 lent tapes ps = state_of (map zeros tapes) ps
 
--- tapes and progress are those of some sound state
+-- tapes and progress are those of some sound state, whose tapes come to be no longer than fit
 pub record IsRunning (net : Network) (caps : Capacities) (tapes : List Tape) (ps : List model.Progress) : Type 0 where
   pub handed : List Handed
   pub tapes_are : HasTapes tapes handed
+  pub within : AreWithinGain net handed
   pub sound : Sound net caps (state_of handed ps)
 
 -- the capacities of the outputs, block by block

@@ -5,7 +5,7 @@ use Rattle.stream_model.specs.declared.vocabulary.ItemType.{ItemType}
 use Rattle.stream_model.specs.Network.{Network, State, Handed, nothing_handed, node_at, handed_at, role_at, is_source}
 use Rattle.stream_model.specs.Numbers.{types_agree}
 use Rattle.stream_model.specs.Machine as machine
-use Rattle.stream_model.specs.Machine.{Reply, Fed, Refused, with_handed, with_tape, feed_of, longest_tape}
+use Rattle.stream_model.specs.Machine.{Reply, Fed, Refused, with_handed, with_tape, feed_of}
 use Rattle.machine_laws.proofs.Choices.{if_both, not_false}
 use Rattle.plant.specs.declared.fault.PlantFault.{PlantFault}
 use Rattle.plant.specs.declared.fault.PlantFault.TheVariants as plant
@@ -36,19 +36,17 @@ takes net st b t xs total next =
     (λ member. if_both (not (is_source (role_at net b))) _ _ P (λ _ e. absurd (cc))
     (λ source. if_both (not (types_agree t (node_at net b).meaning.outputs.item)) _ _ P (λ _ e. absurd (cc))
     (λ typed. if_both s.closed _ _ P (λ _ e. absurd (cc))
-    (λ live. if_both (nat_lt longest_tape (length s.tape + length xs)) _ _ P (λ _ e. absurd (cc))
+    (λ live. if_both (nat_lt s.longest (length s.tape + length xs)) _ _ P (λ _ e. absurd (cc))
     (λ _ e f. record { inside = not_false _ member; source = not_false _ source; typed = not_false _ typed; live = live; next_is = sym f })))))
     (ap (λ (r : Reply × State). r.0) fed) (ap (λ (r : Reply × State). r.1) fed)
 
--- what a live source answers
-by_length : (n : ℕ) (before after : State) → Reply × State
-by_length n before after = if nat_lt longest_tape n then (Refused machine.tape_full, before) else (Fed n, after)
-
-same_lengths : (m n : ℕ) (before after before' after' : State) → m ≡ n → after ≡ after' →
-    IsSameFeed (if nat_lt longest_tape m then (Refused machine.tape_full, before) else (Fed m, after)) (if nat_lt longest_tape n then (Refused machine.tape_full, before') else (Fed n, after'))
-same_lengths m n before after before' after' e f =
-    subst (λ (k : ℕ). IsSameFeed (if nat_lt longest_tape m then (Refused machine.tape_full, before) else (Fed m, after)) (if nat_lt longest_tape k then (Refused machine.tape_full, before') else (Fed k, after'))) e
-    (by_test (nat_lt longest_tape m))
+-- what a live source answers, by the length of its tape
+same_lengths : (long long' m n : ℕ) (before after before' after' : State) → long ≡ long' → m ≡ n → after ≡ after' →
+    IsSameFeed (if nat_lt long m then (Refused machine.tape_full, before) else (Fed m, after)) (if nat_lt long' n then (Refused machine.tape_full, before') else (Fed n, after'))
+same_lengths long long' m n before after before' after' l e f =
+    subst (λ (k : ℕ). IsSameFeed (if nat_lt long m then (Refused machine.tape_full, before) else (Fed m, after)) (if nat_lt k n then (Refused machine.tape_full, before') else (Fed n, after'))) l
+    (subst (λ (k : ℕ). IsSameFeed (if nat_lt long m then (Refused machine.tape_full, before) else (Fed m, after)) (if nat_lt long k then (Refused machine.tape_full, before') else (Fed k, after'))) e
+    (by_test (nat_lt long m)))
   where
     by_test : (test : Bool) → IsSameFeed (if test then (Refused machine.tape_full, before) else (Fed m, after)) (if test then (Refused machine.tape_full, before') else (Fed m, after'))
     by_test true = record { reply = refl; state = λ total h. absurd (cc) }
@@ -56,7 +54,7 @@ same_lengths m n before after before' after' e f =
 
 feeds : (net : Network) (st : State) (b : ℕ) (t : ItemType) (xs : List ℤ) → nat_lt b (length net.nodes) ≡ true → is_source (role_at net b) ≡ true → types_agree t (node_at net b).meaning.outputs.item ≡ true →
     (handed_at st.handed b).closed ≡ false →
-    feed_of net st b t xs [] ≡ (if nat_lt longest_tape (length (handed_at st.handed b).tape + length xs) then (Refused machine.tape_full, st)
+    feed_of net st b t xs [] ≡ (if nat_lt (handed_at st.handed b).longest (length (handed_at st.handed b).tape + length xs) then (Refused machine.tape_full, st)
     else (Fed (length (handed_at st.handed b).tape + length xs), with_handed st b (with_tape (handed_at st.handed b) b xs [])))
 unfolding feed_of
 feeds net st b t xs inside source typed live = rw (inside, source, typed, live) refl
@@ -82,8 +80,9 @@ module _ (net : Network) (st : State) (b : ℕ) (t : ItemType) where
       ∙ ap (with_handed st b) joined in
       let lengths : length (handed_at next.handed b).tape + length ys ≡ length s.tape + length (xs ++ ys) =
       ap (λ (h : Handed). length h.tape + length ys) own ∙ (omega (arith, length-append s.tape xs, length-append xs ys)) in
+      let limit : (handed_at next.handed b).longest ≡ s.longest = ap (λ (h : Handed). h.longest) own in
       rw (feeds net next b t ys taken.inside taken.source taken.typed live, feeds net st b t (xs ++ ys) taken.inside taken.source taken.typed taken.live)
-      (same_lengths _ _ next _ st _ lengths after)
+      (same_lengths _ _ _ _ next _ st _ limit lengths after)
 
 same_type : (t u : ItemType) → t ≡ u → types_agree t u ≡ true
 same_type t u e = subst (λ (v : ItemType). types_agree t v ≡ true) e (itself t)
@@ -104,7 +103,7 @@ module _ (net : Network) (st : State) (b : ℕ) (t : ItemType) (xs : List ℤ) (
       (λ _. if_both (not (is_source (role_at net b))) _ _ P (λ _ e. no_source e)
       (λ _. if_both (not (types_agree t (node_at net b).meaning.outputs.item)) _ _ P (λ differs e. let same = same_type t _ typed in let clash : false ≡ true = sym (ap not same) ∙ differs in absurd (cc))
       (λ _. if_both s.closed _ _ P (λ _ e. closed e)
-      (λ _. if_both (nat_lt longest_tape (length s.tape + length xs)) _ _ P (λ _ e. full e)
+      (λ _. if_both (nat_lt s.longest (length s.tape + length xs)) _ _ P (λ _ e. full e)
       (λ _ e. fed _ e)))))
 
   refused_by : (n : ℕ) → (n ≡ 20 → ⊥) → (n ≡ 21 → ⊥) → (n ≡ 23 → ⊥) → (n ≡ 26 → ⊥) → Refused n ≡ (feed_of net st b t xs []).0 → ⊥

@@ -11,6 +11,7 @@ pub mod PortLemmas
 pub mod PortTests
 pub mod TurnLemmas
 pub mod GainLemmas
+pub mod GreatestGain
 pub mod WireLemmas
 pub mod Assembly
 pub mod AgreeLemmas

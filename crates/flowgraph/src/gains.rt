@@ -1,9 +1,11 @@
-//! The test for paths that multiply items too much.
-ghost use Rattle.std.specs.Prelude.{◌≡◌, ◌<◌, ◌≤◌, ◌*◌, ◌^◌, ◌+◌, ℕ, false, [], None, min, length, map, nat_lt, slice_index, All, IfOk};
+//! How much paths multiply items, and the test for those that do it too much.
+ghost use Rattle.std.specs.Prelude.{◌≡◌, ◌≢◌, ◌<◌, ◌≤◌, ◌*◌, ◌^◌, ◌+◌, ℕ, false, [], ◌∷◌, None, Some, min, length, map, nat_lt, slice_index, All, IfOk, IfErr, OnOk};
 ghost use Rattle.std.specs.List.{find};
 ghost use Rattle.std.specs.Option.{option_map};
 ghost use Rattle.stream_model.specs.Lists.{below};
 ghost use Rattle.stream_model.specs.Firings.{given_at};
+ghost use Rattle.graph_model.specs.Rates.{greatest_of};
+ghost use Rattle.graph_model.specs.Gains.{greatest_gain};
 ghost use Rattle.graph_model.specs.Graphs.{gain_by, reaches_by, most_gain};
 ghost use Rattle.graph_model.specs.Graphs as model;
 ghost use Rattle.flowgraph.specs.Fault.{told};
@@ -19,28 +21,43 @@ use std::alloc::{AllocError, Global};
 /// The greatest product of interpolations along a path.
 const MOST_GAIN: u64 = 16_777_216;
 
-/// The lowest block at which the interpolations along a path that ends there have a product above 16,777,216.
-pub fn gain_fault<B: Block>(
+/// The greatest product of interpolations along a path, at least 1. Refused is the lowest block at which a path with a product above
+/// 16,777,216 ends.
+pub fn greatest_gain<B: Block>(
     alloc: Global,
     blocks: &[Entry<B>],
     connections: &[Connection],
-) -> Result<Option<GraphFault>, AllocError>
+) -> Result<u64, GraphFault>
     requires few { length blocks.now ≤ 256 }
     requires within { AreWithin (length blocks.now) connections.now }
     requires no_loop { find (λ b. reaches_by (length blocks.now) (net_from connections.now) b b) (below (length blocks.now)) ≡ None }
-    ensures { IfOk result (λ fault. fault ≡ told Limit.Blocks (option_map model.Gain
-        (find (λ b. nat_lt most_gain (gain_by (length blocks.now) (net_of B.meaning (graph_of [] blocks.now connections.now)) b)) (below (length blocks.now))))) }
+    ensures passed { OnOk result (option_map model.Gain
+        (find (λ b. nat_lt most_gain (gain_by (length blocks.now) (net_of B.meaning (graph_of [] blocks.now connections.now)) b)) (below (length blocks.now))) ≡ None) }
+    ensures value { IfOk result (λ gain. gain ≡ greatest_gain (net_of B.meaning (graph_of [] blocks.now connections.now))) }
+    ensures refused { IfErr result (λ fault. fault ≢ GraphFault.Memory → told Limit.Blocks (option_map model.Gain
+        (find (λ b. nat_lt most_gain (gain_by (length blocks.now) (net_of B.meaning (graph_of [] blocks.now connections.now)) b)) (below (length blocks.now)))) ≡ Some fault) }
 {
     let gains = gains(alloc, blocks, connections)?;
     'steep: for block in 0..blocks.len() {
         let gain = gains[block];
         if MOST_GAIN < gain {
-            return Ok(Some(GraphFault::Gain {
+            return Err(GraphFault::Gain {
                 block: BlockId(block as u32),
-            }));
+            });
         }
     }
-    Ok(None)
+    Ok(greatest(&gains))
+}
+
+// The greatest of these, at least 1.
+fn greatest(gains: &[u64]) -> u64
+    ensures { result ≡ greatest_of (1 ∷ gains.now) }
+{
+    let mut greatest = 1;
+    for gain in gains {
+        greatest = greatest.max(*gain);
+    }
+    greatest
 }
 
 // For each block the greatest product along a path that ends there. Turns over all connections raise the products until a turn raises

@@ -2,6 +2,7 @@
 ghost use Rattle.std.specs.Prelude.{◌≡◌, ◌≢◌, ◌<◌, ◌≤◌, ◌+◌, false, true, [], ◌∷◌, ◌++◌, length, map, bytes_eq, slice_get, None, Some, IfOk, IfErr, OnOk, OnErr, vec_len, vec_capacity};
 ghost use Rattle.std.specs.List.{list_any};
 ghost use Rattle.indexmap.specs.IndexSet.{spare};
+ghost use Rattle.graph_model.specs.Gains.{greatest_gain};
 ghost use Rattle.graph_model.specs.Graphs as graphs;
 ghost use Rattle.graph_model.specs.Graphs.{add_fault, connect_fault, graph_fault};
 ghost use Rattle.flowgraph.specs.Fault.{reported, told};
@@ -12,7 +13,7 @@ ghost use Rattle.flowgraph.specs.Flowgraph.{net_of, node_of, graph_of, entry, co
 
 use crate::asked::{Asked, all_asked};
 use crate::fault::{GraphFault, Limit};
-use crate::gains::gain_fault;
+use crate::gains::greatest_gain;
 use crate::loops::loop_fault;
 use crate::parts::{BlockId, Connection, Entry, Options};
 use crate::port_tests::port_fault;
@@ -125,13 +126,13 @@ impl<B: Block> Graph<B> {
         ensures unchanged { IfErr result (λ refused. refused.0 ≡ self) }
     {
         match tested(alloc, &self.blocks, &self.connections) {
-            Ok((wiring, asked)) => {
+            Ok((wiring, asked, gain)) => {
                 let Graph {
                     names,
                     blocks,
                     connections,
                 } = self;
-                Ok(Valid::with_tables(names, blocks, connections, wiring, asked))
+                Ok(Valid::with_tables(names, blocks, connections, wiring, asked, gain))
             }
             Err(fault) => Err((self, fault)),
         }
@@ -167,17 +168,18 @@ impl<B: Block> Graph<B> {
     }
 }
 
-// The tables of a graph that passes all tests.
+// The tables of a graph that passes all tests, and the greatest product of interpolations along a path.
 fn tested<B: Block>(
     alloc: Global,
     blocks: &[Entry<B>],
     connections: &[Connection],
-) -> Result<(Wiring, Vec<Asked>), GraphFault>
+) -> Result<(Wiring, Vec<Asked>, u64), GraphFault>
     requires few { length blocks.now ≤ 256 }
     requires within { AreWithin (length blocks.now) connections.now }
     ensures passed { OnOk result (graph_fault (net_of B.meaning (graph_of [] blocks.now connections.now)) ≡ None) }
     ensures tables { IfOk result (λ made. AreTables (length blocks.now) connections.now made.0.inputs made.0.outputs.items made.0.readers) }
     ensures asked { IfOk result (λ made. AreAsked B.meaning blocks.now made.1.items) }
+    ensures gain { IfOk result (λ made. made.2 ≡ greatest_gain (net_of B.meaning (graph_of [] blocks.now connections.now))) }
     ensures refused { IfErr result (λ fault. fault ≢ GraphFault.Memory
         → told Limit.Blocks (graph_fault (net_of B.meaning (graph_of [] blocks.now connections.now))) ≡ Some fault) }
 {
@@ -187,11 +189,9 @@ fn tested<B: Block>(
     if let Some(fault) = loop_fault(alloc, blocks.len(), connections)? {
         return Err(fault);
     }
-    if let Some(fault) = gain_fault(alloc, blocks, connections)? {
-        return Err(fault);
-    }
+    let gain = greatest_gain(alloc, blocks, connections)?;
     let wiring = tables(alloc, blocks.len(), connections)?;
-    Ok((wiring, all_asked(alloc, blocks)?))
+    Ok((wiring, all_asked(alloc, blocks)?, gain))
 }
 
 // Room for one block more and its name, and a copy of the name.

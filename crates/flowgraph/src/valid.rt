@@ -3,6 +3,7 @@ ghost use Rattle.std.specs.Prelude.{◌≡◌, ◌*◌, ◌-◌, ◌^◌, ◌<�
 ghost use Rattle.std.specs.Option.{option_map};
 ghost use Rattle.stream_model.specs.Network.{node_at, role_at, is_source, is_keeper, taken_by, given_by, writers_of, readers_of, used_outputs};
 ghost use Rattle.stream_laws.specs.CanRun.{CanRun};
+ghost use Rattle.graph_model.specs.Gains.{IsWithinGain, greatest_gain, longest_within_gain};
 ghost use Rattle.graph_model.specs.Graphs.{IsValidGraph};
 ghost use Rattle.graph_model.specs.Rates.{CanCount};
 ghost use Rattle.graph_laws.specs.Running.{AreLawful};
@@ -24,6 +25,9 @@ use std::fmt;
 use std::marker::Model;
 use stream_model::ItemType;
 
+// The most items that the interpolations along a path may make of a tape.
+const MOST_GROWN: u64 = 1 << 61;
+
 /// A valid graph, with tables of how its blocks are wired. No call of it takes memory. A contract sees the blocks with their names, and the
 /// connections.
 pub struct Valid<B: Block> {
@@ -32,6 +36,8 @@ pub struct Valid<B: Block> {
     connections: Vec<Connection>,
     wiring: Wiring,
     asked: Vec<Asked>,
+    // The greatest product of interpolations along a path.
+    gain: u64,
 }
 
 // By hand, so that no crate above proves the drop of each part again.
@@ -43,6 +49,7 @@ impl<B: Block> Drop for Valid<B> {
             connections,
             wiring,
             asked,
+            gain: _,
         } = self;
         drop(names);
         drop(blocks);
@@ -59,11 +66,12 @@ impl<B: Block> fmt::Debug for Valid<B> {
 }
 
 impl<B: Block> Model for Valid<B> {
-    ghost use Rattle.std.specs.Prelude.{map};
+    ghost use Rattle.std.specs.Prelude.{◌≡◌, map};
     ghost use Rattle.flowgraph.specs.Flowgraph.{Flowgraph};
 
     ghost Value = { Flowgraph B };
 
+    ghost use Rattle.graph_model.specs.Gains.{greatest_gain};
     ghost use Rattle.graph_model.specs.Graphs.{IsValidGraph};
     ghost use Rattle.flowgraph.specs.Flowgraph.{net_of, graph_of};
     ghost use Rattle.flowgraph.specs.Asked.{AreAsked};
@@ -73,21 +81,23 @@ impl<B: Block> Model for Valid<B> {
 
     ghost invariant = { λ g. let graph = graph_of (map (λ name. name.items) g.names.keys) g.blocks.items g.connections.items in
         IsValidGraph graph.names (net_of B.meaning graph) × IsWired (net_of B.meaning graph) g.wiring.inputs g.wiring.outputs.items g.wiring.readers
-        × AreAsked B.meaning g.blocks.items g.asked.items };
+        × AreAsked B.meaning g.blocks.items g.asked.items × (g.gain ≡ greatest_gain (net_of B.meaning graph)) };
 }
 
 impl<B: Block> Valid<B> {
-    /// A graph that passes all tests, with its tables.
+    /// A graph that passes all tests, with its tables and the greatest product of interpolations along a path.
     pub(crate) fn with_tables(
         names: IndexSet<Vec<u8>>,
         blocks: Vec<Entry<B>>,
         connections: Vec<Connection>,
         wiring: Wiring,
         asked: Vec<Asked>,
+        gain: u64,
     ) -> Valid<B>
         requires valid { IsValidGraph (map (λ n. n.items) names.keys) (net_of B.meaning (graph_of (map (λ n. n.items) names.keys) blocks.items connections.items)) }
         requires wired { IsWired (net_of B.meaning (graph_of (map (λ n. n.items) names.keys) blocks.items connections.items)) wiring.inputs wiring.outputs.items wiring.readers }
         requires asked { AreAsked B.meaning blocks.items asked.items }
+        requires gain { gain ≡ greatest_gain (net_of B.meaning (graph_of (map (λ n. n.items) names.keys) blocks.items connections.items)) }
         ensures { result ≡ graph_of (map (λ n. n.items) names.keys) blocks.items connections.items }
     {
         Valid {
@@ -96,6 +106,7 @@ impl<B: Block> Valid<B> {
             connections,
             wiring,
             asked,
+            gain,
         }
     }
 
@@ -269,6 +280,16 @@ impl<B: Block> Valid<B> {
     {
         let multiple = u64::from(self.multiple(block));
         given_between(self.pace(block, 0), multiple * first, multiple * next)
+    }
+
+    /// How many items a tape may hold so that no path makes more than 2 to the 61st of them: that number, divided by the greatest product of
+    /// interpolations along a path. Then no count of items or firings comes to 2 to the 62nd.
+    pub fn longest_tape(&self) -> u64
+        ensures value { result ≡ longest_within_gain (net_of B.meaning self.now) }
+        ensures fits { IsWithinGain (net_of B.meaning self.now) result }
+        ensures enough { 2 ^ 37 ≤ result }
+    {
+        MOST_GROWN / self.gain
     }
 
     /// The block of a name, if there is one. It takes one look-up by hash.

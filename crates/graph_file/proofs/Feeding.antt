@@ -52,7 +52,7 @@ unfolding machine.feed_of
 feed_numbers-answer net st b xs ms =
     let s = handed_at st.handed b in
     answers (nat_lt b (length net.nodes) && (is_source (role_at net b) && not (are_items (given_type net b) xs))) (nat_lt b (length net.nodes)) (is_source (role_at net b))
-    (types_agree (given_type net b) (given_type net b)) s.closed (machine.marks_fit s.tape xs ms) (nat_lt machine.longest_tape (length s.tape + length xs))
+    (types_agree (given_type net b) (given_type net b)) s.closed (machine.marks_fit s.tape xs ms) (nat_lt s.longest (length s.tape + length xs))
     st (machine.with_handed st b (machine.with_tape s b xs ms)) (length s.tape + length xs)
 
 module _ (n : ℕ) (now : Reply × State) (old new : PlantState Kind) where

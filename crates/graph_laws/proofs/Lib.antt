@@ -14,3 +14,4 @@ pub mod Wholes
 pub mod Answering
 pub mod Filling
 pub mod Short
+pub mod Gains

@@ -9,7 +9,6 @@ use Rattle.stream_model.specs.declared.vocabulary.Shift.{Shift}
 use Rattle.stream_model.specs.declared.vocabulary.Shift.TheVariants.{No, Skip, Delay}
 use Rattle.stream_model.specs.Meaning.{Meaning, IsLawful, HasCounts, IsShifted, input}
 use Rattle.stream_model.specs.Network.{Node, Connection, Network, Handed, node_at, role_at, handed_at, is_source, writers_of, writer_of, no_connection, taken_by, entering, items_of}
-use Rattle.stream_model.specs.Machine.{longest_tape}
 use Rattle.stream_model.specs.Firings.{given_at}
 use Rattle.stream_model.proofs.Counts.{fires_near_taken}
 use Rattle.stream_laws.specs.CanRun.{CanRun}
@@ -17,6 +16,7 @@ use Rattle.stream_laws.specs.Past.{fires_of}
 use Rattle.stream_laws.proofs.Writers.{All-writers, is_input, entering-source, entering-input, length-entering, items-source}
 use Rattle.stream_laws.proofs.Later.{held_by_inputs, items-length}
 use Rattle.graph_model.specs.Graphs.{IsWalk, most_gain, most_blocks, interpolation, gain_along, IsValidGraph}
+use Rattle.graph_model.specs.Gains.{most_grown, AreWithinGain}
 use Rattle.graph_laws.specs.Short.{longest_stream, IsShort, StreamsAreShort}
 use Rattle.graph_laws.proofs.Runs.{valid_graphs_run}
 
@@ -34,7 +34,7 @@ module _ (m : Meaning) (lawful : IsLawful m) where
       let more : r.1 * k ≤ r.1 * (m.taken 0 k + 65536) = mul-le-mul_left r.1 (let t = h.1.taken k in omega arith) in
       (h.1.gives_some, rw (h.1.given k) more)
 
-  gives_at_most : (k : ℕ) → (1 ≤ given_at (m.rate 0)) × (m.given k ≤ given_at (m.rate 0) * (m.taken 0 k + 65536))
+  pub gives_at_most : (k : ℕ) → (1 ≤ given_at (m.rate 0)) × (m.given k ≤ given_at (m.rate 0) * (m.taken 0 k + 65536))
   gives_at_most k = counted_gives (m.rate 0) (lawful.counts 0) k
 
   -- and a tag is placed not far from its item's
@@ -77,15 +77,19 @@ step g i t low high x y some up le last =
     let order : i * (g * (t + 65536 * high)) ≡ g * i * (t + 65536 * high) = sym (mul_assoc i g (t + 65536 * high)) ∙ ap (λ k. k * (t + 65536 * high)) (mul_comm i g) in
     omega arith
 
-module _ (net : Network) (can : CanRun net) (hs : List Handed) (tape : ℕ) (tapes : (b : ℕ) → b < length net.nodes → length (handed_at hs b).tape ≤ tape) where
-  -- a path to a block, whose interpolations bound its streams
+module _ (net : Network) (can : CanRun net) (hs : List Handed) where
+  abbrev tape_of : ℕ → ℕ
+  tape_of b = length (handed_at hs b).tape
+
+  -- a path from a source to a block, whose interpolations bound its streams
   record IsBounded (b : ℕ) : Type 0 where
     pub first : ℕ
     pub within : first < length net.nodes
+    pub source : is_source (role_at net first) ≡ true
     pub walk : List Connection
     pub joins : IsWalk net first b walk
     pub some : 1 ≤ gain_along net first walk
-    pub items : (p : ℕ) → length (items_of net hs b p) ≤ gain_along net first walk * (tape + 65536 * can.level b)
+    pub items : (p : ℕ) → length (items_of net hs b p) ≤ gain_along net first walk * (tape_of first + 65536 * can.level b)
 
   interpolation-some : (b : ℕ) → 1 ≤ interpolation net b
   interpolation-some b = (gives_at_most (node_at net b).meaning (can.sound b).lawful 0).0
@@ -95,13 +99,13 @@ module _ (net : Network) (can : CanRun net) (hs : List Handed) (tape : ℕ) (tap
       record {
         first = b;
         within = in';
+        source = e;
         walk = [];
         joins = refl;
         some = interpolation-some b;
         items = λ p.
             let same = ap length (items-source net hs can.level can.levels b p in' e) in
-            let short = tapes b in' in
-            let times : 1 * (tape + 65536 * can.level b) ≤ interpolation net b * (tape + 65536 * can.level b) = mul-le-mul_right (tape + 65536 * can.level b) (interpolation-some b) in
+            let times : 1 * (tape_of b + 65536 * can.level b) ≤ interpolation net b * (tape_of b + 65536 * can.level b) = mul-le-mul_right (tape_of b + 65536 * can.level b) (interpolation-some b) in
             omega arith;
       }
 
@@ -122,17 +126,18 @@ module _ (net : Network) (can : CanRun net) (hs : List Handed) (tape : ℕ) (tap
     longer_gain = more.1 ∙ ap (λ x. gain_along net before.first before.walk * interpolation net x) (is_input net can b q at).to
 
     -- what the block makes of an input of so many items
-    makes : (y : ℕ) → y ≤ interpolation net b * (length (items_of net hs (writer_of net b q).from (writer_of net b q).out_port) + 65536) → y ≤ gain_along net before.first longer * (tape + 65536 * can.level b)
+    makes : (y : ℕ) → y ≤ interpolation net b * (length (items_of net hs (writer_of net b q).from (writer_of net b q).out_port) + 65536) → y ≤ gain_along net before.first longer * (tape_of before.first + 65536 * can.level b)
     makes y le =
-        let bound = step (gain_along net before.first before.walk) (interpolation net b) tape (can.level (writer_of net b q).from) (can.level b)
+        let bound = step (gain_along net before.first before.walk) (interpolation net b) (tape_of before.first) (can.level (writer_of net b q).from) (can.level b)
         (length (items_of net hs (writer_of net b q).from (writer_of net b q).out_port)) y before.some (is_input net can b q at).lower (before.items (writer_of net b q).out_port) le in
-        subst (λ g. y ≤ g * (tape + 65536 * can.level b)) (sym longer_gain) bound
+        subst (λ g. y ≤ g * (tape_of before.first + 65536 * can.level b)) (sym longer_gain) bound
 
   worker_bounded : (b : ℕ) → b < length net.nodes → is_source (role_at net b) ≡ false → (at : 0 < length (writers_of net b)) → IsBounded (writer_of net b 0).from → IsBounded b
   worker_bounded b in' e at before =
       record {
         first = before.first;
         within = before.within;
+        source = before.source;
         walk = longer b in' 0 at before;
         joins = longer_joins b in' 0 at before;
         some = rw (longer_gain b in' 0 at before) (mul-pos before.some (interpolation-some b));
@@ -155,43 +160,51 @@ module _ (net : Network) (can : CanRun net) (hs : List Handed) (tape : ℕ) (tap
       bounded_at b (is_source (role_at net b)) in' refl
       (λ q at. let is = is_input net can b q at in let lower = is.lower in let low' : can.level (writer_of net b q).from < turns = omega arith in bounded turns (writer_of net b q).from low' is.from)
 
--- what a short path and few blocks bound
-below_both : (g l most few t y : ℕ) → g ≤ most → l ≤ few → y ≤ g * (t + 65536 * l) → y ≤ most * (t + 65536 * few)
-below_both g l most few t y up low le =
-    let first : g * (t + 65536 * l) ≤ most * (t + 65536 * l) = mul-le-mul_right (t + 65536 * l) up in
-    let second : most * (t + 65536 * l) ≤ most * (t + 65536 * few) = mul-le-mul_left most (let e : t + 65536 * l ≤ t + 65536 * few = omega arith in e) in
-    omega arith
-
+-- what may be made of a tape, with what delays may become
 abbrev limit : ℕ
-limit = most_gain * (longest_tape + 65536 * most_blocks)
+limit = most_grown + most_gain * (65536 * most_blocks)
 
 limit-fits : limit + 65536 ≤ longest_stream
 limit-fits = omega arith
 
-tape-fits : longest_tape ≤ limit
-tape-fits = omega arith
+below_both : (g l t longest y : ℕ) → g ≤ most_gain → l ≤ most_blocks → t ≤ longest → g * longest ≤ most_grown → y ≤ g * (t + 65536 * l) → y ≤ limit
+below_both g l t longest y up low shorter tape le =
+    let spread : g * (t + 65536 * l) ≡ g * t + g * (65536 * l) = mul-add g t (65536 * l) in
+    let first : g * t ≤ g * longest = mul-le-mul_left g shorter in
+    let second : g * (65536 * l) ≤ g * (65536 * most_blocks) = mul-le-mul_left g (let e : 65536 * l ≤ 65536 * most_blocks = omega arith in e) in
+    let third : g * (65536 * most_blocks) ≤ most_gain * (65536 * most_blocks) = mul-le-mul_right (65536 * most_blocks) up in
+    omega arith
 
 module _ (names : List (List ℕ)) (net : Network) (valid : IsValidGraph names net) (lawful : All (λ (n : Node). IsLawful n.meaning) net.nodes) (hs : List Handed)
-    (tapes : (b : ℕ) → b < length net.nodes → length (handed_at hs b).tape ≤ longest_tape) where
+    (within : AreWithinGain net hs) (tapes : (b : ℕ) → b < length net.nodes → length (handed_at hs b).tape ≤ (handed_at hs b).longest) where
   can : CanRun net
   can = (valid_graphs_run names net valid lawful).0
 
-  path_short : (b first : ℕ) (cs : List Connection) (y : ℕ) → b < length net.nodes → first < length net.nodes → IsWalk net first b cs → y ≤ gain_along net first cs * (longest_tape + 65536 * can.level b) → y ≤ limit
-  path_short b first cs y in' within joins le =
-      let low = can.levels.few b in' in
-      let few = valid.graph.few_blocks in
-      below_both (gain_along net first cs) (can.level b) most_gain most_blocks longest_tape y (valid.gain first b cs within joins) (omega arith) le
+  path_short : (b first l : ℕ) (cs : List Connection) (y : ℕ) → first < length net.nodes → is_source (role_at net first) ≡ true → IsWalk net first b cs → l ≤ most_blocks →
+      y ≤ gain_along net first cs * (length (handed_at hs first).tape + 65536 * l) → y ≤ limit
+  path_short b first l cs y inside source joins low le =
+      below_both (gain_along net first cs) l (length (handed_at hs first).tape) (handed_at hs first).longest y (valid.gain first b cs inside joins) low (tapes first inside)
+      (within first inside source first b cs inside joins) le
 
-  path : (b : ℕ) → b < length net.nodes → IsBounded net can hs longest_tape tapes b
-  path b in' = bounded net can hs longest_tape tapes (suc (can.level b)) b (omega arith) in'
+  level_low : (b : ℕ) → b < length net.nodes → can.level b ≤ most_blocks
+  level_low b in' = let low = can.levels.few b in' in let few = valid.graph.few_blocks in omega arith
+
+  path : (b : ℕ) → b < length net.nodes → IsBounded net can hs b
+  path b in' = bounded net can hs (suc (can.level b)) b (omega arith) in'
 
   items_short : (b p : ℕ) → b < length net.nodes → length (items_of net hs b p) ≤ limit
-  items_short b p in' = let to = path b in' in path_short b to.first to.walk (length (items_of net hs b p)) in' to.within to.joins (to.items p)
+  items_short b p in' = let to = path b in' in path_short b to.first (can.level b) to.walk (length (items_of net hs b p)) to.within to.source to.joins (level_low b in') (to.items p)
 
   module _ (b : ℕ) (in' : b < length net.nodes) where
-    tape_input : (q : ℕ) → length (input ((handed_at hs b).tape ∷ []) q) ≤ longest_tape
-    tape_input zero = tapes b in'
+    tape_input : (q : ℕ) → length (input ((handed_at hs b).tape ∷ []) q) ≤ length (handed_at hs b).tape
+    tape_input zero = omega arith
     tape_input (suc q) = omega arith
+
+    tape-fits : is_source (role_at net b) ≡ true → length (handed_at hs b).tape ≤ limit
+    tape-fits e =
+        let some = interpolation-some net can hs b in
+        let times : 1 * (length (handed_at hs b).tape + 65536 * 0) ≤ interpolation net b * (length (handed_at hs b).tape + 65536 * 0) = mul-le-mul_right (length (handed_at hs b).tape + 65536 * 0) some in
+        path_short b b 0 [] (length (handed_at hs b).tape) in' e refl (omega arith) (omega (arith, times))
 
     worker_input : (q : ℕ) → is_source (role_at net b) ≡ false → length (input (entering net hs b) q) ≤ limit
     worker_input q e =
@@ -203,7 +216,7 @@ module _ (names : List (List ℕ)) (net : Network) (valid : IsValidGraph names n
     input_short : (q : ℕ) → length (input (entering net hs b) q) ≤ limit
     input_short q =
         elim (cases_Bool (is_source (role_at net b))) [
-          | inl e ↦ rw (entering-source net hs b e) (let t = tape_input q in let f = tape-fits in omega (arith, t, f))
+          | inl e ↦ rw (entering-source net hs b e) (let t = tape_input q in let f = tape-fits e in omega (arith, t, f))
           | inr e ↦ worker_input q e
         ]
 
@@ -224,10 +237,10 @@ module _ (names : List (List ℕ)) (net : Network) (valid : IsValidGraph names n
 
     source_places : (p s : ℕ) → is_source (role_at net b) ≡ true → s < length (input (entering net hs b) p) → (node_at net b).meaning.place p s ≤ limit
     source_places p s e on =
-        let tape : length (input (entering net hs b) p) ≤ longest_tape = rw (entering-source net hs b e) (tape_input p) in
+        let tape : length (input (entering net hs b) p) ≤ length (handed_at hs b).tape = rw (entering-source net hs b e) (tape_input p) in
         let place = places_at_most (node_at net b).meaning (can.sound b).lawful p s in
-        let far : interpolation net b * (s + 1 + 65536) ≤ interpolation net b * (longest_tape + 65536 * 1) = mul-le-mul_left (interpolation net b) (let e' : s + 1 + 65536 ≤ longest_tape + 65536 * 1 = omega (arith, tape, on) in e') in
-        below_both (interpolation net b) 1 most_gain most_blocks longest_tape ((node_at net b).meaning.place p s) (valid.gain b b [] in' refl) (omega arith) (omega (arith, place, far))
+        let far : interpolation net b * (s + 1 + 65536) ≤ interpolation net b * (length (handed_at hs b).tape + 65536 * 1) = mul-le-mul_left (interpolation net b) (let e' : s + 1 + 65536 ≤ length (handed_at hs b).tape + 65536 * 1 = omega (arith, tape, on) in e') in
+        path_short b b 1 [] ((node_at net b).meaning.place p s) in' e refl (omega arith) (omega (arith, place, far))
 
     worker_places : (p s : ℕ) → is_source (role_at net b) ≡ false → s < length (input (entering net hs b) p) → (node_at net b).meaning.place p s ≤ limit
     worker_places p s e on =
@@ -236,8 +249,8 @@ module _ (names : List (List ℕ)) (net : Network) (valid : IsValidGraph names n
               let stream = ap length (entering-input net hs b p e at) in
               let far : interpolation net b * (s + 1 + 65536) ≤ interpolation net b * (length (items_of net hs (writer_of net b p).from (writer_of net b p).out_port) + 65536) = mul-le-mul_left (interpolation net b) (let e' : s + 1 + 65536 ≤ length (items_of net hs (writer_of net b p).from (writer_of net b p).out_port) + 65536 = omega arith in e') in
               let place = places_at_most (node_at net b).meaning (can.sound b).lawful p s in
-              path_short b before.first (longer net can hs longest_tape tapes b in' p at before) ((node_at net b).meaning.place p s) in' before.within (longer_joins net can hs longest_tape tapes b in' p at before)
-              (makes net can hs longest_tape tapes b in' p at before ((node_at net b).meaning.place p s) (omega (arith, place, far))))
+              path_short b before.first (can.level b) (longer net can hs b in' p at before) ((node_at net b).meaning.place p s) before.within before.source (longer_joins net can hs b in' p at before) (level_low b in')
+              (makes net can hs b in' p at before ((node_at net b).meaning.place p s) (omega (arith, place, far))))
           | inr past ↦ (let none = ap length (get_or_past (entering net hs b) p [] (let l = length-entering net hs b e in omega arith)) in absurd (omega (arith, none, on)))
         ]
 

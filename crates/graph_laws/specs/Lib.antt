@@ -4,3 +4,4 @@ pub mod Running
 pub mod Balances
 pub mod Tables
 pub mod Short
+pub mod Gains

@@ -3,6 +3,7 @@
 ghost use Rattle.graph_laws.specs.Balances.{AnswersAreRight};
 ghost use Rattle.graph_laws.specs.Building.{BuildingKeeps};
 ghost use Rattle.graph_laws.specs.Faults.{TestsDecide};
+ghost use Rattle.graph_laws.specs.Gains.{ValidGraphsFit};
 ghost use Rattle.graph_laws.specs.Running.{ValidGraphsRun};
 ghost use Rattle.graph_laws.specs.Short.{StreamsAreShort};
 ghost use Rattle.graph_laws.specs.Tables.{TablesCompute};
@@ -32,7 +33,13 @@ pub fn tables_compute()
     ensures { TablesCompute }
 {}
 
-/// With tapes of at most 4,294,967,296 items no stream of a valid graph, no count of base firings and no place of a tag is above 2 to the 57th.
+/// A tape of 4,294,967,296 items fits any valid graph: no path makes more than 2 to the 61st of it. The longest that fits by the graph's own
+/// gain has at least 2 to the 37th.
+pub fn valid_graphs_fit()
+    ensures { ValidGraphsFit }
+{}
+
+/// Where tapes fit a valid graph, no stream of it, no count of base firings and no place of a tag is above 2 to the 62nd.
 pub fn streams_are_short()
     ensures { StreamsAreShort }
 {}

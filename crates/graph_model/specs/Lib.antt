@@ -1,2 +1,3 @@
 pub mod Rates
 pub mod Graphs
+pub mod Gains

@@ -1,16 +1,17 @@
--- Counts stay small: interpolations along a path multiply to a limit, and each block on it adds at most a delay.
-use Rattle.std.proofs.Common.{◌≡◌, ℕ, zero, suc, ◌+◌, ◌-◌, ◌*◌, ◌<◌, ◌≤◌, Bool, true, false, List, [], ◌∷◌, ◌++◌, length, Option, Some, None, refl, arith, ap, sym, ◌∙◌, subst, mul-le-mul_left, mul-le-mul_right, mul-pos}
+-- Counts stay small: interpolations along a path make no more of a tape than is allowed, and each block on it adds at most a delay.
+use Rattle.std.proofs.Common.{◌≡◌, ℕ, zero, suc, ◌+◌, ◌-◌, ◌*◌, ◌^◌, ◌<◌, ◌≤◌, Bool, true, false, List, [], ◌∷◌, ◌++◌, length, Option, Some, None, refl, arith, ap, sym, ◌∙◌, subst, mul-le-mul_left, mul-le-mul_right, mul-pos}
 use Rattle.std.specs.List.{Contains}
 use Rattle.std.proofs.lemmas.List.Elements.{All-contains_itself}
 use Rattle.stream_model.specs.declared.vocabulary.Shift.{Shift}
 use Rattle.stream_model.specs.declared.vocabulary.Shift.TheVariants.{No, Skip, Delay}
 use Rattle.stream_model.specs.Meaning.{HasCounts, IsShifted}
-use Rattle.stream_model.specs.Network.{Network, Connection, State, node_at, role_at, is_source, writers_of, writer_of, no_connection, taken_by, given_by}
+use Rattle.stream_model.specs.Network.{Network, Connection, State, node_at, role_at, handed_at, is_source, writers_of, writer_of, no_connection, taken_by, given_by}
 use Rattle.stream_model.specs.Machine.{Capacities}
 use Rattle.stream_model.proofs.Counts.{fires_near_taken}
 use Rattle.stream_model.proofs.Streams.{given_by-rises}
 use Rattle.stream_model.specs.Firings.{given_at}
 use Rattle.graph_model.specs.Graphs.{IsWalk, IsValidGraph, interpolation, gain_along}
+use Rattle.graph_model.specs.Gains.{most_grown, IsWithinGain, AreWithinGain}
 use Rattle.stream_laws.specs.CanRun.{CanRun}
 use Rattle.stream_laws.proofs.Writers.{source_takes, source_gives}
 use Rattle.machine_laws.specs.Sound.{fired, reached, Sound}
@@ -60,29 +61,37 @@ module _ (net : Network) (can : CanRun net) where
     gives_few : (1 ≤ interpolation net b) × (given_by (node_at net b) k ≤ interpolation net b * (taken_by (node_at net b) 0 k + 65536))
     gives_few = gives_at ((node_at net b).meaning.rate 0) refl ((can.sound b).lawful.counts 0)
 
-  -- what a path of l blocks may bring, for each item that its gain makes of one
-  abbrev pub brings : ℕ → ℕ
-  brings l = 4294967296 + 65536 * l
+  -- what fits is within the limit by itself
+  pub alone_fits : (b n : ℕ) → b < length net.nodes → IsWithinGain net n → n ≤ most_grown
+  alone_fits b n in1 within =
+      let own : interpolation net b * n ≤ most_grown = within b b [] in1 refl in
+      let more : 1 * n ≤ interpolation net b * n = mul-le-mul_right n (gives_few b 0).0 in
+      omega arith
 
   module _ (caps : Capacities) (st : State) (sound : Sound net caps st) where
-    -- a path to block b that bounds what it gives
+    -- how long the tape of block b may come to be
+    abbrev tape_of : ℕ → ℕ
+    tape_of b = (handed_at st.handed b).longest
+
+    -- a path from a source to block b that bounds what it gives
     pub record Path (b : ℕ) : Type 0 where
       pub from : ℕ
       pub walk : List Connection
       pub member : from < length net.nodes
+      pub source : is_source (role_at net from) ≡ true
       pub joins : IsWalk net from b walk
       pub some : 1 ≤ gain_along net from walk
-      pub bounds : given_by (node_at net b) (reached st b) ≤ gain_along net from walk * brings (can.level b + 1)
+      pub bounds : given_by (node_at net b) (reached st b) ≤ gain_along net from walk * (tape_of from + 65536 * (can.level b + 1))
 
-    tape_few : (b : ℕ) → b < length net.nodes → is_source (role_at net b) ≡ true → reached st b ≤ 4294967296
+    tape_few : (b : ℕ) → b < length net.nodes → is_source (role_at net b) ≡ true → reached st b ≤ tape_of b
     tape_few b in1 e = let there = (sound.fits b in1).tape e in let short = (sound.handed b in1).short in omega arith
 
-    bound_on : (i g x z l m : ℕ) → 1 ≤ g → z ≤ i * (x + 65536) → x ≤ g * (4294967296 + 65536 * (l + 1)) → l < m → z ≤ g * i * (4294967296 + 65536 * (m + 1))
-    bound_on i g x z l m some gives few higher =
+    bound_on : (i g t x z l m : ℕ) → 1 ≤ g → z ≤ i * (x + 65536) → x ≤ g * (t + 65536 * (l + 1)) → l < m → z ≤ g * i * (t + 65536 * (m + 1))
+    bound_on i g t x z l m some gives few higher =
         let delay : 65536 ≤ g * 65536 = mul-le-mul_right 65536 some in
-        let more : g * (4294967296 + 65536 * (l + 1) + 65536) ≤ g * (4294967296 + 65536 * (m + 1)) = mul-le-mul_left g (omega arith) in
-        let sum : x + 65536 ≤ g * (4294967296 + 65536 * (m + 1)) = omega arith in
-        let all : i * (x + 65536) ≤ i * (g * (4294967296 + 65536 * (m + 1))) = mul-le-mul_left i sum in
+        let more : g * (t + 65536 * (l + 1) + 65536) ≤ g * (t + 65536 * (m + 1)) = mul-le-mul_left g (omega arith) in
+        let sum : x + 65536 ≤ g * (t + 65536 * (m + 1)) = omega arith in
+        let all : i * (x + 65536) ≤ i * (g * (t + 65536 * (m + 1))) = mul-le-mul_left i sum in
         omega arith
 
     -- what a block takes is there, in what its writers give
@@ -109,8 +118,8 @@ module _ (net : Network) (can : CanRun net) where
         let some = (gives_few b (reached st b)).0 in
         let few = tape_few b in1 e in
         let given = source_gives net can b (reached st b) e in
-        let all = mul-le-mul_right (4294967296 + 65536 * (can.level b + 1)) some in
-        record { from = b; walk = []; member = in1; joins = refl; some = some; bounds = omega arith }
+        let all = mul-le-mul_right (tape_of b + 65536 * (can.level b + 1)) some in
+        record { from = b; walk = []; member = in1; source = e; joins = refl; some = some; bounds = omega arith }
     path_at b false in1 e each =
         let used : 0 < length (writers_of net b) = can.fed b in1 e in
         let own = comes b 0 in1 used in
@@ -123,13 +132,14 @@ module _ (net : Network) (can : CanRun net) where
         let taken = taken_few b 0 in1 used in
         let more : interpolation net b * (taken_by (node_at net b) 0 (reached st b) + 65536) ≤ interpolation net b * (given_by (node_at net (writer_of net b 0).from) (reached st (writer_of net b 0).from) + 65536) = mul-le-mul_left (interpolation net b) (omega arith) in
         let gave = gives.1 in
-        let bound = bound_on (interpolation net b) (gain_along net path.from path.walk) (given_by (node_at net (writer_of net b 0).from) (reached st (writer_of net b 0).from)) (given_by (node_at net b) (reached st b)) (can.level (writer_of net b 0).from) (can.level b) path.some (omega arith) path.bounds lower in
+        let bound = bound_on (interpolation net b) (gain_along net path.from path.walk) (tape_of path.from) (given_by (node_at net (writer_of net b 0).from) (reached st (writer_of net b 0).from)) (given_by (node_at net b) (reached st b)) (can.level (writer_of net b 0).from) (can.level b) path.some (omega arith) path.bounds lower in
         let gain : gain_along net path.from (path.walk ++ writer_of net b 0 ∷ []) ≡ gain_along net path.from path.walk * interpolation net b = gain_on net path.from path.walk (writer_of net b 0) ∙ ap (λ v. gain_along net path.from path.walk * interpolation net v) own.0 in
         let some : 1 ≤ gain_along net path.from path.walk * interpolation net b = mul-pos path.some gives.0 in
         record {
           from = path.from;
           walk = path.walk ++ writer_of net b 0 ∷ [];
           member = path.member;
+          source = path.source;
           joins = subst (λ v. IsWalk net path.from v (path.walk ++ writer_of net b 0 ∷ [])) own.0 (walk_on net path.from (writer_of net b 0).from path.walk (writer_of net b 0) own.1.0 refl path.joins);
           some = rw gain some;
           bounds = rw gain bound;
@@ -139,24 +149,26 @@ module _ (net : Network) (can : CanRun net) where
     path zero b low in1 = absurd (omega arith)
     path (suc turns) b low in1 = path_at b (is_source (role_at net b)) in1 refl (λ c in2 lower. let h : can.level c < turns = omega arith in path turns c h in2)
 
-    module _ (names : List (List ℕ)) (valid : IsValidGraph names net) where
-      -- 2 ^ 24 times what 256 blocks bring
-      given_few : (b : ℕ) → b < length net.nodes → given_by (node_at net b) (reached st b) ≤ 72339069014638592
+    module _ (names : List (List ℕ)) (valid : IsValidGraph names net) (within : AreWithinGain net st.handed) where
+      -- what is made of a tape, and 2 ^ 24 times the delays of 256 blocks
+      given_few : (b : ℕ) → b < length net.nodes → given_by (node_at net b) (reached st b) ≤ most_grown + 2 ^ 48
       given_few b in1 =
           let here = path (suc (can.level b)) b (omega arith) in1 in
           let gain : gain_along net here.from here.walk ≤ 16777216 = valid.gain here.from b here.walk here.member here.joins in
           let blocks = valid.graph.few_blocks in
           let level = can.levels.few b in1 in
-          let deep : gain_along net here.from here.walk * (4294967296 + 65536 * (can.level b + 1)) ≤ gain_along net here.from here.walk * 4311744512 = mul-le-mul_left (gain_along net here.from here.walk) (omega arith) in
-          let wide : gain_along net here.from here.walk * 4311744512 ≤ 16777216 * 4311744512 = mul-le-mul_right 4311744512 gain in
+          let tape = within here.from here.member here.source here.from b here.walk here.member here.joins in
+          let deep : gain_along net here.from here.walk * (65536 * (can.level b + 1)) ≤ gain_along net here.from here.walk * 16777216 = mul-le-mul_left (gain_along net here.from here.walk) (omega arith) in
+          let wide : gain_along net here.from here.walk * 16777216 ≤ 16777216 * 16777216 = mul-le-mul_right 16777216 gain in
           let bounds = here.bounds in
           omega arith
 
-      firings_few : (b : ℕ) (s : Bool) → b < length net.nodes → is_source (role_at net b) ≡ s → (node_at net b).multiple * reached st b ≤ 72339069014704128
+      firings_few : (b : ℕ) (s : Bool) → b < length net.nodes → is_source (role_at net b) ≡ s → (node_at net b).multiple * reached st b ≤ most_grown + 2 ^ 48 + 65536
       firings_few b true in1 e =
           let near = fires_near_taken (node_at net b).meaning (can.sound b).lawful 0 ((node_at net b).multiple * reached st b) in
           let taken = source_takes net can b (reached st b) e in
           let few = tape_few b in1 e in
+          let alone = alone_fits b (tape_of b) in1 (within b in1 e) in
           omega arith
       firings_few b false in1 e =
           let used : 0 < length (writers_of net b) = can.fed b in1 e in
@@ -166,9 +178,9 @@ module _ (net : Network) (can : CanRun net) where
           omega arith
 
 pub counts_are_small : CountsAreSmall
-counts_are_small names net caps st can valid sound b in' =
+counts_are_small names net caps st can valid within sound b in' =
     record {
-      firings = (let few = firings_few net can caps st sound names valid b (is_source (role_at net b)) in' refl in omega arith);
-      given = (let few = given_few net can caps st sound names valid b in' in omega arith);
-      taken = λ p used. (let taken = taken_few net can caps st sound b p in' used in let few = given_few net can caps st sound names valid (writer_of net b p).from (comes net can caps st sound b p in' used).1.1 in omega arith);
+      firings = (let few = firings_few net can caps st sound names valid within b (is_source (role_at net b)) in' refl in omega arith);
+      given = (let few = given_few net can caps st sound names valid within b in' in omega arith);
+      taken = λ p used. (let taken = taken_few net can caps st sound b p in' used in let few = given_few net can caps st sound names valid within (writer_of net b p).from (comes net can caps st sound b p in' used).1.1 in omega arith);
     }

@@ -16,7 +16,7 @@ use Rattle.stream_model.specs.Settings.{Value, Number, Taps, Held, put_setting}
 use Rattle.stream_model.specs.Tags.{Tag, Mark}
 use Rattle.stream_model.specs.Network.{Network, Handed, State, nothing_handed, node_at, handed_at, role_at, is_source}
 use Rattle.stream_model.specs.Numbers.{types_agree}
-use Rattle.stream_model.specs.Machine.{Capacities, Reply, with_handed, with_tape, tag_of, marks_fit, longest_tape, feed_of, close_of, set_of, set_wanted, place_setting, is_wanted, floor_of}
+use Rattle.stream_model.specs.Machine.{Capacities, Reply, with_handed, with_tape, tag_of, marks_fit, feed_of, close_of, set_of, set_wanted, place_setting, is_wanted, floor_of}
 use Rattle.stream_model.proofs.Putting.{put-all, put-rises}
 use Rattle.stream_model.proofs.Streams.{beginning_refl}
 use Rattle.machine_laws.specs.Sound.{IsHandedWell, Sound}
@@ -70,7 +70,7 @@ module _ (net : Network) (caps : Capacities) (st : State) (sound : Sound net cap
       (λ (m : Mark). m.offset < length (handed_at st.handed b).tape + length xs) (λ m e. ltb-true _ _ (and_parts _ _ e).1) ms
       (AllPass-from_list_all (λ (m : Mark). nat_le (length (handed_at st.handed b).tape) m.offset && nat_lt m.offset (length (handed_at st.handed b).tape + length xs)) ms fit))
 
-  fed_well : (xs : List ℤ) (ms : List Mark) → is_source (role_at net b) ≡ true → marks_fit (handed_at st.handed b).tape xs ms ≡ true → length (handed_at st.handed b).tape + length xs ≤ longest_tape →
+  fed_well : (xs : List ℤ) (ms : List Mark) → is_source (role_at net b) ≡ true → marks_fit (handed_at st.handed b).tape xs ms ≡ true → length (handed_at st.handed b).tape + length xs ≤ (handed_at st.handed b).longest →
       IsHandedWell (node_at net b) (with_tape (handed_at st.handed b) b xs ms)
   fed_well xs ms source fit short =
       let well = sound.handed b in' in
@@ -87,7 +87,7 @@ module _ (net : Network) (caps : Capacities) (st : State) (sound : Sound net cap
       }
 
   feeds : (xs : List ℤ) (ms : List Mark) → is_source (role_at net b) ≡ true → (handed_at st.handed b).closed ≡ false → marks_fit (handed_at st.handed b).tape xs ms ≡ true →
-      length (handed_at st.handed b).tape + length xs ≤ longest_tape → Sound net caps (with_handed st b (with_tape (handed_at st.handed b) b xs ms))
+      length (handed_at st.handed b).tape + length xs ≤ (handed_at st.handed b).longest → Sound net caps (with_handed st b (with_tape (handed_at st.handed b) b xs ms))
   feeds xs ms source live fit short =
       sound-handed (with_tape (handed_at st.handed b) b xs ms)
       (record { tape = record { rest = xs; is = refl }; stays_closed = λ e. e; ended = λ e. absurd (cc) })
@@ -153,8 +153,8 @@ module _ (net : Network) (caps : Capacities) (st : State) (sound : Sound net cap
       (λ source. if_both (not (types_agree t (node_at net b).meaning.outputs.item)) _ _ Stays (λ _. sound)
       (λ _. if_both s.closed _ _ Stays (λ _. sound)
       (λ live. if_both (not (marks_fit s.tape xs ms)) _ _ Stays (λ _. sound)
-      (λ fit. if_both (nat_lt longest_tape (length s.tape + length xs)) _ _ Stays (λ _. sound)
-      (λ short. feeds net caps st sound b (ltb-true b (length net.nodes) (not_false _ member)) xs ms (not_false _ source) live (not_false _ fit) (ltb-false longest_tape (length s.tape + length xs) short)))))))
+      (λ fit. if_both (nat_lt s.longest (length s.tape + length xs)) _ _ Stays (λ _. sound)
+      (λ short. feeds net caps st sound b (ltb-true b (length net.nodes) (not_false _ member)) xs ms (not_false _ source) live (not_false _ fit) (ltb-false s.longest (length s.tape + length xs) short)))))))
 
   pub close-keeps : Sound net caps (close_of net st b).1
   unfolding close_of

@@ -21,4 +21,5 @@ pub mod Following
 pub mod Running
 pub mod Rounds
 pub mod Bounding
+pub mod Limits
 pub mod Tagging

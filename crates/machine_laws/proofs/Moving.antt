@@ -4,7 +4,7 @@ use Rattle.std.specs.Prelude.{◌⊎◌}
 use Rattle.std.specs.Bool.{⊤}
 use Rattle.std.specs.List.{All}
 use Rattle.std.proofs.Math.ListN.{get_or-map}
-use Rattle.std.proofs.lemmas.List.{length-map}
+use Rattle.std.proofs.lemmas.List.{length-map, get_or-map as get_or-map_inside}
 use Rattle.std.proofs.lemmas.List.Elements.{All-nil}
 use Rattle.std.proofs.lemmas.Bool.{or_cases, le-leb}
 use Rattle.stream_model.specs.declared.vocabulary.Wanted.{Wanted}
@@ -14,7 +14,7 @@ use Rattle.stream_model.proofs.Counts.{given-zero}
 use Rattle.stream_model.proofs.Rising.{rising_nil}
 use Rattle.stream_model.proofs.Streams.{taken_by-rises, given_by-rises, taken_by-zero, limit-falls}
 use Rattle.stream_model.specs.Meaning.{IsWanted}
-use Rattle.stream_model.specs.Network.{Network, Handed, Node, Progress, State, node_at, handed_at, progress_at, role_at, is_source, writers_of, writer_of, no_connection, no_node, no_progress, entering, taken_by, given_by, within_limit, opening, nothing_handed}
+use Rattle.stream_model.specs.Network.{Network, Handed, Node, Progress, State, node_at, handed_at, progress_at, role_at, is_source, writers_of, writer_of, no_connection, no_node, no_progress, entering, taken_by, given_by, within_limit, opening_within, nothing_handed, nothing_within}
 use Rattle.stream_model.specs.Claims.{InputCounts, Decision, IsDone, IsBusy, Ends, Fires, LacksItems, LacksRoom, is_finished, lacks_for_good, decide}
 use Rattle.stream_model.specs.Machine.{Capacities, counts_in, counts_of, claimed_by, claim_of, ended, with_progress}
 use Rattle.stream_laws.specs.CanRun.{CanRun}
@@ -190,10 +190,10 @@ no_settings (Some w) = All-nil (λ (h : Held). IsWanted w h.value)
 
 -- and so with nothing handed
 pub opening_sound : OpeningIsSound
-opening_sound net caps can =
-    begun_sound net caps (opening net).handed can (length-map net.nodes (λ n. nothing_handed))
-    (λ b in1. subst (IsHandedWell (node_at net b)) (sym (nothing-at b))
+opening_sound net caps longest can =
+    begun_sound net caps (opening_within longest net).handed can (length-map net.nodes (λ n. nothing_within longest))
+    (λ b in1. subst (IsHandedWell (node_at net b)) (sym (nothing-at b in1))
     (record { tape = λ e. refl; short = zero-le; tags = All-nil (λ (t : Tag). t.offset < 0); settings = no_settings (node_at net b).meaning.setting; rising = rising_nil; unset = λ none. refl }))
   where
-    nothing-at : (b : ℕ) → handed_at (opening net).handed b ≡ nothing_handed
-    nothing-at b = get_or-map (λ (n : Node). nothing_handed) net.nodes b no_node
+    nothing-at : (b : ℕ) → b < length net.nodes → handed_at (opening_within longest net).handed b ≡ nothing_within longest
+    nothing-at b in1 = get_or-map_inside (λ (n : Node). nothing_within longest) net.nodes b no_node nothing_handed in1

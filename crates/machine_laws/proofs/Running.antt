@@ -3,7 +3,7 @@ use Rattle.std.proofs.Common.{◌≡◌, ℕ, ◌<◌, ◌≤◌, true, List, []
 use Rattle.std.proofs.lemmas.List.Elements.{All-append, All-weaker}
 use Rattle.stream_model.specs.Tags.{Tag}
 use Rattle.stream_model.specs.Meaning.{input}
-use Rattle.stream_model.specs.Network.{Network, Handed, State, node_at, handed_at, role_at, is_keeper, entering, opening, taken_by}
+use Rattle.stream_model.specs.Network.{Network, Handed, State, node_at, handed_at, role_at, is_keeper, entering, opening_within, taken_by}
 use Rattle.stream_model.specs.Machine.{Capacities, Call, next}
 use Rattle.stream_model.proofs.Streams.{taken_by-rises, length-beginning}
 use Rattle.stream_laws.specs.CanRun.{CanRun}
@@ -95,9 +95,10 @@ module _ (net : Network) (can : CanRun net) (caps : Capacities) where
       }
 
 pub runs_are_right : RunsAreRight
-runs_are_right net caps can calls =
-    let sound = run-keeps net can caps (opening net) (opening_sound net caps can) calls in
-    let st = state_after net caps (opening net) calls in
+runs_are_right net caps longest can calls =
+    let opened = opening_within longest net in
+    let sound = run-keeps net can caps opened (opening_sound net caps longest can) calls in
+    let st = state_after net caps opened calls in
     record {
       sound = sound;
       begins = begins net can caps st sound;

@@ -10,7 +10,7 @@ use Rattle.stream_model.specs.Settings.{Value, put_setting}
 use Rattle.stream_model.specs.Tags.{Tag, Mark}
 use Rattle.stream_model.specs.Network.{Network, Handed, State, node_at, handed_at, progress_at, role_at, is_source, taken_by}
 use Rattle.stream_model.specs.Numbers.{types_agree}
-use Rattle.stream_model.specs.Machine.{Capacities, Reply, with_tape, tag_of, marks_fit, longest_tape, close_of, feed_of, set_of, set_wanted, place_setting, is_wanted, floor_of}
+use Rattle.stream_model.specs.Machine.{Capacities, Reply, with_tape, tag_of, marks_fit, close_of, feed_of, set_of, set_wanted, place_setting, is_wanted, floor_of}
 use Rattle.stream_model.proofs.Putting.{put-below}
 use Rattle.stream_laws.specs.Past.{HasLater}
 use Rattle.machine_laws.specs.Sound.{reached, Sound}
@@ -86,7 +86,7 @@ module _ (net : Network) (caps : Capacities) (st : State) (sound : Sound net cap
       (λ _. if_both (not (types_agree t (node_at net b).meaning.outputs.item)) _ _ HandsLater (λ _. nothing)
       (λ _. if_both s.closed _ _ HandsLater (λ _. nothing)
       (λ _. if_both (not (marks_fit s.tape xs ms)) _ _ HandsLater (λ _. nothing)
-      (λ fit. if_both (nat_lt longest_tape (length s.tape + length xs)) _ _ HandsLater (λ _. nothing)
+      (λ fit. if_both (nat_lt s.longest (length s.tape + length xs)) _ _ HandsLater (λ _. nothing)
       (λ _. hands b (ltb-true b (length net.nodes) (not_false _ member)) (with_tape s b xs ms) (fed_later b (ltb-true b (length net.nodes) (not_false _ member)) xs ms (not_false _ fit))))))))
 
   pub closes : (b : ℕ) → HandsLater (close_of net st b)

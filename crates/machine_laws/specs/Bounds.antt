@@ -1,9 +1,11 @@
--- Counts stay small in a valid graph.
+-- Counts stay small in a valid graph, where tapes are no longer than its gain allows.
 use Rattle.std.specs.Prelude.{ℕ, ◌*◌, ◌^◌, ◌<◌, List, length}
-use Rattle.stream_model.specs.Network.{Network, State, node_at, writers_of, taken_by, given_by}
-use Rattle.stream_model.specs.Machine.{Capacities}
+use Rattle.stream_model.specs.Network.{Network, State, node_at, writers_of, taken_by, given_by, opening_within}
+use Rattle.stream_model.specs.Machine.{Capacities, Call}
 use Rattle.graph_model.specs.Graphs.{IsValidGraph}
+use Rattle.graph_model.specs.Gains.{IsWithinGain, AreWithinGain}
 use Rattle.stream_laws.specs.CanRun.{CanRun}
+use Rattle.machine_laws.specs.Runs.{state_after}
 use Rattle.machine_laws.specs.Sound.{reached, Sound}
 
 -- the firings of block b that are committed or claimed, one by one, the items that they give, and those that they take on each input
@@ -14,5 +16,11 @@ pub record IsSmall (net : Network) (st : State) (b : ℕ) : Type 0 where
 
 abbrev pub CountsAreSmall : Type 0
 CountsAreSmall =
-    (names : List (List ℕ)) (net : Network) (caps : Capacities) (st : State) → CanRun net → IsValidGraph names net → Sound net caps st →
-    (b : ℕ) → b < length net.nodes → IsSmall net st b
+    (names : List (List ℕ)) (net : Network) (caps : Capacities) (st : State) → CanRun net → IsValidGraph names net →
+    AreWithinGain net st.handed → Sound net caps st → (b : ℕ) → b < length net.nodes → IsSmall net st b
+
+-- and so they do after any calls, where tapes may come to be as long as fits the graph
+abbrev pub CountsStaySmall : Type 0
+CountsStaySmall =
+    (names : List (List ℕ)) (net : Network) (caps : Capacities) (longest : ℕ) → CanRun net → IsValidGraph names net → IsWithinGain net longest →
+    (calls : List Call) (b : ℕ) → b < length net.nodes → IsSmall net (state_after net caps (opening_within longest net) calls) b

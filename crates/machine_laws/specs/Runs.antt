@@ -1,7 +1,7 @@
 -- Runs: what is true after any list of calls, of any blocks in any order and amounts.
 use Rattle.std.specs.Prelude.{ℕ, ◌<◌, ◌≤◌, ◌≡◌, List, length, true}
 use Rattle.stream_model.specs.Meaning.{input}
-use Rattle.stream_model.specs.Network.{Network, State, role_at, is_keeper, entering, opening}
+use Rattle.stream_model.specs.Network.{Network, State, role_at, is_keeper, entering, opening_within}
 use Rattle.stream_model.specs.Machine.{Capacities, Call, run_of, is_quiet, is_all_done, IsWhole}
 use Rattle.graph_model.specs.Rates.{HasCapacities}
 use Rattle.stream_laws.specs.CanRun.{CanRun}
@@ -29,6 +29,8 @@ pub record IsRight (net : Network) (caps : Capacities) (st : State) : Type 0 whe
   -- and they are done where capacities are enough for a balance, all tapes are closed and no block can act
   pub rests : (q : List ℕ) → HasCapacities net q caps → AreClosed net st → is_quiet net caps st ≡ true → is_all_done st ≡ true
 
--- the headline: after any calls
+-- the headline: after any calls, however long tapes may come to be
 abbrev pub RunsAreRight : Type 0
-RunsAreRight = (net : Network) (caps : Capacities) → CanRun net → (calls : List Call) → IsRight net caps (state_after net caps (opening net) calls)
+RunsAreRight =
+    (net : Network) (caps : Capacities) (longest : ℕ) → CanRun net → (calls : List Call) →
+    IsRight net caps (state_after net caps (opening_within longest net) calls)

@@ -3,8 +3,8 @@ use Rattle.std.specs.Prelude.{ℕ, ◌+◌, ◌<◌, ◌≤◌, ◌≡◌, List,
 use Rattle.stream_model.specs.Lists.{IsBeginning}
 use Rattle.stream_model.specs.Settings.{IsRising}
 use Rattle.stream_model.specs.Meaning.{AreWanted}
-use Rattle.stream_model.specs.Network.{Network, Node, Handed, State, node_at, handed_at, progress_at, role_at, is_source, used_outputs, taken_by, given_by, within_limit, fires, entering, no_progress, opening}
-use Rattle.stream_model.specs.Machine.{Capacities, Call, capacity_at, longest_tape, next}
+use Rattle.stream_model.specs.Network.{Network, Node, Handed, State, node_at, handed_at, progress_at, role_at, is_source, used_outputs, taken_by, given_by, within_limit, fires, entering, no_progress, opening_within}
+use Rattle.stream_model.specs.Machine.{Capacities, Call, capacity_at, next}
 use Rattle.stream_laws.specs.CanRun.{CanRun}
 
 -- the firings of block b that are committed, and those that are committed or claimed
@@ -41,7 +41,7 @@ pub record Fits (net : Network) (caps : Capacities) (st : State) (b k : ℕ) : T
 -- items, none where it has no setting
 pub record IsHandedWell (n : Node) (h : Handed) : Type 0 where
   pub tape : is_source n.meaning.role ≡ false → length h.tape ≡ 0
-  pub short : length h.tape ≤ longest_tape
+  pub short : length h.tape ≤ h.longest
   pub tags : All (λ t. t.offset < length h.tape) h.tags
   pub settings : AreWanted n.meaning h.settings
   pub rising : IsRising h.settings
@@ -68,12 +68,18 @@ BegunIsSound =
     (net : Network) (caps : Capacities) (hs : List Handed) → CanRun net → length hs ≡ length net.nodes →
     ((b : ℕ) → b < length net.nodes → IsHandedWell (node_at net b) (handed_at hs b)) → Sound net caps (begun net hs)
 
--- and so with nothing
+-- and so with nothing, however long tapes may come to be
 abbrev pub OpeningIsSound : Type 0
-OpeningIsSound = (net : Network) (caps : Capacities) → CanRun net → Sound net caps (opening net)
+OpeningIsSound = (net : Network) (caps : Capacities) (longest : ℕ) → CanRun net → Sound net caps (opening_within longest net)
 
 -- and every call keeps it so, whatever its arguments
 abbrev pub CallsKeepSound : Type 0
 CallsKeepSound =
     (net : Network) (caps : Capacities) (st : State) → CanRun net → Sound net caps st → (call : Call) →
     Sound net caps (next net caps st call).1
+
+-- and no call changes how long a tape may come to be
+abbrev pub LimitsStay : Type 0
+LimitsStay =
+    (net : Network) (caps : Capacities) (st : State) (call : Call) (b : ℕ) →
+    (handed_at (next net caps st call).1.handed b).longest ≡ (handed_at st.handed b).longest

@@ -1,8 +1,8 @@
 //! Laws of states and calls.
 
-ghost use Rattle.machine_laws.specs.Bounds.{CountsAreSmall};
+ghost use Rattle.machine_laws.specs.Bounds.{CountsAreSmall, CountsStaySmall};
 ghost use Rattle.machine_laws.specs.Runs.{RunsAreRight};
-ghost use Rattle.machine_laws.specs.Sound.{BegunIsSound, OpeningIsSound, CallsKeepSound};
+ghost use Rattle.machine_laws.specs.Sound.{BegunIsSound, OpeningIsSound, CallsKeepSound, LimitsStay};
 ghost use Rattle.machine_laws.specs.Stalls.{QuietIsDone, QuietIsWhole};
 ghost use Rattle.machine_laws.specs.Steps.{CallsComeToAnEnd, IdleStepsStay, StepsComeToAnEnd, StuckIsQuiet};
 ghost use Rattle.machine_laws.specs.Stays.{WhatIsShownStays, JobsAreFed, CommitsAddTheirTags, CommitsAddTheirWork};
@@ -14,7 +14,7 @@ pub fn begun_is_sound()
     ensures { BegunIsSound }
 {}
 
-/// A run begins in a sound state.
+/// A run begins in a sound state, however long its tapes may come to be.
 pub fn opening_is_sound()
     ensures { OpeningIsSound }
 {}
@@ -22,6 +22,11 @@ pub fn opening_is_sound()
 /// Each call, whatever its arguments, leads from a sound state to a sound one.
 pub fn calls_keep_sound()
     ensures { CallsKeepSound }
+{}
+
+/// No call changes how long a tape may come to be.
+pub fn limits_stay()
+    ensures { LimitsStay }
 {}
 
 /// What the firings that are committed or claimed took and gave stays, whatever is called, and a claim in flight is the same job until
@@ -45,9 +50,14 @@ pub fn commits_add_their_tags()
     ensures { CommitsAddTheirTags }
 {}
 
-/// In a valid graph every count of a sound state is below 2 ^ 62.
+/// In a valid graph every count of a sound state is below 2 ^ 62, where no path makes more than 2 ^ 61 items of what a tape may come to hold.
 pub fn counts_are_small()
     ensures { CountsAreSmall }
+{}
+
+/// So after any calls: what fits at the opening fits for good.
+pub fn counts_stay_small()
+    ensures { CountsStaySmall }
 {}
 
 /// Where all blocks are done, each sink holds its whole stream.

@@ -5,6 +5,7 @@ use Rattle.stream_model.specs.Network.{Network, Progress, State, no_progress, pr
 use Rattle.stream_model.specs.Machine as machine
 use Rattle.stream_model.specs.Machine.{Capacities, Job, Reply, next, is_in_flight, abandon_of, Refused}
 use Rattle.stream_laws.specs.CanRun.{CanRun}
+use Rattle.graph_model.specs.Gains.{AreWithinGain}
 use Rattle.machine_laws.specs.Sound.{Sound}
 use Rattle.machine_laws.proofs.Sounds.{calls_keep_sound}
 use Rattle.firings.specs.Firings.{abandoned}
@@ -14,6 +15,7 @@ use Rattle.stores.specs.declared.stores.Stores.{Stores}
 use Rattle.stores.specs.Stores.{state_of, stored_in}
 use Rattle.stores.specs.Lending.{HasRoom}
 use Rattle.plant.specs.Plant.{PlantState, Keeps, without_claim}
+use Rattle.plant.proofs.Limits.{gain_stays}
 
 -- a job that is not in flight is refused
 pub abandon_refused : {B J : Type 0} (x : PlantState B) (back : J) (net : Network) (own : Bool) (job : Job) → is_in_flight net x.state own job ≡ false →
@@ -64,6 +66,7 @@ module _ (net : Network) (caps : Capacities) (s : Stores) (ps : List Progress) (
   here : Keeps net caps s (abandoned ps job.block)
   here = record {
     sound = subst (Sound net caps) there (calls_keep_sound net caps st can keeps.sound (machine.Abandon own job));
+    gain = subst (λ (x : State). AreWithinGain net x.handed) there (gain_stays net caps st (machine.Abandon own job) keeps.gain);
     stored = stored;
     room = λ a in'' claimed. elim (cases_eq a job.block) [
       | inl e ↦ absurd (none_left a e claimed)

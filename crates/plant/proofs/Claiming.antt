@@ -8,6 +8,7 @@ use Rattle.stream_model.specs.Claims as claims
 use Rattle.stream_model.specs.Claims.{IsDone, IsBusy, Ends, Fires, LacksItems, LacksRoom, decide}
 use Rattle.stream_model.specs.Machine.{Capacities, Call, Claim, Reply, counts_of, claimed_by, claim_of, job_of, next}
 use Rattle.stream_laws.specs.CanRun.{CanRun}
+use Rattle.graph_model.specs.Gains.{AreWithinGain}
 use Rattle.machine_laws.specs.Sound.{Sound}
 use Rattle.machine_laws.proofs.Deciding.{Reason, decide-reason}
 use Rattle.machine_laws.proofs.Sounds.{calls_keep_sound}
@@ -28,15 +29,17 @@ use Rattle.stores.proofs.Releasable.{can_release}
 use Rattle.stores.proofs.Rooms.{room_stays}
 use Rattle.plant.specs.Plant.{Keeps, KeepsBut}
 use Rattle.plant.specs.Answers.{is_claimed}
+use Rattle.plant.proofs.Limits.{gain_stays}
 
 -- what is kept of all blocks is kept of all but one, and the other way about where this one has its room
 pub but_from : (net : Network) (caps : Capacities) (s : Stores) (ps : List Progress) (b : ℕ) → Keeps net caps s ps → KeepsBut net caps s ps b
-but_from net caps s ps b keeps = record { sound = keeps.sound; stored = keeps.stored; room = λ a in' ne some. keeps.room a in' some }
+but_from net caps s ps b keeps = record { sound = keeps.sound; gain = keeps.gain; stored = keeps.stored; room = λ a in' ne some. keeps.room a in' some }
 
 pub keeps_from : (net : Network) (caps : Capacities) (s : Stores) (ps : List Progress) (b : ℕ) → KeepsBut net caps s ps b →
     (0 < (progress_at ps b).claimed → HasRoom net s b (progress_at ps b).firings (progress_at ps b).claimed) → Keeps net caps s ps
 keeps_from net caps s ps b keeps here = record {
   sound = keeps.sound;
+  gain = keeps.gain;
   stored = keeps.stored;
   room = λ a in' some. elim (cases_eq a b) [
     | inl e ↦ subst (λ k. HasRoom net s k (progress_at ps k).firings (progress_at ps k).claimed) (sym e) (here (subst (λ k. 0 < (progress_at ps k).claimed) e some))
@@ -58,6 +61,7 @@ module _ (net : Network) (caps : Capacities) (can : CanRun net) (s s' : Stores) 
       let there : state_of s.handed.items ps ≡ state_of s'.handed.items ps = ap (λ (h : Vec Intake Global). state_of h.items ps) (sym handed) in
       record {
         sound = subst (Sound net caps) there keeps.sound;
+        gain = subst (λ (st : State). AreWithinGain net st.handed) there keeps.gain;
         stored = subst (Holds net caps (state_of s'.handed.items ps)) (sym stored) (subst (λ st. Holds net caps st (stored_in s)) there keeps.stored);
         room = λ a in' ne some. room_stays net can s s' a (progress_at ps a).firings (progress_at ps a).claimed (brings_same a (progress_at ps a).firings (progress_at ps a).claimed) (keeps.room a in' ne some) rooms;
       }
@@ -72,6 +76,7 @@ module _ (net : Network) (caps : Capacities) (can : CanRun net) (s : Stores) (ps
       let at : (a : ℕ) → progress_at (next net caps st call).1.progress a ≡ progress_at ps' a = λ a. ap (λ (x : State). progress_at x.progress a) there in
       record {
         sound = subst (Sound net caps) there (calls_keep_sound net caps st can keeps.sound call);
+        gain = subst (λ (x : State). AreWithinGain net x.handed) there (gain_stays net caps st call keeps.gain);
         stored = subst (λ x. Holds net caps x (stored_in s')) there holds;
         room = λ a in' ne some.
             let flying : 0 < (progress_at (next net caps st call).1.progress a).claimed = subst (λ (p : Progress). 0 < p.claimed) (sym (at a)) some in

@@ -6,6 +6,7 @@ use Rattle.stream_model.specs.Machine as machine
 use Rattle.stream_model.specs.Machine.{Capacities, Call, Reply, job_of, next, is_in_flight, commit_of}
 use Rattle.graph_model.specs.Graphs.{IsValidGraph}
 use Rattle.stream_laws.specs.CanRun.{CanRun}
+use Rattle.graph_model.specs.Gains.{AreWithinGain}
 use Rattle.machine_laws.specs.Sound.{Sound}
 use Rattle.machine_laws.specs.Stays.{in_flight}
 use Rattle.machine_laws.proofs.Sounds.{calls_keep_sound}
@@ -25,6 +26,7 @@ use Rattle.stores.proofs.Delivered.{delivered_is_committed}
 use Rattle.stores.proofs.Flights.{flight_was, flight_room-other}
 use Rattle.plant.proofs.InFlight.{flight_decides}
 use Rattle.plant.specs.Plant.{Keeps, IsFlight, IsItsWork, with_claim_done}
+use Rattle.plant.proofs.Limits.{gain_stays}
 
 module _ (net : Network) (caps : Capacities) (s : Stores) (ps : List Progress) (b : ℕ) (in' : b < length net.nodes) (some : 0 < (progress_at ps b).claimed) where
   abbrev st : State
@@ -67,7 +69,7 @@ module _ (net : Network) (caps : Capacities) (s : Stores) (ps : List Progress) (
   can_commit names can valid =
       subst (λ k. CanDeliver net s b k count windows outputs) (sym flight.first_is)
       (subst (λ c. CanDeliver net s b (progress_at ps b).firings c windows outputs) (sym flight.count_is)
-      (can_deliver names net can valid caps before keeps.sound b flight.inside some_claimed s keeps.stored outputs word work.worked work.given_types windows work.taken work.taken_types (keeps.room b flight.inside some_claimed)))
+      (can_deliver names net can valid caps before keeps.sound keeps.gain b flight.inside some_claimed s keeps.stored outputs word work.worked work.given_types windows work.taken work.taken_types (keeps.room b flight.inside some_claimed)))
 
   module _ (can : CanRun net) (s' : Stores) (ps' : List Progress)
       (stored : stored_in s' ≡ delivered net (stored_in s) b first (first + count) (map numbers_of windows) (map numbers_of outputs) word) (handed : s'.handed ≡ s.handed) (room : KeepsRoom net b s s')
@@ -108,6 +110,7 @@ module _ (net : Network) (caps : Capacities) (s : Stores) (ps : List Progress) (
     pub keeps_committed : Keeps net caps s' ps'
     keeps_committed = record {
       sound = subst (Sound net caps) there (calls_keep_sound net caps before can keeps.sound own);
+      gain = subst (λ (x : State). AreWithinGain net x.handed) there (gain_stays net caps before own keeps.gain);
       stored = subst (λ x. Holds net caps x (stored_in s')) there stored_then;
       room = λ a in'' claimed. elim (cases_eq a b) [
         | inl e ↦ absurd (none_left a e claimed)

@@ -44,7 +44,7 @@ module _ (names : List (List ℕ)) (net : Network) (can : CanRun net) (valid : I
   pub may_lend : CanLend net (stored_in s) b first count
   may_lend =
       subst (λ k. CanLend net (stored_in s) b k count) (sym flight.first_is)
-      (subst (λ k. CanLend net (stored_in s) b (fired (st) b) k) (sym flight.count_is) (can_lend names net can valid caps (st) keeps.sound b (claimed) may (stored_in s) keeps.stored))
+      (subst (λ k. CanLend net (stored_in s) b (fired (st) b) k) (sym flight.count_is) (can_lend names net can valid caps (st) keeps.sound keeps.gain b (claimed) may (stored_in s) keeps.stored))
 
   module _ (windows : List Items) (held : List Held) (places : List Items) (lent : IsLent net (stored_in s) b first count windows held places) where
     lent_so : IsLent net (stored_in s) b (fired (st) b) (claimed) windows held places
@@ -55,7 +55,7 @@ module _ (names : List (List ℕ)) (net : Network) (can : CanRun net) (valid : I
         let n = node_at net b in
         subst (λ k. CanWork n.meaning (n.multiple * k) (n.multiple * count) (word_at (stored_in s) b) windows held places) (sym flight.first_is)
         (subst (λ k. CanWork n.meaning (n.multiple * fired (st) b) (n.multiple * k) (word_at (stored_in s) b) windows held places) (sym flight.count_is)
-        (can_do net caps (st) (stored_in s) b (claimed) serves windows held places lent_so names can valid keeps.sound may))
+        (can_do net caps (st) (stored_in s) b (claimed) serves windows held places lent_so names can valid keeps.sound keeps.gain may))
 
     pub job_lent : job_of (length places) b first count windows held (word_at (stored_in s) b) ≡ in_flight net (st) b
     job_lent =

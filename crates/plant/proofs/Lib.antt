@@ -1,3 +1,5 @@
+pub mod Spans
+pub mod Limits
 pub mod Refusals
 pub mod Feeding
 pub mod Moves

@@ -4,15 +4,17 @@ use Rattle.std.specs.Arc.{arc_value}
 use Rattle.std.proofs.lemmas.List.{map-set, length-map}
 use Rattle.std.proofs.Math.Seq.{map-set_same}
 use Rattle.stream_model.specs.Network as model
-use Rattle.stream_model.specs.Network.{Network, Progress, State, handed_at, progress_at, nothing_handed}
+use Rattle.stream_model.specs.Network.{Network, Progress, State, handed_at, is_source, progress_at, nothing_handed, role_at}
 use Rattle.stream_model.specs.Machine as machine
 use Rattle.stream_model.specs.declared.vocabulary.ItemType.{ItemType}
 use Rattle.stream_model.specs.Numbers.{types_agree}
 use Rattle.stream_model.specs.Tags.{Mark}
-use Rattle.stream_model.specs.Machine.{Capacities, Call, Reply, next, with_handed, with_tape, close_of, feed_of, longest_tape}
+use Rattle.stream_model.specs.Machine.{Capacities, Call, Reply, next, with_handed, with_tape, close_of, feed_of}
 use Rattle.plant_laws.proofs.Handing.{feeding_holds, closing_holds}
 use Rattle.stream_laws.specs.CanRun.{CanRun}
+use Rattle.graph_model.specs.Gains.{AreWithinGain, most_grown}
 use Rattle.machine_laws.specs.Sound.{Sound}
+use Rattle.machine_laws.proofs.Bounding.{alone_fits}
 use Rattle.machine_laws.proofs.Sounds.{calls_keep_sound}
 use Rattle.firings.specs.declared.progress.Tape.{Tape}
 use Rattle.firings.specs.State as firings
@@ -33,6 +35,7 @@ use Rattle.plant.specs.Plant.{PlantState, Keeps}
 use Rattle.plant.specs.Answers.{refusal_of}
 use Rattle.plant.specs.Feeding.{length_with}
 use Rattle.plant.specs.declared.fault.PlantFault.{PlantFault}
+use Rattle.plant.proofs.Limits.{gain_stays}
 use Rattle.plant.proofs.Refusals.{IsSource, close-again, close-open, feed-stopped, feed-fits}
 
 -- of all that is stored, only what block b was handed is another
@@ -111,6 +114,7 @@ module _ (net : Network) (caps : Capacities) (can : CanRun net) (s : Stores) (ps
         let here : after ≡ stored_in s' = is ∙ sym (stored_then s s' b h handed) in
         record {
           sound = subst (Sound net caps) there (calls_keep_sound net caps (state_of s.handed.items ps) can keeps.sound call);
+          gain = subst (λ (st : State). AreWithinGain net st.handed) there (gain_stays net caps (state_of s.handed.items ps) call keeps.gain);
           stored = subst (Holds net caps (state_of s'.handed.items ps)) here (subst (λ st. Holds net caps st after) there holds);
           room = λ a in'' claimed.
               room_stays net can s s' a (progress_at ps a).firings (progress_at ps a).claimed
@@ -120,6 +124,10 @@ module _ (net : Network) (caps : Capacities) (can : CanRun net) (s : Stores) (ps
               (keeps.room a in'' claimed) (room_handed s s' b h handed);
         }
 
+    -- and how long it may come to be
+    pub limited : (h : Intake) → h ≡ get_or s.handed.items b h → h.longest ≡ (handed_at (map handed_of s.handed.items) b).longest
+    limited h h_is = ap (λ (x : Intake). x.longest) h_is ∙ sym (ap (λ (x : model.Handed). x.longest) (handed_here h))
+
     -- the tape that firings look at is the block's
     module _ (t : Tape) (t_is : t ≡ firings.tape_of (handed_at (map handed_of s.handed.items) b)) where
       closed_is : (handed_at (map handed_of s.handed.items) b).closed ≡ t.closed
@@ -128,22 +136,28 @@ module _ (net : Network) (caps : Capacities) (can : CanRun net) (s : Stores) (ps
       pub length_is : length (handed_at (map handed_of s.handed.items) b).tape ≡ t.length
       length_is = ap (λ (x : Tape). x.length) (sym t_is)
 
-      pub tape_short : t.length ≤ longest_tape
-      tape_short = rw (← length_is) (keeps.sound.handed b in').short
+      pub tape_within : t.length ≤ (handed_at (map handed_of s.handed.items) b).longest
+      tape_within = rw (← length_is) (keeps.sound.handed b in').short
+
+      pub tape_short : is_source (role_at net b) ≡ true → t.length ≤ most_grown
+      tape_short source =
+          let few = alone_fits net can b (handed_at (map handed_of s.handed.items) b).longest in' (keeps.gain b in' source) in
+          let within = tape_within in
+          omega (arith, few, within)
 
       module _ (item : ItemType) (source : IsSource net b item) where
         pub close_again : t.closed ≡ true → close_of net (state_of s.handed.items ps) b ≡ (machine.Refused machine.already_closed, state_of s.handed.items ps)
         close_again closed = close-again net (state_of s.handed.items ps) b item source (closed_is ∙ closed)
 
-        module _ (ty : ItemType) (xs : List ℤ) (ms : List Mark) (typed : types_agree ty item ≡ true) where
-          asked : length_with (firings.tape_of (handed_at (map handed_of s.handed.items) b)) (length xs) ms ≡ length_with t (length xs) ms
-          asked = ap (λ x. length_with x (length xs) ms) (sym t_is)
+        module _ (n : ℕ) (n_is : n ≡ (handed_at (map handed_of s.handed.items) b).longest) (ty : ItemType) (xs : List ℤ) (ms : List Mark) (typed : types_agree ty item ≡ true) where
+          asked : length_with (firings.tape_of (handed_at (map handed_of s.handed.items) b)) (handed_at (map handed_of s.handed.items) b).longest (length xs) ms ≡ length_with t n (length xs) ms
+          asked = ap (λ x. length_with x (handed_at (map handed_of s.handed.items) b).longest (length xs) ms) (sym t_is) ∙ ap (λ k. length_with t k (length xs) ms) (sym n_is)
 
-          pub feed_stopped : (e : PlantFault) → length_with t (length xs) ms ≡ Err e →
+          pub feed_stopped : (e : PlantFault) → length_with t n (length xs) ms ≡ Err e →
               (refusal_of e ≡ Some (feed_of net (state_of s.handed.items ps) b ty xs ms).0) × ((feed_of net (state_of s.handed.items ps) b ty xs ms).1 ≡ state_of s.handed.items ps)
           feed_stopped e h = feed-stopped net (state_of s.handed.items ps) b item source ty xs ms typed e (asked ∙ h)
 
-          module _ (total : ℕ) (fits : length_with t (length xs) ms ≡ Ok total) where
+          module _ (total : ℕ) (fits : length_with t n (length xs) ms ≡ Ok total) where
             pub feed_now : feed_of net (state_of s.handed.items ps) b ty xs ms ≡ (machine.Fed total, with_handed (state_of s.handed.items ps) b (with_tape (handed_at (map handed_of s.handed.items) b) b xs ms))
             feed_now = feed-fits net (state_of s.handed.items ps) b item source ty xs ms typed total (asked ∙ fits)
 
@@ -200,6 +214,7 @@ module _ (net : Network) (caps : Capacities) (can : CanRun net) (s : Stores) (ps
           let stays : stored_in s' ≡ stored_in s = stored_then s s' b h' handed ∙ stored_same in
           record {
             sound = subst (Sound net caps) (sym there) keeps.sound;
+            gain = subst (λ (st : State). AreWithinGain net st.handed) (sym there) keeps.gain;
             stored = subst (λ x. Holds net caps (state_of s'.handed.items ps) x) (sym stays) (subst (λ st. Holds net caps st (stored_in s)) (sym there) keeps.stored);
             room = λ a in'' claimed. room_same net s s' b h' handed stays a (progress_at ps a).firings (progress_at ps a).claimed (keeps.room a in'' claimed);
           }

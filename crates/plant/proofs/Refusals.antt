@@ -6,7 +6,7 @@ use Rattle.stream_model.specs.Numbers.{types_agree}
 use Rattle.stream_model.specs.Tags.{Mark}
 use Rattle.stream_model.specs.Network.{Network, State, node_at, role_at, handed_at, is_source}
 use Rattle.stream_model.specs.Machine as machine
-use Rattle.stream_model.specs.Machine.{Reply, Refused, longest_tape, marks_fit, close_of, feed_of, with_handed, with_tape}
+use Rattle.stream_model.specs.Machine.{Reply, Refused, marks_fit, close_of, feed_of, with_handed, with_tape}
 use Rattle.plant.specs.declared.fault.PlantFault.{PlantFault}
 use Rattle.plant.specs.declared.fault.PlantFault.TheVariants.{NoSuchBlock, NotSource, Closed, TagPlace, TapeFull}
 use Rattle.firings.specs.declared.progress.Tape.{Tape}
@@ -55,9 +55,9 @@ long false true true n total h = absurd (cc)
 long false true false n total h = let is : n ≡ total = cc in sym is
 
 -- a tape that takes the items has so many more
-pub length_with-ok : (tape : Tape) (count : ℕ) (ms : List Mark) (total : ℕ) → length_with tape count ms ≡ Ok total → total ≡ tape.length + count
-length_with-ok tape count ms total h =
-    long tape.closed (list_all (λ m. nat_le tape.length m.offset && nat_lt m.offset (tape.length + count)) ms) (nat_lt longest_tape (tape.length + count)) _ total h
+pub length_with-ok : (tape : Tape) (longest count : ℕ) (ms : List Mark) (total : ℕ) → length_with tape longest count ms ≡ Ok total → total ≡ tape.length + count
+length_with-ok tape longest count ms total h =
+    long tape.closed (list_all (λ m. nat_le tape.length m.offset && nat_lt m.offset (tape.length + count)) ms) (nat_lt longest (tape.length + count)) _ total h
 
 -- a refusal that changes nothing is an answer
 pub answered : {B : Type 0} (e : PlantFault) (now : Reply × State) (x : PlantState B) → refusal_of e ≡ Some now.0 → now.1 ≡ x.state → Answered now x x (refusal_of e)
@@ -99,14 +99,14 @@ module _ (net : Network) (st : State) (b : ℕ) where
 
       module _ (typed : types_agree t u ≡ true) where
         -- what feeding answers is what the length of the tape with the items says
-        pub feed-stopped : (e : PlantFault) → length_with (tape_of (handed_at st.handed b)) (length xs) ms ≡ Err e → (refusal_of e ≡ Some (feed_of net st b t xs ms).0) × ((feed_of net st b t xs ms).1 ≡ st)
+        pub feed-stopped : (e : PlantFault) → length_with (tape_of (handed_at st.handed b)) (handed_at st.handed b).longest (length xs) ms ≡ Err e → (refusal_of e ≡ Some (feed_of net st b t xs ms).0) × ((feed_of net st b t xs ms).1 ≡ st)
         unfolding feed_of
         feed-stopped e h =
             let in' = lt-ltb b (length net.nodes) is.inside in
-            rw (in', is.source, is.type, typed) (stopped (handed_at st.handed b).closed (marks_fit (handed_at st.handed b).tape xs ms) (nat_lt longest_tape (length (handed_at st.handed b).tape + length xs)) _ e st _ h)
+            rw (in', is.source, is.type, typed) (stopped (handed_at st.handed b).closed (marks_fit (handed_at st.handed b).tape xs ms) (nat_lt (handed_at st.handed b).longest (length (handed_at st.handed b).tape + length xs)) _ e st _ h)
 
-        pub feed-fits : (total : ℕ) → length_with (tape_of (handed_at st.handed b)) (length xs) ms ≡ Ok total → feed_of net st b t xs ms ≡ (machine.Fed total, with_handed st b (with_tape (handed_at st.handed b) b xs ms))
+        pub feed-fits : (total : ℕ) → length_with (tape_of (handed_at st.handed b)) (handed_at st.handed b).longest (length xs) ms ≡ Ok total → feed_of net st b t xs ms ≡ (machine.Fed total, with_handed st b (with_tape (handed_at st.handed b) b xs ms))
         unfolding feed_of
         feed-fits total h =
             let in' = lt-ltb b (length net.nodes) is.inside in
-            rw (in', is.source, is.type, typed) (fits (handed_at st.handed b).closed (marks_fit (handed_at st.handed b).tape xs ms) (nat_lt longest_tape (length (handed_at st.handed b).tape + length xs)) _ total st _ h)
+            rw (in', is.source, is.type, typed) (fits (handed_at st.handed b).closed (marks_fit (handed_at st.handed b).tape xs ms) (nat_lt (handed_at st.handed b).longest (length (handed_at st.handed b).tape + length xs)) _ total st _ h)

@@ -106,7 +106,7 @@ input_there net can b v is = can.fed b is.inside (no_source (node_at net b).mean
 
 module _ (net : Network) (caps : Capacities) (can : CanRun net) (s : Stores) (ps : List Progress) (keeps : Keeps net caps s ps) where
   pub small : (names : List (List ℕ)) → IsValidGraph names net → (b : ℕ) → b < length net.nodes → IsSmall net (state_of s.handed.items ps) b
-  small names valid b in' = counts_are_small names net caps (state_of s.handed.items ps) can valid keeps.sound b in'
+  small names valid b in' = counts_are_small names net caps (state_of s.handed.items ps) can valid keeps.gain keeps.sound b in'
 
   module _ (b : ℕ) (v : Value) (is : IsTaken net b v) (at : Option ℕ) (place : ℕ) (place_is : place ≡ unwrap_or at (floor_of net (state_of s.handed.items ps) b)) (open' : floor_of net (state_of s.handed.items ps) b ≤ place) where
     set_now : set_of net (state_of s.handed.items ps) b at v

@@ -49,7 +49,7 @@ module _ (names : List (List ℕ)) (net : Network) (can : CanRun net) (valid : I
   may = flights_may_fire net stored.caps (st) can stored.sound b inside some
 
   pub lend : CanLend net (stored_in s) b (fired (st) b) (count)
-  lend = can_lend names net can valid stored.caps (st) stored.sound b (count) may (stored_in s) stored.holds
+  lend = can_lend names net can valid stored.caps (st) stored.sound stored.gain b (count) may (stored_in s) stored.holds
 
   pub serves : Serves net stored.caps (st) (stored_in s) b (count)
   serves = firings_are_served net stored.caps (st) (stored_in s) can stored.sound stored.holds b (count) may

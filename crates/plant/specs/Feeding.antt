@@ -6,18 +6,18 @@ use Rattle.stream_model.specs.Numbers.{least_of, greatest_of}
 use Rattle.stream_model.specs.Tags.{Mark}
 use Rattle.stream_model.specs.Network.{Network, State, node_at, role_at, is_source}
 use Rattle.stream_model.specs.Machine as machine
-use Rattle.stream_model.specs.Machine.{Reply, Refused, longest_tape}
+use Rattle.stream_model.specs.Machine.{Reply, Refused}
 use Rattle.firings.specs.declared.progress.Tape.{Tape}
 use Rattle.plant.specs.declared.fault.PlantFault.{PlantFault}
 use Rattle.plant.specs.declared.fault.PlantFault.TheVariants.{Closed, TagPlace, TapeFull}
 
 -- how long a tape is with so many items more, or the first reason why they and their marks cannot be put on it: it is closed, a mark
--- lies on none of them, it would be too long
-abbrev pub length_with : Tape → ℕ → List Mark → Result ℕ PlantFault
-length_with tape count ms =
+-- lies on none of them, it would be longer than it may be
+abbrev pub length_with : Tape → ℕ → ℕ → List Mark → Result ℕ PlantFault
+length_with tape longest count ms =
     if tape.closed then Err Closed
     else (if not (list_all (λ m. nat_le tape.length m.offset && nat_lt m.offset (tape.length + count)) ms) then Err TagPlace
-    else (if nat_lt longest_tape (tape.length + count) then Err TapeFull
+    else (if nat_lt longest (tape.length + count) then Err TapeFull
     else Ok (tape.length + count)))
 
 -- each number lies in the range of the type

@@ -1,9 +1,10 @@
 -- What a contract sees of a plant, and what its parts keep.
-use Rattle.std.specs.Prelude.{ℕ, ◌≡◌, ◌<◌, ◌+◌, List, length, map, All, true, slice_index_or}
+use Rattle.std.specs.Prelude.{ℕ, ◌≡◌, ◌<◌, ◌≤◌, ◌+◌, List, length, map, All, true, slice_index_or}
 use Rattle.std.specs.Arc.{arc_value}
 use Rattle.stream_model.specs.Meaning.{Meaning}
-use Rattle.stream_model.specs.Network.{Network, Progress, State, node_at, progress_at}
+use Rattle.stream_model.specs.Network.{Network, Progress, State, longest_tape, node_at, progress_at}
 use Rattle.stream_model.specs.Machine.{Capacities, with_progress, is_all_done, IsWhole}
+use Rattle.graph_model.specs.Gains.{AreWithinGain}
 use Rattle.graph_model.specs.Rates.{Balanced, balance_of, capacities_of}
 use Rattle.machine_laws.specs.Sound.{Sound}
 use Rattle.machine_laws.specs.Stays.{in_flight}
@@ -13,8 +14,10 @@ use Rattle.items.specs.Items.{type_of, numbers_of}
 use Rattle.flowgraph.specs.Flowgraph.{Flowgraph, net_of}
 use Rattle.jobs.specs.declared.lent.Lent.{Lent}
 use Rattle.rates.specs.Answer.{AreRates, answer_of, sizes_of}
+use Rattle.plant_laws.specs.Stored.{Firsts, firsts_of}
 use Rattle.plant_laws.specs.Holds.{Holds}
 use Rattle.plant_laws.specs.Calls.{IsWorked}
+use Rattle.stores.specs.declared.intake.Intake.{Intake}
 use Rattle.stores.specs.declared.stores.Stores.{Stores}
 use Rattle.stores.specs.Stores.{state_of, stored_in}
 use Rattle.stores.specs.Lending.{HasRoom, IsLent}
@@ -26,9 +29,10 @@ pub record PlantState (B : Type 0) : Type 0 where
   pub capacities : Capacities
   pub state : State
 
--- the state is one that calls lead to, what is stored is what its streams say, and for each claim in flight there is room for its commit
+-- the state is one that calls lead to, no path makes too much of a tape, what is stored is what its streams say, and for each claim in flight there is room for its commit
 pub record Keeps (net : Network) (caps : Capacities) (s : Stores) (progress : List Progress) : Type 0 where
   pub sound : Sound net caps (state_of s.handed.items progress)
+  pub gain : AreWithinGain net (state_of s.handed.items progress).handed
   pub stored : Holds net caps (state_of s.handed.items progress) (stored_in s)
   pub room : (b : ℕ) → b < length net.nodes → 0 < (progress_at progress b).claimed →
       HasRoom net s b (progress_at progress b).firings (progress_at progress b).claimed
@@ -36,6 +40,7 @@ pub record Keeps (net : Network) (caps : Capacities) (s : Stores) (progress : Li
 -- the same, but for the room of block b
 pub record KeepsBut (net : Network) (caps : Capacities) (s : Stores) (progress : List Progress) (b : ℕ) : Type 0 where
   pub sound : Sound net caps (state_of s.handed.items progress)
+  pub gain : AreWithinGain net (state_of s.handed.items progress).handed
   pub stored : Holds net caps (state_of s.handed.items progress) (stored_in s)
   pub room : (a : ℕ) → a < length net.nodes → (a ≡ b → ⊥) → 0 < (progress_at progress a).claimed →
       HasRoom net s a (progress_at progress a).firings (progress_at progress a).claimed
@@ -43,6 +48,27 @@ pub record KeepsBut (net : Network) (caps : Capacities) (s : Stores) (progress :
 -- what the parts of a plant stand for
 abbrev pub plant_of : {B P : Type 0} → Parts B P → PlantState B
 plant_of p = record { graph = arc_value p.graph; capacities = sizes_of p.capacities; state = state_of p.stores.handed.items p.firings }
+
+-- the first items that are kept, and for each block the most items that its tape may come to hold
+pub record Spans : Type 0 where
+  pub firsts : Firsts
+  pub longest : List ℕ
+
+abbrev pub spans_of : Stores → Spans
+spans_of s = record { firsts = firsts_of (stored_in s); longest = map (λ (h : Intake). h.longest) s.handed.items }
+
+abbrev pub spans_in : {B P : Type 0} → Parts B P → Spans
+spans_in p = spans_of p.stores
+
+-- nothing is forgotten
+pub record ForgetsNone (firsts : Firsts) : Type 0 where
+  pub tapes : All (λ k. k ≡ 0) firsts.tapes
+  pub sinks : All (λ k. k ≡ 0) firsts.sinks
+
+-- nor does a tape grow beyond the usual
+pub record KeepsAll (spans : Spans) : Type 0 where
+  pub whole : ForgetsNone spans.firsts
+  pub short : All (λ n. n ≤ longest_tape) spans.longest
 
 -- what never changes: the rates and the capacities are the graph's, and each block has a place for what its jobs are lent
 pub record IsBuilt {B P : Type 0} (meaning : B → Meaning) (p : Parts B P) : Type 0 where
@@ -54,6 +80,11 @@ pub record IsBuilt {B P : Type 0} (meaning : B → Meaning) (p : Parts B P) : Ty
 pub record IsRight {B P : Type 0} (meaning : B → Meaning) (p : Parts B P) : Type 0 where
   pub keeps : Keeps (net_of meaning (arc_value p.graph)) (sizes_of p.capacities) p.stores p.firings
   pub built : IsBuilt meaning p
+
+-- the parts of a `Plant`, which forgets nothing
+pub record IsWholePlant {B P : Type 0} (meaning : B → Meaning) (p : Parts B P) : Type 0 where
+  pub right : IsRight meaning p
+  pub keeps : KeepsAll (spans_in p)
 
 pub record IsRightBut {B P : Type 0} (meaning : B → Meaning) (p : Parts B P) (b : ℕ) : Type 0 where
   pub keeps : KeepsBut (net_of meaning (arc_value p.graph)) (sizes_of p.capacities) p.stores p.firings b

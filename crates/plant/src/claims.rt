@@ -9,7 +9,7 @@ ghost use Rattle.stream_model.specs.Machine.{counts_of, claim_of, next, step_of}
 ghost use Rattle.machine_laws.specs.Stays.{in_flight};
 ghost use Rattle.flowgraph.specs.Flowgraph.{net_of};
 ghost use Rattle.firings.specs.Decision.{answer_of};
-ghost use Rattle.plant.specs.Plant.{IsRight, IsRightBut, IsFlight, IsLentTo, IsDoneBy, plant_of, with_claim_done, without_claim};
+ghost use Rattle.plant.specs.Plant.{IsRight, IsRightBut, IsFlight, IsLentTo, IsDoneBy, plant_of, with_claim_done, without_claim, spans_in};
 ghost use Rattle.plant.specs.Memory.{LosesNone, NeedsNone};
 ghost use Rattle.plant.specs.Answers.{Answered, IsOf, is_claimed, claim_reply, reply_of, step_reply};
 
@@ -31,6 +31,7 @@ impl<B: Block> Parts<B> {
         requires right { IsRight B.meaning self.old }
         requires some { 1 ≤ max }
         ensures right { IsRight B.meaning self.new }
+        ensures spans { spans_in self.new ≡ spans_in self.old }
         ensures answered { let old = plant_of self.old in Answered (next (net_of B.meaning old.graph) old.capacities old.state (machine.Claim block.0 max)) old (plant_of self.new) (reply_of claim_reply result) }
         ensures of_graph { IfOk result (IsOf (plant_of self.old).graph) }
     {
@@ -54,6 +55,7 @@ impl<B: Block> Parts<B> {
         requires right { IsRight B.meaning self.old }
         requires some { 1 ≤ max }
         ensures right { IsRight B.meaning self.new }
+        ensures spans { spans_in self.new ≡ spans_in self.old }
         ensures answered { let old = plant_of self.old in Answered (step_of (net_of B.meaning old.graph) old.capacities old.state block.0 max) old (plant_of self.new) (reply_of step_reply result) }
         ensures succeeds { let old = plant_of self.old in
             let net = net_of B.meaning old.graph in
@@ -86,6 +88,7 @@ impl<B: Block> Parts<B> {
             result ≡ answer_of counts.firings (claims.decide (node_at net block.0) counts max) }
         ensures state { let old = plant_of self.old in plant_of self.new ≡ record old { state = (claim_of (net_of B.meaning old.graph) old.capacities old.state block.0 max).1 } }
         ensures right { IsRightBut B.meaning self.new block.0 }
+        ensures spans { spans_in self.new ≡ spans_in self.old }
         ensures rest { is_claimed result ≡ false → IsRight B.meaning self.new }
         ensures lent { self.new.lent.items ≡ self.old.lent.items }
         ensures stores { is_claimed result ≡ true → self.new.stores ≡ self.old.stores }
@@ -115,6 +118,7 @@ impl<B: Block> Parts<B> {
         requires right { IsRightBut B.meaning self.old block.0 }
         requires flight { let old = plant_of self.old in IsFlight (net_of B.meaning old.graph) old.state block.0 first count }
         ensures right { IsRight B.meaning self.new }
+        ensures spans { spans_in self.new ≡ spans_in self.old }
         ensures graph { IfOk result (λ job. job.graph ≡ (plant_of self.old).graph) }
         ensures job { let old = plant_of self.old in IfOk result (λ job. job.job ≡ in_flight (net_of B.meaning old.graph) old.state block.0) }
         ensures same { OnOk result (plant_of self.new ≡ plant_of self.old) }
@@ -141,6 +145,7 @@ impl<B: Block> Parts<B> {
         requires flight { let old = plant_of self.old in IsFlight (net_of B.meaning old.graph) old.state block.0 first count }
         ensures same { plant_of self.new ≡ plant_of self.old }
         ensures right { IsRightBut B.meaning self.new block.0 }
+        ensures spans { spans_in self.new ≡ spans_in self.old }
         ensures room { OnOk result (IsRight B.meaning self.new) }
         ensures graph { IfOk result (λ job. job.graph ≡ (plant_of self.old).graph) }
         ensures job { let old = plant_of self.old in IfOk result (λ job. job.job ≡ in_flight (net_of B.meaning old.graph) old.state block.0) }
@@ -171,6 +176,7 @@ impl<B: Block> Parts<B> {
         requires right { IsRightBut B.meaning self.old block.0 }
         requires flight { let old = plant_of self.old in IsFlight (net_of B.meaning old.graph) old.state block.0 first count }
         ensures right { IsRight B.meaning self.new }
+        ensures spans { spans_in self.new ≡ spans_in self.old }
         ensures fired { let old = plant_of self.old in OnOk result (plant_of self.new ≡ record old { state = with_claim_done old.state block.0 }) }
         ensures succeeds { NeedsNone B.meaning self.old block.0 first count → IsOk result }
         ensures keeps { LosesNone B.meaning self.old self.new }
@@ -196,6 +202,7 @@ impl<B: Block> Parts<B> {
         requires flight { let old = plant_of self.old in IsFlight (net_of B.meaning old.graph) old.state block.0 first count }
         requires lent { IsLentTo B.meaning self.old block.0 first count }
         ensures right { IsRight B.meaning self.new }
+        ensures spans { spans_in self.new ≡ spans_in self.old }
         ensures same { plant_of self.new ≡ plant_of self.old }
         ensures work { IsDoneBy B.meaning self.new block.0 result }
         ensures keeps { LosesNone B.meaning self.old self.new }
@@ -225,6 +232,7 @@ impl<B: Block> Parts<B> {
         requires flight { let old = plant_of self.old in IsFlight (net_of B.meaning old.graph) old.state block.0 first count }
         ensures same { plant_of self.new ≡ plant_of self.old }
         ensures right { IsRightBut B.meaning self.new block.0 }
+        ensures spans { spans_in self.new ≡ spans_in self.old }
         ensures room { OnOk result (IsRight B.meaning self.new) }
         ensures lent { OnOk result (IsLentTo B.meaning self.new block.0 first count) }
         ensures succeeds { NeedsNone B.meaning self.old block.0 first count → IsOk result }

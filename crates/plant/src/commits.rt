@@ -5,7 +5,7 @@ ghost use Rattle.stream_model.specs.Machine as machine;
 ghost use Rattle.stream_model.specs.Machine.{commit_of, abandon_of};
 ghost use Rattle.flowgraph.specs.Flowgraph.{net_of};
 ghost use Rattle.plant.specs.Own.{is_own};
-ghost use Rattle.plant.specs.Plant.{IsRight, IsFlight, IsDoneBy, plant_of, with_claim_done};
+ghost use Rattle.plant.specs.Plant.{IsRight, IsFlight, IsDoneBy, plant_of, with_claim_done, spans_in};
 ghost use Rattle.plant.specs.Memory.{HoldsJob, HoldsWork};
 ghost use Rattle.plant.specs.Answers.{IsTaken};
 
@@ -21,6 +21,7 @@ impl<B: Block> Parts<B> {
     pub fn commit(&mut self, worked: Worked<B>) -> Result<Did, Worked<B>>
         requires { IsRight B.meaning self.old }
         ensures right { IsRight B.meaning self.new }
+        ensures spans { spans_in self.new ≡ spans_in self.old }
         ensures taken { let old = plant_of self.old in
             IsTaken (λ d. machine.Did d.0) (commit_of (net_of B.meaning old.graph) old.state (is_own B.eq old.graph worked.graph worked.job.block) worked.job) old (plant_of self.new) worked result }
         ensures kept { OnOk result (HoldsWork self.new worked.job.block worked.job.windows worked.outputs) }
@@ -43,6 +44,7 @@ impl<B: Block> Parts<B> {
     pub fn abandon(&mut self, job: Job<B>) -> Result<(), Job<B>>
         requires { IsRight B.meaning self.old }
         ensures right { IsRight B.meaning self.new }
+        ensures spans { spans_in self.new ≡ spans_in self.old }
         ensures taken { let old = plant_of self.old in
             IsTaken (λ u. machine.Abandoned) (abandon_of (net_of B.meaning old.graph) old.state (is_own B.eq old.graph job.graph job.job.block) job.job) old (plant_of self.new) job result }
         ensures kept { OnOk result (HoldsJob (net_of B.meaning job.graph) self.new job.job) }
@@ -63,6 +65,7 @@ impl<B: Block> Parts<B> {
         requires flight { let old = plant_of self.old in IsFlight (net_of B.meaning old.graph) old.state block.0 first count }
         requires work { IsDoneBy B.meaning self.old block.0 word }
         ensures right { IsRight B.meaning self.new }
+        ensures spans { spans_in self.new ≡ spans_in self.old }
         ensures state { let old = plant_of self.old in plant_of self.new ≡ record old { state = with_claim_done old.state block.0 } }
         ensures lent { self.new.lent.items ≡ self.old.lent.items }
     {

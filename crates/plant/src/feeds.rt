@@ -10,7 +10,7 @@ ghost use Rattle.items.specs.Items.{type_of, numbers_of};
 ghost use Rattle.settings.specs.Values.{value_of};
 ghost use Rattle.flowgraph.specs.Flowgraph.{net_of};
 ghost use Rattle.stores.specs.Stores.{mark_of};
-ghost use Rattle.plant.specs.Plant.{IsRight, plant_of};
+ghost use Rattle.plant.specs.Plant.{IsRight, plant_of, spans_in};
 ghost use Rattle.plant.specs.Answers.{Answered, AnsweredAlways, reply_of};
 ghost use Rattle.plant.specs.Feeding.{feed_numbers, length_with};
 
@@ -25,7 +25,7 @@ use items::{ItemFault, Items, Mark};
 use settings::Value;
 use std::alloc::Global;
 
-/// The greatest number of items on a source's tape.
+/// The most items that a tape of a `Plant` may come to hold.
 pub const LONGEST_TAPE: u64 = 4_294_967_296;
 
 impl<B: Block> Parts<B> {
@@ -33,6 +33,7 @@ impl<B: Block> Parts<B> {
     pub fn close(&mut self, source: BlockId) -> Result<Closed, PlantFault>
         requires { IsRight B.meaning self.old }
         ensures right { IsRight B.meaning self.new }
+        ensures spans { spans_in self.new ≡ spans_in self.old }
         ensures answered { let old = plant_of self.old in AnsweredAlways (close_of (net_of B.meaning old.graph) old.state source.0) old (plant_of self.new) (reply_of (λ c. machine.Closed c.0) result) }
     {
         self.graph.recall();
@@ -55,6 +56,7 @@ impl<B: Block> Parts<B> {
     ) -> Result<Fed, PlantFault>
         requires { IsRight B.meaning self.old }
         ensures right { IsRight B.meaning self.new }
+        ensures spans { spans_in self.new ≡ spans_in self.old }
         ensures answered { let old = plant_of self.old in Answered (feed_of (net_of B.meaning old.graph) old.state source.0 (type_of items.now) (numbers_of items.now) (map mark_of marks.now)) old (plant_of self.new) (reply_of (λ f. machine.Fed f.0) result) }
     {
         self.graph.recall();
@@ -63,8 +65,8 @@ impl<B: Block> Parts<B> {
             return Err(PlantFault::ItemRange);
         }
         let at = source.0 as usize;
-        let tape = counts_of(&self.stores.handed[at]);
-        let total = length_with(tape, items.len() as u64, marks)?;
+        let intake = &self.stores.handed[at];
+        let total = length_with(counts_of(intake), intake.longest, items.len() as u64, marks)?;
         self.stores.handed[at].feed(source.0, items, marks)?;
         Ok(Fed(total))
     }
@@ -79,6 +81,7 @@ impl<B: Block> Parts<B> {
     ) -> Result<Fed, PlantFault>
         requires { IsRight B.meaning self.old }
         ensures right { IsRight B.meaning self.new }
+        ensures spans { spans_in self.new ≡ spans_in self.old }
         ensures answered { let old = plant_of self.old in Answered (feed_numbers (net_of B.meaning old.graph) old.state source.0 numbers.now (map mark_of marks.now)) old (plant_of self.new) (reply_of (λ f. machine.Fed f.0) result) }
     {
         self.graph.recall();
@@ -87,8 +90,13 @@ impl<B: Block> Parts<B> {
             Ok(items) => self.feed(source, &items, marks),
             Err(ItemFault::ItemRange) => Err(PlantFault::ItemRange),
             Err(ItemFault::Memory) => {
-                let tape = counts_of(&self.stores.handed[source.0 as usize]);
-                length_with(tape, numbers.len() as u64, marks)?;
+                let intake = &self.stores.handed[source.0 as usize];
+                length_with(
+                    counts_of(intake),
+                    intake.longest,
+                    numbers.len() as u64,
+                    marks,
+                )?;
                 Err(PlantFault::Memory)
             }
         }
@@ -103,6 +111,7 @@ impl<B: Block> Parts<B> {
     ) -> Result<Taken, PlantFault>
         requires { IsRight B.meaning self.old }
         ensures right { IsRight B.meaning self.new }
+        ensures spans { spans_in self.new ≡ spans_in self.old }
         ensures replaces { let old = plant_of self.old in (place : ℕ) → (set_of (net_of B.meaning old.graph) old.state block.0 at (value_of value)).0 ≡ machine.Taken place →
             Any (λ h. h.at ≡ place) (handed_at old.state.handed block.0).settings → IsOk result }
         ensures answered { let old = plant_of self.old in Answered (set_of (net_of B.meaning old.graph) old.state block.0 at (value_of value)) old (plant_of self.new) (reply_of (λ t. machine.Taken t.0) result) }
@@ -134,10 +143,10 @@ impl<B: Block> Parts<B> {
     }
 }
 
-// How long a tape is with so many items more, or why they and their marks cannot be put on it.
-fn length_with(tape: Tape, count: u64, marks: &[Mark]) -> Result<u64, PlantFault>
+// How long a tape is with so many items more, or why they and their marks cannot be put on it, where it may come to hold `longest`.
+fn length_with(tape: Tape, longest: u64, count: u64, marks: &[Mark]) -> Result<u64, PlantFault>
     requires { tape.length + count < 2 ^ 64 }
-    ensures { result ≡ length_with tape count (map mark_of marks.now) }
+    ensures { result ≡ length_with tape longest count (map mark_of marks.now) }
 {
     if tape.closed {
         return Err(PlantFault::Closed);
@@ -146,7 +155,7 @@ fn length_with(tape: Tape, count: u64, marks: &[Mark]) -> Result<u64, PlantFault
     if !fit(marks, tape.length, total) {
         return Err(PlantFault::TagPlace);
     }
-    if LONGEST_TAPE < total {
+    if longest < total {
         return Err(PlantFault::TapeFull);
     }
     Ok(total)

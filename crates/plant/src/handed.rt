@@ -1,12 +1,14 @@
 //! What was handed to a plant, and how far it was, as it was at one moment.
 
-ghost use Rattle.std.specs.Prelude.{◌≡◌, ◌<◌, ◌^◌, ◌↔◌, length, map, true, IsTrue, IfOk};
+ghost use Rattle.std.specs.Prelude.{◌≡◌, ◌<◌, ◌^◌, ◌↔◌, length, map, true, All, IsTrue, IfOk};
+ghost use Rattle.std.specs.Arc.{arc_value};
 ghost use Rattle.stream_model.specs.Network as model;
 ghost use Rattle.firings.specs.State.{progress_of};
 ghost use Rattle.flowgraph.specs.Agreeing.{graphs_agree};
 ghost use Rattle.flowgraph.specs.Flowgraph.{net_of};
+ghost use Rattle.stores.specs.declared.intake.Intake.{Intake};
 ghost use Rattle.stores.specs.Stores.{handed_of};
-ghost use Rattle.plant.specs.Plant.{plant_of};
+ghost use Rattle.plant.specs.Plant.{ForgetsNone, plant_of, spans_in};
 
 use crate::parts::Parts;
 use firings::{Firings, Progress};
@@ -79,6 +81,7 @@ impl<B: Block> Opening<B> {
 impl<B: Block> Parts<B> {
     /// What was handed to the plant.
     pub fn handed(&self, alloc: Global) -> Result<Handed<B>, AllocError>
+        requires { ForgetsNone (spans_in self.now).firsts }
         ensures graph { IfOk result (λ h. h.graph ≡ (plant_of self.now).graph) }
         ensures handed { IfOk result (λ h. h.handed ≡ (plant_of self.now).state.handed) }
     {
@@ -90,6 +93,7 @@ impl<B: Block> Parts<B> {
 
     /// Whether that is what was handed to the plant.
     pub fn agrees(&self, handed: &Handed<B>) -> bool
+        requires { ForgetsNone (spans_in self.now).firsts }
         ensures nets { IsTrue result → net_of B.meaning (plant_of self.now).graph ≡ net_of B.meaning handed.now.graph }
         ensures same { let plant = plant_of self.now in
             IsTrue result ↔ ((graphs_agree B.eq plant.graph handed.now.graph ≡ true) × (handed.now.handed ≡ plant.state.handed)) }
@@ -99,7 +103,8 @@ impl<B: Block> Parts<B> {
 
     /// What was handed to the plant, and how far it is.
     pub fn opening(&self, alloc: Global) -> Result<Opening<B>, AllocError>
-        requires { length self.now.firings ≡ length (plant_of self.now).graph.blocks }
+        requires long { length self.now.firings ≡ length (plant_of self.now).graph.blocks }
+        requires whole { ForgetsNone (spans_in self.now).firsts }
         ensures graph { IfOk result (λ o. o.graph ≡ (plant_of self.now).graph) }
         ensures state { IfOk result (λ o. o.state ≡ (plant_of self.now).state) }
     {
@@ -112,6 +117,7 @@ impl<B: Block> Parts<B> {
 
 // A copy of what each block was handed.
 fn copies(alloc: Global, handed: &[Intake]) -> Result<Vec<IntakeCopy>, AllocError>
+    requires { All (λ (h : Intake). (arc_value h.tape).from ≡ 0) handed.now }
     ensures { IfOk result (λ copies. copies.items ≡ map handed_of handed.now) }
 {
     let mut copies = Vec::with_capacity(alloc, handed.len())?;
@@ -123,6 +129,7 @@ fn copies(alloc: Global, handed: &[Intake]) -> Result<Vec<IntakeCopy>, AllocErro
 
 // Whether the copies are of what the blocks were handed.
 fn are_of(copies: &[IntakeCopy], handed: &[Intake]) -> bool
+    requires { All (λ (h : Intake). (arc_value h.tape).from ≡ 0) handed.now }
     ensures { IsTrue result ↔ (copies.now ≡ map handed_of handed.now) }
 {
     let mut rest = copies;

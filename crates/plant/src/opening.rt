@@ -1,9 +1,10 @@
 //! A plant as it opens.
 
-ghost use Rattle.std.specs.Prelude.{◌≡◌, length, IfOk, IfErr};
+ghost use Rattle.std.specs.Prelude.{◌≡◌, All, length, IfOk, IfErr};
+ghost use Rattle.graph_model.specs.Gains.{IsWithinGain};
 ghost use Rattle.flowgraph.specs.Flowgraph.{net_of};
-ghost use Rattle.plant.specs.Plant.{IsRight, plant_of};
-ghost use Rattle.plant.specs.Opening.{IsFresh, opening_plant};
+ghost use Rattle.plant.specs.Plant.{ForgetsNone, IsRight, plant_of, spans_in};
+ghost use Rattle.plant.specs.Opening.{IsFresh, opening_plant_within};
 
 use crate::parts::Parts;
 use firings::Firings;
@@ -25,14 +26,22 @@ struct Fresh {
 }
 
 impl<B: Block> Parts<B> {
-    /// The parts of a graph of which nothing is fed and nothing fired. If it is out of memory it returns the graph.
-    pub fn open(alloc: Global, graph: Valid<B>) -> Result<Parts<B>, (Valid<B>, AllocError)>
+    /// The parts of a graph of which nothing is fed and nothing fired, where a tape may come to hold `longest` items. If it is out of memory it
+    /// returns the graph.
+    pub fn open(
+        alloc: Global,
+        graph: Valid<B>,
+        longest: u64,
+    ) -> Result<Parts<B>, (Valid<B>, AllocError)>
+        requires { IsWithinGain (net_of B.meaning graph) longest }
         ensures right { IfOk result (IsRight B.meaning) }
-        ensures opens { IfOk result (λ parts. plant_of parts ≡ opening_plant B.meaning graph) }
+        ensures whole { IfOk result (λ parts. ForgetsNone (spans_in parts).firsts) }
+        ensures longest { IfOk result (λ parts. All (λ n. n ≡ longest) (spans_in parts).longest) }
+        ensures opens { IfOk result (λ parts. plant_of parts ≡ opening_plant_within longest B.meaning graph) }
         ensures back { IfErr result (λ refusal. refusal.0 ≡ graph) }
     {
-        match prepare(alloc, &graph) {
-            Ok(fresh) => shared(alloc, graph, fresh),
+        match prepare(alloc, &graph, longest) {
+            Ok(fresh) => shared(alloc, graph, fresh, longest),
             Err(refusal) => Err((graph, refusal)),
         }
     }
@@ -43,10 +52,14 @@ fn shared<B: Block>(
     alloc: Global,
     graph: Valid<B>,
     fresh: Fresh,
+    longest: u64,
 ) -> Result<Parts<B>, (Valid<B>, AllocError)>
-    requires { IsFresh (net_of B.meaning graph) fresh }
+    requires fresh { IsFresh (net_of B.meaning graph) longest fresh }
+    requires gain { IsWithinGain (net_of B.meaning graph) longest }
     ensures right { IfOk result (IsRight B.meaning) }
-    ensures opens { IfOk result (λ parts. plant_of parts ≡ opening_plant B.meaning graph) }
+    ensures whole { IfOk result (λ parts. ForgetsNone (spans_in parts).firsts) }
+    ensures longest { IfOk result (λ parts. All (λ n. n ≡ longest) (spans_in parts).longest) }
+    ensures opens { IfOk result (λ parts. plant_of parts ≡ opening_plant_within longest B.meaning graph) }
     ensures back { IfErr result (λ refusal. refusal.0 ≡ graph) }
 {
     graph.recall();
@@ -64,14 +77,14 @@ fn shared<B: Block>(
 }
 
 // All that a plant of the graph has beside it.
-fn prepare<B: Block>(alloc: Global, graph: &Valid<B>) -> Result<Fresh, AllocError>
-    ensures { IfOk result (IsFresh (net_of B.meaning graph.now)) }
+fn prepare<B: Block>(alloc: Global, graph: &Valid<B>, longest: u64) -> Result<Fresh, AllocError>
+    ensures { IfOk result (IsFresh (net_of B.meaning graph.now) longest) }
 {
     graph.recall();
     let rates = balance(alloc, graph)?;
     let capacities = capacities(alloc, graph, &rates)?;
     let blocks = graph.len();
-    let stores = Stores::open(alloc, graph, capacities.rows())?;
+    let stores = Stores::open(alloc, graph, capacities.rows(), longest)?;
     let firings = Firings::new(alloc, blocks)?;
     let lent = places(alloc, blocks)?;
     Ok(Fresh {

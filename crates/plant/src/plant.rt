@@ -33,6 +33,7 @@ ghost use Rattle.plant.specs.Waits.{need_of, wait_in};
 use crate::answers::{Claim, Closed, Did, Fed, Headway, Piece, Settled, SinkView, Step, Taken};
 use crate::checks::source_type;
 use crate::fault::PlantFault;
+use crate::feeds::LONGEST_TAPE;
 use crate::handed::{Handed, Opening};
 use crate::parts::Parts;
 use crate::settle::{Unwatched, Watch};
@@ -69,13 +70,13 @@ impl<B: Block> Drop for Plant<B> {
 }
 
 impl<B: Block> Model for Plant<B> {
-    ghost use Rattle.plant.specs.Plant.{PlantState, plant_of, IsRight};
+    ghost use Rattle.plant.specs.Plant.{PlantState, plant_of, IsWholePlant};
 
     ghost Value = { PlantState B };
 
     ghost view = { λ p. plant_of p.parts };
 
-    ghost invariant = { λ p. IsRight B.meaning p.parts };
+    ghost invariant = { λ p. IsWholePlant B.meaning p.parts };
 }
 
 impl<B: Block> Plant<B> {
@@ -85,7 +86,8 @@ impl<B: Block> Plant<B> {
         ensures opens { IfOk result (λ plant. plant ≡ opening_plant B.meaning graph) }
         ensures back { IfErr result (λ refusal. refusal.0 ≡ graph) }
     {
-        match Parts::open(alloc, graph) {
+        graph.recall();
+        match Parts::open(alloc, graph, LONGEST_TAPE) {
             Ok(parts) => Ok(Plant { parts }),
             Err(refusal) => Err(refusal),
         }

@@ -1,10 +1,12 @@
 //! What a plant shows.
 
-ghost use Rattle.std.specs.Prelude.{◌≡◌, true, IfOk, Some};
+ghost use Rattle.std.specs.Prelude.{◌≡◌, ◌≤◌, true, IfOk, Some};
 ghost use Rattle.stream_model.specs.Machine.{capacity_at, read_of, HoldsAll};
 ghost use Rattle.stream_model.specs.Network.{node_at};
 ghost use Rattle.items.specs.Items.{type_of};
 ghost use Rattle.flowgraph.specs.Flowgraph.{net_of};
+ghost use Rattle.plant_laws.specs.Stored.{sink_at};
+ghost use Rattle.stores.specs.Stores.{stored_in};
 ghost use Rattle.plant.specs.Plant.{IsRight, plant_of};
 ghost use Rattle.plant.specs.Answers.{AnsweredBy, reply_of, piece_reply, view_of, view_reply};
 ghost use Rattle.plant.specs.Keeping.{IsKeptOf, port_fault};
@@ -18,7 +20,7 @@ use std::alloc::Global;
 use stores::Stored;
 
 impl<B: Block> Parts<B> {
-    /// What a sink holds from item `from` on, at most `max` items of it, with the tags on them.
+    /// What a sink holds from item `from` on, which is kept, at most `max` items of it, with the tags on them.
     pub fn read(
         &self,
         alloc: Global,
@@ -26,7 +28,8 @@ impl<B: Block> Parts<B> {
         from: u64,
         max: u64,
     ) -> Result<Piece, PlantFault>
-        requires { IsRight B.meaning self.now }
+        requires right { IsRight B.meaning self.now }
+        requires kept { (sink_at (stored_in self.now.stores) sink.0).from ≤ from }
         ensures answered { let plant = plant_of self.now in AnsweredBy (read_of (net_of B.meaning plant.graph) plant.state sink.0 from max) (reply_of piece_reply result) }
         ensures typed { let plant = plant_of self.now in IfOk result (λ piece. type_of piece.items ≡ (node_at (net_of B.meaning plant.graph) sink.0).meaning.inputs.item) }
         ensures whole { let plant = plant_of self.now in IfOk result (λ piece. piece.done ≡ true → HoldsAll (net_of B.meaning plant.graph) plant.state sink.0) }
@@ -55,7 +58,8 @@ impl<B: Block> Parts<B> {
 
     /// All that a sink holds, in its place.
     pub fn view(&self, sink: BlockId) -> Result<SinkView<'_>, PlantFault>
-        requires { IsRight B.meaning self.now }
+        requires right { IsRight B.meaning self.now }
+        requires kept { (sink_at (stored_in self.now.stores) sink.0).from ≡ 0 }
         ensures answered { let plant = plant_of self.now in reply_of view_reply result ≡ Some (view_of (net_of B.meaning plant.graph) plant.state sink.0) }
         ensures typed { let plant = plant_of self.now in IfOk result (λ view. type_of view.items.now ≡ (node_at (net_of B.meaning plant.graph) sink.0).meaning.inputs.item) }
         ensures whole { let plant = plant_of self.now in IfOk result (λ view. view.done ≡ true → HoldsAll (net_of B.meaning plant.graph) plant.state sink.0) }
@@ -70,7 +74,7 @@ impl<B: Block> Parts<B> {
         let own = self.firings.progress(sink);
         let collected = &self.stores.sinks[sink.0 as usize];
         Ok(SinkView {
-            items: collected.items(),
+            items: collected.kept().items,
             tags: collected.tags(0, own.firings),
             done: own.done,
         })

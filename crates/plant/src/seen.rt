@@ -35,12 +35,15 @@ fn is_range(items: &Items, whole: &Items, from: usize, to: usize) -> bool
 
 /// Whether the only window is cut out of a tape, from item `first` to below item `next`.
 pub(crate) fn is_cut(tape: &Recording, first: u64, next: u64, windows: &[Items]) -> bool
+    requires kept { tape.now.from ≤ first }
     requires ordered { first ≤ next }
     requires within { next ≤ length tape.now.items }
     requires types { All (λ w. type_of w ≡ tape.now.item) windows.now }
     ensures { IsTrue result ↔ (map numbers_of windows.now ≡ slice_range tape.now.items first next ∷ []) }
 {
-    windows.len() == 1 && is_range(&windows[0], tape.items(), first as usize, next as usize)
+    let kept = tape.kept();
+    let (start, end) = (first - kept.first, next - kept.first);
+    windows.len() == 1 && is_range(&windows[0], kept.items, start as usize, end as usize)
 }
 
 /// Whether the settings are those in force over the items that firings `first` to below `next` of a block take of its first input: none

@@ -6,7 +6,7 @@ ghost use Rattle.stream_model.specs.Machine as machine;
 ghost use Rattle.stream_model.specs.Machine.{is_idle, step_of};
 ghost use Rattle.machine_laws.specs.Steps.{moves_on};
 ghost use Rattle.flowgraph.specs.Flowgraph.{net_of};
-ghost use Rattle.plant.specs.Plant.{IsRight, plant_of};
+ghost use Rattle.plant.specs.Plant.{IsRight, KeepsAll, plant_of, spans_in};
 ghost use Rattle.plant.specs.Settling.{StepsLead, HasMoved, HasSettled, HoldsSettled};
 ghost use Rattle.plant.specs.Headway.{fed_to, given_by_source, headway_of};
 
@@ -55,6 +55,7 @@ impl<B: Block> Parts<B> {
         requires idle { is_idle (plant_of self.old).state ≡ true }
         requires some { 1 ≤ max }
         ensures right { IsRight B.meaning self.new }
+        ensures spans { spans_in self.new ≡ spans_in self.old }
         ensures same { plant_of self.new ≡ record (plant_of self.old) { state = (plant_of self.new).state } }
         ensures steps { let old = plant_of self.old in StepsLead (net_of B.meaning old.graph) old.capacities max old.state (plant_of self.new).state }
         ensures idle { is_idle (plant_of self.new).state ≡ true }
@@ -74,12 +75,13 @@ impl<B: Block> Parts<B> {
         }
     }
 
-    // Steps each block once, and returns whether one moved on.
-    fn round(&mut self, alloc: Global, max: u32) -> Result<bool, AllocError>
+    /// Steps each block once, and returns whether one moved on.
+    pub fn round(&mut self, alloc: Global, max: u32) -> Result<bool, AllocError>
         requires right { IsRight B.meaning self.old }
         requires idle { is_idle (plant_of self.old).state ≡ true }
         requires some { 1 ≤ max }
         ensures right { IsRight B.meaning self.new }
+        ensures spans { spans_in self.new ≡ spans_in self.old }
         ensures same { plant_of self.new ≡ record (plant_of self.old) { state = (plant_of self.new).state } }
         ensures steps { let old = plant_of self.old in StepsLead (net_of B.meaning old.graph) old.capacities max old.state (plant_of self.new).state }
         ensures idle { is_idle (plant_of self.new).state ≡ true }
@@ -101,6 +103,7 @@ impl<B: Block> Parts<B> {
         requires block { block.0 < length (arc_value self.old.graph).blocks }
         requires some { 1 ≤ max }
         ensures right { IsRight B.meaning self.new }
+        ensures spans { spans_in self.new ≡ spans_in self.old }
         ensures step { let old = plant_of self.old in
             IfOk result (λ moved. plant_of self.new ≡ record old { state = (step_of (net_of B.meaning old.graph) old.capacities old.state block.0 max).1 }) }
         ensures moved { let old = plant_of self.old in
@@ -117,17 +120,18 @@ impl<B: Block> Parts<B> {
         }
     }
 
-    /// How many items all sources were fed, and how many of these they have given.
+    /// How many items all sources were fed, and how many of these they have given. Where tapes grow beyond the usual, no number goes beyond the
+    /// greatest of a word.
     pub fn headway(&self) -> Headway
         requires { IsRight B.meaning self.now }
-        ensures value { let plant = plant_of self.now in result ≡ headway_of (net_of B.meaning plant.graph) plant.state }
+        ensures value { let plant = plant_of self.now in KeepsAll (spans_in self.now) → result ≡ headway_of (net_of B.meaning plant.graph) plant.state }
         ensures within { result.given ≤ result.fed }
     {
         let mut headway = Headway { given: 0, fed: 0 };
         for block in 0..self.graph.len() {
             let own = self.own_headway(BlockId(block as u32));
-            headway.given += own.given;
-            headway.fed += own.fed;
+            headway.given = headway.given.saturating_add(own.given);
+            headway.fed = headway.fed.saturating_add(own.fed);
         }
         headway
     }
@@ -139,7 +143,7 @@ impl<B: Block> Parts<B> {
         ensures given { let plant = plant_of self.now in result.given ≡ given_by_source (net_of B.meaning plant.graph) plant.state block.0 }
         ensures fed { let plant = plant_of self.now in result.fed ≡ fed_to (net_of B.meaning plant.graph) plant.state block.0 }
         ensures within { result.given ≤ result.fed }
-        ensures short { result.fed ≤ 2 ^ 32 }
+        ensures short { KeepsAll (spans_in self.now) → result.fed ≤ 2 ^ 32 }
     {
         self.graph.recall();
         if !self.graph.is_source(block) {

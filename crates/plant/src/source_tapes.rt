@@ -38,7 +38,7 @@ pub fn counts_of(intake: &Intake) -> Tape
     ensures { result ≡ tape_of (handed_of intake.now) }
 {
     Tape {
-        length: intake.tape.len() as u64,
+        length: intake.tape.len(),
         closed: intake.closed,
     }
 }

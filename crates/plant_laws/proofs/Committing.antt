@@ -1,5 +1,5 @@
 -- A commit keeps what is stored right.
-use Rattle.std.proofs.Common.{◌≡◌, ◌≢◌, ℕ, ℤ, ◌+◌, ◌-◌, ◌*◌, ◌<◌, Bool, true, false, not, List, [], ◌++◌, length, map, set, take, drop, get_or, refl, arith, ap, sym, ◌∙◌, subst, inl, inr, cond, get_or-set_same, get_or-set_other, length-set, suc}
+use Rattle.std.proofs.Common.{◌≤◌, ◌≡◌, ◌≢◌, ℕ, ℤ, ◌+◌, ◌-◌, ◌*◌, ◌<◌, Bool, true, false, not, List, [], ◌++◌, length, map, set, take, drop, get_or, refl, arith, ap, sym, ◌∙◌, subst, inl, inr, cond, get_or-set_same, get_or-set_other, length-set, suc}
 use Rattle.std.specs.Prelude.{if◌then◌else◌, ◌&&◌, nat_lt}
 use Rattle.std.proofs.Math.Nat.{mul-add}
 use Rattle.std.proofs.Math.Seq.{take-add}
@@ -11,7 +11,7 @@ use Rattle.stream_model.specs.declared.vocabulary.Role.TheVariants.{Source, Work
 use Rattle.stream_model.specs.Lists.{below, window}
 use Rattle.stream_model.specs.Tags.{tags_within}
 use Rattle.stream_model.specs.Meaning.{KeepsRole, input, given_outputs}
-use Rattle.stream_model.specs.Network.{Network, Connection, Progress, State, no_progress, no_connection, node_at, handed_at, progress_at, role_at, is_keeper, writers_of, writer_of, used_outputs, taken_by, given_by, entering, tags_of, tags_entering}
+use Rattle.stream_model.specs.Network.{is_source, Network, Connection, Progress, State, no_progress, no_connection, node_at, handed_at, progress_at, role_at, is_keeper, writers_of, writer_of, used_outputs, taken_by, given_by, entering, tags_of, tags_entering}
 use Rattle.stream_model.specs.Machine.{Capacities, Job, Reply, Did, job_of, with_progress, is_in_flight, jobs_agree, commit_of}
 use Rattle.stream_model.proofs.Given.{map-numbers_from}
 use Rattle.stream_model.proofs.Streams.{taken_by-rises}
@@ -26,7 +26,7 @@ use Rattle.ring_readers.specs.declared.reader.ReaderState.{ReaderState}
 use Rattle.ring_readers.specs.State.{reader_at}
 use Rattle.tags.specs.TagList.{insert_tags}
 use Rattle.buffers.proofs.Readers.{GoesOn}
-use Rattle.plant_laws.specs.Stored.{OutputBuffer, Collected, Stored, no_buffer, nothing_collected, buffers_in, buffer_in, buffer_at, sink_at}
+use Rattle.plant_laws.specs.Stored.{tape_at, OutputBuffer, Collected, Stored, no_buffer, nothing_collected, buffers_in, buffer_in, buffer_at, sink_at}
 use Rattle.plant_laws.specs.Holds.{IsBuffer, HasCollected, Holds, place_of, has_no_reader, word_of}
 use Rattle.plant_laws.specs.Changes.{reader_number, pushed, advanced, taken_buffers, tags_waiting, tags_brought, given_buffers, collected, with_committed}
 use Rattle.plant_laws.specs.Claims.{MayFire}
@@ -273,6 +273,7 @@ module _ (net : Network) (can : CanRun net) (caps : Capacities) (st : State) (so
           type = (holds.sinks b in' keeper).type;
           items = new_items ∙ ap (λ k. take k (input (entering net st.handed b) 0)) (sym fired-here);
           tags = new_tags ∙ ap (λ k. tags_within 0 k (tags_entering net st.handed b 0)) (sym fired-here);
+          kept = subst (λ (n : ℕ). (sink_at stored b).from ≤ n) (sym fired-here) (let h = (holds.sinks b in' keeper).kept in omega arith);
         }
 
   sink-other : (c : ℕ) → c ≢ b → c < length net.nodes → is_keeper (role_at net c) ≡ true → HasCollected net (over) c (sink_at stored c)
@@ -282,6 +283,7 @@ module _ (net : Network) (can : CanRun net) (caps : Capacities) (st : State) (so
         type = has.type;
         items = has.items ∙ ap (λ k. take k (input (entering net st.handed c) 0)) (sym (fired-other c ne));
         tags = has.tags ∙ ap (λ k. tags_within 0 k (tags_entering net st.handed c 0)) (sym (fired-other c ne));
+        kept = subst (λ (n : ℕ). (sink_at stored c).from ≤ n) (sym (fired-other c ne)) has.kept;
       }
 
   module _ (windows : List (List ℤ)) (is_job : windows ≡ (job_of net st b (claimed)).windows) where
@@ -336,6 +338,10 @@ module _ (net : Network) (can : CanRun net) (caps : Capacities) (st : State) (so
               sinks = sinks_count (is_keeper (role_at net b));
             };
             tapes = holds.tapes;
+            kept = λ c in1 e. elim (cases_eq c b) [
+              | inl same ↦ subst (λ k. is_source (role_at net k) ≡ true → (tape_at stored k).from ≤ fired (over) k) (sym same) (λ e'. subst (λ (n : ℕ). (tape_at stored b).from ≤ n) (sym fired-here) (let h = holds.kept b in' e' in omega arith)) e
+              | inr ne ↦ subst (λ (n : ℕ). (tape_at stored c).from ≤ n) (sym (fired-other c ne)) (holds.kept c in1 e)
+            ];
             timelines = holds.timelines;
             words = words_at;
             buffers = all.1;

@@ -1,5 +1,5 @@
 -- A block that ends: the buffers at its inputs no longer wait for it.
-use Rattle.std.proofs.Common.{◌≡◌, ◌≢◌, ℕ, ◌*◌, ◌<◌, true, false, not, length, map, take, get_or, refl, arith, ap, sym, ◌∙◌, subst, inl, inr, get_or-set_same, get_or-set_other, zero-le, suc}
+use Rattle.std.proofs.Common.{◌≤◌, ◌≡◌, ◌≢◌, ℕ, ◌*◌, ◌<◌, true, false, not, length, map, take, get_or, refl, arith, ap, sym, ◌∙◌, subst, inl, inr, get_or-set_same, get_or-set_other, zero-le, suc}
 use Rattle.std.proofs.lemmas.Bool.{cases_eq, lt-ltb, false_from_ne_true, false≢true}
 use Rattle.stream_model.specs.Tags.{tags_within}
 use Rattle.stream_model.specs.Meaning.{input}
@@ -12,7 +12,7 @@ use Rattle.stream_laws.proofs.Writers.{is_input}
 use Rattle.machine_laws.specs.Sound.{fired, Sound}
 use Rattle.ring_readers.specs.declared.reader.ReaderState.{ReaderState}
 use Rattle.buffers.proofs.Readers.{GoesOn}
-use Rattle.plant_laws.specs.Stored.{OutputBuffer, Stored, buffer_in, buffer_at}
+use Rattle.plant_laws.specs.Stored.{tape_at, sink_at, OutputBuffer, Stored, buffer_in, buffer_at}
 use Rattle.plant_laws.specs.Holds.{IsBuffer, Holds, place_of, has_no_reader}
 use Rattle.plant_laws.specs.Changes.{reader_number, released, released_buffers, with_released}
 use Rattle.plant_laws.specs.Calls.{EndingHolds}
@@ -155,6 +155,7 @@ module _ (net : Network) (can : CanRun net) (caps : Capacities) (st : State) (so
       record {
         places = record { tapes = places.tapes; timelines = places.timelines; words = places.words; buffers = all.0.count; outputs = all.0.outputs; sinks = places.sinks };
         tapes = holds.tapes;
+        kept = λ c in1 e. subst (λ (n : ℕ). (tape_at stored c).from ≤ n) (sym (fired-same c)) (holds.kept c in1 e);
         timelines = holds.timelines;
         words = λ c in1. holds.words c in1 ∙ ap (λ k. (node_at net c).meaning.word (handed_at st.handed c).settings (entering net st.handed c) ((node_at net c).multiple * k)) (sym (fired-same c));
         buffers = all.1;
@@ -162,6 +163,7 @@ module _ (net : Network) (can : CanRun net) (caps : Capacities) (st : State) (so
           type = has.type;
           items = has.items ∙ ap (λ k. take k (input (entering net st.handed c) 0)) (sym (fired-same c));
           tags = has.tags ∙ ap (λ k. tags_within 0 k (tags_entering net st.handed c 0)) (sym (fired-same c));
+          kept = subst (λ (n : ℕ). (sink_at stored c).from ≤ n) (sym (fired-same c)) has.kept;
         };
       }
 

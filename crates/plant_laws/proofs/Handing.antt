@@ -1,5 +1,5 @@
 -- Feeding, closing and setting keep what is stored right, and so do claims that fire and abandons.
-use Rattle.std.proofs.Common.{◌≡◌, ◌≢◌, ℕ, ℤ, ◌+◌, ◌<◌, Bool, true, not, List, ◌++◌, length, map, set, Option, Some, None, MatchOption, IsSome, get_or, refl, ap, sym, ◌∙◌, subst, inl, inr, ltb-true, get_or-set_same, get_or-set_other, length-set}
+use Rattle.std.proofs.Common.{◌≤◌, ◌≡◌, ◌≢◌, ℕ, ℤ, ◌+◌, ◌<◌, Bool, true, not, List, ◌++◌, length, map, set, Option, Some, None, MatchOption, IsSome, get_or, refl, ap, sym, ◌∙◌, subst, inl, inr, ltb-true, get_or-set_same, get_or-set_other, length-set}
 use Rattle.std.specs.Prelude.{nat_lt}
 use Rattle.std.proofs.lemmas.Bool.{cases_eq}
 use Rattle.stream_model.specs.declared.vocabulary.ItemType.{ItemType}
@@ -10,7 +10,7 @@ use Rattle.stream_model.specs.Tags.{Mark}
 use Rattle.stream_model.specs.Meaning.{IsWanted}
 use Rattle.stream_model.specs.Network.{Network, Handed, Progress, State, nothing_handed, no_progress, node_at, handed_at, progress_at, role_at, is_source}
 use Rattle.stream_model.specs.Claims.{Decision, IsDone, IsBusy, Ends, Fires, LacksItems, LacksRoom, decide}
-use Rattle.stream_model.specs.Machine.{Capacities, Call, Feed, Close, Set, Claim, Abandon, Reply, Fed, Closed, Taken, Claimed, Abandoned, Job, with_handed, with_progress, with_tape, tag_of, marks_fit, longest_tape, feed_of, close_of, set_of, set_wanted, place_setting, is_wanted, floor_of, claimed_by, claim_of, counts_of, is_in_flight, abandon_of, next}
+use Rattle.stream_model.specs.Machine.{Capacities, Call, Feed, Close, Set, Claim, Abandon, Reply, Fed, Closed, Taken, Claimed, Abandoned, Job, with_handed, with_progress, with_tape, tag_of, marks_fit, feed_of, close_of, set_of, set_wanted, place_setting, is_wanted, floor_of, claimed_by, claim_of, counts_of, is_in_flight, abandon_of, next}
 use Rattle.stream_laws.specs.CanRun.{CanRun}
 use Rattle.machine_laws.specs.Sound.{Sound, fired}
 use Rattle.machine_laws.proofs.Choices.{if_both, not_false}
@@ -50,13 +50,18 @@ module _ (net : Network) (can : CanRun net) (caps : Capacities) (st : State) (so
     timelines-other c ne in1 = subst (λ (g : Handed). IsTimeline (node_at net c).meaning.own g.settings (timeline_at stored c)) (sym (handed-other c ne)) (holds.timelines c in1)
 
     -- a tape is stored anew
-    pub new_tape : h.settings ≡ (handed_at st.handed b).settings → (tape : Tape) → (is_source (role_at net b) ≡ true → IsTape (node_at net b).meaning.outputs.item h tape) → Holds net caps (after) (record stored { tapes = set stored.tapes b tape })
-    new_tape settings tape is =
+    pub new_tape : h.settings ≡ (handed_at st.handed b).settings → (tape : Tape) → (is_source (role_at net b) ≡ true → IsTape (node_at net b).meaning.outputs.item h tape) → tape.from ≡ (tape_at stored b).from → Holds net caps (after) (record stored { tapes = set stored.tapes b tape })
+    new_tape settings tape is from =
         all-put net can caps st sound stored holds call (puts) (set stored.tapes b tape) stored.timelines (length-set stored.tapes b tape ∙ holds.places.tapes) holds.places.timelines
         (λ c in1 e. elim (cases_eq c b) [
           | inl same ↦ subst (λ k. is_source (role_at net k) ≡ true → IsTape (node_at net k).meaning.outputs.item (handed_at (after).handed k) (get_or (set stored.tapes b tape) k no_tape)) (sym same)
               (λ e'. subst (λ t. IsTape (node_at net b).meaning.outputs.item (handed_at (after).handed b) t) (sym (get_or-set_same stored.tapes b tape no_tape (let i = handed.inside in rw holds.places.tapes i))) (subst (λ g. IsTape (node_at net b).meaning.outputs.item g tape) (sym (handed-here)) (is e'))) e
           | inr ne ↦ subst (λ t. IsTape (node_at net c).meaning.outputs.item (handed_at (after).handed c) t) (sym (get_or-set_other stored.tapes b c tape no_tape ne)) (tapes-other c ne in1 e)
+        ])
+        (λ c in1 e. elim (cases_eq c b) [
+          | inl same ↦ subst (λ k. is_source (role_at net k) ≡ true → (get_or (set stored.tapes b tape) k no_tape).from ≤ fired st k) (sym same)
+              (λ e'. subst (λ (t : Tape). t.from ≤ fired st b) (sym (get_or-set_same stored.tapes b tape no_tape (let i = handed.inside in rw holds.places.tapes i))) (subst (λ (n : ℕ). n ≤ fired st b) (sym from) (holds.kept b handed.inside e'))) e
+          | inr ne ↦ subst (λ (t : Tape). t.from ≤ fired st c) (sym (get_or-set_other stored.tapes b c tape no_tape ne)) (holds.kept c in1 e)
         ])
         (λ c in1. elim (cases_eq c b) [
           | inl same ↦ subst (λ (ts : List Held). IsTimeline (node_at net c).meaning.own ts (timeline_at stored c)) (sym (ap (λ (g : Handed). g.settings) (ap (handed_at (after).handed) same ∙ handed-here) ∙ settings ∙ ap (λ k. (handed_at st.handed k).settings) (sym same))) (holds.timelines c in1)
@@ -72,6 +77,7 @@ module _ (net : Network) (can : CanRun net) (caps : Capacities) (st : State) (so
               (λ was. subst (λ g. IsTape (node_at net b).meaning.outputs.item g (tape_at stored b)) (sym (handed-here)) (tape (tape_at stored b) was)) (holds.tapes c in1 e)
           | inr ne ↦ tapes-other c ne in1 e
         ])
+        holds.kept
         (λ c in1. elim (cases_eq c b) [
           | inl same ↦ subst (λ k. IsTimeline (node_at net k).meaning.own (handed_at (after).handed k).settings (get_or (set stored.timelines b (Some s)) k None)) (sym same)
               (subst (λ o. IsTimeline (node_at net b).meaning.own (handed_at (after).handed b).settings o) (sym (get_or-set_same stored.timelines b (Some s) None (let i = handed.inside in rw holds.places.timelines i)))
@@ -85,6 +91,7 @@ module _ (net : Network) (can : CanRun net) (caps : Capacities) (st : State) (so
       let handed = ap (λ (t : State). t.handed) is in
       all-put net can caps st sound stored holds call put stored.tapes stored.timelines holds.places.tapes holds.places.timelines
       (λ c in1 e. subst (λ hs. IsTape (node_at net c).meaning.outputs.item (handed_at hs c) (tape_at stored c)) (sym handed) (holds.tapes c in1 e))
+      holds.kept
       (λ c in1. subst (λ hs. IsTimeline (node_at net c).meaning.own (handed_at hs c).settings (timeline_at stored c)) (sym handed) (holds.timelines c in1))
     where
       at : (c : ℕ) → progress_at (after).progress c ≡ progress_at (with_progress st b s).progress c
@@ -111,7 +118,7 @@ fed_is net st b t xs ms total =
     (λ _. if_both (not (types_agree t (node_at net b).meaning.outputs.item)) _ _ P (λ _ e. absurd (cc))
     (λ _. if_both s.closed _ _ P (λ _ e. absurd (cc))
     (λ _. if_both (not (marks_fit s.tape xs ms)) _ _ P (λ _ e. absurd (cc))
-    (λ _. if_both (nat_lt longest_tape (length s.tape + length xs)) _ _ P (λ _ e. absurd (cc))
+    (λ _. if_both (nat_lt s.longest (length s.tape + length xs)) _ _ P (λ _ e. absurd (cc))
     (λ _ e. record { inside = ltb-true b (length net.nodes) (not_false _ member); is = refl }))))))
 
 closed_is : (net : Network) (st : State) (b total : ℕ) → (close_of net st b).0 ≡ Closed total → IsHanded net st b (record (handed_at st.handed b) { closed = true }) (close_of net st b).1
@@ -135,6 +142,7 @@ feeding_holds net caps st stored can sound holds b t xs ms total e =
       tags = ap (insert_tags (map (tag_of b) ms)) is.tags ∙ inserted_behind s.tags (map (tag_of b) ms);
       closed = is.closed;
     })
+    refl
 
 pub closing_holds : ClosingHolds
 closing_holds net caps st stored can sound holds b total e =
@@ -142,6 +150,7 @@ closing_holds net caps st stored can sound holds b total e =
     new_tape net can caps st sound stored holds (Close b) b (record s { closed = true }) (closed_is net st b total e) refl
     (record (tape_at stored b) { closed = true })
     (λ source. let is = holds.tapes b (closed_is net st b total e).inside source in record { type = is.type; items = is.items; tags = is.tags; closed = refl })
+    refl
 
 -- where a setting is taken, the block has one, and it is put among the others
 pub record IsSet (net : Network) (st : State) (b place : ℕ) (v : Value) (next_state : State) : Type 0 where

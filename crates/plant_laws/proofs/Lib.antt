@@ -17,3 +17,4 @@ pub mod Committing
 pub mod Finding
 pub mod Resting
 pub mod Flying
+pub mod Forgetting

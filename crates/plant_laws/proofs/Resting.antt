@@ -9,7 +9,7 @@ use Rattle.stream_model.specs.Settings.{Value}
 use Rattle.stream_model.specs.Tags.{Mark}
 use Rattle.stream_model.specs.Network.{Network, State, node_at, handed_at, progress_at, role_at, is_source, is_keeper}
 use Rattle.stream_model.specs.Claims.{Decision, IsDone, IsBusy, Ends, Fires, LacksItems, LacksRoom, decide}
-use Rattle.stream_model.specs.Machine.{Capacities, Feed, Close, Set, Claim, Commit, Abandon, Read, Reply, Job, marks_fit, longest_tape, feed_of, close_of, set_of, set_wanted, place_setting, is_wanted, floor_of, claimed_by, claim_of, counts_of, is_in_flight, commit_of, abandon_of, read_of}
+use Rattle.stream_model.specs.Machine.{Capacities, Feed, Close, Set, Claim, Commit, Abandon, Read, Reply, Job, marks_fit, feed_of, close_of, set_of, set_wanted, place_setting, is_wanted, floor_of, claimed_by, claim_of, counts_of, is_in_flight, commit_of, abandon_of, read_of}
 use Rattle.machine_laws.proofs.Choices.{if_both}
 use Rattle.plant_laws.specs.Calls.{tells_change, OtherwiseNothingChanges, DoneBlocksStayDone}
 
@@ -28,7 +28,7 @@ module _ (st : State) where
         (λ _. if_both (not (types_agree t (node_at net b).meaning.outputs.item)) _ _ Rests (λ _ e. refl)
         (λ _. if_both s.closed _ _ Rests (λ _ e. refl)
         (λ _. if_both (not (marks_fit s.tape xs ms)) _ _ Rests (λ _ e. refl)
-        (λ _. if_both (nat_lt longest_tape (length s.tape + length xs)) _ _ Rests (λ _ e. refl) (λ _ e. absurd (cc)))))))
+        (λ _. if_both (nat_lt s.longest (length s.tape + length xs)) _ _ Rests (λ _ e. refl) (λ _ e. absurd (cc)))))))
 
     closes : (b : ℕ) → Rests (close_of net st b)
     unfolding close_of

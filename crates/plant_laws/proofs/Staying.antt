@@ -137,6 +137,7 @@ module _ (net : Network) (can : CanRun net) (caps : Capacities) (st after : Stat
             ∙ sym (ap (λ k. take k (input (entering net after.handed b) 0)) put);
         tags = has.tags ∙ (rw (each (fired st b)) at (input_tags-stay b 0 (fired st b) in' (keeper_input) le))
             ∙ sym (ap (λ k. tags_within 0 k (tags_entering net after.handed b 0)) put);
+        kept = subst (λ (n : ℕ). sink.from ≤ n) (sym put) has.kept;
       }
     where
       keeper_input : 0 < length (writers_of net b)

@@ -12,7 +12,7 @@ use Rattle.machine_laws.specs.Sound.{fired, Sound}
 use Rattle.settings.specs.Timelines.{Settings, held_at}
 use Rattle.plant_laws.specs.Stored.{OutputBuffer, Collected, Stored, timeline_at, sink_at}
 use Rattle.plant_laws.specs.Holds.{word_of, IsBuffer, HasCollected, Holds}
-use Rattle.plant_laws.specs.Changes.{with_fed, with_closed, with_settings, with_released, with_committed}
+use Rattle.plant_laws.specs.Changes.{with_fed, with_closed, with_settings, with_released, with_committed, with_tape_from, with_sink_from}
 
 -- a law of all stored things that are right
 abbrev pub WhereHolds : (Network → Capacities → State → Stored → Type 0) → Type 0
@@ -109,3 +109,11 @@ abbrev pub OthersStay : Type 0
 OthersStay =
     (net : Network) (caps : Capacities) (st : State) → CanRun net → Sound net caps st → (call : Call) → (b : ℕ) → b < length net.nodes →
     let after = (next net caps st call).1 in StaysPut st after b → StoredStays net caps st after b
+
+-- what a source's firings took may be forgotten, and what a sink's did
+pub record ForgettingHolds (net : Network) (caps : Capacities) (st : State) (stored : Stored) : Type 0 where
+  pub tapes : (b to : ℕ) → b < length net.nodes → to ≤ fired st b → Holds net caps st (with_tape_from stored b to)
+  pub sinks : (b to : ℕ) → b < length net.nodes → to ≤ fired st b → Holds net caps st (with_sink_from stored b to)
+
+abbrev pub WhatIsTakenMayGo : Type 0
+WhatIsTakenMayGo = (net : Network) (caps : Capacities) (st : State) (stored : Stored) → Holds net caps st stored → ForgettingHolds net caps st stored

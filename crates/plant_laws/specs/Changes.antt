@@ -106,3 +106,10 @@ with_committed net caps st stored job outputs word =
           (given_buffers net caps st stored b (λ p. slice_index_or outputs p []) (λ p. tags_brought net stored b p job.first next));
       sinks = collected_sinks net stored job;
     }
+
+-- the items of a tape, or of what a sink has collected, before one are kept no more
+abbrev pub with_tape_from : Stored → ℕ → ℕ → Stored
+with_tape_from stored b to = record stored { tapes = slice_set stored.tapes b (record (tape_at stored b) { from = to }) }
+
+abbrev pub with_sink_from : Stored → ℕ → ℕ → Stored
+with_sink_from stored b to = record stored { sinks = slice_set stored.sinks b (record (sink_at stored b) { from = to }) }

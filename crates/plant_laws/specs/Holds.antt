@@ -1,5 +1,5 @@
 -- What is stored is what the streams of a state say.
-use Rattle.std.specs.Prelude.{ℕ, ◌*◌, ◌<◌, ◌≡◌, max, List, [], length, map, fold, take, Option, Some, None, Bool, true, false, not}
+use Rattle.std.specs.Prelude.{ℕ, ◌*◌, ◌<◌, ◌≤◌, ◌≡◌, max, List, [], length, map, fold, take, Option, Some, None, Bool, true, false, not}
 use Rattle.circular_buffer.specs.Buffer.{keep_last}
 use Rattle.stream_model.specs.declared.vocabulary.ItemType.{ItemType}
 use Rattle.stream_model.specs.Tags.{Tag, sorted_tags, tags_within}
@@ -76,11 +76,12 @@ pub record IsBuffer (net : Network) (caps : Capacities) (st : State) (b p : ℕ)
   pub readers : buffer.ring.readers ≡ map (place_of net st) (readers_of net b p)
   pub shows : has_no_reader net caps st b p ≡ false → ShowsOutput net st b p buffer
 
--- a sink has the items of the stream that enters it that it took, one a firing, and the tags on them
+-- a sink has the items of the stream that enters it that it took, one a firing, and the tags on them; what it forgot it took
 pub record HasCollected (net : Network) (st : State) (b : ℕ) (sink : Collected) : Type 0 where
   pub type : sink.item ≡ (node_at net b).meaning.inputs.item
   pub items : sink.items ≡ take (fired st b) (input (entering net st.handed b) 0)
   pub tags : sink.tags ≡ tags_within 0 (fired st b) (tags_entering net st.handed b 0)
+  pub kept : sink.from ≤ fired st b
 
 -- what is stored has a place for each block and each used output
 pub record HasPlaces (net : Network) (stored : Stored) : Type 0 where
@@ -91,10 +92,11 @@ pub record HasPlaces (net : Network) (stored : Stored) : Type 0 where
   pub outputs : (b : ℕ) → b < length net.nodes → length (buffers_in stored.buffers b) ≡ used_outputs net b
   pub sinks : length stored.sinks ≡ length net.nodes
 
--- what is stored is what the state's streams say, each thing by itself
+-- what is stored is what the state's streams say, each thing by itself; what a tape forgot, its source took
 pub record Holds (net : Network) (caps : Capacities) (st : State) (stored : Stored) : Type 0 where
   pub places : HasPlaces net stored
   pub tapes : (b : ℕ) → b < length net.nodes → is_source (role_at net b) ≡ true → IsTape (node_at net b).meaning.outputs.item (handed_at st.handed b) (tape_at stored b)
+  pub kept : (b : ℕ) → b < length net.nodes → is_source (role_at net b) ≡ true → (tape_at stored b).from ≤ fired st b
   pub timelines : (b : ℕ) → b < length net.nodes → IsTimeline (node_at net b).meaning.own (handed_at st.handed b).settings (timeline_at stored b)
   pub words : (b : ℕ) → b < length net.nodes → word_at stored b ≡ word_of net st b
   pub buffers : (b p : ℕ) → b < length net.nodes → p < used_outputs net b → IsBuffer net caps st b p (buffer_at stored b p)

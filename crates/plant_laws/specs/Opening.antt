@@ -2,7 +2,7 @@
 use Rattle.std.specs.Prelude.{ℕ, [], length, map, Option, Some, None, true}
 use Rattle.stream_model.specs.Lists.{below}
 use Rattle.stream_model.specs.Settings.{Value}
-use Rattle.stream_model.specs.Network.{Network, Node, Connection, node_at, readers_of, used_outputs, opening}
+use Rattle.stream_model.specs.Network.{Network, Node, Connection, node_at, readers_of, used_outputs, opening_within}
 use Rattle.stream_model.specs.Machine.{Capacities, capacity_at}
 use Rattle.stream_laws.specs.CanRun.{CanRun}
 use Rattle.settings.specs.Timelines.{Settings}
@@ -40,5 +40,6 @@ stored_opening net caps = record {
   sinks = map empty_sink net.nodes;
 }
 
+-- however long tapes may come to be
 abbrev pub OpeningHolds : Type 0
-OpeningHolds = (net : Network) (caps : Capacities) → CanRun net → Holds net caps (opening net) (stored_opening net caps)
+OpeningHolds = (net : Network) (caps : Capacities) (longest : ℕ) → CanRun net → Holds net caps (opening_within longest net) (stored_opening net caps)

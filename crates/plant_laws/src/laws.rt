@@ -1,7 +1,7 @@
 //! Laws of what a plant stores.
 
 ghost use Rattle.plant_laws.specs.Buffers.{BuffersKeepNoMore, ReadersFindTheirItems};
-ghost use Rattle.plant_laws.specs.Calls.{AbandoningHolds, ClaimingHolds, ClosingHolds, CommittingHolds, DoneBlocksStayDone, EndingHolds, FeedingHolds, OthersStay, OtherwiseNothingChanges, ReadsAreCutOut, SettingHolds};
+ghost use Rattle.plant_laws.specs.Calls.{AbandoningHolds, ClaimingHolds, ClosingHolds, CommittingHolds, DoneBlocksStayDone, EndingHolds, FeedingHolds, OthersStay, OtherwiseNothingChanges, ReadsAreCutOut, SettingHolds, WhatIsTakenMayGo};
 ghost use Rattle.plant_laws.specs.Claims.{ClaimsMayFire, FiringsAreServed, FlightsMayFire};
 ghost use Rattle.plant_laws.specs.Flights.{FlightsKeepTags};
 ghost use Rattle.plant_laws.specs.Opening.{OpeningHolds};
@@ -106,4 +106,9 @@ pub fn otherwise_nothing_changes()
 /// So does a claim of a block that was done before.
 pub fn done_blocks_stay_done()
     ensures { DoneBlocksStayDone }
+{}
+
+/// What a source or a sink has taken need not be kept: all that is stored stays right without it.
+pub fn what_is_taken_may_go()
+    ensures { WhatIsTakenMayGo }
 {}

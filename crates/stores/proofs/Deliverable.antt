@@ -15,6 +15,7 @@ use Rattle.stream_model.proofs.Streams.{given_by-rises}
 use Rattle.graph_model.specs.Graphs.{IsValidGraph}
 use Rattle.stream_laws.specs.CanRun.{CanRun}
 use Rattle.stream_laws.proofs.Writers.{length-entering}
+use Rattle.graph_model.specs.Gains.{AreWithinGain}
 use Rattle.machine_laws.specs.Sound.{fired, reached, Sound}
 use Rattle.machine_laws.proofs.Ports.{keeper_takes_all, keeper_takes_each, keeper_inputs}
 use Rattle.items.specs.declared.stream_items.Items.{Items}
@@ -55,7 +56,7 @@ keeper_history net b Work e role = cc
 keeper_history net b Keep e role = role.plain.0
 keeper_history net b Discard e role = cc
 
-module _ (names : List (List ℕ)) (net : Network) (can : CanRun net) (valid : IsValidGraph names net) (caps : Capacities) (st : State) (sound : Sound net caps st) (b : ℕ) (in' : b < length net.nodes)
+module _ (names : List (List ℕ)) (net : Network) (can : CanRun net) (valid : IsValidGraph names net) (caps : Capacities) (st : State) (sound : Sound net caps st) (gain : AreWithinGain net st.handed) (b : ℕ) (in' : b < length net.nodes)
     (some : 0 < (progress_at st.progress b).claimed) (s : Stores) (holds : Holds net caps st (stored_in s)) where
   abbrev count : ℕ
   count = (progress_at st.progress b).claimed
@@ -93,7 +94,7 @@ module _ (names : List (List ℕ)) (net : Network) (can : CanRun net) (valid : I
       can_give =
           let same = long in
           let rises = given_by-rises (node_at net b) (can.sound b) (fired st b) (reached st b) (omega arith) in
-          let small = gives_small names net can valid caps st sound b (count) may in
+          let small = gives_small names net can valid caps st sound gain b (count) may in
           record {
             type = given_types p d (inside) ∙ sym (holds.buffers b p in' used).type;
             room = λ read. (let room = (serves read).room in omega arith);
@@ -157,7 +158,7 @@ module _ (names : List (List ℕ)) (net : Network) (can : CanRun net) (valid : I
       pub can_deliver : HasRoom net s b (fired st b) (count) → CanDeliver net s b (fired st b) (count) windows outputs
       can_deliver room =
           record {
-            lends = can_lend names net can valid caps st sound b (count) may (stored_in s) holds;
+            lends = can_lend names net can valid caps st sound gain b (count) may (stored_in s) holds;
             room = room;
             gives = zip_numbers (λ p out. CanGive net (stored_in s) b p (fired st b) (fired st b + (count)) out) 0 (used_outputs net b) outputs many
                 (λ p d used. subst (λ j. CanGive net (stored_in s) b j (fired st b) (fired st b + (count)) (get_or outputs p d)) (sym (zero-add p)) (can_give p d used));

@@ -7,7 +7,7 @@ use Rattle.items.specs.declared.marks.Mark.{Mark}
 use Rattle.items.specs.declared.marks.Tag.{Tag}
 use Rattle.items.specs.Tags.{tag_of}
 use Rattle.tags.specs.TagList.{insert_tags}
-use Rattle.stores.specs.Recording.{RecordingState}
+use Rattle.recordings.specs.Recording.{RecordingState}
 use Rattle.stores.specs.Marks.{mark_of, stamped}
 use Rattle.stores.specs.Tapes.{TapeState, longer_tape}
 
@@ -21,13 +21,13 @@ behind all xs ys n e long = rw (e, long, length-append xs ys, drop-append_seam x
 
 -- a tape as a contract sees it, from its parts
 abbrev pub seen : RecordingState → List Tag → TapeState
-seen r marks = record { item = r.item; items = r.items; tags = r.tags; marks = map tag_of marks }
+seen r marks = record { item = r.item; items = r.items; tags = r.tags; marks = map tag_of marks; from = r.from }
 
 -- a tape that went on
-pub fed_longer : (old new : RecordingState) (kept marks : List Tag) (b : ℕ) (xs : List ℤ) (ms : List Mark) (fresh : List Tag) → new.item ≡ old.item → new.items ≡ old.items ++ xs →
+pub fed_longer : (old new : RecordingState) (kept marks : List Tag) (b : ℕ) (xs : List ℤ) (ms : List Mark) (fresh : List Tag) → new.item ≡ old.item → new.from ≡ old.from → new.items ≡ old.items ++ xs →
     new.tags ≡ insert_tags (map tag_of fresh) old.tags → fresh ≡ map (stamped b) ms → marks ≡ kept ++ map (stamped b) ms →
     seen new marks ≡ longer_tape (seen old kept) b xs (map mark_of ms)
-fed_longer old new kept marks b xs ms fresh item items tags fresh_is marks_are =
+fed_longer old new kept marks b xs ms fresh item from items tags fresh_is marks_are =
     let brought : map tag_of fresh ≡ map (machine.tag_of b) (map mark_of ms) = ap (map tag_of) fresh_is ∙ stamped_tags b ms in
     let marked : map tag_of marks ≡ map tag_of kept ++ map (machine.tag_of b) (map mark_of ms) =
-    ap (map tag_of) marks_are ∙ map-append tag_of kept (map (stamped b) ms) ∙ ap (λ ts. map tag_of kept ++ ts) (stamped_tags b ms) in rw (item, items, tags, brought, marked) refl
+    ap (map tag_of) marks_are ∙ map-append tag_of kept (map (stamped b) ms) ∙ ap (λ ts. map tag_of kept ++ ts) (stamped_tags b ms) in rw (item, from, items, tags, brought, marked) refl

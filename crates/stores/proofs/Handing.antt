@@ -10,7 +10,7 @@ use Rattle.stream_model.specs.Settings.{Held, put_setting}
 use Rattle.stream_model.specs.Machine.{with_handed, with_tape, tag_of}
 use Rattle.settings.specs.Timelines.{Settings}
 use Rattle.tags.specs.TagList.{insert_tags}
-use Rattle.stores.specs.Recording.{RecordingState}
+use Rattle.recordings.specs.Recording.{RecordingState}
 use Rattle.buffers.specs.Buffer.{BufferState}
 use Rattle.plant_laws.specs.Stored as stored
 use Rattle.plant_laws.specs.Stored.{Stored, Tape, tape_at, timeline_at}

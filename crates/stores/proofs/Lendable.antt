@@ -16,6 +16,7 @@ use Rattle.stream_laws.specs.CanRun.{CanRun}
 use Rattle.stream_laws.proofs.Writers.{is_input, at_input}
 use Rattle.machine_laws.specs.Sound.{fired, reached, Sound}
 use Rattle.machine_laws.specs.Bounds.{IsSmall}
+use Rattle.graph_model.specs.Gains.{AreWithinGain}
 use Rattle.machine_laws.proofs.Bounding.{counts_are_small}
 use Rattle.machine_laws.proofs.Frames.{sound-moved}
 use Rattle.ring_readers.specs.declared.reader.ReaderState.{ReaderState}
@@ -51,7 +52,7 @@ module _ (m : Meaning) (p k offset : ℕ) (on : offset < m.taken p k) (takes : m
       let far = h.1.not_far offset in
       omega arith
 
-module _ (names : List (List ℕ)) (net : Network) (can : CanRun net) (valid : IsValidGraph names net) (caps : Capacities) (st : State) (sound : Sound net caps st) where
+module _ (names : List (List ℕ)) (net : Network) (can : CanRun net) (valid : IsValidGraph names net) (caps : Capacities) (st : State) (sound : Sound net caps st) (gain : AreWithinGain net st.handed) where
   -- an input has the type of the output that it reads
   pub input_type : (b p : ℕ) → p < length (writers_of net b) → (node_at net (writer_of net b p).from).meaning.outputs.item ≡ (node_at net b).meaning.inputs.item
   input_type b p used =
@@ -76,7 +77,7 @@ module _ (names : List (List ℕ)) (net : Network) (can : CanRun net) (valid : I
     reached_here = ap (λ (p : Progress). p.firings + p.claimed) (get_or-set_same st.progress b (own) no_progress (rw sound.progress_count may.inside))
 
     small : IsSmall net (claiming) b
-    small = counts_are_small names net caps (claiming) can valid (claiming_sound) b may.inside
+    small = counts_are_small names net caps (claiming) can valid gain (claiming_sound) b may.inside
 
     abbrev next : ℕ
     next = fired st b + count
@@ -101,12 +102,12 @@ module _ (names : List (List ℕ)) (net : Network) (can : CanRun net) (valid : I
         }
 
     module _ (stored : Stored) (holds : Holds net caps st stored) where
-      has_tape : is_source (role_at net b) ≡ true → HasTapeItems net stored b (next)
+      has_tape : is_source (role_at net b) ≡ true → HasTapeItems net stored b (fired st b) (next)
       has_tape e =
           let tape = holds.tapes b may.inside e in
           let long = ap length tape.items in
           let there = may.fits.tape e in
-          record { long = omega arith; type = tape.type ∙ sym (source_type (node_at net b).meaning (role_at net b) e (can.sound b).lawful.role) }
+          record { kept = holds.kept b may.inside e; long = omega arith; type = tape.type ∙ sym (source_type (node_at net b).meaning (role_at net b) e (can.sound b).lawful.role) }
 
       has_input : (p : ℕ) → p < length (writers_of net b) → HasInput net stored b p (fired st b) (next)
       has_input p used =

@@ -1,4 +1,3 @@
-mod Copies
 mod Sames
 pub mod Views
 mod Feeding

@@ -9,7 +9,7 @@ use Rattle.std.proofs.Math.ListN.{get_or-map}
 use Rattle.std.proofs.Math.Seq.{map-set_same}
 use Rattle.stream_model.specs.Network.{Progress}
 use Rattle.stream_model.specs.Machine.{with_handed}
-use Rattle.stores.specs.Recording.{RecordingState}
+use Rattle.recordings.specs.Recording.{RecordingState}
 use Rattle.buffers.specs.Buffer.{BufferState}
 use Rattle.plant_laws.specs.Stored as stored
 use Rattle.plant_laws.specs.Stored.{Stored, OutputBuffer, tape_at, timeline_at, word_at, buffers_in, buffer_at, sink_at}

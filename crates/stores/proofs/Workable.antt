@@ -17,6 +17,7 @@ use Rattle.graph_laws.proofs.Members.{fold_max-is, from_map, from_filter, filter
 use Rattle.graph_laws.proofs.Inputs.{writers-length}
 use Rattle.stream_laws.specs.CanRun.{CanRun, HasPorts}
 use Rattle.stream_laws.proofs.Writers.{All-writers, is_input, source_gives, source_takes}
+use Rattle.graph_model.specs.Gains.{AreWithinGain}
 use Rattle.machine_laws.specs.Sound.{fired, Sound}
 use Rattle.machine_laws.proofs.Frames.{handed_same}
 use Rattle.machine_laws.proofs.Lengths.{inputs_hold}
@@ -91,7 +92,7 @@ module _ (net : Network) (caps : Capacities) (st : State) (stored : Stored) (b c
   other_windows : is_source (role_at net b) ≡ false → length windows ≡ length (writers_of net b)
   other_windows e = sym (length-map windows numbers_of) ∙ is_lent.lent.windows.many e
 
-  module _ (names : List (List ℕ)) (can : CanRun net) (valid : IsValidGraph names net) (sound : Sound net caps st) (may : MayFire net caps st b count) where
+  module _ (names : List (List ℕ)) (can : CanRun net) (valid : IsValidGraph names net) (sound : Sound net caps st) (gain : AreWithinGain net st.handed) (may : MayFire net caps st b count) where
     abbrev n : ℕ
     n = (node_at net b).multiple
 
@@ -127,9 +128,9 @@ module _ (net : Network) (caps : Capacities) (st : State) (stored : Stored) (b c
         let port : p ≡ 0 = omega arith in
         let taken = source_takes net can b (fired st b + count) e in
         let given = source_gives net can b (fired st b + count) e in
-        let small = gives_small names net can valid caps st sound b count may in
+        let small = gives_small names net can valid caps st sound gain b count may in
         rw port (omega arith)
-    takes_few false e p used = takes_small names net can valid caps st sound b count may p (let long = other_windows e in omega arith)
+    takes_few false e p used = takes_small names net can valid caps st sound gain b count may p (let long = other_windows e in omega arith)
 
     fed : IsFed (node_at net b).meaning (handed_at st.handed b).settings (entering net st.handed b) (n * fired st b) (n * count) (word_at stored b) (map numbers_of windows) (map held_of held)
     unfolding job_of
@@ -161,7 +162,7 @@ module _ (net : Network) (caps : Capacities) (st : State) (stored : Stored) (b c
           outputs_least = (let asked = valid.enough b Out may.inside in let used = ports_used net can b in omega arith);
           outputs_most = (let few = used_few net can b in omega arith);
           ready = is_lent.ready;
-          firings = (let small = firings_small names net can valid caps st sound b count may in let w = whole in omega arith);
+          firings = (let small = firings_small names net can valid caps st sound gain b count may in let w = whole in omega arith);
           takes = λ p used. (let small = takes_few (is_source (role_at net b)) refl p used in let same = ap (m.taken p) whole in omega arith);
-          gives = (let small = gives_small names net can valid caps st sound b count may in let same = ap m.given whole in omega arith);
+          gives = (let small = gives_small names net can valid caps st sound gain b count may in let same = ap m.given whole in omega arith);
         }

@@ -11,7 +11,7 @@ use Rattle.settings.specs.declared.value.Held.{Held}
 use Rattle.settings.specs.Values.{held_of}
 use Rattle.ring_readers.specs.State.{IsLive, empty_ring, reader_at, unread_of}
 use Rattle.buffers.specs.Buffer.{BufferState}
-use Rattle.stores.specs.Recording.{RecordingState}
+use Rattle.recordings.specs.Recording.{RecordingState}
 use Rattle.block_kinds.specs.Work.{IsReady}
 use Rattle.plant_laws.specs.Stored.{Stored, tape_at, timeline_at, word_at}
 use Rattle.plant_laws.specs.Holds.{HasPlaces}
@@ -34,7 +34,8 @@ pub record HasInput (net : Network) (stored : Stored) (b p k next : ℕ) : Type 
   pub type : (input_buffer net stored b p).item ≡ (node_at net b).meaning.inputs.item
 
 -- a source's tape has the items of the firings
-pub record HasTapeItems (net : Network) (stored : Stored) (b next : ℕ) : Type 0 where
+pub record HasTapeItems (net : Network) (stored : Stored) (b first next : ℕ) : Type 0 where
+  pub kept : (tape_at stored b).from ≤ first
   pub long : next ≤ length (tape_at stored b).items
   pub type : (tape_at stored b).item ≡ (node_at net b).meaning.inputs.item
 
@@ -50,7 +51,7 @@ pub record FitsWords (net : Network) (b next : ℕ) : Type 0 where
 pub record CanLend (net : Network) (stored : Stored) (b first count : ℕ) : Type 0 where
   pub inside : b < length net.nodes
   pub places : HasPlaces net stored
-  pub tape : is_source (role_at net b) ≡ true → HasTapeItems net stored b (first + count)
+  pub tape : is_source (role_at net b) ≡ true → HasTapeItems net stored b first (first + count)
   pub inputs : (p : ℕ) → p < length (writers_of net b) → HasInput net stored b p first (first + count)
   pub words : FitsWords net b (first + count)
 
@@ -79,7 +80,7 @@ abbrev pub no_buffer : BufferState
 no_buffer = record { item = Byte; ring = empty_ring 0 0; tags = []; spare = 0 }
 
 abbrev pub no_sink : RecordingState
-no_sink = record { item = Byte; items = []; tags = []; spare_items = 0; spare_tags = 0 }
+no_sink = record { item = Byte; items = []; tags = []; from = 0; spare_items = 0; spare_tags = 0 }
 
 abbrev pub buffer_state : Stores → ℕ → ℕ → BufferState
 buffer_state s b p = slice_index_or (slice_index_or (rows_in s) b []) p no_buffer

@@ -1,4 +1,3 @@
-pub mod Recording
 pub mod Marks
 pub mod Tapes
 pub mod Stores

@@ -8,7 +8,7 @@ use Rattle.stream_model.specs.Machine.{with_tape, tag_of}
 use Rattle.tags.specs.TagList.{insert_tags}
 use Rattle.stream_model.specs.Settings.{Held, put_setting}
 use Rattle.settings.specs.Timelines.{Settings}
-use Rattle.stores.specs.Recording.{RecordingState}
+use Rattle.recordings.specs.Recording.{RecordingState}
 use Rattle.buffers.specs.Buffer.{BufferState}
 use Rattle.plant_laws.specs.Stored.{Tape, OutputBuffer, Collected, Stored}
 use Rattle.plant_laws.specs.Calls.{TakesOneMore}
@@ -23,17 +23,17 @@ settings_in (Some s) = s.settings
 
 -- what a block was handed, as the model has it
 abbrev pub handed_of : Intake → model.Handed
-handed_of h = let tape = arc_value h.tape in record { tape = tape.items; tags = tape.marks; closed = h.closed; settings = settings_in h.timeline }
+handed_of h = let tape = arc_value h.tape in record { tape = tape.items; tags = tape.marks; closed = h.closed; settings = settings_in h.timeline; longest = h.longest }
 
 -- its tape with the tags in order
 abbrev pub tape_of : Intake → Tape
-tape_of h = let tape = arc_value h.tape in record { item = tape.item; items = tape.items; tags = tape.tags; closed = h.closed }
+tape_of h = let tape = arc_value h.tape in record { item = tape.item; items = tape.items; tags = tape.tags; closed = h.closed; from = tape.from }
 
 abbrev pub buffer_of : BufferState → OutputBuffer
 buffer_of b = record { item = b.item; ring = b.ring; tags = b.tags }
 
 abbrev pub collected_of : RecordingState → Collected
-collected_of r = record { item = r.item; items = r.items; tags = r.tags }
+collected_of r = record { item = r.item; items = r.items; tags = r.tags; from = r.from }
 
 -- all that is stored
 abbrev pub stored_of : List Intake → List ℕ → List (List BufferState) → List RecordingState → Stored
@@ -76,3 +76,9 @@ pub record IsSet (h : Held) (old new : Intake) : Type 0 where
   pub handed : handed_of new ≡ (let handed = handed_of old in record handed { settings = put_setting h handed.settings })
   pub tape : tape_of new ≡ tape_of old
   pub timeline : HasOneMore h old.timeline new.timeline
+
+-- the items of the tape before one are forgotten; a contract sees them still
+pub record HasForgotten (to : ℕ) (old new : Intake) : Type 0 where
+  pub handed : handed_of new ≡ handed_of old
+  pub tape : tape_of new ≡ record (tape_of old) { from = to }
+  pub timeline : new.timeline ≡ old.timeline

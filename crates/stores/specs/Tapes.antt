@@ -5,16 +5,17 @@ use Rattle.stream_model.specs.Tags.{Tag, Mark}
 use Rattle.stream_model.specs.Machine.{tag_of}
 use Rattle.tags.specs.TagList.{insert_tags}
 
--- the type of its items, the items, the tags on them in order, and the same tags in the order of feeding
+-- the type of its items, the items, the tags on them in order, the same tags in the order of feeding, and the first item in memory
 pub record TapeState : Type 0 where
   pub item : ItemType
   pub items : List ℤ
   pub tags : List Tag
   pub marks : List Tag
+  pub from : ℕ
 
 -- no items yet
 abbrev pub blank_tape : ItemType → TapeState
-blank_tape t = record { item = t; items = []; tags = []; marks = [] }
+blank_tape t = record { item = t; items = []; tags = []; marks = []; from = 0 }
 
 -- with items more at its end, and marks on them, which become tags of source b
 abbrev pub longer_tape : TapeState → ℕ → List ℤ → List Mark → TapeState

@@ -1,10 +1,10 @@
 //! What a block was handed.
 
-ghost use Rattle.std.specs.Prelude.{◌≡◌, map, IsOk, IsSome, IfOk, OnOk, OnErr};
+ghost use Rattle.std.specs.Prelude.{◌≡◌, ◌≤◌, length, map, IsOk, IsSome, IfOk, OnOk, OnErr};
 ghost use Rattle.std.specs.List.{Any};
 ghost use Rattle.std.specs.Option.{option_map};
 ghost use Rattle.std.specs.Arc.{arc_value};
-ghost use Rattle.stream_model.specs.Network.{nothing_handed};
+ghost use Rattle.stream_model.specs.Network.{nothing_within};
 ghost use Rattle.items.specs.Items.{type_of, numbers_of};
 ghost use Rattle.settings.specs.Values.{value_of};
 ghost use Rattle.settings.specs.Timelines.{held_at};
@@ -12,7 +12,7 @@ ghost use Rattle.plant_laws.specs.Stored.{no_tape};
 ghost use Rattle.plant_laws.specs.Opening.{own_settings};
 ghost use Rattle.stores.specs.Marks.{mark_of};
 ghost use Rattle.stores.specs.Tapes.{longer_tape};
-ghost use Rattle.stores.specs.Stores.{handed_of, tape_of, settings_in, IsAsBefore, IsFed, IsSet, HasOneMore};
+ghost use Rattle.stores.specs.Stores.{handed_of, tape_of, settings_in, HasForgotten, HasOneMore, IsAsBefore, IsFed, IsSet};
 
 use crate::tape::Tape;
 use items::{ItemType, Items, Mark};
@@ -28,13 +28,20 @@ pub struct Intake {
     pub closed: bool,
     /// The settings, where the block has one.
     pub timeline: Option<Timeline>,
+    /// The most items that the tape may come to hold.
+    pub longest: u64,
 }
 
 impl Intake {
     /// Nothing yet: an open tape without items, and no settings. The block's own parameter, if it has a setting, is in force. It fails only where
     /// the allocator refuses.
-    pub fn new(alloc: Global, item: ItemType, own: Option<Value>) -> Result<Intake, AllocError>
-        ensures handed { IfOk result (λ intake. handed_of intake ≡ nothing_handed) }
+    pub fn new(
+        alloc: Global,
+        item: ItemType,
+        own: Option<Value>,
+        longest: u64,
+    ) -> Result<Intake, AllocError>
+        ensures handed { IfOk result (λ intake. handed_of intake ≡ nothing_within longest) }
         ensures tape { IfOk result (λ intake. tape_of intake ≡ record no_tape { item = item }) }
         ensures timeline { IfOk result (λ intake. intake.timeline ≡ own_settings (option_map value_of own)) }
     {
@@ -46,6 +53,7 @@ impl Intake {
             tape: shared(alloc, Tape::new(alloc, item))?,
             closed: false,
             timeline,
+            longest,
         })
     }
 
@@ -56,6 +64,17 @@ impl Intake {
         ensures err { OnErr result (IsAsBefore self.old self.new) }
     {
         feed_tape(&mut self.tape, source, items, marks)
+    }
+
+    /// The items of the tape before `to` are forgotten, and the tags on them. A tape that is shared is copied first, which fails where the allocator
+    /// refuses; an `Err` changes nothing.
+    pub fn forget(&mut self, to: u64) -> Result<(), AllocError>
+        requires kept { (arc_value self.old.tape).from ≤ to }
+        requires within { to ≤ length (arc_value self.old.tape).items }
+        ensures ok { OnOk result (HasForgotten to self.old self.new) }
+        ensures err { OnErr result (IsAsBefore self.old self.new) }
+    {
+        forget_in(&mut self.tape, to)
     }
 
     /// Sets what is in force from an item on. An `Err` changes nothing, and comes only where there is no setting of that item yet.
@@ -91,6 +110,17 @@ fn feed_tape(
     ensures err { OnErr result (arc_value tape.new ≡ arc_value tape.old) }
 {
     Arc::make_mut(tape)?.feed(source, items, marks)
+}
+
+// Forgets the items of a tape before `to`, which is copied first where it is shared.
+fn forget_in(tape: &mut Arc<Tape, Global>, to: u64) -> Result<(), AllocError>
+    requires kept { (arc_value tape.old).from ≤ to }
+    requires within { to ≤ length (arc_value tape.old).items }
+    ensures ok { OnOk result (arc_value tape.new ≡ record (arc_value tape.old) { from = to }) }
+    ensures err { OnErr result (arc_value tape.new ≡ arc_value tape.old) }
+{
+    Arc::make_mut(tape)?.forget(to);
+    Ok(())
 }
 
 // Sets a value from an item on, whichever it is: no floor is asked of the timeline.

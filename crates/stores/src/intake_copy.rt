@@ -1,5 +1,6 @@
 //! What a block was handed, as it was at one moment.
 
+ghost use Rattle.std.specs.Arc.{arc_value};
 ghost use Rattle.std.specs.Prelude.{◌≡◌, ◌↔◌, map, IsTrue, IfOk};
 ghost use Rattle.settings.specs.Values.{held_of};
 ghost use Rattle.stores.specs.Stores.{handed_of, settings_in};
@@ -17,6 +18,7 @@ pub struct IntakeCopy {
     tape: Arc<Tape, Global>,
     closed: bool,
     settings: Vec<Held>,
+    longest: u64,
 }
 
 // By hand, so that no crate above proves the drop of each part again.
@@ -26,6 +28,7 @@ impl Drop for IntakeCopy {
             tape,
             closed: _,
             settings,
+            longest: _,
         } = self;
         drop(tape);
         drop(settings);
@@ -39,33 +42,40 @@ impl fmt::Debug for IntakeCopy {
 }
 
 impl Model for IntakeCopy {
-    ghost use Rattle.std.specs.Prelude.{map};
+    ghost use Rattle.std.specs.Prelude.{map, ◌≡◌};
     ghost use Rattle.std.specs.Arc.{arc_value};
     ghost use Rattle.stream_model.specs.Network.{Handed};
     ghost use Rattle.settings.specs.Values.{held_of};
 
     ghost Value = { Handed };
 
-    ghost view = { λ c. let tape = arc_value c.tape in record { tape = tape.items; tags = tape.marks; closed = c.closed; settings = map held_of c.settings.items } };
+    ghost view = { λ c. let tape = arc_value c.tape in record { tape = tape.items; tags = tape.marks; closed = c.closed; settings = map held_of c.settings.items; longest = c.longest } };
+
+    ghost invariant = { λ c. (arc_value c.tape).from ≡ 0 };
 }
 
 impl IntakeCopy {
     /// A copy of what a block was handed. It takes memory for the settings alone, and fails only where the allocator refuses.
     pub fn of(alloc: Global, intake: &Intake) -> Result<IntakeCopy, AllocError>
+        requires { (arc_value intake.now.tape).from ≡ 0 }
         ensures { IfOk result (λ copy. copy ≡ handed_of intake.now) }
     {
         Ok(IntakeCopy {
             tape: Arc::try_clone(&intake.tape)?,
             closed: intake.closed,
             settings: settings_of(alloc, &intake.timeline)?,
+            longest: intake.longest,
         })
     }
 
-    /// Whether the block was handed the same: the items of its tape, the tags in the order of feeding, whether it is closed, and the settings.
+    /// Whether the block was handed the same: the items of its tape, the tags in the order of feeding, whether it is closed, how long it may
+    /// come to be, and the settings.
     pub fn agrees(&self, intake: &Intake) -> bool
+        requires { (arc_value intake.now.tape).from ≡ 0 }
         ensures { IsTrue result ↔ (self.now ≡ handed_of intake.now) }
     {
         self.closed == intake.closed
+            && self.longest == intake.longest
             && are_settings(&self.settings, &intake.timeline)
             && self.tape.is_same(&intake.tape)
     }
@@ -75,6 +85,7 @@ impl IntakeCopy {
         ensures { IsTrue result ↔ (self.now ≡ other.now) }
     {
         self.closed == other.closed
+            && self.longest == other.longest
             && same_settings(&self.settings, &other.settings)
             && self.tape.is_same(&other.tape)
     }

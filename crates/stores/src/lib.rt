@@ -4,14 +4,13 @@
 pub mod intake;
 pub mod intake_copy;
 mod opening;
-pub mod recording;
 pub mod stored;
 pub mod stores;
 pub mod tape;
 
 pub use intake::Intake;
 pub use intake_copy::IntakeCopy;
-pub use recording::{Recording, are_same};
+pub use recordings::Recording;
 pub use stored::Stored;
 pub use stores::Stores;
-pub use tape::Tape;
+pub use tape::{Tape, are_same};

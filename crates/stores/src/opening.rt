@@ -10,35 +10,41 @@ ghost use Rattle.stores.specs.Stores.{buffer_of, collected_of};
 ghost use Rattle.stores.specs.Opening.{LeadInside, HaveCapacities, IsUnhanded, AreUnhanded, history_among};
 
 use crate::intake::Intake;
-use crate::recording::Recording;
 use block_kinds::Block;
 use buffers::Buffer;
 use flowgraph::{BlockId, Connection, Valid};
+use recordings::Recording;
 use ring_readers::RingFault;
 use std::alloc::{AllocError, Global};
 
-/// What each block is handed before anything is.
+/// What each block is handed before anything is, where a tape may come to hold `longest` items.
 pub(crate) fn all_handed<B: Block>(
     alloc: Global,
     graph: &Valid<B>,
+    longest: u64,
 ) -> Result<Vec<Intake>, AllocError>
-    ensures { IfOk result (λ handed. AreUnhanded (net_of B.meaning graph.now).nodes handed.items) }
+    ensures { IfOk result (λ handed. AreUnhanded longest (net_of B.meaning graph.now).nodes handed.items) }
 {
     let mut handed = Vec::with_capacity(alloc, graph.len())?;
     for block in 0..graph.len() {
-        handed.push_reserved(unhanded(alloc, graph, BlockId(block as u32))?);
+        handed.push_reserved(unhanded(alloc, graph, BlockId(block as u32), longest)?);
     }
     Ok(handed)
 }
 
 // What a block is handed before anything is.
-fn unhanded<B: Block>(alloc: Global, graph: &Valid<B>, block: BlockId) -> Result<Intake, AllocError>
+fn unhanded<B: Block>(
+    alloc: Global,
+    graph: &Valid<B>,
+    block: BlockId,
+    longest: u64,
+) -> Result<Intake, AllocError>
     requires { block.0 < length graph.now.blocks }
-    ensures { IfOk result (IsUnhanded (node_at (net_of B.meaning graph.now) block.0)) }
+    ensures { IfOk result (IsUnhanded longest (node_at (net_of B.meaning graph.now) block.0)) }
 {
     let kind = graph.block(block);
     let own = kind.own(alloc)?;
-    Intake::new(alloc, kind.outputs().item, own)
+    Intake::new(alloc, kind.outputs().item, own, longest)
 }
 
 /// The state word of each block before its first firing.

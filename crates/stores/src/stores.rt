@@ -3,18 +3,18 @@
 ghost use Rattle.std.specs.Prelude.{◌≡◌, ◌<◌, ◌≤◌, [], length, map, min, IfOk, IfSome, None, ◌+◌};
 ghost use Rattle.ring_readers.specs.State.{most_kept, slowest_of};
 ghost use Rattle.stream_model.specs.Tags.{tags_within};
-ghost use Rattle.stream_model.specs.Network.{nothing_handed};
+ghost use Rattle.stream_model.specs.Network.{nothing_within};
 ghost use Rattle.flowgraph.specs.Flowgraph.{net_of};
 ghost use Rattle.plant_laws.specs.Stored.{buffers_in, buffer_at};
 ghost use Rattle.plant_laws.specs.Opening.{stored_opening};
 
 use crate::intake::Intake;
 use crate::opening::{all_handed, buffers, sinks, words};
-use crate::recording::Recording;
 use crate::stored::Stored;
 use block_kinds::Block;
 use buffers::Buffer;
 use flowgraph::{BlockId, Valid};
+use recordings::Recording;
 use std::alloc::{AllocError, Global};
 use std::fmt;
 use tags::Tag;
@@ -61,20 +61,21 @@ impl Stores {
     ghost use Rattle.stores.specs.Stores.{stored_in, handed_of};
     ghost use Rattle.stores.specs.Opening.{HaveCapacities};
 
-    /// What is stored before anything happens. The capacities are those of the used outputs of each block, in items. It fails only where the
-    /// allocator refuses.
+    /// What is stored before anything happens. The capacities are those of the used outputs of each block, in items, and a tape may come to hold
+    /// `longest` items. It fails only where the allocator refuses.
     pub fn open<B: Block>(
         alloc: Global,
         graph: &Valid<B>,
         capacities: &[Vec<u32>],
+        longest: u64,
     ) -> Result<Stores, AllocError>
         requires { HaveCapacities (net_of B.meaning graph.now) (map (λ row. row.items) capacities.now) }
         ensures stored { IfOk result (λ s. stored_in s ≡ stored_opening (net_of B.meaning graph.now) (map (λ row. row.items) capacities.now)) }
-        ensures handed { IfOk result (λ s. map handed_of s.handed.items ≡ map (λ _. nothing_handed) (net_of B.meaning graph.now).nodes) }
+        ensures handed { IfOk result (λ s. map handed_of s.handed.items ≡ map (λ _. nothing_within longest) (net_of B.meaning graph.now).nodes) }
         ensures brought { IfOk result (λ s. s.brought.items ≡ []) }
     {
         Ok(Stores {
-            handed: all_handed(alloc, graph)?,
+            handed: all_handed(alloc, graph, longest)?,
             words: words(alloc, graph)?,
             buffers: buffers(alloc, graph, capacities)?,
             sinks: sinks(alloc, graph)?,

@@ -3,24 +3,34 @@
 ghost use Rattle.std.specs.Prelude.{◌≡◌, ◌+◌, ◌^◌, ◌<◌, ◌≤◌, ◌++◌, ◌↔◌, length, map, IsTrue, IfOk, OnOk, OnErr};
 ghost use Rattle.std.specs.Vec.{vec_len, vec_capacity};
 ghost use Rattle.items.specs.Items.{type_of, numbers_of};
+ghost use Rattle.items.specs.Tags.{tag_of};
 ghost use Rattle.stores.specs.Marks.{mark_of, stamped};
 ghost use Rattle.stores.specs.Tapes.{blank_tape, longer_tape};
 
-use crate::recording::{Recording, are_same};
 use items::{ItemType, Items, Mark, Tag};
+use past::Past;
+use recordings::Recording;
 use std::alloc::{AllocError, Global};
+use std::fmt;
 use std::marker::Model;
 
-/// What a source was fed: its items, and the tags on them, both in their order and in that of feeding.
-#[derive(Debug, Drop)]
+/// What a source was fed: its items, and the tags on them, both in their order and in that of feeding. What it forgets takes no memory.
+#[derive(Drop)]
 pub struct Tape {
     recording: Recording,
-    // The same tags in the order of feeding, which the recording does not keep.
+    // The same tags in the order of feeding, which the recording does not keep. Those that are out of memory are so many of each of these.
+    forgotten: Past<Vec<Tag>, usize>,
     marks: Vec<Tag>,
 }
 
+impl fmt::Debug for Tape {
+    fn fmt<W: fmt::Write>(&self, f: &mut fmt::Formatter<W>) -> fmt::Result {
+        f.debug_struct("Tape").finish_non_exhaustive()
+    }
+}
+
 impl Model for Tape {
-    ghost use Rattle.std.specs.Prelude.{map};
+    ghost use Rattle.std.specs.Prelude.{◌≡◌, ◌++◌, [], map, take, flat_map};
     ghost use Rattle.items.specs.Tags.{tag_of};
     ghost use Rattle.stores.specs.Tapes.{TapeState};
 
@@ -30,8 +40,11 @@ impl Model for Tape {
       item = t.recording.item;
       items = t.recording.items;
       tags = t.recording.tags;
-      marks = map tag_of t.marks.items;
+      marks = map tag_of (flat_map (λ p. take p.1 p.0.items) t.forgotten.pieces ++ t.marks.items);
+      from = t.recording.from;
     } };
+
+    ghost invariant = { λ t. t.recording.from ≡ 0 → flat_map (λ p. take p.1 p.0.items) t.forgotten.pieces ≡ [] };
 }
 
 impl Tape {
@@ -41,12 +54,13 @@ impl Tape {
     {
         Tape {
             recording: Recording::new(alloc, item),
+            forgotten: Past::new(),
             marks: Vec::new(alloc),
         }
     }
 
     /// How many items it has.
-    pub fn len(&self) -> usize
+    pub fn len(&self) -> u64
         ensures value { result ≡ length self.now.items }
         ensures small { result < 2 ^ 63 }
     {
@@ -58,6 +72,7 @@ impl Tape {
         ensures item { result.now.item ≡ self.now.item }
         ensures items { result.now.items ≡ self.now.items }
         ensures tags { result.now.tags ≡ self.now.tags }
+        ensures from { result.now.from ≡ self.now.from }
     {
         &self.recording
     }
@@ -76,21 +91,38 @@ impl Tape {
         Ok(())
     }
 
+    /// The items before `to` and the tags on them are forgotten. It takes no memory.
+    pub fn forget(&mut self, to: u64)
+        requires kept { self.old.from ≤ to }
+        requires within { to ≤ length self.old.items }
+        ensures { self.new ≡ record self.old { from = to } }
+    {
+        if to == self.recording.from() {
+            return;
+        }
+        self.recording.forget(to);
+        self.forgotten = self.forgotten.and(&self.marks, &self.marks.len());
+        self.marks.clear();
+    }
+
     /// The same tape in memory of its own. It fails only where the allocator refuses.
     pub fn copy(&self, alloc: Global) -> Result<Tape, AllocError>
         ensures { IfOk result (λ copy. copy ≡ self.now) }
     {
         Ok(Tape {
             recording: self.recording.copy(alloc)?,
+            forgotten: self.forgotten.and(&self.marks, &0),
             marks: Vec::from_slice(alloc, &self.marks)?,
         })
     }
 
     /// Whether items and marks are the same. It looks at each once, and copies none.
     pub fn is_same(&self, other: &Tape) -> bool
+        requires whole { self.now.from ≡ 0 }
+        requires other_whole { other.now.from ≡ 0 }
         ensures { IsTrue result ↔ ((self.now.items ≡ other.now.items) × (self.now.marks ≡ other.now.marks)) }
     {
-        same_numbers(self.recording.items(), other.recording.items())
+        same_numbers(self.recording.kept().items, other.recording.kept().items)
             && are_same(&self.marks, &other.marks)
     }
 }
@@ -134,4 +166,11 @@ fn same_numbers(one: &Items, other: &Items) -> bool
         }
     }
     true
+}
+
+/// Whether the tags are the same, one by one.
+pub fn are_same(one: &[Tag], other: &[Tag]) -> bool
+    ensures { IsTrue result ↔ (map tag_of one.now ≡ map tag_of other.now) }
+{
+    one == other
 }

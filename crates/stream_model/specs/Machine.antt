@@ -1,6 +1,6 @@
 -- The machine of calls: each call takes a state to a reply and the next state. Which block acts, when and how much is the
 -- caller's choice; the reply to a call in a state is not.
-use Rattle.std.specs.Prelude.{ℕ, ◌+◌, ◌*◌, ◌^◌, ◌≡◌, min, ℤ, int_le, List, [], ◌∷◌, ◌++◌, length, map, Option, Some, None, Bool, true, false, ◌&&◌, ◌||◌, not, nat_le, nat_lt, ◌==◌, if◌then◌else◌, slice_index_or, slice_set, slice_range}
+use Rattle.std.specs.Prelude.{ℕ, ◌+◌, ◌*◌, ◌≡◌, min, ℤ, int_le, List, [], ◌∷◌, ◌++◌, length, map, Option, Some, None, Bool, true, false, ◌&&◌, ◌||◌, not, nat_le, nat_lt, ◌==◌, if◌then◌else◌, slice_index_or, slice_set, slice_range}
 use Rattle.std.specs.List.{list_all}
 use Rattle.std.specs.Ordering.{int_eq}
 use Rattle.stream_model.specs.declared.vocabulary.ItemType.{ItemType}
@@ -83,10 +83,6 @@ foreign = 30
 
 abbrev pub beyond_end : ℕ
 beyond_end = 31
-
--- the longest tape
-abbrev pub longest_tape : ℕ
-longest_tape = 2 ^ 32
 
 -- the capacity of each output of each block
 abbrev pub Capacities : Type 0
@@ -249,7 +245,7 @@ feed_of net st b t xs ms =
     else (if not (types_agree t (node_at net b).meaning.outputs.item) then (Refused item_range, st)
     else (if s.closed then (Refused already_closed, st)
     else (if not (marks_fit s.tape xs ms) then (Refused tag_place, st)
-    else (if nat_lt longest_tape (length s.tape + length xs) then (Refused tape_full, st)
+    else (if nat_lt s.longest (length s.tape + length xs) then (Refused tape_full, st)
     else (Fed (length s.tape + length xs), with_handed st b (with_tape s b xs ms)))))))
 
 unfoldable pub close_of : Network → State → ℕ → Reply × State

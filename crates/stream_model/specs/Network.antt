@@ -1,5 +1,5 @@
 -- A network of blocks, and the streams that its equations give (Kahn 1974): a stream depends on the tapes and settings alone, never on a schedule.
-use Rattle.std.specs.Prelude.{ℕ, zero, suc, ◌+◌, ◌*◌, ◌<◌, ◌≤◌, ◌≡◌, max, ℤ, pos, List, [], ◌∷◌, ◌++◌, length, map, filter, flat_map, Option, Some, None, Bool, true, false, ◌&&◌, nat_le, ◌==◌, slice_index_or, if◌then◌else◌, All}
+use Rattle.std.specs.Prelude.{ℕ, zero, suc, ◌+◌, ◌*◌, ◌^◌, ◌<◌, ◌≤◌, ◌≡◌, max, ℤ, pos, List, [], ◌∷◌, ◌++◌, length, map, filter, flat_map, Option, Some, None, Bool, true, false, ◌&&◌, nat_le, ◌==◌, slice_index_or, if◌then◌else◌, All}
 use Rattle.stream_model.specs.declared.vocabulary.Role.{Role}
 use Rattle.stream_model.specs.declared.vocabulary.Role.TheVariants.{Source, Work, Keep, Discard}
 use Rattle.stream_model.specs.declared.vocabulary.ItemType.TheVariants.{Byte}
@@ -29,12 +29,14 @@ pub record Network : Type 0 where
   pub nodes : List Node
   pub connections : List Connection
 
--- what a block was handed: a source's tape with its tags, whether the tape is closed, and the settings by their items
+-- what a block was handed: a source's tape with its tags, whether the tape is closed, the settings by their items, and the most items that
+-- the tape may come to hold
 pub record Handed : Type 0 where
   pub tape : List ℤ
   pub tags : List Tag
   pub closed : Bool
   pub settings : List Held
+  pub longest : ℕ
 
 -- how far a block is: the firings that are committed and claimed, and whether it is done
 pub record Progress : Type 0 where
@@ -71,8 +73,16 @@ no_meaning =
 abbrev pub no_node : Node
 no_node = record { meaning = no_meaning; policy = policy.None; multiple = 1; capacity = 1 }
 
+-- nothing, where a tape may come to hold so many items
+abbrev pub nothing_within : ℕ → Handed
+nothing_within longest = record { tape = []; tags = []; closed = false; settings = []; longest = longest }
+
+-- the longest tape, where nothing else is said
+abbrev pub longest_tape : ℕ
+longest_tape = 2 ^ 32
+
 abbrev pub nothing_handed : Handed
-nothing_handed = record { tape = []; tags = []; closed = false; settings = [] }
+nothing_handed = nothing_within longest_tape
 
 abbrev pub no_progress : Progress
 no_progress = record { firings = 0; claimed = 0; done = false }
@@ -86,9 +96,12 @@ handed_at hs b = slice_index_or hs b nothing_handed
 abbrev pub progress_at : List Progress → ℕ → Progress
 progress_at ps b = slice_index_or ps b no_progress
 
--- the state after opening: empty open tapes, no settings, nothing fired
+-- the state after opening, where tapes may come to hold so many items: empty open tapes, no settings, nothing fired
+abbrev pub opening_within : ℕ → Network → State
+opening_within longest net = record { handed = map (λ _. nothing_within longest) net.nodes; progress = map (λ _. no_progress) net.nodes }
+
 abbrev pub opening : Network → State
-opening net = record { handed = map (λ _. nothing_handed) net.nodes; progress = map (λ _. no_progress) net.nodes }
+opening net = opening_within longest_tape net
 
 abbrev pub is_source : Role → Bool
 is_source Source = true

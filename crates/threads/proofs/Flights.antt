@@ -13,7 +13,7 @@ use Rattle.stream_model.specs.Tags.{Mark}
 use Rattle.stream_model.specs.Network.{Network, State, Progress, no_progress, node_at, handed_at, progress_at, role_at, is_source, is_keeper}
 use Rattle.stream_model.specs.Claims.{Decision, IsDone, IsBusy, Ends, Fires, LacksItems, LacksRoom, decide}
 use Rattle.stream_model.specs.Machine as machine
-use Rattle.stream_model.specs.Machine.{Capacities, Job, Reply, job_of, counts_of, claim_of, claimed_by, with_progress, ended, next, commit_of, is_in_flight, jobs_agree, feed_of, close_of, set_of, read_of, set_wanted, place_setting, marks_fit, longest_tape, is_wanted, floor_of}
+use Rattle.stream_model.specs.Machine.{Capacities, Job, Reply, job_of, counts_of, claim_of, claimed_by, with_progress, ended, next, commit_of, is_in_flight, jobs_agree, feed_of, close_of, set_of, read_of, set_wanted, place_setting, marks_fit, is_wanted, floor_of}
 use Rattle.machine_laws.specs.Stays.{in_flight}
 use Rattle.machine_laws.proofs.Choices.{if_both}
 use Rattle.machine_laws.proofs.Agreeing.{jobs_same}
@@ -148,7 +148,7 @@ module _ (net : Network) (st : State) where
       (λ _. if_both (not (types_agree t (node_at net b).meaning.outputs.item)) _ _ Stays (λ _. refl)
       (λ _. if_both s.closed _ _ Stays (λ _. refl)
       (λ _. if_both (not (marks_fit s.tape xs ms)) _ _ Stays (λ _. refl)
-      (λ _. if_both (nat_lt longest_tape (length s.tape + length xs)) _ _ Stays (λ _. refl) (λ _. refl))))))
+      (λ _. if_both (nat_lt s.longest (length s.tape + length xs)) _ _ Stays (λ _. refl) (λ _. refl))))))
 
   close_stays : (b : ℕ) → Stays (close_of net st b)
   unfolding close_of

@@ -6,7 +6,7 @@ use Rattle.stream_model.specs.Network.{Network, Node, State, Progress, node_at, 
 use Rattle.stream_model.specs.Numbers.{types_agree}
 use Rattle.stream_model.specs.Settings.{Value}
 use Rattle.stream_model.specs.declared.vocabulary.Wanted.{Wanted}
-use Rattle.stream_model.specs.Machine.{Reply, close_of, feed_of, floor_of, is_idle, is_wanted, marks_fit, longest_tape, place_setting, set_of, set_wanted}
+use Rattle.stream_model.specs.Machine.{Reply, close_of, feed_of, floor_of, is_idle, is_wanted, marks_fit, place_setting, set_of, set_wanted}
 use Rattle.stream_model.specs.Tags.{Mark}
 use Rattle.stream_model.specs.declared.vocabulary.ItemType.{ItemType}
 use Rattle.machine_laws.proofs.Choices.{if_both}
@@ -31,7 +31,7 @@ module _ (net : Network) (st : State) where
       (λ _. if_both (not (types_agree t (node_at net b).meaning.outputs.item)) _ _ (λ (r : Reply × State). r.1.progress ≡ st.progress) (λ _. refl)
       (λ _. if_both s.closed _ _ (λ (r : Reply × State). r.1.progress ≡ st.progress) (λ _. refl)
       (λ _. if_both (not (marks_fit s.tape xs ms)) _ _ (λ (r : Reply × State). r.1.progress ≡ st.progress) (λ _. refl)
-      (λ _. if_both (nat_lt longest_tape (length s.tape + length xs)) _ _ (λ (r : Reply × State). r.1.progress ≡ st.progress) (λ _. refl) (λ _. refl))))))
+      (λ _. if_both (nat_lt s.longest (length s.tape + length xs)) _ _ (λ (r : Reply × State). r.1.progress ≡ st.progress) (λ _. refl) (λ _. refl))))))
 
   placed : (floor b at : ℕ) (v : Value) → (place_setting floor st b at v).1.progress ≡ st.progress
   placed floor b at v = if_both (nat_lt at floor) _ _ (λ (r : Reply × State). r.1.progress ≡ st.progress) (λ _. refl) (λ _. refl)

@@ -9,7 +9,7 @@ use Rattle.flowgraph.specs.declared.parts.BlockId.{BlockId}
 use Rattle.items.specs.declared.stream_items.Items.{Items}
 use Rattle.items.specs.Items.{numbers_of}
 use Rattle.buffers.specs.Buffer.{BufferState}
-use Rattle.stores.specs.Recording.{RecordingState}
+use Rattle.recordings.specs.Recording.{RecordingState}
 use Rattle.plant_laws.specs.Stored.{OutputBuffer}
 use Rattle.plant_laws.specs.Changes.{taken_buffers}
 use Rattle.stores.specs.declared.intake.Intake.{Intake}
@@ -45,7 +45,7 @@ module _ (net : Network) (old : Stores) (block : BlockId) (first count : ℕ) (w
         blocks = sym (length-map (rows old.buffers.items) (map buffer_of)) ∙ can.lends.places.buffers;
         handed = sym (length-map old.handed.items tape_of) ∙ can.lends.places.tapes;
         ports = sym (length-map (get_or (rows old.buffers.items) b []) buffer_of) ∙ sym (ap length (lists.get_or-map (map buffer_of) (rows old.buffers.items) b [])) ∙ can.lends.places.outputs b can.lends.inside;
-        reads = can_read net old b first count can.lends old.handed.items;
+        reads = can_read net old b first count can.lends old.handed.items (λ e. (can.lends.tape e).kept);
         gives = zip_weaker (λ p out. CanGive net (stored_in old) b p first (first + count) out) (λ p out. CanGive net (stored_with old.handed.items (rows old.buffers.items)) b p first (first + count) out)
             (λ p out give. record { type = give.type; room = give.room; small = give.small; ahead = give.ahead }) (below (used_outputs net b)) outs can.gives;
         room = can.room.tags;

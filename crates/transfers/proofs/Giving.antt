@@ -23,7 +23,7 @@ use Rattle.std.specs.List.{AllZip}
 use Rattle.ring_readers.specs.State.{RingState, IsLive, slowest_of, reader_at, unread_of, room_of}
 use Rattle.tags.specs.TagList.{insert_tags}
 use Rattle.buffers.specs.Buffer.{BufferState}
-use Rattle.stores.specs.Recording.{RecordingState}
+use Rattle.recordings.specs.Recording.{RecordingState}
 use Rattle.plant_laws.specs.Stored as stored
 use Rattle.plant_laws.specs.Stored.{OutputBuffer, Collected, Stored, nothing_collected, buffers_in, buffer_in, buffer_at, tape_at, sink_at}
 use Rattle.plant_laws.specs.Changes.{pushed, collected, tags_waiting, tags_brought}
@@ -136,6 +136,7 @@ module _ (net : Network) (can : CanRun net) (hs : List Intake) (old new : List (
     inside = reads.inside;
     rises = reads.rises;
     words = reads.words;
+    kept = reads.kept;
     inputs = λ p in'.
         let has = reads.inputs p in' in
         let c = writer_of net b p in
@@ -173,11 +174,11 @@ module _ (net : Network) (can : CanRun net) (hs : List Intake) (old new : List (
       }
 
 -- what a sink has after a push
-pub kept_is : (sinks : List RecordingState) (b : ℕ) (d t : RecordingState) (xs : List ℤ) (ts : List model.Tag) → b < length sinks → t.item ≡ (get_or sinks b d).item → t.items ≡ (get_or sinks b d).items ++ xs → t.tags ≡ insert_tags ts (get_or sinks b d).tags →
+pub kept_is : (sinks : List RecordingState) (b : ℕ) (d t : RecordingState) (xs : List ℤ) (ts : List model.Tag) → b < length sinks → t.item ≡ (get_or sinks b d).item → t.from ≡ (get_or sinks b d).from → t.items ≡ (get_or sinks b d).items ++ xs → t.tags ≡ insert_tags ts (get_or sinks b d).tags →
     collected_of t ≡ collected (get_or (map collected_of sinks) b nothing_collected) xs ts
-kept_is sinks b d t xs ts in' item items tags =
+kept_is sinks b d t xs ts in' item from items tags =
     let own : collected_of (get_or sinks b d) ≡ get_or (map collected_of sinks) b nothing_collected = sym (get_or-map collected_of sinks b d nothing_collected in') in
-    let is : collected_of t ≡ collected (collected_of (get_or sinks b d)) xs ts = λ i. record { item = item i; items = items i; tags = tags i } in
+    let is : collected_of t ≡ collected (collected_of (get_or sinks b d)) xs ts = λ i. record { item = item i; items = items i; tags = tags i; from = from i } in
     is ∙ ap (λ (o : Collected). collected o xs ts) own
 
 -- a pair of lists, place by place

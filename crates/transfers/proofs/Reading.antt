@@ -1,15 +1,15 @@
 -- What a reader finds in its buffer, before anything is written or taken.
-use Rattle.std.proofs.Common.{◌≡◌, ℕ, ◌+◌, ◌<◌, List, [], length, get_or, vec_len, arith, ap, sym, ◌∙◌, subst}
+use Rattle.std.proofs.Common.{◌≡◌, ℕ, ◌+◌, ◌<◌, ◌≤◌, true, zero-le, List, [], length, get_or, vec_len, arith, ap, sym, ◌∙◌, subst}
 use Rattle.std.proofs.lemmas.List.{length-map}
 use Rattle.stream_model.specs.Network as model
-use Rattle.stream_model.specs.Network.{Network, writers_of}
+use Rattle.stream_model.specs.Network.{Network, role_at, is_source, writers_of}
 use Rattle.stream_laws.specs.CanRun.{CanRun}
 use Rattle.flowgraph.specs.declared.parts.BlockId.{BlockId}
 use Rattle.flowgraph.specs.declared.parts.Input.{Input}
 use Rattle.flowgraph.specs.Wiring.{writers_in}
 use Rattle.ring_readers.specs.State.{IsLive}
 use Rattle.buffers.specs.Buffer.{BufferState}
-use Rattle.plant_laws.specs.Stored.{buffer_in}
+use Rattle.plant_laws.specs.Stored.{buffer_in, tape_at}
 use Rattle.plant_laws.specs.Claims.{input_buffer, input_reader}
 use Rattle.stores.specs.declared.intake.Intake.{Intake}
 use Rattle.stores.specs.declared.stores.Stores.{Stores}
@@ -22,11 +22,13 @@ use Rattle.transfers.proofs.States.{Row, rows, outputs}
 use Rattle.transfers.proofs.Wires as wires
 
 -- firings that can be lent for can be read, in whatever form code has them
-pub can_read : (net : Network) (s : Stores) (b first count : ℕ) → CanLend net (stored_in s) b first count → (hs : List Intake) → CanRead net (stored_with hs (rows s.buffers.items)) b first (first + count)
-can_read net s b first count can hs = record {
+pub can_read : (net : Network) (s : Stores) (b first count : ℕ) → CanLend net (stored_in s) b first count → (hs : List Intake) →
+    (is_source (role_at net b) ≡ true → (tape_at (stored_with hs (rows s.buffers.items)) b).from ≤ first) → CanRead net (stored_with hs (rows s.buffers.items)) b first (first + count)
+can_read net s b first count can hs kept = record {
   inside = can.inside;
   rises = omega arith;
   words = can.words;
+  kept = kept;
   inputs = λ p in'. let has = can.inputs p in' in record { live = has.live; place = has.place; history = has.history; unread = has.unread; rises = has.rises; type = has.type };
 }
 
@@ -34,7 +36,7 @@ pub can_read_here : (net : Network) (s : Stores) (block : BlockId) (first count 
     (firings : FiringRange) → firings ≡ record { block = block; first = first; next = first + count } → CanRead net (stored_with [] (rows vs)) firings.block.0 firings.first firings.next
 can_read_here net s block first count can vs same firings is =
     subst (λ (f : FiringRange). CanRead net (stored_with [] (rows vs)) f.block.0 f.first f.next) (sym is)
-    (subst (λ us. CanRead net (stored_with [] (rows us)) block.0 first (first + count)) (sym same) (can_read net s block.0 first count can []))
+    (subst (λ us. CanRead net (stored_with [] (rows us)) block.0 first (first + count)) (sym same) (can_read net s block.0 first count can [] (λ e. zero-le)))
 
 -- the buffer of an input that a graph lists
 module _ (net : Network) (can : CanRun net) (vs : List Row) (b p : ℕ) (used : p < length (writers_of net b)) (is : List Input) (writers : writers_in is ≡ writers_of net b)

@@ -12,7 +12,7 @@ use Rattle.stream_model.specs.Tags.{tags_within}
 use Rattle.stream_model.specs.Network.{Network, role_at, is_keeper, used_outputs}
 use Rattle.stream_laws.specs.CanRun.{CanRun}
 use Rattle.buffers.specs.Buffer.{BufferState}
-use Rattle.stores.specs.Recording.{RecordingState}
+use Rattle.recordings.specs.Recording.{RecordingState}
 use Rattle.plant_laws.specs.Stored.{Stored}
 use Rattle.plant_laws.specs.Changes.{tags_waiting, tags_brought}
 use Rattle.stores.specs.declared.stores.Stores.{Stores}
@@ -67,8 +67,8 @@ stored_again handed words rows rows' sinks sinks' e f = λ i. record { tapes = m
 pub same_buffer : (a b : BufferState) → a.item ≡ b.item → a.ring ≡ b.ring → a.tags ≡ b.tags → buffer_of a ≡ buffer_of b
 same_buffer a b item ring tags = rw (item, ring, tags) refl
 
-pub same_sink : (a b : RecordingState) → a.item ≡ b.item → a.items ≡ b.items → a.tags ≡ b.tags → collected_of a ≡ collected_of b
-same_sink a b item items tags = rw (item, items, tags) refl
+pub same_sink : (a b : RecordingState) → a.item ≡ b.item → a.from ≡ b.from → a.items ≡ b.items → a.tags ≡ b.tags → collected_of a ≡ collected_of b
+same_sink a b item from items tags = rw (item, from, items, tags) refl
 
 -- more places have room for n
 pub set_room : {X : Type 0} (room : X → ℕ) (n : ℕ) (xs : List X) (i : ℕ) (x : X) → i < length xs → n ≤ room x → ((p : ℕ) (d : X) → p < i → n ≤ room (get_or xs p d)) →

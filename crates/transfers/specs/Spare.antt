@@ -1,7 +1,7 @@
 -- Room for more, before memory is needed.
 use Rattle.std.specs.Prelude.{ℕ, ◌+◌, ◌≤◌, ◌≡◌, [], length, true, All, slice_index_or, sum_by, vec_capacity}
 use Rattle.stream_model.specs.Network.{Network, role_at, is_keeper}
-use Rattle.stores.specs.Recording.{RecordingState}
+use Rattle.recordings.specs.Recording.{RecordingState}
 use Rattle.stores.specs.declared.stores.Stores.{Stores}
 use Rattle.stores.specs.Stores.{rows_in, stored_in}
 use Rattle.stores.specs.Lending.{sink_state}

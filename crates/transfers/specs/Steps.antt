@@ -1,13 +1,13 @@
 -- What the steps of a commit need.
-use Rattle.std.specs.Prelude.{ℕ, ◌+◌, ◌<◌, ◌≤◌, ◌≡◌, List, [], length, take, slice_index_or}
+use Rattle.std.specs.Prelude.{ℕ, ◌+◌, ◌<◌, ◌≤◌, ◌≡◌, List, [], length, take, true, slice_index_or}
 use Rattle.std.specs.List.{AllZip}
 use Rattle.stream_model.specs.Lists.{below}
 use Rattle.stream_model.specs.Tags.{tags_within}
-use Rattle.stream_model.specs.Network.{Network, node_at, writers_of, writer_of, used_outputs, taken_by}
+use Rattle.stream_model.specs.Network.{Network, node_at, role_at, is_source, writers_of, writer_of, used_outputs, taken_by}
 use Rattle.items.specs.declared.stream_items.Items.{Items}
 use Rattle.buffers.specs.Buffer.{BufferState}
-use Rattle.plant_laws.specs.Stored.{OutputBuffer, Stored}
-use Rattle.stores.specs.Recording.{RecordingState}
+use Rattle.plant_laws.specs.Stored.{OutputBuffer, Stored, tape_at}
+use Rattle.recordings.specs.Recording.{RecordingState}
 use Rattle.plant_laws.specs.Changes.{taken_buffers, released_buffers, tags_waiting, tags_brought}
 use Rattle.plant_laws.specs.Turns.{CanTake}
 use Rattle.stores.specs.declared.intake.Intake.{Intake}
@@ -25,6 +25,7 @@ pub record CanRead (net : Network) (stored : Stored) (b k next : ℕ) : Type 0 w
   pub inside : b < length net.nodes
   pub rises : k ≤ next
   pub words : FitsWords net b next
+  pub kept : is_source (role_at net b) ≡ true → (tape_at stored b).from ≤ k
   pub inputs : (p : ℕ) → p < length (writers_of net b) → HasInput net stored b p k next
 
 -- each input's reader can take what these firings take, one after the other

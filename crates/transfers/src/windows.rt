@@ -58,15 +58,17 @@ fn cut_tape(
     count: usize,
     window: &mut Items,
 ) -> Result<(), AllocError>
-    requires { first + count ≤ length tape.now.items }
+    requires kept { tape.now.from ≤ first }
+    requires within { first + count ≤ length tape.now.items }
     ensures item { OnOk result (type_of window.new ≡ tape.now.item) }
     ensures items { OnOk result (numbers_of window.new ≡ slice_range tape.now.items first (first + count)) }
     ensures succeeds { type_of window.old ≡ tape.now.item → count ≤ room_of window.old → IsOk result }
     ensures keeps { type_of window.old ≡ tape.now.item → KeepsRoom window.old window.new }
 {
-    let items = tape.items();
-    make_ready(alloc, window, items.item_type(), count)?;
-    window.push_range(items, first, first + count);
+    let kept = tape.kept();
+    make_ready(alloc, window, kept.items.item_type(), count)?;
+    let start = first - kept.first as usize;
+    window.push_range(kept.items, start, start + count);
     Ok(())
 }
 

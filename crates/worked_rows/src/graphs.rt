@@ -7,6 +7,7 @@ ghost use Rattle.stream_model.specs.declared.vocabulary.Policy.TheVariants.{One,
 ghost use Rattle.stream_model.specs.Kinds.Ends.{vector_sink};
 ghost use Rattle.stream_model.specs.Kinds.Math.{add, not_of};
 ghost use Rattle.stream_model.specs.Kinds.Rates.{repeat, head};
+ghost use Rattle.graph_model.specs.Gains.{longest_within_gain};
 ghost use Rattle.graph_model.specs.Graphs.{In, Out, BadName, BadMultiple, BadCapacity, DuplicateName, InputTaken, PortGap, TypeMismatch, Loop, TooFewPorts, OneToOne, Gain, PortRange, UnknownBlock, TooLarge, add_fault, connect_fault, graph_fault};
 ghost use Rattle.worked_rows.specs.Runs.{two_through};
 ghost use Rattle.worked_rows.specs.Rates.{sized, plain, source, sink, into, link, chain, around};
@@ -19,6 +20,18 @@ pub fn rows()
         ∷ plain (repeat Byte 1024) ∷ sink ∷ [])) ≡ Some (Gain 3) }
     ensures refuses_gain_limit { graph_fault (chain (source ∷ plain (repeat Byte 1024) ∷ plain (repeat Byte 1024)
         ∷ plain (repeat Byte 16) ∷ sink ∷ [])) ≡ None }
+
+    // A tape may hold 2 to the 61st items where no block gives more than it takes, a third of that where
+    // one gives three for one, and 2 to the 37th where the gain is at its limit. Side by side blocks do
+    // not multiply: of 4 and 2 the greater counts.
+    ensures limits_tapes_at_no_gain { longest_within_gain (chain (source ∷ plain (not_of Byte) ∷ sink ∷ [])) ≡ 2305843009213693952 }
+    ensures limits_tapes_at_three { longest_within_gain (chain (source ∷ plain (repeat Byte 3) ∷ sink ∷ [])) ≡ 768614336404564650 }
+    ensures limits_tapes_at_the_limit { longest_within_gain (chain (source ∷ plain (repeat Byte 1024) ∷ plain (repeat Byte 1024)
+        ∷ plain (repeat Byte 16) ∷ sink ∷ [])) ≡ 137438953472 }
+    ensures limits_tapes_side_by_side { longest_within_gain (record {
+      nodes = source ∷ plain (repeat Byte 4) ∷ plain (repeat Byte 2) ∷ sink ∷ sink ∷ [];
+      connections = link 0 1 ∷ link 0 2 ∷ link 1 3 ∷ link 2 4 ∷ [];
+    }) ≡ 576460752303423488 }
 
     // The source and the second block to the first, the first to the second: the first is the lower
     // of the two.

@@ -4,8 +4,9 @@
 ghost use Rattle.std.specs.Prelude.{◌≡◌, List, ℤ, length, pos, [], ◌∷◌, codes};
 ghost use Rattle.stream_model.specs.declared.vocabulary.ItemType.TheVariants.{Byte, Short};
 ghost use Rattle.stream_model.specs.Settings.{Number, Taps};
+ghost use Rattle.stream_model.specs.Network.{opening_within};
 ghost use Rattle.stream_model.specs.Machine.{Fed, Closed, Taken, Done, WaitingItems, Did, Refused, Late, feed_of};
-ghost use Rattle.worked_rows.specs.Runs.{byte_source, chain, through, plus_ten, with_first_tape, Feed, Close, SetAt, SetNow, Claim, Commit, Abandon, Step, Read, byte_feed, marked_feed, mark, replies_of};
+ghost use Rattle.worked_rows.specs.Runs.{byte_source, chain, through, plus_ten, with_first_tape, Feed, Close, SetAt, SetNow, Claim, Commit, Abandon, Step, Read, byte_feed, marked_feed, mark, own_capacities, replies_of, replies_to};
 ghost use Rattle.worked_rows.specs.Kinds.{numbers, alone};
 ghost use Rattle.stream_model.specs.Kinds.Ends.{null_sink};
 ghost use Rattle.stream_model.specs.Kinds.Filters.{fir};
@@ -55,4 +56,10 @@ pub fn rows()
         (feed_of (plus_ten 4096) (with_first_tape tape) 0 Byte (pos 7 ∷ []) []).0 ≡ Fed 4294967296 }
     ensures fills_a_tape_above { (tape : List ℤ) → length tape ≡ 4294967295 →
         (feed_of (plus_ten 4096) (with_first_tape tape) 0 Byte (pos 7 ∷ pos 8 ∷ []) []).0 ≡ Refused 26 }
+
+    // Where tapes may come to hold three items, a tape takes three, and not one more.
+    ensures fills_a_short_tape { replies_to (plus_ten 4096) (own_capacities (plus_ten 4096)) (opening_within 3 (plus_ten 4096))
+        (byte_feed 0 (1 ∷ 2 ∷ 3 ∷ 4 ∷ []) ∷ byte_feed 0 (1 ∷ 2 ∷ []) ∷ byte_feed 0 (3 ∷ 4 ∷ []) ∷ byte_feed 0 (3 ∷ [])
+        ∷ byte_feed 0 (4 ∷ []) ∷ Step 0 9 ∷ byte_feed 0 (4 ∷ []) ∷ Close 0 ∷ [])
+        ≡ Refused 26 ∷ Fed 2 ∷ Refused 26 ∷ Fed 3 ∷ Refused 26 ∷ Did 3 ∷ Refused 26 ∷ Closed 3 ∷ [] }
 {}

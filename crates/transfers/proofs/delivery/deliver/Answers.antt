@@ -2,7 +2,7 @@ use Rattle.std.proofs.Common.{◌≡◌, List, map, set, arith, ap, ◌∙◌}
 use Rattle.std.specs.Vec.{with_items}
 use Rattle.std.proofs.lemmas.List.{with_items_is}
 use Rattle.flowgraph.specs.Flowgraph.{net_of}
-use Rattle.stores.specs.Recording.{RecordingState}
+use Rattle.recordings.specs.Recording.{RecordingState}
 use Rattle.stores.specs.Stores.{collected_of, stored_in}
 use Rattle.transfers.specs.declared.firing_range.FiringRange.{FiringRange}
 use Rattle.transfers.proofs.States.{Row, outputs}

@@ -4,7 +4,7 @@ use Rattle.std.specs.Vec.{with_items}
 use Rattle.std.proofs.lemmas.List.{with_items_is, length-map}
 use Rattle.buffers.specs.Buffer.{BufferState}
 use Rattle.flowgraph.specs.Flowgraph.{net_of, node_of}
-use Rattle.stores.specs.Recording.{RecordingState}
+use Rattle.recordings.specs.Recording.{RecordingState}
 use Rattle.stores.specs.Stores.{buffer_of, collected_of, rows_in}
 use Rattle.stores.specs.Lending.{no_sink}
 use Rattle.transfers.specs.Spare.{HasSpare}

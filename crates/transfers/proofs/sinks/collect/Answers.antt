@@ -29,7 +29,7 @@ returns-in-Keep-clause-sinks g c =
     ap numbers_of c.index-windows-0.is ∙ sym (get_or-map numbers_of c.args.windows.now 0 c.index-windows-0.result [] some) in
     let tags : map tag_of c.tags_on-tags.result.now ≡ tags_within k next waiting =
     c.tags_on-tags.ensures ∙ ap (λ from. tags_within from (giving.first_taken net b next) waiting) (keeps.collects.input k) ∙ ap (λ to. tags_within k to waiting) (keeps.collects.input next) in
-    let is = giving.kept_is c.args.sinks.now b c.index-sinks-firings.result c.push.new.self (numbers_of c.index-windows-0.result) (map tag_of c.tags_on-tags.result.now) c.requires.sink c.push.ensures.item c.push.ensures.items c.push.ensures.tags in
+    let is = giving.kept_is c.args.sinks.now b c.index-sinks-firings.result c.push.new.self (numbers_of c.index-windows-0.result) (map tag_of c.tags_on-tags.result.now) c.requires.sink c.push.ensures.item c.push.ensures.from c.push.ensures.items c.push.ensures.tags in
     map-set collected_of c.args.sinks.now b c.push.new.self
     ∙ ap (set (map collected_of c.args.sinks.now) b)
     (is ∙ ap (λ xs. collected (get_or (map collected_of c.args.sinks.now) b nothing_collected) xs (map tag_of c.tags_on-tags.result.now)) window

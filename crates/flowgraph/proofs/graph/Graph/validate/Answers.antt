@@ -1,4 +1,5 @@
 use Rattle.std.proofs.Common.{◌≡◌, ◌≤◌, None, length, sym, subst}
+use Rattle.graph_model.specs.Gains.{greatest_gain}
 use Rattle.graph_model.specs.Graphs.{graph_fault}
 use Rattle.graph_laws.proofs.Decide.{tests_decide}
 use Rattle.flowgraph.specs.Asked.{AreAsked}
@@ -29,4 +30,6 @@ with_tables-requires g c =
       valid = (tests_decide _ (net m es cs) c.self.invariant).0.0 passed;
       wired = wired m es cs _ c.self.invariant c.in-Ok.wiring.inputs c.in-Ok.wiring.outputs.items c.in-Ok.wiring.readers tables;
       asked = subst (λ xs. AreAsked m xs c.in-Ok.asked.items) c.deref.ensures.value c.in-Ok.ensures.asked;
+      gain = subst (λ ds. c.in-Ok.gain ≡ greatest_gain (net m es ds)) c.deref-2.ensures.value
+          (subst (λ xs. c.in-Ok.gain ≡ greatest_gain (net m xs c.deref-2.result.now)) c.deref.ensures.value c.in-Ok.ensures.gain);
     }

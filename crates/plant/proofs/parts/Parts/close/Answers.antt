@@ -1,11 +1,12 @@
-use Rattle.std.proofs.Common.{◌≡◌, Ok, Err, refl, sym, ◌∙◌}
+use Rattle.std.proofs.Common.{◌≡◌, true, Ok, Err, refl, sym, ◌∙◌}
 use Rattle.std.proofs.lemmas.Result.{err_from_is_err_and}
 use Rattle.std.specs.Arc.{arc_value}
 use Rattle.flowgraph.specs.Flowgraph.{net_of}
 use Rattle.stores.specs.Stores.{state_of}
 use Rattle.plant.specs.Answers.{source_type_of}
 use Rattle.plant.proofs.Refusals.{source_there, close-refused}
-use Rattle.plant.proofs.Moves.{counted, close_again, closes, keeps_closed}
+use Rattle.plant.proofs.Moves.{counted, close_again, closes, handed_long, keeps_closed}
+use Rattle.plant.proofs.Spans.{spans_handed}
 use Rattle.plant.proofs.parts.Parts.close.Goals as goal
 
 pub returns-in_err-source_type-clause-answered : goal.returns-in_err-source_type-clause-answered
@@ -44,3 +45,11 @@ returns-clause-answered g c =
     let now = closes net _ (rw (← c.deref.ensures) c.recall.ensures.runs) _ _ c.requires.keeps c.args.source.0 is.inside c.counts_of-tape.result (counted net _ (rw (← c.deref.ensures) c.recall.ensures.runs) _ _ c.requires.keeps c.args.source.0 is.inside c.index.result.now c.counts_of-tape.result c.index.ensures c.counts_of-tape.ensures) c.in_ok-source_type.field-0 is
     c.index_mut.result.now c.index_mut.ensures.value c.if-tape.false in
     rw now (refl, refl)
+
+pub returns-clause-spans : goal.returns-clause-spans
+returns-clause-spans g c =
+    let net = net_of g.B.Block.meaning (arc_value c.args.self.now.graph) in
+    let there : source_type_of net c.args.source.0 ≡ Ok c.in_ok-source_type.field-0 = rw (← c.deref-2.ensures) (sym c.source_type.ensures ∙ c.in_ok-source_type.was) in
+    let is = source_there net c.args.source.0 c.in_ok-source_type.field-0 there in
+    let long = handed_long net _ (rw (← c.deref.ensures) c.recall.ensures.runs) _ _ c.requires.keeps in
+    spans_handed c.args.self.now.stores c.args.source.0 c.index_mut.result.now (record c.index_mut.result.now { closed = true }) c.index_mut.ensures.value (rw long is.inside) refl refl

@@ -34,6 +34,7 @@ returns-in_default g c =
           _ c.rows.ensures c.of.result.handed.now c.of.ensures c.claim-decision.result claim.decision c.claim-decision.new.self claim.progress c.in_default.not-Ended;
       rest = right_plain g.B.Block.meaning c.args.self.now c.args.block.0 c.args.max c.requires.right c.requires.block c.deref.result.now c.deref.ensures c.recall.ensures.runs c.deref-2.result.now c.deref-2.ensures
           _ c.rows.ensures c.of.result.handed.now c.of.ensures c.claim-decision.result claim.decision c.claim-decision.new.self claim.progress c.in_default.not-Ended;
+      spans = refl;
       lent = refl;
       stores = λ _. refl;
     }

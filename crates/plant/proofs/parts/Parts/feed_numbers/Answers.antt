@@ -12,7 +12,7 @@ use Rattle.plant.specs.Plant.{plant_of}
 use Rattle.plant.specs.Answers.{Answered, reply_of, source_type_of, takes_memory}
 use Rattle.plant.proofs.Refusals.{source_there, answered}
 use Rattle.plant.proofs.Feeding.{numbers-refused, numbers-in_range, numbers-out_of_range}
-use Rattle.plant.proofs.Moves.{counted, tape_short, feed_stopped, feed_now}
+use Rattle.plant.proofs.Moves.{counted, limited, tape_short, feed_stopped, feed_now}
 use Rattle.plant.proofs.parts.Parts.feed_numbers.Goals as goal
 
 pub returns-in_err-item-clause-answered : goal.returns-in_err-item-clause-answered
@@ -50,7 +50,7 @@ length_with-requires g c =
     let net = net_of g.B.Block.meaning (arc_value c.args.self.now.graph) in
     let there : source_type_of net c.args.source.0 ≡ Ok c.in_ok-item.item = rw (← c.deref-2.ensures) (sym c.source_type.ensures ∙ c.in_ok-item.was) in
     let is = source_there net c.args.source.0 c.in_ok-item.item there in
-    let short = tape_short net _ (rw (← c.deref.ensures) c.recall.ensures.runs) _ _ c.requires.keeps c.args.source.0 is.inside c.counts_of-tape.result (counted net _ (rw (← c.deref.ensures) c.recall.ensures.runs) _ _ c.requires.keeps c.args.source.0 is.inside c.index.result.now c.counts_of-tape.result c.index.ensures c.counts_of-tape.ensures) in
+    let short = tape_short net _ (rw (← c.deref.ensures) c.recall.ensures.runs) _ _ c.requires.keeps c.args.source.0 is.inside c.counts_of.result (counted net _ (rw (← c.deref.ensures) c.recall.ensures.runs) _ _ c.requires.keeps c.args.source.0 is.inside c.index-intake.result.now c.counts_of.result c.index-intake.ensures c.counts_of.ensures) is.source in
     omega (arith, short)
 
 pub returns-in_err-length_with-in-Err-Memory-clause-answered : goal.returns-in_err-length_with-in-Err-Memory-clause-answered
@@ -61,7 +61,7 @@ returns-in_err-length_with-in-Err-Memory-clause-answered g c =
     let there : source_type_of net c.args.source.0 ≡ Ok c.in_ok-item.item = rw (← c.deref-2.ensures) (sym c.source_type.ensures ∙ c.in_ok-item.was) in
     let is = source_there net c.args.source.0 c.in_ok-item.item there in
     let same = numbers-in_range net st c.args.source.0 c.args.numbers.now (map mark_of c.args.marks.now) c.in_ok-item.item is (c.in-Err-Memory.ensures.memory (ap Err c.in-Err-Memory.field-0-is)) in
-    let no = feed_stopped net _ (rw (← c.deref.ensures) c.recall.ensures.runs) _ _ c.requires.keeps c.args.source.0 is.inside c.counts_of-tape.result (counted net _ (rw (← c.deref.ensures) c.recall.ensures.runs) _ _ c.requires.keeps c.args.source.0 is.inside c.index.result.now c.counts_of-tape.result c.index.ensures c.counts_of-tape.ensures) c.in_ok-item.item is c.in_ok-item.item c.args.numbers.now (map mark_of c.args.marks.now) ((types_agree-same c.in_ok-item.item c.in_ok-item.item).1 refl) c.in_err-length_with-in-Err-Memory.field-0.0 (sym c.length_with.ensures ∙ c.in_err-length_with-in-Err-Memory.was) in
+    let no = feed_stopped net _ (rw (← c.deref.ensures) c.recall.ensures.runs) _ _ c.requires.keeps c.args.source.0 is.inside c.counts_of.result (counted net _ (rw (← c.deref.ensures) c.recall.ensures.runs) _ _ c.requires.keeps c.args.source.0 is.inside c.index-intake.result.now c.counts_of.result c.index-intake.ensures c.counts_of.ensures) c.in_ok-item.item is c.index-intake.result.now.longest (limited net _ (rw (← c.deref.ensures) c.recall.ensures.runs) _ _ c.requires.keeps c.args.source.0 is.inside c.index-intake.result.now c.index-intake.ensures) c.in_ok-item.item c.args.numbers.now (map mark_of c.args.marks.now) ((types_agree-same c.in_ok-item.item c.in_ok-item.item).1 refl) c.in_err-length_with-in-Err-Memory.field-0.0 (sym c.length_with.ensures ∙ c.in_err-length_with-in-Err-Memory.was) in
     rw (p.1, p.2, same) (answered _ _ _ no.0 no.1)
 
 pub returns-in_ok-length_with-in-Err-Memory-clause-answered : goal.returns-in_ok-length_with-in-Err-Memory-clause-answered
@@ -71,5 +71,5 @@ returns-in_ok-length_with-in-Err-Memory-clause-answered g c =
     let there : source_type_of net c.args.source.0 ≡ Ok c.in_ok-item.item = rw (← c.deref-2.ensures) (sym c.source_type.ensures ∙ c.in_ok-item.was) in
     let is = source_there net c.args.source.0 c.in_ok-item.item there in
     let same = numbers-in_range net st c.args.source.0 c.args.numbers.now (map mark_of c.args.marks.now) c.in_ok-item.item is (c.in-Err-Memory.ensures.memory (ap Err c.in-Err-Memory.field-0-is)) in
-    let now = feed_now net _ (rw (← c.deref.ensures) c.recall.ensures.runs) _ _ c.requires.keeps c.args.source.0 is.inside c.counts_of-tape.result (counted net _ (rw (← c.deref.ensures) c.recall.ensures.runs) _ _ c.requires.keeps c.args.source.0 is.inside c.index.result.now c.counts_of-tape.result c.index.ensures c.counts_of-tape.ensures) c.in_ok-item.item is c.in_ok-item.item c.args.numbers.now (map mark_of c.args.marks.now) ((types_agree-same c.in_ok-item.item c.in_ok-item.item).1 refl) _ (sym c.length_with.ensures ∙ c.in_ok-length_with-in-Err-Memory.was) in
+    let now = feed_now net _ (rw (← c.deref.ensures) c.recall.ensures.runs) _ _ c.requires.keeps c.args.source.0 is.inside c.counts_of.result (counted net _ (rw (← c.deref.ensures) c.recall.ensures.runs) _ _ c.requires.keeps c.args.source.0 is.inside c.index-intake.result.now c.counts_of.result c.index-intake.ensures c.counts_of.ensures) c.in_ok-item.item is c.index-intake.result.now.longest (limited net _ (rw (← c.deref.ensures) c.recall.ensures.runs) _ _ c.requires.keeps c.args.source.0 is.inside c.index-intake.result.now c.index-intake.ensures) c.in_ok-item.item c.args.numbers.now (map mark_of c.args.marks.now) ((types_agree-same c.in_ok-item.item c.in_ok-item.item).1 refl) _ (sym c.length_with.ensures ∙ c.in_ok-length_with-in-Err-Memory.was) in
     (ap (λ (x : Reply × State). takes_memory x.0) (same ∙ now), refl)

@@ -1,9 +1,9 @@
-use Rattle.std.proofs.Common.{◌+◌, map, arith, ap, sym, ◌∙◌}
+use Rattle.std.proofs.Common.{◌+◌, ◌<◌, ◌^◌, map, arith, ap, sym, ◌∙◌}
 use Rattle.std.specs.Prelude.{sum}
 use Rattle.stream_model.specs.Lists.{below}
 use Rattle.flowgraph.specs.Flowgraph.{net_of}
 use Rattle.plant.specs.Headway.{fed_to, given_by_source}
-use Rattle.plant.specs.Plant.{plant_of}
+use Rattle.plant.specs.Plant.{KeepsAll, plant_of, spans_in}
 use Rattle.plant.proofs.Counting.{sum-below_more}
 use Rattle.plant.proofs.parts.Parts.headway.Goals as goal
 
@@ -13,9 +13,13 @@ loop-block-preserved g c =
     let net = net_of g.B.Block.meaning plant.graph in
     let so_far = c.loop-block.invariant in
     let own = c.own_headway-own.ensures in
+    let fits : (keeps : KeepsAll (spans_in c.args.self.now)) → c.loop-block.headway.fed + c.own_headway-own.result.fed < 2 ^ 64 = λ keeps.
+    (let before = so_far.short keeps in let here = own.short keeps in let few = c.len-block-end.ensures.few in let more = c.loop-block-test.true in omega (arith, before, here, few, more)) in
     record {
-      given = ap (λ n. n + c.own_headway-own.result.given) so_far.given ∙ ap (λ n. sum (map (given_by_source net plant.state) (below c.loop-block.block)) + n) own.given ∙ sym (sum-below_more (given_by_source net plant.state) c.loop-block.block);
-      fed = ap (λ n. n + c.own_headway-own.result.fed) so_far.fed ∙ ap (λ n. sum (map (fed_to net plant.state) (below c.loop-block.block)) + n) own.fed ∙ sym (sum-below_more (fed_to net plant.state) c.loop-block.block);
-      within = omega (arith, so_far.within, own.within);
-      short = omega (arith, so_far.short, own.short);
+      given = λ keeps. (let all = fits keeps in let less = so_far.within in let fewer = own.within in c.saturating_add.ensures ∙ omega (arith, all, less, fewer))
+          ∙ ap (λ n. n + c.own_headway-own.result.given) (so_far.given keeps) ∙ ap (λ n. sum (map (given_by_source net plant.state) (below c.loop-block.block)) + n) own.given ∙ sym (sum-below_more (given_by_source net plant.state) c.loop-block.block);
+      fed = λ keeps. (let all = fits keeps in c.saturating_add-in-loop-block.ensures ∙ omega (arith, all))
+          ∙ ap (λ n. n + c.own_headway-own.result.fed) (so_far.fed keeps) ∙ ap (λ n. sum (map (fed_to net plant.state) (below c.loop-block.block)) + n) own.fed ∙ sym (sum-below_more (fed_to net plant.state) c.loop-block.block);
+      within = omega (arith, so_far.within, own.within, c.saturating_add.ensures, c.saturating_add-in-loop-block.ensures);
+      short = λ keeps. (let before = so_far.short keeps in let here = own.short keeps in let sum = c.saturating_add-in-loop-block.ensures in omega (arith, before, here, sum));
     }

@@ -3,7 +3,7 @@ use Rattle.std.specs.Prelude.{sum}
 use Rattle.stream_model.specs.Lists.{below}
 use Rattle.flowgraph.specs.Flowgraph.{net_of}
 use Rattle.plant.specs.Headway.{fed_to, given_by_source}
-use Rattle.plant.specs.Plant.{plant_of}
+use Rattle.plant.specs.Plant.{KeepsAll, plant_of, spans_in}
 use Rattle.plant.proofs.parts.Parts.headway.Given as goal
 
 abbrev pub invariant-loop-block : goal.invariant-loop-block
@@ -11,8 +11,8 @@ invariant-loop-block g l =
     let plant = plant_of l.self in
     let net = net_of g.B.Block.meaning plant.graph in
     record {
-      given : l.headway.given ≡ sum (map (given_by_source net plant.state) (below l.block));
-      fed : l.headway.fed ≡ sum (map (fed_to net plant.state) (below l.block));
+      given : KeepsAll (spans_in l.self) → l.headway.given ≡ sum (map (given_by_source net plant.state) (below l.block));
+      fed : KeepsAll (spans_in l.self) → l.headway.fed ≡ sum (map (fed_to net plant.state) (below l.block));
       within : l.headway.given ≤ l.headway.fed;
-      short : l.headway.fed ≤ l.block * 2 ^ 32;
+      short : KeepsAll (spans_in l.self) → l.headway.fed ≤ l.block * 2 ^ 32;
     }

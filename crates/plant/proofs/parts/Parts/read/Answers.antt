@@ -50,7 +50,7 @@ here g c =
     let s = c.args.self.now.stores in
     let nodes : c.len.result ≡ length net.nodes = rw (← c.deref-2.ensures) c.len.ensures.nodes in
     let in' : c.args.sink.0 < length net.nodes = omega (arith, nodes, c.if-len-sink.false) in
-    let there : c.args.sink.0 < length s.sinks.items = omega (arith, in', c.requires.keeps.stored.places.sinks, sym (length-map s.sinks.items collected_of)) in
+    let there : c.args.sink.0 < length s.sinks.items = omega (arith, in', c.requires.right.keeps.stored.places.sinks, sym (length-map s.sinks.items collected_of)) in
     record {
       inside = in';
       keeper = rw (← c.deref-3.ensures) (sym c.is_keeper.ensures ∙ c.if-not-is_keeper.false);
@@ -63,7 +63,7 @@ slice-requires-clause-within g c =
     let net = net_of g.B.Block.meaning (arc_value c.args.self.now.graph) in
     let at = here g (goal.at.slice-requires-clause-within g c).After-index-collected in
     let long = ap (λ (x : Collected). length x.items) at.sink in
-    let holds = sink_holds net _ (rw (← c.deref.ensures) c.recall.ensures.runs) _ _ c.requires.keeps c.args.sink.0 c.args.from c.args.max at.inside at.keeper c.progress-own.result c.progress-own.ensures.value c.if-own-from.false in
+    let holds = sink_holds net _ (rw (← c.deref.ensures) c.recall.ensures.runs) _ _ c.requires.right.keeps c.args.sink.0 c.args.from c.args.max at.inside at.keeper c.progress-own.result c.progress-own.ensures.value c.if-own-from.false in
     omega (arith, holds, long, at.to, c.if-own-from.false)
 
 pub returns-in_err-slice-clause-answered : goal.returns-in_err-slice-clause-answered
@@ -71,21 +71,21 @@ returns-in_err-slice-clause-answered g c =
     let net = net_of g.B.Block.meaning (arc_value c.args.self.now.graph) in
     let at = here g (goal.at.returns-in_err-slice-clause-answered g c).After-index-collected in
     let p = err_from_is_err_and c.from_residual.result c.from_residual.ensures.1 in
-    rw (p.1, p.2) (read_takes net _ (rw (← c.deref.ensures) c.recall.ensures.runs) _ _ c.requires.keeps c.args.sink.0 c.args.from c.args.max at.inside at.keeper c.progress-own.result c.progress-own.ensures.value c.if-own-from.false)
+    rw (p.1, p.2) (read_takes net _ (rw (← c.deref.ensures) c.recall.ensures.runs) _ _ c.requires.right.keeps c.args.sink.0 c.args.from c.args.max at.inside at.keeper c.progress-own.result c.progress-own.ensures.value c.if-own-from.false)
 
 pub returns-in_err-from_slice-clause-answered : goal.returns-in_err-from_slice-clause-answered
 returns-in_err-from_slice-clause-answered g c =
     let net = net_of g.B.Block.meaning (arc_value c.args.self.now.graph) in
     let at = here g (goal.at.returns-in_err-from_slice-clause-answered g c).After-index-collected in
     let p = err_from_is_err_and c.from_residual-in_err-from_slice.result c.from_residual-in_err-from_slice.ensures.1 in
-    rw (p.1, p.2) (read_takes net _ (rw (← c.deref.ensures) c.recall.ensures.runs) _ _ c.requires.keeps c.args.sink.0 c.args.from c.args.max at.inside at.keeper c.progress-own.result c.progress-own.ensures.value c.if-own-from.false)
+    rw (p.1, p.2) (read_takes net _ (rw (← c.deref.ensures) c.recall.ensures.runs) _ _ c.requires.right.keeps c.args.sink.0 c.args.from c.args.max at.inside at.keeper c.progress-own.result c.progress-own.ensures.value c.if-own-from.false)
 
 pub returns-clause-answered : goal.returns-clause-answered
 returns-clause-answered g c =
     let net = net_of g.B.Block.meaning (arc_value c.args.self.now.graph) in
     let at = here g (goal.at.returns-clause-answered g c).After-index-collected in
     let to = c.args.from + c.min.result in
-    shown net _ (rw (← c.deref.ensures) c.recall.ensures.runs) _ _ c.requires.keeps c.args.sink.0 c.args.from c.args.max at.inside at.keeper c.progress-own.result c.progress-own.ensures.value c.if-own-from.false to
+    shown net _ (rw (← c.deref.ensures) c.recall.ensures.runs) _ _ c.requires.right.keeps c.args.sink.0 c.args.from c.args.max at.inside at.keeper c.progress-own.result c.progress-own.ensures.value c.if-own-from.false to
     (numbers_of c.in_ok-slice.field-0) (map tag_of c.in_ok-from_slice.field-0.items) at.to
     (c.in_ok-slice.ensures.items ∙ ap (λ (x : Collected). slice_range x.items c.args.from to) (sym at.sink))
     (ap (map tag_of) c.in_ok-from_slice.ensures.items ∙ c.tags.ensures ∙ ap (λ (x : Collected). tags_within c.args.from to x.tags) (sym at.sink))
@@ -95,7 +95,7 @@ returns-clause-whole g c =
     let net = net_of g.B.Block.meaning (arc_value c.args.self.now.graph) in
     let at = here g (goal.at.returns-clause-whole g c).After-index-collected in
     let to = c.args.from + c.min.result in
-    shown_whole net _ (rw (← c.deref.ensures) c.recall.ensures.runs) _ _ c.requires.keeps c.args.sink.0 c.args.from c.args.max at.inside at.keeper c.progress-own.result c.progress-own.ensures.value c.if-own-from.false to
+    shown_whole net _ (rw (← c.deref.ensures) c.recall.ensures.runs) _ _ c.requires.right.keeps c.args.sink.0 c.args.from c.args.max at.inside at.keeper c.progress-own.result c.progress-own.ensures.value c.if-own-from.false to
     (numbers_of c.in_ok-slice.field-0) (map tag_of c.in_ok-from_slice.field-0.items) at.to
     (c.in_ok-slice.ensures.items ∙ ap (λ (x : Collected). slice_range x.items c.args.from to) (sym at.sink))
     (ap (map tag_of) c.in_ok-from_slice.ensures.items ∙ c.tags.ensures ∙ ap (λ (x : Collected). tags_within c.args.from to x.tags) (sym at.sink))

@@ -19,6 +19,7 @@ loop-block-preserved g c =
     let in' : c.loop-block.block < length (net_of g.B.Block.meaning old.graph).nodes = rw length-map few in
     record {
       right = c.moves.ensures.right;
+      spans = c.moves.ensures.spans ∙ c.loop-block.invariant.spans;
       stepped = elim c.if-branch.branch [
         | then-branch w ↦ rw w.moved-is (is_stepped_on g.B.Block.meaning c.args.max old now so_far.same c.loop-block.block c.loop-block.moved so_far.states can c.loop-block.invariant.right.keeps.sound c.requires.some in' (plant_of c.moves.new.self) c.in_ok-moves.ensures.step (sym c.in_ok-moves.ensures.moved ∙ w.if-branch.true))
         | else-branch w ↦ rw w.moved-is (is_stepped_still g.B.Block.meaning c.args.max old now so_far.same c.loop-block.block c.loop-block.moved so_far.states can c.loop-block.invariant.right.keeps.sound c.requires.some in' (plant_of c.moves.new.self) c.in_ok-moves.ensures.step (sym c.in_ok-moves.ensures.moved ∙ w.if-branch.false))

@@ -11,6 +11,10 @@ use Rattle.plant.specs.Setting.{fault_in}
 use Rattle.plant.proofs.Refusals.{answered}
 use Rattle.plant.proofs.Moves.{keeps_same, state_same}
 use Rattle.plant.proofs.Sets.{taken_there, set-refused, set-late, input_there, takes, has_timeline, has_place, refusal_sets_nothing, sets, keeps_set}
+use Rattle.stream_model.specs.Network.{Handed}
+use Rattle.plant_laws.specs.Stored as stored
+use Rattle.plant.proofs.Spans.{spans_handed}
+use Rattle.plant.proofs.Moves.{handed_long}
 use Rattle.plant.proofs.parts.Parts.set.Goals as goal
 
 pub returns-in_err-wanted-clause-answered : goal.returns-in_err-wanted-clause-answered
@@ -112,3 +116,21 @@ returns-clause-answered g c =
     let open' : floor_of net (state_of c.args.self.now.stores.handed.items c.args.self.now.firings) c.args.block.0 ≤ c.unwrap_or-place.result = omega (arith, floor_is, c.if-place-floor.false) in
     let now = sets net _ (rw (← c.deref.ensures) c.recall.ensures.runs) _ _ c.requires.keeps c.args.block.0 (value_of c.args.value) is c.args.at c.unwrap_or-place.result place_is open' c.index_mut.result.now c.index_mut.ensures.value c.set.new.self c.in_ok-set.ensures.ok in
     rw now (refl, refl)
+
+pub returns-in_err-set-clause-spans : goal.returns-in_err-set-clause-spans
+returns-in_err-set-clause-spans g c =
+    let net = net_of g.B.Block.meaning (arc_value c.args.self.now.graph) in
+    let is = taken_there net c.args.block.0 (value_of c.args.value) (rw (← c.deref-2.ensures) (sym c.wanted.ensures ∙ ap fault_in c.in_ok-wanted.was)) in
+    let long = handed_long net _ (rw (← c.deref.ensures) c.recall.ensures.runs) _ _ c.requires.keeps in
+    let same = c.in_err-set.ensures.err in
+    spans_handed c.args.self.now.stores c.args.block.0 c.index_mut.result.now c.set.new.self c.index_mut.ensures.value (rw long is.inside)
+    (ap (λ (t : stored.Tape). t.from) same.tape) (ap (λ (h : Handed). h.longest) same.handed)
+
+pub returns-clause-spans : goal.returns-clause-spans
+returns-clause-spans g c =
+    let net = net_of g.B.Block.meaning (arc_value c.args.self.now.graph) in
+    let is = taken_there net c.args.block.0 (value_of c.args.value) (rw (← c.deref-2.ensures) (sym c.wanted.ensures ∙ ap fault_in c.in_ok-wanted.was)) in
+    let long = handed_long net _ (rw (← c.deref.ensures) c.recall.ensures.runs) _ _ c.requires.keeps in
+    let set = c.in_ok-set.ensures.ok in
+    spans_handed c.args.self.now.stores c.args.block.0 c.index_mut.result.now c.set.new.self c.index_mut.ensures.value (rw long is.inside)
+    (ap (λ (t : stored.Tape). t.from) set.tape) (ap (λ (h : Handed). h.longest) set.handed)

@@ -43,6 +43,7 @@ returns-then-not-moved-clause-whole g c =
 pub rounds-preserved : goal.rounds-preserved
 rounds-preserved g c = record {
   right = c.round.ensures.right;
+  spans = c.round.ensures.spans ∙ c.rounds.invariant.spans;
   led = is_led_on g.B.Block.meaning c.args.max (plant_of c.args.self.now) (plant_of c.rounds.self) c.rounds.invariant.led (plant_of c.round.new.self) c.round.ensures.same c.round.ensures.steps c.round.ensures.idle;
 }
 

@@ -14,7 +14,7 @@ returns-clause-whole g c h =
     let parts = c.self.inside.parts in
     subst (λ x. IsSettled (net_of g.B.Block.meaning x.graph) x.state) c.self.view_is
     (quiet_settles (arc_value parts.graph).names (net_of g.B.Block.meaning (arc_value parts.graph)) (answer_of parts.rates) (sizes_of parts.capacities) (state_of parts.stores.handed.items parts.firings) (rw (← c.deref.ensures) i.valid) (rw (← c.deref.ensures) i.lawful) (rw (← c.deref.ensures) i.runs) (rw (← c.deref.ensures) i.counts)
-    c.self.invariant.built.rates.answer c.self.invariant.built.capacities c.self.invariant.keeps.sound
+    c.self.invariant.right.built.rates.answer c.self.invariant.right.built.capacities c.self.invariant.right.keeps.sound
     (sym (rw (← c.deref-2.ensures) (rw (← c.rows.ensures) (c.quiet.ensures (map handed_of parts.stores.handed.items) (rw c.of.ensures refl)))) ∙ h))
 
 pub returns-clause-value : goal.returns-clause-value

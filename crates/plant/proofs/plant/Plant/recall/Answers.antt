@@ -13,4 +13,4 @@ returns-clause-capacities g c =
     let parts = c.self.inside.parts in
     let net = net_of g.B.Block.meaning (arc_value parts.graph) in
     subst (λ x. x.capacities ≡ capacities_of (net_of g.B.Block.meaning x.graph) (balance_of (net_of g.B.Block.meaning x.graph))) c.self.view_is
-    (c.self.invariant.built.capacities ∙ ap (capacities_of net) c.self.invariant.built.rates.answer)
+    (c.self.invariant.right.built.capacities ∙ ap (capacities_of net) c.self.invariant.right.built.rates.answer)
