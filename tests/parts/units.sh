@@ -17,7 +17,7 @@ list() {
 # put FOLDER..: the crate, with these folders as modules
 put() {
     local folder own=$room/tree/crates/all_tests
-    put_apart tree all_tests flow raw_items rates firings clap
+    put_apart tree all_tests flow streaming raw_items rates firings clap
     for folder; do
         put_sources "$top/tests/$folder" "$own/src/$folder"
         mv -- "$own/src/$folder/lib.rt" "$own/src/$folder.rt"

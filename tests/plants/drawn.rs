@@ -2,7 +2,7 @@
 ghost use Rattle.std.specs.Prelude.{◌≤◌};
 
 use block_kinds::ParamFault;
-use flowgraph::{BlockId, Graph, Options, Policy};
+use flowgraph::{BlockId, Graph, Options, Policy, Valid};
 use items::{ItemType, Items, Mark, TagKey};
 use kinds::{Kind, VectorSink, VectorSource};
 use math_blocks::{Add, AddConst, MovingSum, MultiplyConst, Not};
@@ -10,6 +10,7 @@ use plant::Plant;
 use rate_blocks::{Delay, Head, KeepOneInN, Repeat, SkipHead};
 use std::alloc::Global;
 use std::process::Abort;
+use streaming::StreamingPlant;
 
 /// The kinds of blocks that the tests use, of bytes.
 #[derive(Clone, Copy)]
@@ -49,14 +50,14 @@ fn made(make: Make) -> Result<Kind, ParamFault> {
     })
 }
 
-/// The plant of these blocks and connections, whose buffers hold so many items where that is enough. What is refused ends the test.
-pub fn plant(
+// The graph of these blocks and connections, whose buffers hold so many items where that is enough. What is refused ends the test.
+fn graph(
     rt: &impl Abort,
     alloc: Global,
     blocks: &[Make],
     wires: &[Wire],
     capacity: u32,
-) -> Plant<Kind> {
+) -> Valid<Kind> {
     let mut graph = Graph::new(alloc);
     for (number, make) in blocks.iter().enumerate() {
         let Ok(block) = made(*make) else {
@@ -77,10 +78,35 @@ pub fn plant(
         let connected = graph.connect(BlockId(*from), *out_port, BlockId(*to), *in_port);
         assert!(rt; connected.is_ok(), "from {from} to {to}");
     }
-    let Ok(valid) = graph.validate(alloc) else {
-        panic!(rt; "the graph is refused");
-    };
-    match Plant::open(alloc, valid) {
+    match graph.validate(alloc) {
+        Ok(valid) => valid,
+        Err(_) => panic!(rt; "the graph is refused"),
+    }
+}
+
+/// The plant of these blocks and connections, whose buffers hold so many items where that is enough. What is refused ends the test.
+pub fn plant(
+    rt: &impl Abort,
+    alloc: Global,
+    blocks: &[Make],
+    wires: &[Wire],
+    capacity: u32,
+) -> Plant<Kind> {
+    match Plant::open(alloc, graph(rt, alloc, blocks, wires, capacity)) {
+        Ok(plant) => plant,
+        Err(_) => panic!(rt; "no memory"),
+    }
+}
+
+/// The same as a plant that streams.
+pub fn streaming(
+    rt: &impl Abort,
+    alloc: Global,
+    blocks: &[Make],
+    wires: &[Wire],
+    capacity: u32,
+) -> StreamingPlant<Kind> {
+    match StreamingPlant::open(alloc, graph(rt, alloc, blocks, wires, capacity)) {
         Ok(plant) => plant,
         Err(_) => panic!(rt; "no memory"),
     }

@@ -1,5 +1,5 @@
 //! Tests of plants through their public calls: each call once, jobs that are copied and brought back, what blocks wait for and what
-//! buffers store, long runs in any order, and balanced graphs that never stall.
+//! buffers store, long runs in any order, balanced graphs that never stall, and plants that stream.
 
 mod balanced;
 mod calls;
@@ -8,3 +8,4 @@ mod handed;
 mod needs;
 mod orders;
 mod stores;
+mod streamed;

@@ -1,0 +1,3 @@
+pub mod Releases
+pub mod Pieces
+pub mod Joins

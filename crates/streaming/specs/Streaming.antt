@@ -1,0 +1,57 @@
+-- What a contract sees of a plant that streams.
+use Rattle.std.specs.Prelude.{ℕ, ◌+◌, ◌<◌, ◌≡◌, List, ◌++◌, length, take, true, slice_index_or, slice_set, ℤ}
+use Rattle.stream_model.specs.Tags.{Tag, tags_within}
+use Rattle.stream_model.specs.Meaning.{Meaning, input}
+use Rattle.stream_model.specs.Network.{Network, State, role_at, is_keeper, is_source, entering, tags_entering}
+use Rattle.stream_model.specs.Machine.{Capacities, Call, run_of}
+use Rattle.graph_model.specs.Gains.{longest_within_gain}
+use Rattle.machine_laws.specs.Sound.{fired}
+use Rattle.flowgraph.specs.Flowgraph.{Flowgraph, net_of}
+use Rattle.plant_laws.specs.Stored.{Firsts}
+use Rattle.plant.specs.Plant.{PlantState}
+use Rattle.plant.specs.Opening.{opening_plant_within}
+
+-- the plant as it would be if it forgot nothing, and the first item that is kept in memory of each tape, and of what each sink has collected
+pub record StreamingState (B : Type 0) : Type 0 where
+  pub plant : PlantState B
+  pub kept : Firsts
+
+-- how many items were drained of a sink: the first that is kept is the next
+abbrev pub drained : {B : Type 0} → StreamingState B → ℕ → ℕ
+drained s b = slice_index_or s.kept.sinks b 0
+
+-- the first item of a source's tape that is kept
+abbrev pub tape_kept : {B : Type 0} → StreamingState B → ℕ → ℕ
+tape_kept s b = slice_index_or s.kept.tapes b 0
+
+-- the one stream that enters a sink, and its tags, by the equations of the blocks
+abbrev pub stream_into : Network → State → ℕ → List ℤ
+stream_into net st b = input (entering net st.handed b) 0
+
+abbrev pub tags_into : Network → State → ℕ → List Tag
+tags_into net st b = tags_entering net st.handed b 0
+
+-- as it opens, a tape may come to hold as many items as the greatest gain of the graph allows
+abbrev pub streaming_opening : {B : Type 0} → (B → Meaning) → Flowgraph B → PlantState B
+streaming_opening meaning graph = opening_plant_within (longest_within_gain (net_of meaning graph)) meaning graph
+
+-- so many more items of a sink were drained, and nothing else changed
+pub record HasDrained {B : Type 0} (old new : StreamingState B) (sink count : ℕ) : Type 0 where
+  pub plant : new.plant ≡ old.plant
+  pub tapes : new.kept.tapes ≡ old.kept.tapes
+  pub sinks : new.kept.sinks ≡ slice_set old.kept.sinks sink (drained old sink + count)
+
+-- of no tape is anything kept that its source has taken
+abbrev pub KeepsNoTaken : {B : Type 0} → Network → StreamingState B → Type 0
+KeepsNoTaken net s = (b : ℕ) → b < length net.nodes → is_source (role_at net b) ≡ true → tape_kept s b ≡ fired s.plant.state b
+
+-- what is drained of a sink goes on where it stopped: with these items and tags, what was drained is a longer beginning of the stream
+pub record GoesOn (net : Network) (st : State) (b from : ℕ) (items : List ℤ) (tags : List Tag) : Type 0 where
+  pub items_join : take (from + length items) (stream_into net st b) ≡ take from (stream_into net st b) ++ items
+  pub tags_join : tags_within 0 (from + length items) (tags_into net st b) ≡ tags_within 0 from (tags_into net st b) ++ tags
+
+-- whatever is called later, the first k items of the stream that enters a sink stay, and the tags on them
+abbrev pub StaysBegun : Network → Capacities → State → ℕ → ℕ → Type 0
+StaysBegun net caps st b k =
+    (calls : List Call) → let later = (run_of net caps st calls).1 in
+    (take k (stream_into net later b) ≡ take k (stream_into net st b)) × (tags_within 0 k (tags_into net later b) ≡ tags_within 0 k (tags_into net st b))

@@ -1,0 +1,25 @@
+//! A plant that streams: it forgets what its sources have taken and what was drained of its sinks, so that it runs in constant memory for as long
+//! as it is fed.
+//!
+//! ```text
+//! let mut plant = StreamingPlant::open(alloc, graph)?;
+//! loop {
+//!     plant.feed(source, &items, &marks)?;        // a piece of what comes in
+//!     plant.settle(alloc, max)?;                  // all that can be worked on is
+//!     let piece = plant.drain(alloc, sink, max)?; // what the sink has taken since
+//! }
+//! ```
+//!
+//! What is drained of a sink, piece after piece, is a beginning of the one stream that the equations of the blocks give for all that was ever fed, and
+//! the whole of it when the sink is done.
+#![tactic(auto)]
+
+mod draining;
+mod forgetting;
+mod memory;
+pub mod streaming_plant;
+
+pub use flowgraph::{Block, BlockId, Valid};
+pub use plant::{BlockNeed, Closed, Fed, Need, Piece, PlantFault, Settled, Step, Taken};
+pub use streaming_plant::StreamingPlant;
+pub use tags::Tag;

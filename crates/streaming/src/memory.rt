@@ -1,0 +1,44 @@
+//! How much is in memory of what sources were fed and of what sinks have taken.
+
+ghost use Rattle.std.specs.Prelude.{◌-◌, ◌*◌, ◌<◌, ◌≡◌, ◌≤◌, length, true, slice_index_or};
+ghost use Rattle.stream_model.specs.Network.{handed_at, role_at, is_keeper, is_source};
+ghost use Rattle.machine_laws.specs.Sound.{fired};
+ghost use Rattle.flowgraph.specs.Flowgraph.{net_of};
+ghost use Rattle.plant.specs.Plant.{IsRight, plant_of, spans_in};
+
+use flowgraph::{Block, BlockId};
+use plant::Parts;
+use stream_model::Role;
+
+/// How many items are in memory of what a source was fed, or of what a sink has taken.
+pub(crate) fn items_in_memory<B: Block>(parts: &Parts<B>, block: BlockId) -> usize
+    requires { IsRight B.meaning parts.now }
+    ensures source { let plant = plant_of parts.now in let net = net_of B.meaning plant.graph in block.0 < length net.nodes → is_source (role_at net block.0) ≡ true →
+        result ≤ 2 * (length (handed_at plant.state.handed block.0).tape - slice_index_or (spans_in parts.now).firsts.tapes block.0 0) }
+    ensures sink { let plant = plant_of parts.now in let net = net_of B.meaning plant.graph in block.0 < length net.nodes → is_keeper (role_at net block.0) ≡ true →
+        result ≤ 2 * (fired plant.state block.0 - slice_index_or (spans_in parts.now).firsts.sinks block.0 0) }
+{
+    parts.graph.recall();
+    let at = block.0 as usize;
+    if parts.graph.len() <= at {
+        return 0;
+    }
+    match parts.graph.role(block) {
+        Role::Source => parts.stores.handed[at].tape.recording().in_memory(),
+        Role::Keep => parts.stores.sinks[at].in_memory(),
+        Role::Work | Role::Discard => 0,
+    }
+}
+
+/// How many tags are in memory of these.
+pub(crate) fn tags_in_memory<B: Block>(parts: &Parts<B>, block: BlockId) -> usize {
+    let at = block.0 as usize;
+    let tape = match parts.stores.handed.get(at) {
+        Some(intake) => intake.tape.recording().tags_in_memory(),
+        None => 0,
+    };
+    match parts.stores.sinks.get(at) {
+        Some(collected) => tape.saturating_add(collected.tags_in_memory()),
+        None => tape,
+    }
+}

@@ -1,0 +1,231 @@
+//! The plant that streams.
+
+ghost use Rattle.std.specs.Prelude.{◌≡◌, ◌-◌, ◌*◌, ◌<◌, ◌≤◌, ℕ, length, map, true, IsOk, IfOk, IfErr, OnErr};
+ghost use Rattle.std.specs.List.{Any};
+ghost use Rattle.stream_model.specs.Machine as machine;
+ghost use Rattle.stream_model.specs.Machine.{step_of, feed_of, close_of, set_of, read_of, is_idle, is_all_done, is_quiet, IsWhole, HoldsAll};
+ghost use Rattle.stream_model.specs.Network.{node_at, handed_at, role_at, is_keeper, is_source};
+ghost use Rattle.stream_laws.specs.CanRun.{CanRun};
+ghost use Rattle.machine_laws.specs.Sound.{Sound, fired};
+ghost use Rattle.items.specs.Items.{type_of, numbers_of};
+ghost use Rattle.items.specs.Tags.{tag_of};
+ghost use Rattle.settings.specs.Values.{value_of};
+ghost use Rattle.flowgraph.specs.Flowgraph.{net_of};
+ghost use Rattle.stores.specs.Stores.{mark_of};
+ghost use Rattle.plant.specs.Plant.{ForgetsNone};
+ghost use Rattle.plant.specs.Answers.{Answered, AnsweredAlways, AnsweredBy, piece_reply, reply_of, step_reply};
+ghost use Rattle.plant.specs.Settling.{StepsLead, HasSettled, HoldsSettled};
+ghost use Rattle.plant.specs.Waits.{need_of, wait_in};
+ghost use Rattle.streaming.specs.Streaming.{GoesOn, HasDrained, KeepsNoTaken, StaysBegun, drained, streaming_opening, tape_kept};
+
+use crate::draining::drain;
+use crate::forgetting::forget_taken;
+use crate::memory::{items_in_memory, tags_in_memory};
+use firings::BlockNeed;
+use flowgraph::{Block, BlockId, Valid};
+use items::{Items, Mark};
+use plant::{Closed, Fed, Parts, Piece, PlantFault, Settled, Step, Taken, Unwatched};
+use settings::Value;
+use std::alloc::{AllocError, Global};
+use std::fmt;
+use std::marker::Model;
+
+/// A flowgraph that runs in constant memory, for as long as it is fed. A contract sees it as a plant that forgets nothing, with how much is kept.
+///
+/// In memory are the buffers, what was fed and not taken by its source, and what a sink took and was not drained; what was forgotten of these makes it at
+/// most twice as much.
+pub struct StreamingPlant<B: Block> {
+    parts: Parts<B>,
+}
+
+impl<B: Block> fmt::Debug for StreamingPlant<B> {
+    fn fmt<W: fmt::Write>(&self, f: &mut fmt::Formatter<W>) -> fmt::Result {
+        f.debug_struct("StreamingPlant").finish_non_exhaustive()
+    }
+}
+
+// By hand, so that no crate above proves the drop of each part again.
+impl<B: Block> Drop for StreamingPlant<B> {
+    fn drop(self) {
+        let StreamingPlant { parts } = self;
+        drop(parts);
+    }
+}
+
+impl<B: Block> Model for StreamingPlant<B> {
+    ghost use Rattle.plant.specs.Plant.{IsRight, plant_of, spans_in};
+    ghost use Rattle.streaming.specs.Streaming.{StreamingState};
+
+    ghost Value = { StreamingState B };
+
+    ghost view = { λ p. record { plant = plant_of p.parts; kept = (spans_in p.parts).firsts } };
+
+    ghost invariant = { λ p. IsRight B.meaning p.parts };
+}
+
+impl<B: Block> StreamingPlant<B> {
+    /// The plant of a graph of which nothing is fed and nothing fired. It computes the rates and allocates the buffers. A source takes 2^61 items,
+    /// divided by the greatest gain of the graph. It fails only where the allocator refuses, and then returns the graph.
+    pub fn open(alloc: Global, graph: Valid<B>) -> Result<StreamingPlant<B>, (Valid<B>, AllocError)>
+        ensures opens { IfOk result (λ plant. plant.plant ≡ streaming_opening B.meaning graph) }
+        ensures none { IfOk result (λ plant. ForgetsNone plant.kept) }
+        ensures back { IfErr result (λ refusal. refusal.0 ≡ graph) }
+    {
+        let longest = graph.longest_tape();
+        match Parts::open(alloc, graph, longest) {
+            Ok(parts) => Ok(StreamingPlant { parts }),
+            Err(refusal) => Err(refusal),
+        }
+    }
+
+    /// The graph.
+    pub fn graph(&self) -> &Valid<B>
+        ensures { result.now ≡ self.now.plant.graph }
+    {
+        &self.parts.graph
+    }
+
+    /// Whether no claim is in flight, as it always is between calls.
+    pub fn idle(&self) -> bool
+        ensures { result ≡ is_idle self.now.plant.state }
+    {
+        self.parts.firings.idle()
+    }
+
+    /// Whether each block is done. Then each sink has taken its whole stream.
+    pub fn all_done(&self) -> bool
+        ensures value { result ≡ is_all_done self.now.plant.state }
+        ensures whole { result ≡ true → IsWhole (net_of B.meaning self.now.plant.graph) self.now.plant.state }
+    {
+        self.parts.graph.recall();
+        self.parts.firings.all_done()
+    }
+
+    /// Appends items to what a source is fed, with marks on them, at the offsets that these items get. Refused are, in this order, `NoSuchBlock`,
+    /// `NotSource`, `ItemRange` for items of another type, `Closed`, `TagPlace` for a mark on none of the items, `TapeFull` where the source would be
+    /// fed more than it takes, and `Memory`. An `Err` changes nothing.
+    pub fn feed(
+        &mut self,
+        source: BlockId,
+        items: &Items,
+        marks: &[Mark],
+    ) -> Result<Fed, PlantFault>
+        ensures answered { Answered (feed_of (net_of B.meaning self.old.plant.graph) self.old.plant.state source.0 (type_of items.now) (numbers_of items.now) (map mark_of marks.now)) self.old.plant self.new.plant (reply_of (λ f. machine.Fed f.0) result) }
+        ensures kept { self.new.kept ≡ self.old.kept }
+    {
+        self.parts.feed(source, items, marks)
+    }
+
+    /// Says that nothing more comes to a source, and returns how many items it was fed. Refused are, in this order, `NoSuchBlock`, `NotSource`, and
+    /// `Closed` where it was said before. It takes no memory.
+    pub fn close(&mut self, source: BlockId) -> Result<Closed, PlantFault>
+        ensures answered { AnsweredAlways (close_of (net_of B.meaning self.old.plant.graph) self.old.plant.state source.0) self.old.plant self.new.plant (reply_of (λ c. machine.Closed c.0) result) }
+        ensures kept { self.new.kept ≡ self.old.kept }
+    {
+        self.parts.close(source)
+    }
+
+    /// Sets the value of a block's setting from item `at` of its first input on, or from the first that is neither taken nor claimed, as
+    /// `Plant::set` does, with the same refusals.
+    pub fn set(
+        &mut self,
+        block: BlockId,
+        at: Option<u64>,
+        value: Value,
+    ) -> Result<Taken, PlantFault>
+        ensures replaces { (place : ℕ) → (set_of (net_of B.meaning self.old.plant.graph) self.old.plant.state block.0 at (value_of value)).0 ≡ machine.Taken place →
+            Any (λ h. h.at ≡ place) (handed_at self.old.plant.state.handed block.0).settings → IsOk result }
+        ensures answered { Answered (set_of (net_of B.meaning self.old.plant.graph) self.old.plant.state block.0 at (value_of value)) self.old.plant self.new.plant (reply_of (λ t. machine.Taken t.0) result) }
+        ensures kept { self.new.kept ≡ self.old.kept }
+    {
+        self.parts.set(block, at, value)
+    }
+
+    /// Has a block do at most `max` firings, as `Plant::step` does. What a source has taken so stays in memory until `release` or `settle`.
+    pub fn step(&mut self, alloc: Global, block: BlockId, max: u32) -> Result<Step, PlantFault>
+        requires { 1 ≤ max }
+        ensures answered { Answered (step_of (net_of B.meaning self.old.plant.graph) self.old.plant.capacities self.old.plant.state block.0 max) self.old.plant self.new.plant (reply_of step_reply result) }
+        ensures kept { self.new.kept ≡ self.old.kept }
+    {
+        self.parts.step(alloc, block, max)
+    }
+
+    /// Forgets all that sources have taken. It takes no memory, and an `Err` never comes while nobody shares a tape.
+    pub fn release(&mut self) -> Result<(), AllocError>
+        ensures plant { self.new.plant ≡ self.old.plant }
+        ensures sinks { self.new.kept.sinks ≡ self.old.kept.sinks }
+        ensures taken { IfOk result (λ _. KeepsNoTaken (net_of B.meaning self.new.plant.graph) self.new) }
+    {
+        forget_taken(&mut self.parts)
+    }
+
+    /// Steps all blocks in their order, at most `max` firings each, again and again, until all are done, or a whole round did nothing. Then it
+    /// forgets what sources have taken. Where it is out of memory it stops, and stays where its steps took it.
+    pub fn settle(&mut self, alloc: Global, max: u32) -> Result<Settled, AllocError>
+        requires idle { is_idle self.old.plant.state ≡ true }
+        requires some { 1 ≤ max }
+        ensures same { self.new.plant ≡ record self.old.plant { state = self.new.plant.state } }
+        ensures steps { StepsLead (net_of B.meaning self.old.plant.graph) self.old.plant.capacities max self.old.plant.state self.new.plant.state }
+        ensures idle { is_idle self.new.plant.state ≡ true }
+        ensures settled { IfOk result (HasSettled (net_of B.meaning self.new.plant.graph) self.new.plant.capacities self.new.plant.state) }
+        ensures whole { IfOk result (HoldsSettled (net_of B.meaning self.new.plant.graph) self.new.plant.state) }
+        ensures sinks { self.new.kept.sinks ≡ self.old.kept.sinks }
+        ensures taken { IfOk result (λ _. KeepsNoTaken (net_of B.meaning self.new.plant.graph) self.new) }
+    {
+        let settled = self.parts.settle(alloc, max, &mut Unwatched)?;
+        forget_taken(&mut self.parts)?;
+        Ok(settled)
+    }
+
+    /// Takes at most `max` items away of those that a sink has taken and that were not drained yet, with the tags on them. Refused are, in this
+    /// order, `NoSuchBlock`, `NotSink`, and `Memory`; an `Err` changes nothing. A piece that says done comes from a sink that has taken its whole
+    /// stream.
+    pub fn drain(&mut self, alloc: Global, sink: BlockId, max: u64) -> Result<Piece, PlantFault>
+        ensures answered { AnsweredBy (read_of (net_of B.meaning self.old.plant.graph) self.old.plant.state sink.0 (drained self.old sink.0) max) (reply_of piece_reply result) }
+        ensures typed { IfOk result (λ piece. type_of piece.items ≡ (node_at (net_of B.meaning self.old.plant.graph) sink.0).meaning.inputs.item) }
+        ensures joins { IfOk result (λ piece. GoesOn (net_of B.meaning self.old.plant.graph) self.old.plant.state sink.0 (drained self.old sink.0) (numbers_of piece.items) (map tag_of piece.tags.items)) }
+        ensures drains { IfOk result (λ piece. HasDrained self.old self.new sink.0 (length (numbers_of piece.items))) }
+        ensures err { OnErr result (self.new ≡ self.old) }
+        ensures whole { IfOk result (λ piece. piece.done ≡ true → HoldsAll (net_of B.meaning self.old.plant.graph) self.old.plant.state sink.0) }
+    {
+        drain(&mut self.parts, alloc, sink, max)
+    }
+
+    /// What a step of a block would come to, or what it waits for, and of which block. `NoSuchBlock` is refused. Nothing changes, and it takes no
+    /// memory.
+    pub fn need(&self, block: BlockId) -> Result<BlockNeed, PlantFault>
+        ensures { wait_in result ≡ need_of (net_of B.meaning self.now.plant.graph) self.now.plant.capacities self.now.plant.state block.0 }
+    {
+        self.parts.need(block)
+    }
+
+    /// How many items are in memory of what a source was fed, or of what a sink has taken: at most twice as many as are kept. There are none of any
+    /// other block, whose outputs have buffers.
+    pub fn items_in_memory(&self, block: BlockId) -> usize
+        ensures source { let net = net_of B.meaning self.now.plant.graph in block.0 < length net.nodes → is_source (role_at net block.0) ≡ true →
+            result ≤ 2 * (length (handed_at self.now.plant.state.handed block.0).tape - tape_kept self.now block.0) }
+        ensures sink { let net = net_of B.meaning self.now.plant.graph in block.0 < length net.nodes → is_keeper (role_at net block.0) ≡ true →
+            result ≤ 2 * (fired self.now.plant.state block.0 - drained self.now block.0) }
+    {
+        items_in_memory(&self.parts, block)
+    }
+
+    /// How many tags are in memory of these.
+    pub fn tags_in_memory(&self, block: BlockId) -> usize {
+        tags_in_memory(&self.parts, block)
+    }
+
+    /// Recalls what every plant that streams keeps: the graph can run, the state is one that calls lead to, no more was drained of a sink than it
+    /// has taken, and whatever is called later, what was drained stays the beginning of the one stream that the equations of the blocks give. It
+    /// does nothing.
+    pub fn recall(&self)
+        ensures runs { CanRun (net_of B.meaning self.now.plant.graph) }
+        ensures sound { Sound (net_of B.meaning self.now.plant.graph) self.now.plant.capacities self.now.plant.state }
+        ensures taken { let net = net_of B.meaning self.now.plant.graph in (b : ℕ) → b < length net.nodes → is_keeper (role_at net b) ≡ true →
+            drained self.now b ≤ fired self.now.plant.state b }
+        ensures stays { let net = net_of B.meaning self.now.plant.graph in (b : ℕ) → b < length net.nodes → is_keeper (role_at net b) ≡ true →
+            StaysBegun net self.now.plant.capacities self.now.plant.state b (drained self.now b) }
+    {
+        self.parts.graph.recall();
+    }
+}

@@ -1,0 +1,262 @@
+//! Plants that stream: each call, pieces beside the whole run of a plant, and how much is in memory.
+use super::drawn::{Make, Wire, bytes, mark, plant, streaming};
+use super::orders::drawn;
+use flowgraph::BlockId;
+use items::{ItemType, Items, Mark};
+use kinds::Kind;
+use settings::Value;
+use std::alloc::Global;
+use std::process::Abort;
+use std::test::Fail;
+use streaming::{BlockNeed, Piece, PlantFault, Settled, Step, StreamingPlant};
+
+const SOURCE: BlockId = BlockId(0);
+
+const MIDDLE: BlockId = BlockId(1);
+
+const SINK: BlockId = BlockId(2);
+
+const NOBODY: BlockId = BlockId(3);
+
+// A source, a block that adds ten, and a sink.
+fn adder(rt: &impl Abort, alloc: Global) -> StreamingPlant<Kind> {
+    let blocks = [Make::Source, Make::AddConst(10), Make::Sink];
+    streaming(rt, alloc, &blocks, &[(0, 0, 1, 0), (1, 0, 2, 0)], 4)
+}
+
+fn settled(rt: &impl Abort, alloc: Global, plant: &mut StreamingPlant<Kind>) -> Settled {
+    assert!(rt; plant.idle(), "idle");
+    match plant.settle(alloc, 3) {
+        Ok(settled) => settled,
+        Err(_) => panic!(rt; "no memory"),
+    }
+}
+
+fn drained(
+    rt: &impl Abort,
+    alloc: Global,
+    plant: &mut StreamingPlant<Kind>,
+    sink: BlockId,
+    max: u64,
+) -> Piece {
+    match plant.drain(alloc, sink, max) {
+        Ok(piece) => piece,
+        Err(_) => panic!(rt; "drained"),
+    }
+}
+
+#[test]
+fn each_call_answers(rt: HostRuntime) -> Result<(), Fail> {
+    let alloc = rt.alloc();
+    let mut plant = adder(&rt, alloc);
+    assert!(rt; plant.graph().len() == 3, "three blocks");
+    assert!(rt; matches!(plant.need(SOURCE), Ok(BlockNeed::Feed)), "to be fed");
+    assert!(rt; plant.need(NOBODY) == Err(PlantFault::NoSuchBlock), "no block");
+    let marks = [mark(&rt, 1, b'k', 7), mark(&rt, 2, b'k', -7)];
+    let fed = plant.feed(SOURCE, &bytes(&rt, alloc, &[250, 1, 2]), &marks);
+    assert!(rt; matches!(fed, Ok(total) if total.0 == 3), "three items");
+    assert!(rt; settled(&rt, alloc, &mut plant) == Settled::Quiet, "quiet");
+    // 250 and 10 are 4 in a byte.
+    let first = drained(&rt, alloc, &mut plant, SINK, 2);
+    assert!(rt; first.from == 0 && first.held == 3 && !first.done, "two of three");
+    assert!(rt; first.items == bytes(&rt, alloc, &[4, 11]), "the first two");
+    assert!(rt; first.tags.len() == 1 && first.tags[0].offset == 1, "a tag");
+    assert!(rt; plant.items_in_memory(SINK) == 1 || plant.items_in_memory(SINK) == 2, "one is kept");
+    let next = drained(&rt, alloc, &mut plant, SINK, 9);
+    assert!(rt; next.from == 2 && next.held == 3, "the third");
+    assert!(rt; next.items == bytes(&rt, alloc, &[12]), "two and ten");
+    assert!(rt; next.tags.len() == 1 && next.tags[0].value == -7, "its tag");
+    let none = drained(&rt, alloc, &mut plant, SINK, 9);
+    assert!(rt; none.from == 3 && none.items.is_empty() && none.tags.is_empty(), "no more");
+    // What is fed later goes on where it stopped.
+    let set = plant.set(MIDDLE, Some(4), Value::Number(20));
+    assert!(rt; matches!(set, Ok(at) if at.0 == 4), "set");
+    let late = plant.set(MIDDLE, Some(2), Value::Number(20));
+    assert!(rt; late.is_err(), "taken before");
+    let fed = plant.feed(SOURCE, &bytes(&rt, alloc, &[3, 4]), &[]);
+    assert!(rt; matches!(fed, Ok(total) if total.0 == 5), "five items");
+    assert!(rt; matches!(plant.close(SOURCE), Ok(total) if total.0 == 5), "closed");
+    assert!(rt; settled(&rt, alloc, &mut plant) == Settled::Done && plant.all_done(), "done");
+    let last = drained(&rt, alloc, &mut plant, SINK, 9);
+    assert!(rt; last.from == 3 && last.held == 5 && last.done, "the end");
+    assert!(rt; last.items == bytes(&rt, alloc, &[13, 24]), "the last two");
+    assert!(rt; plant.items_in_memory(SOURCE) == 0 && plant.items_in_memory(SINK) == 0, "nothing is left");
+    Ok(())
+}
+
+#[test]
+fn what_is_no_call_of_it_is_refused(rt: HostRuntime) -> Result<(), Fail> {
+    let alloc = rt.alloc();
+    let mut plant = adder(&rt, alloc);
+    let two = bytes(&rt, alloc, &[1, 2]);
+    let Ok(shorts) = Items::from_numbers(alloc, ItemType::Short, &[1]) else {
+        panic!(rt; "no items");
+    };
+    let off = [mark(&rt, 2, b'k', 0)];
+    assert!(rt; plant.feed(NOBODY, &two, &[]) == Err(PlantFault::NoSuchBlock), "no block");
+    assert!(rt; plant.feed(SINK, &two, &[]) == Err(PlantFault::NotSource), "no source");
+    assert!(rt; plant.feed(SOURCE, &shorts, &[]) == Err(PlantFault::ItemRange), "shorts");
+    assert!(rt; plant.feed(SOURCE, &two, &off) == Err(PlantFault::TagPlace), "a mark behind");
+    assert!(rt; plant.close(MIDDLE) == Err(PlantFault::NotSource), "no source to close");
+    assert!(rt; plant.close(SOURCE).is_ok(), "closed");
+    assert!(rt; plant.close(SOURCE) == Err(PlantFault::Closed), "twice");
+    assert!(rt; plant.feed(SOURCE, &two, &[]) == Err(PlantFault::Closed), "fed behind the end");
+    for (block, fault) in [(NOBODY, PlantFault::NoSuchBlock), (MIDDLE, PlantFault::NotSink)] {
+        assert!(rt; matches!(plant.drain(alloc, block, 1), Err(was) if was == fault), "not drained");
+    }
+    Ok(())
+}
+
+// A source through blocks that keep, repeat, delay and sum, into two sinks.
+const BLOCKS: [Make; 8] = [
+    Make::Source,
+    Make::MovingSum(3),
+    Make::Repeat(3),
+    Make::Keep(2),
+    Make::Sink,
+    Make::Delay(5),
+    Make::AddConst(200),
+    Make::Sink,
+];
+
+const WIRES: [Wire; 7] = [
+    (0, 0, 1, 0),
+    (1, 0, 2, 0),
+    (2, 0, 3, 0),
+    (3, 0, 4, 0),
+    (0, 0, 5, 0),
+    (5, 0, 6, 0),
+    (6, 0, 7, 0),
+];
+
+const SINKS: [BlockId; 2] = [BlockId(4), BlockId(7)];
+
+// What was drained of a sink.
+#[derive(Drop)]
+struct Drained {
+    items: Items,
+    tags: Vec<streaming::Tag>,
+}
+
+fn put(rt: &impl Abort, all: &mut Drained, piece: &Piece) {
+    assert!(rt; piece.from == all.items.len() as u64, "it goes on where it stopped");
+    assert!(rt; all.items.reserve(piece.items.len()).is_ok(), "room");
+    all.items.push_slice(&piece.items);
+    for tag in &piece.tags {
+        assert!(rt; all.tags.push(*tag).is_ok(), "room");
+    }
+}
+
+// Feeds pieces of random lengths, lets the blocks act, and drains pieces of random lengths.
+fn in_pieces(
+    rt: &impl Abort,
+    alloc: Global,
+    numbers: &[i64],
+    marks: &[Mark],
+    seed: u64,
+) -> Result<[Drained; 2], Fail> {
+    let mut plant = streaming(rt, alloc, &BLOCKS, &WIRES, 7);
+    let empty = || Drained {
+        items: Items::empty(alloc, ItemType::Byte),
+        tags: Vec::new(alloc),
+    };
+    let mut all = [empty(), empty()];
+    let (mut chance, mut fed, mut marked) = (drawn(seed), 0, 0);
+    for _ in 0..100_000 {
+        chance = drawn(chance);
+        if fed == numbers.len() && plant.all_done() {
+            break;
+        }
+        match (chance >> 33) % 4 {
+            0 => {
+                let end = numbers.len().min(fed + (chance >> 40) as usize % 40);
+                let mut last = marked;
+                while last < marks.len() && marks[last].offset < end as u64 {
+                    last += 1;
+                }
+                if fed < numbers.len() {
+                    let items = bytes(rt, alloc, &numbers[fed..end]);
+                    assert!(rt; plant.feed(SOURCE, &items, &marks[marked..last]).is_ok(), "fed");
+                    (fed, marked) = (end, last);
+                    if fed == numbers.len() {
+                        assert!(rt; plant.close(SOURCE).is_ok(), "closed");
+                    }
+                }
+            }
+            1 => {
+                let block = BlockId((chance >> 40) as u32 % 8);
+                assert!(rt; plant.step(alloc, block, 5).is_ok(), "step");
+            }
+            2 => {
+                settled(rt, alloc, &mut plant);
+            }
+            _ => {
+                let at = (chance >> 40) as usize % 2;
+                let piece = drained(rt, alloc, &mut plant, SINKS[at], (chance >> 45) % 30);
+                put(rt, &mut all[at], &piece);
+            }
+        }
+    }
+    assert!(rt; plant.all_done(), "done");
+    for (at, sink) in SINKS.iter().enumerate() {
+        let piece = drained(rt, alloc, &mut plant, *sink, 1_000_000);
+        assert!(rt; piece.done, "the whole stream");
+        put(rt, &mut all[at], &piece);
+    }
+    Ok(all)
+}
+
+#[test]
+fn pieces_of_any_lengths_are_the_whole_stream(rt: HostRuntime) -> Result<(), Fail> {
+    let alloc = rt.alloc();
+    let mut numbers = Vec::new(alloc);
+    let mut marks = Vec::new(alloc);
+    for n in 0..1_000_u64 {
+        numbers.push((drawn(n) >> 56) as i64)?;
+        if drawn(n + 7) >> 62 == 0 {
+            marks.push(mark(&rt, n, b'a' + (n % 26) as u8, n as i64))?;
+        }
+    }
+    let mut whole = plant(&rt, alloc, &BLOCKS, &WIRES, 7);
+    assert!(rt; whole.feed(SOURCE, bytes(&rt, alloc, &numbers), &marks).is_ok(), "fed");
+    assert!(rt; whole.close(SOURCE).is_ok(), "closed");
+    assert!(rt; whole.settle(alloc, 64).is_ok(), "settled");
+    for seed in 0..30 {
+        let all = in_pieces(&rt, alloc, &numbers, &marks, seed)?;
+        for (at, sink) in SINKS.iter().enumerate() {
+            let Ok(piece) = whole.read(alloc, *sink, 0, 1_000_000) else {
+                panic!(rt; "read");
+            };
+            assert!(rt; piece.done && piece.items == all[at].items, "items, seed {seed}");
+            assert!(rt; piece.tags[..] == all[at].tags[..], "tags, seed {seed}");
+        }
+    }
+    Ok(())
+}
+
+#[test]
+fn a_long_stream_stays_small(rt: HostRuntime) -> Result<(), Fail> {
+    let alloc = rt.alloc();
+    let mut plant = adder(&rt, alloc);
+    let piece = bytes(&rt, alloc, &[1; 500]);
+    for round in 0..100_u64 {
+        let marks = [mark(&rt, round * 500, b'k', 0)];
+        assert!(rt; plant.feed(SOURCE, &piece, &marks).is_ok(), "fed");
+        settled(&rt, alloc, &mut plant);
+        assert!(rt; plant.items_in_memory(SOURCE) == 0, "all was taken");
+        assert!(rt; plant.tags_in_memory(SOURCE) == 0, "and its tags");
+        let out = drained(&rt, alloc, &mut plant, SINK, 2_000);
+        assert!(rt; out.from == round * 500 && out.items.len() == 500, "five hundred");
+        assert!(rt; out.tags.len() == 1 && out.tags[0].offset == round * 500, "its tag");
+        assert!(rt; plant.items_in_memory(SINK) == 0 && plant.tags_in_memory(SINK) == 0, "all was drained");
+    }
+    // What is not drained stays, and at most as much again of what was.
+    assert!(rt; plant.feed(SOURCE, &piece, &[]).is_ok(), "fed");
+    settled(&rt, alloc, &mut plant);
+    for left in (0..500).rev() {
+        let out = drained(&rt, alloc, &mut plant, SINK, 1);
+        assert!(rt; out.items.len() == 1, "one more");
+        assert!(rt; plant.items_in_memory(SINK) <= 2 * left, "{left} are left");
+    }
+    Ok(())
+}
