@@ -1,19 +1,92 @@
-# shellcheck shell=bash disable=SC2154
-# For ./build to source: puts the program that was built, with its man page and completions, where a shell finds them, and flow-from-grc beside it.
+# shellcheck shell=bash disable=SC2154,SC2034
+# For ./build to source: puts what was built under a prefix, where shells, compilers and Python find it, and takes it away again.
 
-# install_to PREFIX: the programs in bin/ there, the files of share/ in share/, and the package of flow-from-grc in share/magbelu/
-install_to() {
-    local file
-    install -D -m 755 -- "$program" "$1/bin/flow"
-    while IFS= read -r file; do
-        install -D -m 644 -- "$top/share/$file" "$1/share/$file"
-    done < <(cd -- "$top/share" && find . -type f -printf '%P\n')
-    install -D -m 755 -- "$top/flow-from-grc" "$1/bin/flow-from-grc"
-    for file in "$top"/python/flow_from_grc/*.py; do
-        install -D -m 644 -- "$file" "$1/share/magbelu/flow_from_grc/$(basename -- "$file")"
+# The list of what was installed, under the prefix.
+installed=share/magbelu/installed
+
+# python_folder_of PREFIX: prints the folder under the prefix in which Python looks for packages, or would if it were told to look there
+python_folder_of() {
+    python3 - "$1" <<'END'
+import os, site, sys
+
+prefix = os.path.join(sys.argv[1], "")
+own = [it for it in [*site.getsitepackages(), site.getusersitepackages()] if it.startswith(prefix)]
+print(own[0][len(prefix):] if own else "lib/python%d.%d/site-packages" % sys.version_info[:2])
+END
+}
+
+# begin_list: an empty list, but for itself and the folders that are made for it
+begin_list() {
+    local folder made=()
+    mkdir -p -- "$root"
+    for folder in share share/magbelu; do
+        if [[ ! -d $root/$folder ]]; then
+            mkdir -- "$root/$folder"
+            made+=("$folder/")
+        fi
     done
-    echo "build: installed $1/bin/flow, with its man page and completions for bash and zsh" >&2
-    if [[ :$PATH: != *":$1/bin:"* ]]; then
-        echo "build: $1/bin is not in PATH" >&2
+    list=$root/$installed
+    printf '%s\n' "${made[@]}" "$installed" >"$list"
+}
+
+# put_library: the library for C with what compilers and Python need of it, where it is built from these sources
+put_library() {
+    if ! is_fresh "$c_folder/libmagbelu.a" "$c_crate"; then
+        echo "build: the library for C is not installed: ./build --c has not built it from these sources" >&2
+        return
     fi
+    if [[ -e $c_folder/libmagbelu.so ]]; then
+        put_shared
+    fi
+    put_development "$root"
+    echo "build: installed $root/$lib_folder/libmagbelu.a, with its header, as magbelu of pkg-config" >&2
+    if [[ -e $c_folder/libmagbelu.so ]] && python_folder=$(python_folder_of "$root" 2>/dev/null); then
+        put_python
+        echo "build: installed $root/$python_folder/magbelu for Python" >&2
+    fi
+}
+
+# install_to PREFIX: all that is built, in place of what an earlier call brought there
+install_to() {
+    if [[ -e $1/$installed ]]; then
+        take_away "$1"
+    fi
+    root=$1
+    begin_list
+    put_program
+    echo "build: installed $root/bin/flow, with its man page and completions for bash and zsh" >&2
+    if [[ :$PATH: != *":$root/bin:"* ]]; then
+        echo "build: $root/bin is not in PATH" >&2
+    fi
+    put_library
+}
+
+# take_away PREFIX: the files of its list, and those of its folders that nobody else has put something into. (The list itself goes last but for its folders.)
+take_away() {
+    local place places=() at
+    mapfile -t places <"$1/$installed"
+    for ((at = ${#places[@]} - 1; at >= 0; at--)); do
+        place=$1/${places[at]}
+        if [[ $place == */ ]]; then
+            rmdir -- "$place" 2>/dev/null || true
+        else
+            rm -f -- "$place"
+        fi
+        if [[ $place == *.py ]]; then
+            take_compiled "$(dirname -- "$place")/__pycache__" "$(basename -- "$place" .py)"
+        fi
+    done
+}
+
+# take_compiled FOLDER MODULE: what Python has compiled of a module that is taken away
+take_compiled() {
+    rm -f -- "$1/$2".*.pyc
+    rmdir -- "$1" 2>/dev/null || true
+}
+
+# uninstall_from PREFIX
+uninstall_from() {
+    [[ -e $1/$installed ]] || fail "$1 has no $installed: ./build --install has put nothing there"
+    take_away "$1"
+    echo "build: took away what was installed under $1" >&2
 }

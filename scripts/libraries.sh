@@ -19,6 +19,9 @@ sum_of() {
     {
         echo "$toolchain"
         echo "${line_of[$1]}"
+        if [[ $1 == "$c_crate" ]]; then
+            shared_name
+        fi
         for it in ${lower[$1]}; do
             echo "$it ${stamps[$it]}"
         done
@@ -83,17 +86,22 @@ make() {
 }
 
 # make_libraries FOLDER: of the static library in it one that needs no other archive, and where there is a C compiler a shared one, which shows only what
-# c/magbelu.h declares
+# c/magbelu.h declares, by the name of the calls' version
 make_libraries() {
+    local name
     cd -- "$1"
     # (its scripts know no quotes)
     cp -- "$kit/c/libos_c.a" "$kit/c/liblibc_c.a" .
     printf '%s\n' "create libmagbelu.a" "addlib $c_crate.a" "addlib liblibc_c.a" "addlib libos_c.a" save end | "$kit/toolchain/bin/llvm-ar" -M
     rm -- libos_c.a liblibc_c.a
     if command -v cc >/dev/null; then
+        name=$(shared_name)
         echo '{ global: magbelu_*; local: *; };' >exports
-        cc -shared -Wl,--version-script=exports -Wl,--whole-archive "$c_crate.a" -Wl,--no-whole-archive libmagbelu.a -o libmagbelu.so
+        cc -shared -Wl,-soname,"$name" -Wl,--version-script=exports -Wl,--whole-archive "$c_crate.a" -Wl,--no-whole-archive \
+            libmagbelu.a -o libmagbelu.so
         rm -- exports
+        # (by this name a program looks for it that was linked with it)
+        ln -s libmagbelu.so "$name"
     fi
 }
 

@@ -45,7 +45,10 @@ def _places():
     if "MAGBELU_LIBRARY" in os.environ:
         return [os.environ["MAGBELU_LIBRARY"]]
     here = pathlib.Path(__file__).resolve().parent
-    return [str(here / "libmagbelu.so"), str(here.parents[1] / "crates/magbelu_c/out/built/libmagbelu.so"), "libmagbelu.so"]
+    name = "libmagbelu.so.%d" % _VERSION
+    # (in a checkout, and where ./build --install puts it, which is beside Python's own folder)
+    own = ["libmagbelu.so", "../../crates/magbelu_c/out/built/libmagbelu.so", "../../../" + name]
+    return [str(here / it) for it in own] + [name]
 
 
 def _load():

@@ -123,25 +123,3 @@ crates_are_proved_side_by_side() {
     rm "$room"/bin/{nproc,meet,fails}
     calls 0 ./build_by_link
 }
-
-# The program, its man page and its completions stand where a shell looks, under a prefix or under home; other words are refused.
-install_puts_all_in_place() {
-    local file
-    begin_anew
-    calls 0 ./build_by_link --install "a prefix"
-    [[ ! -e $room/bin/proved ]] || wrong "--install proves again what was proved"
-    (cd -- "$top/share" && find . -type f) >"$room/files"
-    while IFS= read -r file; do
-        cmp -s "$top/share/$file" "$elsewhere/a prefix/share/$file" || wrong "--install does not bring $file"
-    done <"$room/files"
-    calls 0 env PATH="$room/tools" "$elsewhere/a prefix/bin/flow" by itself
-    writes output "built: by,itself"
-    if python3 -c 'import yaml' 2>/dev/null; then
-        calls 0 "$elsewhere/a prefix/bin/flow-from-grc" "$top/examples/grc/rates.grc"
-        cmp -s "$room/output" "$top/examples/grc/rates.toml" || wrong "flow-from-grc as --install brings it writes something else"
-    fi
-    calls 0 env HOME="$room/home" ./build_by_link --install
-    [[ -x $room/home/.local/bin/flow ]] || wrong "--install without a prefix brings nothing to ~/.local"
-    calls 2 ./build_by_link --fast
-    writes errors "build: its words are: [--install [PREFIX] | --c]"
-}

@@ -18,6 +18,8 @@ cases=(
     build_makes_the_library_for_c
     edit_proves_what_stands_on_it
     install_puts_all_in_place
+    install_brings_the_library_for_c
+    uninstall_takes_all_away
     crates_are_proved_side_by_side
     failed_build_leaves_no_half_program
     end_without_verdict_is_no_proof
@@ -33,7 +35,7 @@ run() {
     local it last
     # shellcheck source=tests/newcomer/tree.sh
     source "$top/tests/newcomer/tree.sh"
-    for it in runs builds library_for_c stopped_builds; do
+    for it in runs builds library_for_c installs stopped_builds; do
         # shellcheck source=tests/newcomer/runs.sh
         source "$top/tests/newcomer/$it.sh"
     done

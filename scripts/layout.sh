@@ -1,0 +1,78 @@
+# shellcheck shell=bash disable=SC2154
+# For ./build to source: where each file of an installation stands under its root, which is a prefix or the /usr of a package.
+
+# The root, the folders of libraries and of Python's packages under it, and the file that gets a line for each file and each folder that is made: a folder's
+# ends in a slash.
+root=
+lib_folder=lib
+python_folder=
+list=/dev/null
+
+# version_of_calls: prints the version of the library's calls, which is that of its soname
+version_of_calls() { sed -n 's/^#define MAGBELU_VERSION //p' "$top/c/magbelu.h"; }
+
+# version_of_all: prints the version of the program, and of all that is installed with it
+version_of_all() { sed -n 's/^const VERSION: &str = "\(.*\)";$/\1/p' "$top/crates/$program_crate/src/words.rt"; }
+
+# shared_name: prints the name of the library that programs load, by which those that were linked with it look for it
+shared_name() { echo "libmagbelu.so.$(version_of_calls)"; }
+
+# make_folder PLACE: the folder, and those above it
+make_folder() {
+    if [[ $1 != . && ! -d $root/$1 ]]; then
+        make_folder "$(dirname -- "$1")"
+        echo "$1/" >>"$list"
+        mkdir -- "$root/$1"
+    fi
+}
+
+# put MODE FILE PLACE: the file
+put() {
+    make_folder "$(dirname -- "$3")"
+    echo "$3" >>"$list"
+    install -m "$1" -- "$2" "$root/$3"
+}
+
+# put_all FOLDER PLACE: all files below the folder, but for what Python has compiled
+put_all() {
+    local file
+    while IFS= read -r file; do
+        put 644 "$1/$file" "$2/$file"
+    done < <(cd -- "$1" && find . -type f ! -name '*.pyc' -printf '%P\n' | LC_ALL=C sort)
+}
+
+# put_program: flow and flow-from-grc, with their man pages and completions
+put_program() {
+    put 755 "$program" bin/flow
+    put 755 "$top/flow-from-grc" bin/flow-from-grc
+    put_all "$top/share" share
+    put_all "$top/python/flow_from_grc" share/magbelu/flow_from_grc
+}
+
+# put_shared: the library that programs load
+put_shared() { put 644 "$c_folder/libmagbelu.so" "$lib_folder/$(shared_name)"; }
+
+# put_development PREFIX: what programs in C are compiled with, where the root will be at PREFIX
+put_development() {
+    local file name
+    name=$(shared_name)
+    for file in "$top"/c/*.h; do
+        put 644 "$file" "include/${file##*/}"
+    done
+    put 644 "$c_folder/libmagbelu.a" "$lib_folder/libmagbelu.a"
+    if [[ -e $c_folder/libmagbelu.so ]]; then
+        echo "$lib_folder/libmagbelu.so" >>"$list"
+        ln -sf -- "$name" "$root/$lib_folder/libmagbelu.so"
+    fi
+    put 644 <(write_pc "$1") "$lib_folder/pkgconfig/magbelu.pc"
+}
+
+# write_pc PREFIX: prints what pkg-config reads
+write_pc() {
+    printf '%s\n' "prefix=$1" "libdir=\${prefix}/$lib_folder" "includedir=\${prefix}/include" '' "Name: magbelu" \
+        "Description: flowgraphs of signal blocks, on the thread of the caller" "Version: $(version_of_all)" "Cflags: -I\"\${includedir}\"" \
+        "Libs: -L\"\${libdir}\" -lmagbelu"
+}
+
+# put_python: the package for Python
+put_python() { put_all "$top/python/magbelu" "$python_folder/magbelu"; }

@@ -1,0 +1,78 @@
+# shellcheck shell=bash disable=SC2154
+# For tests/parts/newcomer.sh to source: what ./build installs, and takes away again.
+
+# brings PLACE FILE: the file stands at this place under the prefix
+brings() { cmp -s "$2" "$elsewhere/a prefix/$1" || wrong "--install brings no $1"; }
+
+# Prints what stands under the prefix.
+under_prefix() { (cd -- "$elsewhere/a prefix" && find . | LC_ALL=C sort); }
+
+# The program, its man page and its completions stand where a shell looks, under a prefix or under home; other words are refused.
+install_puts_all_in_place() {
+    local file
+    begin_anew
+    calls 0 ./build_by_link --install "a prefix"
+    [[ ! -e $room/bin/proved ]] || wrong "--install proves again what was proved"
+    grep -qx "build: the library for C is not installed: ./build --c has not built it from these sources" "$room/errors" || wrong "--install says nothing of C"
+    (cd -- "$top/share" && find . -type f) >"$room/files"
+    while IFS= read -r file; do
+        brings "share/$file" "$top/share/$file"
+    done <"$room/files"
+    calls 0 env PATH="$room/tools" "$elsewhere/a prefix/bin/flow" by itself
+    writes output "built: by,itself"
+    if python3 -c 'import yaml' 2>/dev/null; then
+        calls 0 "$elsewhere/a prefix/bin/flow-from-grc" "$top/examples/grc/rates.grc"
+        cmp -s "$room/output" "$top/examples/grc/rates.toml" || wrong "flow-from-grc as --install brings it writes something else"
+    fi
+    calls 0 env HOME="$room/home" ./build_by_link --install
+    [[ -x $room/home/.local/bin/flow ]] || wrong "--install without a prefix brings nothing to ~/.local"
+    calls 2 ./build_by_link --fast
+    writes errors "build: its words are: [--install [PREFIX] | --uninstall [PREFIX] | --c]"
+}
+
+# Over what was installed without it. (What is built for C here is no library, so that nothing is linked or loaded.)
+install_brings_the_library_for_c() {
+    local built=$tree${c_folder#"$top"} lib="$elsewhere/a prefix/lib" name
+    name=libmagbelu.so.$(sed -n 's/^#define MAGBELU_VERSION //p' "$top/c/magbelu.h")
+    calls 0 ./build_by_link --c
+    calls 0 ./build_by_link --install "a prefix"
+    brings bin/flow "$tree${program#"$top"}"
+    brings include/magbelu.h "$top/c/magbelu.h"
+    brings lib/libmagbelu.a "$built/libmagbelu.a"
+    brings "lib/$name" "$built/libmagbelu.so"
+    [[ $(readlink "$lib/libmagbelu.so") == "$name" ]] || wrong "libmagbelu.so is no link to $name"
+    [[ $(readlink "$built/$name") == libmagbelu.so ]] || wrong "in the checkout there is no $name"
+    if command -v pkg-config >/dev/null; then
+        calls 0 env PKG_CONFIG_PATH="$lib/pkgconfig" pkg-config --cflags --libs magbelu
+        # (a shell that reads this has two words)
+        eval "set -- $(<"$room/output")"
+        [[ $# == 3 && $1 == "-I$elsewhere/a prefix/include" && $2 == "-L$lib" && $3 == -lmagbelu ]] || wrong "pkg-config gives other words"
+        calls 0 env PKG_CONFIG_PATH="$lib/pkgconfig" pkg-config --modversion magbelu
+        writes output "$(sed -n 's/^.TH FLOW 1 "" "flow \(.*\)" .*/\1/p' "$top/share/man/man1/flow.1")"
+    fi
+    if command -v python3 >/dev/null; then
+        is_found_by_python
+    fi
+}
+
+# The package for Python looks for the library of its own prefix, where it lies in no folder of its own.
+is_found_by_python() {
+    local package
+    package=$(cd -- "$elsewhere" && find "a prefix/lib" -path '*/magbelu/__init__.py')
+    calls 0 env PYTHONPATH="$elsewhere/${package%/magbelu/__init__.py}" python3 -c '
+import os, magbelu, magbelu._library as it
+print(magbelu.__file__)
+print(os.path.realpath(next(filter(os.path.exists, it._places()))))'
+    writes output "$elsewhere/$package" "$lib/$name"
+}
+
+# What others have put there stays. It needs no rt, and tells where nothing was installed.
+uninstall_takes_all_away() {
+    touch "$elsewhere/a prefix/bin/other"
+    calls 0 env PATH="$room/tools:/usr/bin:/bin" ./build_by_link --uninstall "a prefix"
+    cmp -s <(under_prefix) <(printf '%s\n' . ./bin ./bin/other) || wrong "--uninstall leaves $(under_prefix | paste -sd ' ')"
+    calls 1 ./build_by_link --uninstall "a prefix"
+    writes errors "build: $elsewhere/a prefix has no share/magbelu/installed: ./build --install has put nothing there"
+    calls 0 env HOME="$room/home" ./build_by_link --uninstall
+    [[ -z $(find "$room/home/.local" -mindepth 1) ]] || wrong "--uninstall without a prefix takes nothing away from ~/.local"
+}
