@@ -1,5 +1,5 @@
 /*
- * Magbelu from C99 and C++: flowgraphs of signal blocks, on the thread of the caller.
+ * Magbelu from C99 and C++ (magbelu.hpp has classes over it): flowgraphs of signal blocks, on the thread of the caller.
  *
  * A graph file, a script and raw items go in as bytes, and texts and items come out into buffers of the caller. What a call allocates it frees before it
  * returns, but for a plant that the caller holds from `magbelu_open` to `magbelu_free`. docs/C.md says how to build and link, and docs/FORMATS.md what stands in

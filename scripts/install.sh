@@ -39,7 +39,7 @@ put_library() {
         put_shared
     fi
     put_development "$root"
-    echo "build: installed $root/$lib_folder/libmagbelu.a, with its header, as magbelu of pkg-config" >&2
+    echo "build: installed $root/$lib_folder/libmagbelu.a, with its headers, as magbelu of pkg-config" >&2
     if [[ -e $c_folder/libmagbelu.so ]] && python_folder=$(python_folder_of "$root" 2>/dev/null); then
         put_python
         echo "build: installed $root/$python_folder/magbelu for Python" >&2

@@ -56,7 +56,7 @@ put_shared() { put 644 "$c_folder/libmagbelu.so" "$lib_folder/$(shared_name)"; }
 put_development() {
     local file name
     name=$(shared_name)
-    for file in "$top"/c/*.h; do
+    for file in "$top"/c/magbelu.h*; do
         put 644 "$file" "include/${file##*/}"
     done
     put 644 "$c_folder/libmagbelu.a" "$lib_folder/libmagbelu.a"

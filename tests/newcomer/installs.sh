@@ -38,6 +38,7 @@ install_brings_the_library_for_c() {
     calls 0 ./build_by_link --install "a prefix"
     brings bin/flow "$tree${program#"$top"}"
     brings include/magbelu.h "$top/c/magbelu.h"
+    brings include/magbelu.hpp "$top/c/magbelu.hpp"
     brings lib/libmagbelu.a "$built/libmagbelu.a"
     brings "lib/$name" "$built/libmagbelu.so"
     [[ $(readlink "$lib/libmagbelu.so") == "$name" ]] || wrong "libmagbelu.so is no link to $name"

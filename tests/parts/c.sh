@@ -1,10 +1,15 @@
 #!/usr/bin/env bash
 # The library for C, where ./build --c has built it from these sources: c/magbelu.h compiles as C99 and as C++, and over each example and graph file of tests/ the
-# calls from C, with the sanitizers, and from Python give what is expected, and where ./flow is built what it gives. Elsewhere it only compiles the header, and tries
-# what python/magbelu makes of its arguments.
+# calls from C and C++, with the sanitizers, and from Python give what is expected, and where ./flow is built what it gives. Elsewhere it only compiles the headers,
+# and tries what c/magbelu.hpp and python/magbelu make of their arguments.
 set -euo pipefail
 # shellcheck source=tests/part.sh
 source "$(dirname -- "$(readlink -f -- "${BASH_SOURCE[0]}")")/../part.sh"
+
+# The program that makes the calls of a case.
+calls=$room/calls
+warnings=(-pedantic -Wall -Wextra -Werror)
+sanitizers=(-g "-fsanitize=address,undefined" -fno-sanitize-recover=undefined)
 
 # wrong SAYING: ends the case
 wrong() {
@@ -15,18 +20,18 @@ wrong() {
 # compiles_header: as C99 and as C++, with all warnings
 compiles_header() {
     printf '#include "magbelu.h"\nint main(void) { return (int)magbelu_version() - MAGBELU_VERSION; }\n' >"$room/header.c"
-    cc -std=c99 -pedantic -Wall -Wextra -Werror -I"$top/c" -c "$room/header.c" -o "$room/header.o"
+    cc -std=c99 "${warnings[@]}" -I"$top/c" -c "$room/header.c" -o "$room/header.o"
     if command -v c++ >/dev/null; then
-        c++ -x c++ -std=c++11 -pedantic -Wall -Wextra -Werror -I"$top/c" -c "$room/header.c" -o "$room/header.o"
+        c++ -x c++ -std=c++11 "${warnings[@]}" -I"$top/c" -c "$room/header.c" -o "$room/header.o"
     fi
 }
 
-# calls STATUS WORD..: the program in C ends so
+# calls STATUS WORD..: the program that makes the calls ends so
 calls() {
     local wanted=$1 status=0
     shift
-    "$room/calls" "$@" >"$room/output" 2>"$room/errors" || status=$?
-    [[ $status == "$wanted" ]] || wrong "calls $*: status $status in place of $wanted: $(head -n 5 "$room/errors")"
+    "$calls" "$@" >"$room/output" 2>"$room/errors" || status=$?
+    [[ $status == "$wanted" ]] || wrong "${calls##*/} $*: status $status in place of $wanted: $(head -n 5 "$room/errors")"
 }
 
 # as_flow WORD..: the call just made wrote what ./flow writes with these words, where that is built, but for the lines that explain a stall
@@ -62,7 +67,7 @@ example() {
 graph() {
     local status=0
     for call in check run; do
-        "$room/calls" "$call" "$1" >"$room/output" 2>"$room/errors" || status=$?
+        "$calls" "$call" "$1" >"$room/output" 2>"$room/errors" || status=$?
         ((status < 5)) || wrong "$call $1: $(head -n 5 "$room/errors")"
         if [[ $call == run ]]; then
             as_flow run --one-thread "$1"
@@ -91,13 +96,9 @@ END
     printf '@1:mark=7/0\n@3:mark=7/0\n' | cmp -s - "$room/got" || wrong "the tags of examples/echo"
 }
 
-# tells_calls: the calls from C, over the examples, the graph files and raw items
-tells_calls() {
+# files: the calls over the examples and the graph files
+files() {
     local it
-    cc -std=c99 -pedantic -Wall -Wextra -Werror -g -fsanitize=address,undefined -fno-sanitize-recover=undefined -pthread -I"$top/c" "$top/tests/c/calls.c" \
-        "$c_folder/libmagbelu.a" -o "$room/calls"
-    calls 0 wrong
-    calls 0 held
     for it in "$top"/examples/*/; do
         if [[ -e ${it}graph.toml ]]; then
             example "${it%/}"
@@ -106,7 +107,33 @@ tells_calls() {
     for it in "$top"/tests/graphs/*.toml; do
         graph "$it"
     done
+}
+
+# tells_calls: the calls from C
+tells_calls() {
+    cc -std=c99 "${warnings[@]}" "${sanitizers[@]}" -pthread -I"$top/c" "$top/tests/c/calls.c" "$c_folder/libmagbelu.a" -o "$calls"
+    calls 0 wrong
+    calls 0 held
+    files
     raw_items
+}
+
+# compile_plus PROGRAM FILE..: the program of these files in C++
+compile_plus() { c++ -std=c++17 "${warnings[@]}" "${sanitizers[@]}" -I"$top/c" "${@:2}" -o "$1"; }
+
+# tells_plus_alone: what c/magbelu.hpp makes of its arguments and of answers
+tells_plus_alone() {
+    compile_plus "$room/held_alone" "$top"/tests/c/{held,stand_in}.cpp
+    "$room/held_alone"
+}
+
+# tells_plus: the calls from C++
+tells_plus() {
+    compile_plus "$room/held" "$top/tests/c/held.cpp" "$c_folder/libmagbelu.a"
+    "$room/held"
+    calls=$room/texts
+    compile_plus "$calls" "$top/tests/c/texts.cpp" "$c_folder/libmagbelu.a"
+    files
 }
 
 # python_tests FILE: the tests of python/magbelu that stand in this file
@@ -124,6 +151,10 @@ list() {
         echo c/header
         echo c/calls
         echo c/python
+    fi
+    if command -v c++ >/dev/null; then
+        echo c/plus_alone
+        echo c/plus
     fi
 }
 
@@ -145,20 +176,25 @@ try() {
     fi
 }
 
+# try_over LIBRARY CASE FUNCTION: the same over a library, where it is built
+try_over() {
+    if is_fresh "$c_folder/$1" "$c_crate"; then
+        try "${@:2}"
+    elif is_wanted "$2"; then
+        left_out "$2" <<<"./build --c has not built $1 from these sources"
+    fi
+}
+
 run() {
-    local why="./build --c has not built the library from these sources"
     try c/arguments tells_arguments
     try c/header compiles_header
-    if is_fresh "$c_folder/libmagbelu.a" "$c_crate"; then
-        try c/calls tells_calls
-        why="there is no python3, or no libmagbelu.so"
-    elif is_wanted c/calls; then
-        left_out c/calls <<<"$why"
-    fi
-    if is_fresh "$c_folder/libmagbelu.so" "$c_crate" && command -v python3 >/dev/null; then
-        try c/python tells_python
+    try c/plus_alone tells_plus_alone
+    try_over libmagbelu.a c/calls tells_calls
+    try_over libmagbelu.a c/plus tells_plus
+    if command -v python3 >/dev/null; then
+        try_over libmagbelu.so c/python tells_python
     elif is_wanted c/python; then
-        left_out c/python <<<"$why"
+        left_out c/python <<<"there is no python3"
     fi
 }
 

@@ -1,0 +1,319 @@
+/*
+ * Magbelu from C++17: a graph that frees itself, and exceptions, over the calls of magbelu.h, which says what each of them does. docs/C.md says how to build
+ * and link. The kernels, and runs between raw items, are those of magbelu.h.
+ */
+#ifndef MAGBELU_HPP
+#define MAGBELU_HPP
+
+#include <algorithm>
+#include <cstddef>
+#include <cstdint>
+#include <cstdlib>
+#include <initializer_list>
+#include <iterator>
+#include <stdexcept>
+#include <string>
+#include <string_view>
+#include <type_traits>
+#include <utility>
+#include <vector>
+
+#include "magbelu.h"
+
+namespace magbelu {
+
+/*
+ * A call was not done. The text is the number and the name of the refusal, as docs/FORMATS.md lists them, and what it concerns; where a graph file is refused,
+ * lines that show the place in it follow. `output` is what a script wrote before.
+ */
+class error : public std::runtime_error {
+public:
+    error(std::uint32_t number, const std::string &text, std::string output = {}) : std::runtime_error(text), number_(number), output_(std::move(output)) {}
+
+    std::uint32_t number() const noexcept { return number_; }
+
+    const std::string &output() const noexcept { return output_; }
+
+private:
+    std::uint32_t number_;
+    std::string output_;
+};
+
+/* The graph file, a feed, a setting, a line or a name is refused, and nothing changed. */
+class refused : public error {
+    using error::error;
+};
+
+/* Memory ran out in the library. */
+class out_of_memory : public error {
+    using error::error;
+};
+
+/* What `run` tells: the items and tags of each sink as text, and whether all blocks came to be done. */
+struct report {
+    std::string text;
+    bool is_done;
+};
+
+/* A tag to feed: the place of its item on the tape, its key, its value. */
+struct mark {
+    std::uint64_t offset;
+    std::string key;
+    std::int64_t value;
+};
+
+/* A tag that a sink took, with the number of the source block that was fed with it. */
+struct tag {
+    std::uint64_t offset;
+    std::string key;
+    std::int64_t value;
+    std::uint32_t source;
+};
+
+/* What a sink holds from some item on, and how many items it holds in all. */
+template <class Item>
+struct piece {
+    std::vector<Item> items;
+    std::vector<tag> tags;
+    std::uint64_t held;
+};
+
+/* (not for callers) */
+namespace detail {
+
+/* The names of refusals that come without a line. */
+inline const char *name_of(std::uint32_t number) {
+    static constexpr std::pair<std::uint32_t, const char *> names[] = {
+        {20, "NoSuchBlock"}, {21, "NotSource"}, {22, "NotSink"},   {23, "Closed"},    {24, "ItemRange"}, {25, "TagPlace"}, {26, "TapeFull"},
+        {27, "Late"},        {28, "NoSetting"}, {29, "WrongSetting"}, {31, "BeyondEnd"}, {32, "Memory"},    {53, "CutItem"},  {54, "Null"},
+        {55, "NotOpen"},     {56, "IsOpen"},    {58, "BadKey"},
+    };
+    for (const auto &it : names) {
+        if (it.first == number) {
+            return it.second;
+        }
+    }
+    return "";
+}
+
+[[noreturn]] inline void fail(std::uint32_t status, std::uint32_t number, const std::string &text, std::string output = {}) {
+    if (status == 4) {
+        throw out_of_memory(number, text, std::move(output));
+    }
+    throw refused(number, text, std::move(output));
+}
+
+/* The answer of a call of a plant, which is refused for the block of this name. */
+template <class Reply>
+const Reply &tested(const Reply &reply, std::string_view block) {
+    if (reply.number != 0) {
+        fail(reply.status, reply.number, std::to_string(reply.number) + " " + name_of(reply.number) + " " + std::string(block));
+    }
+    return reply;
+}
+
+/* Makes a call with more room until its output and its line fit, and cuts them to their lengths. */
+template <class Call>
+magbelu_answer with_room(Call call, std::string &output, std::string &line) {
+    output.resize(4096);
+    line.resize(256);
+    for (;;) {
+        const magbelu_answer answer = call(output, line);
+        const bool fits = answer.output_len <= output.size() && answer.error_len <= line.size();
+        output.resize(fits ? answer.output_len : std::max(output.size(), answer.output_len));
+        line.resize(fits ? answer.error_len : std::max(line.size(), answer.error_len));
+        if (fits) {
+            return answer;
+        }
+    }
+}
+
+/* What is said of a refusal of the file of this path: its line from the number on, and its place in the file. */
+inline std::string text_of(std::string line, std::string_view file, std::string_view path) {
+    static constexpr std::string_view before = " refused ";
+    const auto at = line.find(before);
+    std::string place, own;
+    with_room(
+        [&](std::string &output, std::string &room) {
+            return magbelu_explain(path.data(), path.size(), file.data(), file.size(), output.data(), output.size(), room.data(), room.size());
+        },
+        place, own);
+    line = (at == std::string::npos ? line : line.substr(at + before.size())) + place;
+    return line.substr(0, line.find_last_not_of('\n') + 1);
+}
+
+/* The output of a call that a file goes into, which writes a line where it is refused. */
+template <class Call>
+report texts(Call call, std::string_view file) {
+    std::string output, line;
+    const magbelu_answer answer = with_room(call, output, line);
+    if (answer.number != 0) {
+        fail(answer.status, answer.number, text_of(std::move(line), file, "<graph>"), std::move(output));
+    }
+    return {std::move(output), answer.status == 0};
+}
+
+/* The tags of lines `@OFFSET:KEY=VALUE/SOURCE`. */
+inline std::vector<tag> tags_of(const std::string &lines) {
+    std::vector<tag> tags;
+    for (std::size_t at = 0, next; at < lines.size(); at = next + 1) {
+        next = std::min(lines.find('\n', at), lines.size());
+        const std::size_t key = lines.find(':', at) + 1, value = lines.find('=', key) + 1, source = lines.find('/', value) + 1;
+        tags.push_back({std::strtoull(&lines[at + 1], nullptr, 10), lines.substr(key, value - key - 1), std::strtoll(&lines[value], nullptr, 10),
+                        static_cast<std::uint32_t>(std::strtoul(&lines[source], nullptr, 10))});
+    }
+    return tags;
+}
+
+template <class Item>
+inline constexpr bool is_item = std::is_same_v<Item, std::uint8_t> || std::is_same_v<Item, std::int16_t> || std::is_same_v<Item, std::int32_t>;
+
+inline void same_size(std::size_t wanted, std::size_t size, std::string_view block) {
+    if (wanted != size) {
+        throw std::invalid_argument("the items of " + std::string(block) + " have " + std::to_string(wanted) + " bytes, and not " + std::to_string(size));
+    }
+}
+
+} // namespace detail
+
+/* Reports the graph of a graph file's text, as `flow check` does. */
+inline std::string check(std::string_view file) {
+    return detail::texts(
+               [&](std::string &output, std::string &line) {
+                   return magbelu_check(file.data(), file.size(), output.data(), output.size(), line.data(), line.size());
+               },
+               file)
+        .text;
+}
+
+/* Runs it on this thread to its end, as `flow run --one-thread` does. */
+inline report run(std::string_view file) {
+    return detail::texts(
+        [&](std::string &output, std::string &line) {
+            return magbelu_run(file.data(), file.size(), output.data(), output.size(), line.data(), line.size());
+        },
+        file);
+}
+
+/* Makes the calls of a script's lines, as `flow script` does, and gives the replies. */
+inline std::string script(std::string_view file, std::string_view lines) {
+    return detail::texts(
+               [&](std::string &output, std::string &line) {
+                   return magbelu_script(file.data(), file.size(), lines.data(), lines.size(), output.data(), output.size(), line.data(), line.size());
+               },
+               file)
+        .text;
+}
+
+/*
+ * A graph with its tapes, its buffers and how far it is. It may be moved, and not copied; it stays on the thread that opened it. Items are `std::uint8_t`,
+ * `std::int16_t` or `std::int32_t`, as the source or the sink has them: those of another size are a `std::invalid_argument`.
+ */
+class graph {
+public:
+    /* The graph of a graph file's text, which is called `path` where it is refused. */
+    explicit graph(std::string_view file, std::string_view path = "<graph>") {
+        std::string output, line;
+        const magbelu_answer answer = detail::with_room(
+            [&](std::string &, std::string &room) { return magbelu_open(&plant_, file.data(), file.size(), room.data(), room.size()); }, output, line);
+        if (answer.number != 0) {
+            detail::fail(answer.status, answer.number, detail::text_of(std::move(line), file, path));
+        }
+    }
+
+    graph(graph &&other) noexcept : plant_(std::exchange(other.plant_, magbelu_plant MAGBELU_NO_PLANT)) {}
+
+    graph &operator=(graph &&other) noexcept {
+        std::swap(plant_, other.plant_);
+        return *this;
+    }
+
+    ~graph() { magbelu_free(&plant_); }
+
+    /* Appends items to a source's tape, with tags on them, and gives how many the tape has then. */
+    template <class Item>
+    std::uint64_t feed(std::string_view source, const Item *items, std::size_t count, const std::vector<mark> &marks = {}) {
+        static_assert(detail::is_item<Item>, "items are std::uint8_t, std::int16_t or std::int32_t");
+        detail::same_size(item_size(source), sizeof(Item), source);
+        const auto tags = tags_of(marks);
+        return reply(magbelu_feed(&plant_, source.data(), source.size(), 0, items, count * sizeof(Item), tags.data(), tags.size()), source);
+    }
+
+    /* The same of a container that has its items one behind the other: a vector, an array. */
+    template <class Items>
+    auto feed(std::string_view source, const Items &items, const std::vector<mark> &marks = {}) -> decltype(std::data(items), std::uint64_t()) {
+        return feed(source, std::data(items), std::size(items), marks);
+    }
+
+    /* The same of numbers, each of which has to be an item of the source. */
+    std::uint64_t feed(std::string_view source, std::initializer_list<std::int64_t> numbers, const std::vector<mark> &marks = {}) {
+        const auto tags = tags_of(marks);
+        return reply(magbelu_feed_numbers(&plant_, source.data(), source.size(), numbers.begin(), numbers.size(), tags.data(), tags.size()), source);
+    }
+
+    /* Closes a source's tape, and gives how many items it has. */
+    std::uint64_t close(std::string_view source) { return reply(magbelu_close(&plant_, source.data(), source.size()), source); }
+
+    /* Sets a block's number, from this item of its first input on or from the first that it has not taken, and gives that item. */
+    std::uint64_t set(std::string_view block, std::int64_t number, std::uint64_t at = MAGBELU_NOW) {
+        return reply(magbelu_set(&plant_, block.data(), block.size(), at, number), block);
+    }
+
+    /* The same of a filter's taps. */
+    std::uint64_t set(std::string_view block, const std::vector<std::int16_t> &taps, std::uint64_t at = MAGBELU_NOW) {
+        return reply(magbelu_set_taps(&plant_, block.data(), block.size(), at, taps.data(), taps.size()), block);
+    }
+
+    /* Does at most `max` firings of a block, and gives how many were done. */
+    std::uint64_t step(std::string_view block, std::uint32_t max = UINT32_MAX) {
+        const auto got = detail::tested(magbelu_step(&plant_, block.data(), block.size(), max), block);
+        return got.what == MAGBELU_DID ? got.value : 0;
+    }
+
+    /* Runs the graph until it comes to rest, and gives whether all blocks are done, for which all sources have to be closed. */
+    bool settle() { return detail::tested(magbelu_settle(&plant_), "").status == 0; }
+
+    /* How many bytes an item of a source has. */
+    std::size_t item_size(std::string_view source) { return static_cast<std::size_t>(reply(magbelu_item_size(&plant_, source.data(), source.size()), source)); }
+
+    /* What a sink holds from item `from` on, at most `max` items. */
+    template <class Item>
+    piece<Item> read(std::string_view sink, std::uint64_t from = 0, std::uint64_t max = UINT64_MAX) {
+        static_assert(detail::is_item<Item>, "items are std::uint8_t, std::int16_t or std::int32_t");
+        const magbelu_piece all = read_into(sink, from, 0, nullptr, 0, nullptr, 0);
+        detail::same_size(all.item_size, sizeof(Item), sink);
+        piece<Item> got{std::vector<Item>(static_cast<std::size_t>(std::min(max, all.held - from))), {}, all.held};
+        const std::size_t len = got.items.size() * sizeof(Item);
+        std::string lines(1024, '\0');
+        magbelu_piece shown = read_into(sink, from, got.items.size(), got.items.data(), len, lines.data(), lines.size());
+        if (shown.tags_len > lines.size()) {
+            lines.resize(shown.tags_len);
+            shown = read_into(sink, from, got.items.size(), got.items.data(), len, lines.data(), lines.size());
+        }
+        lines.resize(shown.tags_len);
+        got.tags = detail::tags_of(lines);
+        return got;
+    }
+
+private:
+    magbelu_plant plant_ = MAGBELU_NO_PLANT;
+
+    static std::uint64_t reply(const magbelu_reply &got, std::string_view block) { return detail::tested(got, block).value; }
+
+    /* (a tag has the place of its mark's key) */
+    static std::vector<magbelu_tag> tags_of(const std::vector<mark> &marks) {
+        std::vector<magbelu_tag> tags;
+        for (const mark &it : marks) {
+            tags.push_back({it.offset, it.value, reinterpret_cast<const std::uint8_t *>(it.key.data()), it.key.size()});
+        }
+        return tags;
+    }
+
+    magbelu_piece read_into(std::string_view sink, std::uint64_t from, std::uint64_t max, void *bytes, std::size_t bytes_room, char *tags, std::size_t tags_room) {
+        return detail::tested(magbelu_read(&plant_, sink.data(), sink.size(), from, max, 0, bytes, bytes_room, tags, tags_room), sink);
+    }
+};
+
+} // namespace magbelu
+
+#endif

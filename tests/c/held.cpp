@@ -1,0 +1,138 @@
+/*
+ * Graphs of c/magbelu.hpp that are held: right calls and wrong ones, over the library, or over tests/c/stand_in.cpp, which has the one graph of these.
+ */
+#include <array>
+#include <cstdlib>
+#include <functional>
+#include <iostream>
+
+#include "magbelu.hpp"
+
+using numbers = std::vector<std::int64_t>;
+
+static void must(bool holds, const std::string &saying) {
+    if (!holds) {
+        std::cerr << "held: " << saying << '\n';
+        std::exit(99);
+    }
+}
+
+/* A source, a block that adds ten, and a sink. */
+static magbelu::graph chain(const std::string &type) {
+    const std::string own = "type = \"" + type + "\"";
+    return magbelu::graph("block = [{ name = \"src\", kind = \"vector_source\", " + own + " }, { name = \"add\", kind = \"add_const\", " + own +
+                          ", value = 10 },\n    { name = \"out\", kind = \"vector_sink\", " + own +
+                          " }]\nconnect = [{ from = \"src\", to = \"add\" }, { from = \"add\", to = \"out\" }]\n");
+}
+
+template <class Item>
+static numbers items_of(magbelu::graph &graph, std::uint64_t from = 0, std::uint64_t max = UINT64_MAX) {
+    const auto items = graph.read<Item>("out", from, max).items;
+    return numbers(items.begin(), items.end());
+}
+
+static void refuses(std::uint32_t number, const std::string &text, const std::function<void()> &call) {
+    try {
+        call();
+    } catch (const magbelu::refused &error) {
+        must(error.number() == number && error.what() == text, "wanted '" + text + "', and it is '" + error.what() + "'");
+        return;
+    }
+    must(false, "not refused: " + text);
+}
+
+template <class Error>
+static void throws(const std::function<void()> &call) {
+    try {
+        call();
+    } catch (const Error &) {
+        return;
+    }
+    must(false, "nothing is thrown");
+}
+
+static void items_come_out() {
+    auto bytes = chain("byte");
+    must(bytes.feed("src", {250, 1}) == 2, "the length of a tape");
+    must(!bytes.settle(), "an open source is done");
+    must(bytes.feed("src", std::vector<std::uint8_t>{2, 3}) == 4, "the length of a tape");
+    must(bytes.close("src") == 4, "the length of a closed tape");
+    must(bytes.settle(), "a closed source is not done");
+    must(items_of<std::uint8_t>(bytes) == numbers{4, 11, 12, 13}, "bytes");
+    must(items_of<std::uint8_t>(bytes, 1, 2) == numbers{11, 12}, "a part of them");
+    must(bytes.read<std::uint8_t>("out", 4).items.empty() && bytes.read<std::uint8_t>("out", 4).held == 4, "the end");
+    auto shorts = chain("short");
+    shorts.feed("src", std::array<std::int16_t, 3>{-32768, 32767, -11});
+    shorts.settle();
+    must(items_of<std::int16_t>(shorts) == numbers{-32758, -32759, -1}, "shorts");
+    auto ints = chain("int");
+    const std::int32_t fed[] = {2147483647, -10};
+    ints.feed("src", fed);
+    ints.feed("src", fed, 1);
+    ints.settle();
+    must(items_of<std::int32_t>(ints) == numbers{-2147483639, 0, -2147483639}, "ints");
+}
+
+static void settings_and_tags_come_out() {
+    auto graph = chain("byte");
+    graph.feed("src", {250, 1, 2, 3}, {{3, "burst", -7}, {0, "a", INT64_MIN}});
+    must(graph.set("add", 100, 2) == 2, "the place of a setting");
+    must(graph.step("src", 3) == 3 && graph.step("add", 1) == 1 && graph.step("out") == 1 && graph.step("out") == 0, "counts of firings");
+    graph.settle();
+    must(items_of<std::uint8_t>(graph) == numbers{4, 11, 102, 103}, "a setting in the midst");
+    const auto tags = graph.read<std::uint8_t>("out").tags;
+    must(tags.size() == 2 && tags[0].offset == 0 && tags[0].key == "a" && tags[0].value == INT64_MIN, "the first tag");
+    must(tags[1].offset == 3 && tags[1].key == "burst" && tags[1].value == -7 && tags[1].source == 0, "the second tag");
+    must(graph.read<std::uint8_t>("out", 1, 2).tags.empty(), "tags of items that are not shown");
+    must(graph.set("add", 0) == 4, "the place of a setting that is in force at once");
+    // More tags than a first room takes.
+    std::vector<magbelu::mark> many(1000, {4, "k", 1});
+    graph.feed("src", {5}, many);
+    graph.settle();
+    must(graph.read<std::uint8_t>("out", 4).tags.size() == 1000 && items_of<std::uint8_t>(graph, 4) == numbers{5}, "many tags");
+}
+
+static void wrong_calls_are_refused() {
+    auto graph = chain("byte");
+    refuses(20, "20 NoSuchBlock none", [&] { graph.feed("none", {1}); });
+    refuses(21, "21 NotSource out", [&] { graph.close("out"); });
+    refuses(22, "22 NotSink add", [&] { graph.read<std::uint8_t>("add"); });
+    refuses(24, "24 ItemRange src", [&] { graph.feed("src", {256}); });
+    refuses(25, "25 TagPlace src", [&] { graph.feed("src", {1}, {{1, "a", 1}}); });
+    refuses(29, "29 WrongSetting add", [&] { graph.set("add", std::vector<std::int16_t>{1}); });
+    refuses(31, "31 BeyondEnd out", [&] { graph.read<std::uint8_t>("out", 1); });
+    refuses(58, "58 BadKey src", [&] { graph.feed("src", {1}, {{0, "a b", 1}}); });
+    throws<std::invalid_argument>([&] { graph.feed("src", std::vector<std::int16_t>{1}); });
+    throws<std::invalid_argument>([&] { graph.read<std::int32_t>("out"); });
+    graph.settle();
+    must(items_of<std::uint8_t>(graph).empty(), "a refused call changes something");
+    graph.close("src");
+    refuses(23, "23 Closed src", [&] { graph.close("src"); });
+}
+
+static void places_of_faults_are_shown() {
+    const std::string before = "42 MissingKey block 0 name\n --> ", behind = ":1:1\n  |\n1 | [[block]]\n  | ^ a block needs the key `name`: a text";
+    refuses(42, before + "<graph>" + behind, [] { magbelu::graph("[[block]]"); });
+    // A path so long that a first room does not take the place.
+    const std::string path(10000, 'p');
+    refuses(42, before + path + behind, [&] { magbelu::graph("[[block]]", path); });
+}
+
+static void graphs_are_moved_and_freed() {
+    auto first = chain("byte");
+    first.feed("src", {1});
+    auto second = std::move(first);
+    must(second.feed("src", {2}) == 2, "a graph that was moved");
+    refuses(55, "55 NotOpen src", [&] { first.feed("src", {1}); });
+    first = chain("short");
+    second = std::move(first);
+    must(second.item_size("src") == 2, "a graph that another was moved to");
+}
+
+int main() {
+    items_come_out();
+    settings_and_tags_come_out();
+    wrong_calls_are_refused();
+    places_of_faults_are_shown();
+    graphs_are_moved_and_freed();
+}
