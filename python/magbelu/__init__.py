@@ -1,10 +1,23 @@
 """Magbelu flowgraphs from Python: this folder and the library libmagbelu.so, which `./build --c` makes. docs/C.md says where it is looked for.
 
-    graph = magbelu.Graph.from_file("graph.toml")
-    graph.feed("src", [250, 1, 2, 3])
-    graph.set("add", 100, at=2)
-    graph.settle()
-    items, tags = graph.read("out")
+    >>> import magbelu
+    >>> print(magbelu.EXAMPLE)
+    block = [
+        { name = "src", kind = "vector_source", type = "byte" },
+        { name = "add", kind = "add_const", type = "byte", value = 10 },
+        { name = "out", kind = "vector_sink", type = "byte" },
+    ]
+    connect = [{ from = "src", to = "add" }, { from = "add", to = "out" }]
+    >>> graph = magbelu.Graph(magbelu.EXAMPLE)
+    >>> graph.feed("src", [250, 1, 2, 3])
+    4
+    >>> graph.set("add", 100, at=2)
+    2
+    >>> graph.settle()
+    False
+    >>> items, tags = graph.read("out")
+    >>> items.tolist()
+    [4, 11, 102, 103]
 
 A graph is a plant that the library holds until the object goes, or `free` is called: it is fed, set, run and read any number of times, and what was read stays
 readable. Calls release the interpreter's lock, so threads may run graphs side by side, each of its own; one graph does one call at a time. Items are `array.array`s, or arrays of
@@ -14,8 +27,19 @@ Items, tags, settings, places and counts are integers: `int`, those of numpy, an
 or wrapped: what is no integer is a `TypeError`, what no call could mean a `ValueError`, and what the library refuses a `Refused` with its number.
 """
 
+from typing import Final
+
 from ._errors import Error, OutOfMemory, Refused
-from ._graph import Graph, Tag
+from ._graph import Array, Graph, Items, Tag
 from ._runs import check, run, run_items, script, version
 
-__all__ = ["Error", "Refused", "OutOfMemory", "Tag", "Graph", "check", "run", "script", "run_items", "version"]
+__all__ = ["EXAMPLE", "Array", "Error", "Graph", "Items", "OutOfMemory", "Refused", "Tag", "check", "run", "run_items", "script", "version"]
+
+#: A graph file for examples: ten is added to each byte.
+EXAMPLE: Final = """\
+block = [
+    { name = "src", kind = "vector_source", type = "byte" },
+    { name = "add", kind = "add_const", type = "byte", value = 10 },
+    { name = "out", kind = "vector_sink", type = "byte" },
+]
+connect = [{ from = "src", to = "add" }, { from = "add", to = "out" }]"""

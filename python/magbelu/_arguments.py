@@ -1,23 +1,30 @@
 """What callers hand in, as the library takes it."""
 
+from __future__ import annotations
+
 import array
 import collections.abc
 import operator
+from typing import Any, Iterable, Union
 
 from ._library import Lent, Mark
 
+numpy: Any = None
 try:
     import numpy
 except ImportError:
-    numpy = None
+    pass
+
+#: A name or a text.
+Text = Union[str, bytes, bytearray]
 
 MOST = 2**64 - 1
 # The least and the greatest number of 64 bits with a sign. Neither is an item, nor the value of a setting.
 LOW, HIGH = -(2**63), 2**63 - 1
-BOOLS = {bool} if numpy is None else {bool, numpy.bool_}
+BOOLS: set[type] = {bool} if numpy is None else {bool, numpy.bool_}
 
 
-def bytes_of(text):
+def bytes_of(text: Text) -> bytes:
     """The bytes of a name or of a text. (Of a number `bytes` makes so many zeros.)"""
     if isinstance(text, str):
         return text.encode()
@@ -26,7 +33,7 @@ def bytes_of(text):
     raise TypeError("a str or bytes is wanted, and not %r" % type(text).__name__)
 
 
-def index(it, what):
+def index(it: Any, what: str) -> int:
     """An integer as one of Python."""
     if type(it) in BOOLS:
         raise TypeError("%s is an integer, and no truth value" % what)
@@ -36,7 +43,7 @@ def index(it, what):
         raise TypeError("%s is an integer, and no %r" % (what, type(it).__name__)) from None
 
 
-def count_of(it, what, most):
+def count_of(it: Any, what: str, most: int) -> int:
     """An integer from 0 on, cut to `most`, behind which a greater one means nothing else."""
     number = index(it, what)
     if number < 0:
@@ -44,18 +51,18 @@ def count_of(it, what, most):
     return min(number, most)
 
 
-def flag(it, what):
+def flag(it: Any, what: str) -> bool:
     if type(it) not in BOOLS:
         raise TypeError("%s is True or False, and no %r" % (what, type(it).__name__))
     return bool(it)
 
 
-def within(number):
+def within(number: int) -> int:
     """A number that 64 bits hold: itself, or the nearest one, which is refused where the number would be."""
     return min(max(number, LOW), HIGH)
 
 
-def is_bytes(data):
+def is_bytes(data: Any) -> bool:
     """Whether an object lends bytes, and not wider items."""
     try:
         view = memoryview(data)
@@ -64,7 +71,7 @@ def is_bytes(data):
     return view.format in ("B", "b", "c") and view.ndim == 1
 
 
-def numbers_of(items):
+def numbers_of(items: Any) -> array.array[int]:
     """Integers as an array of 64 bits each."""
     if numpy is not None and isinstance(items, numpy.ndarray) and items.dtype.kind != "O":
         if items.dtype.kind not in "iu":
@@ -89,19 +96,19 @@ def numbers_of(items):
         return array.array("q", [within(operator.index(it)) for it in items])
 
 
-def marks_of(tags):
+def marks_of(tags: Iterable[tuple[Any, Any, Any]]) -> tuple[Any, list[Lent]]:
     """Tags of a feed as C has them, and their keys, which have to be kept. (An offset beyond 64 bits is on no item, as the greatest is.)"""
     kept, marks = [], []
     for offset, key, value in tags:
-        offset, value, key = index(offset, "the offset of a tag"), index(value, "the value of a tag"), Lent(bytes_of(key))
+        offset, value, lent = index(offset, "the offset of a tag"), index(value, "the value of a tag"), Lent(bytes_of(key))
         if not LOW <= value <= HIGH:
             raise ValueError("the value of a tag has 64 bits with its sign: %d" % value)
-        kept.append(key)
-        marks.append(Mark(offset if 0 <= offset <= MOST else MOST, value, key.at, key.len))
+        kept.append(lent)
+        marks.append(Mark(offset if 0 <= offset <= MOST else MOST, value, lent.at, lent.len))
     return (Mark * max(len(marks), 1))(*marks), kept
 
 
-def place_of(at):
+def place_of(at: Any) -> int:
     if at is None:
         return MOST
     place = index(at, "the place of a setting")
@@ -111,7 +118,7 @@ def place_of(at):
     return place
 
 
-def taps_of(value):
+def taps_of(value: Iterable[Any]) -> array.array[int]:
     """Taps as shorts. (Where one is none, there are no taps at all, which no filter takes either.)"""
     taps = [index(it, "a tap") for it in value]
     try:

@@ -1,5 +1,7 @@
 """Why a call was not done."""
 
+from __future__ import annotations
+
 # The names of the numbers of refusals that have no line.
 NAMES = {
     20: "NoSuchBlock",
@@ -24,9 +26,18 @@ NAMES = {
 
 class Error(Exception):
     """A call was not done. `number`, `name` and `detail` are those of its refusal, as docs/FORMATS.md lists them; `output` is what was written before. Where the
-    graph file is refused, `place` shows where, as `flow --explain` does, and the text of the exception ends with it."""
+    graph file is refused, `place` shows where, as `flow --explain` does, and the text of the exception ends with it.
 
-    def __init__(self, text, output="", place=""):
+    >>> magbelu.check("[[block]]")
+    Traceback (most recent call last):
+    magbelu._errors.Refused: 42 MissingKey block 0 name
+     --> <graph>:1:1
+      |
+    1 | [[block]]
+      | ^ a block needs the key `name`: a text
+    """
+
+    def __init__(self, text: str, output: str = "", place: str = "") -> None:
         super().__init__(text)
         words = text.split(" ", 2) + ["", "", ""]
         self.number = int(words[0]) if words[0].isdigit() else 0
@@ -34,7 +45,7 @@ class Error(Exception):
         self.output = output
         self.place = place
 
-    def __str__(self):
+    def __str__(self) -> str:
         return "\n".join(filter(None, [super().__str__(), self.place.rstrip("\n")]))
 
 
@@ -46,6 +57,6 @@ class OutOfMemory(Error, MemoryError):
     """Memory ran out."""
 
 
-def refused(number, detail, is_memory=False):
+def refused(number: int, detail: str, is_memory: bool = False) -> Error:
     """The exception of a refusal that has no line."""
-    return (OutOfMemory if is_memory else Refused)("%d %s %s" % (number, NAMES.get(number, ""), detail))
+    return (OutOfMemory if is_memory else Refused)(("%d %s %s" % (number, NAMES.get(number, ""), detail)).rstrip(" "))

@@ -1,9 +1,12 @@
 """The library, as ctypes calls it, and memory that it reads and writes."""
 
+from __future__ import annotations
+
 import ctypes
 import mmap
 import os
 import pathlib
+from typing import Any, Optional
 
 from ._errors import OutOfMemory
 
@@ -41,7 +44,7 @@ class Mark(ctypes.Structure):
     _fields_ = [("offset", ctypes.c_uint64), ("value", ctypes.c_int64), ("key", ctypes.c_void_p), ("key_len", ctypes.c_size_t)]
 
 
-def _places():
+def _places() -> list[str]:
     if "MAGBELU_LIBRARY" in os.environ:
         return [os.environ["MAGBELU_LIBRARY"]]
     here = pathlib.Path(__file__).resolve().parent
@@ -51,7 +54,7 @@ def _places():
     return [str(here / it) for it in own] + [name]
 
 
-def _load():
+def _load() -> ctypes.CDLL:
     faults = []
     for place in _places():
         if os.sep in place and not os.path.exists(place):
@@ -72,9 +75,9 @@ def _load():
     raise ImportError("libmagbelu.so is not found: ./build --c makes it (%s)" % "; ".join(faults))
 
 
-def _with_types(library):
+def _with_types(library: ctypes.CDLL) -> ctypes.CDLL:
     """The library, whose calls take and give what c/magbelu.h says."""
-    pair = [ctypes.c_void_p, ctypes.c_size_t]
+    pair: list[Any] = [ctypes.c_void_p, ctypes.c_size_t]
     for name, types in {
         "check": 3 * pair,
         "run": 3 * pair,
@@ -84,7 +87,7 @@ def _with_types(library):
     }.items():
         call = getattr(library, "magbelu_bytes_" + name)
         call.restype, call.argtypes = Answer, types
-    plant, u64 = [ctypes.c_void_p], [ctypes.c_uint64]
+    plant, u64 = pair[:1], [ctypes.c_uint64]
     for name, types in {
         "free": plant,
         "item_size": plant + pair,
@@ -103,10 +106,10 @@ def _with_types(library):
     return library
 
 
-_loaded = None
+_loaded: Optional[ctypes.CDLL] = None
 
 
-def calls():
+def calls() -> ctypes.CDLL:
     """The library, which is loaded at the first call."""
     global _loaded
     if _loaded is None:
@@ -117,7 +120,9 @@ def calls():
 class Lent:
     """The place of an object's bytes, which are not copied where the object has them one behind the other."""
 
-    def __init__(self, data):
+    kept: Any
+
+    def __init__(self, data: Any) -> None:
         view = memoryview(data)
         self.len = view.nbytes
         view = view.cast("B") if view.c_contiguous and view.nbytes else memoryview(view.tobytes() or b"\0")
@@ -133,7 +138,7 @@ class Lent:
 class Room:
     """Memory for an answer, of which only what is written takes place."""
 
-    def __init__(self, size):
+    def __init__(self, size: int) -> None:
         self.size = size
         try:
             self.map = mmap.mmap(-1, max(size, 1))
@@ -142,5 +147,5 @@ class Room:
         self.kept = (ctypes.c_char * max(size, 1)).from_buffer(self.map)
         self.at = ctypes.addressof(self.kept)
 
-    def part(self, start, end):
+    def part(self, start: int, end: int) -> bytes:
         return self.map[start:end]

@@ -1,21 +1,24 @@
 """Calls that a graph file goes into as a text."""
 
-import ctypes
+from __future__ import annotations
 
-from ._arguments import HIGH, bytes_of, count_of, flag, is_bytes
-from ._errors import OutOfMemory, Refused
+import ctypes
+from typing import Any, Iterable, Optional, Union
+
+from ._arguments import HIGH, Text, bytes_of, count_of, flag, is_bytes
+from ._errors import Error, OutOfMemory, Refused
 from ._library import Input, Lent, Output, Room, calls
 
 # What a graph is called at the place of a fault in it, where it is given as a text.
 NO_PATH = "<graph>"
 
 
-def version():
+def version() -> int:
     """The version of the library's calls."""
-    return calls().magbelu_version()
+    return int(calls().magbelu_version())
 
 
-def where(file, path):
+def where(file: Lent, path: str) -> str:
     """Where the graph file of this path is refused, or nothing where it is not."""
     name, error, room = Lent(path.encode(errors="replace")), Room(0), 4096
     while True:
@@ -26,7 +29,7 @@ def where(file, path):
         room = answer.output_len
 
 
-def refusal(answer, error, file, path=NO_PATH, output=""):
+def refusal(answer: Any, error: Room, file: Lent, path: str = NO_PATH, output: str = "") -> Error:
     text = error.part(0, answer.error_len).decode().strip()
     text = text.partition(" refused ")[2] or str(answer.number)
     if answer.status == 4:
@@ -34,10 +37,10 @@ def refusal(answer, error, file, path=NO_PATH, output=""):
     return Refused(text, output, where(file, str(path)))
 
 
-def _texts(name, *given, room=65536):
+def _texts(name: str, *given: Text, room: int = 65536) -> tuple[str, int]:
     """Calls until the output fits, and gives it with the status."""
-    given = [Lent(bytes_of(it)) for it in given]
-    words = [word for it in given for word in (it.at, it.len)]
+    lent = [Lent(bytes_of(it)) for it in given]
+    words = [word for it in lent for word in (it.at, it.len)]
     error = Room(4096)
     while True:
         output = Room(room)
@@ -47,27 +50,47 @@ def _texts(name, *given, room=65536):
         room = answer.output_len
     text = output.part(0, answer.output_len).decode()
     if answer.error_len:
-        raise refusal(answer, error, given[0], output=text)
+        raise refusal(answer, error, lent[0], output=text)
     return text, answer.status
 
 
-def check(file):
-    """What `flow check` reports of a graph file's text."""
+def check(file: Text) -> str:
+    """What `flow check` reports of a graph file's text.
+
+    >>> print(magbelu.check(magbelu.EXAMPLE), end="")
+    blocks 3
+    connections 2
+    rates balanced
+    q src 1
+    q add 1
+    q out 1
+    """
     return _texts("check", file)[0]
 
 
-def run(file):
-    """What `flow run` reports of a graph file's text: what its sinks hold; and whether all blocks came to be done."""
+def run(file: Text) -> tuple[str, bool]:
+    """What `flow run` reports of a graph file's text: what its sinks hold; and whether all blocks came to be done.
+
+    >>> feed = 'feed = [{ source = "src", items = [250, 1], tags = [{ at = 1, key = "burst", value = 7 }] }]'
+    >>> magbelu.run(magbelu.EXAMPLE + "\\n" + feed)
+    ('sink out 2 4 11 @1:burst=7/0\\ndone\\n', True)
+    """
     text, status = _texts("run", file)
     return text, status == 0
 
 
-def script(file, lines):
-    """The replies to the lines of a script."""
+def script(file: Text, lines: Text) -> str:
+    """The replies to the lines of a script.
+
+    >>> print(magbelu.script(magbelu.EXAMPLE, "feed src 250 1\\nsettle\\nread out 0 9"), end="")
+    fed 2
+    settled quiet
+    read 2 4 11
+    """
     return _texts("script", file, lines)[0]
 
 
-def input_of(pair):
+def input_of(pair: tuple[Text, Any]) -> tuple[Lent, Lent]:
     """The name and the bytes of an input."""
     name, data = pair
     if not is_bytes(data):
@@ -75,7 +98,7 @@ def input_of(pair):
     return Lent(bytes_of(name)), Lent(data)
 
 
-def output_of(asked):
+def output_of(asked: Any) -> tuple[Lent, bool]:
     """The name of an output, and whether its tags are asked for."""
     if isinstance(asked, (str, bytes)):
         return Lent(bytes_of(asked)), False
@@ -85,32 +108,41 @@ def output_of(asked):
     return Lent(bytes_of(name)), True
 
 
-def run_items(file, inputs, outputs, big_endian=False, room=None):
+def run_items(
+    file: Text,
+    inputs: Iterable[tuple[Text, Union[bytes, bytearray, memoryview]]],
+    outputs: Iterable[Union[Text, tuple[Text, str]]],
+    big_endian: bool = False,
+    room: Optional[int] = None,
+) -> tuple[list[bytes], bool]:
     """Runs a graph between raw items. `inputs` are pairs of a source's name and bytes (any object that lends bytes), `outputs` names of sinks, or pairs of a
     name and "tags". It gives a list with the bytes of each output, and whether all blocks came to be done. Where the outputs do not fit into `room` bytes the graph
-    is run once more with enough."""
+    is run once more with enough.
+
+    >>> magbelu.run_items(magbelu.EXAMPLE, [("src", b"ABC")], ["out", ("out", "tags")])
+    ([b'KLM', b''], True)
+    """
     if isinstance(outputs, (str, bytes)):
         raise TypeError("outputs are a list of names, and no name")
-    inputs, outputs = [input_of(it) for it in inputs], [output_of(it) for it in outputs]
-    fed = [Input(name.at, name.len, data.at, data.len) for name, data in inputs]
-    asked = [Output(name.at, name.len, tags) for name, tags in outputs]
+    given, wanted = [input_of(it) for it in inputs], [output_of(it) for it in outputs]
+    fed = (Input * max(len(given), 1))(*[Input(name.at, name.len, data.at, data.len) for name, data in given])
+    asked = (Output * max(len(wanted), 1))(*[Output(name.at, name.len, tags) for name, tags in wanted])
     text, error, big_endian = Lent(bytes_of(file)), Room(4096), flag(big_endian, "big_endian")
-    fed, asked = (Input * max(len(fed), 1))(*fed), (Output * max(len(asked), 1))(*asked)
-    lens = (ctypes.c_uint64 * max(len(outputs), 1))()
-    room = 65536 + 4 * sum(data.len for _, data in inputs) if room is None else count_of(room, "room", HIGH)
+    lens = (ctypes.c_uint64 * max(len(wanted), 1))()
+    size = 65536 + 4 * sum(data.len for _, data in given) if room is None else count_of(room, "room", HIGH)
     while True:
-        got = Room(room)
+        got = Room(size)
         answer = calls().magbelu_bytes_run_items(
-            text.at, text.len, big_endian, ctypes.addressof(fed), len(inputs), ctypes.addressof(asked), len(outputs), ctypes.addressof(lens), len(outputs),
+            text.at, text.len, big_endian, ctypes.addressof(fed), len(given), ctypes.addressof(asked), len(wanted), ctypes.addressof(lens), len(wanted),
             got.at, got.size, error.at, error.size,
         )
-        if answer.output_len <= room:
+        if answer.output_len <= size:
             break
-        room = answer.output_len
+        size = answer.output_len
     if answer.error_len:
         raise refusal(answer, error, text)
     parts, start = [], 0
-    for length in lens[: len(outputs)]:
+    for length in lens[: len(wanted)]:
         parts.append(got.part(start, start + length))
         start += length
     return parts, answer.status == 0

@@ -7,6 +7,11 @@ import fractions
 import magbelu
 from magbelu import _library
 
+try:
+    import numpy
+except ImportError:
+    numpy = None
+
 
 class Number:
     """An integer of a type of its own."""
@@ -189,6 +194,43 @@ def raw_inputs_are_bytes():
     makes(lambda: magbelu.run_items("", iter([("src", b"")]), iter(["out"])), "items", False, [b""], [0])
 
 
+def numpy_items_are_integers():
+    """An array whose items stand as those of the source, which has shorts, goes in as it is; the others as numbers, or not."""
+    for items in [numpy.array([1, -2], "i2"), numpy.array([0, 1, -2], "i2")[1:], numpy.array([[1, -2], [3, 4]], "i2")[0]]:
+        makes(lambda: graph.feed("src", items, big_endian=True), "feed", b"src", False, b"\1\0\xfe\xff", [])
+    for items in [numpy.array([1, 7, -2], "i2")[::2], numpy.array([1, -2], ">i2"), numpy.array([1, -2], "i8"), numpy.array([1, -2], "i1"), numpy.array([1, -2], object)]:
+        makes(lambda: graph.feed("src", items), "numbers", b"src", [1, -2])
+    makes(lambda: graph.feed("src", numpy.array([1, 2**63 - 1, 2**63, 2**64 - 1], "u8")), "numbers", b"src", [1, high, high, high])
+    makes(lambda: graph.feed("src", [numpy.uint8(255), numpy.int64(-1)]), "numbers", b"src", [255, -1])
+    for kind in ["f8", "f4", "c16", "?", "S1", "U1", "M8[s]"]:
+        raises(TypeError, lambda: graph.feed("src", numpy.zeros(2, kind)))
+    for items in [numpy.array([1.0], object), [numpy.float64(1)], [numpy.bool_(True)], numpy.array([True], object)]:
+        raises(TypeError, lambda: graph.feed("src", items))
+    raises(ValueError, lambda: graph.feed("src", numpy.zeros((2, 2), "i2")))
+
+
+def numpy_numbers_are_whole():
+    makes(lambda: graph.feed("src", b"", [(numpy.uint64(3), "k", numpy.int8(-7))]), "feed", b"src", False, b"", [(3, b"k", -7)])
+    makes(lambda: graph.set("a", numpy.int16(-5), at=numpy.uint8(7)), "set", 7, -5)
+    makes(lambda: graph.set("a", numpy.array([1, -2], "i4")), "taps", 2**64 - 1, [1, -2])
+    makes(lambda: graph.step("s", numpy.int64(2)), "step", 2)
+    for value in [numpy.float64(1), numpy.bool_(True), numpy.zeros(1, "f4"), numpy.zeros(1, "?")]:
+        raises(TypeError, lambda: graph.set("a", value))
+    raises(TypeError, lambda: graph.feed("src", b"", [(numpy.float32(0), "k", 1)]))
+    makes(lambda: magbelu.run_items("", [("src", numpy.array([1, 2], "u1"))], []), "items", False, [b"\1\2"], [])
+    raises(TypeError, lambda: magbelu.run_items("", [("src", numpy.array([1], "i2"))], []))
+
+
+def numpy_is_read():
+    items = graph.read("o")[0]
+    assert isinstance(items, numpy.ndarray) and items.dtype == numpy.dtype("i2"), items
+
+
+def arrays_are_read():
+    items = graph.read("o")[0]
+    assert isinstance(items, array.array) and items.typecode == "h", items
+
+
 tests = [
     items_are_integers,
     bytes_are_items,
@@ -197,6 +239,7 @@ tests = [
     counts_are_whole,
     names_are_text,
     raw_inputs_are_bytes,
+    *([arrays_are_read] if numpy is None else [numpy_items_are_integers, numpy_numbers_are_whole, numpy_is_read]),
 ]
 for test in tests:
     test()

@@ -332,6 +332,19 @@ def places_of_faults_are_shown():
         assert error.place == "" and "\n" not in str(error), error
 
 
+def graphs_are_drawn_as_by_flow():
+    """But for how much each output holds, which is 4096 in these."""
+    page = (top / "docs/FORMATS.md").read_text()
+    wanted = page[page.index("digraph {") :].partition("}\n$")[0] + "}\n"
+    assert magbelu.Graph.from_file(top / "examples/frames/graph.toml").draw() == wanted.replace(" 4096", "")
+    for file in sorted(top.glob("tests/graphs/*.toml")):
+        try:
+            graph = magbelu.Graph.from_file(file)
+        except magbelu.Refused:
+            continue
+        assert graph.draw().count(" -> ") == int(magbelu.check(file.read_bytes()).split()[3]), file
+
+
 def threads_call_side_by_side():
     found = []
 
@@ -367,6 +380,7 @@ tests = [
     what_is_wrong_is_refused,
     nothing_is_cut,
     places_of_faults_are_shown,
+    graphs_are_drawn_as_by_flow,
     threads_call_side_by_side,
 ]
 for test in tests:

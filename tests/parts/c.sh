@@ -1,7 +1,8 @@
 #!/usr/bin/env bash
 # The library for C, where ./build --c has built it from these sources: c/magbelu.h compiles as C99 and as C++, and over each example and graph file of tests/ the
 # calls from C and C++, with the sanitizers, and from Python give what is expected, and where ./flow is built what it gives. Elsewhere it only compiles the headers,
-# and tries what c/magbelu.hpp and python/magbelu make of their arguments.
+# and tries what c/magbelu.hpp and python/magbelu make of their arguments, and drawings, plots and type hints. What Python does is tried without numpy, and with
+# numpy and matplotlib where they are installed.
 set -euo pipefail
 # shellcheck source=tests/part.sh
 source "$(dirname -- "$(readlink -f -- "${BASH_SOURCE[0]}")")/../part.sh"
@@ -137,28 +138,37 @@ tells_plus() {
 }
 
 # python_tests FILE: the tests of python/magbelu that stand in this file
-python_tests() { PYTHONDONTWRITEBYTECODE=1 PYTHONPATH=$top/python python3 "$top/tests/c/$1" "$top"; }
+python_tests() { PYTHONDONTWRITEBYTECODE=1 MPLBACKEND=Agg PYTHONPATH=$top/python python3 "$top/tests/c/$1.py" "$top"; }
 
-tells_arguments() { python_tests arguments.py; }
+# without_numpy FILE: the same where Python finds no numpy
+without_numpy() {
+    mkdir -p "$room/hidden"
+    echo 'raise ImportError("numpy is hidden")' >"$room/hidden/numpy.py"
+    PYTHONDONTWRITEBYTECODE=1 PYTHONPATH=$room/hidden:$top/python python3 "$top/tests/c/$1.py" "$top"
+}
 
-tells_python() { MAGBELU_LIBRARY=$c_folder/libmagbelu.so python_tests graphs.py; }
+# over_library COMMAND..: the same over the library that is built
+over_library() { MAGBELU_LIBRARY=$c_folder/libmagbelu.so "$@"; }
+
+# tells_types: the type hints
+tells_types() { MYPYPATH=$top/python mypy --strict --ignore-missing-imports --cache-dir "$room/mypy" "$top/python/magbelu"; }
 
 list() {
     if command -v python3 >/dev/null; then
-        echo c/arguments
+        printf 'c/%s\n' arguments arguments_numpy pictures pictures_matplotlib types
     fi
     if command -v cc >/dev/null; then
-        echo c/header
-        echo c/calls
-        echo c/python
+        printf 'c/%s\n' header calls
     fi
     if command -v c++ >/dev/null; then
-        echo c/plus_alone
-        echo c/plus
+        printf 'c/%s\n' plus_alone plus
+    fi
+    if command -v cc >/dev/null && command -v python3 >/dev/null; then
+        printf 'c/%s\n' python python_numpy doctests doctests_matplotlib
     fi
 }
 
-# try CASE FUNCTION: the function is the case, if it is wanted
+# try CASE COMMAND..: the command is the case, if it is wanted
 try() {
     local said status=0
     if ! is_wanted "$1"; then
@@ -166,7 +176,7 @@ try() {
     fi
     # (where it fails it ends there: in a condition it would go on)
     set +e
-    said=$(set -e && "$2" 2>&1)
+    said=$(set -e && "${@:2}" 2>&1)
     status=$?
     set -e
     if [[ $status == 0 ]]; then
@@ -176,26 +186,44 @@ try() {
     fi
 }
 
-# try_over LIBRARY CASE FUNCTION: the same over a library, where it is built
-try_over() {
-    if is_fresh "$c_folder/$1" "$c_crate"; then
+# lacks NEED..: prints what is not here of these: a library that is built, a program, modules of Python
+lacks() {
+    local it
+    for it; do
+        case $it in
+        libmagbelu.*) is_fresh "$c_folder/$it" "$c_crate" || echo "./build --c has not built $it from these sources" ;;
+        mypy) command -v mypy >/dev/null || echo "there is no mypy" ;;
+        *) python3 -c "import $it" 2>/dev/null || echo "python3 has no module $it" ;;
+        esac
+    done
+}
+
+# try_with "NEED.." CASE COMMAND..: the same, where all of this is here
+try_with() {
+    local needs why
+    read -ra needs <<<"$1"
+    why=$(lacks "${needs[@]}")
+    if [[ -z $why ]]; then
         try "${@:2}"
     elif is_wanted "$2"; then
-        left_out "$2" <<<"./build --c has not built $1 from these sources"
+        left_out "$2" <<<"${why//$'\n'/, }"
     fi
 }
 
 run() {
-    try c/arguments tells_arguments
+    try c/arguments without_numpy arguments
+    try_with numpy c/arguments_numpy python_tests arguments
+    try c/pictures without_numpy pictures
+    try_with matplotlib c/pictures_matplotlib python_tests pictures
+    try_with mypy c/types tells_types
     try c/header compiles_header
     try c/plus_alone tells_plus_alone
-    try_over libmagbelu.a c/calls tells_calls
-    try_over libmagbelu.a c/plus tells_plus
-    if command -v python3 >/dev/null; then
-        try_over libmagbelu.so c/python tells_python
-    elif is_wanted c/python; then
-        left_out c/python <<<"there is no python3"
-    fi
+    try_with libmagbelu.a c/calls tells_calls
+    try_with libmagbelu.a c/plus tells_plus
+    try_with libmagbelu.so c/python over_library without_numpy graphs
+    try_with "libmagbelu.so numpy" c/python_numpy over_library python_tests graphs
+    try_with libmagbelu.so c/doctests over_library without_numpy doctests
+    try_with "libmagbelu.so matplotlib" c/doctests_matplotlib over_library python_tests doctests
 }
 
 "$1"

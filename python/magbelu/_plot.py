@@ -1,0 +1,45 @@
+"""Plots of what a sink holds, by matplotlib, which is loaded at the first of them."""
+
+from __future__ import annotations
+
+from typing import Any, Sequence
+
+
+def plot_items(axes: Any, start: int, items: Any, tags: Sequence[Any]) -> None:
+    """Items over their numbers, and a line with its name at each tag."""
+    axes.plot(range(start, start + len(items)), items, marker="." if len(items) <= 100 else "", linewidth=1)
+    for tag in tags:
+        axes.axvline(tag.offset, color="tab:red", linewidth=1, alpha=0.6)
+        axes.annotate(
+            "%s=%d" % (tag.key, tag.value), (tag.offset, 1), xycoords=("data", "axes fraction"), xytext=(3, -3), textcoords="offset points",
+            rotation=90, va="top", fontsize="small",
+        )
+    axes.set_xlabel("item")
+    axes.set_ylabel("value")
+
+
+def plot_spectrum(axes: Any, items: Any) -> None:
+    """The amplitudes of the items' sines over their frequencies, in decibels over an amplitude of 1, through a Hann window."""
+    import numpy
+
+    if len(items) == 0:
+        raise ValueError("a spectrum needs items")
+    window = numpy.hanning(len(items))
+    amplitudes = 2 * numpy.abs(numpy.fft.rfft(numpy.asarray(items, dtype=float) * window)) / max(window.sum(), 1)
+    # (an amplitude of 0 has no decibels: no item is as quiet as this one)
+    axes.plot(numpy.arange(len(amplitudes)) / len(items), 20 * numpy.log10(numpy.maximum(amplitudes, 1e-3)), linewidth=1)
+    axes.set_xlabel("cycles per item")
+    axes.set_ylabel("amplitude in dB")
+
+
+def plot(title: str, start: int, items: Any, tags: Sequence[Any], spectrum: bool, axes: Any) -> Any:
+    if axes is None:
+        from matplotlib import pyplot
+
+        axes = pyplot.subplots(figsize=(9, 3), layout="constrained")[1]
+    if spectrum:
+        plot_spectrum(axes, items)
+    else:
+        plot_items(axes, start, items, tags)
+    axes.set_title(title)
+    return axes
