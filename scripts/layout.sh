@@ -1,11 +1,12 @@
 # shellcheck shell=bash disable=SC2154
 # For ./build to source: where each file of an installation stands under its root, which is a prefix or the /usr of a package.
 
-# The root, the folders of libraries and of Python's packages under it, and the file that gets a line for each file and each folder that is made: a folder's
+# The root, the folders of libraries, of Python's packages and of completions for zsh under it, and the file that gets a line for each file and each folder that is made: a folder's
 # ends in a slash.
 root=
 lib_folder=lib
 python_folder=
+zsh_folder=share/zsh/site-functions
 list=/dev/null
 
 # version_of_calls: prints the version of the library's calls, which is that of its soname
@@ -45,7 +46,9 @@ put_all() {
 put_program() {
     put 755 "$program" bin/flow
     put 755 "$top/flow-from-grc" bin/flow-from-grc
-    put_all "$top/share" share
+    put_all "$top/share/man" share/man
+    put_all "$top/share/bash-completion" share/bash-completion
+    put_all "$top/share/zsh/site-functions" "$zsh_folder"
     put_all "$top/python/flow_from_grc" share/magbelu/flow_from_grc
 }
 

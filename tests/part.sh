@@ -29,6 +29,10 @@ differs() { diff --text -U 3 --label "$1 wanted" --label "$1 that came" -- "$2" 
 # is_wanted CASE: whether this case is to be tried
 is_wanted() { grep -qxF -- "$1" "$room/wanted"; }
 
+# first_program PAGE: prints the first program in C that stands on a page, which ends with a brace at the front of a line
+# shellcheck disable=SC2016
+first_program() { sed -n '/^```c$/,/^```$/{//d;p}' "$1" | sed '/^}$/q'; }
+
 # build_copy FOLDER [WORD..] -- CALL..: a program, unproved, as rt compiles it with checks, as $room/program; `start` has the words that start it. To rt each
 # call of a program is a second's work, to the program none: so rt runs it once, with these words to it and those of the call to the program, which copies the file
 # `program` that lies where it runs, and all cases call the copy, as rt would.

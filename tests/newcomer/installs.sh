@@ -27,7 +27,7 @@ install_puts_all_in_place() {
     calls 0 env HOME="$room/home" ./build_by_link --install
     [[ -x $room/home/.local/bin/flow ]] || wrong "--install without a prefix brings nothing to ~/.local"
     calls 2 ./build_by_link --fast
-    writes errors "build: its words are: [--install [PREFIX] | --uninstall [PREFIX] | --c]"
+    writes errors "build: its words are: [--install [PREFIX] | --uninstall [PREFIX] | --c | --deb]"
 }
 
 # Over what was installed without it. (What is built for C here is no library, so that nothing is linked or loaded.)
@@ -76,4 +76,51 @@ uninstall_takes_all_away() {
     writes errors "build: $elsewhere/a prefix has no share/magbelu/installed: ./build --install has put nothing there"
     calls 0 env HOME="$room/home" ./build_by_link --uninstall
     [[ -z $(find "$room/home/.local" -mindepth 1) ]] || wrong "--uninstall without a prefix takes nothing away from ~/.local"
+}
+
+# has_files PACKAGE FILE..: a package has these files, and its documents, and no others
+has_files() {
+    local package=$1 it
+    shift
+    for it in changelog.gz copyright; do
+        set -- "$@" "usr/share/doc/$package/$it"
+    done
+    printf '%s\n' "$@" | LC_ALL=C sort >"$room/files"
+    rm -rf -- "$room/unpacked"
+    dpkg-deb -x "$tree/out/$package"_*.deb "$room/unpacked"
+    (cd -- "$room/unpacked" && find . ! -type d -printf '%P\n') | LC_ALL=C sort | cmp -s - "$room/files" || wrong "$package has other files"
+    [[ -z $(dpkg-deb -c "$tree/out/$package"_*.deb | grep -v ' root/root ') ]] || wrong "$package has files that are not root's"
+}
+
+# says PACKAGE FIELD TEXT: its control file
+says() { [[ $(dpkg-deb -f "$tree/out/$1"_*.deb "$2") == "$3" ]] || wrong "$1 has another $2: $(dpkg-deb -f "$tree/out/$1"_*.deb "$2")"; }
+
+# (what is built here needs no C library, so that no version of it is told)
+deb_makes_packages() {
+    local built=$tree${c_folder#"$top"} lib=usr/lib/x86_64-linux-gnu version files=()
+    if ! command -v dpkg-deb >/dev/null; then
+        why_not="there is no dpkg-deb"
+        return
+    fi
+    version=$(sed -n 's/^.TH FLOW 1 "" "flow \(.*\)" .*/\1/p' "$top/share/man/man1/flow.1")
+    mkdir -p "$tree/out"
+    touch "$tree/out/magbelu_0.0.1_amd64.deb"
+    calls 0 ./build_by_link --deb
+    [[ $(cd -- "$tree/out" && echo *) == "libmagbelu-dev_${version}_amd64.deb libmagbelu1_${version}_amd64.deb magbelu_${version}_amd64.deb python3-magbelu_${version}_all.deb" ]] ||
+        wrong "--deb makes other packages"
+    has_files libmagbelu1 "$lib/libmagbelu.so.1"
+    cmp -s "$room/unpacked/$lib/libmagbelu.so.1" "$built/libmagbelu.so" || wrong "the package has another library"
+    says libmagbelu1 Depends libc6
+    has_files libmagbelu-dev usr/include/magbelu.h{,pp} "$lib"/{libmagbelu.a,libmagbelu.so,pkgconfig/magbelu.pc}
+    grep -qx "prefix=/usr" "$room/unpacked/$lib/pkgconfig/magbelu.pc" || wrong "magbelu.pc has another prefix"
+    says libmagbelu-dev Depends "libmagbelu1 (= $version), libc6-dev"
+    mapfile -t files < <(cd -- "$top/python/magbelu" && find . -type f ! -name '*.pyc' -printf 'usr/lib/python3/dist-packages/magbelu/%P\n')
+    has_files python3-magbelu "${files[@]}"
+    says python3-magbelu Depends "libmagbelu1 (>= $version), python3:any (>= 3.9)"
+    mapfile -t files < <(cd -- "$top/python" && find flow_from_grc -name '*.py' -printf 'usr/share/magbelu/%p\n')
+    has_files magbelu usr/bin/flow{,-from-grc} usr/share/man/man1/flow{,-from-grc}.1.gz usr/share/bash-completion/completions/flow \
+        usr/share/zsh/vendor-completions/_flow "${files[@]}"
+    says magbelu Depends "libc6, python3:any (>= 3.9), python3-yaml"
+    [[ $("$room/unpacked/usr/bin/flow" a b) == "built: a,b" ]] || wrong "the package has another program"
+    gzip -dc "$room/unpacked/usr/share/man/man1/flow.1.gz" | cmp -s - "$top/share/man/man1/flow.1" || wrong "the package has another man page"
 }

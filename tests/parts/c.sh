@@ -117,6 +117,9 @@ tells_calls() {
     calls 0 held
     files
     raw_items
+    first_program "$top/docs/C.md" >"$room/page.c"
+    cc -std=c99 "${warnings[@]}" "${sanitizers[@]}" -I"$top/c" "$room/page.c" "$c_folder/libmagbelu.a" -o "$room/page"
+    "$room/page" <"$top/examples/echo/graph.toml" | cmp -s - "$top/examples/echo/expected_run" || wrong "the program of docs/C.md"
 }
 
 # compile_plus PROGRAM FILE..: the program of these files in C++

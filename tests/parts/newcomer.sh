@@ -20,6 +20,7 @@ cases=(
     install_puts_all_in_place
     install_brings_the_library_for_c
     uninstall_takes_all_away
+    deb_makes_packages
     crates_are_proved_side_by_side
     failed_build_leaves_no_half_program
     end_without_verdict_is_no_proof

@@ -1,0 +1,129 @@
+#!/usr/bin/env bash
+# The packages for Debian that ./build --deb has made of these sources, in a fresh Debian of their own without the toolchain: README's first command, the program of
+# docs/C.md in C, the package for Python, and that nothing of them stays. It takes root, debootstrap and some minutes of a network, so ./test tries it by its
+# name alone. What debootstrap brings is kept at $MAGBELU_DEBIAN for a next run, where that names a folder.
+set -euo pipefail
+# shellcheck source=tests/part.sh
+source "$(dirname -- "$(readlink -f -- "${BASH_SOURCE[0]}")")/../part.sh"
+
+cases=(lintian_is_silent first_command_runs program_in_c_runs python_runs drawing_is_converted nothing_stays)
+# What the machine itself has, of which a fresh system may be made.
+suite=$(sed -n 's/^VERSION_CODENAME=//p' /etc/os-release)
+
+list() { printf 'packages/%s\n' "${cases[@]}"; }
+
+# lacks: prints what is not here that the packages are tried with
+lacks() {
+    local it
+    if [[ $(id -u) != 0 ]]; then
+        echo "a fresh system is for root alone"
+    elif ! command -v debootstrap >/dev/null; then
+        echo "there is no debootstrap"
+    elif [[ -z $suite ]]; then
+        echo "this machine is no Debian"
+    fi
+    for it in "$top"/out/*.deb; do
+        if [[ ! -e $it ]] || ! is_fresh "$it" "$program_crate" || ! is_fresh "$it" "$c_crate" ||
+            [[ -n $(find "$top"/{c,python,scripts,share} -type f ! -name '*.pyc' -newer "$it") ]]; then
+            echo "./build --deb has made no packages of these sources"
+            return
+        fi
+    done
+}
+
+# inside COMMAND..: runs the command in the fresh system
+inside() { chroot "$system" env -i PATH=/usr/sbin:/usr/bin:/sbin:/bin HOME=/root LC_ALL=C DEBIAN_FRONTEND=noninteractive "$@"; }
+
+# make_system: a fresh system, with a compiler and Python and nothing else
+make_system() {
+    local kept=${MAGBELU_DEBIAN-}
+    if [[ -n $kept && -d $kept/usr ]]; then
+        cp -a -- "$kept" "$system"
+    else
+        debootstrap --variant=minbase --include=gcc,libc6-dev,pkg-config,python3-minimal "$suite" "$system"
+        [[ -z $kept ]] || cp -a -- "$system" "$kept"
+    fi
+    cp -- /etc/resolv.conf "$system/etc/resolv.conf"
+}
+
+# install_all: the packages, with what they need of Debian
+install_all() {
+    mkdir -- "$system/packages"
+    cp -- "$top"/out/*.deb "$system/packages"
+    inside sh -c 'apt-get update && apt-get install --yes --no-install-recommends /packages/*.deb'
+}
+
+# gives WANTED COMMAND..: the command writes just this in the fresh system
+gives() {
+    local came
+    came=$(inside "${@:2}" 2>&1) || true
+    if [[ $came != "$1" ]]; then
+        echo "${*:2}: wanted"$'\n'"$1"$'\n'"and it gives"$'\n'"$came"
+        return 1
+    fi
+}
+
+lintian_is_silent() {
+    local said
+    if ! command -v lintian >/dev/null; then
+        why_not="there is no lintian"
+        return
+    fi
+    said=$(lintian --allow-root "$top"/out/*.deb 2>&1) || true
+    [[ -z $said ]] || { echo "$said" && return 1; }
+}
+
+first_command_runs() {
+    cp -- "$top/examples/echo/graph.toml" "$system/root"
+    gives "$(<"$top/examples/echo/expected_run")" flow run /root/graph.toml
+}
+
+program_in_c_runs() {
+    first_program "$top/docs/C.md" >"$system/root/program.c"
+    # shellcheck disable=SC2016
+    inside sh -c 'cd /root && cc program.c $(pkg-config --cflags --libs magbelu) -o program'
+    gives "$(<"$top/examples/echo/expected_run")" sh -c '/root/program </root/graph.toml'
+}
+
+python_runs() {
+    gives "[4, 11]" python3 -c 'import magbelu
+graph = magbelu.Graph(magbelu.EXAMPLE)
+graph.feed("src", [250, 1]), graph.settle()
+print(graph.read("out")[0].tolist())'
+}
+
+drawing_is_converted() {
+    cp -- "$top/examples/grc/rates.grc" "$system/root"
+    gives "$(<"$top/examples/grc/rates.toml")" sh -c 'flow-from-grc /root/rates.grc 2>/dev/null'
+}
+
+nothing_stays() {
+    inside sh -c 'apt-get purge --yes magbelu libmagbelu1 libmagbelu-dev python3-magbelu && rm -r /packages /root/*'
+    gives "" find / -xdev -name '*magbelu*' ! -path '/proc/*' ! -path '/var/lib/apt/*'
+}
+
+run() {
+    local it why why_not said
+    system=$room/system
+    why=$(lacks)
+    if [[ -z $why ]] && ! { make_system && install_all; } >"$room/said" 2>&1; then
+        tail -n 40 "$room/said" | failed "packages/${cases[0]}"
+        exit
+    fi
+    for it in "${cases[@]}"; do
+        why_not=$why
+        if ! is_wanted "packages/$it"; then
+            continue
+        elif [[ -n $why ]]; then
+            left_out "packages/$it" <<<"$why"
+        elif ! "$it" >"$room/said" 2>&1; then
+            failed "packages/$it" <"$room/said"
+        elif [[ -n $why_not ]]; then
+            left_out "packages/$it" <<<"$why_not"
+        else
+            passed "packages/$it"
+        fi
+    done
+}
+
+"$1"
