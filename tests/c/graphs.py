@@ -299,7 +299,8 @@ def nothing_is_cut():
     graph.feed("src", [1], tags=[(0, "least", -(2**63)), (0, "greatest", 2**63 - 1)])
     assert graph.settle() is False
     items, tags = graph.read("out", 0, 2**64)
-    assert list(items) == [11] and tags == [(0, "least", -(2**63), 0), (0, "greatest", 2**63 - 1, 0)]
+    # (the tags of an item are in the order of their keys)
+    assert list(items) == [11] and tags == [(0, "greatest", 2**63 - 1, 0), (0, "least", -(2**63), 0)]
 
 
 def places_of_faults_are_shown():
