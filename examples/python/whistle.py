@@ -1,5 +1,6 @@
+#!/usr/bin/env python3
 """A whistle that a filter takes out of a recording, seen in a notebook: each `# %%` begins a cell. It is called at the top of the checkout, or with the package
-for Python installed, and writes whistle.svg."""
+for Python installed, and writes whistle.png."""
 
 # %% The graph: a recording through the filter of examples/signal, and as it came.
 import pathlib
@@ -38,4 +39,4 @@ graph.plot("raw", 0, 9600, axes=places[0, 0])
 graph.plot("raw", spectrum=True, axes=places[1, 0])
 graph.plot("out", 0, 960, axes=places[0, 1])
 graph.plot("out", spectrum=True, axes=places[1, 1])
-figure.savefig("whistle.svg")
+figure.savefig("whistle.png", dpi=80)

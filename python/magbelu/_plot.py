@@ -12,7 +12,7 @@ def plot_items(axes: Any, start: int, items: Any, tags: Sequence[Any]) -> None:
         axes.axvline(tag.offset, color="tab:red", linewidth=1, alpha=0.6)
         axes.annotate(
             "%s=%d" % (tag.key, tag.value), (tag.offset, 1), xycoords=("data", "axes fraction"), xytext=(3, -3), textcoords="offset points",
-            rotation=90, va="top", fontsize="small",
+            rotation=90, va="top", fontsize="small", bbox={"facecolor": "white", "edgecolor": "none", "alpha": 0.8, "pad": 1},
         )
     axes.set_xlabel("item")
     axes.set_ylabel("value")

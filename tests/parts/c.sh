@@ -153,8 +153,19 @@ without_numpy() {
 # over_library COMMAND..: the same over the library that is built
 over_library() { MAGBELU_LIBRARY=$c_folder/libmagbelu.so "$@"; }
 
-# tells_types: the type hints
-tells_types() { MYPYPATH=$top/python mypy --strict --ignore-missing-imports --cache-dir "$room/mypy" "$top/python/magbelu"; }
+# tells_types: the type hints, and a program that goes by them
+tells_types() {
+    MYPYPATH=$top/python mypy --strict --ignore-missing-imports --cache-dir "$room/mypy" "$top/python/magbelu" "$top/examples/python/whistle.py"
+}
+
+# tells_notebook: examples/python prints what its page shows, and makes its picture
+tells_notebook() {
+    cd -- "$room"
+    PYTHONDONTWRITEBYTECODE=1 MPLBACKEND=Agg PYTHONPATH=$top/python python3 "$top/examples/python/whistle.py" >"$room/output"
+    # shellcheck disable=SC2016
+    sed -n '/^\$ /,/^```$/{//d;p}' "$top/examples/python/README.md" | cmp -s - "$room/output" || wrong "it prints $(<"$room/output")"
+    [[ $(head -c 4 whistle.png | tail -c 3) == PNG ]] || wrong "there is no picture"
+}
 
 list() {
     if command -v python3 >/dev/null; then
@@ -167,7 +178,7 @@ list() {
         printf 'c/%s\n' plus_alone plus
     fi
     if command -v cc >/dev/null && command -v python3 >/dev/null; then
-        printf 'c/%s\n' python python_numpy doctests doctests_matplotlib
+        printf 'c/%s\n' python python_numpy doctests doctests_matplotlib notebook
     fi
 }
 
@@ -227,6 +238,7 @@ run() {
     try_with "libmagbelu.so numpy" c/python_numpy over_library python_tests graphs
     try_with libmagbelu.so c/doctests over_library without_numpy doctests
     try_with "libmagbelu.so matplotlib" c/doctests_matplotlib over_library python_tests doctests
+    try_with "libmagbelu.so matplotlib" c/notebook over_library tells_notebook
 }
 
 "$1"
