@@ -78,13 +78,18 @@ graph() {
     done
 }
 
-# A thousand shorts go through a block that adds 1, with the lowest byte first and with the highest.
-raw_items() {
-    cat >"$room/chain.toml" <<'END'
-block = [{ name = "src", kind = "vector_source", type = "short" }, { name = "add", kind = "add_const", type = "short", value = 1 },
-    { name = "out", kind = "vector_sink", type = "short" }]
+# chain TYPE VALUE: writes the file of a graph that adds this number to each item of a type
+chain() {
+    cat >"$room/chain.toml" <<END
+block = [{ name = "src", kind = "vector_source", type = "$1" }, { name = "add", kind = "add_const", type = "$1", value = $2 },
+    { name = "out", kind = "vector_sink", type = "$1" }]
 connect = [{ from = "src", to = "add" }, { from = "add", to = "out" }]
 END
+}
+
+# A thousand shorts go through a block that adds 1, with the lowest byte first and with the highest.
+raw_items() {
+    chain short 1
     awk 'BEGIN { for (i = 0; i < 1000; i++) printf "%c%c", 65 + i % 26, 97 + i % 26 }' >"$room/in"
     awk 'BEGIN { for (i = 0; i < 1000; i++) printf "%c%c", 66 + i % 26, 97 + i % 26 }' >"$room/low"
     awk 'BEGIN { for (i = 0; i < 1000; i++) printf "%c%c", 65 + i % 26, 98 + i % 26 }' >"$room/high"
@@ -125,16 +130,27 @@ tells_calls() {
 # compile_plus PROGRAM FILE..: the program of these files in C++
 compile_plus() { c++ -std=c++17 "${warnings[@]}" "${sanitizers[@]}" -I"$top/c" "${@:2}" -o "$1"; }
 
+# plus_page FILE: the program in C++ of docs/C.md, over this library
+plus_page() {
+    # shellcheck disable=SC2016
+    sed -n '/^```cpp$/,/^```$/{//d;p}' "$top/docs/C.md" >"$room/page.cpp"
+    compile_plus "$room/page_plus" "$room/page.cpp" "$1"
+    chain byte 10
+    "$room/page_plus" <"$room/chain.toml" | cmp -s - <(printf '%s\n' 4 11 102 103) || wrong "the program in C++ of docs/C.md"
+}
+
 # tells_plus_alone: what c/magbelu.hpp makes of its arguments and of answers
 tells_plus_alone() {
     compile_plus "$room/held_alone" "$top"/tests/c/{held,stand_in}.cpp
     "$room/held_alone"
+    plus_page "$top/tests/c/stand_in.cpp"
 }
 
 # tells_plus: the calls from C++
 tells_plus() {
     compile_plus "$room/held" "$top/tests/c/held.cpp" "$c_folder/libmagbelu.a"
     "$room/held"
+    plus_page "$c_folder/libmagbelu.a"
     calls=$room/texts
     compile_plus "$calls" "$top/tests/c/texts.cpp" "$c_folder/libmagbelu.a"
     files
