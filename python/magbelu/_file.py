@@ -44,11 +44,13 @@ class Reader:
 
     def header(self) -> str:
         """The name in [[name]]."""
-        self.take(), self.take()
+        while self.word == "[":
+            self.take()
         keys = []
         while self.word != "]":
             keys.append(self.key())
-        self.take(), self.take()
+        while self.word == "]":
+            self.take()
         return "".join(keys)
 
     def entry(self) -> tuple[str, Any]:
