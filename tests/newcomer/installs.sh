@@ -60,7 +60,8 @@ install_brings_the_library_for_c() {
 is_found_by_python() {
     local package
     package=$(cd -- "$elsewhere" && find "a prefix/lib" -path '*/magbelu/__init__.py')
-    calls 0 env PYTHONPATH="$elsewhere/${package%/magbelu/__init__.py}" python3 -c '
+    # (what Python compiles here has to go with the rest)
+    calls 0 env -u PYTHONDONTWRITEBYTECODE PYTHONPATH="$elsewhere/${package%/magbelu/__init__.py}" python3 -c '
 import os, magbelu, magbelu._library as it
 print(magbelu.__file__)
 print(os.path.realpath(next(filter(os.path.exists, it._places()))))'
