@@ -25,7 +25,7 @@ use Rattle.graph_file.specs.File.{Content, file_of}
 use Rattle.graph_file.specs.Opening.{Opened, opened, opened_in, validated, feed_now, feed_found, after_feed, after_feeds, mark_of}
 use Rattle.script_text.specs.Ends.{AppendsBeginning}
 use Rattle.script_text.specs.declared.ends.Broken.{Broken}
-use Rattle.top_block.proofs.Idles.{feed-progress, idle-same, opening-idle}
+use Rattle.plant.proofs.Idles.{feed-progress, idle-same, opening-idle}
 use Rattle.flow.specs.Serve.{Stream, Tries, content_in}
 
 -- what is read of a text

@@ -25,7 +25,7 @@ use Rattle.plant.specs.Plant.{PlantState}
 use Rattle.raw_items.specs.declared.byte_order.ByteOrder.{ByteOrder}
 use Rattle.raw_items.specs.Layout.{cut_of}
 use Rattle.raw_items.specs.Values.{items_of}
-use Rattle.top_block.proofs.Idles.{feed-progress}
+use Rattle.plant.proofs.Idles.{feed-progress}
 use Rattle.magbelu_c.specs.declared.reply.Reply as c
 use Rattle.magbelu_c.specs.Replies.{Calls, Told, cut_item, fed_as, fed_bytes, found, named, refused, stepped, told_maybe}
 

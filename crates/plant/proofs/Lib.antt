@@ -1,3 +1,4 @@
+pub mod Idles
 pub mod Spans
 pub mod Limits
 pub mod Refusals

@@ -3,7 +3,7 @@ use Rattle.flowgraph.specs.Flowgraph.{net_of}
 use Rattle.kinds.specs.Kind.{meaning_of}
 use Rattle.items.specs.Items.{type_of, numbers_of}
 use Rattle.stream_model.specs.Machine.{feed_of}
-use Rattle.top_block.proofs.Idles.{answered-idle, feed-progress}
+use Rattle.plant.proofs.Idles.{answered-idle, feed-progress}
 use Rattle.flow.proofs.RawFeeds.{answered_fed, none_else}
 use Rattle.flow.proofs.raw_run.put_on.Goals as goal
 

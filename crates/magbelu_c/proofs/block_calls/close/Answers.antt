@@ -4,7 +4,7 @@ use Rattle.stream_model.specs.Machine as machine
 use Rattle.flowgraph.specs.Flowgraph.{net_of}
 use Rattle.kinds.specs.Kind.{meaning_of}
 use Rattle.plant.specs.Answers.{refusal_of}
-use Rattle.top_block.proofs.Idles.{answered-idle, close-progress}
+use Rattle.plant.proofs.Idles.{answered-idle, close-progress}
 use Rattle.magbelu_c.proofs.Calling.{none_at, none_named, one_at, one_named, always}
 use Rattle.magbelu_c.proofs.block_calls.close.Goals as goal
 

@@ -8,7 +8,7 @@ use Rattle.items.specs.Items.{type_of, numbers_of}
 use Rattle.stores.specs.Marks.{mark_of}
 use Rattle.plant.specs.Answers.{refusal_of}
 use Rattle.raw_items.specs.Values.{items_of}
-use Rattle.top_block.proofs.Idles.{answered-idle, feed-progress}
+use Rattle.plant.proofs.Idles.{answered-idle, feed-progress}
 use Rattle.magbelu_c.proofs.Calling.{cut, fed, no_source, none_at, none_named, one_at, one_named}
 use Rattle.magbelu_c.specs.Replies.{cut_item, fed_bytes, is_fed, wants}
 use Rattle.magbelu_c.proofs.block_calls.feed.Goals as goal

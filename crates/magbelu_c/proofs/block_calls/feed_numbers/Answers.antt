@@ -7,7 +7,7 @@ use Rattle.kinds.specs.Kind.{meaning_of}
 use Rattle.stores.specs.Marks.{mark_of}
 use Rattle.plant.specs.Feeding.{feed_numbers}
 use Rattle.plant.specs.Answers.{refusal_of}
-use Rattle.top_block.proofs.Idles.{answered-idle}
+use Rattle.plant.proofs.Idles.{answered-idle}
 use Rattle.magbelu_c.proofs.Calling.{none_at, none_named, one_at, one_named, numbers-progress}
 use Rattle.magbelu_c.proofs.block_calls.feed_numbers.Goals as goal
 

@@ -7,7 +7,7 @@ use Rattle.flowgraph.specs.Flowgraph.{net_of}
 use Rattle.kinds.specs.Kind.{meaning_of}
 use Rattle.settings.specs.Values.{value_of}
 use Rattle.plant.specs.Answers.{refusal_of}
-use Rattle.top_block.proofs.Idles.{answered-idle, set-progress}
+use Rattle.plant.proofs.Idles.{answered-idle, set-progress}
 use Rattle.magbelu_c.proofs.Calling.{none_at, none_named, one_at, one_named, set_as}
 use Rattle.magbelu_c.proofs.block_calls.set_number.Goals as goal
 

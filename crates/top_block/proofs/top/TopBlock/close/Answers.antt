@@ -1,7 +1,7 @@
 use Rattle.stream_model.specs.Machine.{close_of}
 use Rattle.flowgraph.specs.Flowgraph.{net_of}
 use Rattle.kinds.specs.Kind.{meaning_of}
-use Rattle.top_block.proofs.Idles.{always-idle, close-progress}
+use Rattle.plant.proofs.Idles.{always-idle, close-progress}
 use Rattle.top_block.proofs.top.TopBlock.close.Goals as goal
 
 pub invariant_of-self : goal.invariant_of-self

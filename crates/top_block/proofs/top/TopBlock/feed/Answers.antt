@@ -4,7 +4,7 @@ use Rattle.flowgraph.specs.Flowgraph.{net_of}
 use Rattle.items.specs.Items.{type_of, numbers_of}
 use Rattle.kinds.specs.Kind.{meaning_of}
 use Rattle.stores.specs.Stores.{mark_of}
-use Rattle.top_block.proofs.Idles.{answered-idle, feed-progress}
+use Rattle.plant.proofs.Idles.{answered-idle, feed-progress}
 use Rattle.top_block.proofs.top.TopBlock.feed.Goals as goal
 
 pub invariant_of-self : goal.invariant_of-self

@@ -4,7 +4,7 @@ use Rattle.flowgraph.specs.Flowgraph.{net_of}
 use Rattle.kinds.specs.declared.kind.Kind.{Kind}
 use Rattle.kinds.specs.Kind.{meaning_of}
 use Rattle.plant.specs.Plant.{PlantState}
-use Rattle.top_block.proofs.Idles.{opening-idle}
+use Rattle.plant.proofs.Idles.{opening-idle}
 use Rattle.top_block.proofs.top.TopBlock.from_graph.Goals as goal
 
 pub invariant_of-result : goal.invariant_of-result

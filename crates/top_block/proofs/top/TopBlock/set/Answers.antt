@@ -2,7 +2,7 @@ use Rattle.stream_model.specs.Machine.{set_of}
 use Rattle.settings.specs.Values.{value_of}
 use Rattle.flowgraph.specs.Flowgraph.{net_of}
 use Rattle.kinds.specs.Kind.{meaning_of}
-use Rattle.top_block.proofs.Idles.{answered-idle, set-progress}
+use Rattle.plant.proofs.Idles.{answered-idle, set-progress}
 use Rattle.top_block.proofs.top.TopBlock.set.Goals as goal
 
 pub invariant_of-self : goal.invariant_of-self
