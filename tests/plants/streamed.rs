@@ -25,7 +25,6 @@ fn adder(rt: &impl Abort, alloc: Global) -> StreamingPlant<Kind> {
 }
 
 fn settled(rt: &impl Abort, alloc: Global, plant: &mut StreamingPlant<Kind>) -> Settled {
-    assert!(rt; plant.idle(), "idle");
     match plant.settle(alloc, 3) {
         Ok(settled) => settled,
         Err(_) => panic!(rt; "no memory"),

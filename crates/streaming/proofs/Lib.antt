@@ -1,3 +1,4 @@
+pub mod Idles
 pub mod Releases
 pub mod Pieces
 pub mod Joins

@@ -3,18 +3,24 @@ use Rattle.std.specs.Prelude.{ℕ, ◌+◌, ◌<◌, ◌≡◌, List, ◌++◌, 
 use Rattle.stream_model.specs.Tags.{Tag, tags_within}
 use Rattle.stream_model.specs.Meaning.{Meaning, input}
 use Rattle.stream_model.specs.Network.{Network, State, role_at, is_keeper, is_source, entering, tags_entering}
-use Rattle.stream_model.specs.Machine.{Capacities, Call, run_of}
+use Rattle.stream_model.specs.Machine.{Capacities, Call, run_of, is_idle}
 use Rattle.graph_model.specs.Gains.{longest_within_gain}
 use Rattle.machine_laws.specs.Sound.{fired}
 use Rattle.flowgraph.specs.Flowgraph.{Flowgraph, net_of}
 use Rattle.plant_laws.specs.Stored.{Firsts}
-use Rattle.plant.specs.Plant.{PlantState}
+use Rattle.plant.specs.declared.parts.Parts.{Parts}
+use Rattle.plant.specs.Plant.{IsRight, PlantState, plant_of}
 use Rattle.plant.specs.Opening.{opening_plant_within}
 
 -- the plant as it would be if it forgot nothing, and the first item that is kept in memory of each tape, and of what each sink has collected
 pub record StreamingState (B : Type 0) : Type 0 where
   pub plant : PlantState B
   pub kept : Firsts
+
+-- what a plant that streams keeps: it claims and commits in one, so that nothing is in flight between two calls
+pub record IsStreaming {B P : Type 0} (meaning : B → Meaning) (p : Parts B P) : Type 0 where
+  pub right : IsRight meaning p
+  pub idle : is_idle (plant_of p).state ≡ true
 
 -- how many items were drained of a sink: the first that is kept is the next
 abbrev pub drained : {B : Type 0} → StreamingState B → ℕ → ℕ

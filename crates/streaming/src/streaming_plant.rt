@@ -53,14 +53,14 @@ impl<B: Block> Drop for StreamingPlant<B> {
 }
 
 impl<B: Block> Model for StreamingPlant<B> {
-    ghost use Rattle.plant.specs.Plant.{IsRight, plant_of, spans_in};
-    ghost use Rattle.streaming.specs.Streaming.{StreamingState};
+    ghost use Rattle.plant.specs.Plant.{plant_of, spans_in};
+    ghost use Rattle.streaming.specs.Streaming.{IsStreaming, StreamingState};
 
     ghost Value = { StreamingState B };
 
     ghost view = { λ p. record { plant = plant_of p.parts; kept = (spans_in p.parts).firsts } };
 
-    ghost invariant = { λ p. IsRight B.meaning p.parts };
+    ghost invariant = { λ p. IsStreaming B.meaning p.parts };
 }
 
 impl<B: Block> StreamingPlant<B> {
@@ -83,13 +83,6 @@ impl<B: Block> StreamingPlant<B> {
         ensures { result.now ≡ self.now.plant.graph }
     {
         &self.parts.graph
-    }
-
-    /// Whether no claim is in flight, as it always is between calls.
-    pub fn idle(&self) -> bool
-        ensures { result ≡ is_idle self.now.plant.state }
-    {
-        self.parts.firings.idle()
     }
 
     /// Whether each block is done. Then each sink has taken its whole stream.
@@ -147,6 +140,7 @@ impl<B: Block> StreamingPlant<B> {
         ensures answered { Answered (step_of (net_of B.meaning self.old.plant.graph) self.old.plant.capacities self.old.plant.state block.0 max) self.old.plant self.new.plant (reply_of step_reply result) }
         ensures kept { self.new.kept ≡ self.old.kept }
     {
+        self.parts.graph.recall();
         self.parts.step(alloc, block, max)
     }
 
@@ -162,11 +156,9 @@ impl<B: Block> StreamingPlant<B> {
     /// Steps all blocks in their order, at most `max` firings each, again and again, until all are done, or a whole round did nothing. Then it
     /// forgets what sources have taken. Where it is out of memory it stops, and stays where its steps took it.
     pub fn settle(&mut self, alloc: Global, max: u32) -> Result<Settled, AllocError>
-        requires idle { is_idle self.old.plant.state ≡ true }
-        requires some { 1 ≤ max }
+        requires { 1 ≤ max }
         ensures same { self.new.plant ≡ record self.old.plant { state = self.new.plant.state } }
         ensures steps { StepsLead (net_of B.meaning self.old.plant.graph) self.old.plant.capacities max self.old.plant.state self.new.plant.state }
-        ensures idle { is_idle self.new.plant.state ≡ true }
         ensures settled { IfOk result (HasSettled (net_of B.meaning self.new.plant.graph) self.new.plant.capacities self.new.plant.state) }
         ensures whole { IfOk result (HoldsSettled (net_of B.meaning self.new.plant.graph) self.new.plant.state) }
         ensures sinks { self.new.kept.sinks ≡ self.old.kept.sinks }
@@ -215,12 +207,13 @@ impl<B: Block> StreamingPlant<B> {
         tags_in_memory(&self.parts, block)
     }
 
-    /// Recalls what every plant that streams keeps: the graph can run, the state is one that calls lead to, no more was drained of a sink than it
-    /// has taken, and whatever is called later, what was drained stays the beginning of the one stream that the equations of the blocks give. It
+    /// Recalls what every plant that streams keeps: the graph can run, the state is one that calls lead to, nothing is in flight, no more was drained
+    /// of a sink than it has taken, and whatever is called later, what was drained stays the beginning of the one stream that the equations of the blocks give. It
     /// does nothing.
     pub fn recall(&self)
         ensures runs { CanRun (net_of B.meaning self.now.plant.graph) }
         ensures sound { Sound (net_of B.meaning self.now.plant.graph) self.now.plant.capacities self.now.plant.state }
+        ensures idle { is_idle self.now.plant.state ≡ true }
         ensures taken { let net = net_of B.meaning self.now.plant.graph in (b : ℕ) → b < length net.nodes → is_keeper (role_at net b) ≡ true →
             drained self.now b ≤ fired self.now.plant.state b }
         ensures stays { let net = net_of B.meaning self.now.plant.graph in (b : ℕ) → b < length net.nodes → is_keeper (role_at net b) ≡ true →

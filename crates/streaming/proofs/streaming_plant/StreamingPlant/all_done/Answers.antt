@@ -8,4 +8,4 @@ returns-clause-value g c = rw (← c.self.view_is) (c.all_done.ensures (map hand
 
 pub returns-clause-whole : goal.returns-clause-whole
 returns-clause-whole g c h =
-    rw (← c.self.view_is) (all_done_is_whole _ _ _ (rw (← c.deref.ensures) c.recall.ensures.runs) c.self.invariant.keeps.sound (sym (c.all_done.ensures (map handed_of c.self.inside.parts.stores.handed.items)) ∙ h))
+    rw (← c.self.view_is) (all_done_is_whole _ _ _ (rw (← c.deref.ensures) c.recall.ensures.runs) c.self.invariant.right.keeps.sound (sym (c.all_done.ensures (map handed_of c.self.inside.parts.stores.handed.items)) ∙ h))
