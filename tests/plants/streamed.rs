@@ -106,6 +106,35 @@ fn what_is_no_call_of_it_is_refused(rt: HostRuntime) -> Result<(), Fail> {
     Ok(())
 }
 
+#[test]
+fn what_is_drained_is_appended(rt: HostRuntime) -> Result<(), Fail> {
+    let alloc = rt.alloc();
+    let mut plant = adder(&rt, alloc);
+    let marks = [mark(&rt, 2, b'k', -7)];
+    assert!(rt; plant.feed(SOURCE, &bytes(&rt, alloc, &[250, 1, 2]), &marks).is_ok(), "fed");
+    settled(&rt, alloc, &mut plant);
+    let mut items = bytes(&rt, alloc, &[99]);
+    let mut shorts = Items::empty(alloc, ItemType::Short);
+    let mut tags = Vec::new(alloc);
+    for (block, fault) in [(NOBODY, PlantFault::NoSuchBlock), (MIDDLE, PlantFault::NotSink)] {
+        let refused = plant.drain_into(block, 1, &mut shorts, &mut tags);
+        assert!(rt; matches!(refused, Err(was) if was == fault), "not drained");
+    }
+    let refused = plant.drain_into(SINK, 1, &mut shorts, &mut tags);
+    assert!(rt; matches!(refused, Err(PlantFault::ItemRange)), "bytes are no shorts");
+    assert!(rt; shorts.is_empty() && plant.items_in_memory(SINK) == 3, "nothing was drained");
+    let first = plant.drain_into(SINK, 2, &mut items, &mut tags);
+    assert!(rt; matches!(first, Ok(got) if got.from == 0 && got.held == 3 && !got.done), "two of three");
+    assert!(rt; items == bytes(&rt, alloc, &[99, 4, 11]) && tags.is_empty(), "behind what was there");
+    assert!(rt; plant.close(SOURCE).is_ok(), "closed");
+    settled(&rt, alloc, &mut plant);
+    let last = plant.drain_into(SINK, 9, &mut items, &mut tags);
+    assert!(rt; matches!(last, Ok(got) if got.from == 2 && got.held == 3 && got.done), "the end");
+    assert!(rt; items == bytes(&rt, alloc, &[99, 4, 11, 12]), "all three");
+    assert!(rt; tags.len() == 1 && tags[0].offset == 2 && tags[0].value == -7, "and the tag");
+    Ok(())
+}
+
 // A source through blocks that keep, repeat, delay and sum, into two sinks.
 const BLOCKS: [Make; 8] = [
     Make::Source,
@@ -191,8 +220,14 @@ fn in_pieces(
             }
             _ => {
                 let at = (chance >> 40) as usize % 2;
-                let piece = drained(rt, alloc, &mut plant, SINKS[at], (chance >> 45) % 30);
-                put(rt, &mut all[at], &piece);
+                let max = (chance >> 45) % 30;
+                if (chance >> 60) % 2 == 0 {
+                    let piece = drained(rt, alloc, &mut plant, SINKS[at], max);
+                    put(rt, &mut all[at], &piece);
+                } else {
+                    let Drained { items, tags } = &mut all[at];
+                    assert!(rt; plant.drain_into(SINKS[at], max, items, tags).is_ok(), "appended");
+                }
             }
         }
     }

@@ -1,14 +1,13 @@
 -- Pieces that are drained join, and what was drained stays a beginning of the stream.
-use Rattle.std.proofs.Common.{◌≡◌, ℕ, zero, suc, ℤ, ◌+◌, ◌-◌, ◌<◌, ◌≤◌, min, Bool, true, false, List, [], ◌∷◌, ◌++◌, length, map, take, drop, get_or, refl, arith, zero-le, ap, sym, ◌∙◌, subst, inl, inr, length-take, length-drop}
+use Rattle.std.proofs.Common.{◌≡◌, ℕ, zero, suc, ℤ, ◌+◌, ◌-◌, ◌<◌, ◌≤◌, min, Bool, true, List, [], ◌∷◌, ◌++◌, length, map, take, drop, get_or, refl, arith, zero-le, ap, sym, ◌∙◌, subst, inl, inr, length-take, length-drop}
 use Rattle.std.specs.Prelude.{slice_range, nat_le, nat_lt, ◌&&◌}
 use Rattle.std.specs.List.{filter}
 use Rattle.std.proofs.Math.Seq.{take-add}
-use Rattle.std.proofs.lemmas.Bool.{cases_Bool, lt-ltb, le-leb, lt-leb, le-ltb, leb-true, leb-false, ltb-true, ltb-false}
+use Rattle.std.proofs.lemmas.Bool.{cases_Bool, lt-ltb, le-leb, lt-leb, le-ltb, ltb-true, ltb-false}
 use Rattle.stream_model.specs.Tags.{Tag, IsOrdered, sorted_tags, tags_within}
 use Rattle.stream_model.proofs.TagOrder.{later, rest_ordered, offset_upto}
-use Rattle.stream_model.specs.Meaning.{input}
-use Rattle.stream_model.specs.Network.{Network, Progress, State, Handed, progress_at, handed_at, role_at, is_source, is_keeper, node_at, chosen, entering, items_of, tags_by, tags_entering, writer_of, writers_of}
-use Rattle.stream_model.specs.Machine.{Capacities, Call, next, run_of}
+use Rattle.stream_model.specs.Network.{Network, Progress, State, Handed, handed_at, role_at, is_source, is_keeper, node_at, chosen, items_of, tags_by, writer_of, writers_of}
+use Rattle.stream_model.specs.Machine.{Capacities, Call, next}
 use Rattle.stream_model.proofs.Streams.{elim-true, elim-false}
 use Rattle.stream_laws.specs.CanRun.{CanRun}
 use Rattle.stream_laws.proofs.Past.{take-fewer}
@@ -17,10 +16,9 @@ use Rattle.machine_laws.specs.Sound.{fired, reached, Sound}
 use Rattle.machine_laws.proofs.Following.{what_is_shown_stays}
 use Rattle.machine_laws.proofs.Ports.{keeper_takes_all, keeper_takes_each}
 use Rattle.machine_laws.proofs.Sounds.{calls_keep_sound}
-use Rattle.plant_laws.specs.Stored.{sink_at}
 use Rattle.plant_laws.proofs.Staying.{input_tags-stay}
 use Rattle.stores.specs.declared.stores.Stores.{Stores}
-use Rattle.stores.specs.Stores.{state_of, stored_in}
+use Rattle.stores.specs.Stores.{state_of}
 use Rattle.plant.specs.Plant.{Keeps}
 use Rattle.streaming.specs.Streaming.{GoesOn, StaysBegun, stream_into, tags_into}
 use Rattle.streaming.proofs.Pieces.{collected_all}

@@ -1,3 +1,4 @@
+pub mod Extents
 pub mod Idles
 pub mod Releases
 pub mod Pieces

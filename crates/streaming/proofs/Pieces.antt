@@ -1,5 +1,5 @@
 -- What a piece that a sink shows says of the sink.
-use Rattle.std.proofs.Common.{◌≡◌, ℕ, ℤ, ◌+◌, ◌-◌, ◌^◌, ◌<◌, ◌≤◌, min, Bool, true, false, not, List, [], length, map, take, drop, get_or, set, refl, arith, ap, sym, ◌∙◌, subst, ltb-true, ltb-false, length-take}
+use Rattle.std.proofs.Common.{◌≡◌, ℕ, ℤ, ◌+◌, ◌-◌, ◌^◌, ◌<◌, ◌≤◌, min, Bool, true, not, List, [], length, map, drop, get_or, set, arith, ap, sym, ◌∙◌, subst, ltb-true, ltb-false, length-take}
 use Rattle.std.specs.Prelude.{nat_lt, slice_range}
 use Rattle.std.proofs.lemmas.List.{map-set, get_or-map, length-map}
 use Rattle.stream_model.specs.Tags.{Tag, tags_within}

@@ -1,12 +1,11 @@
 -- A plant keeps what it keeps where a tape, or what a sink has collected, forgets what was taken.
 use Rattle.std.proofs.Common.{◌≡◌, ℕ, ◌+◌, ◌<◌, ◌≤◌, true, false, List, [], length, map, set, get_or, refl, arith, ap, sym, ◌∙◌, subst, inl, inr, get_or-set_same, get_or-set_other}
-use Rattle.std.proofs.lemmas.Bool.{cases_eq, cases_Bool}
+use Rattle.std.proofs.lemmas.Bool.{cases_eq}
 use Rattle.std.proofs.lemmas.List.{map-set, get_or-map, get_or_default, length-map}
 use Rattle.std.proofs.Math.Seq.{map-set_same}
 use Rattle.std.proofs.Math.ListN as plain
 use Rattle.std.specs.Prelude.{Bool, Vec}
 use Rattle.std.specs.Global.{Global}
-use Rattle.stream_model.specs.Tags.{Tag}
 use Rattle.stream_model.specs.Network.{Network, Progress, State, progress_at, role_at, is_source}
 use Rattle.stream_model.specs.Machine.{Capacities}
 use Rattle.stream_laws.specs.CanRun.{CanRun}
@@ -20,8 +19,8 @@ use Rattle.plant_laws.specs.Flights.{BringsTheSame}
 use Rattle.plant_laws.proofs.Forgetting.{what_is_taken_may_go}
 use Rattle.stores.specs.declared.intake.Intake.{Intake}
 use Rattle.stores.specs.declared.stores.Stores.{Stores}
-use Rattle.stores.specs.Stores.{HasForgotten, handed_of, tape_of, collected_of, state_of, stored_in, stored_of, rows_in}
-use Rattle.stores.specs.Lending.{KeepsAllRoom, no_sink, sink_state}
+use Rattle.stores.specs.Stores.{HasForgotten, handed_of, tape_of, collected_of, state_of, stored_in}
+use Rattle.stores.specs.Lending.{KeepsAllRoom, no_sink}
 use Rattle.stores.proofs.Rooms.{room_stays}
 use Rattle.plant.specs.Plant.{Keeps}
 use Rattle.plant.proofs.Moves.{IsHanded, stored_then, room_handed, stored_here}

@@ -2,7 +2,7 @@
 use Rattle.std.specs.Prelude.{ℕ, ◌+◌, ◌<◌, ◌≡◌, List, ◌++◌, length, take, true, slice_index_or, slice_set, ℤ}
 use Rattle.stream_model.specs.Tags.{Tag, tags_within}
 use Rattle.stream_model.specs.Meaning.{Meaning, input}
-use Rattle.stream_model.specs.Network.{Network, State, role_at, is_keeper, is_source, entering, tags_entering}
+use Rattle.stream_model.specs.Network.{Network, State, role_at, is_source, entering, tags_entering}
 use Rattle.stream_model.specs.Machine.{Capacities, Call, run_of, is_idle}
 use Rattle.graph_model.specs.Gains.{longest_within_gain}
 use Rattle.machine_laws.specs.Sound.{fired}
@@ -41,11 +41,11 @@ tags_into net st b = tags_entering net st.handed b 0
 abbrev pub streaming_opening : {B : Type 0} → (B → Meaning) → Flowgraph B → PlantState B
 streaming_opening meaning graph = opening_plant_within (longest_within_gain (net_of meaning graph)) meaning graph
 
--- so many more items of a sink were drained, and nothing else changed
-pub record HasDrained {B : Type 0} (old new : StreamingState B) (sink count : ℕ) : Type 0 where
+-- a sink was drained up to an item, and nothing else changed
+pub record HasDrainedTo {B : Type 0} (old new : StreamingState B) (sink to : ℕ) : Type 0 where
   pub plant : new.plant ≡ old.plant
   pub tapes : new.kept.tapes ≡ old.kept.tapes
-  pub sinks : new.kept.sinks ≡ slice_set old.kept.sinks sink (drained old sink + count)
+  pub sinks : new.kept.sinks ≡ slice_set old.kept.sinks sink to
 
 -- of no tape is anything kept that its source has taken
 abbrev pub KeepsNoTaken : {B : Type 0} → Network → StreamingState B → Type 0

@@ -14,11 +14,12 @@
 //! the whole of it when the sink is done.
 #![tactic(auto)]
 
-mod draining;
+pub mod draining;
 mod forgetting;
 mod memory;
 pub mod streaming_plant;
 
+pub use draining::Appended;
 pub use flowgraph::{Block, BlockId, Valid};
 pub use plant::{BlockNeed, Closed, Fed, Need, Piece, PlantFault, Settled, Step, Taken};
 pub use streaming_plant::StreamingPlant;

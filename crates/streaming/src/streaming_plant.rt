@@ -1,6 +1,6 @@
 //! The plant that streams.
 
-ghost use Rattle.std.specs.Prelude.{◌≡◌, ◌-◌, ◌*◌, ◌<◌, ◌≤◌, ℕ, length, map, true, IsOk, IfOk, IfErr, OnErr};
+ghost use Rattle.std.specs.Prelude.{◌≡◌, ◌+◌, ◌++◌, ◌-◌, ◌*◌, ◌<◌, ◌≤◌, ℕ, length, map, true, IsOk, IfOk, IfErr, OnErr};
 ghost use Rattle.std.specs.List.{Any};
 ghost use Rattle.stream_model.specs.Machine as machine;
 ghost use Rattle.stream_model.specs.Machine.{step_of, feed_of, close_of, set_of, read_of, is_idle, is_all_done, is_quiet, IsWhole, HoldsAll};
@@ -16,9 +16,10 @@ ghost use Rattle.plant.specs.Plant.{ForgetsNone};
 ghost use Rattle.plant.specs.Answers.{Answered, AnsweredAlways, AnsweredBy, piece_reply, reply_of, step_reply};
 ghost use Rattle.plant.specs.Settling.{StepsLead, HasSettled, HoldsSettled};
 ghost use Rattle.plant.specs.Waits.{need_of, wait_in};
-ghost use Rattle.streaming.specs.Streaming.{GoesOn, HasDrained, KeepsNoTaken, StaysBegun, drained, streaming_opening, tape_kept};
+ghost use Rattle.streaming.specs.Draining.{IsAtSink, MayBeRefused, drain_fault, end_of, items_taken, tags_taken};
+ghost use Rattle.streaming.specs.Streaming.{GoesOn, HasDrainedTo, KeepsNoTaken, StaysBegun, drained, streaming_opening, tape_kept};
 
-use crate::draining::drain;
+use crate::draining::{Appended, drain, drain_into};
 use crate::forgetting::forget_taken;
 use crate::memory::{items_in_memory, tags_in_memory};
 use firings::BlockNeed;
@@ -29,6 +30,7 @@ use settings::Value;
 use std::alloc::{AllocError, Global};
 use std::fmt;
 use std::marker::Model;
+use tags::Tag;
 
 /// A flowgraph that runs in constant memory, for as long as it is fed. A contract sees it as a plant that forgets nothing, with how much is kept.
 ///
@@ -176,11 +178,34 @@ impl<B: Block> StreamingPlant<B> {
         ensures answered { AnsweredBy (read_of (net_of B.meaning self.old.plant.graph) self.old.plant.state sink.0 (drained self.old sink.0) max) (reply_of piece_reply result) }
         ensures typed { IfOk result (λ piece. type_of piece.items ≡ (node_at (net_of B.meaning self.old.plant.graph) sink.0).meaning.inputs.item) }
         ensures joins { IfOk result (λ piece. GoesOn (net_of B.meaning self.old.plant.graph) self.old.plant.state sink.0 (drained self.old sink.0) (numbers_of piece.items) (map tag_of piece.tags.items)) }
-        ensures drains { IfOk result (λ piece. HasDrained self.old self.new sink.0 (length (numbers_of piece.items))) }
+        ensures drains { IfOk result (λ piece. HasDrainedTo self.old self.new sink.0 (drained self.old sink.0 + length (numbers_of piece.items))) }
         ensures err { OnErr result (self.new ≡ self.old) }
         ensures whole { IfOk result (λ piece. piece.done ≡ true → HoldsAll (net_of B.meaning self.old.plant.graph) self.old.plant.state sink.0) }
     {
         drain(&mut self.parts, alloc, sink, max)
+    }
+
+    /// Takes away what `drain` takes, and appends it to items of the sink's type and to tags, so that a caller uses the same memory again and again.
+    /// Refused are, in this order, `NoSuchBlock`, `NotSink`, `ItemRange` for items of another type, and `Memory`; an `Err` changes nothing.
+    pub fn drain_into(
+        &mut self,
+        sink: BlockId,
+        max: u64,
+        items: &mut Items,
+        tags: &mut Vec<Tag>,
+    ) -> Result<Appended, PlantFault>
+        ensures refused { MayBeRefused (drain_fault (net_of B.meaning self.old.plant.graph) sink.0 (type_of items.old)) result }
+        ensures at { IfOk result (IsAtSink self.old.plant.state sink.0 (drained self.old sink.0)) }
+        ensures items { IfOk result (λ d. numbers_of items.new ≡ numbers_of items.old ++ items_taken (net_of B.meaning self.old.plant.graph) self.old.plant.state sink.0 d max) }
+        ensures tags { IfOk result (λ d. map tag_of tags.new.items ≡ map tag_of tags.old.items ++ tags_taken (net_of B.meaning self.old.plant.graph) self.old.plant.state sink.0 d max) }
+        ensures item_type { type_of items.new ≡ type_of items.old }
+        ensures joins { let net = net_of B.meaning self.old.plant.graph in
+            IfOk result (λ d. GoesOn net self.old.plant.state sink.0 d.from (items_taken net self.old.plant.state sink.0 d max) (tags_taken net self.old.plant.state sink.0 d max)) }
+        ensures drains { IfOk result (λ d. HasDrainedTo self.old self.new sink.0 (end_of d max)) }
+        ensures err { OnErr result ((self.new ≡ self.old) × (numbers_of items.new ≡ numbers_of items.old) × (tags.new.items ≡ tags.old.items)) }
+        ensures whole { IfOk result (λ d. d.done ≡ true → HoldsAll (net_of B.meaning self.old.plant.graph) self.old.plant.state sink.0) }
+    {
+        drain_into(&mut self.parts, sink, max, items, tags)
     }
 
     /// What a step of a block would come to, or what it waits for, and of which block. `NoSuchBlock` is refused. Nothing changes, and it takes no

@@ -1,4 +1,4 @@
-use Rattle.std.proofs.Common.{◌≡◌, ◌<◌, ◌≤◌, true, length, arith, ap, refl, sym, ◌∙◌, get_or-set_other}
+use Rattle.std.proofs.Common.{◌<◌, length, arith, ap, refl, ◌∙◌}
 use Rattle.std.specs.Arc.{arc_value}
 use Rattle.std.proofs.lemmas.List.{length-map}
 use Rattle.stream_model.specs.Network.{Progress}

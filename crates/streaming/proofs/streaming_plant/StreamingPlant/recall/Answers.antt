@@ -1,10 +1,6 @@
-use Rattle.std.proofs.Common.{◌≡◌, ◌≤◌, ◌<◌, sym, subst, ◌∙◌}
 use Rattle.std.specs.Arc.{arc_value}
-use Rattle.stream_model.specs.Network.{role_at, is_keeper}
-use Rattle.machine_laws.specs.Sound.{fired}
 use Rattle.flowgraph.specs.Flowgraph.{net_of}
-use Rattle.stores.specs.Stores.{state_of, stored_in}
-use Rattle.streaming.specs.Streaming.{StreamingState, StaysBegun, drained}
+use Rattle.stores.specs.Stores.{state_of}
 use Rattle.streaming.proofs.Joins.{stays_begun}
 use Rattle.streaming.proofs.Pieces.{drained_few}
 use Rattle.streaming.proofs.streaming_plant.StreamingPlant.recall.Goals as goal

@@ -1,4 +1,3 @@
-use Rattle.std.specs.Arc.{arc_value}
 use Rattle.stream_model.specs.Machine.{step_of}
 use Rattle.flowgraph.specs.Flowgraph.{net_of}
 use Rattle.plant.specs.Plant.{plant_of}
