@@ -1,4 +1,4 @@
-//! What each program of `benches/` prints without words: the first word is its name.
+//! What each program of `benches/`, without words, and that of `examples/embed` print: the first word is its name.
 #![tactic(auto)]
 
 use std::process::ExitCode;
@@ -12,6 +12,12 @@ fn main(rt: HostRuntime) -> io::Result<ExitCode> {
         [_, word] if word.as_str() == "graph_bench" => graph_bench::small::print_small(&rt)?,
         [_, word] if word.as_str() == "thread_bench" => {
             thread_bench::small::print_small(rt, rt.alloc())?;
+        }
+        [_, word] if word.as_str() == "embed" => {
+            if let Err(fault) = embed::main(rt) {
+                eprintln!(rt; "{fault}")?;
+                return Ok(ExitCode::FAILURE);
+            }
         }
         _ => return Ok(ExitCode::from(2)),
     }

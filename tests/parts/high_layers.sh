@@ -1,0 +1,10 @@
+#!/usr/bin/env bash
+# Tests of libraries through their public calls: of those above the plant, and of files of the program in tests/terminal.
+set -euo pipefail
+# shellcheck source=tests/layers.sh
+source "$(dirname -- "$(readlink -f -- "${BASH_SOURCE[0]}")")/../layers.sh"
+
+# shellcheck disable=SC2034  # They are for the script that is sourced.
+folders=(threads graph_files streams terminal) libraries=(flow clap)
+
+"$1"

@@ -1,0 +1,10 @@
+#!/usr/bin/env bash
+# Tests of libraries through their public calls: of those up to the plant.
+set -euo pipefail
+# shellcheck source=tests/layers.sh
+source "$(dirname -- "$(readlink -f -- "${BASH_SOURCE[0]}")")/../layers.sh"
+
+# shellcheck disable=SC2034  # They are for the script that is sourced.
+folders=(leaves kernels blocks flowgraphs plants) libraries=(streaming raw_items rates firings kinds)
+
+"$1"
