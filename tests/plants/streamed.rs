@@ -135,6 +135,27 @@ fn what_is_drained_is_appended(rt: HostRuntime) -> Result<(), Fail> {
     Ok(())
 }
 
+#[test]
+fn a_round_steps_each_block_once(rt: HostRuntime) -> Result<(), Fail> {
+    let alloc = rt.alloc();
+    let mut plant = adder(&rt, alloc);
+    assert!(rt; plant.feed(SOURCE, &bytes(&rt, alloc, &[1, 2, 3]), &[]).is_ok(), "fed");
+    assert!(rt; plant.close(SOURCE).is_ok(), "closed");
+    for held in [2, 3] {
+        assert!(rt; matches!(plant.round(alloc, 2), Ok(true)), "they moved on");
+        assert!(rt; drained(&rt, alloc, &mut plant, SINK, 0).held == held, "two firings each");
+        assert!(rt; plant.items_in_memory(SOURCE) as u64 <= 2 * (3 - held), "the rest is kept");
+    }
+    let mut rounds = 0;
+    while matches!(plant.round(alloc, 2), Ok(true)) {
+        rounds += 1;
+        assert!(rt; rounds <= 3, "each block is done once");
+    }
+    assert!(rt; plant.all_done(), "done");
+    assert!(rt; drained(&rt, alloc, &mut plant, SINK, 9).items == bytes(&rt, alloc, &[11, 12, 13]), "all three");
+    Ok(())
+}
+
 // A source through blocks that keep, repeat, delay and sum, into two sinks.
 const BLOCKS: [Make; 8] = [
     Make::Source,

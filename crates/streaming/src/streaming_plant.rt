@@ -14,7 +14,7 @@ ghost use Rattle.flowgraph.specs.Flowgraph.{net_of};
 ghost use Rattle.stores.specs.Stores.{mark_of};
 ghost use Rattle.plant.specs.Plant.{ForgetsNone};
 ghost use Rattle.plant.specs.Answers.{Answered, AnsweredAlways, AnsweredBy, piece_reply, reply_of, step_reply};
-ghost use Rattle.plant.specs.Settling.{StepsLead, HasSettled, HoldsSettled};
+ghost use Rattle.plant.specs.Settling.{StepsLead, HasMoved, HasSettled, HoldsSettled};
 ghost use Rattle.plant.specs.Waits.{need_of, wait_in};
 ghost use Rattle.streaming.specs.Draining.{IsAtSink, MayBeRefused, drain_fault, end_of, items_taken, tags_taken};
 ghost use Rattle.streaming.specs.Streaming.{GoesOn, HasDrainedTo, KeepsNoTaken, StaysBegun, drained, streaming_opening, tape_kept};
@@ -169,6 +169,22 @@ impl<B: Block> StreamingPlant<B> {
         let settled = self.parts.settle(alloc, max, &mut Unwatched)?;
         forget_taken(&mut self.parts)?;
         Ok(settled)
+    }
+
+    /// Steps each block once, in their order, at most `max` firings each, forgets what sources have taken, and returns whether a block moved on. It is
+    /// for a caller who has more to do than to settle: where none moved on, the plant is quiet. Where it is out of memory it stops, and stays where
+    /// its steps took it.
+    pub fn round(&mut self, alloc: Global, max: u32) -> Result<bool, AllocError>
+        requires { 1 ≤ max }
+        ensures same { self.new.plant ≡ record self.old.plant { state = self.new.plant.state } }
+        ensures steps { StepsLead (net_of B.meaning self.old.plant.graph) self.old.plant.capacities max self.old.plant.state self.new.plant.state }
+        ensures moved { IfOk result (HasMoved (net_of B.meaning self.new.plant.graph) self.new.plant.capacities self.old.plant.state self.new.plant.state) }
+        ensures sinks { self.new.kept.sinks ≡ self.old.kept.sinks }
+        ensures taken { IfOk result (λ _. KeepsNoTaken (net_of B.meaning self.new.plant.graph) self.new) }
+    {
+        let moved = self.parts.round(alloc, max)?;
+        forget_taken(&mut self.parts)?;
+        Ok(moved)
     }
 
     /// Takes at most `max` items away of those that a sink has taken and that were not drained yet, with the tags on them. Refused are, in this
