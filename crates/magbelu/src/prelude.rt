@@ -5,7 +5,7 @@ pub use crate::blocks::{
 };
 pub use crate::error::Error;
 pub use crate::graphs::{BlockId, Graph, Options, Policy};
-pub use crate::plants::{Claim, Piece, Plant, Settled, Step};
+pub use crate::plants::{Claim, Piece, Plant, Settled, Step, StreamingPlant};
 pub use crate::runs::{Outcome, RunError, TopBlock};
 pub use crate::streams::{ItemFault, ItemType, Items, Mark, Tag, TagKey};
 pub use items::Refusal;
