@@ -156,6 +156,22 @@ fn a_round_steps_each_block_once(rt: HostRuntime) -> Result<(), Fail> {
     Ok(())
 }
 
+#[test]
+fn what_a_source_has_taken_is_released(rt: HostRuntime) -> Result<(), Fail> {
+    let alloc = rt.alloc();
+    let mut plant = adder(&rt, alloc);
+    assert!(rt; plant.feed(SOURCE, &bytes(&rt, alloc, &[1, 2, 3]), &[]).is_ok(), "fed");
+    assert!(rt; matches!(plant.step(alloc, SOURCE, 2), Ok(Step::Did(2))), "two of three");
+    assert!(rt; plant.items_in_memory(SOURCE) == 3, "a step forgets nothing");
+    assert!(rt; plant.release().is_ok(), "nobody shares the tape");
+    let kept = plant.items_in_memory(SOURCE);
+    assert!(rt; kept == 1 || kept == 2, "one is kept, and at most as many again");
+    plant.recall();
+    settled(&rt, alloc, &mut plant);
+    assert!(rt; drained(&rt, alloc, &mut plant, SINK, 9).items == bytes(&rt, alloc, &[11, 12, 13]), "all three");
+    Ok(())
+}
+
 // A source through blocks that keep, repeat, delay and sum, into two sinks.
 const BLOCKS: [Make; 8] = [
     Make::Source,
