@@ -35,6 +35,14 @@ refused_here net b item in' keeper result other same = by_type (types_agree item
     by_type true e = let member = lt-ltb b (length net.nodes) in' in rw (member, keeper, e) (same e)
     by_type false e = let member = lt-ltb b (length net.nodes) in' in rw (member, keeper, e) (other e)
 
+-- and it is right where nothing is refused
+pub agree_here : (net : Network) (b : ℕ) (item : ItemType) → b < length net.nodes → is_keeper (role_at net b) ≡ true → drain_fault net b item ≡ None → types_agree item (node_at net b).meaning.inputs.item ≡ true
+agree_here net b item in' keeper = by_type (types_agree item (node_at net b).meaning.inputs.item) refl
+  where
+    by_type : (t : Bool) → types_agree item (node_at net b).meaning.inputs.item ≡ t → drain_fault net b item ≡ None → types_agree item (node_at net b).meaning.inputs.item ≡ true
+    by_type true e = λ none. e
+    by_type false e = let member = lt-ltb b (length net.nodes) in' in rw (member, keeper, e) (λ none. absurd (cc))
+
 module _ (net : Network) (caps : Capacities) (can : CanRun net) (s : Stores) (ps : List Progress) (keeps : Keeps net caps s ps) (b : ℕ) (in' : b < length net.nodes) (keeper : is_keeper (role_at net b) ≡ true)
     (r : RecordingState) (r_is : r ≡ get_or s.sinks.items b r) (from max to : ℕ) (from_is : from ≡ get_or (drains s.sinks.items) b 0) (to_is : to ≡ min (from + max) (fired (state_of s.handed.items ps) b)) where
   abbrev st : State

@@ -1,5 +1,5 @@
 -- What a drain that appends answers.
-use Rattle.std.specs.Prelude.{ℕ, ℤ, ◌≡◌, ◌+◌, List, min, slice_range, ⊤, Option, Some, None, Result, Ok, Err, not, nat_lt, if◌then◌else◌, length}
+use Rattle.std.specs.Prelude.{ℕ, ℤ, ◌≡◌, ◌+◌, ◌≤◌, List, min, slice_range, ⊤, Option, Some, None, Result, Ok, Err, not, nat_lt, if◌then◌else◌, length}
 use Rattle.stream_model.specs.declared.vocabulary.ItemType.{ItemType}
 use Rattle.stream_model.specs.Numbers.{types_agree}
 use Rattle.stream_model.specs.Tags.{Tag, tags_within}
@@ -26,6 +26,11 @@ items_taken net st b d max = slice_range (stream_into net st b) d.from (end_of d
 
 abbrev pub tags_taken : Network → State → ℕ → Appended → ℕ → List Tag
 tags_taken net st b d max = tags_within d.from (end_of d max) (tags_into net st b)
+
+-- where a sink was drained up to an item, there is room for all that a drain of at most max takes away: beside `spare` items and `len` tags of `most`
+pub record HasRoom (net : Network) (st : State) (b from max spare len most : ℕ) : Type 0 where
+  pub items : min (from + max) (fired st b) ≤ spare + from
+  pub tags : len + length (tags_within from (min (from + max) (fired st b)) (tags_into net st b)) ≤ most
 
 -- why a drain into items of a type is refused
 abbrev pub drain_fault : Network → ℕ → ItemType → Option PlantFault

@@ -1,18 +1,18 @@
 //! What sinks have taken is drained of them.
 
-ghost use Rattle.std.specs.Prelude.{◌≡◌, ◌+◌, ◌++◌, ◌<◌, ◌≤◌, length, map, min, true, false, Err, IsOk, IfOk, IfErr, OnOk, OnErr, slice_index_or, slice_range, slice_set};
+ghost use Rattle.std.specs.Prelude.{◌≡◌, ◌+◌, ◌++◌, ◌<◌, ◌≤◌, length, map, min, true, false, Err, None, IsOk, IfOk, IfErr, OnOk, OnErr, slice_index_or, slice_range, slice_set, vec_len, vec_capacity};
 ghost use Rattle.stream_model.specs.Numbers.{types_agree};
 ghost use Rattle.stream_model.specs.Tags.{tags_within};
 ghost use Rattle.stream_model.specs.Machine.{read_of, HoldsAll};
 ghost use Rattle.stream_model.specs.Network.{node_at, role_at, is_keeper};
-ghost use Rattle.items.specs.Items.{type_of, numbers_of};
+ghost use Rattle.items.specs.Items.{type_of, numbers_of, spare_of};
 ghost use Rattle.items.specs.Tags.{tag_of};
 ghost use Rattle.flowgraph.specs.Flowgraph.{net_of};
 ghost use Rattle.plant.specs.declared.fault.PlantFault.TheVariants.{NoSuchBlock, NotSink, ItemRange, Memory};
 ghost use Rattle.plant.specs.Plant.{IsRight, plant_of, spans_in};
 ghost use Rattle.plant.specs.Answers.{AnsweredBy, reply_of, piece_reply};
 ghost use Rattle.streaming.specs.Streaming.{GoesOn};
-ghost use Rattle.streaming.specs.Draining.{IsAtSink, MayBeRefused, drain_fault, end_of, items_taken, tags_taken};
+ghost use Rattle.streaming.specs.Draining.{HasRoom, IsAtSink, MayBeRefused, drain_fault, end_of, items_taken, tags_taken};
 
 use flowgraph::{Block, BlockId};
 use items::Items;
@@ -90,6 +90,9 @@ pub(crate) fn drain_into<B: Block>(
     ensures right { IsRight B.meaning parts.new }
     ensures same { plant_of parts.new ≡ plant_of parts.old }
     ensures refused { MayBeRefused (drain_fault (net_of B.meaning (plant_of parts.old).graph) sink.0 (type_of items.old)) result }
+    ensures succeeds { let plant = plant_of parts.old in let net = net_of B.meaning plant.graph in
+        drain_fault net sink.0 (type_of items.old) ≡ None →
+        HasRoom net plant.state sink.0 (slice_index_or (spans_in parts.old).firsts.sinks sink.0 0) max (spare_of items.old) (vec_len tags.old) (vec_capacity tags.old) → IsOk result }
     ensures at { let plant = plant_of parts.old in
         IfOk result (IsAtSink plant.state sink.0 (slice_index_or (spans_in parts.old).firsts.sinks sink.0 0)) }
     ensures items { let plant = plant_of parts.old in
@@ -157,6 +160,7 @@ fn append(
     requires kept { collected.now.from ≤ from }
     requires ordered { from ≤ to }
     requires within { to ≤ length collected.now.items }
+    ensures succeeds { types_agree (type_of items.old) collected.now.item ≡ true → to ≤ spare_of items.old + from → vec_len tags.old + length (tags_within from to collected.now.tags) ≤ vec_capacity tags.old → IsOk result }
     ensures other { types_agree (type_of items.old) collected.now.item ≡ false → result ≡ Err ItemRange }
     ensures same { types_agree (type_of items.old) collected.now.item ≡ true → IfErr result (λ fault. fault ≡ Memory) }
     ensures item_type { type_of items.new ≡ type_of items.old }

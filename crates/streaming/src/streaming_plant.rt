@@ -1,13 +1,13 @@
 //! The plant that streams.
 
-ghost use Rattle.std.specs.Prelude.{◌≡◌, ◌+◌, ◌++◌, ◌-◌, ◌*◌, ◌<◌, ◌≤◌, ℕ, length, map, true, IsOk, IfOk, IfErr, OnErr};
+ghost use Rattle.std.specs.Prelude.{◌≡◌, ◌+◌, ◌++◌, ◌-◌, ◌*◌, ◌<◌, ◌≤◌, ℕ, length, map, true, None, IsOk, IfOk, IfErr, OnErr, vec_len, vec_capacity};
 ghost use Rattle.std.specs.List.{Any};
 ghost use Rattle.stream_model.specs.Machine as machine;
 ghost use Rattle.stream_model.specs.Machine.{step_of, feed_of, close_of, set_of, read_of, is_idle, is_all_done, is_quiet, IsWhole, HoldsAll};
 ghost use Rattle.stream_model.specs.Network.{node_at, handed_at, role_at, is_keeper, is_source};
 ghost use Rattle.stream_laws.specs.CanRun.{CanRun};
 ghost use Rattle.machine_laws.specs.Sound.{Sound, fired};
-ghost use Rattle.items.specs.Items.{type_of, numbers_of};
+ghost use Rattle.items.specs.Items.{type_of, numbers_of, spare_of};
 ghost use Rattle.items.specs.Tags.{tag_of};
 ghost use Rattle.settings.specs.Values.{value_of};
 ghost use Rattle.flowgraph.specs.Flowgraph.{net_of};
@@ -16,7 +16,7 @@ ghost use Rattle.plant.specs.Plant.{ForgetsNone};
 ghost use Rattle.plant.specs.Answers.{Answered, AnsweredAlways, AnsweredBy, piece_reply, reply_of, step_reply};
 ghost use Rattle.plant.specs.Settling.{StepsLead, HasMoved, HasSettled, HoldsSettled};
 ghost use Rattle.plant.specs.Waits.{need_of, wait_in};
-ghost use Rattle.streaming.specs.Draining.{IsAtSink, MayBeRefused, drain_fault, end_of, items_taken, tags_taken};
+ghost use Rattle.streaming.specs.Draining.{HasRoom, IsAtSink, MayBeRefused, drain_fault, end_of, items_taken, tags_taken};
 ghost use Rattle.streaming.specs.Streaming.{GoesOn, HasDrainedTo, KeepsNoTaken, StaysBegun, drained, streaming_opening, tape_kept};
 
 use crate::draining::{Appended, drain, drain_into};
@@ -201,8 +201,9 @@ impl<B: Block> StreamingPlant<B> {
         drain(&mut self.parts, alloc, sink, max)
     }
 
-    /// Takes away what `drain` takes, and appends it to items of the sink's type and to tags, so that a caller uses the same memory again and again.
-    /// Refused are, in this order, `NoSuchBlock`, `NotSink`, `ItemRange` for items of another type, and `Memory`; an `Err` changes nothing.
+    /// Takes away what `drain` takes, and appends it to items of the sink's type and to tags, so that a caller uses the same memory again and again:
+    /// where there is room, it takes none. Refused are, in this order, `NoSuchBlock`, `NotSink`, `ItemRange` for items of another type, and `Memory`;
+    /// an `Err` changes nothing.
     pub fn drain_into(
         &mut self,
         sink: BlockId,
@@ -211,6 +212,9 @@ impl<B: Block> StreamingPlant<B> {
         tags: &mut Vec<Tag>,
     ) -> Result<Appended, PlantFault>
         ensures refused { MayBeRefused (drain_fault (net_of B.meaning self.old.plant.graph) sink.0 (type_of items.old)) result }
+        ensures succeeds { let net = net_of B.meaning self.old.plant.graph in
+            drain_fault net sink.0 (type_of items.old) ≡ None →
+            HasRoom net self.old.plant.state sink.0 (drained self.old sink.0) max (spare_of items.old) (vec_len tags.old) (vec_capacity tags.old) → IsOk result }
         ensures at { IfOk result (IsAtSink self.old.plant.state sink.0 (drained self.old sink.0)) }
         ensures items { IfOk result (λ d. numbers_of items.new ≡ numbers_of items.old ++ items_taken (net_of B.meaning self.old.plant.graph) self.old.plant.state sink.0 d max) }
         ensures tags { IfOk result (λ d. map tag_of tags.new.items ≡ map tag_of tags.old.items ++ tags_taken (net_of B.meaning self.old.plant.graph) self.old.plant.state sink.0 d max) }

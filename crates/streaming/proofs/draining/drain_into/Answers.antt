@@ -1,14 +1,15 @@
-use Rattle.std.proofs.Common.{◌≡◌, ◌+◌, ◌++◌, map, min, set, arith, ap, refl, subst, sym, ◌∙◌}
-use Rattle.std.specs.Prelude.{slice_range}
+use Rattle.std.proofs.Common.{◌≡◌, ◌+◌, ◌++◌, length, map, min, set, arith, ap, refl, subst, sym, ◌∙◌}
+use Rattle.std.specs.Prelude.{IsOk, slice_range, vec_len, vec_capacity}
 use Rattle.std.specs.Arc.{arc_value}
 use Rattle.stream_model.specs.Numbers.{types_agree}
 use Rattle.stream_model.specs.Tags.{tags_within}
 use Rattle.machine_laws.specs.Sound.{fired}
-use Rattle.items.specs.Items.{type_of, numbers_of}
+use Rattle.items.specs.Items.{type_of, numbers_of, spare_of}
 use Rattle.items.specs.Tags.{tag_of}
 use Rattle.flowgraph.specs.Flowgraph.{net_of}
 use Rattle.stores.specs.Stores.{state_of}
 use Rattle.streaming.specs.Streaming.{GoesOn, stream_into, tags_into}
+use Rattle.streaming.specs.Draining.{HasRoom}
 use Rattle.streaming.proofs.Pieces.{drains, drains_with}
 use Rattle.streaming.proofs.Releases.{keeps_sink}
 use Rattle.streaming.proofs.Extents as extent
@@ -160,3 +161,25 @@ returns-clause-whole g c done =
     let here = c.in_ok-appended.ensures.inside in
     let to_is : x.to ≡ min (x.appended.from + c.args.max) (fired st b) = c.in_ok-appended.ensures.to ∙ ap (λ n. min (x.appended.from + c.args.max) n) at.holds in
     extent.whole net _ (rw (← c.deref.ensures) c.recall.ensures.runs) s ps c.requires.keeps b here.0 here.1 c.index.result.now c.index.ensures x.appended.from c.args.max x.to at.begins to_is (sym at.ends ∙ done)
+
+pub returns-in_err-append-clause-succeeds : goal.returns-in_err-append-clause-succeeds
+returns-in_err-append-clause-succeeds g c none room =
+    let net = net_of g.B.Block.meaning (arc_value c.args.parts.now.graph) in
+    let s = c.args.parts.now.stores in
+    let ps = c.args.parts.now.firings in
+    let st = state_of s.handed.items ps in
+    let b = c.args.sink.0 in
+    let x = c.in_ok-appended.field-0 in
+    let at = c.in_ok-appended.ensures.at in
+    let here = c.in_ok-appended.ensures.inside in
+    let to_is : x.to ≡ min (x.appended.from + c.args.max) (fired st b) = c.in_ok-appended.ensures.to ∙ ap (λ n. min (x.appended.from + c.args.max) n) at.holds in
+    let there : HasRoom net st b x.appended.from c.args.max (spare_of c.args.items.now) (vec_len c.args.tags.now) (vec_capacity c.args.tags.now) =
+    subst (λ n. HasRoom net st b n c.args.max (spare_of c.args.items.now) (vec_len c.args.tags.now) (vec_capacity c.args.tags.now)) (sym at.begins) room in
+    let typed = extent.typed net _ (rw (← c.deref.ensures) c.recall.ensures.runs) s ps c.requires.keeps b here.0 here.1 c.index.result.now c.index.ensures x.appended.from c.args.max x.to at.begins to_is in
+    let agree = ap (types_agree (type_of c.args.items.now)) typed ∙ extent.agree_here net b (type_of c.args.items.now) here.0 here.1 none in
+    let few = there.items in
+    let marks = there.tags in
+    let shown = ap length (extent.tags_shown net _ (rw (← c.deref.ensures) c.recall.ensures.runs) s ps c.requires.keeps b here.0 here.1 c.index.result.now c.index.ensures x.appended.from c.args.max x.to at.begins to_is) in
+    let ok = c.append.ensures.succeeds agree (omega (arith, few, to_is)) (omega (arith, marks, shown)) in
+    let no = subst IsOk c.in_err-append.was ok in
+    absurd (cc)
