@@ -2,5 +2,7 @@ mod Agreeing
 mod Flights
 mod Histories
 mod Owns
+mod Places
+mod Promises
 mod Records
 mod Sames

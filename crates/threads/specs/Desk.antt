@@ -16,3 +16,7 @@ pub record DeskState (B : Type 0) : Type 0 where
 abbrev pub IsLogged : {B : Type 0} → Asked → DeskState B → DeskState B → Option Reply → Type 0
 IsLogged asked old new None = new ≡ old
 IsLogged asked old new (Some reply) = new ≡ record old { log = old.log ++ note_of (caller.Desk old.number) asked reply ∷ [] }
+
+-- a desk before its caller's run
+abbrev pub opened_at : {B : Type 0} → Flowgraph B → ℕ → DeskState B
+opened_at graph n = record { graph = graph; number = n; log = [] }

@@ -5,7 +5,7 @@ use Rattle.stream_model.specs.Machine.{is_idle, is_all_done, is_quiet}
 use Rattle.graph_model.specs.Rates.{Balanced, balance_of, capacities_of}
 use Rattle.machine_laws.specs.Stalls.{AreClosed}
 use Rattle.flowgraph.specs.Agreeing.{graphs_agree}
-use Rattle.flowgraph.specs.Flowgraph.{net_of}
+use Rattle.flowgraph.specs.Flowgraph.{Flowgraph, net_of}
 use Rattle.plant.specs.Handed.{OpeningState}
 use Rattle.plant.specs.Plant.{PlantState}
 use Rattle.threads.specs.declared.entry.CallerId.{CallerId}
@@ -14,6 +14,7 @@ use Rattle.threads.specs.declared.outcome.Outcome.{Outcome}
 use Rattle.threads.specs.declared.outcome.Outcome.TheVariants.{Done, Stopped, Stalled}
 use Rattle.threads.specs.declared.fault.RunFault.{RunFault}
 use Rattle.threads.specs.declared.fault.RunFault.TheVariants.{Memory, Thread, Foreign}
+use Rattle.threads.specs.Desk.{DeskState, opened_at}
 use Rattle.threads.specs.History.{Noted, IsRunOf}
 use Rattle.threads.specs.Outcomes.{IsDone}
 
@@ -58,3 +59,7 @@ noted_at n = filter (λ e. is_at n e.caller)
 -- each desk's log is what was recorded of it, in that order, and nothing was recorded of a desk that has no log
 abbrev pub AreLogs : List (List Noted) → List Noted → Type 0
 AreLogs logs history = (n : ℕ) → get_or logs n [] ≡ noted_at n history
+
+-- each caller that came back, with its log, is what a run at a desk of its own may make of the caller that was handed in at its place
+abbrev pub CameFrom : {B C : Type 0} → (C → C → DeskState B → List Noted → Type 0) → Flowgraph B → List C → List C → List (List Noted) → Type 0
+CameFrom {B} {C} ran graph callers after logs = (n : ℕ) (c : C) → n < length callers → ran (get_or callers n c) (get_or after n c) (opened_at graph n) (get_or logs n [])

@@ -6,7 +6,7 @@ ghost use Rattle.std.specs.Option.{is_some};
 ghost use Rattle.stream_model.specs.Machine.{is_idle};
 ghost use Rattle.threads.specs.Desks.{IsEmpty};
 ghost use Rattle.threads.specs.History.{noted_by};
-ghost use Rattle.threads.specs.Live.{AreLogs, EndsLive, GivesBackLive, opening_of};
+ghost use Rattle.threads.specs.Live.{AreLogs, CameFrom, EndsLive, GivesBackLive, opening_of};
 ghost use Rattle.threads.specs.Outcomes.{IsSo};
 
 use crate::desk::Caller;
@@ -42,6 +42,8 @@ pub struct Finished<B: Block, C: Drop> {
     pub logs: Vec<Vec<Entry>>,
     /// The callers, in the order in which they were handed in.
     pub callers: Vec<C>,
+    /// How many firings a worker claimed at most in one turn.
+    pub turns: Turns,
 }
 
 /// Starts a worker for each block of a plant that has no claim in flight, and a thread for each of at most 16 callers, with a desk of its own, and
@@ -68,6 +70,8 @@ where
     ensures logs { IfOk result (λ f. AreLogs (map (λ l. map noted_by l.items) f.logs.items) (map noted_by f.history.items)) }
     ensures callers { IfOk result (λ f. vec_len f.callers ≡ vec_len callers) }
     ensures logged { IfOk result (λ f. vec_len f.logs ≡ vec_len callers) }
+    ensures ran { IfOk result (λ f. CameFrom C.ran plant.graph callers.items f.callers.items (map (λ l. map noted_by l.items) f.logs.items)) }
+    ensures turns { IfOk result (λ f. f.turns ≡ turns) }
     ensures err { IfErr result (GivesBackLive B.meaning B.eq (opening_of plant)) }
 {
     live_watched(rt, alloc, plant, gate, callers, turns, &mut Unwatched)
@@ -97,6 +101,8 @@ where
     ensures logs { IfOk result (λ f. AreLogs (map (λ l. map noted_by l.items) f.logs.items) (map noted_by f.history.items)) }
     ensures callers { IfOk result (λ f. vec_len f.callers ≡ vec_len callers) }
     ensures logged { IfOk result (λ f. vec_len f.logs ≡ vec_len callers) }
+    ensures ran { IfOk result (λ f. CameFrom C.ran plant.graph callers.items f.callers.items (map (λ l. map noted_by l.items) f.logs.items)) }
+    ensures turns { IfOk result (λ f. f.turns ≡ turns) }
     ensures err { IfErr result (GivesBackLive B.meaning B.eq (opening_of plant)) }
 {
     let (hall, rooms) = prepare(alloc, plant, callers.len())?;
@@ -114,21 +120,21 @@ where
         turns,
     };
     let came = in_scope(rt, alloc, &shared, &graph, callers, room, watch);
-    let Shared { hall, .. } = shared;
-    ended(hall.into_inner(), &opening, came)
+    let Shared { hall, turns, .. } = shared;
+    ended(hall.into_inner(), &opening, came, turns)
 }
 
 // What a run needs that lies beside its lock.
 #[derive(Drop)]
-struct Rooms<B: Block, C: Drop> {
+struct Rooms<B: Block, C: Caller<B> + Drop> {
     opening: Opening<B>,
     graph: Arc<Valid<B>, Global>,
     beds: Vec<Parker>,
-    room: Room<C>,
+    room: Room<B, C>,
 }
 
 // All that a run needs.
-fn prepare<B: Block, C: Drop + Send>(
+fn prepare<B: Block, C: Caller<B> + Drop + Send>(
     alloc: Global,
     plant: Plant<B>,
     callers: usize,
@@ -167,7 +173,7 @@ fn out_of_memory<B: Block>(plant: Plant<B>) -> RunFault<B>
 }
 
 // What a run needs beside its lock.
-fn rooms_of<B: Block, C: Drop + Send>(
+fn rooms_of<B: Block, C: Caller<B> + Drop + Send>(
     alloc: Global,
     plant: &Plant<B>,
     callers: usize,
@@ -210,13 +216,14 @@ fn in_scope<
     shared: &Shared<B, G>,
     graph: &Valid<B>,
     callers: Vec<C>,
-    room: Room<C>,
+    room: Room<B, C>,
     watch: &mut W,
 ) -> Option<Came<C>>
 where
     B::Places: Send + Sync,
     requires few { vec_len callers ≤ 16 }
     requires empty { IsEmpty room }
+    ensures ran { IfSome result (λ came. CameFrom C.ran graph.now callers.items came.callers.items (map (λ l. map noted_by l.items) came.logs.items)) }
     ensures callers { IfSome result (λ came. vec_len came.callers ≡ vec_len callers) }
     ensures logs { IfSome result (λ came. vec_len came.logs ≡ vec_len callers) }
 {
@@ -225,7 +232,8 @@ where
         rt,
         move |scope| -> Option<Came<C>>
             requires { (vec_len callers ≤ 16) × IsEmpty room }
-            ensures { IfSome result (λ came. (vec_len came.callers ≡ vec_len callers) × (vec_len came.logs ≡ vec_len callers)) }
+            ensures ran { IfSome result (λ came. CameFrom C.ran graph.entry.now callers.items came.callers.items (map (λ l. map noted_by l.items) came.logs.items)) }
+            ensures many { IfSome result (λ came. (vec_len came.callers ≡ vec_len callers) × (vec_len came.logs ≡ vec_len callers)) }
         {
             let came = run_all(rt, alloc, scope, shared, graph, callers, room);
             shared.show(rt, watch);
@@ -251,12 +259,13 @@ fn run_all<
     shared: &'h Shared<B, G>,
     graph: &'h Valid<B>,
     callers: Vec<C>,
-    room: Room<C>,
+    room: Room<B, C>,
 ) -> Option<Came<C>>
 where
     B::Places: Send + Sync,
     requires few { vec_len callers ≤ 16 }
     requires empty { IsEmpty room }
+    ensures ran { IfSome result (λ came. CameFrom C.ran graph.now callers.items came.callers.items (map (λ l. map noted_by l.items) came.logs.items)) }
     ensures callers { IfSome result (λ came. vec_len came.callers ≡ vec_len callers) }
     ensures logs { IfSome result (λ came. vec_len came.logs ≡ vec_len callers) }
 {
@@ -279,10 +288,12 @@ fn ended<B: Block, C: Drop>(
     hall: Hall<B>,
     opening: &Opening<B>,
     came: Option<Came<C>>,
+    turns: Turns,
 ) -> Result<Finished<B, C>, RunFault<B>>
     ensures ends { IfOk result (λ f. EndsLive B.meaning B.eq opening.now (map noted_by f.history.items) f.outcome) }
     ensures logs { IfOk result (λ f. AreLogs (map (λ l. map noted_by l.items) f.logs.items) (map noted_by f.history.items)) }
     ensures callers { IfOk result (λ f. came ≡ Some (record { callers = f.callers; logs = f.logs })) }
+    ensures turns { IfOk result (λ f. f.turns ≡ turns) }
     ensures err { IfErr result (GivesBackLive B.meaning B.eq opening.now) }
     ensures told { IfErr result (IsSo hall.starved (not (is_some came))) }
 {
@@ -320,5 +331,6 @@ fn ended<B: Block, C: Drop>(
         history,
         logs,
         callers,
+        turns,
     })
 }

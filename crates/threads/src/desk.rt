@@ -1,14 +1,14 @@
 //! Callers, and the desks at which they make calls of a plant at work.
 
-ghost use Rattle.std.specs.Prelude.{◌≡◌, [], map};
+ghost use Rattle.std.specs.Prelude.{◌≡◌, List, [], map, ⊤};
 ghost use Rattle.std.specs.Arc.{arc_value};
 ghost use Rattle.stream_model.specs.Machine as machine;
 ghost use Rattle.items.specs.Items.{type_of, numbers_of};
 ghost use Rattle.settings.specs.Values.{value_of};
 ghost use Rattle.stores.specs.Stores.{mark_of};
 ghost use Rattle.plant.specs.Answers.{piece_reply, reply_of};
-ghost use Rattle.threads.specs.History.{Asks, noted_by};
-ghost use Rattle.threads.specs.Desk.{IsLogged};
+ghost use Rattle.threads.specs.History.{Asks, Noted, noted_by};
+ghost use Rattle.threads.specs.Desk.{DeskState, IsLogged};
 
 use crate::entry::{Answer, Call, CallerId, Entry, Feed, Setting, shared};
 use crate::gate::Gate;
@@ -22,11 +22,15 @@ use std::fmt;
 use std::marker::Model;
 use std::sync::{Arc, Wait};
 
-/// Who makes calls of a plant while its workers run.
+/// Who makes calls of a plant while its workers run. Its ghost member `ran` relates a caller before its run, the caller after it, the desk as it was
+/// handed, and the log of the desk after the run. Unless a type says more, it always holds.
 pub trait Caller<B: Block> {
+    ghost ran: { Self → Self → DeskState B → List Noted → Type 0 } = { λ _ _ _ _. ⊤ };
+
     /// Makes its calls at the desk, in a thread of its own. It may wait for its own input; the workers go on meanwhile. The run does not end before
     /// it returns.
-    fn run<G: Gate + Drop, R: Wait>(&mut self, rt: &R, alloc: Global, desk: &mut Desk<B, G>);
+    fn run<G: Gate + Drop, R: Wait>(&mut self, rt: &R, alloc: Global, desk: &mut Desk<B, G>)
+        ensures { ran self.old self.new desk.old desk.new.log };
 }
 
 /// Where one caller makes calls of a plant at work. Each call takes the lock, returns what the plant returns, and is added with that to the desk's

@@ -1,7 +1,10 @@
 //! The threads of callers, each at a desk of its own.
 
-ghost use Rattle.std.specs.Prelude.{◌≡◌, ◌≤◌, vec_len, IfOk, IfSome};
-ghost use Rattle.threads.specs.Desks.{IsEmpty};
+ghost use Rattle.std.specs.Prelude.{◌≡◌, ◌≤◌, map, vec_len, IfOk, IfSome};
+ghost use Rattle.threads.specs.Desk.{opened_at};
+ghost use Rattle.threads.specs.Desks.{AreSeated, HaveKept, IsEmpty};
+ghost use Rattle.threads.specs.History.{noted_by};
+ghost use Rattle.threads.specs.Live.{CameFrom};
 
 use crate::desk::{Caller, Desk};
 use crate::entry::Entry;
@@ -9,8 +12,9 @@ use crate::gate::Gate;
 use crate::shared::Shared;
 use flowgraph::{Block, Valid};
 use std::alloc::{AllocError, Global};
+use std::snapshot::Snapshot;
 use std::sync::Wait;
-use std::thread::{JoinHandle, Scope, Threads};
+use std::thread::{Promise, PromisedHandle, Scope, Threads};
 
 /// What callers left.
 #[derive(Drop)]
@@ -21,17 +25,32 @@ pub struct Came<C: Drop> {
     pub logs: Vec<Vec<Entry>>,
 }
 
-/// Room for what callers leave, and for the handles of their threads. It is made before a thread is started, so that none runs where memory lacks.
+/// A caller that is put at the desk of this number, of a plant of this graph. Its thread returns what the run makes of the caller, and the desk's log.
 #[derive(Drop)]
-pub struct Room<C: Drop> {
-    pub callers: Vec<C>,
-    pub logs: Vec<Vec<Entry>>,
-    pub desks: Vec<JoinHandle<(C, Vec<Entry>)>>,
+pub struct DeskPromise<B: Block, C> {
+    graph: Snapshot<Valid<B>>,
+    number: u32,
+    caller: Snapshot<C>,
 }
 
-impl<C: Drop + Send> Room<C> {
+impl<B: Block, C: Caller<B>> Promise<(C, Vec<Entry>)> for DeskPromise<B, C> {
+    ghost kept_by = { λ p r. C.ran p.caller.value r.0 (opened_at p.graph.value p.number) (map noted_by r.1.items) };
+}
+
+// The thread of a caller.
+type Handle<B, C> = PromisedHandle<(C, Vec<Entry>), DeskPromise<B, C>>;
+
+/// Room for what callers leave, and for the handles of their threads. It is made before a thread is started, so that none runs where memory lacks.
+#[derive(Drop)]
+pub struct Room<B: Block, C: Caller<B> + Drop> {
+    pub callers: Vec<C>,
+    pub logs: Vec<Vec<Entry>>,
+    pub desks: Vec<Handle<B, C>>,
+}
+
+impl<B: Block, C: Caller<B> + Drop + Send> Room<B, C> {
     /// Room for so many callers.
-    pub fn with_capacity(alloc: Global, callers: usize) -> Result<Room<C>, AllocError>
+    pub fn with_capacity(alloc: Global, callers: usize) -> Result<Room<B, C>, AllocError>
         ensures { IfOk result IsEmpty }
     {
         Ok(Room {
@@ -59,12 +78,13 @@ pub fn at_desks<
     shared: &'h Shared<B, G>,
     graph: &'h Valid<B>,
     callers: Vec<C>,
-    room: Room<C>,
+    room: Room<B, C>,
 ) -> Option<Came<C>>
 where
     B::Places: Send + Sync,
     requires few { vec_len callers ≤ 16 }
     requires empty { IsEmpty room }
+    ensures ran { IfSome result (λ came. CameFrom C.ran graph.now callers.items came.callers.items (map (λ l. map noted_by l.items) came.logs.items)) }
     ensures callers { IfSome result (λ came. vec_len came.callers ≡ vec_len callers) }
     ensures logs { IfSome result (λ came. vec_len came.logs ≡ vec_len callers) }
 {
@@ -94,17 +114,25 @@ fn seated<
     shared: &'h Shared<B, G>,
     graph: &'h Valid<B>,
     callers: Vec<C>,
-    mut desks: Vec<JoinHandle<(C, Vec<Entry>)>>,
-) -> Option<Vec<JoinHandle<(C, Vec<Entry>)>>>
+    mut desks: Vec<Handle<B, C>>,
+) -> Option<Vec<Handle<B, C>>>
 where
     B::Places: Send + Sync,
     requires few { vec_len callers ≤ 16 }
     requires empty { vec_len desks ≡ 0 }
-    ensures { IfSome result (λ desks. vec_len desks ≡ vec_len callers) }
+    ensures len { IfSome result (λ desks. vec_len desks ≡ vec_len callers) }
+    ensures seated { IfSome result (λ desks. AreSeated graph.now callers.items desks.items) }
 {
     let mut number = 0u32;
     for caller in callers {
-        let desk = scope.spawn(move || at_desk(rt, alloc, shared, graph, number, caller));
+        let promise = DeskPromise {
+            graph: Snapshot::of(graph),
+            number,
+            caller: Snapshot::of(&caller),
+        };
+        let desk = scope.spawn_with(promise, move || {
+            at_desk(rt, alloc, shared, graph, number, caller)
+        });
         desks.push(desk.ok()?).ok()?;
         number += 1;
     }
@@ -112,14 +140,15 @@ where
 }
 
 // What the threads of callers return.
-fn come_back<C: Drop, R: Threads>(
+fn come_back<B: Block, C: Caller<B> + Drop, R: Threads>(
     rt: &R,
-    desks: Vec<JoinHandle<(C, Vec<Entry>)>>,
+    desks: Vec<Handle<B, C>>,
     mut callers: Vec<C>,
     mut logs: Vec<Vec<Entry>>,
 ) -> Option<Came<C>>
     requires callers { vec_len callers ≡ 0 }
     requires logs { vec_len logs ≡ 0 }
+    ensures kept { IfSome result (λ came. HaveKept C.ran desks.items came.callers.items (map (λ l. map noted_by l.items) came.logs.items)) }
     ensures callers { IfSome result (λ came. vec_len came.callers ≡ vec_len desks) }
     ensures logs { IfSome result (λ came. vec_len came.logs ≡ vec_len desks) }
 {
@@ -139,7 +168,9 @@ fn at_desk<B: Block, G: Gate + Drop, C: Caller<B>, R: Wait>(
     graph: &Valid<B>,
     number: u32,
     mut caller: C,
-) -> (C, Vec<Entry>) {
+) -> (C, Vec<Entry>)
+    ensures { C.ran caller result.0 (opened_at graph.now number) (map noted_by result.1.items) }
+{
     let mut desk = Desk::new(alloc, shared, graph, number);
     caller.run(rt, alloc, &mut desk);
     let log = desk.into_log();

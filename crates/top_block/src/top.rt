@@ -13,7 +13,7 @@ ghost use Rattle.settings.specs.Values.{value_of};
 ghost use Rattle.plant.specs.Opening.{opening_plant};
 ghost use Rattle.plant.specs.Plant.{PlantState};
 ghost use Rattle.threads.specs.History.{noted_by};
-ghost use Rattle.threads.specs.Live.{AreLogs, EndsLive, GivesBackLive, opening_of};
+ghost use Rattle.threads.specs.Live.{AreLogs, CameFrom, EndsLive, GivesBackLive, opening_of};
 ghost use Rattle.threads.specs.Outcomes.{EndsIn, GivesBack, handed_of};
 ghost use Rattle.top_block.specs.Closing.{with_all_closed};
 
@@ -198,6 +198,8 @@ impl TopBlock {
         ensures logs { IfOk result (λ f. AreLogs (map (λ l. map noted_by l.items) f.logs.items) (map noted_by f.history.items)) }
         ensures callers { IfOk result (λ f. vec_len f.callers ≡ vec_len callers) }
         ensures logged { IfOk result (λ f. vec_len f.logs ≡ vec_len callers) }
+        ensures ran { IfOk result (λ f. CameFrom C.ran self.graph callers.items f.callers.items (map (λ l. map noted_by l.items) f.logs.items)) }
+        ensures turns { IfOk result (λ f. f.turns.most ≡ 1024) }
         ensures err { IfErr result (GivesBackLive meaning_of ⟦<Kind as PartialEq>⟧.eq (opening_of self)) }
     {
         self.start_live_watched(rt, alloc, gate, callers, Turns::default(), &mut Unwatched)
@@ -223,6 +225,8 @@ impl TopBlock {
         ensures logs { IfOk result (λ f. AreLogs (map (λ l. map noted_by l.items) f.logs.items) (map noted_by f.history.items)) }
         ensures callers { IfOk result (λ f. vec_len f.callers ≡ vec_len callers) }
         ensures logged { IfOk result (λ f. vec_len f.logs ≡ vec_len callers) }
+        ensures ran { IfOk result (λ f. CameFrom C.ran self.graph callers.items f.callers.items (map (λ l. map noted_by l.items) f.logs.items)) }
+        ensures turns { IfOk result (λ f. f.turns ≡ turns) }
         ensures err { IfErr result (GivesBackLive meaning_of ⟦<Kind as PartialEq>⟧.eq (opening_of self)) }
     {
         let TopBlock { plant } = self;
