@@ -43,33 +43,47 @@ agree_here net b item in' keeper = by_type (types_agree item (node_at net b).mea
     by_type true e = λ none. e
     by_type false e = let member = lt-ltb b (length net.nodes) in' in rw (member, keeper, e) (λ none. absurd (cc))
 
+-- what is known of a sink's recording where a drain takes items up to one of them
+pub record Drawn (net : Network) (st : State) (b from max to : ℕ) (s : Stores) (r : RecordingState) : Type 0 where
+  pub inside : b < length s.sinks.items
+  pub kept_is : r.from ≡ from
+  pub rises : from ≤ to
+  pub within : to ≤ fired st b
+  pub long : length r.items ≡ fired st b
+  pub items_are : slice_range r.items from to ≡ slice_range (stream_into net st b) from (min (from + max) (fired st b))
+  pub tags_are : tags_within from to r.tags ≡ tags_within from (min (from + max) (fired st b)) (tags_into net st b)
+  pub type_is : r.item ≡ (node_at net b).meaning.inputs.item
+  pub goes : GoesOn net st b from (slice_range (stream_into net st b) from (min (from + max) (fired st b))) (tags_within from (min (from + max) (fired st b)) (tags_into net st b))
+  pub all_taken : (progress_at st.progress b).done ≡ true → HoldsAll net st b
+  pub to_is : to ≡ min (from + max) (fired st b)
+
 module _ (net : Network) (caps : Capacities) (can : CanRun net) (s : Stores) (ps : List Progress) (keeps : Keeps net caps s ps) (b : ℕ) (in' : b < length net.nodes) (keeper : is_keeper (role_at net b) ≡ true)
     (r : RecordingState) (r_is : r ≡ get_or s.sinks.items b r) (from max to : ℕ) (from_is : from ≡ get_or (drains s.sinks.items) b 0) (to_is : to ≡ min (from + max) (fired (state_of s.handed.items ps) b)) where
   abbrev st : State
   st = state_of s.handed.items ps
 
-  pub there : b < length s.sinks.items
+  there : b < length s.sinks.items
   there = let places = keeps.stored.places.sinks in let long = length-map s.sinks.items collected_of in omega (arith, places, long, in')
 
-  pub sink_is : collected_of r ≡ sink_at (stored_in s) b
+  sink_is : collected_of r ≡ sink_at (stored_in s) b
   sink_is = ap collected_of r_is ∙ sym (get_or-map collected_of s.sinks.items b r nothing_collected there)
 
-  pub kept : r.from ≡ from
+  kept : r.from ≡ from
   kept = sym (from_is ∙ drained_at s b r there r_is)
 
-  pub begins : from ≤ fired st b
+  begins : from ≤ fired st b
   begins = let few = drained_few net caps s ps keeps b in' keeper in omega (arith, few, from_is)
 
-  pub ordered : from ≤ to
+  ordered : from ≤ to
   ordered = let le = begins in omega (arith, le, to_is)
 
-  pub ends : to ≤ fired st b
+  ends : to ≤ fired st b
   ends = omega (arith, to_is)
 
   cut : IsCutOut net caps st b from max (sink_at (stored_in s) b)
   cut = reads_are_cut_out net caps st (stored_in s) can keeps.sound keeps.stored b from max in' keeper begins
 
-  pub all : length r.items ≡ fired st b
+  all : length r.items ≡ fired st b
   all = ap (λ (x : Collected). length x.items) sink_is ∙ cut.whole
 
   end : min (from + max) (length (sink_at (stored_in s) b).items) ≡ to
@@ -79,23 +93,38 @@ module _ (net : Network) (caps : Capacities) (can : CanRun net) (s : Stores) (ps
       (tags_within from (min (from + max) (length (sink_at (stored_in s) b).items)) (sink_at (stored_in s) b).tags)
   piece = is_piece net st b from max from _ _ _ _ (sym cut.piece)
 
-  pub items_shown : slice_range r.items from to ≡ slice_range (stream_into net st b) from (min (from + max) (fired st b))
+  items_shown : slice_range r.items from to ≡ slice_range (stream_into net st b) from (min (from + max) (fired st b))
   items_shown =
       ap (λ (x : Collected). slice_range x.items from to) sink_is ∙ ap (λ n. slice_range (sink_at (stored_in s) b).items from n) (sym end) ∙ piece.items_are
 
-  pub tags_shown : tags_within from to r.tags ≡ tags_within from (min (from + max) (fired st b)) (tags_into net st b)
+  tags_shown : tags_within from to r.tags ≡ tags_within from (min (from + max) (fired st b)) (tags_into net st b)
   tags_shown =
       ap (λ (x : Collected). tags_within from to x.tags) sink_is ∙ ap (λ n. tags_within from n (sink_at (stored_in s) b).tags) (sym end) ∙ piece.tags_are
 
-  pub typed : r.item ≡ (node_at net b).meaning.inputs.item
+  typed : r.item ≡ (node_at net b).meaning.inputs.item
   typed = ap (λ (x : Collected). x.item) sink_is ∙ (keeps.stored.sinks b in' keeper).type
 
-  pub joins : GoesOn net st b from (slice_range (stream_into net st b) from (min (from + max) (fired st b))) (tags_within from (min (from + max) (fired st b)) (tags_into net st b))
+  joins : GoesOn net st b from (slice_range (stream_into net st b) from (min (from + max) (fired st b))) (tags_within from (min (from + max) (fired st b)) (tags_into net st b))
   joins = goes_on net caps can s ps keeps b in' keeper from max _ _ begins refl refl
 
-  pub whole : (progress_at ps b).done ≡ true → HoldsAll net st b
+  whole : (progress_at ps b).done ≡ true → HoldsAll net st b
   whole done =
       let sink = sink_at (stored_in s) b in
       let till = min (from + max) (length sink.items) in
       done_piece_is_whole net caps st can keeps.sound b from max from (length sink.items) (slice_range sink.items from till) (tags_within from till sink.tags)
       (cut.piece ∙ ap (λ d. Piece from (length sink.items) (slice_range sink.items from till) (tags_within from till sink.tags) d) done)
+
+  pub drawn : Drawn net st b from max to s r
+  drawn = record {
+    inside = there;
+    kept_is = kept;
+    rises = ordered;
+    within = ends;
+    long = all;
+    items_are = items_shown;
+    tags_are = tags_shown;
+    type_is = typed;
+    goes = joins;
+    all_taken = whole;
+    to_is = to_is;
+  }
