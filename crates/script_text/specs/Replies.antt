@@ -77,3 +77,7 @@ settle_text false = codes "settled quiet"
 -- a text as a line
 abbrev pub line_text : List ℕ → List ℕ
 line_text text = text ++ 10 ∷ []
+
+-- of a tag, spelled @OFFSET:KEY=VALUE/SOURCE
+abbrev pub tag_line : Tag → List ℕ
+tag_line t = line_text (at_sign ∷ (decimal t.offset ++ colon ∷ tag_value_text t))

@@ -3,7 +3,8 @@ ghost use Rattle.std.specs.Prelude.{◌≡◌, ℕ, ◌+◌, ◌-◌, ◌^◌, �
 ghost use Rattle.std.specs.Io.KnownBytes.{Appends, Keeps, ReadConsumes};
 ghost use Rattle.script_text.specs.Ends.{AppendsBeginning};
 
-use std::io::{Read, Write};
+use std::io;
+use std::io::{ErrorKind, Read, Write};
 
 /// A read or a write failed.
 #[derive(Clone, Copy, Debug, PartialEq, Eq)]
@@ -129,20 +130,33 @@ impl<W: Write> ByteOut for WriteEnd<W> {
     ghost failed = { λ s. s.failures };
 
     fn write(&mut self, piece: &[u8]) -> Result<(), Broken> {
-        let mut done = 0;
-        while done < piece.len() {
-            match self.writer.write(&piece[done..]) {
-                Ok(0) | Err(_) => {
-                    self.failures += 1;
-                    return Err(Broken);
-                }
-                Ok(n) => done += n,
+        match write_whole(&mut self.writer, piece) {
+            Ok(()) => Ok(()),
+            Err(_) => {
+                self.failures += 1;
+                Err(Broken)
             }
         }
-        Ok(())
     }
 
     fn failures(&self) -> u64 {
         self.failures
     }
+}
+
+/// Writes all of the piece. A write that takes nothing failed. No failed write is tried again, an interrupted one neither, and before it a beginning may
+/// have been written.
+pub fn write_whole<W: Write>(writer: &mut W, piece: &[u8]) -> io::Result<()>
+    ensures ok { OnOk result (Appends (W.contents writer.old) (W.contents writer.new) piece.now) }
+    ensures err { OnErr result (AppendsBeginning (W.contents writer.old) (W.contents writer.new) piece.now) }
+{
+    let mut done = 0;
+    while done < piece.len() {
+        let n = writer.write(&piece[done..])?;
+        if n == 0 {
+            return Err(io::Error::from(ErrorKind::WriteZero));
+        }
+        done += n;
+    }
+    Ok(())
 }

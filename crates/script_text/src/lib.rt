@@ -14,8 +14,9 @@ pub mod script;
 pub mod splitter;
 
 pub use command::{Command, Line};
-pub use ends::{Broken, ByteIn, ByteOut, ReadEnd, WriteEnd};
+pub use ends::{Broken, ByteIn, ByteOut, ReadEnd, WriteEnd, write_whole};
 pub use parse::parse_line;
+pub use print::push_tag_lines;
 pub use reply::Reply;
 pub use report::Report;
 pub use script::{last_line, next_line};

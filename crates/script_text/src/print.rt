@@ -3,7 +3,7 @@ ghost use Rattle.std.specs.Prelude.{◌≡◌, ◌++◌, map, OnOk};
 ghost use Rattle.std.specs.List.{flat_map};
 ghost use Rattle.std.specs.Fmt.{decimal, signed_decimal};
 ghost use Rattle.items.specs.Items.{numbers_of};
-ghost use Rattle.script_text.specs.Replies.{item_text, tag_text, tag_value_text, held_text};
+ghost use Rattle.script_text.specs.Replies.{item_text, tag_line, tag_text, tag_value_text, held_text};
 ghost use Rattle.script_text.specs.Printed.{tag_seen, tags_seen};
 
 use items::{Items, Tag};
@@ -95,6 +95,27 @@ fn push_tag(out: &mut Vec<u8>, tag: &Tag) -> Result<(), AllocError>
     push_natural(out, tag.offset)?;
     out.push(b':')?;
     push_tag_value(out, tag)
+}
+
+/// Writes a line for each tag at the end: `@`, its offset, a colon, its key, `=`, its value, `/` and its source. It fails only where the allocator refuses.
+pub fn push_tag_lines(out: &mut Vec<u8>, tags: &[Tag]) -> Result<(), AllocError>
+    ensures { OnOk result (out.new.items ≡ out.old.items ++ flat_map tag_line (tags_seen tags.now)) }
+{
+    for tag in tags {
+        push_tag_line(out, tag)?;
+    }
+    Ok(())
+}
+
+fn push_tag_line(out: &mut Vec<u8>, tag: &Tag) -> Result<(), AllocError>
+    ensures { OnOk result (out.new.items ≡ out.old.items ++ tag_line (tag_seen tag.now)) }
+{
+    out.push(b'@')?;
+    push_natural(out, tag.offset)?;
+    out.push(b':')?;
+    push_tag_value(out, tag)?;
+    out.push(b'\n')?;
+    Ok(())
 }
 
 // What stands behind the colon.

@@ -1,13 +1,12 @@
-use Rattle.std.proofs.Common.{length, ◌-◌, ◌≡◌, ◌≤◌, take}
+use Rattle.std.proofs.Common.{length, ◌-◌, ◌≤◌, take}
 use Rattle.std.specs.Io.KnownBytes.{Appends}
-use Rattle.script_text.proofs.ends.WriteEndByteOut.write.Given as goal
+use Rattle.script_text.proofs.ends.write_whole.Given as goal
 
 -- what was written so far is the beginning of the piece
 abbrev pub invariant-loop-done : goal.invariant-loop-done
 invariant-loop-done g l = record {
   within : l.done ≤ length l.piece;
-  written : Appends (g.W.Write.contents l.fn.self.writer) (g.W.Write.contents l.self.writer) (take l.done l.piece);
-  counted : l.self.failures ≡ l.fn.self.failures;
+  written : Appends (g.W.Write.contents l.fn.writer) (g.W.Write.contents l.writer) (take l.done l.piece);
 }
 
 abbrev pub decreases-loop-done : goal.decreases-loop-done
