@@ -34,32 +34,42 @@ part_long ys xs from to le long is =
     let count = ap length is in let taken = length-take (to - from) (drop from ys) in let rest = length-drop from ys in
     omega (arith, count, taken, rest, le, long)
 
+-- no tag lies below an item where all lie behind it
+tags_none : (low from : ℕ) (ts : List Tag) → ((k : ℕ) (d : Tag) → k < length ts → from ≤ (get_or ts k d).offset) → tags_within low from ts ≡ []
+tags_none low from [] high = refl
+tags_none low from (t ∷ ts) high =
+    let first = high 0 t (omega arith) in
+    let rest = tags_none low from ts (λ k d lt. high (suc k) d (omega (arith, lt))) in
+    elim (cases_Bool (nat_le low t.offset)) [
+      | inl up ↦ rw (up, le-ltb t.offset from first) rest
+      | inr down ↦ rw down rest
+    ]
+
 -- and of tags in order
-module _ (from to : ℕ) (le : from ≤ to) where
-  tags_none : (ts : List Tag) → ((k : ℕ) (d : Tag) → k < length ts → from ≤ (get_or ts k d).offset) → tags_within 0 from ts ≡ []
-  tags_none [] high = refl
-  tags_none (t ∷ ts) high =
-      let first = high 0 t (omega arith) in
-      let out = le-ltb t.offset from first in
-      rw (le-leb 0 t.offset zero-le, out) (tags_none ts (λ k d lt. high (suc k) d (omega (arith, lt))))
+pub tags_join : (low from to : ℕ) → low ≤ from → from ≤ to → (ts : List Tag) → IsOrdered ts → tags_within low to ts ≡ tags_within low from ts ++ tags_within from to ts
+tags_join low from to up le [] o = refl
+tags_join low from to up le (t ∷ ts) o =
+    let rest = tags_join low from to up le ts (rest_ordered t ts o) in
+    elim (cases_Bool (nat_lt t.offset from)) [
+      | inl before ↦
+          let lt = ltb-true t.offset from before in
+          let on = lt-ltb t.offset to (omega (arith, lt, le)) in
+          let out = lt-leb from t.offset lt in
+          elim (cases_Bool (nat_le low t.offset)) [
+            | inl above ↦ rw (above, before, on, out) (ap (λ us. t ∷ us) rest)
+            | inr below ↦ rw (below, out) rest
+          ]
+      | inr behind ↦
+          let ge = ltb-false t.offset from behind in
+          let above = le-leb low t.offset (omega (arith, up, ge)) in
+          let none : tags_within low from ts ≡ [] = tags_none low from ts (λ k d lt. let up' = offset_upto t (get_or ts k d) (later t ts o k d lt) in omega (arith, ge, up')) in
+          elim (cases_Bool (nat_lt t.offset to)) [
+            | inl on ↦ rw (above, behind, on, le-leb from t.offset ge, none) (ap (λ us. t ∷ us) (rest ∙ ap (λ us. us ++ tags_within from to ts) none))
+            | inr off ↦ rw (above, behind, off, le-leb from t.offset ge, none) (rest ∙ ap (λ us. us ++ tags_within from to ts) none)
+          ]
+    ]
 
-  tags_join : (ts : List Tag) → IsOrdered ts → tags_within 0 to ts ≡ tags_within 0 from ts ++ tags_within from to ts
-  tags_join [] o = refl
-  tags_join (t ∷ ts) o =
-      let rest = tags_join ts (rest_ordered t ts o) in
-      let zero_le = le-leb 0 t.offset zero-le in
-      elim (cases_Bool (nat_lt t.offset from)) [
-        | inl low ↦ let lt = ltb-true t.offset from low in
-            rw (zero_le, low, lt-ltb t.offset to (omega (arith, lt, le)), lt-leb from t.offset lt) (ap (λ us. t ∷ us) rest)
-        | inr high ↦
-            let ge = ltb-false t.offset from high in
-            let none : tags_within 0 from ts ≡ [] = tags_none ts (λ k d lt. let up = offset_upto t (get_or ts k d) (later t ts o k d lt) in omega (arith, ge, up)) in
-            elim (cases_Bool (nat_lt t.offset to)) [
-              | inl on ↦ rw (zero_le, high, on, le-leb from t.offset ge, none) (ap (λ us. t ∷ us) (rest ∙ ap (λ us. us ++ tags_within from to ts) none))
-              | inr off ↦ rw (zero_le, high, off, le-leb from t.offset ge, none) (rest ∙ ap (λ us. us ++ tags_within from to ts) none)
-            ]
-      ]
-
+-- the tags on an output stand in order
 ordered_by : (turns : ℕ) (net : Network) (hs : List Handed) (b p : ℕ) → 1 ≤ turns → IsOrdered (tags_by turns net hs b p)
 unfolding tags_by
 ordered_by zero net hs b p some = absurd (omega arith)
@@ -71,6 +81,10 @@ ordered_by (suc turns) net hs b p some =
       | inl e ↦ subst IsOrdered (sym (elim-true (is_source (role_at net b)) own (filter keeps (sorted_tags us)) e)) (ordered_sorted (handed_at hs b).tags)
       | inr e ↦ subst IsOrdered (sym (elim-false (is_source (role_at net b)) own (filter keeps (sorted_tags us)) e)) (subst IsOrdered (sym (filter-sorted keeps us)) (ordered_sorted (filter keeps us)))
     ]
+
+-- and so those that enter a block
+pub ordered_into : (net : Network) (st : State) (b : ℕ) → b < length net.nodes → IsOrdered (tags_into net st b)
+ordered_into net st b in' = ordered_by (length net.nodes) net st.handed (writer_of net b 0).from (writer_of net b 0).out_port (omega (arith, in'))
 
 module _ (net : Network) (caps : Capacities) (can : CanRun net) (s : Stores) (ps : List Progress) (keeps : Keeps net caps s ps) (b : ℕ) (in' : b < length net.nodes) (keeper : is_keeper (role_at net b) ≡ true) where
   abbrev st : State
@@ -94,7 +108,7 @@ module _ (net : Network) (caps : Capacities) (can : CanRun net) (s : Stores) (ps
       record {
         items_join = part_joins (stream_into net st b) xs from to order within items;
         tags_join = ap (λ n. tags_within 0 n (tags_into net st b)) end
-            ∙ tags_join from to order (tags_into net st b) (ordered_by (length net.nodes) net st.handed (writer_of net b 0).from (writer_of net b 0).out_port (omega (arith, in')))
+            ∙ tags_join 0 from to zero-le order (tags_into net st b) (ordered_into net st b in')
             ∙ ap (λ us. tags_within 0 from (tags_into net st b) ++ us) (sym tags);
       }
 

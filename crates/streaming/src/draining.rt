@@ -39,7 +39,27 @@ struct Extent {
     to: u64,
 }
 
-/// Takes at most `max` items away of those that a sink has taken and that were not drained yet, with the tags on them.
+/// A copy of at most `max` items of those that a sink has taken and that were not drained yet, with the tags on them.
+pub(crate) fn peek<B: Block>(
+    parts: &Parts<B>,
+    alloc: Global,
+    sink: BlockId,
+    max: u64,
+) -> Result<Piece, PlantFault>
+    requires { IsRight B.meaning parts.now }
+    ensures answered { let plant = plant_of parts.now in
+        AnsweredBy (read_of (net_of B.meaning plant.graph) plant.state sink.0 (slice_index_or (spans_in parts.now).firsts.sinks sink.0 0) max) (reply_of piece_reply result) }
+    ensures typed { let plant = plant_of parts.now in IfOk result (λ piece. type_of piece.items ≡ (node_at (net_of B.meaning plant.graph) sink.0).meaning.inputs.item) }
+    ensures whole { let plant = plant_of parts.now in IfOk result (λ piece. piece.done ≡ true → HoldsAll (net_of B.meaning plant.graph) plant.state sink.0) }
+    ensures joins { let plant = plant_of parts.now in
+        IfOk result (λ piece. GoesOn (net_of B.meaning plant.graph) plant.state sink.0 (slice_index_or (spans_in parts.now).firsts.sinks sink.0 0) (numbers_of piece.items) (map tag_of piece.tags.items)) }
+{
+    parts.graph.recall();
+    let from = drained(parts, sink);
+    parts.read(alloc, sink, from, max)
+}
+
+/// Takes away what `peek` shows.
 pub(crate) fn drain<B: Block>(
     parts: &mut Parts<B>,
     alloc: Global,
@@ -61,9 +81,8 @@ pub(crate) fn drain<B: Block>(
     ensures err { OnErr result (spans_in parts.new ≡ spans_in parts.old) }
 {
     parts.graph.recall();
-    let from = drained(parts, sink);
-    let piece = parts.read(alloc, sink, from, max)?;
-    let end = from + piece.items.len() as u64;
+    let piece = peek(parts, alloc, sink, max)?;
+    let end = drained(parts, sink) + piece.items.len() as u64;
     parts.stores.sinks[sink.0 as usize].forget(end);
     Ok(piece)
 }
@@ -76,6 +95,32 @@ fn drained<B: Block>(parts: &Parts<B>, sink: BlockId) -> u64
         Some(collected) => collected.from(),
         None => 0,
     }
+}
+
+/// Takes away what `drain` takes, and gives it to nobody.
+pub(crate) fn consume<B: Block>(
+    parts: &mut Parts<B>,
+    sink: BlockId,
+    max: u64,
+) -> Result<Appended, PlantFault>
+    requires { IsRight B.meaning parts.old }
+    ensures right { IsRight B.meaning parts.new }
+    ensures same { plant_of parts.new ≡ plant_of parts.old }
+    ensures absent { let net = net_of B.meaning (plant_of parts.old).graph in length net.nodes ≤ sink.0 → result ≡ Err NoSuchBlock }
+    ensures no_sink { let net = net_of B.meaning (plant_of parts.old).graph in sink.0 < length net.nodes → is_keeper (role_at net sink.0) ≡ false → result ≡ Err NotSink }
+    ensures sink { let net = net_of B.meaning (plant_of parts.old).graph in sink.0 < length net.nodes → is_keeper (role_at net sink.0) ≡ true → IsOk result }
+    ensures at { let plant = plant_of parts.old in
+        IfOk result (IsAtSink plant.state sink.0 (slice_index_or (spans_in parts.old).firsts.sinks sink.0 0)) }
+    ensures whole { let plant = plant_of parts.old in IfOk result (λ d. d.done ≡ true → HoldsAll (net_of B.meaning plant.graph) plant.state sink.0) }
+    ensures tapes { (spans_in parts.new).firsts.tapes ≡ (spans_in parts.old).firsts.tapes }
+    ensures sinks { let old = (spans_in parts.old).firsts.sinks in
+        IfOk result (λ d. (spans_in parts.new).firsts.sinks ≡ slice_set old sink.0 (end_of d max)) }
+    ensures err { OnErr result (spans_in parts.new ≡ spans_in parts.old) }
+{
+    parts.graph.recall();
+    let Extent { appended, to } = extent_of(parts, sink, max)?;
+    parts.stores.sinks[sink.0 as usize].forget(to);
+    Ok(appended)
 }
 
 /// Takes away what `drain` takes, and appends it.

@@ -21,6 +21,9 @@ pub mod streaming_plant;
 
 pub use draining::Appended;
 pub use flowgraph::{Block, BlockId, Valid};
-pub use plant::{BlockNeed, Closed, Fed, Need, Piece, PlantFault, Settled, Step, Taken};
+pub use plant::{
+    BlockNeed, Closed, Fed, Headway, Need, Piece, PlantFault, Settled, Step, Taken, Unwatched,
+    Watch,
+};
 pub use streaming_plant::StreamingPlant;
 pub use tags::Tag;

@@ -1,31 +1,37 @@
 //! The plant that streams.
 
-ghost use Rattle.std.specs.Prelude.{◌≡◌, ◌+◌, ◌++◌, ◌-◌, ◌*◌, ◌<◌, ◌≤◌, ℕ, length, map, true, None, IsOk, IfOk, IfErr, OnErr, vec_len, vec_capacity};
+ghost use Rattle.std.specs.Prelude.{◌≡◌, ◌+◌, ◌++◌, ◌-◌, ◌*◌, ◌<◌, ◌≤◌, ℕ, length, map, true, false, None, Err, IsOk, IfOk, IfErr, OnErr, vec_len, vec_capacity};
 ghost use Rattle.std.specs.List.{Any};
+ghost use Rattle.std.specs.Option.{option_map};
 ghost use Rattle.stream_model.specs.Machine as machine;
 ghost use Rattle.stream_model.specs.Machine.{step_of, feed_of, close_of, set_of, read_of, is_idle, is_all_done, is_quiet, IsWhole, HoldsAll};
 ghost use Rattle.stream_model.specs.Network.{node_at, handed_at, role_at, is_keeper, is_source};
 ghost use Rattle.stream_laws.specs.CanRun.{CanRun};
 ghost use Rattle.machine_laws.specs.Sound.{Sound, fired};
+ghost use Rattle.machine_laws.specs.Waits.{ring_of};
 ghost use Rattle.items.specs.Items.{type_of, numbers_of, spare_of};
 ghost use Rattle.items.specs.Tags.{tag_of};
 ghost use Rattle.settings.specs.Values.{value_of};
 ghost use Rattle.flowgraph.specs.Flowgraph.{net_of};
 ghost use Rattle.stores.specs.Stores.{mark_of};
+ghost use Rattle.plant.specs.declared.fault.PlantFault.TheVariants.{NoSuchBlock, NotSink};
 ghost use Rattle.plant.specs.Plant.{ForgetsNone};
-ghost use Rattle.plant.specs.Answers.{Answered, AnsweredAlways, AnsweredBy, piece_reply, reply_of, step_reply};
+ghost use Rattle.plant.specs.Answers.{Answered, AnsweredAlways, AnsweredBy, piece_reply, reply_of, source_type_of, step_reply};
+ghost use Rattle.plant.specs.Feeding.{feed_numbers};
 ghost use Rattle.plant.specs.Settling.{StepsLead, HasMoved, HasSettled, HoldsSettled};
 ghost use Rattle.plant.specs.Waits.{need_of, wait_in};
 ghost use Rattle.streaming.specs.Draining.{HasRoom, IsAtSink, MayBeRefused, drain_fault, end_of, items_taken, tags_taken};
 ghost use Rattle.streaming.specs.Streaming.{GoesOn, HasDrainedTo, KeepsNoTaken, StaysBegun, drained, streaming_opening, tape_kept};
 
-use crate::draining::{Appended, drain, drain_into};
+use crate::draining::{Appended, consume, drain, drain_into, peek};
 use crate::forgetting::forget_taken;
 use crate::memory::{items_in_memory, tags_in_memory};
 use firings::BlockNeed;
 use flowgraph::{Block, BlockId, Valid};
-use items::{Items, Mark};
-use plant::{Closed, Fed, Parts, Piece, PlantFault, Settled, Step, Taken, Unwatched};
+use items::{ItemType, Items, Mark};
+use plant::{
+    Closed, Fed, Headway, Parts, Piece, PlantFault, Settled, Step, Taken, Unwatched, source_type,
+};
 use settings::Value;
 use std::alloc::{AllocError, Global};
 use std::fmt;
@@ -87,6 +93,13 @@ impl<B: Block> StreamingPlant<B> {
         &self.parts.graph
     }
 
+    /// The type of the items that a source takes. `NoSuchBlock`, and `NotSource` of any other block.
+    pub fn source_type(&self, block: BlockId) -> Result<ItemType, PlantFault>
+        ensures { result ≡ source_type_of (net_of B.meaning self.now.plant.graph) block.0 }
+    {
+        source_type(&self.parts.graph, block)
+    }
+
     /// Whether each block is done. Then each sink has taken its whole stream.
     pub fn all_done(&self) -> bool
         ensures value { result ≡ is_all_done self.now.plant.state }
@@ -109,6 +122,21 @@ impl<B: Block> StreamingPlant<B> {
         ensures kept { self.new.kept ≡ self.old.kept }
     {
         self.parts.feed(source, items, marks)
+    }
+
+    /// Appends whole numbers to what a source is fed, as items of its type, with marks on them. A number outside the type's range is refused
+    /// `ItemRange`, where `feed` refuses items of another type. It makes `Items` of them first, which takes memory. An `Err` changes nothing.
+    pub fn feed_numbers(
+        &mut self,
+        alloc: Global,
+        source: BlockId,
+        numbers: &[i64],
+        marks: &[Mark],
+    ) -> Result<Fed, PlantFault>
+        ensures answered { Answered (feed_numbers (net_of B.meaning self.old.plant.graph) self.old.plant.state source.0 numbers.now (map mark_of marks.now)) self.old.plant self.new.plant (reply_of (λ f. machine.Fed f.0) result) }
+        ensures kept { self.new.kept ≡ self.old.kept }
+    {
+        self.parts.feed_numbers(alloc, source, numbers, marks)
     }
 
     /// Says that nothing more comes to a source, and returns how many items it was fed. Refused are, in this order, `NoSuchBlock`, `NotSource`, and
@@ -201,6 +229,30 @@ impl<B: Block> StreamingPlant<B> {
         drain(&mut self.parts, alloc, sink, max)
     }
 
+    /// A copy of what `drain` would take away, which stays. Refused are, in this order, `NoSuchBlock`, `NotSink`, and `Memory`.
+    pub fn peek(&self, alloc: Global, sink: BlockId, max: u64) -> Result<Piece, PlantFault>
+        ensures answered { AnsweredBy (read_of (net_of B.meaning self.now.plant.graph) self.now.plant.state sink.0 (drained self.now sink.0) max) (reply_of piece_reply result) }
+        ensures typed { IfOk result (λ piece. type_of piece.items ≡ (node_at (net_of B.meaning self.now.plant.graph) sink.0).meaning.inputs.item) }
+        ensures joins { IfOk result (λ piece. GoesOn (net_of B.meaning self.now.plant.graph) self.now.plant.state sink.0 (drained self.now sink.0) (numbers_of piece.items) (map tag_of piece.tags.items)) }
+        ensures whole { IfOk result (λ piece. piece.done ≡ true → HoldsAll (net_of B.meaning self.now.plant.graph) self.now.plant.state sink.0) }
+    {
+        peek(&self.parts, alloc, sink, max)
+    }
+
+    /// Takes away what `drain` would take, and gives it to nobody, as where `peek` has shown it. Refused are, in this order, `NoSuchBlock` and
+    /// `NotSink`; an `Err` changes nothing. It takes no memory.
+    pub fn consume(&mut self, sink: BlockId, max: u64) -> Result<Appended, PlantFault>
+        ensures absent { length (net_of B.meaning self.old.plant.graph).nodes ≤ sink.0 → result ≡ Err NoSuchBlock }
+        ensures no_sink { let net = net_of B.meaning self.old.plant.graph in sink.0 < length net.nodes → is_keeper (role_at net sink.0) ≡ false → result ≡ Err NotSink }
+        ensures sink { let net = net_of B.meaning self.old.plant.graph in sink.0 < length net.nodes → is_keeper (role_at net sink.0) ≡ true → IsOk result }
+        ensures at { IfOk result (IsAtSink self.old.plant.state sink.0 (drained self.old sink.0)) }
+        ensures drains { IfOk result (λ d. HasDrainedTo self.old self.new sink.0 (end_of d max)) }
+        ensures err { OnErr result (self.new ≡ self.old) }
+        ensures whole { IfOk result (λ d. d.done ≡ true → HoldsAll (net_of B.meaning self.old.plant.graph) self.old.plant.state sink.0) }
+    {
+        consume(&mut self.parts, sink, max)
+    }
+
     /// Takes away what `drain` takes, and appends it to items of the sink's type and to tags, so that a caller uses the same memory again and again:
     /// where there is room, it takes none. Refused are, in this order, `NoSuchBlock`, `NotSink`, `ItemRange` for items of another type, and `Memory`;
     /// an `Err` changes nothing.
@@ -236,6 +288,19 @@ impl<B: Block> StreamingPlant<B> {
         self.parts.need(block)
     }
 
+    /// How many items all sources were fed, and how many of these they have given, to be shown: where the numbers grow beyond 64 bits, they stay there. It looks at
+    /// each block, and takes no memory.
+    pub fn headway(&self) -> Headway {
+        self.parts.headway()
+    }
+
+    /// Where as many waits lead as there are blocks, from the lowest block that is not done; none where all are done. It takes no memory.
+    pub fn ring(&self) -> Option<BlockId>
+        ensures { option_map (λ block. block.0) result ≡ ring_of (net_of B.meaning self.now.plant.graph) self.now.plant.capacities self.now.plant.state }
+    {
+        self.parts.ring()
+    }
+
     /// How many items are in memory of what a source was fed, or of what a sink has taken: at most twice as many as are kept. There are none of any
     /// other block, whose outputs have buffers.
     pub fn items_in_memory(&self, block: BlockId) -> usize
@@ -252,13 +317,15 @@ impl<B: Block> StreamingPlant<B> {
         tags_in_memory(&self.parts, block)
     }
 
-    /// Recalls what every plant that streams keeps: the graph can run, the state is one that calls lead to, nothing is in flight, no more was drained
+    /// Recalls what every plant that streams keeps: the graph can run, the state is one that calls lead to, nothing is in flight, each block has a place for how much was
+    /// drained of it, no more was drained
     /// of a sink than it has taken, and whatever is called later, what was drained stays the beginning of the one stream that the equations of the blocks give. It
     /// does nothing.
     pub fn recall(&self)
         ensures runs { CanRun (net_of B.meaning self.now.plant.graph) }
         ensures sound { Sound (net_of B.meaning self.now.plant.graph) self.now.plant.capacities self.now.plant.state }
         ensures idle { is_idle self.now.plant.state ≡ true }
+        ensures sinks { length self.now.kept.sinks ≡ length (net_of B.meaning self.now.plant.graph).nodes }
         ensures taken { let net = net_of B.meaning self.now.plant.graph in (b : ℕ) → b < length net.nodes → is_keeper (role_at net b) ≡ true →
             drained self.now b ≤ fired self.now.plant.state b }
         ensures stays { let net = net_of B.meaning self.now.plant.graph in (b : ℕ) → b < length net.nodes → is_keeper (role_at net b) ≡ true →
