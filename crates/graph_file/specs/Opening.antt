@@ -1,9 +1,10 @@
 -- What a graph file opens: the plant of its graph, with its feeds on the tapes.
 use Rattle.std.specs.Prelude.{◌≡◌, ◌⊎◌, ◌<◌, true, length, IsOk, ℕ, suc, ◌-◌, ◌^◌, ℤ, pos, negsuc, List, [], ◌∷◌, map, position, bytes_eq, slice_index_or, Option, Some, None, Result, Ok, Err}
-use Rattle.stream_model.specs.Network.{Network, State, opening}
+use Rattle.stream_model.specs.Network.{Network, State, longest_tape, opening_within}
 use Rattle.stream_model.specs.Tags.{Mark}
 use Rattle.stream_model.specs.Machine as machine
 use Rattle.stream_model.specs.Machine.{Capacities, Reply, Refused}
+use Rattle.graph_model.specs.Gains.{longest_within_gain}
 use Rattle.graph_model.specs.Graphs.{graph_fault}
 use Rattle.graph_model.specs.Rates.{balance_of, capacities_of}
 use Rattle.flowgraph.specs.declared.fault.Limit.TheVariants.{Blocks}
@@ -93,10 +94,18 @@ after_feeds d n st (feed ∷ feeds) = then (after_feed n (feed_now d st feed)) (
 abbrev pub opened_in : Draft → State → Opened
 opened_in d st = record { draft = d; capacities = capacities_of d.net (balance_of d.net); state = st }
 
--- a valid graph opens and takes the feeds, or one of them is refused
-abbrev pub opened_with : Draft → List Fed → Result Opened Refusal
-opened_with d feeds = then (after_feeds d 0 (opening d.net) feeds) (λ st. Ok (opened_in d st))
+module _ (longest : Network → ℕ) where
+  -- a valid graph opens, with tapes that may come to hold so many items, and takes the feeds, or one of them is refused
+  abbrev pub opened_with : Draft → List Fed → Result Opened Refusal
+  opened_with d feeds = then (after_feeds d 0 (opening_within (longest d.net) d.net) feeds) (λ st. Ok (opened_in d st))
 
--- the plant of a file, or why there is none: its graph is not valid, or a feed is refused
+  -- what a file opens, or why there is nothing: its graph is not valid, or a feed is refused
+  abbrev pub opened_within : Content → Result Opened Refusal
+  opened_within c = then (validated c.graph) (λ d. opened_with d c.feeds)
+
+-- the plant of a file, and the one that streams, of which a tape may come to hold as many items as the greatest gain of the graph allows
 abbrev pub opened : Content → Result Opened Refusal
-opened c = then (validated c.graph) (λ d. opened_with d c.feeds)
+opened c = opened_within (λ _. longest_tape) c
+
+abbrev pub streamed : Content → Result Opened Refusal
+streamed c = opened_within longest_within_gain c

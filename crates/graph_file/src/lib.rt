@@ -11,6 +11,7 @@ pub mod file;
 mod only;
 mod opening;
 pub mod pieces;
+mod taking;
 
 pub use accepted::{Depth, fault_of};
 pub use fault::{EndName, FileFault, FilePlace};

@@ -6,21 +6,23 @@ ghost use Rattle.flowgraph.specs.declared.fault.Limit.TheVariants.{Blocks};
 ghost use Rattle.flowgraph.specs.Fault.{told};
 ghost use Rattle.stores.specs.Stores as stores;
 ghost use Rattle.kinds.specs.Kind.{meaning_of};
-ghost use Rattle.plant.specs.Opening.{opening_plant};
+ghost use Rattle.plant.specs.Plant.{ForgetsNone};
 ghost use Rattle.graph_file.specs.Refusals.{IsRefused};
 ghost use Rattle.graph_file.specs.Blocks.{drafted};
 ghost use Rattle.graph_file.specs.Feeds.{fed};
 ghost use Rattle.graph_file.specs.File.{seen};
-ghost use Rattle.graph_file.specs.Opening.{opened, opened_with, opened_of, validated, feed_now, after_feed, after_feeds, mark_of, named_block, FeedCopies};
+ghost use Rattle.graph_file.specs.Opening.{opened, opened_with, opened_of, streamed, validated, feed_now, after_feed, after_feeds, mark_of, named_block, FeedCopies};
 
 use crate::fault::{FileFault, FilePlace, feed_fault, graph_fault};
 use crate::feed::{Feed, FileMark};
 use crate::file::File;
+use crate::taking::TakesFeeds;
 use flowgraph::{BlockId, Graph, GraphFault, Valid};
 use items::Mark;
 use kinds::Kind;
 use plant::{Plant, PlantFault};
 use std::alloc::{AllocError, Global};
+use streaming::StreamingPlant;
 
 impl File {
     /// The valid graph of the file with its feeds, or what is wrong with the graph as a whole, or out of memory. The feeds are not tested.
@@ -44,28 +46,33 @@ impl File {
         let (graph, feeds) = self.validate(alloc)?;
         plant_fed(alloc, graph, &feeds)
     }
-}
 
-// The plant of a valid graph with these feeds on its tapes.
-fn plant_fed(alloc: Global, graph: Valid<Kind>, feeds: &[Feed]) -> Result<Plant<Kind>, FileFault>
-    ensures ok { IfOk result (λ plant. opened_with (drafted graph) (map fed feeds.now) ≡ Ok (opened_of plant)) }
-    ensures refused { IfErr result (IsRefused (opened_with (drafted graph) (map fed feeds.now))) }
-{
-    let mut plant = plant_of(alloc, graph)?;
-    match take_feeds(alloc, &mut plant, feeds) {
-        Ok(()) => Ok(plant),
-        Err(fault) => Err(fault),
+    /// The plant that streams of the file's graph, with its feeds on the tapes, in their order, and its sources open; or why there is none, as
+    /// `open` tells it. But a tape may come to hold as many items as the graph's greatest gain allows.
+    pub fn stream(self, alloc: Global) -> Result<StreamingPlant<Kind>, FileFault>
+        ensures ok { IfOk result (λ plant. streamed (seen self) ≡ Ok (opened_of plant.plant)) }
+        ensures none { IfOk result (λ plant. ForgetsNone plant.kept) }
+        ensures refused { IfErr result (IsRefused (streamed (seen self))) }
+    {
+        let (graph, feeds) = self.validate(alloc)?;
+        plant_fed(alloc, graph, &feeds)
     }
 }
 
-// The plant of a valid graph.
-fn plant_of(alloc: Global, graph: Valid<Kind>) -> Result<Plant<Kind>, FileFault>
-    ensures ok { IfOk result (λ plant. plant ≡ opening_plant meaning_of graph) }
-    ensures memory { IfErr result (λ fault. fault ≡ FileFault.Memory) }
+// The plant of a valid graph with these feeds on its tapes.
+fn plant_fed<P: TakesFeeds>(
+    alloc: Global,
+    graph: Valid<Kind>,
+    feeds: &[Feed],
+) -> Result<P, FileFault>
+    ensures ok { IfOk result (λ p. opened_with P.longest (drafted graph) (map fed feeds.now) ≡ Ok (opened_of (P.plant p))) }
+    ensures whole { IfOk result P.whole }
+    ensures refused { IfErr result (IsRefused (opened_with P.longest (drafted graph) (map fed feeds.now))) }
 {
-    match Plant::open(alloc, graph) {
-        Ok(plant) => Ok(plant),
-        Err(_) => Err(FileFault::Memory),
+    let mut plant = P::open(alloc, graph)?;
+    match take_feeds(alloc, &mut plant, feeds) {
+        Ok(()) => Ok(plant),
+        Err(fault) => Err(fault),
     }
 }
 
@@ -100,10 +107,11 @@ fn named_block(fault: GraphFault) -> Option<BlockId>
 }
 
 // Feeds a plant, in order, up to the first feed that is refused.
-fn take_feeds(alloc: Global, plant: &mut Plant<Kind>, feeds: &[Feed]) -> Result<(), FileFault>
-    ensures ok { OnOk result (after_feeds (drafted plant.old.graph) 0 plant.old.state (map fed feeds.now) ≡ Ok plant.new.state) }
-    ensures rest { OnOk result (plant.new ≡ record plant.old { state = plant.new.state }) }
-    ensures refused { IfErr result (IsRefused (after_feeds (drafted plant.old.graph) 0 plant.old.state (map fed feeds.now))) }
+fn take_feeds<P: TakesFeeds>(alloc: Global, plant: &mut P, feeds: &[Feed]) -> Result<(), FileFault>
+    ensures ok { let old = P.plant plant.old in OnOk result (after_feeds (drafted old.graph) 0 old.state (map fed feeds.now) ≡ Ok (P.plant plant.new).state) }
+    ensures rest { OnOk result (P.plant plant.new ≡ record (P.plant plant.old) { state = (P.plant plant.new).state }) }
+    ensures whole { OnOk result (P.whole plant.old → P.whole plant.new) }
+    ensures refused { let old = P.plant plant.old in IfErr result (IsRefused (after_feeds (drafted old.graph) 0 old.state (map fed feeds.now))) }
 {
     for (number, feed) in feeds.iter().enumerate() {
         if let Err(fault) = take_feed(alloc, plant, number, feed) {
@@ -114,16 +122,17 @@ fn take_feeds(alloc: Global, plant: &mut Plant<Kind>, feeds: &[Feed]) -> Result<
 }
 
 // Feeds a plant. A feed names a source; its marks may lie before all items. They are copied only for a source.
-fn take_feed(
+fn take_feed<P: TakesFeeds>(
     alloc: Global,
-    plant: &mut Plant<Kind>,
+    plant: &mut P,
     number: usize,
     feed: &Feed,
 ) -> Result<(), FileFault>
-    ensures ok { OnOk result (after_feed number (feed_now (drafted plant.old.graph) plant.old.state (fed feed.now)) ≡ Ok plant.new.state) }
-    ensures rest { OnOk result (plant.new ≡ record plant.old { state = plant.new.state }) }
-    ensures refused { IfErr result (IsRefused (after_feed number (feed_now (drafted plant.old.graph) plant.old.state (fed feed.now)))) }
-    ensures memory { IsErrOf result FileFault.Memory → FeedCopies (drafted plant.old.graph) plant.old.state (fed feed.now) }
+    ensures ok { let old = P.plant plant.old in OnOk result (after_feed number (feed_now (drafted old.graph) old.state (fed feed.now)) ≡ Ok (P.plant plant.new).state) }
+    ensures rest { OnOk result (P.plant plant.new ≡ record (P.plant plant.old) { state = (P.plant plant.new).state }) }
+    ensures whole { OnOk result (P.whole plant.old → P.whole plant.new) }
+    ensures refused { let old = P.plant plant.old in IfErr result (IsRefused (after_feed number (feed_now (drafted old.graph) old.state (fed feed.now)))) }
+    ensures memory { let old = P.plant plant.old in IsErrOf result FileFault.Memory → FeedCopies (drafted old.graph) old.state (fed feed.now) }
 {
     let Some(source) = plant.graph().find(&feed.source) else {
         return Err(feed_fault(number, PlantFault::NoSuchBlock));

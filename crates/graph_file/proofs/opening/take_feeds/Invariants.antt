@@ -5,6 +5,9 @@ use Rattle.graph_file.specs.Opening.{after_feeds}
 use Rattle.graph_file.proofs.opening.take_feeds.Given as goal
 
 abbrev pub invariant-loop-number : goal.invariant-loop-number
-invariant-loop-number l =
-    (after_feeds (drafted l.plant.graph) l.number l.plant.state (map fed (drop l.number l.feeds)) ≡ after_feeds (drafted l.initial.plant.graph) 0 l.initial.plant.state (map fed l.feeds))
-    × (l.plant ≡ record l.initial.plant { state = l.plant.state })
+invariant-loop-number g l =
+    let now = g.P.TakesFeeds.plant l.plant in
+    let old = g.P.TakesFeeds.plant l.initial.plant in
+    (after_feeds (drafted now.graph) l.number now.state (map fed (drop l.number l.feeds)) ≡ after_feeds (drafted old.graph) 0 old.state (map fed l.feeds))
+    × (now ≡ record old { state = now.state })
+    × (g.P.TakesFeeds.whole l.initial.plant → g.P.TakesFeeds.whole l.plant)
