@@ -5,6 +5,6 @@ set -euo pipefail
 source "$(dirname -- "$(readlink -f -- "${BASH_SOURCE[0]}")")/../layers.sh"
 
 # shellcheck disable=SC2034  # They are for the script that is sourced.
-folders=(leaves kernels blocks flowgraphs plants) libraries=(streaming raw_items rates firings kinds)
+folders=(leaves kernels blocks flowgraphs plants) libraries=(pipeline rates firings kinds)
 
 "$1"

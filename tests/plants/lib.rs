@@ -1,5 +1,5 @@
 //! Tests of plants through their public calls: each call once, jobs that are copied and brought back, what blocks wait for and what
-//! buffers store, long runs in any order, balanced graphs that never stall, and plants that stream.
+//! buffers store, long runs in any order, balanced graphs that never stall, plants that stream, and pipelines.
 
 mod balanced;
 mod calls;
@@ -7,5 +7,6 @@ mod drawn;
 mod handed;
 mod needs;
 mod orders;
+mod pipelines;
 mod stores;
 mod streamed;

@@ -173,7 +173,7 @@ fn what_a_source_has_taken_is_released(rt: HostRuntime) -> Result<(), Fail> {
 }
 
 // A source through blocks that keep, repeat, delay and sum, into two sinks.
-const BLOCKS: [Make; 8] = [
+pub const BLOCKS: [Make; 8] = [
     Make::Source,
     Make::MovingSum(3),
     Make::Repeat(3),
@@ -184,7 +184,7 @@ const BLOCKS: [Make; 8] = [
     Make::Sink,
 ];
 
-const WIRES: [Wire; 7] = [
+pub const WIRES: [Wire; 7] = [
     (0, 0, 1, 0),
     (1, 0, 2, 0),
     (2, 0, 3, 0),
@@ -194,7 +194,7 @@ const WIRES: [Wire; 7] = [
     (6, 0, 7, 0),
 ];
 
-const SINKS: [BlockId; 2] = [BlockId(4), BlockId(7)];
+pub const SINKS: [BlockId; 2] = [BlockId(4), BlockId(7)];
 
 // What was drained of a sink.
 #[derive(Drop)]

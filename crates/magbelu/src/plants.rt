@@ -1,6 +1,7 @@
 //! A plant runs a graph call by call: feed, set, step, read. Between a claim and its commit a block works apart from the plant. A plant that streams
-//! forgets what was taken of it, so that it runs in constant memory for as long as it is fed.
+//! forgets what was taken of it, so that it runs in constant memory for as long as it is fed; a pipeline does so between readers and writers.
 
+pub use pipeline::{End, Input, Output, Pipeline, PipelineFault};
 pub use plant::{
     BlockNeed, Claim, Closed, Did, Fed, Handed, Headway, Job, Need, Opening, Piece, Plant,
     PlantFault, Settled, SinkView, Step, Stored, Taken, Unwatched, Watch, Worked, source_type,

@@ -1,0 +1,7 @@
+pub mod Growing
+pub mod Parting
+pub mod Reading
+pub mod TakingIn
+pub mod Delivering
+pub mod Moving
+pub mod Rounds

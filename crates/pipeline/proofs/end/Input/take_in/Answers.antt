@@ -1,0 +1,75 @@
+use Rattle.std.proofs.Common.{[], take, refl, subst}
+use Rattle.std.proofs.lemmas.Result.{on_ok_weaker, on_err_weaker}
+use Rattle.std.specs.Io.KnownBytes.{Consumes}
+use Rattle.flowgraph.specs.Flowgraph.{net_of}
+use Rattle.stream_model.specs.Network.{handed_at}
+use Rattle.pipeline.specs.Ends.{InputState}
+use Rattle.pipeline.specs.Pipeline.{HasRead, MayHaveRead}
+use Rattle.pipeline.specs.Steps.{HasFed}
+use Rattle.pipeline.proofs.Reading.{fed-read, keeps_consumes, may_read-gone, read-begun, read-then, takes_none, takes_then}
+use Rattle.pipeline.proofs.end.Input.take_in.Goals as goal
+
+pub returns-in-Err-clause-err : goal.returns-in-Err-clause-err
+returns-in-Err-clause-err g c =
+    let remaining = g.R.Read.remaining in
+    let p = c.args.plant.now in
+    let i : InputState _ = record { reader = c.self.inside.reader; decoder = c.self.inside.decoder; is_ended = c.self.inside.is_ended } in
+    let k : InputState _ = record { reader = c.read.new.self; decoder = c.self.inside.decoder; is_ended = c.self.inside.is_ended } in
+    rw (← c.self.view_is)
+    (takes_none (MayHaveRead remaining) (net_of g.B.Block.meaning p.plant.graph) p p c.args.source.0 i i k refl
+    (may_read-gone remaining i k (handed_at p.plant.state.handed c.args.source.0) [] (keeps_consumes _ _ c.in-Err.ensures.bytes)))
+
+pub returns-then-count-eq0-clause-ok : goal.returns-then-count-eq0-clause-ok
+returns-then-count-eq0-clause-ok g c =
+    let remaining = g.R.Read.remaining in
+    let p = c.args.plant.now in
+    let net = net_of g.B.Block.meaning p.plant.graph in
+    let b = c.args.source.0 in
+    let i : InputState _ = record { reader = c.self.inside.reader; decoder = c.self.inside.decoder; is_ended = c.self.inside.is_ended } in
+    let j : InputState _ = record { reader = c.read.new.self; decoder = c.self.inside.decoder; is_ended = c.self.inside.is_ended } in
+    rw (← c.self.view_is)
+    (on_ok_weaker c.end.result
+    (λ takes. takes_then (HasRead remaining) net p c.end.new.plant b i j c.end.new.self takes (HasRead remaining)
+    (read-then remaining i j c.end.new.self _ _ _ (read-begun remaining i j (handed_at p.plant.state.handed b)
+    (subst (λ n. Consumes (remaining c.self.inside.reader) (remaining c.read.new.self) (take n c.read.new.buf)) c.if-count-eq0.true c.in-Ok.ensures.bytes.0) refl c.if-self.false refl)))
+    c.end.ensures.ok)
+
+pub returns-then-count-eq0-clause-err : goal.returns-then-count-eq0-clause-err
+returns-then-count-eq0-clause-err g c =
+    let remaining = g.R.Read.remaining in
+    let p = c.args.plant.now in
+    let net = net_of g.B.Block.meaning p.plant.graph in
+    let b = c.args.source.0 in
+    let i : InputState _ = record { reader = c.self.inside.reader; decoder = c.self.inside.decoder; is_ended = c.self.inside.is_ended } in
+    rw (← c.self.view_is)
+    (on_err_weaker c.end.result
+    (λ same. takes_none (MayHaveRead remaining) net p c.end.new.plant b i i c.end.new.self same
+    (may_read-gone remaining i c.end.new.self (handed_at p.plant.state.handed b) [] (rw c.end.ensures.reader (subst (λ n. Consumes (remaining c.self.inside.reader) (remaining c.read.new.self) (take n c.read.new.buf)) c.if-count-eq0.true c.in-Ok.ensures.bytes.0))))
+    c.end.ensures.err)
+
+pub returns-clause-ok : goal.returns-clause-ok
+returns-clause-ok g c =
+    let remaining = g.R.Read.remaining in
+    let p = c.args.plant.now in
+    let net = net_of g.B.Block.meaning p.plant.graph in
+    let b = c.args.source.0 in
+    let i : InputState _ = record { reader = c.self.inside.reader; decoder = c.self.inside.decoder; is_ended = c.self.inside.is_ended } in
+    let j : InputState _ = record { reader = c.read.new.self; decoder = c.self.inside.decoder; is_ended = c.self.inside.is_ended } in
+    rw (← c.self.view_is)
+    (on_ok_weaker c.feed.result
+    (λ takes. takes_then (HasFed (take c.in-Ok.count c.read.new.buf)) net p c.feed.new.plant b i j c.feed.new.self takes (HasRead remaining)
+    (fed-read remaining i j c.feed.new.self _ _ (take c.in-Ok.count c.read.new.buf) (rw c.feed.ensures.reader c.in-Ok.ensures.bytes.0) refl c.if-self.false c.if-self.false))
+    c.feed.ensures.ok)
+
+pub returns-clause-err : goal.returns-clause-err
+returns-clause-err g c =
+    let remaining = g.R.Read.remaining in
+    let p = c.args.plant.now in
+    let net = net_of g.B.Block.meaning p.plant.graph in
+    let b = c.args.source.0 in
+    let i : InputState _ = record { reader = c.self.inside.reader; decoder = c.self.inside.decoder; is_ended = c.self.inside.is_ended } in
+    rw (← c.self.view_is)
+    (on_err_weaker c.feed.result
+    (λ same. takes_none (MayHaveRead remaining) net p c.feed.new.plant b i i c.feed.new.self same
+    (may_read-gone remaining i c.feed.new.self (handed_at p.plant.state.handed b) (take c.in-Ok.count c.read.new.buf) (rw c.feed.ensures.reader c.in-Ok.ensures.bytes.0)))
+    c.feed.ensures.err)

@@ -1,0 +1,41 @@
+use Rattle.std.proofs.Common.{refl}
+use Rattle.flowgraph.specs.Flowgraph.{net_of}
+use Rattle.pipeline.proofs.Delivering.{on_err}
+use Rattle.pipeline.proofs.Moving.{begins_more, begins_none, goes_more, goes_still}
+use Rattle.pipeline.proofs.pipeline.Pipeline.turn.Goals as goal
+
+pub returns-in_err-has_moved-clause-begins : goal.returns-in_err-has_moved-clause-begins
+returns-in_err-has_moved-clause-begins g c = on_err c.from_residual.result
+    (begins_more g.R.Read.remaining g.W.Write.contents g.B.Block.meaning c.args.self.now.plant c.round.new.self.plant c.round.new.self.plant c.args.self.now.ends.items c.round.new.self.ends.items c.round.new.self.ends.items c.round.ensures.goes (begins_none g.R.Read.remaining g.W.Write.contents _ _ _ _ refl))
+
+pub returns-in_err-write-clause-begins : goal.returns-in_err-write-clause-begins
+returns-in_err-write-clause-begins g c = on_err _
+    (begins_more g.R.Read.remaining g.W.Write.contents g.B.Block.meaning c.args.self.now.plant c.round.new.self.plant c.write.new.self.plant c.args.self.now.ends.items c.round.new.self.ends.items c.write.new.self.ends.items c.round.ensures.goes c.in_err-write.ensures.begins)
+
+pub returns-then-has_moved-clause-goes : goal.returns-then-has_moved-clause-goes
+returns-then-has_moved-clause-goes g c =
+    (goes_more g.R.Read.remaining g.W.Write.contents g.B.Block.meaning c.args.self.now.plant c.round.new.self.plant c.write.new.self.plant c.args.self.now.ends.items c.round.new.self.ends.items c.write.new.self.ends.items c.round.ensures.goes c.in_ok-write.ensures.goes)
+
+pub returns-in_err-write-2-clause-begins : goal.returns-in_err-write-2-clause-begins
+returns-in_err-write-2-clause-begins g c = on_err _
+    (begins_more g.R.Read.remaining g.W.Write.contents g.B.Block.meaning c.args.self.now.plant c.round.new.self.plant c.write-2.new.self.plant c.args.self.now.ends.items c.round.new.self.ends.items c.write-2.new.self.ends.items c.round.ensures.goes c.in_err-write-2.ensures.begins)
+
+pub returns-in_err-flush-clause-begins : goal.returns-in_err-flush-clause-begins
+returns-in_err-flush-clause-begins g c = on_err _
+    (begins_more g.R.Read.remaining g.W.Write.contents g.B.Block.meaning c.args.self.now.plant c.write-2.new.self.plant c.flush.new.self.plant c.args.self.now.ends.items c.write-2.new.self.ends.items c.flush.new.self.ends.items (goes_more g.R.Read.remaining g.W.Write.contents g.B.Block.meaning c.args.self.now.plant c.round.new.self.plant c.write-2.new.self.plant c.args.self.now.ends.items c.round.new.self.ends.items c.write-2.new.self.ends.items c.round.ensures.goes c.in_ok-write-2.ensures.goes) c.in_err-flush.ensures.begins)
+
+pub returns-then-all_done-clause-goes : goal.returns-then-all_done-clause-goes
+returns-then-all_done-clause-goes g c =
+    (goes_more g.R.Read.remaining g.W.Write.contents g.B.Block.meaning c.args.self.now.plant c.write-2.new.self.plant c.flush.new.self.plant c.args.self.now.ends.items c.write-2.new.self.ends.items c.flush.new.self.ends.items (goes_more g.R.Read.remaining g.W.Write.contents g.B.Block.meaning c.args.self.now.plant c.round.new.self.plant c.write-2.new.self.plant c.args.self.now.ends.items c.round.new.self.ends.items c.write-2.new.self.ends.items c.round.ensures.goes c.in_ok-write-2.ensures.goes) c.in_ok-flush.ensures.goes)
+
+pub returns-in_err-take_in-in-Some-clause-begins : goal.returns-in_err-take_in-in-Some-clause-begins
+returns-in_err-take_in-in-Some-clause-begins g c = on_err _
+    (begins_more g.R.Read.remaining g.W.Write.contents g.B.Block.meaning c.args.self.now.plant c.next_source.new.self.plant c.take_in.new.self.plant c.args.self.now.ends.items c.next_source.new.self.ends.items c.take_in.new.self.ends.items (goes_more g.R.Read.remaining g.W.Write.contents g.B.Block.meaning c.args.self.now.plant c.flush.new.self.plant c.next_source.new.self.plant c.args.self.now.ends.items c.flush.new.self.ends.items c.next_source.new.self.ends.items (goes_more g.R.Read.remaining g.W.Write.contents g.B.Block.meaning c.args.self.now.plant c.write-2.new.self.plant c.flush.new.self.plant c.args.self.now.ends.items c.write-2.new.self.ends.items c.flush.new.self.ends.items (goes_more g.R.Read.remaining g.W.Write.contents g.B.Block.meaning c.args.self.now.plant c.round.new.self.plant c.write-2.new.self.plant c.args.self.now.ends.items c.round.new.self.ends.items c.write-2.new.self.ends.items c.round.ensures.goes c.in_ok-write-2.ensures.goes) c.in_ok-flush.ensures.goes) (goes_still g.R.Read.remaining g.W.Write.contents (net_of g.B.Block.meaning c.flush.new.self.plant.plant.graph) c.flush.new.self.plant c.next_source.new.self.plant c.flush.new.self.ends.items c.next_source.new.self.ends.items c.next_source.ensures.same.0 c.next_source.ensures.same.1)) c.in_err-take_in-in-Some.ensures.begins)
+
+pub returns-in_ok-take_in-in-Some-clause-goes : goal.returns-in_ok-take_in-in-Some-clause-goes
+returns-in_ok-take_in-in-Some-clause-goes g c =
+    (goes_more g.R.Read.remaining g.W.Write.contents g.B.Block.meaning c.args.self.now.plant c.next_source.new.self.plant c.take_in.new.self.plant c.args.self.now.ends.items c.next_source.new.self.ends.items c.take_in.new.self.ends.items (goes_more g.R.Read.remaining g.W.Write.contents g.B.Block.meaning c.args.self.now.plant c.flush.new.self.plant c.next_source.new.self.plant c.args.self.now.ends.items c.flush.new.self.ends.items c.next_source.new.self.ends.items (goes_more g.R.Read.remaining g.W.Write.contents g.B.Block.meaning c.args.self.now.plant c.write-2.new.self.plant c.flush.new.self.plant c.args.self.now.ends.items c.write-2.new.self.ends.items c.flush.new.self.ends.items (goes_more g.R.Read.remaining g.W.Write.contents g.B.Block.meaning c.args.self.now.plant c.round.new.self.plant c.write-2.new.self.plant c.args.self.now.ends.items c.round.new.self.ends.items c.write-2.new.self.ends.items c.round.ensures.goes c.in_ok-write-2.ensures.goes) c.in_ok-flush.ensures.goes) (goes_still g.R.Read.remaining g.W.Write.contents (net_of g.B.Block.meaning c.flush.new.self.plant.plant.graph) c.flush.new.self.plant c.next_source.new.self.plant c.flush.new.self.ends.items c.next_source.new.self.ends.items c.next_source.ensures.same.0 c.next_source.ensures.same.1)) c.in_ok-take_in-in-Some.ensures.goes)
+
+pub returns-in-None-clause-goes : goal.returns-in-None-clause-goes
+returns-in-None-clause-goes g c =
+    (goes_more g.R.Read.remaining g.W.Write.contents g.B.Block.meaning c.args.self.now.plant c.flush.new.self.plant c.next_source.new.self.plant c.args.self.now.ends.items c.flush.new.self.ends.items c.next_source.new.self.ends.items (goes_more g.R.Read.remaining g.W.Write.contents g.B.Block.meaning c.args.self.now.plant c.write-2.new.self.plant c.flush.new.self.plant c.args.self.now.ends.items c.write-2.new.self.ends.items c.flush.new.self.ends.items (goes_more g.R.Read.remaining g.W.Write.contents g.B.Block.meaning c.args.self.now.plant c.round.new.self.plant c.write-2.new.self.plant c.args.self.now.ends.items c.round.new.self.ends.items c.write-2.new.self.ends.items c.round.ensures.goes c.in_ok-write-2.ensures.goes) c.in_ok-flush.ensures.goes) (goes_still g.R.Read.remaining g.W.Write.contents (net_of g.B.Block.meaning c.flush.new.self.plant.plant.graph) c.flush.new.self.plant c.next_source.new.self.plant c.flush.new.self.ends.items c.next_source.new.self.ends.items c.next_source.ensures.same.0 c.next_source.ensures.same.1))

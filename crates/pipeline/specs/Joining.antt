@@ -1,0 +1,32 @@
+-- What a block of a pipeline is joined to.
+use Rattle.std.specs.Prelude.{ℕ, ◌≡◌, List, [], length, false, not, nat_lt, if◌then◌else◌, Option, Result, Ok, Err, slice_set}
+use Rattle.stream_model.specs.declared.vocabulary.ItemType.{ItemType}
+use Rattle.stream_model.specs.Network.{Network, node_at, role_at, is_keeper}
+use Rattle.items.specs.Items.{type_of}
+use Rattle.raw_items.specs.declared.byte_order.ByteOrder.{ByteOrder}
+use Rattle.plant.specs.declared.fault.PlantFault.{PlantFault}
+use Rattle.plant.specs.declared.fault.PlantFault.TheVariants.{NoSuchBlock, NotSink}
+use Rattle.pipeline.specs.declared.end.End.{End}
+use Rattle.pipeline.specs.declared.end.End.TheVariants as ends
+use Rattle.pipeline.specs.declared.end.Output.{Output}
+
+-- the type of the items that a sink takes, where the block is one
+abbrev pub sink_type_of : Network → ℕ → Result ItemType PlantFault
+sink_type_of net b =
+    if not (nat_lt b (length net.nodes)) then Err NoSuchBlock
+    else (if not (is_keeper (role_at net b)) then Err NotSink
+    else Ok (node_at net b).meaning.inputs.item)
+
+-- a block is joined to a reader of which nothing was read
+abbrev pub JoinsReader : {R W : Type 0} → Network → ℕ → ByteOrder → R → List (End R W) → List (End R W) → Type 0
+JoinsReader net b order reader es es' =
+    es' ≡ slice_set es b (ends.Input (record { reader = reader; decoder = record { item_type = (node_at net b).meaning.outputs.item; order = order; cut = [] }; is_ended = false }))
+
+-- it is joined to writers
+pub record JoinsWriters {R W : Type 0} (net : Network) (b : ℕ) (order : ByteOrder) (items tags : Option W) (es es' : List (End R W)) : Type 0 where
+  pub output : Output W
+  pub joined : es' ≡ slice_set es b (ends.Output output)
+  pub order_is : output.order ≡ order
+  pub item_is : type_of output.items ≡ (node_at net b).meaning.inputs.item
+  pub items_is : output.items_to ≡ items
+  pub tags_is : output.tags_to ≡ tags

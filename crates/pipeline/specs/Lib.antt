@@ -1,0 +1,4 @@
+pub mod Ends
+pub mod Pipeline
+pub mod Steps
+pub mod Joining

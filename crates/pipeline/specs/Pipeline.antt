@@ -1,0 +1,114 @@
+-- What the ends of a pipeline have read and written.
+use Rattle.std.specs.Prelude.{ℕ, ℤ, ◌≡◌, ◌<◌, ◌≤◌, List, [], ◌++◌, length, take, true, false, slice_range, slice_index_or, ⊤, Option, Some, None}
+use Rattle.std.specs.List.{flat_map}
+use Rattle.std.specs.Io.KnownBytes.{Appends, Consumes, IsAtEnd}
+use Rattle.stream_model.specs.Tags.{tags_within}
+use Rattle.stream_model.specs.Network.{Network, Handed, State, handed_at, role_at, is_keeper}
+use Rattle.machine_laws.specs.Sound.{fired}
+use Rattle.machine_laws.specs.Waits.{ForFeed, wait_of}
+use Rattle.items.specs.Items.{type_of}
+use Rattle.raw_items.specs.Values.{items_of, all_bytes_of}
+use Rattle.raw_items.specs.Decoding.{HasDecoded}
+use Rattle.script_text.specs.Ends.{AppendsBeginning}
+use Rattle.script_text.specs.Replies.{tag_line}
+use Rattle.streaming.specs.Streaming.{StreamingState, drained, stream_into, tags_into}
+use Rattle.pipeline.specs.declared.end.End.{End}
+use Rattle.pipeline.specs.declared.end.End.TheVariants as ends
+use Rattle.pipeline.specs.Ends.{InputState}
+use Rattle.pipeline.specs.declared.end.Output.{Output}
+
+-- how known bytes grow by a text: by all of it, or by a beginning
+abbrev pub Growth : Type 1
+Growth = Option (List ℕ) → Option (List ℕ) → List ℕ → Type 0
+
+-- the bytes of a writer grew by a text, where there is a writer
+abbrev pub WriterGrows : {W : Type 0} → Growth → (W → Option (List ℕ)) → Option W → Option W → List ℕ → Type 0
+WriterGrows Grows contents None None text = ⊤
+WriterGrows Grows contents (Some w) (Some w') text = Grows (contents w) (contents w') text
+WriterGrows Grows contents None (Some w') text = ⊥
+WriterGrows Grows contents (Some w) None text = ⊥
+
+-- the writers of sink b were given what was drained of it: items `from` to below `to` of the stream that enters it, and the tags on them
+pub record HasWritten {W : Type 0} (Grows : Growth) (contents : W → Option (List ℕ)) (net : Network) (st : State) (b from to : ℕ) (old new : Output W) : Type 0 where
+  pub order : new.order ≡ old.order
+  pub item : type_of new.items ≡ type_of old.items
+  pub items : WriterGrows Grows contents old.items_to new.items_to (all_bytes_of (type_of old.items) old.order (slice_range (stream_into net st b) from to))
+  pub tags : WriterGrows Grows contents old.tags_to new.tags_to (flat_map tag_line (tags_within from to (tags_into net st b)))
+
+-- how a reader and what its source is handed change
+abbrev pub Intake : Type 0 → Type 1
+Intake R = InputState R → InputState R → Handed → Handed → Type 0
+
+-- what was read was fed: if the tape ended with the items of some bytes, it ends with those of these bytes and what was read. A reader at its end
+-- gives no more, and its source is closed
+pub record HasRead {R : Type 0} (remaining : R → Option (List ℕ)) (old new : InputState R) (handed handed' : Handed) : Type 0 where
+  pub bytes : List ℕ
+  pub read : Consumes (remaining old.reader) (remaining new.reader) bytes
+  pub layout : new.decoder ≡ record old.decoder { cut = new.decoder.cut }
+  pub fed : (before : List ℕ) (start : List ℤ) → HasDecoded old.decoder before start handed.tape → HasDecoded new.decoder (before ++ bytes) start handed'.tape
+  pub alone : handed' ≡ record handed { tape = handed'.tape; closed = handed'.closed }
+  pub stays_open : new.is_ended ≡ false → handed'.closed ≡ handed.closed
+  pub closes : old.is_ended ≡ false → new.is_ended ≡ true → (handed'.closed ≡ true) × IsAtEnd (remaining new.reader) × (new.decoder.cut ≡ [])
+  pub over : old.is_ended ≡ true → (new ≡ old) × (handed' ≡ handed)
+
+-- the same, but that a piece which was read last may not have been fed
+pub record MayHaveRead {R : Type 0} (remaining : R → Option (List ℕ)) (old new : InputState R) (handed handed' : Handed) : Type 0 where
+  pub bytes : List ℕ
+  pub rest : List ℕ
+  pub read : Consumes (remaining old.reader) (remaining new.reader) (bytes ++ rest)
+  pub fed : (before : List ℕ) (start : List ℤ) → HasDecoded old.decoder before start handed.tape →
+      handed'.tape ≡ start ++ items_of old.decoder.item_type old.decoder.order (before ++ bytes)
+  pub alone : handed' ≡ record handed { tape = handed'.tape; closed = handed'.closed }
+
+-- what became of an end of block b in the meantime
+abbrev pub EndMoves : {R W B : Type 0} → Growth → Intake R → (W → Option (List ℕ)) → Network → (old new : StreamingState B) → ℕ → End R W → End R W → Type 0
+EndMoves Grows Reads contents net old new b ends.Open ends.Open = (handed_at new.plant.state.handed b ≡ handed_at old.plant.state.handed b) × (drained new b ≡ drained old b)
+EndMoves Grows Reads contents net old new b (ends.Input i) (ends.Input i') = Reads i i' (handed_at old.plant.state.handed b) (handed_at new.plant.state.handed b) × (drained new b ≡ drained old b)
+EndMoves Grows Reads contents net old new b (ends.Output o) (ends.Output o') =
+    (handed_at new.plant.state.handed b ≡ handed_at old.plant.state.handed b) ×
+    (b < length net.nodes → is_keeper (role_at net b) ≡ true → HasWritten Grows contents net new.plant.state b (drained old b) (drained new b) o o')
+EndMoves Grows Reads contents net old new b _ _ = ⊥
+
+abbrev pub end_at : {R W : Type 0} → List (End R W) → ℕ → End R W
+end_at es b = slice_index_or es b ends.Open
+
+-- what was drained of each sink stays the beginning of its stream
+abbrev pub KeepsDrained : {B : Type 0} → Network → (old new : StreamingState B) → Type 0
+KeepsDrained net old new = (b : ℕ) → b < length net.nodes → is_keeper (role_at net b) ≡ true →
+    (take (drained old b) (stream_into net new.plant.state b) ≡ take (drained old b) (stream_into net old.plant.state b)) ×
+    (tags_within 0 (drained old b) (tags_into net new.plant.state b) ≡ tags_within 0 (drained old b) (tags_into net old.plant.state b))
+
+-- a pipeline went on
+pub record Moves {R W B : Type 0} (Grows : Growth) (Reads : Intake R) (contents : W → Option (List ℕ)) (net : Network) (old new : StreamingState B) (es es' : List (End R W)) : Type 0 where
+  pub graph : new.plant.graph ≡ old.plant.graph
+  pub capacities : new.plant.capacities ≡ old.plant.capacities
+  pub count : length es' ≡ length es
+  pub rises : (b : ℕ) → drained old b ≤ drained new b
+  pub stays : KeepsDrained net old new
+  pub each : (b : ℕ) → b < length es → EndMoves Grows Reads contents net old new b (end_at es b) (end_at es' b)
+
+-- all that was read was fed, and all that was drained is written
+abbrev pub GoesOn : {R W B : Type 0} → (R → Option (List ℕ)) → (W → Option (List ℕ)) → Network → (old new : StreamingState B) → (es es' : List (End R W)) → Type 0
+GoesOn remaining contents net old new es es' = Moves Appends (HasRead remaining) contents net old new es es'
+
+-- the same, but that what is written is a beginning of what was drained
+abbrev pub Begins : {R W B : Type 0} → (R → Option (List ℕ)) → (W → Option (List ℕ)) → Network → (old new : StreamingState B) → (es es' : List (End R W)) → Type 0
+Begins remaining contents net old new es es' = Moves AppendsBeginning (MayHaveRead remaining) contents net old new es es'
+
+-- a sink with an output was drained of all that it has taken
+abbrev pub IsDelivered : {R W B : Type 0} → StreamingState B → ℕ → End R W → Type 0
+IsDelivered p b (ends.Output o) = drained p b ≡ fired p.plant.state b
+IsDelivered p b ends.Open = ⊤
+IsDelivered p b (ends.Input i) = ⊤
+
+abbrev pub AreDelivered : {R W B : Type 0} → Network → StreamingState B → List (End R W) → Type 0
+AreDelivered net p es = (b : ℕ) → b < length net.nodes → IsDelivered p b (end_at es b)
+
+-- a reader is not at its end, and its source has given all that it was fed
+abbrev pub Lacks : {R W B : Type 0} → Network → StreamingState B → ℕ → End R W → Type 0
+Lacks net p b (ends.Input i) = (i.is_ended ≡ false) × (wait_of net p.plant.capacities p.plant.state b ≡ ForFeed)
+Lacks net p b ends.Open = ⊥
+Lacks net p b (ends.Output o) = ⊥
+
+abbrev pub NoneLacks : {R W B : Type 0} → Network → StreamingState B → List (End R W) → Type 0
+NoneLacks net p es = (b : ℕ) → b < length net.nodes → Lacks net p b (end_at es b) → ⊥

@@ -1,0 +1,113 @@
+//! What a sink has taken goes to its writers.
+
+ghost use Rattle.std.specs.Prelude.{◌≡◌, ◌<◌, ◌^◌, length, true, [], OnOk, OnErr};
+ghost use Rattle.std.specs.List.{flat_map};
+ghost use Rattle.std.specs.Io.KnownBytes.{Appends};
+ghost use Rattle.stream_model.specs.Network.{role_at, is_keeper};
+ghost use Rattle.machine_laws.specs.Sound.{fired};
+ghost use Rattle.items.specs.Items.{numbers_of, type_of};
+ghost use Rattle.flowgraph.specs.Flowgraph.{net_of};
+ghost use Rattle.raw_items.specs.Values.{all_bytes_of};
+ghost use Rattle.script_text.specs.Ends.{AppendsBeginning};
+ghost use Rattle.script_text.specs.Printed.{tags_seen};
+ghost use Rattle.script_text.specs.Replies.{tag_line};
+ghost use Rattle.streaming.specs.Streaming.{drained};
+ghost use Rattle.pipeline.specs.Pipeline.{WriterGrows};
+ghost use Rattle.pipeline.specs.Steps.{Delivers};
+
+use crate::end::Output;
+use crate::fault::PipelineFault;
+use flowgraph::{Block, BlockId};
+use raw_items::push_item_bytes;
+use script_text::{push_tag_lines, write_whole};
+use std::io::Write;
+use streaming::StreamingPlant;
+
+/// Drains a sink of all that it has taken, and writes that.
+pub(crate) fn deliver<B: Block, W: Write>(
+    plant: &mut StreamingPlant<B>,
+    sink: BlockId,
+    output: &mut Output<W>,
+) -> Result<(), PipelineFault>
+    ensures ok { OnOk result (Delivers Appends W.contents (net_of B.meaning plant.old.plant.graph) plant.old plant.new sink.0 output.old output.new) }
+    ensures all { OnOk result (drained plant.new sink.0 ≡ fired plant.new.plant.state sink.0) }
+    ensures err { OnErr result (Delivers AppendsBeginning W.contents (net_of B.meaning plant.old.plant.graph) plant.old plant.new sink.0 output.old output.new) }
+{
+    plant.recall();
+    output.items.clear();
+    output.tags.clear();
+    let appended = match plant.drain_into(sink, u64::MAX, &mut output.items, &mut output.tags) {
+        Ok(appended) => appended,
+        Err(fault) => return Err(PipelineFault::of_plant(sink, fault)),
+    };
+    let _held = counted(appended.held);
+    write_items(sink, output)?;
+    write_tags(sink, output)
+}
+
+// A number as it is, of which the check knows here how great it may be.
+fn counted(number: u64) -> u64
+    ensures value { result ≡ number }
+    ensures small { number < 2 ^ 64 }
+{
+    number
+}
+
+// Writes the items that were drained.
+fn write_items<W: Write>(sink: BlockId, output: &mut Output<W>) -> Result<(), PipelineFault>
+    ensures rest { output.new ≡ record output.old { items_to = output.new.items_to; bytes = output.new.bytes } }
+    ensures ok { OnOk result (WriterGrows Appends W.contents output.old.items_to output.new.items_to (all_bytes_of (type_of output.old.items) output.old.order (numbers_of output.old.items))) }
+    ensures err { OnErr result (WriterGrows AppendsBeginning W.contents output.old.items_to output.new.items_to (all_bytes_of (type_of output.old.items) output.old.order (numbers_of output.old.items))) }
+{
+    let Some(writer) = &mut output.items_to else {
+        return Ok(());
+    };
+    output.bytes.clear();
+    push_item_bytes(
+        &mut output.bytes,
+        &output.items,
+        0,
+        output.items.len(),
+        output.order,
+    )?;
+    match write_whole(writer, &output.bytes) {
+        Ok(()) => Ok(()),
+        Err(error) => Err(PipelineFault::WriteItems(sink, error)),
+    }
+}
+
+// Writes the tags that were drained.
+fn write_tags<W: Write>(sink: BlockId, output: &mut Output<W>) -> Result<(), PipelineFault>
+    ensures rest { output.new ≡ record output.old { tags_to = output.new.tags_to; bytes = output.new.bytes } }
+    ensures ok { OnOk result (WriterGrows Appends W.contents output.old.tags_to output.new.tags_to (flat_map tag_line (tags_seen output.old.tags.items))) }
+    ensures err { OnErr result (WriterGrows AppendsBeginning W.contents output.old.tags_to output.new.tags_to (flat_map tag_line (tags_seen output.old.tags.items))) }
+{
+    let Some(writer) = &mut output.tags_to else {
+        return Ok(());
+    };
+    output.bytes.clear();
+    push_tag_lines(&mut output.bytes, &output.tags)?;
+    match write_whole(writer, &output.bytes) {
+        Ok(()) => Ok(()),
+        Err(error) => Err(PipelineFault::WriteTags(sink, error)),
+    }
+}
+
+/// Has its writers hand on what they hold back.
+pub(crate) fn flush<W: Write>(sink: BlockId, output: &mut Output<W>) -> Result<(), PipelineFault>
+    ensures rest { output.new ≡ record output.old { items_to = output.new.items_to; tags_to = output.new.tags_to } }
+    ensures items { WriterGrows Appends W.contents output.old.items_to output.new.items_to [] }
+    ensures tags { WriterGrows Appends W.contents output.old.tags_to output.new.tags_to [] }
+{
+    if let Some(writer) = &mut output.items_to {
+        if let Err(error) = writer.flush() {
+            return Err(PipelineFault::WriteItems(sink, error));
+        }
+    }
+    if let Some(writer) = &mut output.tags_to {
+        if let Err(error) = writer.flush() {
+            return Err(PipelineFault::WriteTags(sink, error));
+        }
+    }
+    Ok(())
+}

@@ -1,0 +1,107 @@
+//! What the blocks of a pipeline are joined to.
+
+ghost use Rattle.std.specs.Prelude.{◌≡◌, [], false};
+ghost use Rattle.items.specs.Items.{type_of};
+
+use items::{ItemType, Items};
+use raw_items::{ByteOrder, Decoder};
+use std::alloc::Global;
+use std::marker::Model;
+use tags::Tag;
+
+/// A reader whose bytes are the items of a source.
+#[derive(Drop)]
+pub struct Input<R> {
+    pub(crate) reader: R,
+    // What makes items of the bytes.
+    pub(crate) decoder: Decoder,
+    // The items of the last piece that was read.
+    pub(crate) items: Items,
+    // Whether the reader has no more, and the source is closed.
+    pub(crate) is_ended: bool,
+}
+
+impl<R> Model for Input<R> {
+    ghost use Rattle.std.specs.Prelude.{◌≡◌};
+    ghost use Rattle.items.specs.Items.{type_of};
+    ghost use Rattle.pipeline.specs.Ends.{InputState};
+
+    ghost Value = { InputState R };
+
+    ghost view = { λ i. record { reader = i.reader; decoder = i.decoder; is_ended = i.is_ended } };
+
+    ghost invariant = { λ i. type_of i.items ≡ i.decoder.item_type };
+}
+
+impl<R> Input<R> {
+    /// The reader.
+    pub fn reader(&self) -> &R
+        ensures { result.now ≡ self.now.reader }
+    {
+        &self.reader
+    }
+
+    /// A reader of which nothing was read, for a source of such items.
+    pub(crate) fn new(alloc: Global, item: ItemType, order: ByteOrder, reader: R) -> Input<R>
+        ensures { result ≡ record { reader = reader; decoder = record { item_type = item; order = order; cut = [] }; is_ended = false } }
+    {
+        Input {
+            reader,
+            decoder: Decoder::new(item, order),
+            items: Items::empty(alloc, item),
+            is_ended: false,
+        }
+    }
+}
+
+/// Where the items of a sink go, and its tags.
+#[derive(Drop)]
+pub struct Output<W> {
+    /// The order of the bytes of an item.
+    pub order: ByteOrder,
+    /// The writer of the items as raw bytes.
+    pub items_to: Option<W>,
+    /// The writer of the tags, of which each is a line.
+    pub tags_to: Option<W>,
+    /// What was drained last.
+    pub items: Items,
+    pub tags: Vec<Tag>,
+    /// As bytes.
+    pub bytes: Vec<u8>,
+}
+
+impl<W> Output<W> {
+    /// Writers for a sink of such items, to which nothing was written.
+    pub(crate) fn new(
+        alloc: Global,
+        item: ItemType,
+        order: ByteOrder,
+        items_to: Option<W>,
+        tags_to: Option<W>,
+    ) -> Output<W>
+        ensures order { result.order ≡ order }
+        ensures item { type_of result.items ≡ item }
+        ensures items_to { result.items_to ≡ items_to }
+        ensures tags_to { result.tags_to ≡ tags_to }
+    {
+        Output {
+            order,
+            items_to,
+            tags_to,
+            items: Items::empty(alloc, item),
+            tags: Vec::new(alloc),
+            bytes: Vec::new(alloc),
+        }
+    }
+}
+
+/// What a block is joined to.
+#[derive(Drop)]
+pub enum End<R, W> {
+    /// Nothing.
+    Open,
+    /// A reader that feeds it.
+    Input(Input<R>),
+    /// Writers of what it takes.
+    Output(Output<W>),
+}

@@ -1,0 +1,148 @@
+//! What the blocks of a pipeline are joined to, before it runs.
+
+ghost use Rattle.std.specs.Prelude.{◌≡◌, ◌<◌, ◌↔◌, Err, IfErr, IfOk, IsOk, IsTrue, OnErr, OnOk, length, replicate, slice_set};
+ghost use Rattle.stream_model.specs.Network.{node_at};
+ghost use Rattle.flowgraph.specs.Flowgraph.{net_of};
+ghost use Rattle.plant.specs.Answers.{source_type_of};
+ghost use Rattle.pipeline.specs.declared.end.End.TheVariants.{Open};
+ghost use Rattle.pipeline.specs.declared.fault.PipelineFault.TheVariants.{Joined, Plant};
+ghost use Rattle.pipeline.specs.Joining.{JoinsReader, JoinsWriters, sink_type_of};
+ghost use Rattle.pipeline.specs.Pipeline.{end_at};
+
+use crate::end::{End, Input, Output};
+use crate::fault::PipelineFault;
+use crate::pipeline::Pipeline;
+use flowgraph::{Block, BlockId};
+use items::ItemType;
+use raw_items::ByteOrder;
+use std::alloc::{AllocError, Global};
+use std::io::{Read, Write};
+use streaming::{PlantFault, StreamingPlant};
+
+impl<B: Block, R: Read + Drop, W: Write + Drop> Pipeline<B, R, W> {
+    /// A plant of which no block is joined to anything. It fails only where the allocator refuses, and then returns the plant.
+    pub fn new(
+        alloc: Global,
+        plant: StreamingPlant<B>,
+    ) -> Result<Pipeline<B, R, W>, (StreamingPlant<B>, AllocError)>
+        ensures plant { IfOk result (λ pipeline. pipeline.plant ≡ plant) }
+        ensures open { IfOk result (λ pipeline. pipeline.ends.items ≡ replicate (length plant.plant.graph.blocks) Open) }
+        ensures back { IfErr result (λ refusal. refusal.0 ≡ plant) }
+    {
+        match all_open(alloc, plant.graph().len()) {
+            Ok(ends) => Ok(Pipeline {
+                plant,
+                ends,
+                sink: BlockId(0),
+            }),
+            Err(refusal) => Err((plant, refusal)),
+        }
+    }
+
+    /// Has a source be fed the items that the bytes of a reader are. Refused are, in this order, `NoSuchBlock`, `NotSource`, and a source that is joined
+    /// already. Then nothing changes.
+    pub fn read_from(
+        &mut self,
+        alloc: Global,
+        source: BlockId,
+        order: ByteOrder,
+        reader: R,
+    ) -> Result<(), PipelineFault>
+        ensures plant { self.new.plant ≡ self.old.plant }
+        ensures other { IfErr (source_type_of (net_of B.meaning self.old.plant.plant.graph) source.0) (λ fault. result ≡ Err (Plant source fault)) }
+        ensures free { IsOk (source_type_of (net_of B.meaning self.old.plant.plant.graph) source.0) → source.0 < length self.old.ends.items → end_at self.old.ends.items source.0 ≡ Open → IsOk result }
+        ensures joined { IsOk (source_type_of (net_of B.meaning self.old.plant.plant.graph) source.0) → (end_at self.old.ends.items source.0 ≡ Open → ⊥) → result ≡ Err (Joined source) }
+        ensures joins { OnOk result (JoinsReader (net_of B.meaning self.old.plant.plant.graph) source.0 order reader self.old.ends.items self.new.ends.items) }
+        ensures err { OnErr result (self.new.ends.items ≡ self.old.ends.items) }
+    {
+        let item = match self.plant.source_type(source) {
+            Ok(item) => item,
+            Err(fault) => return Err(PipelineFault::Plant(source, fault)),
+        };
+        self.join(source, End::Input(Input::new(alloc, item, order, reader)))
+    }
+
+    /// Has writers take what a sink takes, from the next item that is drained on: one the items as raw bytes, one the tags as lines, where it is given.
+    /// Refused are, in this order, `NoSuchBlock`, `NotSink`, and a sink that is joined already. Then nothing changes.
+    pub fn write_to(
+        &mut self,
+        alloc: Global,
+        sink: BlockId,
+        order: ByteOrder,
+        items: Option<W>,
+        tags: Option<W>,
+    ) -> Result<(), PipelineFault>
+        ensures plant { self.new.plant ≡ self.old.plant }
+        ensures other { IfErr (sink_type_of (net_of B.meaning self.old.plant.plant.graph) sink.0) (λ fault. result ≡ Err (Plant sink fault)) }
+        ensures free { IsOk (sink_type_of (net_of B.meaning self.old.plant.plant.graph) sink.0) → sink.0 < length self.old.ends.items → end_at self.old.ends.items sink.0 ≡ Open → IsOk result }
+        ensures joined { IsOk (sink_type_of (net_of B.meaning self.old.plant.plant.graph) sink.0) → (end_at self.old.ends.items sink.0 ≡ Open → ⊥) → result ≡ Err (Joined sink) }
+        ensures joins { OnOk result (JoinsWriters (net_of B.meaning self.old.plant.plant.graph) sink.0 order items tags self.old.ends.items self.new.ends.items) }
+        ensures err { OnErr result (self.new.ends.items ≡ self.old.ends.items) }
+    {
+        let item = match sink_type(&self.plant, sink) {
+            Ok(item) => item,
+            Err(fault) => return Err(PipelineFault::Plant(sink, fault)),
+        };
+        self.join(
+            sink,
+            End::Output(Output::new(alloc, item, order, items, tags)),
+        )
+    }
+
+    // Joins a block that is joined to nothing.
+    fn join(&mut self, block: BlockId, end: End<R, W>) -> Result<(), PipelineFault>
+        ensures plant { self.new.plant ≡ self.old.plant }
+        ensures ok { OnOk result (self.new.ends.items ≡ slice_set self.old.ends.items block.0 end) }
+        ensures free { block.0 < length self.old.ends.items → end_at self.old.ends.items block.0 ≡ Open → IsOk result }
+        ensures joined { (end_at self.old.ends.items block.0 ≡ Open → ⊥) → result ≡ Err (Joined block) }
+        ensures err { OnErr result (self.new.ends.items ≡ self.old.ends.items) }
+    {
+        let at = block.0 as usize;
+        if self.ends.len() <= at {
+            return Err(PipelineFault::Joined(block));
+        }
+        if !is_open(&self.ends[at]) {
+            return Err(PipelineFault::Joined(block));
+        }
+        self.ends[at] = end;
+        Ok(())
+    }
+}
+
+// Whether a block is joined to nothing.
+fn is_open<R, W>(end: &End<R, W>) -> bool
+    ensures { IsTrue result ↔ (end.now ≡ Open) }
+{
+    match end {
+        End::Open => true,
+        End::Input(_) | End::Output(_) => false,
+    }
+}
+
+// So many blocks that are joined to nothing.
+fn all_open<R: Drop, W: Drop>(alloc: Global, blocks: usize) -> Result<Vec<End<R, W>>, AllocError>
+    ensures { IfOk result (λ ends. ends.items ≡ replicate blocks Open) }
+{
+    let mut ends = Vec::with_capacity(alloc, blocks)?;
+    for _blocks in 0..blocks {
+        ends.push_reserved(End::Open);
+    }
+    Ok(ends)
+}
+
+// The type of the items of a sink.
+fn sink_type<B: Block>(plant: &StreamingPlant<B>, sink: BlockId) -> Result<ItemType, PlantFault>
+    ensures value { result ≡ sink_type_of (net_of B.meaning plant.now.plant.graph) sink.0 }
+    ensures item { IfOk result (λ item. item ≡ (node_at (net_of B.meaning plant.now.plant.graph) sink.0).meaning.inputs.item) }
+{
+    plant.recall();
+    let graph = plant.graph();
+    graph.recall();
+    if graph.len() <= sink.0 as usize {
+        return Err(PlantFault::NoSuchBlock);
+    }
+    if !graph.is_keeper(sink) {
+        return Err(PlantFault::NotSink);
+    }
+    Ok(graph.block(sink).inputs().item)
+}

@@ -1,0 +1,26 @@
+//! A plant that streams between readers and writers: raw items come from readers, one for a source, and what the sinks take goes to writers as soon as it is
+//! there, items as raw bytes and tags as lines.
+//!
+//! ```text
+//! let mut pipeline = Pipeline::new(alloc, plant)?;
+//! pipeline.read_from(alloc, source, ByteOrder::Little, reader)?;
+//! pipeline.write_to(alloc, sink, ByteOrder::Little, Some(writer), None)?;
+//! let settled = pipeline.run(alloc)?;
+//! ```
+//!
+//! Memory is constant, however long the streams are. What a writer was given is, at any time and also after a fault, a beginning of what the equations of
+//! the blocks give for all that was read, and all of it where the run is done.
+#![tactic(auto)]
+
+mod delivery;
+pub mod end;
+pub mod fault;
+mod intake;
+mod joining;
+pub mod pipeline;
+
+pub use end::{End, Input, Output};
+pub use fault::PipelineFault;
+pub use pipeline::Pipeline;
+pub use raw_items::ByteOrder;
+pub use streaming::{Block, BlockId, PlantFault, Settled, StreamingPlant};

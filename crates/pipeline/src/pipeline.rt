@@ -1,0 +1,258 @@
+//! The pipeline.
+
+ghost use Rattle.std.specs.Prelude.{◌≡◌, ℕ, true, Ok, Some, IfNone, IfOk, IfSome, OnErr, OnOk};
+ghost use Rattle.stream_model.specs.Machine.{IsWhole};
+ghost use Rattle.flowgraph.specs.Flowgraph.{net_of};
+ghost use Rattle.plant.specs.declared.answers.Settled.TheVariants.{Done, Quiet};
+ghost use Rattle.plant.specs.Settling.{HasMoved, HasSettled};
+ghost use Rattle.pipeline.specs.Pipeline.{AreDelivered, Begins, GoesOn, IsDelivered, Lacks, NoneLacks, end_at};
+
+use crate::delivery::{deliver, flush};
+use crate::end::End;
+use crate::fault::PipelineFault;
+use flowgraph::{Block, BlockId};
+use std::alloc::Global;
+use std::io::{Read, Write};
+use stream_model::Role;
+use streaming::{BlockNeed, Settled, StreamingPlant, Unwatched, Watch};
+
+// How often a block fires in a round, at most.
+const TURN: u32 = 65_536;
+
+// So many items of a sink are written before the plant came to rest.
+const PIECE: usize = 65_536;
+
+/// A plant that streams, with a reader for each of some sources and writers for some sinks. A contract sees the plant and what each block is joined to.
+#[derive(Drop)]
+pub struct Pipeline<B: Block, R, W> {
+    pub plant: StreamingPlant<B>,
+    /// What each block is joined to.
+    pub ends: Vec<End<R, W>>,
+    /// The sink whose waits led to the last source that was fed.
+    pub sink: BlockId,
+}
+
+impl<B: Block, R: Read, W: Write> Pipeline<B, R, W> {
+    /// Reads, works and writes until each block is done, or none can act and no reader gives more. Then all is written that the sinks have taken.
+    ///
+    /// Before each read that may wait, all that came of what was read before is written, and the writers are flushed. A reader is asked only where its
+    /// source lacks items that another block waits for. Where it stops by a fault, what was written is a beginning.
+    pub fn run(&mut self, alloc: Global) -> Result<Settled, PipelineFault>
+        ensures goes { OnOk result (GoesOn R.remaining W.contents (net_of B.meaning self.old.plant.plant.graph) self.old.plant self.new.plant self.old.ends.items self.new.ends.items) }
+        ensures begins { OnErr result (Begins R.remaining W.contents (net_of B.meaning self.old.plant.plant.graph) self.old.plant self.new.plant self.old.ends.items self.new.ends.items) }
+        ensures settled { IfOk result (λ settled. HasSettled (net_of B.meaning self.new.plant.plant.graph) self.new.plant.plant.capacities self.new.plant.plant.state settled) }
+        ensures whole { result ≡ Ok Done → IsWhole (net_of B.meaning self.new.plant.plant.graph) self.new.plant.plant.state }
+        ensures written { OnOk result (AreDelivered (net_of B.meaning self.new.plant.plant.graph) self.new.plant self.new.ends.items) }
+        ensures asked { result ≡ Ok Quiet → NoneLacks (net_of B.meaning self.new.plant.plant.graph) self.new.plant self.new.ends.items }
+    {
+        self.run_watched(alloc, &mut Unwatched)
+    }
+
+    /// The same, which shows to `watch` after each turn how far it is.
+    pub fn run_watched<V: Watch>(
+        &mut self,
+        alloc: Global,
+        watch: &mut V,
+    ) -> Result<Settled, PipelineFault>
+        ensures goes { OnOk result (GoesOn R.remaining W.contents (net_of B.meaning self.old.plant.plant.graph) self.old.plant self.new.plant self.old.ends.items self.new.ends.items) }
+        ensures begins { OnErr result (Begins R.remaining W.contents (net_of B.meaning self.old.plant.plant.graph) self.old.plant self.new.plant self.old.ends.items self.new.ends.items) }
+        ensures settled { IfOk result (λ settled. HasSettled (net_of B.meaning self.new.plant.plant.graph) self.new.plant.plant.capacities self.new.plant.plant.state settled) }
+        ensures whole { result ≡ Ok Done → IsWhole (net_of B.meaning self.new.plant.plant.graph) self.new.plant.plant.state }
+        ensures written { OnOk result (AreDelivered (net_of B.meaning self.new.plant.plant.graph) self.new.plant self.new.ends.items) }
+        ensures asked { result ≡ Ok Quiet → NoneLacks (net_of B.meaning self.new.plant.plant.graph) self.new.plant self.new.ends.items }
+    {
+        for _turns in 0..u64::MAX {
+            if let Some(settled) = self.turn(alloc)? {
+                return Ok(settled);
+            }
+            watch.show(self.plant.headway());
+        }
+        // No tape is so long that it takes so many turns.
+        Err(PipelineFault::Memory)
+    }
+
+    /// One turn of `run`: a round of the plant's blocks, and where none of them moved on, what the sinks have taken is written, and a piece is read. It
+    /// returns how the run ended, if it has.
+    pub fn turn(&mut self, alloc: Global) -> Result<Option<Settled>, PipelineFault>
+        ensures goes { OnOk result (GoesOn R.remaining W.contents (net_of B.meaning self.old.plant.plant.graph) self.old.plant self.new.plant self.old.ends.items self.new.ends.items) }
+        ensures begins { OnErr result (Begins R.remaining W.contents (net_of B.meaning self.old.plant.plant.graph) self.old.plant self.new.plant self.old.ends.items self.new.ends.items) }
+        ensures settled { IfOk result (λ end. IfSome end (λ settled. HasSettled (net_of B.meaning self.new.plant.plant.graph) self.new.plant.plant.capacities self.new.plant.plant.state settled)) }
+        ensures whole { result ≡ Ok (Some Done) → IsWhole (net_of B.meaning self.new.plant.plant.graph) self.new.plant.plant.state }
+        ensures written { IfOk result (λ end. IfSome end (λ _. AreDelivered (net_of B.meaning self.new.plant.plant.graph) self.new.plant self.new.ends.items)) }
+        ensures asked { result ≡ Ok (Some Quiet) → NoneLacks (net_of B.meaning self.new.plant.plant.graph) self.new.plant self.new.ends.items }
+    {
+        let has_moved = self.round(alloc)?;
+        if has_moved {
+            self.write(PIECE)?;
+            return Ok(None);
+        }
+        self.write(0)?;
+        self.flush()?;
+        if self.plant.all_done() {
+            return Ok(Some(Settled::Done));
+        }
+        match self.next_source() {
+            Some(source) => {
+                self.take_in(source)?;
+                Ok(None)
+            }
+            None => Ok(Some(Settled::Quiet)),
+        }
+    }
+
+    // One round of the plant's blocks.
+    fn round(&mut self, alloc: Global) -> Result<bool, PipelineFault>
+        ensures goes { GoesOn R.remaining W.contents (net_of B.meaning self.old.plant.plant.graph) self.old.plant self.new.plant self.old.ends.items self.new.ends.items }
+        ensures moved { IfOk result (HasMoved (net_of B.meaning self.new.plant.plant.graph) self.new.plant.plant.capacities self.old.plant.plant.state self.new.plant.plant.state) }
+    {
+        Ok(self.plant.round(alloc, TURN)?)
+    }
+
+    // Writes what sinks have taken of which at least so many items are in memory.
+    fn write(&mut self, least: usize) -> Result<(), PipelineFault>
+        ensures goes { OnOk result (GoesOn R.remaining W.contents (net_of B.meaning self.old.plant.plant.graph) self.old.plant self.new.plant self.old.ends.items self.new.ends.items) }
+        ensures begins { OnErr result (Begins R.remaining W.contents (net_of B.meaning self.old.plant.plant.graph) self.old.plant self.new.plant self.old.ends.items self.new.ends.items) }
+        ensures same { self.new.plant.plant ≡ self.old.plant.plant }
+        ensures written { least ≡ 0 → OnOk result (AreDelivered (net_of B.meaning self.new.plant.plant.graph) self.new.plant self.new.ends.items) }
+    {
+        for block in 0..self.plant.graph().len() {
+            self.deliver(BlockId(block as u32), least)?;
+        }
+        Ok(())
+    }
+
+    // Writes what a sink has taken, where it has an output and at least so many of its items are in memory.
+    fn deliver(&mut self, block: BlockId, least: usize) -> Result<(), PipelineFault>
+        ensures goes { OnOk result (GoesOn R.remaining W.contents (net_of B.meaning self.old.plant.plant.graph) self.old.plant self.new.plant self.old.ends.items self.new.ends.items) }
+        ensures begins { OnErr result (Begins R.remaining W.contents (net_of B.meaning self.old.plant.plant.graph) self.old.plant self.new.plant self.old.ends.items self.new.ends.items) }
+        ensures same { self.new.plant.plant ≡ self.old.plant.plant }
+        ensures own { least ≡ 0 → OnOk result (IsDelivered self.new.plant block.0 (end_at self.new.ends.items block.0)) }
+        ensures others { (b : ℕ) → (b ≡ block.0 → ⊥) → IsDelivered self.old.plant b (end_at self.old.ends.items b) → IsDelivered self.new.plant b (end_at self.new.ends.items b) }
+    {
+        if self.plant.items_in_memory(block) < least {
+            return Ok(());
+        }
+        let at = block.0 as usize;
+        if self.ends.len() <= at {
+            return Ok(());
+        }
+        match &mut self.ends[at] {
+            End::Output(output) => deliver(&mut self.plant, block, output),
+            End::Open | End::Input(_) => Ok(()),
+        }
+    }
+
+    // Has all writers hand on what they hold back.
+    fn flush(&mut self) -> Result<(), PipelineFault>
+        ensures goes { OnOk result (GoesOn R.remaining W.contents (net_of B.meaning self.old.plant.plant.graph) self.old.plant self.new.plant self.old.ends.items self.new.ends.items) }
+        ensures begins { OnErr result (Begins R.remaining W.contents (net_of B.meaning self.old.plant.plant.graph) self.old.plant self.new.plant self.old.ends.items self.new.ends.items) }
+        ensures same { self.new.plant ≡ self.old.plant }
+        ensures written { AreDelivered (net_of B.meaning self.old.plant.plant.graph) self.old.plant self.old.ends.items → AreDelivered (net_of B.meaning self.new.plant.plant.graph) self.new.plant self.new.ends.items }
+    {
+        for block in 0..self.plant.graph().len() {
+            self.flush_own(BlockId(block as u32))?;
+        }
+        Ok(())
+    }
+
+    // Those of one sink.
+    fn flush_own(&mut self, block: BlockId) -> Result<(), PipelineFault>
+        ensures goes { OnOk result (GoesOn R.remaining W.contents (net_of B.meaning self.old.plant.plant.graph) self.old.plant self.new.plant self.old.ends.items self.new.ends.items) }
+        ensures begins { OnErr result (Begins R.remaining W.contents (net_of B.meaning self.old.plant.plant.graph) self.old.plant self.new.plant self.old.ends.items self.new.ends.items) }
+        ensures same { self.new.plant ≡ self.old.plant }
+        ensures written { AreDelivered (net_of B.meaning self.old.plant.plant.graph) self.old.plant self.old.ends.items → AreDelivered (net_of B.meaning self.new.plant.plant.graph) self.new.plant self.new.ends.items }
+    {
+        let at = block.0 as usize;
+        if self.ends.len() <= at {
+            return Ok(());
+        }
+        match &mut self.ends[at] {
+            End::Output(output) => flush(block, output),
+            End::Open | End::Input(_) => Ok(()),
+        }
+    }
+
+    // Takes in a piece of what a source's reader gives.
+    fn take_in(&mut self, block: BlockId) -> Result<(), PipelineFault>
+        ensures goes { OnOk result (GoesOn R.remaining W.contents (net_of B.meaning self.old.plant.plant.graph) self.old.plant self.new.plant self.old.ends.items self.new.ends.items) }
+        ensures begins { OnErr result (Begins R.remaining W.contents (net_of B.meaning self.old.plant.plant.graph) self.old.plant self.new.plant self.old.ends.items self.new.ends.items) }
+    {
+        let at = block.0 as usize;
+        if self.ends.len() <= at {
+            return Ok(());
+        }
+        match &mut self.ends[at] {
+            End::Input(input) => input.take_in(&mut self.plant, block),
+            End::Open | End::Output(_) => Ok(()),
+        }
+    }
+
+    // The source that is to be fed next: one whose items a sink lacks, the sinks in turn, or else any that lacks items.
+    fn next_source(&mut self) -> Option<BlockId>
+        ensures same { (self.new.plant ≡ self.old.plant) × (self.new.ends.items ≡ self.old.ends.items) }
+        ensures none { IfNone result (NoneLacks (net_of B.meaning self.new.plant.plant.graph) self.new.plant self.new.ends.items) }
+    {
+        for _sinks in 0..self.ends.len() {
+            self.sink = self.after(self.sink);
+            if let Some(source) = self.lacked_by(self.sink) {
+                return Some(source);
+            }
+        }
+        self.any_lacking()
+    }
+
+    // The block behind a block, or the first behind the last.
+    fn after(&self, block: BlockId) -> BlockId {
+        let next = block.0.saturating_add(1);
+        if (next as usize) < self.ends.len() {
+            BlockId(next)
+        } else {
+            BlockId(0)
+        }
+    }
+
+    // The source to which the waits of a sink lead, where its reader has more.
+    fn lacked_by(&self, sink: BlockId) -> Option<BlockId> {
+        let graph = self.plant.graph();
+        if graph.len() <= sink.0 as usize {
+            return None;
+        }
+        if let Role::Source | Role::Work = graph.role(sink) {
+            return None;
+        }
+        let mut block = sink;
+        for _waits in 0..self.ends.len() {
+            block = match self.plant.need(block) {
+                Ok(BlockNeed::Items { writer, .. }) => writer,
+                Ok(BlockNeed::Room { reader, .. }) => reader,
+                Ok(_) | Err(_) => break,
+            };
+        }
+        if self.lacks(block) { Some(block) } else { None }
+    }
+
+    // The first source that lacks items and has a reader.
+    fn any_lacking(&self) -> Option<BlockId>
+        ensures { IfNone result (NoneLacks (net_of B.meaning self.now.plant.plant.graph) self.now.plant self.now.ends.items) }
+    {
+        for block in 0..self.plant.graph().len() {
+            let block = BlockId(block as u32);
+            if self.lacks(block) {
+                return Some(block);
+            }
+        }
+        None
+    }
+
+    // Whether a source has given all that it was fed, and its reader has more.
+    fn lacks(&self, block: BlockId) -> bool
+        ensures { Lacks (net_of B.meaning self.now.plant.plant.graph) self.now.plant block.0 (end_at self.now.ends.items block.0) → result ≡ true }
+    {
+        match self.ends.get(block.0 as usize) {
+            Some(End::Input(input)) if !input.is_ended => {
+                matches!(self.plant.need(block), Ok(BlockNeed::Feed))
+            }
+            _ => false,
+        }
+    }
+}
