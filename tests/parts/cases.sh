@@ -9,6 +9,8 @@ source "$top/tests/parts/shown.sh"
 
 # Of each case the folder that describes it.
 declare -A folder_of=()
+# Those that are no calls with an input that is there: the program answers a producer that waits for it, and ends where nobody reads on.
+pipes=(pipes/slow_producer pipes/closed_output)
 
 # add CASE FOLDER: the case, and the second run of a run
 add() {
@@ -35,6 +37,7 @@ list() {
     for folder in "${made[@]}"; do
         add "$folder" "$1/$folder"
     done
+    printf '%s\n' "${pipes[@]}"
 }
 
 # word_of FOLDER WORD: prints the word as the program gets it, which runs in a folder of its own: where it is a file, or NAME=FILE, of the case or of
@@ -93,7 +96,9 @@ call_all() {
         while (($(jobs -rp | wc -l) >= lanes)); do
             wait -n || true
         done
-        call "$it" &
+        if [[ $it != pipes/* ]]; then
+            call "$it" &
+        fi
     done <"$room/wanted"
     wait
 }
@@ -118,6 +123,32 @@ is_right() {
     return "$right"
 }
 
+# pipes_slow_producer: each line is answered, with each byte ten more, before the next is written
+pipes_slow_producer() {
+    local it answer
+    coproc flow { "${start[@]}" run -i src=- -o out=- "$top/tests/graphs/plain.toml" 2>"$room/report"; }
+    for it in A B C D E; do
+        printf '%s\n' "$it" >&"${flow[1]}"
+        if ! IFS= read -r -t 10 -N 2 -u "${flow[0]}" answer; then
+            echo "no answer to the line $it"
+            return 1
+        fi
+        if [[ $answer != "$(tr A-E K-O <<<"$it" | tr -d '\n')"$'\x14' ]]; then
+            printf 'the answer to %s: %q\n' "$it" "$answer"
+            return 1
+        fi
+    done
+    exec {flow[1]}>&-
+    wait "$flow_PID"
+    differs stderr <(printf 'sink out 10\ndone\n') "$room/report"
+}
+
+# pipes_closed_output: an input without end, of which a thousand bytes are read
+pipes_closed_output() {
+    yes 2>/dev/null | { timeout 60 "${start[@]}" run -i src=- -o out=- "$top/tests/graphs/plain.toml" || echo "$?" >"$room/status"; } 2>"$room/report" | head -c 1000 >"$room/thousand"
+    differs stdout <(yes | head -c 1000 | tr 'y\n' '\203\024') "$room/thousand" && differs stderr <(echo 'flow: refused 52 Write output 0') "$room/report"
+}
+
 run() {
     local it wrong start=()
     mkdir -p "$room/made"
@@ -125,7 +156,13 @@ run() {
     build
     call_all
     while IFS= read -r it; do
-        if wrong=$(is_right "$it"); then
+        if [[ $it == pipes/* ]]; then
+            if wrong=$("${it/\//_}"); then
+                passed "$it"
+            else
+                failed "$it" <<<"$wrong"
+            fi
+        elif wrong=$(is_right "$it"); then
             passed "$it"
         else
             failed "$it" <<<"flow $(paste -sd ' ' "$(file_of "${folder_of[$it]}" args)")"$'\n'"$wrong"

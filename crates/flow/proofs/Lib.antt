@@ -19,3 +19,4 @@ pub mod Stalling
 pub mod Rings
 pub mod Outcomes
 pub mod Resting
+pub mod Needing

@@ -1,6 +1,6 @@
 -- Texts with a line for each block in turn.
 use Rattle.std.proofs.Common.{◌≡◌, ℕ, ◌+◌, ◌-◌, ◌≤◌, ◌<◌, min, List, [], ◌++◌, length, take, drop, Bool, true, false, not, refl, ap, sym, ◌∙◌, append_assoc, arith, ltb-true, ltb-false, nat_lt, ℤ}
-use Rattle.std.specs.Prelude.{slice_range, if◌then◌else◌}
+use Rattle.std.specs.Prelude.{slice_range, slice_index_or, if◌then◌else◌}
 use Rattle.std.specs.List.{flat_map}
 use Rattle.stream_model.specs.Lists.{below}
 use Rattle.stream_model.specs.Meaning.{input}
@@ -23,7 +23,7 @@ use Rattle.graph_file.specs.Blocks.{Draft}
 use Rattle.script_text.specs.Replies.{line_text}
 use Rattle.script_text.specs.Reports.{sink_text, done_text, stalled_text}
 use Rattle.stream_laws.proofs.InTime.{within-none}
-use Rattle.flow.specs.RawEnds.{count_line, held_count}
+use Rattle.flow.specs.RawEnds.{count_line, held_count, rest_line}
 use Rattle.flow.specs.Reports.{sink_line, held_line, name_at, settled_text}
 
 -- one block more
@@ -127,3 +127,58 @@ piece_count d st b from held items tags done name named e =
     ∙ ap (λ l. line_text (sink_text (name_at d b) s.firings l tags)) items_are
     ∙ ap (λ l. line_text (sink_text (name_at d b) s.firings [] l)) tags_are
     ∙ sym (ap (λ (k : Bool). if k then line_text (sink_text (name_at d b) (held_count st b) [] []) else []) of.0)
+
+-- the same of what was not drained
+module _ (net : Network) (st : State) (b at max : ℕ) where
+  abbrev rest : ℕ → Reply
+  rest to = machine.Piece at (progress_at st.progress b).firings (slice_range (input (entering net st.handed b) 0) at to) (tags_within at to (tags_entering net st.handed b 0)) (progress_at st.progress b).done
+
+  abbrev IsRest : Reply → Type 0
+  IsRest piece = (is_keeper (role_at net b) ≡ true) × (piece ≡ rest (min (at + max) (progress_at st.progress b).firings))
+
+  rest_of : (from held : ℕ) (items : List ℤ) (tags : List Tag) (done : Bool) → machine.Piece from held items tags done ≡ (read_of net st b at max).0 → IsRest (machine.Piece from held items tags done)
+  unfolding read_of
+  rest_of from held items tags done e =
+      let Shows : Reply × State → Type 0 = λ (r : Reply × State). machine.Piece from held items tags done ≡ r.0 → IsRest (machine.Piece from held items tags done) in
+      if_both (not (nat_lt b (length net.nodes))) _ _ Shows
+      (λ _ h. absurd (cc))
+      (λ _. if_both (not (is_keeper (role_at net b))) _ _ Shows
+      (λ _ h. absurd (cc))
+      (λ keeps. if_both (nat_lt (progress_at st.progress b).firings at) _ _ Shows
+      (λ _ h. absurd (cc))
+      (λ _ h. (not_false _ keeps, h)))) e
+
+  pub no_rest : b < length net.nodes → machine.Refused machine.not_sink ≡ (read_of net st b at max).0 → is_keeper (role_at net b) ≡ false
+  unfolding read_of
+  no_rest inside e =
+      let Shows : Reply × State → Type 0 = λ (r : Reply × State). machine.Refused machine.not_sink ≡ r.0 → is_keeper (role_at net b) ≡ false in
+      if_both (not (nat_lt b (length net.nodes))) _ _ Shows
+      (λ out h. let past = ltb-false b (length net.nodes) (not_true _ out) in absurd (omega arith))
+      (λ _. if_both (not (is_keeper (role_at net b))) _ _ Shows
+      (λ keeps h. not_true _ keeps)
+      (λ keeps. if_both (nat_lt (progress_at st.progress b).firings at) _ _ Shows
+      (λ few h. absurd (cc (h)))
+      (λ _ h. absurd (cc)))) e
+
+pub rest_none : (d : Draft) (st : State) (drained : List ℕ) (b : ℕ) → is_keeper (role_at d.net b) ≡ false → rest_line d st drained b ≡ []
+rest_none d st drained b keeps = rw keeps refl
+
+pub rest_piece : (d : Draft) (st : State) (drained : List ℕ) (b max from held : ℕ) (items : List ℤ) (tags : List Tag) (done : Bool) (name : List ℕ) → held ≤ max → name_at d b ≡ name →
+    machine.Piece from held items tags done ≡ (read_of d.net st b (slice_index_or drained b 0) max).0 → line_text (sink_text name held items tags) ≡ rest_line d st drained b
+rest_piece d st drained b max from held items tags done name few named e =
+    let at = slice_index_or drained b 0 in
+    let s = progress_at st.progress b in
+    let taken = input (entering d.net st.handed b) 0 in
+    let entered = tags_entering d.net st.handed b 0 in
+    let of = rest_of d.net st b at max from held items tags done e in
+    let count : held ≡ s.firings = cc (of.1) in
+    let all : min (at + max) s.firings ≡ s.firings = omega (arith, few, count) in
+    let shows : items ≡ slice_range taken at (min (at + max) s.firings) = cc (of.1) in
+    let tagged : tags ≡ tags_within at (min (at + max) s.firings) entered = cc (of.1) in
+    let items_are : items ≡ slice_range taken at s.firings = shows ∙ ap (slice_range taken at) all in
+    let tags_are : tags ≡ tags_within at s.firings entered = tagged ∙ ap (λ (k : ℕ). tags_within at k entered) all in
+    rw of.0
+    (ap (λ (l : List ℕ). line_text (sink_text l held items tags)) (sym named)
+    ∙ ap (λ k. line_text (sink_text (name_at d b) k items tags)) count
+    ∙ ap (λ l. line_text (sink_text (name_at d b) s.firings l tags)) items_are
+    ∙ ap (λ l. line_text (sink_text (name_at d b) s.firings (slice_range taken at s.firings) l)) tags_are)

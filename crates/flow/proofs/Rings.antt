@@ -1,6 +1,6 @@
 -- Walks along a ring of waits and over the blocks, which take at most a turn for each block, and the lines of a ring.
 use Rattle.std.proofs.Common.{◌≡◌, ◌≢◌, ℕ, suc, zero, ◌+◌, ◌-◌, ◌<◌, ◌≤◌, List, [], ◌∷◌, ◌++◌, length, drop, get_or, min, Bool, true, false, refl, ap, sym, ◌∙◌, subst, arith, cond, append-nil}
-use Rattle.std.specs.Prelude.{◌==◌, Option, Result, None, Ok, Err, Some}
+use Rattle.std.specs.Prelude.{◌==◌, Option, Result, None, Ok, Err, Some, IfSome}
 use Rattle.std.specs.List.{flat_map}
 use Rattle.std.specs.Option.{option_map}
 use Rattle.std.proofs.lemmas.Cmp.{nat_eq_equiv}
@@ -15,6 +15,7 @@ use Rattle.stream_laws.specs.CanRun.{CanRun}
 use Rattle.machine_laws.specs.Waits.{next_of, wait_of, ring_of, lowest_live, followed}
 use Rattle.machine_laws.proofs.Waiting.{next_inside}
 use Rattle.machine_laws.proofs.Repeating.{repeated_keeps}
+use Rattle.flowgraph.specs.declared.parts.BlockId.{BlockId}
 use Rattle.flowgraph.specs.Flowgraph.{Flowgraph, net_of, node_of}
 use Rattle.kinds.specs.Kind.{meaning_of}
 use Rattle.kinds.specs.declared.kind.Kind.{Kind}
@@ -175,3 +176,8 @@ module _ (plant : PlantState Kind) (b first : ℕ) (full : Option ℕ) (rates : 
     rates_follow r end p rest =
         let both = puts_on (Ok tt) start mid last waits opener told.0 told.1 p in
         puts_as r start end ((waits ++ opener) ++ rates) all same_text (puts_on r start last end (waits ++ opener) rates both.0 both.1 rest)
+
+-- a block that the answer on a ring names is one of the graph
+pub all_inside : (o : Option BlockId) (r : Option ℕ) (n : ℕ) → option_map (λ block. block.0) o ≡ r → ((b : ℕ) → Some b ≡ r → b < n) → IfSome o (λ block. block.0 < n)
+all_inside None r n e h = tt
+all_inside (Some x) r n e h = h x.0 e

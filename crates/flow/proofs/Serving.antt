@@ -1,6 +1,6 @@
 -- From a graph file to its plant, and the line that tells a fault.
-use Rattle.std.proofs.Common.{◌≡◌, ℕ, suc, ◌+◌, List, [], ◌∷◌, ◌++◌, length, length-append, take, drop, get_or, ◌<◌, append_assoc, arith, map, Some, None, Bool, true, refl, ap, sym, ◌∙◌, subst, not, inl, inr, ℤ}
-use Rattle.std.specs.Prelude.{Option, Result, Ok, Err, nat_lt, ◌&&◌, position, bytes_eq, OnOk, OnErr, is_ok, if◌then◌else◌}
+use Rattle.std.proofs.Common.{◌≡◌, ℕ, suc, ◌+◌, List, [], ◌∷◌, ◌++◌, length, length-append, take, drop, get_or, ◌<◌, append_assoc, arith, map, Some, None, Bool, true, refl, ap, sym, ◌∙◌, subst, inl, inr}
+use Rattle.std.specs.Prelude.{Option, Result, Ok, Err, position, bytes_eq, OnOk, OnErr, is_ok, if◌then◌else◌}
 use Rattle.std.specs.List.{flat_map}
 use Rattle.std.specs.Str.{IsUtf8, is_utf8}
 use Rattle.std.specs.Io.KnownBytes.{Appends}
@@ -9,12 +9,10 @@ use Rattle.std.proofs.lemmas.List.{take-append-le, drop_more}
 use Rattle.flow.proofs.Flows.{appends_both}
 use Rattle.std.proofs.lemmas.Str.{IsUtf8-from_is_utf8, is_utf8-from_IsUtf8}
 use Rattle.toml.specs.Parse.{parse_document}
-use Rattle.stream_model.specs.Network.{Network, State, role_at, is_source, opening}
+use Rattle.stream_model.specs.Network.{Network, State, opening}
 use Rattle.stream_model.specs.Machine as machine
 use Rattle.stream_model.specs.Machine.{Reply, Refused, is_idle}
-use Rattle.stream_model.specs.Tags.{Mark}
 use Rattle.machine_laws.proofs.Choices.{if_both}
-use Rattle.plant.specs.Feeding.{are_items, given_type, feed_numbers}
 use Rattle.graph_file.specs.declared.fault.FileFault.{FileFault}
 use Rattle.graph_file.specs.declared.fault.FileFault.TheVariants as file
 use Rattle.graph_file.specs.Refusals.{Refusal, IsRefused, IsTold, told, syntax}
@@ -25,7 +23,8 @@ use Rattle.graph_file.specs.File.{Content, file_of}
 use Rattle.graph_file.specs.Opening.{Opened, opened, opened_in, validated, feed_now, feed_found, after_feed, after_feeds, mark_of}
 use Rattle.script_text.specs.Ends.{AppendsBeginning}
 use Rattle.script_text.specs.declared.ends.Broken.{Broken}
-use Rattle.plant.proofs.Idles.{feed-progress, idle-same, opening-idle}
+use Rattle.plant.proofs.Idles.{idle-same, opening-idle}
+use Rattle.streaming.proofs.Idles.{feed_numbers-progress}
 use Rattle.flow.specs.Serve.{Stream, Tries, content_in}
 
 -- what is read of a text
@@ -62,14 +61,9 @@ both_ok (Err refusal) next b e = cc
 
 -- feeds leave how far the blocks are
 module _ (net : Network) (st : State) where
-  numbers-progress : (b : ℕ) (xs : List ℤ) (ms : List Mark) → (feed_numbers net st b xs ms).1.progress ≡ st.progress
-  numbers-progress b xs ms =
-      if_both (nat_lt b (length net.nodes) && (is_source (role_at net b) && not (are_items (given_type net b) xs))) _ _ (λ (r : Reply × State). r.1.progress ≡ st.progress) (λ _. refl)
-      (λ _. feed-progress net st b (given_type net b) xs ms)
-
   found-progress : (feed : Fed) (o : Option ℕ) → (feed_found net st feed o).1.progress ≡ st.progress
   found-progress feed None = refl
-  found-progress feed (Some b) = numbers-progress b feed.items (map mark_of feed.marks)
+  found-progress feed (Some b) = feed_numbers-progress net st b feed.items (map mark_of feed.marks)
 
 after_is : (n : ℕ) (reply : Reply) (st next : State) → after_feed n (reply, st) ≡ Ok next → next ≡ st
 after_is n (machine.Refused code) st next e = cc

@@ -1,7 +1,6 @@
 -- Runs of plants that were fed raw items, and what is written of their sinks.
-use Rattle.std.specs.Prelude.{◌≡◌, ℕ, ◌==◌, ℤ, List, [], ◌∷◌, ◌++◌, ◌≤◌, ◌+◌, min, slice_range, false, length, map, take, Bool, Option, if◌then◌else◌}
+use Rattle.std.specs.Prelude.{◌≡◌, ℕ, ◌==◌, ℤ, List, [], ◌∷◌, ◌++◌, ◌≤◌, ◌+◌, min, slice_range, slice_index_or, false, length, map, take, Bool, Option, if◌then◌else◌}
 use Rattle.std.specs.List.{list_any, flat_map}
-use Rattle.std.specs.Fmt.{decimal}
 use Rattle.stream_model.specs.declared.vocabulary.ItemType.{ItemType}
 use Rattle.stream_model.specs.Meaning.{input}
 use Rattle.stream_model.specs.Tags.{Tag, tags_within}
@@ -18,8 +17,8 @@ use Rattle.graph_file.specs.Opening.{Opened}
 use Rattle.raw_items.specs.declared.byte_order.ByteOrder.{ByteOrder}
 use Rattle.raw_items.specs.Values.{all_bytes_of}
 use Rattle.script_text.specs.Ends.{AppendsBeginning}
-use Rattle.script_text.specs.Grammar.{at_sign, colon}
-use Rattle.script_text.specs.Replies.{line_text, tag_value_text}
+use Rattle.script_text.specs.Replies.{line_text}
+pub use Rattle.script_text.specs.Replies.{tag_line}
 use Rattle.script_text.specs.Reports.{sink_text, done_text, stalled_text}
 use Rattle.top_block.specs.Closing.{closed}
 use Rattle.flow.specs.declared.fault.Fault.TheVariants.{Script}
@@ -64,9 +63,6 @@ abbrev pub held_bytes : Network → State → ByteOrder → ℕ → List ℕ
 held_bytes net st order b = all_bytes_of (held_type net b) order (held_items net st b)
 
 -- of its tags a line each
-abbrev pub tag_line : Tag → List ℕ
-tag_line t = line_text (at_sign ∷ (decimal t.offset ++ colon ∷ tag_value_text t))
-
 abbrev pub held_lines : Network → State → ℕ → List ℕ
 held_lines net st b = flat_map tag_line (held_tags net st b)
 
@@ -111,3 +107,15 @@ told_line d st elsewhere b = if is_elsewhere elsewhere b then count_line d st b 
 -- the report of a run that came to rest in a state, where what these sinks hold is written elsewhere
 abbrev pub raw_text : Draft → State → List BlockId → List ℕ
 raw_text d st elsewhere = each_block d (told_line d st elsewhere) ++ line_text (if is_all_done st then done_text else stalled_text)
+
+-- of a sink how many items it has taken, and those that were not drained of it, with their tags
+abbrev pub rest_line : Draft → State → List ℕ → ℕ → List ℕ
+rest_line d st drained b =
+    let from = slice_index_or drained b 0 in
+    if is_keeper (role_at d.net b)
+    then line_text (sink_text (name_at d b) (held_count st b) (slice_range (input (entering d.net st.handed b) 0) from (held_count st b)) (tags_within from (held_count st b) (tags_entering d.net st.handed b 0)))
+    else []
+
+-- of each sink, where so many items were drained of each
+abbrev pub streamed_text : Draft → State → List ℕ → List ℕ
+streamed_text d st drained = each_block d (rest_line d st drained)

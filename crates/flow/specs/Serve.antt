@@ -15,7 +15,7 @@ use Rattle.graph_file.specs.Refusals.{Refusal, IsRefused, syntax}
 use Rattle.graph_file.specs.Steps.{then}
 use Rattle.graph_file.specs.Blocks.{Draft, drafted}
 use Rattle.graph_file.specs.File.{Content, file_of}
-use Rattle.graph_file.specs.Opening.{Opened, opened, opened_of, validated}
+use Rattle.graph_file.specs.Opening.{Opened, opened, opened_of, streamed, validated}
 use Rattle.threads.specs.History.{Noted, IsRunOf}
 use Rattle.drawings.specs.Drawings.{drawn_text}
 use Rattle.drawings.specs.declared.drawing.Format.{Format}
@@ -54,6 +54,10 @@ graph_in text = (then) (content_in text) (λ c. validated c.graph)
 
 abbrev pub plant_in : List ℕ → Result Opened Refusal
 plant_in text = (then) (content_in text) opened
+
+-- and the plant that it opens as one that streams, whose tapes may be longer
+abbrev pub streamed_in : List ℕ → Result Opened Refusal
+streamed_in text = (then) (content_in text) streamed
 
 -- a file is refused, or it is not, and memory ran out behind it
 abbrev pub Refuses : {A : Type 0} → Result A Refusal → Fault → Type 0

@@ -10,7 +10,7 @@ ghost use Rattle.graph_file.specs.Blocks.{drafted};
 ghost use Rattle.script_text.specs.Replies.{line_text};
 ghost use Rattle.script_text.specs.Printed.{reported, tags_seen};
 ghost use Rattle.script_text.specs.Reports.{sink_text};
-ghost use Rattle.flow.specs.RawEnds.{count_line, is_elsewhere, raw_text, told_line};
+ghost use Rattle.flow.specs.RawEnds.{count_line, is_elsewhere, raw_text, rest_line, streamed_text, told_line};
 ghost use Rattle.flow.specs.Reports.{check_text, rates_text, run_text, each_block, firings_line, sink_line, settled_text};
 
 use flowgraph::{BlockId, Valid};
@@ -19,6 +19,7 @@ use plant::{Piece, Plant, PlantFault, Settled};
 use rates::Rates;
 use script_text::Report;
 use std::alloc::{AllocError, Global};
+use streaming::StreamingPlant;
 
 /// The report on a valid graph: its blocks, its connections, its rates, and how often each block fires in an iteration.
 pub(crate) fn checked(
@@ -112,6 +113,43 @@ pub(crate) fn ended_but(
     }
     add_end(alloc, &mut text, settled)?;
     Ok(text)
+}
+
+/// The report on a run of a plant that streams: how many items each sink has taken with those that were not drained, and how the run ended.
+pub fn streamed(
+    alloc: Global,
+    plant: &StreamingPlant<Kind>,
+    settled: Settled,
+) -> Result<Vec<u8>, AllocError>
+    ensures { IfOk result (λ text. text.items ≡ streamed_text (drafted plant.now.plant.graph) plant.now.plant.state plant.now.kept.sinks ++ line_text (settled_text settled)) }
+{
+    let mut text = Vec::new(alloc);
+    for block in 0..plant.graph().len() {
+        add_rest(alloc, &mut text, plant, BlockId(block as u32))?;
+    }
+    add_end(alloc, &mut text, settled)?;
+    Ok(text)
+}
+
+// What a block holds that was not drained of it, where it keeps its items.
+fn add_rest(
+    alloc: Global,
+    text: &mut Vec<u8>,
+    plant: &StreamingPlant<Kind>,
+    block: BlockId,
+) -> Result<(), AllocError>
+    requires { block.0 < length plant.now.plant.graph.blocks }
+    ensures { OnOk result (text.new.items ≡ text.old.items ++ rest_line (drafted plant.now.plant.graph) plant.now.plant.state plant.now.kept.sinks block.0) }
+{
+    match plant.peek(alloc, block, u64::MAX) {
+        Ok(piece) => {
+            let name = plant.graph().name(block);
+            add_held(alloc, text, name, piece.held, &piece)
+        }
+        Err(PlantFault::NotSink) => Ok(()),
+        // (as below)
+        Err(_) => Err(AllocError),
+    }
 }
 
 // What a block holds, or how many items where they are written elsewhere.

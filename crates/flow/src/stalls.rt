@@ -12,7 +12,7 @@ ghost use Rattle.graph_file.specs.Opening.{opened_of};
 ghost use Rattle.flow.specs.Serve.{Explains, Puts, Remarks, stream};
 ghost use Rattle.flow.specs.Stalls.{full_in, is_for_room, lowest_from, open_line, open_text, opener_line, ring_at, ring_from, ring_text, stall_text, uneven_line, wait_line, waits_text};
 
-use crate::waits::need;
+use crate::waiting::Waiting;
 use flowgraph::Valid;
 use itoa::Buffer;
 use kinds::Kind;
@@ -48,9 +48,9 @@ pub(crate) fn remark<E: ByteOut>(
 }
 
 /// Writes what the blocks of a plant that stalled wait for, up to the first write that fails.
-pub(crate) fn explain_stall<E: ByteOut>(alloc: Global, plant: &Plant<Kind>, errors: &mut E)
+pub fn explain_stall<P: Waiting, E: ByteOut>(alloc: Global, plant: &P, errors: &mut E)
     requires { E.failed errors.old < 2 ^ 64 - 1 }
-    ensures { Explains (opened_of plant.now) (stream (E.contents errors.old) (E.failed errors.old)) (stream (E.contents errors.new) (E.failed errors.new)) }
+    ensures { Explains (opened_of (P.seen plant.now)) (stream (E.contents errors.old) (E.failed errors.old)) (stream (E.contents errors.new) (E.failed errors.new)) }
 {
     let rates = rates_line(alloc, plant.graph());
     let _ = tell_stall(errors, plant, rates);
@@ -67,15 +67,14 @@ fn rates_line(alloc: Global, graph: &Valid<Kind>) -> &'static [u8]
 }
 
 // Writes what a stall is, with this text on the rates.
-fn tell_stall<E: ByteOut>(errors: &mut E, plant: &Plant<Kind>, rates: &[u8]) -> Result<(), Broken>
+fn tell_stall<P: Waiting, E: ByteOut>(errors: &mut E, plant: &P, rates: &[u8]) -> Result<(), Broken>
     requires { E.failed errors.old < 2 ^ 64 - 1 }
-    ensures { Puts result (stream (E.contents errors.old) (E.failed errors.old)) (stream (E.contents errors.new) (E.failed errors.new)) (stall_text rates.now (drafted plant.now.graph) plant.now.capacities plant.now.state) }
+    ensures { Puts result (stream (E.contents errors.old) (E.failed errors.old)) (stream (E.contents errors.new) (E.failed errors.new)) (stall_text rates.now (drafted (P.seen plant.now).graph) (P.seen plant.now).capacities (P.seen plant.now).state) }
 {
-    plant.recall();
     let Some(block) = plant.ring() else {
         return Ok(());
     };
-    match need(plant, block) {
+    match plant.need(block) {
         BlockNeed::Items { .. } | BlockNeed::Room { .. } => tell_ring(errors, plant, block, rates),
         BlockNeed::Done | BlockNeed::Busy | BlockNeed::Ready | BlockNeed::Feed => {
             tell_open(errors, plant)
@@ -84,16 +83,16 @@ fn tell_stall<E: ByteOut>(errors: &mut E, plant: &Plant<Kind>, rates: &[u8]) -> 
 }
 
 // Writes of each block of the ring that a block is on what it waits for, and what may open the ring.
-fn tell_ring<E: ByteOut>(
+fn tell_ring<P: Waiting, E: ByteOut>(
     errors: &mut E,
-    plant: &Plant<Kind>,
+    plant: &P,
     block: BlockId,
     rates: &[u8],
 ) -> Result<(), Broken>
     requires failed { E.failed errors.old < 2 ^ 64 - 1 }
-    requires inside { block.0 < length plant.now.graph.blocks }
-    ensures { let net = net_of meaning_of plant.now.graph in let caps = plant.now.capacities in let st = plant.now.state in
-        Puts result (stream (E.contents errors.old) (E.failed errors.old)) (stream (E.contents errors.new) (E.failed errors.new)) (ring_text (drafted plant.now.graph) caps st (ring_at net caps st block.0) ++ rates.now) }
+    requires inside { block.0 < length (P.seen plant.now).graph.blocks }
+    ensures { let net = net_of meaning_of (P.seen plant.now).graph in let caps = (P.seen plant.now).capacities in let st = (P.seen plant.now).state in
+        Puts result (stream (E.contents errors.old) (E.failed errors.old)) (stream (E.contents errors.new) (E.failed errors.new)) (ring_text (drafted (P.seen plant.now).graph) caps st (ring_at net caps st block.0) ++ rates.now) }
 {
     let first = lowest(plant, block);
     tell_waits(errors, plant, first)?;
@@ -102,10 +101,10 @@ fn tell_ring<E: ByteOut>(
 }
 
 // The lowest of a block and of as many to which waits lead from it as there are blocks.
-fn lowest(plant: &Plant<Kind>, block: BlockId) -> BlockId
-    requires { block.0 < length plant.now.graph.blocks }
-    ensures value { let net = net_of meaning_of plant.now.graph in result.0 ≡ lowest_from net plant.now.capacities plant.now.state (length net.nodes) block.0 }
-    ensures inside { result.0 < length plant.now.graph.blocks }
+fn lowest<P: Waiting>(plant: &P, block: BlockId) -> BlockId
+    requires { block.0 < length (P.seen plant.now).graph.blocks }
+    ensures value { let net = net_of meaning_of (P.seen plant.now).graph in result.0 ≡ lowest_from net (P.seen plant.now).capacities (P.seen plant.now).state (length net.nodes) block.0 }
+    ensures inside { result.0 < length (P.seen plant.now).graph.blocks }
 {
     let mut lowest = block.0;
     let mut block = block;
@@ -117,11 +116,15 @@ fn lowest(plant: &Plant<Kind>, block: BlockId) -> BlockId
 }
 
 // Writes what each block of a ring waits for, from this one on.
-fn tell_waits<E: ByteOut>(errors: &mut E, plant: &Plant<Kind>, first: BlockId) -> Result<(), Broken>
+fn tell_waits<P: Waiting, E: ByteOut>(
+    errors: &mut E,
+    plant: &P,
+    first: BlockId,
+) -> Result<(), Broken>
     requires failed { E.failed errors.old < 2 ^ 64 - 1 }
-    requires inside { first.0 < length plant.now.graph.blocks }
-    ensures { let net = net_of meaning_of plant.now.graph in let caps = plant.now.capacities in let st = plant.now.state in
-        Puts result (stream (E.contents errors.old) (E.failed errors.old)) (stream (E.contents errors.new) (E.failed errors.new)) (waits_text (drafted plant.now.graph) caps st (ring_from net caps st first.0 (length net.nodes) first.0)) }
+    requires inside { first.0 < length (P.seen plant.now).graph.blocks }
+    ensures { let net = net_of meaning_of (P.seen plant.now).graph in let caps = (P.seen plant.now).capacities in let st = (P.seen plant.now).state in
+        Puts result (stream (E.contents errors.old) (E.failed errors.old)) (stream (E.contents errors.new) (E.failed errors.new)) (waits_text (drafted (P.seen plant.now).graph) caps st (ring_from net caps st first.0 (length net.nodes) first.0)) }
 {
     let mut block = first;
     for _turn in 0..plant.graph().len() {
@@ -135,11 +138,11 @@ fn tell_waits<E: ByteOut>(errors: &mut E, plant: &Plant<Kind>, first: BlockId) -
 }
 
 // The first block of a ring that waits for room, from this one on.
-fn full(plant: &Plant<Kind>, first: BlockId) -> Option<BlockId>
-    requires { first.0 < length plant.now.graph.blocks }
-    ensures value { let net = net_of meaning_of plant.now.graph in let caps = plant.now.capacities in let st = plant.now.state in
+fn full<P: Waiting>(plant: &P, first: BlockId) -> Option<BlockId>
+    requires { first.0 < length (P.seen plant.now).graph.blocks }
+    ensures value { let net = net_of meaning_of (P.seen plant.now).graph in let caps = (P.seen plant.now).capacities in let st = (P.seen plant.now).state in
         option_map (λ block. block.0) result ≡ full_in net caps st (ring_from net caps st first.0 (length net.nodes) first.0) }
-    ensures inside { IfSome result (λ block. block.0 < length plant.now.graph.blocks) }
+    ensures inside { IfSome result (λ block. block.0 < length (P.seen plant.now).graph.blocks) }
 {
     let mut block = first;
     for _turn in 0..plant.graph().len() {
@@ -155,11 +158,11 @@ fn full(plant: &Plant<Kind>, first: BlockId) -> Option<BlockId>
 }
 
 // Whether a block waits for room.
-fn is_full(plant: &Plant<Kind>, block: BlockId) -> bool
-    requires { block.0 < length plant.now.graph.blocks }
-    ensures { result ≡ is_for_room (wait_of (net_of meaning_of plant.now.graph) plant.now.capacities plant.now.state block.0) }
+fn is_full<P: Waiting>(plant: &P, block: BlockId) -> bool
+    requires { block.0 < length (P.seen plant.now).graph.blocks }
+    ensures { result ≡ is_for_room (wait_of (net_of meaning_of (P.seen plant.now).graph) (P.seen plant.now).capacities (P.seen plant.now).state block.0) }
 {
-    match need(plant, block) {
+    match plant.need(block) {
         BlockNeed::Room { .. } => true,
         BlockNeed::Done
         | BlockNeed::Busy
@@ -170,14 +173,14 @@ fn is_full(plant: &Plant<Kind>, block: BlockId) -> bool
 }
 
 // Writes which capacity may open a ring.
-fn tell_opener<E: ByteOut>(
+fn tell_opener<P: Waiting, E: ByteOut>(
     errors: &mut E,
-    plant: &Plant<Kind>,
+    plant: &P,
     full: Option<BlockId>,
 ) -> Result<(), Broken>
     requires failed { E.failed errors.old < 2 ^ 64 - 1 }
-    requires inside { IfSome full (λ block. block.0 < length plant.now.graph.blocks) }
-    ensures { Puts result (stream (E.contents errors.old) (E.failed errors.old)) (stream (E.contents errors.new) (E.failed errors.new)) (opener_line (drafted plant.now.graph) (option_map (λ block. block.0) full)) }
+    requires inside { IfSome full (λ block. block.0 < length (P.seen plant.now).graph.blocks) }
+    ensures { Puts result (stream (E.contents errors.old) (E.failed errors.old)) (stream (E.contents errors.new) (E.failed errors.new)) (opener_line (drafted (P.seen plant.now).graph) (option_map (λ block. block.0) full)) }
 {
     let Some(block) = full else {
         return Ok(());
@@ -194,9 +197,9 @@ fn tell_opener<E: ByteOut>(
 }
 
 // Writes of each source that waits to be fed that it is open.
-fn tell_open<E: ByteOut>(errors: &mut E, plant: &Plant<Kind>) -> Result<(), Broken>
+fn tell_open<P: Waiting, E: ByteOut>(errors: &mut E, plant: &P) -> Result<(), Broken>
     requires { E.failed errors.old < 2 ^ 64 - 1 }
-    ensures { Puts result (stream (E.contents errors.old) (E.failed errors.old)) (stream (E.contents errors.new) (E.failed errors.new)) (open_text (drafted plant.now.graph) plant.now.capacities plant.now.state) }
+    ensures { Puts result (stream (E.contents errors.old) (E.failed errors.old)) (stream (E.contents errors.new) (E.failed errors.new)) (open_text (drafted (P.seen plant.now).graph) (P.seen plant.now).capacities (P.seen plant.now).state) }
 {
     for block in 0..plant.graph().len() {
         tell_if_open(errors, plant, BlockId(block as u32))?;
@@ -205,16 +208,16 @@ fn tell_open<E: ByteOut>(errors: &mut E, plant: &Plant<Kind>) -> Result<(), Brok
 }
 
 // The same of one block.
-fn tell_if_open<E: ByteOut>(
+fn tell_if_open<P: Waiting, E: ByteOut>(
     errors: &mut E,
-    plant: &Plant<Kind>,
+    plant: &P,
     block: BlockId,
 ) -> Result<(), Broken>
     requires failed { E.failed errors.old < 2 ^ 64 - 1 }
-    requires inside { block.0 < length plant.now.graph.blocks }
-    ensures { Puts result (stream (E.contents errors.old) (E.failed errors.old)) (stream (E.contents errors.new) (E.failed errors.new)) (open_line (drafted plant.now.graph) plant.now.capacities plant.now.state block.0) }
+    requires inside { block.0 < length (P.seen plant.now).graph.blocks }
+    ensures { Puts result (stream (E.contents errors.old) (E.failed errors.old)) (stream (E.contents errors.new) (E.failed errors.new)) (open_line (drafted (P.seen plant.now).graph) (P.seen plant.now).capacities (P.seen plant.now).state block.0) }
 {
-    match need(plant, block) {
+    match plant.need(block) {
         BlockNeed::Feed => put(
             errors,
             &[
@@ -232,14 +235,18 @@ fn tell_if_open<E: ByteOut>(
 }
 
 // Writes what a block waits for, where it waits for another.
-fn tell_wait<E: ByteOut>(errors: &mut E, plant: &Plant<Kind>, block: BlockId) -> Result<(), Broken>
+fn tell_wait<P: Waiting, E: ByteOut>(
+    errors: &mut E,
+    plant: &P,
+    block: BlockId,
+) -> Result<(), Broken>
     requires failed { E.failed errors.old < 2 ^ 64 - 1 }
-    requires inside { block.0 < length plant.now.graph.blocks }
-    ensures { Puts result (stream (E.contents errors.old) (E.failed errors.old)) (stream (E.contents errors.new) (E.failed errors.new)) (wait_line (drafted plant.now.graph) block.0 (wait_of (net_of meaning_of plant.now.graph) plant.now.capacities plant.now.state block.0)) }
+    requires inside { block.0 < length (P.seen plant.now).graph.blocks }
+    ensures { Puts result (stream (E.contents errors.old) (E.failed errors.old)) (stream (E.contents errors.new) (E.failed errors.new)) (wait_line (drafted (P.seen plant.now).graph) block.0 (wait_of (net_of meaning_of (P.seen plant.now).graph) (P.seen plant.now).capacities (P.seen plant.now).state block.0)) }
 {
     let graph = plant.graph();
     let name = graph.name(block);
-    match need(plant, block) {
+    match plant.need(block) {
         BlockNeed::Done | BlockNeed::Busy | BlockNeed::Ready | BlockNeed::Feed => Ok(()),
         BlockNeed::Items { port, writer } => put(
             errors,
@@ -269,12 +276,12 @@ fn tell_wait<E: ByteOut>(errors: &mut E, plant: &Plant<Kind>, block: BlockId) ->
 }
 
 // The block that a block waits for, or the block itself where it waits for none.
-fn next(plant: &Plant<Kind>, block: BlockId) -> BlockId
-    requires { block.0 < length plant.now.graph.blocks }
-    ensures value { result.0 ≡ next_of (net_of meaning_of plant.now.graph) plant.now.capacities plant.now.state block.0 }
-    ensures inside { result.0 < length plant.now.graph.blocks }
+fn next<P: Waiting>(plant: &P, block: BlockId) -> BlockId
+    requires { block.0 < length (P.seen plant.now).graph.blocks }
+    ensures value { result.0 ≡ next_of (net_of meaning_of (P.seen plant.now).graph) (P.seen plant.now).capacities (P.seen plant.now).state block.0 }
+    ensures inside { result.0 < length (P.seen plant.now).graph.blocks }
 {
-    match need(plant, block) {
+    match plant.need(block) {
         BlockNeed::Items { writer, .. } => writer,
         BlockNeed::Room { reader, .. } => reader,
         BlockNeed::Done | BlockNeed::Busy | BlockNeed::Ready | BlockNeed::Feed => block,

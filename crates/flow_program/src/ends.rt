@@ -20,6 +20,11 @@ impl NamedEnd<'_> {
     {
         self.path == "-"
     }
+
+    // Whether what is written there stays there.
+    fn is_kept(&self) -> bool {
+        !self.is_standard() && self.path != "/dev/null"
+    }
 }
 
 /// Where the raw items of a run come from, and where they and tags go.
@@ -40,6 +45,8 @@ pub enum EndsFault {
     BlockTwice,
     /// A standard stream is named twice.
     StreamTwice,
+    /// A file is named for two outputs, or for an output and for what is read.
+    FileTwice,
     /// Memory ran out.
     Memory,
 }
@@ -51,6 +58,7 @@ impl EndsFault {
             EndsFault::NoPath => Some("a word for a file is no BLOCK=PATH"),
             EndsFault::BlockTwice => Some("two files are named for what one block holds"),
             EndsFault::StreamTwice => Some("a standard stream is named twice"),
+            EndsFault::FileTwice => Some("a file that is written is named twice"),
             EndsFault::Memory => None,
         }
     }
@@ -69,8 +77,12 @@ impl<T: Drop> From<AllocFailed<T>> for EndsFault {
 }
 
 impl<'a> Ends<'a> {
-    /// The ends that the words of a call name.
-    pub fn of_words(alloc: Global, matches: &ArgMatches<'a>) -> Result<Ends<'a>, EndsFault> {
+    /// The ends that the words of a call name, beside the path of the graph file.
+    pub fn of_words(
+        alloc: Global,
+        matches: &ArgMatches<'a>,
+        file: &str,
+    ) -> Result<Ends<'a>, EndsFault> {
         let order = if matches.get_flag("big-endian") {
             ByteOrder::Big
         } else {
@@ -82,14 +94,19 @@ impl<'a> Ends<'a> {
             outputs: Vec::new(alloc),
             tags: Vec::new(alloc),
         };
-        match ends.fill(alloc, matches) {
+        match ends.fill(alloc, matches, file) {
             Ok(()) => Ok(ends),
             Err(fault) => Err(fault),
         }
     }
 
     // Adds the ends of all words. (It owns nothing that an early return would have to drop, which the prover pays for at each.)
-    fn fill(&mut self, alloc: Global, matches: &ArgMatches<'a>) -> Result<(), EndsFault> {
+    fn fill(
+        &mut self,
+        alloc: Global,
+        matches: &ArgMatches<'a>,
+        file: &str,
+    ) -> Result<(), EndsFault> {
         add_ends(&mut self.inputs, matches.get_strs("input"))?;
         add_ends(&mut self.outputs, matches.get_strs("output"))?;
         add_ends(&mut self.tags, matches.get_strs("tags"))?;
@@ -99,7 +116,26 @@ impl<'a> Ends<'a> {
         if 1 < standard_ends(&self.inputs) || 1 < self.standard_outputs() {
             return Err(EndsFault::StreamTwice);
         }
+        if self.writes_twice(alloc, file)? {
+            return Err(EndsFault::FileTwice);
+        }
         Ok(())
+    }
+
+    // Whether a file would be written by two outputs, or read and written.
+    fn writes_twice(&self, alloc: Global, file: &str) -> Result<bool, AllocError> {
+        let mut written = Vec::new(alloc);
+        for end in self.outputs.iter().chain(self.tags.iter()) {
+            if end.is_kept() {
+                written.reserve(1)?;
+                written.push_reserved(end.path);
+            }
+        }
+        written.sort_unstable();
+        if stand_side_by_side(&written) || is_among(&written, file) {
+            return Ok(true);
+        }
+        Ok(self.inputs.iter().any(|end| is_among(&written, end.path)))
     }
 
     /// Whether there are none.
@@ -155,6 +191,11 @@ fn stand_side_by_side(names: &[&str]) -> bool {
         }
     }
     false
+}
+
+// Whether a path is one of these, which are sorted.
+fn is_among(paths: &[&str], path: &str) -> bool {
+    paths.binary_search(&path).is_ok()
 }
 
 // How many ends are the standard stream.

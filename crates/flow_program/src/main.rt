@@ -1,10 +1,13 @@
 //! The program `flow`: runs a flowgraph that a file describes.
 #![tactic(auto)]
 
+mod devices;
 mod ends;
 mod explaining;
+mod joins;
 mod raw;
 mod refusing;
+mod stops;
 mod terminal;
 mod words;
 
@@ -68,7 +71,7 @@ fn run<R: Threads + Wait + Copy + Send + Sync + 'static>(
         }
     };
     if !call.ends.are_none() {
-        return run_raw(threads, rt, &call, &file, &mut terminal);
+        return run_raw(rt, &call, &file, &mut terminal);
     }
     let reader = ReadEnd::new(Noted::new(rt.reader()));
     let mut input = KeptLines::new(rt.alloc(), reader, call.explains);

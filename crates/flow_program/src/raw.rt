@@ -1,40 +1,39 @@
-//! Runs that are fed raw items from files, and write what their sinks hold to files.
+//! Runs between files and pipes of raw items, which are read and written as the items come.
 
-use crate::ends::{Ends, NamedEnd};
-use crate::explaining::{explain_device, explain_end, explain_file};
+use crate::ends::Ends;
+use crate::joins::{Kept, join_inputs, join_outputs};
 use crate::refusing::buffered;
+use crate::stops::{Stop, Stream, explain, stop_of};
 use crate::words::Call;
-use explanations::Noted;
 use flow::fault::Fault;
-use flow::ran_raw::RanRaw;
 use flow::raw_fault::{EndFault, EndPlace, RawFault};
-use flow::raw_run::{RawRun, sink_named, source_named};
+use flow::reports::streamed;
 use flow::script::ScriptFault;
-use flow::serve::Action;
+use flow::stalls::{Notes, explain_stall};
+use flow::streams::open_stream;
 use flow::telling::report_raw;
-use plant::{BlockId, Watch};
-use script_text::{ByteOut, ReadEnd, WriteEnd};
-use std::fs;
-use std::io::{Error, ErrorKind, Write};
-use std::sync::Wait;
-use std::thread::Threads;
+use flowgraph::BlockId;
+use pipeline::{End, Pipeline, Settled};
+use script_text::{ByteOut, WriteEnd, push_tag_lines, write_whole};
+use std::alloc::AllocError;
+use std::io::Write;
+use streaming::Watch;
 
-/// Runs a graph file between files. Each input is read before the next is opened, and outputs are made once the run is over.
-pub fn run_raw<R: Threads + Wait + Copy + Send + 'static, W: Watch>(
-    threads: R,
-    rt: &HostRuntime,
-    call: &Call<'_>,
-    file: &[u8],
-    watch: &mut W,
-) -> u8 {
+// The exit status of a run that came to rest before all blocks were done.
+const STALLED: u8 = 3;
+
+/// Runs a graph file between files. All of them are opened before the first is read.
+pub fn run_raw<W: Watch>(rt: &HostRuntime, call: &Call<'_>, file: &[u8], watch: &mut W) -> u8 {
     let mut errors = buffered(rt.alloc(), rt.stderr());
-    let mut reason = None;
-    match obey(threads, rt, call, file, watch, &mut reason) {
-        Ok(ran) => {
-            ran.remark(rt.alloc(), call.notes(), &mut errors);
-            ran.status()
+    match stream(rt, call, file, watch) {
+        Ok(None) => 0,
+        Ok(Some(stalled)) => {
+            if call.notes() == Notes::Shown {
+                explain_stall(rt.alloc(), &stalled.plant, &mut errors);
+            }
+            STALLED
         }
-        Err(fault) => {
+        Err(Stop { fault, reason }) => {
             report_raw(&fault, &mut errors);
             let _ = errors.writer.flush();
             if call.explains {
@@ -45,213 +44,92 @@ pub fn run_raw<R: Threads + Wait + Copy + Send + 'static, W: Watch>(
     }
 }
 
-fn obey<R: Threads + Wait + Copy + Send + 'static, W: Watch>(
-    threads: R,
-    rt: &HostRuntime,
+// The run, which is returned if it stalled.
+fn stream<'a, W: Watch>(
+    rt: &'a HostRuntime,
     call: &Call<'_>,
     file: &[u8],
     watch: &mut W,
-    reason: &mut Option<Error>,
-) -> Result<RanRaw, RawFault> {
+) -> Result<Option<Stream<'a>>, Stop> {
     let ends = &call.ends;
-    let mut run = RawRun::open(rt.alloc(), file)?;
-    for (number, end) in ends.inputs.iter().enumerate() {
-        feed(rt, &mut run, ends, number, end, reason)?;
+    let mut run = opened(rt, file)?;
+    join_inputs(rt, &mut run, ends)?;
+    let kept = join_outputs(rt, &mut run, ends)?;
+    close_others(&mut run);
+    let settled = go(rt, &mut run, ends, watch)?;
+    write_kept(rt, &run, kept)?;
+    tell(rt, &run, ends, settled)?;
+    match settled {
+        Settled::Done => Ok(None),
+        Settled::Quiet => Ok(Some(run)),
     }
-    // A name that is none is refused before the run.
-    let outputs = sinks(rt, &run, &ends.outputs, false)?;
-    let tags = sinks(rt, &run, &ends.tags, true)?;
-    let ran = match call.action {
-        Action::RunAlone => run.run_alone(rt.alloc(), watch)?,
-        _ => run.run(threads, rt.alloc(), watch)?,
-    };
-    for (number, (end, sink)) in ends.outputs.iter().zip(&outputs).enumerate() {
-        write_items(rt, &ran, ends, number, end, *sink, reason)?;
-    }
-    for (number, (end, sink)) in ends.tags.iter().zip(&tags).enumerate() {
-        write_tags(rt, &ran, number, end, *sink, reason)?;
-    }
-    tell(rt, &ran, ends, &outputs)?;
-    Ok(ran)
 }
 
-// Shows what stands behind a fault, at which a device may have failed for a reason.
-fn explain(
-    rt: &HostRuntime,
-    call: &Call<'_>,
-    file: &[u8],
-    fault: &RawFault,
-    reason: Option<Error>,
-) {
-    let (place, fault) = match fault {
-        RawFault::Whole(Fault::File(_)) => {
-            let _is_refused = explain_file(rt, call, file);
-            return;
+fn opened<'a>(rt: &'a HostRuntime, file: &[u8]) -> Result<Stream<'a>, Stop> {
+    let plant = match open_stream(rt.alloc(), file) {
+        Ok(plant) => plant,
+        Err(fault) => return Err(Stop::from(RawFault::Whole(Fault::File(fault)))),
+    };
+    match Pipeline::new(rt.alloc(), plant) {
+        Ok(run) => Ok(run),
+        Err((_, refusal)) => Err(Stop::from(refusal)),
+    }
+}
+
+// Closes the sources that no input feeds.
+fn close_others(run: &mut Stream<'_>) {
+    let mut block = 0u32;
+    for _ in 0..run.plant.graph().len() {
+        if let Some(End::Open) = run.ends.get(block as usize) {
+            // (what is no source is refused)
+            let _ = run.plant.close(BlockId(block));
         }
-        RawFault::Whole(_) => return,
-        RawFault::End(place, fault) => (*place, *fault),
-    };
-    let ends = &call.ends;
-    let end = match place {
-        EndPlace::Input(number) => ends.inputs.get(number),
-        EndPlace::Output(number) => ends.outputs.get(number),
-        EndPlace::Tags(number) => ends.tags.get(number),
-    };
-    let Some(NamedEnd { block, path }) = end else {
-        return;
-    };
-    let Ok(word) = format!(in rt.alloc(); "{block}={path}") else {
-        return;
-    };
-    match reason {
-        Some(error) => explain_device(rt, word.as_str(), &error),
-        None => explain_end(rt, word.as_str(), meaning(fault)),
+        block = block.saturating_add(1);
     }
 }
 
-// What is wrong with what a word names.
-fn meaning(fault: EndFault) -> &'static str {
-    match fault {
-        EndFault::NoSuchBlock => "no block of the graph has this name",
-        EndFault::NotSource => "the block is no vector_source",
-        EndFault::NotSink => "the block is no vector_sink",
-        EndFault::Closed => "the source is closed",
-        EndFault::TapeFull => "the tape would be longer than 4294967296 items",
-        EndFault::Read => "it cannot be read",
-        EndFault::Write => "it cannot be written",
-        EndFault::CutItem => "it ends within an item of the source's type",
-    }
-}
-
-// Feeds a source what a file has.
-fn feed(
+// Lets the run go on to its end, and shows how far it is.
+fn go<W: Watch>(
     rt: &HostRuntime,
-    run: &mut RawRun,
+    run: &mut Stream<'_>,
     ends: &Ends<'_>,
-    number: usize,
-    end: &NamedEnd<'_>,
-    reason: &mut Option<Error>,
-) -> Result<(), RawFault> {
-    let place = EndPlace::Input(number);
-    let source = source_named(run.graph(), place, end.block.as_bytes())?;
-    if end.is_standard() {
-        let mut input = ReadEnd::new(Noted::new(rt.reader()));
-        let fed = run.feed_from(rt.alloc(), number, source, ends.order, &mut input);
-        *reason = input.reader.reason;
-        return fed;
-    }
-    match fs::open(rt, end.path) {
-        Ok(file) => {
-            let mut input = ReadEnd::new(Noted::new(file));
-            let fed = run.feed_from(rt.alloc(), number, source, ends.order, &mut input);
-            *reason = input.reader.reason;
-            fed
-        }
-        Err(error) => {
-            *reason = Some(error);
-            Err(unopened(error.kind(), place, EndFault::Read))
-        }
+    watch: &mut W,
+) -> Result<Settled, Stop> {
+    let ended = run.run_watched(rt.alloc(), watch);
+    watch.end();
+    match ended {
+        Ok(settled) => Ok(settled),
+        Err(fault) => Err(stop_of(run, ends, fault)),
     }
 }
 
-// The sinks that outputs name, of items or of tags.
-fn sinks(
-    rt: &HostRuntime,
-    run: &RawRun,
-    ends: &[NamedEnd<'_>],
-    of_tags: bool,
-) -> Result<Vec<BlockId>, RawFault> {
-    let mut sinks = Vec::new(rt.alloc());
-    for (number, end) in ends.iter().enumerate() {
-        let place = if of_tags {
-            EndPlace::Tags(number)
-        } else {
-            EndPlace::Output(number)
+// Writes the tags of sinks whose items were kept.
+fn write_kept(rt: &HostRuntime, run: &Stream<'_>, kept: Vec<Kept<'_>>) -> Result<(), Stop> {
+    let mut lines = Vec::new(rt.alloc());
+    for Kept {
+        sink,
+        number,
+        target,
+    } in kept {
+        let mut target = target;
+        let Ok(piece) = run.plant.peek(rt.alloc(), sink, u64::MAX) else {
+            return Err(Stop::from(AllocError));
         };
-        let sink = sink_named(run.graph(), place, end.block.as_bytes())?;
-        sinks.reserve(1)?;
-        sinks.push_reserved(sink);
-    }
-    Ok(sinks)
-}
-
-// Writes the items of a sink to a file.
-fn write_items(
-    rt: &HostRuntime,
-    ran: &RanRaw,
-    ends: &Ends<'_>,
-    number: usize,
-    end: &NamedEnd<'_>,
-    sink: BlockId,
-    reason: &mut Option<Error>,
-) -> Result<(), RawFault> {
-    let place = EndPlace::Output(number);
-    if end.is_standard() {
-        let mut output = WriteEnd::new(Noted::new(std::io::writer(rt)));
-        let written = ran.write_items(rt.alloc(), place, sink, ends.order, &mut output);
-        *reason = output.writer.reason;
-        return written;
-    }
-    match fs::create(rt, end.path) {
-        Ok(file) => {
-            let mut output = WriteEnd::new(Noted::new(file));
-            let written = ran.write_items(rt.alloc(), place, sink, ends.order, &mut output);
-            *reason = output.writer.reason;
-            written
-        }
-        Err(error) => {
-            *reason = Some(error);
-            Err(unopened(error.kind(), place, EndFault::Write))
+        lines.clear();
+        push_tag_lines(&mut lines, &piece.tags)?;
+        if let Err(error) = write_whole(&mut target, &lines) {
+            return Err(Stop {
+                fault: RawFault::End(EndPlace::Tags(number), EndFault::Write),
+                reason: Some(error),
+            });
         }
     }
-}
-
-// Writes the tags of a sink to a file.
-fn write_tags(
-    rt: &HostRuntime,
-    ran: &RanRaw,
-    number: usize,
-    end: &NamedEnd<'_>,
-    sink: BlockId,
-    reason: &mut Option<Error>,
-) -> Result<(), RawFault> {
-    let place = EndPlace::Tags(number);
-    if end.is_standard() {
-        let mut output = WriteEnd::new(Noted::new(std::io::writer(rt)));
-        let written = ran.write_tags(rt.alloc(), place, sink, &mut output);
-        *reason = output.writer.reason;
-        return written;
-    }
-    match fs::create(rt, end.path) {
-        Ok(file) => {
-            let mut output = WriteEnd::new(Noted::new(file));
-            let written = ran.write_tags(rt.alloc(), place, sink, &mut output);
-            *reason = output.writer.reason;
-            written
-        }
-        Err(error) => {
-            *reason = Some(error);
-            Err(unopened(error.kind(), place, EndFault::Write))
-        }
-    }
-}
-
-// Why a file could not be opened.
-fn unopened(kind: ErrorKind, place: EndPlace, fault: EndFault) -> RawFault {
-    match kind {
-        ErrorKind::OutOfMemory => RawFault::Whole(Fault::Script(ScriptFault::Memory)),
-        _ => RawFault::End(place, fault),
-    }
+    Ok(())
 }
 
 // Tells how the run ended, on standard error where standard output has items or tags.
-fn tell(
-    rt: &HostRuntime,
-    ran: &RanRaw,
-    ends: &Ends<'_>,
-    outputs: &[BlockId],
-) -> Result<(), RawFault> {
-    let text = ran.report(rt.alloc(), outputs)?;
+fn tell(rt: &HostRuntime, run: &Stream<'_>, ends: &Ends<'_>, settled: Settled) -> Result<(), Stop> {
+    let text = streamed(rt.alloc(), &run.plant, settled)?;
     let written = if ends.use_output() {
         WriteEnd::new(rt.stderr()).write(&text)
     } else {
@@ -259,6 +137,6 @@ fn tell(
     };
     match written {
         Ok(()) => Ok(()),
-        Err(_) => Err(RawFault::Whole(Fault::Script(ScriptFault::Write))),
+        Err(_) => Err(Stop::from(RawFault::Whole(Fault::Script(ScriptFault::Write)))),
     }
 }

@@ -65,7 +65,7 @@ fn call_in<'a>(alloc: Global, matches: &ArgMatches<'a>) -> Result<Call<'a>, Ends
     let Some(path) = inner.get_str("FILE") else {
         return Err(EndsFault::Memory);
     };
-    match Ends::of_words(alloc, inner) {
+    match Ends::of_words(alloc, inner, path) {
         Ok(ends) => Ok(Call {
             action: action_of(name, inner),
             path,

@@ -6,9 +6,9 @@ use Rattle.flow.proofs.stalls.full.Given as goal
 
 -- the first of the blocks that are left is the first of all
 abbrev pub invariant-loop-turn : goal.invariant-loop-turn
-invariant-loop-turn l =
-    let net = net_of meaning_of l.plant.graph in
-    let caps = l.plant.capacities in
-    let st = l.plant.state in
-    (l.block.0 < length l.plant.graph.blocks)
+invariant-loop-turn g l =
+    let net = net_of meaning_of (g.P.Waiting.seen l.plant).graph in
+    let caps = (g.P.Waiting.seen l.plant).capacities in
+    let st = (g.P.Waiting.seen l.plant).state in
+    (l.block.0 < length (g.P.Waiting.seen l.plant).graph.blocks)
     × (full_in net caps st (ring_from net caps st l.first.0 (length net.nodes - l._turn) l.block.0) ≡ full_in net caps st (ring_from net caps st l.first.0 (length net.nodes) l.first.0))
