@@ -68,6 +68,16 @@ struct magbelu_plant {
 
 #define MAGBELU_NO_PLANT {NULL, false}
 
+/*
+ * A plant that streams: it runs in constant memory for as long as it is fed, since it forgets what its sources have taken and what was drained of its sinks. Of the
+ * struct the same holds as of a plant's: begin it with MAGBELU_NO_STREAM, and hand it to the calls magbelu_stream_... alone.
+ */
+struct magbelu_stream {
+    struct magbelu_plant plant;
+};
+
+#define MAGBELU_NO_STREAM {MAGBELU_NO_PLANT}
+
 /* Refusals of calls of a held plant: none is held; one is held already; slices of a kernel differ in length; a tag's key is no key. */
 #define MAGBELU_NOT_OPEN 55
 #define MAGBELU_IS_OPEN 56
@@ -79,9 +89,11 @@ struct magbelu_plant {
  *
  * status  0: done. 3: the plant came to rest before all blocks were done. 1: refused, and nothing changed. 4: out of memory.
  * number  that of the refusal (docs/FORMATS.md, and those above); 0 with status 0 and 3.
- * what    of a step: MAGBELU_DID, MAGBELU_DONE, MAGBELU_WAITS_ITEMS or MAGBELU_WAITS_ROOM.
- * value   of a feed and a close: how many items the tape has. Of a setting: the item from which it is in force; with number 27 the first one from which it could
- *         be. Of a step: how many firings were done, or the port at which the block waits. Of magbelu_item_size: that size.
+ * what    of a step: MAGBELU_DID, MAGBELU_DONE, MAGBELU_WAITS_ITEMS or MAGBELU_WAITS_ROOM. Of magbelu_need: MAGBELU_READY, MAGBELU_DONE, MAGBELU_WAITS_ITEMS,
+ *         MAGBELU_WAITS_ROOM or MAGBELU_WAITS_FEED.
+ * value   of a feed and a close: how many items the tape has, or a source that streams was fed. Of a setting: the item from which it is in force; with number 27
+ *         the first one from which it could be. Of a step: how many firings were done, or the port at which the block waits. Of magbelu_need: that port. Of
+ *         magbelu_item_size: that size.
  */
 struct magbelu_reply {
     uint32_t status;
@@ -94,10 +106,12 @@ struct magbelu_reply {
 #define MAGBELU_DONE 1
 #define MAGBELU_WAITS_ITEMS 2
 #define MAGBELU_WAITS_ROOM 3
+#define MAGBELU_READY 0
+#define MAGBELU_WAITS_FEED 5
 
 /*
- * What came of a read: how many items the sink holds in all, how many bytes an item has, how many bytes the items have that are shown, and how many the lines
- * of their tags. Each of the two buffers is written where all that belongs there fits.
+ * What came of a read or a drain: how many items the sink has taken in all, how many bytes an item has, how many bytes the items have that are shown, and how
+ * many the lines of their tags. Each of the two buffers is written where all that belongs there fits.
  */
 struct magbelu_piece {
     uint32_t status;
@@ -141,6 +155,8 @@ struct magbelu_answer magbelu_bytes_run_items(const uint8_t *file, size_t file_l
 
 struct magbelu_answer magbelu_bytes_open(struct magbelu_plant *plant, const uint8_t *file, size_t file_len, uint8_t *error, size_t error_room);
 
+struct magbelu_answer magbelu_bytes_open_stream(struct magbelu_plant *plant, const uint8_t *file, size_t file_len, uint8_t *error, size_t error_room);
+
 struct magbelu_reply magbelu_bytes_free(struct magbelu_plant *plant);
 
 struct magbelu_reply magbelu_bytes_item_size(struct magbelu_plant *plant, const uint8_t *source, size_t source_len);
@@ -161,8 +177,13 @@ struct magbelu_reply magbelu_bytes_step(struct magbelu_plant *plant, const uint8
 
 struct magbelu_reply magbelu_bytes_settle(struct magbelu_plant *plant);
 
+struct magbelu_reply magbelu_bytes_need(struct magbelu_plant *plant, const uint8_t *block, size_t block_len);
+
 struct magbelu_piece magbelu_bytes_read(struct magbelu_plant *plant, const uint8_t *sink, size_t sink_len, uint64_t from, uint64_t max, uint32_t big_endian,
                                         uint8_t *bytes, size_t bytes_room, uint8_t *tags, size_t tags_room);
+
+struct magbelu_piece magbelu_bytes_drain(struct magbelu_plant *plant, const uint8_t *sink, size_t sink_len, uint64_t max, uint32_t big_endian, uint8_t *bytes,
+                                         size_t bytes_room, uint8_t *tags, size_t tags_room);
 
 /*
  * Kernels over slices: each pointer with its number of items, `out` too. They answer 0; or MAGBELU_LENGTHS, where the numbers differ, and then write nothing.
@@ -421,6 +442,83 @@ static inline struct magbelu_piece magbelu_read(struct magbelu_plant *plant, con
     }
     return magbelu_bytes_read(plant, magbelu_read_at(sink), sink_len, from, max, big_endian, magbelu_write_at(bytes, &none), bytes_room,
                               magbelu_write_at(tags, &more), tags_room);
+}
+
+/*
+ * Tells what a block waits for: it may act (MAGBELU_READY) or is done, it waits for items at an input or for room at an output, or it is a source that waits to be
+ * fed or closed.
+ */
+static inline struct magbelu_reply magbelu_need(struct magbelu_plant *plant, const void *block, size_t block_len) {
+    if (plant == NULL || magbelu_is_null(block, block_len)) {
+        return magbelu_null_reply();
+    }
+    return magbelu_bytes_need(plant, magbelu_read_at(block), block_len);
+}
+
+/* (not for callers) */
+static inline struct magbelu_plant *magbelu_streaming(struct magbelu_stream *stream) { return stream != NULL ? &stream->plant : NULL; }
+
+/*
+ * Opens the plant of a graph file so that it streams, as magbelu_open opens one. The calls below are those of a plant, but for magbelu_stream_drain; where they speak
+ * of a tape, it is all that the source was fed.
+ */
+static inline struct magbelu_answer magbelu_stream_open(struct magbelu_stream *stream, const void *file, size_t file_len, char *error, size_t error_room) {
+    uint64_t none = 0;
+    if (stream == NULL || magbelu_is_null(file, file_len) || magbelu_is_null(error, error_room)) {
+        return magbelu_refused_null(error, error_room);
+    }
+    return magbelu_bytes_open_stream(&stream->plant, magbelu_read_at(file), file_len, magbelu_write_at(error, &none), error_room);
+}
+
+static inline struct magbelu_reply magbelu_stream_free(struct magbelu_stream *stream) { return magbelu_free(magbelu_streaming(stream)); }
+
+static inline struct magbelu_reply magbelu_stream_item_size(struct magbelu_stream *stream, const void *source, size_t source_len) {
+    return magbelu_item_size(magbelu_streaming(stream), source, source_len);
+}
+
+static inline struct magbelu_reply magbelu_stream_feed(struct magbelu_stream *stream, const void *source, size_t source_len, uint32_t big_endian,
+                                                       const void *bytes, size_t len, const struct magbelu_tag *tags, size_t tag_count) {
+    return magbelu_feed(magbelu_streaming(stream), source, source_len, big_endian, bytes, len, tags, tag_count);
+}
+
+static inline struct magbelu_reply magbelu_stream_feed_numbers(struct magbelu_stream *stream, const void *source, size_t source_len, const int64_t *numbers,
+                                                               size_t count, const struct magbelu_tag *tags, size_t tag_count) {
+    return magbelu_feed_numbers(magbelu_streaming(stream), source, source_len, numbers, count, tags, tag_count);
+}
+
+static inline struct magbelu_reply magbelu_stream_close(struct magbelu_stream *stream, const void *source, size_t source_len) {
+    return magbelu_close(magbelu_streaming(stream), source, source_len);
+}
+
+static inline struct magbelu_reply magbelu_stream_set(struct magbelu_stream *stream, const void *block, size_t block_len, uint64_t at, int64_t number) {
+    return magbelu_set(magbelu_streaming(stream), block, block_len, at, number);
+}
+
+static inline struct magbelu_reply magbelu_stream_set_taps(struct magbelu_stream *stream, const void *block, size_t block_len, uint64_t at, const int16_t *taps,
+                                                           size_t count) {
+    return magbelu_set_taps(magbelu_streaming(stream), block, block_len, at, taps, count);
+}
+
+static inline struct magbelu_reply magbelu_stream_settle(struct magbelu_stream *stream) { return magbelu_settle(magbelu_streaming(stream)); }
+
+static inline struct magbelu_reply magbelu_stream_need(struct magbelu_stream *stream, const void *block, size_t block_len) {
+    return magbelu_need(magbelu_streaming(stream), block, block_len);
+}
+
+/*
+ * Takes at most `max` items away of those that a sink has taken and that were not drained yet: their bytes are in `bytes` then, and in `tags` a line
+ * `@OFFSET:KEY=VALUE/SOURCE` for each of their tags, whose offset counts from the first item that the sink ever took. Where one of the two does not fit, nothing is
+ * taken away, and the lengths tell how much room is needed.
+ */
+static inline struct magbelu_piece magbelu_stream_drain(struct magbelu_stream *stream, const void *sink, size_t sink_len, uint64_t max, uint32_t big_endian,
+                                                        void *bytes, size_t bytes_room, char *tags, size_t tags_room) {
+    uint64_t none = 0, more = 0;
+    if (stream == NULL || magbelu_is_null(sink, sink_len) || magbelu_is_null(bytes, bytes_room) || magbelu_is_null(tags, tags_room)) {
+        struct magbelu_piece piece = {1, MAGBELU_NULL, 0, 0, 0, 0};
+        return piece;
+    }
+    return magbelu_bytes_drain(&stream->plant, magbelu_read_at(sink), sink_len, max, big_endian, magbelu_write_at(bytes, &none), bytes_room,
+                               magbelu_write_at(tags, &more), tags_room);
 }
 
 #ifdef __cplusplus

@@ -1,5 +1,5 @@
 /*
- * Magbelu from C++17: a graph that frees itself, and exceptions, over the calls of magbelu.h, which says what each of them does. docs/C.md says how to build
+ * Magbelu from C++17: graphs and streams that free themselves, and exceptions, over the calls of magbelu.h, which says what each of them does. docs/C.md says how to build
  * and link. The kernels, and runs between raw items, are those of magbelu.h.
  */
 #ifndef MAGBELU_HPP
@@ -70,7 +70,7 @@ struct tag {
     std::uint32_t source;
 };
 
-/* What a sink holds from some item on, and how many items it holds in all. */
+/* What a sink gives: items, their tags, and how many items it has taken in all. */
 template <class Item>
 struct piece {
     std::vector<Item> items;
@@ -205,38 +205,19 @@ inline std::string script(std::string_view file, std::string_view lines) {
         .text;
 }
 
-/*
- * A graph with its tapes, its buffers and how far it is. It may be moved, and not copied; it stays on the thread that opened it. Items are `std::uint8_t`,
- * `std::int16_t` or `std::int32_t`, as the source or the sink has them: those of another size are a `std::invalid_argument`.
- */
-class graph {
+/* (not for callers) */
+namespace detail {
+
+/* What is held, which frees itself: the calls that a graph and a stream have in common. */
+class held {
 public:
-    /* The graph of a graph file's text, which is called `path` where it is refused. */
-    explicit graph(std::string_view file, std::string_view path = "<graph>") {
-        std::string output, line;
-        const magbelu_answer answer = detail::with_room(
-            [&](std::string &, std::string &room) { return magbelu_open(&plant_, file.data(), file.size(), room.data(), room.size()); }, output, line);
-        if (answer.number != 0) {
-            detail::fail(answer.status, answer.number, detail::text_of(std::move(line), file, path));
-        }
-    }
-
-    graph(graph &&other) noexcept : plant_(std::exchange(other.plant_, magbelu_plant MAGBELU_NO_PLANT)) {}
-
-    graph &operator=(graph &&other) noexcept {
-        std::swap(plant_, other.plant_);
-        return *this;
-    }
-
-    ~graph() { magbelu_free(&plant_); }
-
-    /* Appends items to a source's tape, with tags on them, and gives how many the tape has then. */
+    /* Appends items to a source's tape, with tags on them, and gives how many it was fed then. */
     template <class Item>
     std::uint64_t feed(std::string_view source, const Item *items, std::size_t count, const std::vector<mark> &marks = {}) {
-        static_assert(detail::is_item<Item>, "items are std::uint8_t, std::int16_t or std::int32_t");
-        detail::same_size(item_size(source), sizeof(Item), source);
+        static_assert(is_item<Item>, "items are std::uint8_t, std::int16_t or std::int32_t");
+        same_size(item_size(source), sizeof(Item), source);
         const auto tags = tags_of(marks);
-        return reply(magbelu_feed(&plant_, source.data(), source.size(), 0, items, count * sizeof(Item), tags.data(), tags.size()), source);
+        return reply(magbelu_feed(plant(), source.data(), source.size(), 0, items, count * sizeof(Item), tags.data(), tags.size()), source);
     }
 
     /* The same of a container that has its items one behind the other: a vector, an array. */
@@ -248,33 +229,88 @@ public:
     /* The same of numbers, each of which has to be an item of the source. */
     std::uint64_t feed(std::string_view source, std::initializer_list<std::int64_t> numbers, const std::vector<mark> &marks = {}) {
         const auto tags = tags_of(marks);
-        return reply(magbelu_feed_numbers(&plant_, source.data(), source.size(), numbers.begin(), numbers.size(), tags.data(), tags.size()), source);
+        return reply(magbelu_feed_numbers(plant(), source.data(), source.size(), numbers.begin(), numbers.size(), tags.data(), tags.size()), source);
     }
 
-    /* Closes a source's tape, and gives how many items it has. */
-    std::uint64_t close(std::string_view source) { return reply(magbelu_close(&plant_, source.data(), source.size()), source); }
+    /* Closes a source's tape, and gives how many items it was fed. */
+    std::uint64_t close(std::string_view source) { return reply(magbelu_close(plant(), source.data(), source.size()), source); }
 
     /* Sets a block's number, from this item of its first input on or from the first that it has not taken, and gives that item. */
     std::uint64_t set(std::string_view block, std::int64_t number, std::uint64_t at = MAGBELU_NOW) {
-        return reply(magbelu_set(&plant_, block.data(), block.size(), at, number), block);
+        return reply(magbelu_set(plant(), block.data(), block.size(), at, number), block);
     }
 
     /* The same of a filter's taps. */
     std::uint64_t set(std::string_view block, const std::vector<std::int16_t> &taps, std::uint64_t at = MAGBELU_NOW) {
-        return reply(magbelu_set_taps(&plant_, block.data(), block.size(), at, taps.data(), taps.size()), block);
+        return reply(magbelu_set_taps(plant(), block.data(), block.size(), at, taps.data(), taps.size()), block);
+    }
+
+    /* Runs the graph until it comes to rest, and gives whether all blocks are done, for which all sources have to be closed. */
+    bool settle() { return tested(magbelu_settle(plant()), "").status == 0; }
+
+    /* What a block waits for: MAGBELU_READY, MAGBELU_DONE, MAGBELU_WAITS_ITEMS, MAGBELU_WAITS_ROOM or, of a source that is to be fed, MAGBELU_WAITS_FEED. */
+    std::uint32_t need(std::string_view block) { return tested(magbelu_need(plant(), block.data(), block.size()), block).what; }
+
+    /* How many bytes an item of a source has. */
+    std::size_t item_size(std::string_view source) { return static_cast<std::size_t>(reply(magbelu_item_size(plant(), source.data(), source.size()), source)); }
+
+protected:
+    magbelu_stream stream_ = MAGBELU_NO_STREAM;
+
+    held() = default;
+
+    held(held &&other) noexcept : stream_(std::exchange(other.stream_, magbelu_stream MAGBELU_NO_STREAM)) {}
+
+    held &operator=(held &&other) noexcept {
+        std::swap(stream_, other.stream_);
+        return *this;
+    }
+
+    ~held() { magbelu_free(plant()); }
+
+    magbelu_plant *plant() noexcept { return &stream_.plant; }
+
+    /* Opens a graph file's text, which is called `path` where it is refused. */
+    template <class Open>
+    void open(Open open, std::string_view file, std::string_view path) {
+        std::string output, line;
+        const magbelu_answer answer = with_room([&](std::string &, std::string &room) { return open(room.data(), room.size()); }, output, line);
+        if (answer.number != 0) {
+            fail(answer.status, answer.number, text_of(std::move(line), file, path));
+        }
+    }
+
+    static std::uint64_t reply(const magbelu_reply &got, std::string_view block) { return tested(got, block).value; }
+
+private:
+    /* (a tag has the place of its mark's key) */
+    static std::vector<magbelu_tag> tags_of(const std::vector<mark> &marks) {
+        std::vector<magbelu_tag> tags;
+        for (const mark &it : marks) {
+            tags.push_back({it.offset, it.value, reinterpret_cast<const std::uint8_t *>(it.key.data()), it.key.size()});
+        }
+        return tags;
+    }
+};
+
+} // namespace detail
+
+/*
+ * A graph with its tapes, its buffers and how far it is. It may be moved, and not copied; it stays on the thread that opened it. Items are `std::uint8_t`,
+ * `std::int16_t` or `std::int32_t`, as the source or the sink has them: those of another size are a `std::invalid_argument`.
+ */
+class graph : public detail::held {
+public:
+    /* The graph of a graph file's text, which is called `path` where it is refused. */
+    explicit graph(std::string_view file, std::string_view path = "<graph>") {
+        open([&](char *line, std::size_t room) { return magbelu_open(plant(), file.data(), file.size(), line, room); }, file, path);
     }
 
     /* Does at most `max` firings of a block, and gives how many were done. */
     std::uint64_t step(std::string_view block, std::uint32_t max = UINT32_MAX) {
-        const auto got = detail::tested(magbelu_step(&plant_, block.data(), block.size(), max), block);
+        const auto got = detail::tested(magbelu_step(plant(), block.data(), block.size(), max), block);
         return got.what == MAGBELU_DID ? got.value : 0;
     }
-
-    /* Runs the graph until it comes to rest, and gives whether all blocks are done, for which all sources have to be closed. */
-    bool settle() { return detail::tested(magbelu_settle(&plant_), "").status == 0; }
-
-    /* How many bytes an item of a source has. */
-    std::size_t item_size(std::string_view source) { return static_cast<std::size_t>(reply(magbelu_item_size(&plant_, source.data(), source.size()), source)); }
 
     /* What a sink holds from item `from` on, at most `max` items. */
     template <class Item>
@@ -296,21 +332,46 @@ public:
     }
 
 private:
-    magbelu_plant plant_ = MAGBELU_NO_PLANT;
+    magbelu_piece read_into(std::string_view sink, std::uint64_t from, std::uint64_t max, void *bytes, std::size_t bytes_room, char *tags, std::size_t tags_room) {
+        return detail::tested(magbelu_read(plant(), sink.data(), sink.size(), from, max, 0, bytes, bytes_room, tags, tags_room), sink);
+    }
+};
 
-    static std::uint64_t reply(const magbelu_reply &got, std::string_view block) { return detail::tested(got, block).value; }
-
-    /* (a tag has the place of its mark's key) */
-    static std::vector<magbelu_tag> tags_of(const std::vector<mark> &marks) {
-        std::vector<magbelu_tag> tags;
-        for (const mark &it : marks) {
-            tags.push_back({it.offset, it.value, reinterpret_cast<const std::uint8_t *>(it.key.data()), it.key.size()});
-        }
-        return tags;
+/* A graph that streams: it forgets what its sources have taken and what was drained, and so runs in constant memory for as long as it is fed. Of it the same holds. */
+class stream : public detail::held {
+public:
+    /* The graph of a graph file's text, which is called `path` where it is refused. */
+    explicit stream(std::string_view file, std::string_view path = "<graph>") {
+        open([&](char *line, std::size_t room) { return magbelu_stream_open(&stream_, file.data(), file.size(), line, room); }, file, path);
     }
 
-    magbelu_piece read_into(std::string_view sink, std::uint64_t from, std::uint64_t max, void *bytes, std::size_t bytes_room, char *tags, std::size_t tags_room) {
-        return detail::tested(magbelu_read(&plant_, sink.data(), sink.size(), from, max, 0, bytes, bytes_room, tags, tags_room), sink);
+    /* Takes at most `max` items away of those that a sink has taken and that were not drained yet. Its tags have the numbers of all that the sink ever took. */
+    template <class Item>
+    piece<Item> drain(std::string_view sink, std::uint64_t max = UINT64_MAX) {
+        static_assert(detail::is_item<Item>, "items are std::uint8_t, std::int16_t or std::int32_t");
+        detail::same_size(drain_into(sink, 0, nullptr, 0, nullptr, 0).item_size, sizeof(Item), sink);
+        piece<Item> got{std::vector<Item>(static_cast<std::size_t>(std::min<std::uint64_t>(max, 4096))), {}, 0};
+        std::string lines(1024, '\0');
+        magbelu_piece shown;
+        for (;;) {
+            const std::size_t len = got.items.size() * sizeof(Item);
+            shown = drain_into(sink, max, got.items.data(), len, lines.data(), lines.size());
+            if (shown.bytes_len <= len && shown.tags_len <= lines.size()) {
+                break;
+            }
+            got.items.resize(std::max(got.items.size(), shown.bytes_len / sizeof(Item)));
+            lines.resize(std::max(lines.size(), shown.tags_len));
+        }
+        got.items.resize(shown.bytes_len / sizeof(Item));
+        lines.resize(shown.tags_len);
+        got.tags = detail::tags_of(lines);
+        got.held = shown.held;
+        return got;
+    }
+
+private:
+    magbelu_piece drain_into(std::string_view sink, std::uint64_t max, void *bytes, std::size_t bytes_room, char *tags, std::size_t tags_room) {
+        return detail::tested(magbelu_stream_drain(&stream_, sink.data(), sink.size(), max, 0, bytes, bytes_room, tags, tags_room), sink);
     }
 };
 

@@ -98,10 +98,14 @@ def _with_types(library: ctypes.CDLL) -> ctypes.CDLL:
         "set_taps": plant + pair + u64 + pair,
         "step": plant + pair + [ctypes.c_uint32],
         "settle": plant,
+        "need": plant + pair,
     }.items():
         call = getattr(library, "magbelu_bytes_" + name)
         call.restype, call.argtypes = Reply, types
-    library.magbelu_bytes_open.restype, library.magbelu_bytes_open.argtypes = Answer, plant + 2 * pair
+    for name in ("open", "open_stream"):
+        call = getattr(library, "magbelu_bytes_" + name)
+        call.restype, call.argtypes = Answer, plant + 2 * pair
+    library.magbelu_bytes_drain.restype, library.magbelu_bytes_drain.argtypes = Piece, plant + pair + u64 + [ctypes.c_uint32] + 2 * pair
     library.magbelu_bytes_read.restype, library.magbelu_bytes_read.argtypes = Piece, plant + pair + 2 * u64 + [ctypes.c_uint32] + 2 * pair
     return library
 

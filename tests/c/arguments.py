@@ -62,6 +62,15 @@ class Noting:
         self.note("read", start, most)
         return _library.Piece(0, 0, 0, 2, 0, 0)
 
+    magbelu_bytes_open_stream = magbelu_bytes_open
+
+    def magbelu_bytes_need(self, plant, name, name_len):
+        return self.note("need", ctypes.string_at(name, name_len))
+
+    def magbelu_bytes_drain(self, plant, name, name_len, most, *words):
+        self.note("drain", most)
+        return _library.Piece(0, 0, 0, 2, 0, 0)
+
     def magbelu_bytes_run_items(self, file, file_len, big_endian, inputs, input_count, outputs, output_count, *words):
         fed = ctypes.cast(inputs, ctypes.POINTER(_library.Input))[:input_count]
         asked = ctypes.cast(outputs, ctypes.POINTER(_library.Output))[:output_count]
@@ -76,6 +85,7 @@ class Noting:
 library = Noting()
 _library._loaded = library
 graph = magbelu.Graph("")
+stream = magbelu.Stream("")
 high, low = 2**63 - 1, -(2**63)
 
 
@@ -160,10 +170,12 @@ def counts_are_whole():
     makes(lambda: graph.read("o", Number(1), Number(2)), "read", 1, 2)
     makes(lambda: graph.read("o", 2**64, 2**64), "read", 2**64 - 1, 2**64 - 1)
     makes(lambda: graph.read("o"), "read", 0, 2**64 - 1)
-    for call in [lambda: graph.step("s", -1), lambda: graph.read("o", -1), lambda: graph.read("o", 0, -1), lambda: magbelu.run_items("", [], [], room=-1)]:
+    makes(lambda: stream.drain("o", Number(2)), "drain", 2)
+    makes(lambda: stream.drain("o"), "drain", 2**64 - 1)
+    for call in [lambda: graph.step("s", -1), lambda: graph.read("o", -1), lambda: graph.read("o", 0, -1), lambda: stream.drain("o", -1), lambda: magbelu.run_items("", [], [], room=-1)]:
         raises(ValueError, call)
     for count in [1.0, "1", True]:
-        for call in [lambda: graph.step("s", count), lambda: graph.read("o", count), lambda: graph.read("o", 0, count), lambda: magbelu.run_items("", [], [], room=count)]:
+        for call in [lambda: graph.step("s", count), lambda: graph.read("o", count), lambda: graph.read("o", 0, count), lambda: stream.drain("o", count), lambda: magbelu.run_items("", [], [], room=count)]:
             raises(TypeError, call)
     raises(TypeError, lambda: graph.step("s", None))
     raises(TypeError, lambda: graph.read("o", None))
@@ -172,10 +184,11 @@ def counts_are_whole():
 def names_are_text():
     makes(lambda: graph.close(b"src"), "close", b"src")
     makes(lambda: graph.close("a\0\u00e4"), "close", b"a\0\xc3\xa4")
+    makes(lambda: stream.need(b"src"), "need", b"src")
     for name in [5, None, 1.0, ["src"], memoryview(b"src")]:
-        for call in [lambda: graph.close(name), lambda: graph.feed(name, []), lambda: graph.set(name, 1), lambda: graph.step(name), lambda: graph.read(name)]:
+        for call in [lambda: graph.close(name), lambda: graph.feed(name, []), lambda: graph.set(name, 1), lambda: graph.step(name), lambda: graph.read(name), lambda: stream.drain(name), lambda: stream.need(name)]:
             raises(TypeError, call)
-        for call in [lambda: magbelu.Graph(name), lambda: magbelu.check(name), lambda: magbelu.run(name), lambda: magbelu.script("", name)]:
+        for call in [lambda: magbelu.Graph(name), lambda: magbelu.Stream(name), lambda: magbelu.check(name), lambda: magbelu.run(name), lambda: magbelu.script("", name)]:
             raises(TypeError, call)
         raises(TypeError, lambda: magbelu.run_items("", [(name, b"")], []))
     # (what is no text in UTF-8 cannot be a name)

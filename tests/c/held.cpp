@@ -18,12 +18,14 @@ static void must(bool holds, const std::string &saying) {
 }
 
 /* A source, a block that adds ten, and a sink. */
-static magbelu::graph chain(const std::string &type) {
+static std::string chain_file(const std::string &type) {
     const std::string own = "type = \"" + type + "\"";
-    return magbelu::graph("block = [{ name = \"src\", kind = \"vector_source\", " + own + " }, { name = \"add\", kind = \"add_const\", " + own +
-                          ", value = 10 },\n    { name = \"out\", kind = \"vector_sink\", " + own +
-                          " }]\nconnect = [{ from = \"src\", to = \"add\" }, { from = \"add\", to = \"out\" }]\n");
+    return "block = [{ name = \"src\", kind = \"vector_source\", " + own + " }, { name = \"add\", kind = \"add_const\", " + own +
+           ", value = 10 },\n    { name = \"out\", kind = \"vector_sink\", " + own +
+           " }]\nconnect = [{ from = \"src\", to = \"add\" }, { from = \"add\", to = \"out\" }]\n";
 }
+
+static magbelu::graph chain(const std::string &type) { return magbelu::graph(chain_file(type)); }
 
 template <class Item>
 static numbers items_of(magbelu::graph &graph, std::uint64_t from = 0, std::uint64_t max = UINT64_MAX) {
@@ -129,7 +131,35 @@ static void graphs_are_moved_and_freed() {
     must(second.item_size("src") == 2, "a graph that another was moved to");
 }
 
+static void streams_go_on() {
+    magbelu::stream stream(chain_file("short"));
+    must(stream.need("src") == MAGBELU_WAITS_FEED && stream.need("out") == MAGBELU_WAITS_ITEMS, "what blocks wait for");
+    for (std::int16_t at = 0; at < 300; at++) {
+        const std::vector<std::int16_t> items(1000, at);
+        must(stream.feed("src", items, {{at * 1000u, "k", at}}) == (at + 1) * 1000u, "how many items were fed");
+        must(stream.need("src") == MAGBELU_READY && !stream.settle(), "an open source is done");
+        const auto some = stream.drain<std::int16_t>("out", 1);
+        must(some.items == std::vector<std::int16_t>{static_cast<std::int16_t>(at + 10)} && some.held == (at + 1) * 1000u, "the first item of a piece");
+        must(some.tags.size() == 1 && some.tags[0].offset == at * 1000u && some.tags[0].value == at, "the tag of a piece");
+        must(stream.drain<std::int16_t>("out").items.size() == 999 && stream.drain<std::int16_t>("out").items.empty(), "the others");
+    }
+    // More items and tags than a first room takes.
+    stream.feed("src", std::vector<std::int16_t>(100000, 1), std::vector<magbelu::mark>(1000, {300000, "k", 1}));
+    stream.close("src");
+    must(stream.settle() && stream.need("src") == MAGBELU_DONE, "a closed source is not done");
+    const auto rest = stream.drain<std::int16_t>("out");
+    must(rest.items == std::vector<std::int16_t>(100000, 11) && rest.tags.size() == 1000, "a large piece");
+    refuses(22, "22 NotSink add", [&] { stream.drain<std::int16_t>("add"); });
+    refuses(23, "23 Closed src", [&] { stream.feed("src", {1}); });
+    throws<std::invalid_argument>([&] { stream.drain<std::uint8_t>("out"); });
+    auto other = std::move(stream);
+    must(other.drain<std::int16_t>("out").items.empty(), "a stream that was moved");
+    refuses(55, "55 NotOpen out", [&] { stream.drain<std::int16_t>("out"); });
+    refuses(42, "42 MissingKey block 0 name\n --> <graph>:1:1\n  |\n1 | [[block]]\n  | ^ a block needs the key `name`: a text", [] { magbelu::stream("[[block]]"); });
+}
+
 int main() {
+    streams_go_on();
     items_come_out();
     settings_and_tags_come_out();
     wrong_calls_are_refused();

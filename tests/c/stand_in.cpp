@@ -27,6 +27,7 @@ struct plant {
     std::map<std::uint64_t, std::int64_t> added{{0, 10}};
     std::map<std::string, std::uint64_t> fired;
     bool is_closed = false;
+    std::uint64_t drained = 0;
 };
 
 const std::string names[] = {"src", "add", "out"};
@@ -94,6 +95,20 @@ magbelu_reply feed(plant &own, const std::vector<std::int64_t> &items, const mag
     own.tape.insert(own.tape.end(), items.begin(), items.end());
     own.marks.insert(own.marks.end(), marks.begin(), marks.end());
     return {0, 0, 0, own.tape.size()};
+}
+
+/* Writes at most so many of the items that the sink took from one on, and their tags. */
+magbelu_piece show(plant &own, std::uint64_t from, std::uint64_t max, std::uint8_t *bytes, std::size_t bytes_room, std::uint8_t *tags, std::size_t tags_room) {
+    const std::uint64_t end = from + std::min<std::uint64_t>(max, own.sink.size() - from);
+    std::string items, lines;
+    for (std::uint64_t at = from; at < end; at++) {
+        items.append(reinterpret_cast<const char *>(&own.sink[at]), own.size);
+    }
+    std::stable_sort(own.marks.begin(), own.marks.end(), [](const mark &a, const mark &b) { return a.offset < b.offset; });
+    for (const mark &it : own.marks) {
+        lines += it.offset >= from && it.offset < end ? it.text : "";
+    }
+    return {0, 0, own.sink.size(), own.size, put(items, bytes, bytes_room), put(lines, tags, tags_room)};
 }
 
 } // namespace
@@ -189,23 +204,41 @@ magbelu_reply magbelu_bytes_settle(magbelu_plant *held) {
     return {own.is_closed ? 0u : 3u, 0, 0, 0};
 }
 
+magbelu_answer magbelu_bytes_open_stream(magbelu_plant *held, const std::uint8_t *file, std::size_t file_len, std::uint8_t *error, std::size_t error_room) {
+    return magbelu_bytes_open(held, file, file_len, error, error_room);
+}
+
+magbelu_reply magbelu_bytes_need(magbelu_plant *held, const std::uint8_t *name, std::size_t len) {
+    const std::uint32_t number = wrong(held, text_of(name, len), "src", 0);
+    if (number != 0 || text_of(name, len) != "src") {
+        return number != 0 ? refuse(number) : magbelu_reply{0, 0, MAGBELU_WAITS_ITEMS, 0};
+    }
+    const plant &own = in(held);
+    const std::uint32_t what = own.sink.size() < own.tape.size() ? MAGBELU_READY : own.is_closed ? MAGBELU_DONE : MAGBELU_WAITS_FEED;
+    return {0, 0, what, 0};
+}
+
 magbelu_piece magbelu_bytes_read(magbelu_plant *held, const std::uint8_t *name, std::size_t len, std::uint64_t from, std::uint64_t max, std::uint32_t,
                                  std::uint8_t *bytes, std::size_t bytes_room, std::uint8_t *tags, std::size_t tags_room) {
     const std::uint32_t number = wrong(held, text_of(name, len), "out", 22);
     if (number != 0 || from > in(held).sink.size()) {
         return {1, number != 0 ? number : 31, 0, 0, 0, 0};
     }
+    return show(in(held), from, max, bytes, bytes_room, tags, tags_room);
+}
+
+magbelu_piece magbelu_bytes_drain(magbelu_plant *held, const std::uint8_t *name, std::size_t len, std::uint64_t max, std::uint32_t, std::uint8_t *bytes,
+                                  std::size_t bytes_room, std::uint8_t *tags, std::size_t tags_room) {
+    const std::uint32_t number = wrong(held, text_of(name, len), "out", 22);
+    if (number != 0) {
+        return {1, number, 0, 0, 0, 0};
+    }
     plant &own = in(held);
-    const std::uint64_t end = from + std::min<std::uint64_t>(max, own.sink.size() - from);
-    std::string items, lines;
-    for (std::uint64_t at = from; at < end; at++) {
-        items.append(reinterpret_cast<const char *>(&own.sink[at]), own.size);
+    const magbelu_piece shown = show(own, own.drained, max, bytes, bytes_room, tags, tags_room);
+    if (shown.bytes_len <= bytes_room && shown.tags_len <= tags_room) {
+        own.drained += shown.bytes_len / own.size;
     }
-    std::stable_sort(own.marks.begin(), own.marks.end(), [](const mark &a, const mark &b) { return a.offset < b.offset; });
-    for (const mark &it : own.marks) {
-        lines += it.offset >= from && it.offset < end ? it.text : "";
-    }
-    return {0, 0, own.sink.size(), own.size, put(items, bytes, bytes_room), put(lines, tags, tags_room)};
+    return shown;
 }
 
 } // extern "C"

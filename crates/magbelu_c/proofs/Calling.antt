@@ -1,17 +1,13 @@
--- Calls of a plant on the block of a name, and that no claim is in flight after them.
-use Rattle.std.proofs.Common.{◌≡◌, ℕ, zero, suc, ℤ, ◌<◌, List, length, Bool, true, false, not, refl, ap, sym, ◌∙◌, subst, Some, None, Ok, Err, nat_lt, ltb-true, eqb-true, arith}
-use Rattle.std.specs.Prelude.{Option, Result, ◌&&◌, ◌==◌, position, bytes_eq, if◌then◌else◌}
+-- Calls of a plant on the block of a name.
+use Rattle.std.proofs.Common.{◌≡◌, ℕ, zero, suc, ℤ, ◌<◌, List, length, Bool, true, false, not, refl, ap, sym, ◌∙◌, subst, Some, None, Ok, Err, nat_lt, eqb-true, arith}
+use Rattle.std.specs.Prelude.{Option, Result, ◌==◌, position, bytes_eq, if◌then◌else◌}
 use Rattle.std.specs.Option.{option_map}
 use Rattle.stream_model.specs.declared.vocabulary.ItemType.{ItemType}
 use Rattle.stream_model.specs.Network.{Network, State, role_at, is_source}
 use Rattle.stream_model.specs.Settings.{Value}
 use Rattle.stream_model.specs.Tags.{Mark}
 use Rattle.stream_model.specs.Machine as machine
-use Rattle.stream_model.specs.Machine.{Capacities, Reply, Refused, claim_of, commit_claimed, feed_of, is_idle, set_of, step_of}
-use Rattle.stream_laws.specs.CanRun.{CanRun}
-use Rattle.machine_laws.specs.Sound.{Sound}
-use Rattle.machine_laws.proofs.Choices.{if_both}
-use Rattle.machine_laws.proofs.Rounds.{idle_steps_stay}
+use Rattle.stream_model.specs.Machine.{Capacities, Reply, Refused, feed_of, set_of, step_of}
 use Rattle.flowgraph.specs.declared.parts.BlockId.{BlockId}
 use Rattle.flowgraph.specs.Flowgraph.{net_of}
 use Rattle.kinds.specs.declared.kind.Kind.{Kind}
@@ -20,12 +16,11 @@ use Rattle.plant.specs.declared.fault.PlantFault.{PlantFault}
 use Rattle.plant.specs.declared.fault.PlantFault.TheVariants as fault
 use Rattle.plant.specs.Answers.{Answered, AnsweredAlways, refusal_of, source_type_of}
 use Rattle.plant.specs.Fault.{number_of}
-use Rattle.plant.specs.Feeding.{are_items, feed_numbers, given_type}
+use Rattle.plant.specs.Feeding.{given_type}
 use Rattle.plant.specs.Plant.{PlantState}
 use Rattle.raw_items.specs.declared.byte_order.ByteOrder.{ByteOrder}
 use Rattle.raw_items.specs.Layout.{cut_of}
 use Rattle.raw_items.specs.Values.{items_of}
-use Rattle.plant.proofs.Idles.{feed-progress}
 use Rattle.magbelu_c.specs.declared.reply.Reply as c
 use Rattle.magbelu_c.specs.Replies.{Calls, Told, cut_item, fed_as, fed_bytes, found, named, refused, stepped, told_maybe}
 
@@ -55,11 +50,6 @@ always now p p' None h = absurd (let no : None ≡ Some now.0 = h.0 in cc)
 always now p p' (Some reply) h = (let is : Some reply ≡ Some now.0 = h.0 in cc, h.1)
 
 -- ---- feeding
-pub numbers-progress : (net : Network) (st : State) (b : ℕ) (xs : List ℤ) (ms : List Mark) → (feed_numbers net st b xs ms).1.progress ≡ st.progress
-numbers-progress net st b xs ms =
-    if_both (nat_lt b (length net.nodes) && (is_source (role_at net b) && not (are_items (given_type net b) xs))) _ _ (λ (r : Reply × State). r.1.progress ≡ st.progress) (λ _. refl)
-    (λ _. feed-progress net st b (given_type net b) xs ms)
-
 -- what is refused of a block that is no source
 pub source_refusal : (net : Network) (b : ℕ) (e : PlantFault) → source_type_of net b ≡ Err e → refusal_of e ≡ Some (Refused (number_of e))
 source_refusal net b e is = by_tests (nat_lt b (length net.nodes)) (is_source (role_at net b)) is
@@ -110,14 +100,6 @@ module _ (p : PlantState Kind) (b : ℕ) (order : ByteOrder) (bytes : List ℕ) 
 
 -- ---- steps
 module _ (net : Network) (caps : Capacities) (st : State) (b max : ℕ) where
-  pub step_stays : CanRun net → Sound net caps st → 0 < max → is_idle st ≡ true → is_idle (step_of net caps st b max).1 ≡ true
-  step_stays can sound some idle = by_test (nat_lt b (length net.nodes)) refl
-    where
-      by_test : (x : Bool) → nat_lt b (length net.nodes) ≡ x → is_idle (step_of net caps st b max).1 ≡ true
-      by_test true e = (idle_steps_stay net caps st can sound idle b max (ltb-true b (length net.nodes) e) some).0
-      by_test false e =
-          subst (λ (x : Bool). is_idle (commit_claimed net (if x then claim_of net caps st b max else (Refused machine.no_such_block, st))).1 ≡ true) (sym e) idle
-
   pub stepped_none : max ≡ 0 → stepped caps max net st b ≡ (machine.Did 0, st)
   stepped_none e = subst (λ (n : ℕ). stepped caps n net st b ≡ (machine.Did 0, st)) (sym e) refl
 
@@ -131,10 +113,6 @@ module _ (net : Network) (caps : Capacities) (st : State) (b max : ℕ) where
 pub positive : (n : ℕ) → (n ≡ 0 → ⊥) → 0 < n
 positive zero some = absurd (some refl)
 positive (suc n) some = omega arith
-
-pub stepped_idle : (now : Reply × State) (p p' : PlantState Kind) (reply : Option Reply) → Answered now p p' reply → is_idle now.1 ≡ true → is_idle p.state ≡ true → is_idle p'.state ≡ true
-stepped_idle now p p' None h stays idle = subst (λ (q : PlantState Kind). is_idle q.state ≡ true) (sym h.1) idle
-stepped_idle now p p' (Some reply) h stays idle = subst (λ (q : PlantState Kind). is_idle q.state ≡ true) (sym h.1) stays
 
 pub answered_so : (now now' : Reply × State) (p p' : PlantState Kind) (reply : Option Reply) → now' ≡ now → Answered now p p' reply → Answered now' p p' reply
 answered_so now now' p p' reply e h = subst (λ (x : Reply × State). Answered x p p' reply) (sym e) h

@@ -4,4 +4,5 @@ mod HandleRows
 mod HandleValues
 mod LooseValues
 pub mod Showing
+pub mod Variants
 mod Texts

@@ -7,7 +7,7 @@ use mir.Syntax.{Ty}
 use Rattle.std.specs.declared.alloc.Global.{Global}
 use Rattle.std.specs.contracts.impls.GlobalAllocator.TheImpl.{ghosts}
 use Rattle.std_alloc.specs.Box.Ownership.{box_owns}
-use Rattle.magbelu_c.specs.contracts.idle.Idle.{the_row}
+use Rattle.magbelu_c.specs.contracts.any_plant.AnyPlant.{the_row}
 
 abbrev pub Kept : Type 0
 Kept = the_row.Denot

@@ -1,9 +1,13 @@
 pub mod Answers
+pub mod AnyPlants
 pub mod Between
+pub mod Draining
 pub mod Explaining
 pub mod Handles
 pub mod Held
 pub mod Kernels
 pub mod Pieces
 pub mod Replies
+pub mod Settling
 pub mod Tagging
+pub mod Waiting

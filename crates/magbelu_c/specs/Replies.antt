@@ -1,5 +1,5 @@
 -- What calls of a held plant answer.
-use Rattle.std.specs.Prelude.{◌≡◌, ℕ, ◌==◌, List, length, nat_lt, Bool, true, false, position, bytes_eq, Option, Some, None, Result, Ok, Err, ◌⊎◌, if◌then◌else◌}
+use Rattle.std.specs.Prelude.{◌≡◌, ℕ, ◌==◌, List, length, nat_lt, Bool, true, false, position, bytes_eq, Option, Some, None, Result, Ok, Err, if◌then◌else◌}
 use Rattle.stream_model.specs.declared.vocabulary.ItemType.{ItemType}
 use Rattle.stream_model.specs.Network.{Network, State}
 use Rattle.stream_model.specs.Tags.{Mark}
@@ -11,19 +11,21 @@ use Rattle.kinds.specs.Kind.{meaning_of}
 use Rattle.plant.specs.Answers.{Answered, source_type_of}
 use Rattle.plant.specs.Fault.{number_of}
 use Rattle.plant.specs.Plant.{PlantState}
-use Rattle.plant.specs.Settling.{StepsLead, HasSettled, HoldsSettled}
 use Rattle.plant.specs.declared.fault.PlantFault.{PlantFault}
-use Rattle.plant.specs.declared.answers.Settled.{Settled}
-use Rattle.plant.specs.declared.answers.Settled.TheVariants as rest
 use Rattle.raw_items.specs.declared.byte_order.ByteOrder.{ByteOrder}
 use Rattle.raw_items.specs.Layout.{cut_of, size_of}
 use Rattle.raw_items.specs.Values.{items_of}
-use Rattle.flow.specs.Session.{in_state, turn}
+use Rattle.magbelu_c.specs.declared.any_plant.AnyPlant.{AnyPlant}
 use Rattle.magbelu_c.specs.declared.reply.Reply.{Reply}
+use Rattle.magbelu_c.specs.AnyPlants.{plant_of, with_plant}
 
 -- a call was done, or refused by a number
 abbrev pub done : ℕ → ℕ → Reply
 done what value = record { status = 0; number = 0; what = what; value = value }
+
+-- the plant came to rest before all blocks were done
+abbrev pub at_rest : Reply
+at_rest = record { status = 3; number = 0; what = 0; value = 0 }
 
 abbrev pub refused : ℕ → ℕ → Reply
 refused number value = record { status = 1; number = number; what = 0; value = value }
@@ -109,25 +111,12 @@ sized net (Some b) = sized_as (source_type_of net b)
 abbrev pub stepped : List (List ℕ) → ℕ → Network → State → ℕ → machine.Reply × State
 stepped caps max net st b = if max == 0 then (machine.Did 0, st) else machine.step_of net caps st b max
 
--- all blocks are done, or some is not and none can act
-abbrev pub settled_reply : Settled → Reply
-settled_reply rest.Done = done 0 0
-settled_reply rest.Quiet = record { status = 3; number = 0; what = 0; value = 0 }
-
--- the plant settled so, and that is answered
-pub record Rests (p : PlantState Kind) (r : Reply) : Type 0 where
-  pub how : Settled
-  pub settled : HasSettled (net_of meaning_of p.graph) p.capacities p.state how
-  pub whole : HoldsSettled (net_of meaning_of p.graph) p.state how
-  pub told : r ≡ settled_reply how
-
--- steps of blocks led on, and no block can act any more; or memory ran out, and the plant is where they led
-pub record Settles (old new : PlantState Kind) (r : Reply) : Type 0 where
-  pub same : new ≡ in_state old new.state
-  pub steps : StepsLead (net_of meaning_of old.graph) old.capacities turn old.state new.state
-  pub rests : Rests new r ⊎ (r ≡ no_memory)
+-- the same of a plant that is held, of which as much is kept in memory as before
+pub record CallsOn (may_want : Bool) (now : machine.Reply × State) (old new : AnyPlant) (r : Reply) : Type 0 where
+  pub keeps : new ≡ with_plant old (plant_of new)
+  pub calls : Calls may_want now (plant_of old) (plant_of new) r
 
 -- a call of the plant that is held, or none is
-pub data OnHeld (old new : Option (PlantState Kind)) (Does : PlantState Kind → PlantState Kind → Reply → Type 0) (r : Reply) : Type 0 where
-  Held : (p p' : PlantState Kind) → old ≡ Some p → new ≡ Some p' → Does p p' r → OnHeld old new Does r
+pub data OnHeld (old new : Option AnyPlant) (Does : AnyPlant → AnyPlant → Reply → Type 0) (r : Reply) : Type 0 where
+  Held : (p p' : AnyPlant) → old ≡ Some p → new ≡ Some p' → Does p p' r → OnHeld old new Does r
   NotHeld : old ≡ None → new ≡ None → r ≡ not_open → OnHeld old new Does r

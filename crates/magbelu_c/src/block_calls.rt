@@ -2,7 +2,7 @@
 
 ghost use Rattle.std.specs.Prelude.{◌≡◌, length, map, nat_lt, not, position, bytes_eq, is_some, IfOk, IfSome, true, false};
 ghost use Rattle.std.specs.Option.{option_map};
-ghost use Rattle.stream_model.specs.Machine.{close_of, is_idle, set_of};
+ghost use Rattle.stream_model.specs.Machine.{close_of, set_of};
 ghost use Rattle.stream_model.specs.Settings.{Number, Taps as Weights};
 ghost use Rattle.flowgraph.specs.Flowgraph.{net_of};
 ghost use Rattle.kinds.specs.Kind.{meaning_of};
@@ -12,11 +12,14 @@ ghost use Rattle.raw_items.specs.Layout.{cut_of};
 ghost use Rattle.raw_items.specs.Values.{items_of};
 ghost use Rattle.stores.specs.Marks.{mark_of};
 ghost use Rattle.settings.specs.Values.{value_of};
+ghost use Rattle.magbelu_c.specs.AnyPlants.{plant_of, with_plant};
 ghost use Rattle.magbelu_c.specs.Pieces.{IsRead};
 ghost use Rattle.magbelu_c.specs.Replies.{Calls, fed_bytes, is_fed, named, sized, stepped, wants};
+ghost use Rattle.magbelu_c.specs.Waiting.{needed};
 
-use crate::reply::{Reply, done, no_memory, of_step, refusal, refused};
-use flowgraph::BlockId;
+use crate::any_plant::AnyPlant;
+use crate::reply::{Reply, done, no_memory, of_need, of_step, refusal, refused};
+use flowgraph::{BlockId, Valid};
 use items::{ItemType, Items, Mark};
 use kinds::Kind;
 use plant::{Piece, Plant, PlantFault};
@@ -27,24 +30,31 @@ use std::alloc::{AllocError, Global};
 // The number of the refusal of bytes that end within an item.
 const CUT_ITEM: u32 = 53;
 
-// The block of a name.
-fn block_named(plant: &Plant<Kind>, name: &[u8]) -> Option<BlockId>
-    ensures { option_map (λ block. block.0) result ≡ position (bytes_eq name.now) plant.now.graph.names }
+/// The block of a name.
+pub(crate) fn block_in(graph: &Valid<Kind>, name: &[u8]) -> Option<BlockId>
+    ensures { option_map (λ block. block.0) result ≡ position (bytes_eq name.now) graph.now.names }
 {
-    plant.graph().find(name)
+    graph.find(name)
+}
+
+fn block_named(plant: &AnyPlant, name: &[u8]) -> Option<BlockId>
+    ensures { option_map (λ block. block.0) result ≡ position (bytes_eq name.now) (plant_of plant.now).graph.names }
+{
+    block_in(plant.graph(), name)
 }
 
 /// Feeds a source the items that bytes are, with marks on them.
+#[tactic(auto, using(crate::proofs::Variants::same_plant))]
 pub(crate) fn feed(
     alloc: Global,
-    plant: &mut Plant<Kind>,
+    plant: &mut AnyPlant,
     source: &[u8],
     order: ByteOrder,
     bytes: &[u8],
     marks: &[Mark],
 ) -> Reply
-    ensures calls { Calls (wants plant.old source.now is_fed) (named plant.old source.now (fed_bytes order bytes.now (map mark_of marks.now))) plant.old plant.new result }
-    ensures idle { is_idle plant.old.state ≡ true → is_idle plant.new.state ≡ true }
+    ensures calls { Calls (wants (plant_of plant.old) source.now is_fed) (named (plant_of plant.old) source.now (fed_bytes order bytes.now (map mark_of marks.now))) (plant_of plant.old) (plant_of plant.new) result }
+    ensures keeps { plant.new ≡ with_plant plant.old (plant_of plant.new) }
 {
     let Some(source) = block_named(plant, source) else {
         return refusal(PlantFault::NoSuchBlock);
@@ -60,22 +70,23 @@ pub(crate) fn feed(
     let Some(items) = found else {
         return refused(CUT_ITEM, 0);
     };
-    match plant.feed_from(source, &items, marks) {
+    match plant.feed(source, &items, marks) {
         Ok(fed) => done(0, fed.0),
         Err(fault) => refusal(fault),
     }
 }
 
 /// Feeds numbers to a source, with marks on them.
+#[tactic(auto, using(crate::proofs::Variants::same_plant))]
 pub(crate) fn feed_numbers(
     alloc: Global,
-    plant: &mut Plant<Kind>,
+    plant: &mut AnyPlant,
     source: &[u8],
     numbers: &[i64],
     marks: &[Mark],
 ) -> Reply
-    ensures calls { Calls false (named plant.old source.now (λ net st b. feed_numbers net st b numbers.now (map mark_of marks.now))) plant.old plant.new result }
-    ensures idle { is_idle plant.old.state ≡ true → is_idle plant.new.state ≡ true }
+    ensures calls { Calls false (named (plant_of plant.old) source.now (λ net st b. feed_numbers net st b numbers.now (map mark_of marks.now))) (plant_of plant.old) (plant_of plant.new) result }
+    ensures keeps { plant.new ≡ with_plant plant.old (plant_of plant.new) }
 {
     let Some(source) = block_named(plant, source) else {
         return refusal(PlantFault::NoSuchBlock);
@@ -87,9 +98,10 @@ pub(crate) fn feed_numbers(
 }
 
 /// Closes a source's tape.
-pub(crate) fn close(plant: &mut Plant<Kind>, source: &[u8]) -> Reply
-    ensures calls { Calls false (named plant.old source.now close_of) plant.old plant.new result }
-    ensures idle { is_idle plant.old.state ≡ true → is_idle plant.new.state ≡ true }
+#[tactic(auto, using(crate::proofs::Variants::same_plant))]
+pub(crate) fn close(plant: &mut AnyPlant, source: &[u8]) -> Reply
+    ensures calls { Calls false (named (plant_of plant.old) source.now close_of) (plant_of plant.old) (plant_of plant.new) result }
+    ensures keeps { plant.new ≡ with_plant plant.old (plant_of plant.new) }
 {
     let Some(source) = block_named(plant, source) else {
         return refusal(PlantFault::NoSuchBlock);
@@ -101,14 +113,10 @@ pub(crate) fn close(plant: &mut Plant<Kind>, source: &[u8]) -> Reply
 }
 
 /// Sets a block's number, from an item on, or from the first that is still open.
-pub(crate) fn set_number(
-    plant: &mut Plant<Kind>,
-    block: &[u8],
-    at: Option<u64>,
-    number: i64,
-) -> Reply
-    ensures calls { Calls false (named plant.old block.now (λ net st b. set_of net st b at (Number number))) plant.old plant.new result }
-    ensures idle { is_idle plant.old.state ≡ true → is_idle plant.new.state ≡ true }
+#[tactic(auto, using(crate::proofs::Variants::same_plant))]
+pub(crate) fn set_number(plant: &mut AnyPlant, block: &[u8], at: Option<u64>, number: i64) -> Reply
+    ensures calls { Calls false (named (plant_of plant.old) block.now (λ net st b. set_of net st b at (Number number))) (plant_of plant.old) (plant_of plant.new) result }
+    ensures keeps { plant.new ≡ with_plant plant.old (plant_of plant.new) }
 {
     let Some(block) = block_named(plant, block) else {
         return refusal(PlantFault::NoSuchBlock);
@@ -120,16 +128,17 @@ pub(crate) fn set_number(
 }
 
 /// Sets a block's taps.
+#[tactic(auto, using(crate::proofs::Variants::same_plant))]
 pub(crate) fn set_taps(
     alloc: Global,
-    plant: &mut Plant<Kind>,
+    plant: &mut AnyPlant,
     block: &[u8],
     at: Option<u64>,
     taps: &[i16],
 ) -> Reply
-    ensures calls { Calls (wants plant.old block.now (λ net b. true))
-        (named plant.old block.now (λ net st b. set_of net st b at (Weights taps.now))) plant.old plant.new result }
-    ensures idle { is_idle plant.old.state ≡ true → is_idle plant.new.state ≡ true }
+    ensures calls { Calls (wants (plant_of plant.old) block.now (λ net b. true))
+        (named (plant_of plant.old) block.now (λ net st b. set_of net st b at (Weights taps.now))) (plant_of plant.old) (plant_of plant.new) result }
+    ensures keeps { plant.new ≡ with_plant plant.old (plant_of plant.new) }
 {
     let Some(block) = block_named(plant, block) else {
         return refusal(PlantFault::NoSuchBlock);
@@ -156,9 +165,10 @@ fn taps_value(alloc: Global, taps: &[i16]) -> Result<Value, AllocError>
 }
 
 /// Does at most so many firings of a block.
-pub(crate) fn step(alloc: Global, plant: &mut Plant<Kind>, block: &[u8], max: u32) -> Reply
-    ensures calls { Calls false (named plant.old block.now (stepped plant.old.capacities max)) plant.old plant.new result }
-    ensures idle { is_idle plant.old.state ≡ true → is_idle plant.new.state ≡ true }
+#[tactic(auto, using(crate::proofs::Variants::same_plant))]
+pub(crate) fn step(alloc: Global, plant: &mut AnyPlant, block: &[u8], max: u32) -> Reply
+    ensures calls { Calls false (named (plant_of plant.old) block.now (stepped (plant_of plant.old).capacities max)) (plant_of plant.old) (plant_of plant.new) result }
+    ensures keeps { plant.new ≡ with_plant plant.old (plant_of plant.new) }
 {
     let Some(block) = block_named(plant, block) else {
         return refusal(PlantFault::NoSuchBlock);
@@ -166,7 +176,6 @@ pub(crate) fn step(alloc: Global, plant: &mut Plant<Kind>, block: &[u8], max: u3
     if max == 0 {
         return done(0, 0);
     }
-    plant.recall();
     match plant.step(alloc, block, max) {
         Ok(step) => of_step(step),
         Err(fault) => refusal(fault),
@@ -174,14 +183,27 @@ pub(crate) fn step(alloc: Global, plant: &mut Plant<Kind>, block: &[u8], max: u3
 }
 
 /// How many bytes an item of a source has.
-pub(crate) fn size_of(plant: &Plant<Kind>, source: &[u8]) -> Reply
-    ensures { result ≡ sized (net_of meaning_of plant.now.graph) (position (bytes_eq source.now) plant.now.graph.names) }
+pub(crate) fn size_of(plant: &AnyPlant, source: &[u8]) -> Reply
+    ensures { result ≡ sized (net_of meaning_of (plant_of plant.now).graph) (position (bytes_eq source.now) (plant_of plant.now).graph.names) }
 {
     let Some(source) = block_named(plant, source) else {
         return refusal(PlantFault::NoSuchBlock);
     };
     match plant.source_type(source) {
         Ok(item_type) => done(0, item_size(item_type) as u64),
+        Err(fault) => refusal(fault),
+    }
+}
+
+/// What a block waits for.
+pub(crate) fn need(plant: &AnyPlant, block: &[u8]) -> Reply
+    ensures { result ≡ needed (plant_of plant.now) (position (bytes_eq block.now) (plant_of plant.now).graph.names) }
+{
+    let Some(block) = block_named(plant, block) else {
+        return refusal(PlantFault::NoSuchBlock);
+    };
+    match plant.need(block) {
+        Ok(need) => of_need(need),
         Err(fault) => refusal(fault),
     }
 }
@@ -196,7 +218,7 @@ pub(crate) fn read(
 ) -> Result<Piece, PlantFault>
     ensures { IsRead plant.now sink.now from max result }
 {
-    let Some(sink) = block_named(plant, sink) else {
+    let Some(sink) = block_in(plant.graph(), sink) else {
         return Err(PlantFault::NoSuchBlock);
     };
     match plant.read(alloc, sink, from, max) {

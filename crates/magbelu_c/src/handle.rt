@@ -5,7 +5,7 @@ ghost use Rattle.std.specs.Option.{option_map};
 ghost use Rattle.std.specs.Coded.{coded_option};
 ghost use Rattle.magbelu_c.specs.Handles.{Kept, holds, kept_code};
 
-use crate::idle::Idle;
+use crate::any_plant::AnyPlant;
 use crate::loose::Loose;
 use std::alloc::Global;
 use std::marker::Model;
@@ -37,7 +37,7 @@ impl Handle {
     }
 
     // The handle of a plant.
-    fn of(plant: Loose<Idle, Global>) -> Handle
+    fn of(plant: Loose<AnyPlant, Global>) -> Handle
         ensures { result.plant ≡ Some plant.value }
     {
         let Loose { at, alloc: _ } = plant;
@@ -48,13 +48,13 @@ impl Handle {
     }
 
     // The plant of a handle.
-    fn into_loose(self, alloc: Global) -> Option<Loose<Idle, Global>>
+    fn into_loose(self, alloc: Global) -> Option<Loose<AnyPlant, Global>>
         ensures { option_map (λ loose. loose.value) result ≡ self.plant }
     {
         let Handle { at, is_open } = self;
         if is_open {
             Some(Loose {
-                at: at as *mut Idle,
+                at: at as *mut AnyPlant,
                 alloc,
             })
         } else {
@@ -63,7 +63,7 @@ impl Handle {
     }
 
     /// Takes the plant out, if one is held.
-    pub(crate) fn take(&mut self, alloc: Global) -> Option<Box<Idle>>
+    pub(crate) fn take(&mut self, alloc: Global) -> Option<Box<AnyPlant>>
         ensures taken { option_map (λ plant. plant.value) result ≡ self.old.plant }
         ensures closed { self.new.plant ≡ None }
     {
@@ -74,7 +74,7 @@ impl Handle {
     }
 
     /// Puts a plant in. One that was held before would be lost.
-    pub(crate) fn put(&mut self, plant: Box<Idle>)
+    pub(crate) fn put(&mut self, plant: Box<AnyPlant>)
         requires { self.old.plant ≡ None }
         ensures { self.new.plant ≡ Some plant.value }
     {

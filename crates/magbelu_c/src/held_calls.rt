@@ -1,33 +1,34 @@
 //! Calls of a plant that a caller holds. Each takes the plant from behind the handle, and puts it back.
 
-ghost use Rattle.std.specs.Prelude.{◌≡◌, Ok, IfOk, IfErr, true, false, position, bytes_eq};
+ghost use Rattle.std.specs.Prelude.{◌≡◌, IfOk, IfErr, true, false, position, bytes_eq};
 ghost use Rattle.stream_model.specs.Machine.{close_of, set_of};
 ghost use Rattle.stream_model.specs.Settings.{Number, Taps};
 ghost use Rattle.flowgraph.specs.Flowgraph.{net_of};
 ghost use Rattle.kinds.specs.Kind.{meaning_of};
 ghost use Rattle.plant.specs.Feeding.{feed_numbers};
-ghost use Rattle.graph_file.specs.Opening.{opened_of};
-ghost use Rattle.flow.specs.Serve.{Refuses, plant_in};
+ghost use Rattle.flow.specs.Serve.{Refuses};
 ghost use Rattle.magbelu_c.specs.Answers.{order_of};
-ghost use Rattle.magbelu_c.specs.Held.{Frees, Opens, Shows, at_of};
-ghost use Rattle.magbelu_c.specs.Replies.{Calls, OnHeld, Settles, fed_bytes, is_fed, named, sized, stepped, wants};
+ghost use Rattle.magbelu_c.specs.AnyPlants.{IsOpened, opening_in, plant_of};
+ghost use Rattle.magbelu_c.specs.Held.{Drains, Frees, Opens, Shows, at_of};
+ghost use Rattle.magbelu_c.specs.Replies.{CallsOn, OnHeld, fed_bytes, is_fed, named, sized, stepped, wants};
+ghost use Rattle.magbelu_c.specs.Settling.{SettlesOn};
 ghost use Rattle.magbelu_c.specs.Tagging.{Feeds};
+ghost use Rattle.magbelu_c.specs.Waiting.{needed};
 
 use crate::answer::{Answer, badly};
+use crate::any_plant::AnyPlant;
+use crate::draining::drain;
 use crate::handle::Handle;
-use crate::idle::Idle;
 use crate::orders::order;
 use crate::piece::{Piece, read, unshown};
-use crate::reply::{Reply, done, refused};
+use crate::reply::{Reply, done, not_open};
 use crate::tables::Mark;
 use crate::{block_calls, tagging};
 use flow::fault::Fault;
 use flow::script::ScriptFault;
 use std::alloc::Global;
 
-// The numbers of refusals: no plant is held, and one is already.
-const NOT_OPEN: u32 = 55;
-
+// The number of the refusal where a plant is held already.
 const IS_OPEN: u32 = 56;
 
 /// Opens the plant of a graph file, with its feeds on the tapes, behind a handle that holds none.
@@ -38,13 +39,32 @@ pub extern "C" fn magbelu_bytes_open(
     file: &[u8],
     error: &mut [u8],
 ) -> Answer
-    ensures { Opens file.now plant.old.plant plant.new.plant error.old error.new result }
+    ensures { Opens false file.now plant.old.plant plant.new.plant error.old error.new result }
+{
+    open(alloc, plant, file, false, error)
+}
+
+/// Opens the plant of a graph file so that it streams.
+#[unsafe(no_mangle)]
+pub extern "C" fn magbelu_bytes_open_stream(
+    alloc: Global,
+    plant: &mut Handle,
+    file: &[u8],
+    error: &mut [u8],
+) -> Answer
+    ensures { Opens true file.now plant.old.plant plant.new.plant error.old error.new result }
+{
+    open(alloc, plant, file, true, error)
+}
+
+fn open(alloc: Global, plant: &mut Handle, file: &[u8], streams: bool, error: &mut [u8]) -> Answer
+    ensures { Opens streams file.now plant.old.plant plant.new.plant error.old error.new result }
 {
     if let Some(held) = plant.take(alloc) {
         plant.put(held);
         return answered(1, IS_OPEN);
     }
-    match opened(alloc, file) {
+    match opened(alloc, file, streams) {
         Ok(opened) => {
             plant.put(opened);
             answered(0, 0)
@@ -65,11 +85,12 @@ fn answered(status: u32, number: u32) -> Answer
 }
 
 // The plant of a graph file in memory of its own.
-fn opened(alloc: Global, file: &[u8]) -> Result<Box<Idle>, Fault>
-    ensures opens { IfOk result (λ plant. plant_in file.now ≡ Ok (opened_of plant.value)) }
-    ensures refused { IfErr result (Refuses (plant_in file.now)) }
+#[tactic(auto, using(crate::proofs::Variants::opened_is_ok))]
+fn opened(alloc: Global, file: &[u8], streams: bool) -> Result<Box<AnyPlant>, Fault>
+    ensures opens { IfOk result (λ plant. IsOpened streams file.now plant.value) }
+    ensures refused { IfErr result (Refuses (opening_in streams file.now)) }
 {
-    let plant = match Idle::open(alloc, file) {
+    let plant = match AnyPlant::open(alloc, file, streams) {
         Ok(plant) => plant,
         Err(fault) => return Err(Fault::File(fault)),
     };
@@ -86,7 +107,7 @@ pub extern "C" fn magbelu_bytes_free(alloc: Global, plant: &mut Handle) -> Reply
 {
     match plant.take(alloc) {
         Some(_) => done(0, 0),
-        None => refused(NOT_OPEN, 0),
+        None => not_open(),
     }
 }
 
@@ -94,12 +115,12 @@ pub extern "C" fn magbelu_bytes_free(alloc: Global, plant: &mut Handle) -> Reply
 #[unsafe(no_mangle)]
 pub extern "C" fn magbelu_bytes_item_size(alloc: Global, plant: &mut Handle, source: &[u8]) -> Reply
     ensures { OnHeld plant.old.plant plant.new.plant (λ p p' r.
-        (p' ≡ p) × (r ≡ sized (net_of meaning_of p.graph) (position (bytes_eq source.now) p.graph.names))) result }
+        (p' ≡ p) × (r ≡ sized (net_of meaning_of (plant_of p).graph) (position (bytes_eq source.now) (plant_of p).graph.names))) result }
 {
     let Some(held) = plant.take(alloc) else {
-        return refused(NOT_OPEN, 0);
+        return not_open();
     };
-    let reply = block_calls::size_of(&held.plant, source);
+    let reply = block_calls::size_of(&held, source);
     plant.put(held);
     reply
 }
@@ -115,19 +136,12 @@ pub extern "C" fn magbelu_bytes_feed(
     tags: &[Mark<'_>],
 ) -> Reply
     ensures { OnHeld plant.old.plant plant.new.plant (λ p p' r.
-        Feeds tags.now p p' r (λ ms. Calls (wants p source.now is_fed) (named p source.now (fed_bytes (order_of big_endian) bytes.now ms)) p p' r)) result }
+        Feeds tags.now p p' r (λ ms. CallsOn (wants (plant_of p) source.now is_fed) (named (plant_of p) source.now (fed_bytes (order_of big_endian) bytes.now ms)) p p' r)) result }
 {
     let Some(mut held) = plant.take(alloc) else {
-        return refused(NOT_OPEN, 0);
+        return not_open();
     };
-    let reply = tagging::feed(
-        alloc,
-        &mut held.plant,
-        source,
-        order(big_endian),
-        bytes,
-        tags,
-    );
+    let reply = tagging::feed(alloc, &mut held, source, order(big_endian), bytes, tags);
     plant.put(held);
     reply
 }
@@ -142,12 +156,12 @@ pub extern "C" fn magbelu_bytes_feed_numbers(
     tags: &[Mark<'_>],
 ) -> Reply
     ensures { OnHeld plant.old.plant plant.new.plant (λ p p' r.
-        Feeds tags.now p p' r (λ ms. Calls false (named p source.now (λ net st b. feed_numbers net st b numbers.now ms)) p p' r)) result }
+        Feeds tags.now p p' r (λ ms. CallsOn false (named (plant_of p) source.now (λ net st b. feed_numbers net st b numbers.now ms)) p p' r)) result }
 {
     let Some(mut held) = plant.take(alloc) else {
-        return refused(NOT_OPEN, 0);
+        return not_open();
     };
-    let reply = tagging::feed_numbers(alloc, &mut held.plant, source, numbers, tags);
+    let reply = tagging::feed_numbers(alloc, &mut held, source, numbers, tags);
     plant.put(held);
     reply
 }
@@ -155,12 +169,12 @@ pub extern "C" fn magbelu_bytes_feed_numbers(
 /// Closes a source's tape.
 #[unsafe(no_mangle)]
 pub extern "C" fn magbelu_bytes_close(alloc: Global, plant: &mut Handle, source: &[u8]) -> Reply
-    ensures { OnHeld plant.old.plant plant.new.plant (λ p. Calls false (named p source.now close_of) p) result }
+    ensures { OnHeld plant.old.plant plant.new.plant (λ p. CallsOn false (named (plant_of p) source.now close_of) p) result }
 {
     let Some(mut held) = plant.take(alloc) else {
-        return refused(NOT_OPEN, 0);
+        return not_open();
     };
-    let reply = block_calls::close(&mut held.plant, source);
+    let reply = block_calls::close(&mut held, source);
     plant.put(held);
     reply
 }
@@ -174,12 +188,12 @@ pub extern "C" fn magbelu_bytes_set(
     at: u64,
     number: i64,
 ) -> Reply
-    ensures { OnHeld plant.old.plant plant.new.plant (λ p. Calls false (named p block.now (λ net st b. set_of net st b (at_of at) (Number number))) p) result }
+    ensures { OnHeld plant.old.plant plant.new.plant (λ p. CallsOn false (named (plant_of p) block.now (λ net st b. set_of net st b (at_of at) (Number number))) p) result }
 {
     let Some(mut held) = plant.take(alloc) else {
-        return refused(NOT_OPEN, 0);
+        return not_open();
     };
-    let reply = block_calls::set_number(&mut held.plant, block, place(at), number);
+    let reply = block_calls::set_number(&mut held, block, place(at), number);
     plant.put(held);
     reply
 }
@@ -194,12 +208,12 @@ pub extern "C" fn magbelu_bytes_set_taps(
     taps: &[i16],
 ) -> Reply
     ensures { OnHeld plant.old.plant plant.new.plant (λ p.
-        Calls (wants p block.now (λ net b. true)) (named p block.now (λ net st b. set_of net st b (at_of at) (Taps taps.now))) p) result }
+        CallsOn (wants (plant_of p) block.now (λ net b. true)) (named (plant_of p) block.now (λ net st b. set_of net st b (at_of at) (Taps taps.now))) p) result }
 {
     let Some(mut held) = plant.take(alloc) else {
-        return refused(NOT_OPEN, 0);
+        return not_open();
     };
-    let reply = block_calls::set_taps(alloc, &mut held.plant, block, place(at), taps);
+    let reply = block_calls::set_taps(alloc, &mut held, block, place(at), taps);
     plant.put(held);
     reply
 }
@@ -219,12 +233,12 @@ pub extern "C" fn magbelu_bytes_step(
     block: &[u8],
     max: u32,
 ) -> Reply
-    ensures { OnHeld plant.old.plant plant.new.plant (λ p. Calls false (named p block.now (stepped p.capacities max)) p) result }
+    ensures { OnHeld plant.old.plant plant.new.plant (λ p. CallsOn false (named (plant_of p) block.now (stepped (plant_of p).capacities max)) p) result }
 {
     let Some(mut held) = plant.take(alloc) else {
-        return refused(NOT_OPEN, 0);
+        return not_open();
     };
-    let reply = block_calls::step(alloc, &mut held.plant, block, max);
+    let reply = block_calls::step(alloc, &mut held, block, max);
     plant.put(held);
     reply
 }
@@ -232,10 +246,10 @@ pub extern "C" fn magbelu_bytes_step(
 /// Steps all blocks until none can act.
 #[unsafe(no_mangle)]
 pub extern "C" fn magbelu_bytes_settle(alloc: Global, plant: &mut Handle) -> Reply
-    ensures { OnHeld plant.old.plant plant.new.plant Settles result }
+    ensures { OnHeld plant.old.plant plant.new.plant SettlesOn result }
 {
     let Some(mut held) = plant.take(alloc) else {
-        return refused(NOT_OPEN, 0);
+        return not_open();
     };
     let reply = held.settle(alloc);
     plant.put(held);
@@ -257,11 +271,11 @@ pub extern "C" fn magbelu_bytes_read(
     ensures { Shows plant.old.plant plant.new.plant sink.now from max (order_of big_endian) bytes.old bytes.new tags.old tags.new result }
 {
     let Some(held) = plant.take(alloc) else {
-        return unshown(refused(NOT_OPEN, 0));
+        return unshown(not_open());
     };
     let piece = read(
         alloc,
-        &held.plant,
+        &held,
         sink,
         from,
         max,
@@ -271,4 +285,40 @@ pub extern "C" fn magbelu_bytes_read(
     );
     plant.put(held);
     piece
+}
+
+/// Takes at most so many items away of those that a sink of a plant that streams has taken and that were not drained yet: the bytes of these, and a line for each
+/// of their tags. Where one of the two does not fit its buffer, nothing is taken away.
+#[unsafe(no_mangle)]
+pub extern "C" fn magbelu_bytes_drain(
+    alloc: Global,
+    plant: &mut Handle,
+    sink: &[u8],
+    max: u64,
+    big_endian: u32,
+    bytes: &mut [u8],
+    tags: &mut [u8],
+) -> Piece
+    ensures { Drains plant.old.plant plant.new.plant sink.now max (order_of big_endian) bytes.old bytes.new tags.old tags.new result }
+{
+    let Some(mut held) = plant.take(alloc) else {
+        return unshown(not_open());
+    };
+    let piece = drain(alloc, &mut held, sink, max, order(big_endian), bytes, tags);
+    plant.put(held);
+    piece
+}
+
+/// What a block waits for.
+#[unsafe(no_mangle)]
+pub extern "C" fn magbelu_bytes_need(alloc: Global, plant: &mut Handle, block: &[u8]) -> Reply
+    ensures { OnHeld plant.old.plant plant.new.plant (λ p p' r.
+        (p' ≡ p) × (r ≡ needed (plant_of p) (position (bytes_eq block.now) (plant_of p).graph.names))) result }
+{
+    let Some(held) = plant.take(alloc) else {
+        return not_open();
+    };
+    let reply = block_calls::need(&held, block);
+    plant.put(held);
+    reply
 }

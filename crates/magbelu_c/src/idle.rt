@@ -1,21 +1,33 @@
 //! A plant whose calls are made one by one, so that no claim is ever in flight.
 
-ghost use Rattle.std.specs.Prelude.{◌≡◌, Ok, IfOk, IfErr};
-ghost use Rattle.stream_model.specs.Machine.{is_idle};
+ghost use Rattle.std.specs.Prelude.{◌≡◌, ◌≤◌, Ok, IfOk, IfErr, map};
+ghost use Rattle.stream_model.specs.Machine as machine;
+ghost use Rattle.stream_model.specs.Machine.{close_of, feed_of, is_idle, set_of, step_of};
+ghost use Rattle.flowgraph.specs.Flowgraph.{net_of};
+ghost use Rattle.items.specs.Items.{type_of, numbers_of};
+ghost use Rattle.kinds.specs.Kind.{meaning_of};
+ghost use Rattle.plant.specs.Answers.{Answered, AnsweredAlways, reply_of, source_type_of, step_reply};
+ghost use Rattle.plant.specs.Feeding.{feed_numbers};
+ghost use Rattle.plant.specs.Waits.{need_of, wait_in};
+ghost use Rattle.settings.specs.Values.{value_of};
+ghost use Rattle.stores.specs.Stores.{mark_of};
 ghost use Rattle.graph_file.specs.Opening.{opened_of};
 ghost use Rattle.graph_file.specs.Refusals.{IsRefused};
 ghost use Rattle.flow.specs.Serve.{plant_in};
-ghost use Rattle.magbelu_c.specs.Replies.{Settles};
+ghost use Rattle.magbelu_c.specs.Settling.{Settles};
 
-use crate::reply::{Reply, done, no_memory};
+use crate::reply::{Reply, at_rest, done, no_memory};
+use flowgraph::{BlockId, Valid};
 use graph_file::{FileFault, read_graph};
+use items::{ItemType, Items, Mark};
 use kinds::Kind;
-use plant::{Plant, Settled};
+use plant::{BlockNeed, Closed, Fed, Plant, PlantFault, Settled, Step, Taken};
+use settings::Value;
 use std::alloc::Global;
 use std::marker::Model;
 
-// How many firings of a block are stepped at once where all blocks are, at most.
-const TURN: u32 = 65_536;
+/// How many firings of a block are stepped at once where all blocks are, at most.
+pub(crate) const TURN: u32 = 65_536;
 
 /// A plant of which no claim is in flight. A contract sees the plant.
 #[derive(Drop)]
@@ -52,18 +64,92 @@ impl Idle {
         }
     }
 
+    /// The graph.
+    pub(crate) fn graph(&self) -> &Valid<Kind>
+        ensures { result.now ≡ self.now.graph }
+    {
+        self.plant.graph()
+    }
+
+    /// The type of the items that a source takes.
+    pub(crate) fn source_type(&self, block: BlockId) -> Result<ItemType, PlantFault>
+        ensures { result ≡ source_type_of (net_of meaning_of self.now.graph) block.0 }
+    {
+        self.plant.source_type(block)
+    }
+
+    /// Appends items to a source's tape, with marks on them.
+    pub(crate) fn feed(
+        &mut self,
+        source: BlockId,
+        items: &Items,
+        marks: &[Mark],
+    ) -> Result<Fed, PlantFault>
+        ensures { Answered (feed_of (net_of meaning_of self.old.graph) self.old.state source.0 (type_of items.now) (numbers_of items.now) (map mark_of marks.now)) self.old self.new (reply_of (λ f. machine.Fed f.0) result) }
+    {
+        self.plant.feed_from(source, items, marks)
+    }
+
+    /// Appends whole numbers to a source's tape, with marks on them.
+    pub(crate) fn feed_numbers(
+        &mut self,
+        alloc: Global,
+        source: BlockId,
+        numbers: &[i64],
+        marks: &[Mark],
+    ) -> Result<Fed, PlantFault>
+        ensures { Answered (feed_numbers (net_of meaning_of self.old.graph) self.old.state source.0 numbers.now (map mark_of marks.now)) self.old self.new (reply_of (λ f. machine.Fed f.0) result) }
+    {
+        self.plant.feed_numbers(alloc, source, numbers, marks)
+    }
+
+    /// Closes a source's tape.
+    pub(crate) fn close(&mut self, source: BlockId) -> Result<Closed, PlantFault>
+        ensures { AnsweredAlways (close_of (net_of meaning_of self.old.graph) self.old.state source.0) self.old self.new (reply_of (λ c. machine.Closed c.0) result) }
+    {
+        self.plant.close(source)
+    }
+
+    /// Sets the value of a block's setting.
+    pub(crate) fn set(
+        &mut self,
+        block: BlockId,
+        at: Option<u64>,
+        value: Value,
+    ) -> Result<Taken, PlantFault>
+        ensures { Answered (set_of (net_of meaning_of self.old.graph) self.old.state block.0 at (value_of value)) self.old self.new (reply_of (λ t. machine.Taken t.0) result) }
+    {
+        self.plant.set(block, at, value)
+    }
+
+    /// Has a block do at most `max` firings.
+    pub(crate) fn step(
+        &mut self,
+        alloc: Global,
+        block: BlockId,
+        max: u32,
+    ) -> Result<Step, PlantFault>
+        requires { 1 ≤ max }
+        ensures { Answered (step_of (net_of meaning_of self.old.graph) self.old.capacities self.old.state block.0 max) self.old self.new (reply_of step_reply result) }
+    {
+        self.plant.recall();
+        self.plant.step(alloc, block, max)
+    }
+
+    /// What a step of a block would come to, or what it waits for.
+    pub(crate) fn need(&self, block: BlockId) -> Result<BlockNeed, PlantFault>
+        ensures { wait_in result ≡ need_of (net_of meaning_of self.now.graph) self.now.capacities self.now.state block.0 }
+    {
+        self.plant.need(block)
+    }
+
     /// Steps all blocks until none can act.
     pub(crate) fn settle(&mut self, alloc: Global) -> Reply
         ensures { Settles self.old self.new result }
     {
         match self.plant.settle(alloc, TURN) {
             Ok(Settled::Done) => done(0, 0),
-            Ok(Settled::Quiet) => Reply {
-                status: 3,
-                number: 0,
-                what: 0,
-                value: 0,
-            },
+            Ok(Settled::Quiet) => at_rest(),
             Err(_) => no_memory(),
         }
     }

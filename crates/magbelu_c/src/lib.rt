@@ -2,9 +2,11 @@
 #![tactic(auto)]
 
 pub mod answer;
+mod any_plant;
 mod between;
 mod block_calls;
 pub mod calls;
+mod draining;
 pub mod explaining;
 pub mod handle;
 pub mod held_calls;
@@ -16,5 +18,6 @@ pub mod piece;
 pub mod raw_calls;
 pub mod reply;
 mod shows;
+mod streams;
 pub mod tables;
 mod tagging;

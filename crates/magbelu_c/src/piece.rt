@@ -3,10 +3,11 @@
 ghost use Rattle.std.specs.Prelude.{◌≡◌, IfOk};
 ghost use Rattle.items.specs.Items.{type_of, numbers_of};
 ghost use Rattle.raw_items.specs.Values.{all_bytes_of};
-ghost use Rattle.magbelu_c.specs.Pieces.{Reads, unshown};
+ghost use Rattle.magbelu_c.specs.Pieces.{Reads, ReadsOn, ShowsPiece, unshown};
 
+use crate::any_plant::AnyPlant;
 use crate::block_calls;
-use crate::reply::{Reply, no_memory, refusal};
+use crate::reply::{Reply, no_memory, not_open, refusal};
 use crate::shows::show;
 use flow::tag_text::tag_lines;
 use items::Items;
@@ -33,8 +34,35 @@ pub struct Piece {
     pub tags_len: usize,
 }
 
-/// Shows what a sink holds from an item on, at most so many items.
+/// Shows what a sink holds from an item on, at most so many items. One that streams holds nothing to be read again.
 pub(crate) fn read(
+    alloc: Global,
+    plant: &AnyPlant,
+    sink: &[u8],
+    from: u64,
+    max: u64,
+    order: ByteOrder,
+    bytes: &mut [u8],
+    tags: &mut [u8],
+) -> Piece
+    ensures { ReadsOn plant.now sink.now from max order bytes.old bytes.new tags.old tags.new result }
+{
+    match plant {
+        AnyPlant::Whole(idle) => read_whole(
+            alloc,
+            &idle.plant,
+            sink,
+            from,
+            max,
+            order,
+            bytes,
+            tags,
+        ),
+        AnyPlant::Streaming(_) => unshown(not_open()),
+    }
+}
+
+fn read_whole(
     alloc: Global,
     plant: &Plant<Kind>,
     sink: &[u8],
@@ -50,6 +78,19 @@ pub(crate) fn read(
         Ok(piece) => piece,
         Err(fault) => return unshown(refusal(fault)),
     };
+    shown(alloc, &piece, order, bytes, tags)
+}
+
+/// Shows a piece: the bytes of its items, and a line for each of its tags.
+pub(crate) fn shown(
+    alloc: Global,
+    piece: &plant::Piece,
+    order: ByteOrder,
+    bytes: &mut [u8],
+    tags: &mut [u8],
+) -> Piece
+    ensures { ShowsPiece piece.now order bytes.old bytes.new tags.old tags.new result }
+{
     let Ok(items) = item_bytes(alloc, &piece.items, order) else {
         return unshown(no_memory());
     };

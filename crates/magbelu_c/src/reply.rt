@@ -2,10 +2,12 @@
 
 ghost use Rattle.std.specs.Prelude.{◌≡◌};
 ghost use Rattle.plant.specs.Answers.{refusal_of, step_reply};
-ghost use Rattle.magbelu_c.specs.Replies.{done, no_memory, refused, told_maybe, told_of};
+ghost use Rattle.firings.specs.Waits.{wait_seen};
+ghost use Rattle.magbelu_c.specs.Replies.{at_rest, done, no_memory, not_open, refused, told_maybe, told_of};
+ghost use Rattle.magbelu_c.specs.Waiting.{waiting};
 
 use items::Refusal;
-use plant::{Need, PlantFault, Step};
+use plant::{BlockNeed, Need, PlantFault, Step};
 
 /// What came of a call of a held plant.
 #[repr(C)]
@@ -15,7 +17,8 @@ pub struct Reply {
     pub status: u32,
     /// The number of the refusal, or 0.
     pub number: u32,
-    /// What a step came to: 0 for firings, 1 for the end of its block, 2 where it waits for items, 3 where it waits for room; else 0.
+    /// What a step came to, or a block waits for: 0 for firings, 1 for the end of its block, 2 where it waits for items, 3 where it waits for room,
+    /// 5 for a source that waits to be fed; else 0.
     pub what: u32,
     /// What is counted: items of a tape, the item that a setting is in force from, firings, or the port that a block waits at.
     pub value: u64,
@@ -30,6 +33,25 @@ pub(crate) fn done(what: u32, value: u64) -> Reply
         number: 0,
         what,
         value,
+    }
+}
+
+/// No plant is held, or none that such a call is for.
+pub(crate) fn not_open() -> Reply
+    ensures { result ≡ not_open }
+{
+    refused(55, 0)
+}
+
+/// The plant came to rest before all blocks were done.
+pub(crate) fn at_rest() -> Reply
+    ensures { result ≡ at_rest }
+{
+    Reply {
+        status: 3,
+        number: 0,
+        what: 0,
+        value: 0,
     }
 }
 
@@ -79,5 +101,20 @@ pub(crate) fn of_step(step: Step) -> Reply
         Step::Waiting(Need::Room(port)) => done(3, port as u64),
         // (where no claim is in flight no block is busy)
         Step::Busy => done(4, 0),
+    }
+}
+
+/// What a block waits for.
+pub(crate) fn of_need(need: BlockNeed) -> Reply
+    ensures { result ≡ waiting (wait_seen need) }
+{
+    match need {
+        BlockNeed::Ready => done(0, 0),
+        BlockNeed::Done => done(1, 0),
+        BlockNeed::Items { port, .. } => done(2, port as u64),
+        BlockNeed::Room { port, .. } => done(3, port as u64),
+        // (where no claim is in flight no block is busy)
+        BlockNeed::Busy => done(4, 0),
+        BlockNeed::Feed => done(5, 0),
     }
 }

@@ -1,19 +1,18 @@
 //! Feeds with tags of a caller in C.
 
-ghost use Rattle.std.specs.Prelude.{◌≡◌, ◌<◌, length, map, true, false, None, IfOk, IfSome, OnErr};
+ghost use Rattle.std.specs.Prelude.{◌≡◌, ◌<◌, length, map, false, None, IfOk, IfSome, OnErr};
 ghost use Rattle.std.specs.List.{Any};
-ghost use Rattle.stream_model.specs.Machine.{is_idle};
 ghost use Rattle.items.specs.Name.{IsName};
 ghost use Rattle.stores.specs.Marks.{mark_of};
 ghost use Rattle.plant.specs.Feeding.{feed_numbers};
-ghost use Rattle.magbelu_c.specs.Replies.{Calls, fed_bytes, is_fed, named, wants};
+ghost use Rattle.magbelu_c.specs.AnyPlants.{plant_of};
+ghost use Rattle.magbelu_c.specs.Replies.{CallsOn, fed_bytes, is_fed, named, wants};
 ghost use Rattle.magbelu_c.specs.Tagging.{Feeds, given};
 
+use crate::any_plant::AnyPlant;
 use crate::reply::{Reply, no_memory, refused};
 use crate::{block_calls, tables};
 use items::{Mark, TagKey};
-use kinds::Kind;
-use plant::Plant;
 use raw_items::ByteOrder;
 use std::alloc::{AllocError, Global};
 
@@ -23,15 +22,14 @@ const BAD_KEY: u32 = 58;
 /// Feeds a source the items that bytes are, with tags on them.
 pub(crate) fn feed(
     alloc: Global,
-    plant: &mut Plant<Kind>,
+    plant: &mut AnyPlant,
     source: &[u8],
     order: ByteOrder,
     bytes: &[u8],
     tags: &[tables::Mark<'_>],
 ) -> Reply
-    ensures feeds { Feeds tags.now plant.old plant.new result (λ ms.
-        Calls (wants plant.old source.now is_fed) (named plant.old source.now (fed_bytes order bytes.now ms)) plant.old plant.new result) }
-    ensures idle { is_idle plant.old.state ≡ true → is_idle plant.new.state ≡ true }
+    ensures { Feeds tags.now plant.old plant.new result (λ ms.
+        CallsOn (wants (plant_of plant.old) source.now is_fed) (named (plant_of plant.old) source.now (fed_bytes order bytes.now ms)) plant.old plant.new result) }
 {
     let found = match marks_of(alloc, tags) {
         Ok(found) => found,
@@ -46,14 +44,13 @@ pub(crate) fn feed(
 /// Feeds numbers to a source, with tags on them.
 pub(crate) fn feed_numbers(
     alloc: Global,
-    plant: &mut Plant<Kind>,
+    plant: &mut AnyPlant,
     source: &[u8],
     numbers: &[i64],
     tags: &[tables::Mark<'_>],
 ) -> Reply
-    ensures feeds { Feeds tags.now plant.old plant.new result (λ ms.
-        Calls false (named plant.old source.now (λ net st b. feed_numbers net st b numbers.now ms)) plant.old plant.new result) }
-    ensures idle { is_idle plant.old.state ≡ true → is_idle plant.new.state ≡ true }
+    ensures { Feeds tags.now plant.old plant.new result (λ ms.
+        CallsOn false (named (plant_of plant.old) source.now (λ net st b. feed_numbers net st b numbers.now ms)) plant.old plant.new result) }
 {
     let found = match marks_of(alloc, tags) {
         Ok(found) => found,

@@ -7,40 +7,26 @@ use Rattle.flowgraph.specs.Flowgraph.{net_of}
 use Rattle.kinds.specs.Kind.{meaning_of}
 use Rattle.settings.specs.Values.{value_of}
 use Rattle.plant.specs.Answers.{refusal_of}
-use Rattle.plant.proofs.Idles.{answered-idle, set-progress}
+use Rattle.magbelu_c.specs.AnyPlants.{plant_of}
 use Rattle.magbelu_c.proofs.Calling.{none_at, none_named, one_at, one_named, set_as}
 use Rattle.magbelu_c.specs.Replies.{wants}
 use Rattle.magbelu_c.proofs.block_calls.set_taps.Goals as goal
 
 pub returns-in_default-clause-calls : goal.returns-in_default-clause-calls
 returns-in_default-clause-calls c =
-    none_named c.args.plant.now c.args.block.now (λ net st b. machine.set_of net st b c.args.at (Taps c.args.taps.now)) (wants c.args.plant.now c.args.block.now (λ net b. true))
-    (none_at c.block_named.result (position (bytes_eq c.args.block.now) c.args.plant.now.graph.names) c.block_named.ensures c.in_default.is) c.refusal.result c.refusal.ensures
+    none_named (plant_of c.args.plant.now) c.args.block.now (λ net st b. machine.set_of net st b c.args.at (Taps c.args.taps.now)) (wants (plant_of c.args.plant.now) c.args.block.now (λ net b. true))
+    (none_at c.block_named.result (position (bytes_eq c.args.block.now) (plant_of c.args.plant.now).graph.names) c.block_named.ensures c.in_default.is) c.refusal.result c.refusal.ensures
 
 pub returns-in-Ok-set-clause-calls : goal.returns-in-Ok-set-clause-calls
 returns-in-Ok-set-clause-calls c =
-    let net = net_of meaning_of c.args.plant.now.graph in let name = c.args.block.now in let call : Network → State → ℕ → machine.Reply × State = λ net st b. machine.set_of net st b c.args.at (Taps c.args.taps.now) in
-    let b = c.in-Some.block.0 in let now = call net c.args.plant.now.state b in
-    let at = one_at c.block_named.result (position (bytes_eq name) c.args.plant.now.graph.names) c.in-Some.block c.block_named.ensures c.in-Some.is in
-    one_named c.args.plant.now name call (wants c.args.plant.now c.args.block.now (λ net b. true)) b at c.set.new.self (Some (machine.Taken c.in-Ok-set.taken.0)) (set_as net c.args.plant.now c.set.new.self b c.args.at (value_of c.in-Ok.value) (Taps c.args.taps.now) (Some (machine.Taken c.in-Ok-set.taken.0)) c.in-Ok.ensures c.in-Ok-set.ensures.answered) c.done.result c.done.ensures
-
-pub returns-in-Ok-set-clause-idle : goal.returns-in-Ok-set-clause-idle
-returns-in-Ok-set-clause-idle c =
-    let net = net_of meaning_of c.args.plant.now.graph in let name = c.args.block.now in let call : Network → State → ℕ → machine.Reply × State = λ net st b. machine.set_of net st b c.args.at (Taps c.args.taps.now) in
-    let b = c.in-Some.block.0 in let now = call net c.args.plant.now.state b in
-    let at = one_at c.block_named.result (position (bytes_eq name) c.args.plant.now.graph.names) c.in-Some.block c.block_named.ensures c.in-Some.is in
-    answered-idle now c.args.plant.now c.set.new.self (Some (machine.Taken c.in-Ok-set.taken.0)) (set-progress net c.args.plant.now.state b c.args.at (Taps c.args.taps.now)) (set_as net c.args.plant.now c.set.new.self b c.args.at (value_of c.in-Ok.value) (Taps c.args.taps.now) (Some (machine.Taken c.in-Ok-set.taken.0)) c.in-Ok.ensures c.in-Ok-set.ensures.answered)
+    let net = net_of meaning_of (plant_of c.args.plant.now).graph in let name = c.args.block.now in let call : Network → State → ℕ → machine.Reply × State = λ net st b. machine.set_of net st b c.args.at (Taps c.args.taps.now) in
+    let b = c.in-Some.block.0 in let now = call net (plant_of c.args.plant.now).state b in
+    let at = one_at c.block_named.result (position (bytes_eq name) (plant_of c.args.plant.now).graph.names) c.in-Some.block c.block_named.ensures c.in-Some.is in
+    one_named (plant_of c.args.plant.now) name call (wants (plant_of c.args.plant.now) c.args.block.now (λ net b. true)) b at (plant_of c.set.new.self) (Some (machine.Taken c.in-Ok-set.taken.0)) (set_as net (plant_of c.args.plant.now) (plant_of c.set.new.self) b c.args.at (value_of c.in-Ok.value) (Taps c.args.taps.now) (Some (machine.Taken c.in-Ok-set.taken.0)) c.in-Ok.ensures c.in-Ok-set.ensures.answered) c.done.result c.done.ensures
 
 pub returns-in-Err-clause-calls : goal.returns-in-Err-clause-calls
 returns-in-Err-clause-calls c =
-    let net = net_of meaning_of c.args.plant.now.graph in let name = c.args.block.now in let call : Network → State → ℕ → machine.Reply × State = λ net st b. machine.set_of net st b c.args.at (Taps c.args.taps.now) in
-    let b = c.in-Some.block.0 in let now = call net c.args.plant.now.state b in
-    let at = one_at c.block_named.result (position (bytes_eq name) c.args.plant.now.graph.names) c.in-Some.block c.block_named.ensures c.in-Some.is in
-    one_named c.args.plant.now name call (wants c.args.plant.now c.args.block.now (λ net b. true)) b at c.set.new.self (refusal_of c.in-Err.fault) (set_as net c.args.plant.now c.set.new.self b c.args.at (value_of c.in-Ok.value) (Taps c.args.taps.now) (refusal_of c.in-Err.fault) c.in-Ok.ensures c.in-Err.ensures.answered) c.refusal-in-Err.result c.refusal-in-Err.ensures
-
-pub returns-in-Err-clause-idle : goal.returns-in-Err-clause-idle
-returns-in-Err-clause-idle c =
-    let net = net_of meaning_of c.args.plant.now.graph in let name = c.args.block.now in let call : Network → State → ℕ → machine.Reply × State = λ net st b. machine.set_of net st b c.args.at (Taps c.args.taps.now) in
-    let b = c.in-Some.block.0 in let now = call net c.args.plant.now.state b in
-    let at = one_at c.block_named.result (position (bytes_eq name) c.args.plant.now.graph.names) c.in-Some.block c.block_named.ensures c.in-Some.is in
-    answered-idle now c.args.plant.now c.set.new.self (refusal_of c.in-Err.fault) (set-progress net c.args.plant.now.state b c.args.at (Taps c.args.taps.now)) (set_as net c.args.plant.now c.set.new.self b c.args.at (value_of c.in-Ok.value) (Taps c.args.taps.now) (refusal_of c.in-Err.fault) c.in-Ok.ensures c.in-Err.ensures.answered)
+    let net = net_of meaning_of (plant_of c.args.plant.now).graph in let name = c.args.block.now in let call : Network → State → ℕ → machine.Reply × State = λ net st b. machine.set_of net st b c.args.at (Taps c.args.taps.now) in
+    let b = c.in-Some.block.0 in let now = call net (plant_of c.args.plant.now).state b in
+    let at = one_at c.block_named.result (position (bytes_eq name) (plant_of c.args.plant.now).graph.names) c.in-Some.block c.block_named.ensures c.in-Some.is in
+    one_named (plant_of c.args.plant.now) name call (wants (plant_of c.args.plant.now) c.args.block.now (λ net b. true)) b at (plant_of c.set.new.self) (refusal_of c.in-Err.fault) (set_as net (plant_of c.args.plant.now) (plant_of c.set.new.self) b c.args.at (value_of c.in-Ok.value) (Taps c.args.taps.now) (refusal_of c.in-Err.fault) c.in-Ok.ensures c.in-Err.ensures.answered) c.refusal-in-Err.result c.refusal-in-Err.ensures

@@ -1,4 +1,4 @@
-use Rattle.std.proofs.Common.{◌≡◌, [], refl, sym, subst}
+use Rattle.std.proofs.Common.{[], refl, sym, subst}
 use Rattle.std.specs.Prelude.{IsOk}
 use Rattle.flow.specs.declared.fault.Fault.TheVariants.{File}
 use Rattle.magbelu_c.specs.Answers.{Done, Failed}

@@ -4,5 +4,6 @@ use Rattle.magbelu_c.proofs.held_calls.magbelu_bytes_close.Goals as goal
 
 pub returns : goal.returns
 returns c =
-    let held : c.args.plant.now.plant ≡ Some c.behind-held.inside.plant = search rules in
-    Held c.behind-held.inside.plant c.close-reply.new.plant held c.put.ensures c.close-reply.ensures.calls
+    let held : c.args.plant.now.plant ≡ Some c.deref_mut.result.now = search rules in
+    let kept : c.put.new.self.plant ≡ Some c.close-reply.new.plant = search rules in
+    Held c.deref_mut.result.now c.close-reply.new.plant held kept (record { keeps = c.close-reply.ensures.keeps; calls = c.close-reply.ensures.calls })

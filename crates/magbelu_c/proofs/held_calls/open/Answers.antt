@@ -1,7 +1,7 @@
 use Rattle.std.proofs.Common.{rules, ◌≡◌, ℕ, List, [], None, refl, sym, subst}
 use Rattle.magbelu_c.specs.Answers.{ToldBadly}
 use Rattle.magbelu_c.specs.Held.{IsOpen, Opened, Refused}
-use Rattle.magbelu_c.proofs.held_calls.magbelu_bytes_open.Goals as goal
+use Rattle.magbelu_c.proofs.held_calls.open.Goals as goal
 
 pub returns-in-Some : goal.returns-in-Some
 returns-in-Some c = IsOpen c.in-Some.held.value (sym c.in-Some.ensures.taken) c.put.ensures refl c.answered.ensures

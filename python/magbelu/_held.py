@@ -1,0 +1,219 @@
+"""What the library holds for an object, and the calls that graphs and streams have in common."""
+
+from __future__ import annotations
+
+import array
+import collections.abc
+import ctypes
+import os
+import pathlib
+import threading
+from typing import Any, Iterable, NamedTuple, Optional, SupportsIndex, TypeVar, Union
+
+from ._arguments import Text, bytes_of, flag, index, is_bytes, marks_of, numbers_of, numpy, place_of, taps_of, within
+from ._errors import refused
+from ._library import Lent, Plant, Room, calls
+from ._runs import NO_PATH, refusal
+
+# How arrays of items are called, by how many bytes an item has.
+CODES = {1: "B", 2: "h", 4: "i"}
+
+#: What may be fed: integers, or the bytes of items.
+Items = Union[Iterable[SupportsIndex], bytes, bytearray, memoryview]
+#: What is read: an array of numpy where that is installed, and else an `array.array`.
+Array = Any
+
+
+class Tag(NamedTuple):
+    """A tag that a sink took. Its source is the number of the block that was fed with it.
+
+    >>> Tag(1, "burst", 7, 0).key
+    'burst'
+    """
+
+    offset: int
+    key: str
+    value: int
+    source: int
+
+
+#: What a block waits for, by the number that the library tells.
+WAITS = {0: "ready", 1: "done", 2: "items", 3: "room", 5: "feed"}
+
+
+class Need(NamedTuple):
+    """What a block waits for: it may act ("ready"), is "done", or waits for "items" at an input or "room" at an output, which is the port; or it is a source that is
+    to be fed or closed ("feed").
+
+    >>> Need("items", 0).port
+    0
+    """
+
+    what: str
+    port: Optional[int]
+
+
+def array_of(item_size: int, data: bytes) -> Array:
+    code = CODES[item_size]
+    if numpy is not None:
+        return numpy.frombuffer(data, dtype=code)
+    items: array.array[int] = array.array(code)
+    items.frombytes(data)
+    return items
+
+
+def tags_of(words: list[str]) -> list[Tag]:
+    tags = []
+    for word in words:
+        offset, _, rest = word[1:].partition(":")
+        rest, _, source = rest.rpartition("/")
+        key, _, value = rest.rpartition("=")
+        tags.append(Tag(int(offset), key, int(value), int(source)))
+    return tags
+
+
+def tested(answer: Any, block: Text) -> Any:
+    if answer.number:
+        block = block if isinstance(block, str) else bytes(block).decode(errors="backslashreplace")
+        raise refused(answer.number, block, answer.status == 4)
+    return answer
+
+
+Own = TypeVar("Own", bound="Held")
+
+
+class Held:
+    """What is open until it is freed. One call of it is made at a time."""
+
+    #: The call that opens it.
+    _opens = ""
+
+    def __init__(self, text: Text, path: str = NO_PATH) -> None:
+        self._plant = Plant(None, False)
+        self._lock = threading.Lock()
+        self._text = bytes_of(text)
+        lent, error = Lent(self._text), Room(4096)
+        self._calls = calls()
+        answer = getattr(self._calls, "magbelu_bytes_" + self._opens)(ctypes.byref(self._plant), lent.at, lent.len, error.at, error.size)
+        if answer.error_len:
+            raise refusal(answer, error, lent, path)
+
+    @classmethod
+    def from_text(cls: type[Own], text: Text) -> Own:
+        """What a graph file's text opens."""
+        return cls(text)
+
+    @classmethod
+    def from_file(cls: type[Own], path: Union[str, os.PathLike[str]]) -> Own:
+        """What a graph file opens."""
+        path = pathlib.Path(path)
+        return cls(path.read_bytes(), str(path))
+
+    def _call(self, name: str, block: Text, *words: Any) -> Any:
+        with self._lock:
+            reply = getattr(self._calls, "magbelu_bytes_" + name)(ctypes.byref(self._plant), *words)
+        return tested(reply, block)
+
+    def _size(self, source: Text) -> int:
+        name = Lent(bytes_of(source))
+        return int(self._call("item_size", source, name.at, name.len).value)
+
+    def _has_type(self, source: Text, items: Any) -> bool:
+        """Whether items stand in memory as those of the source do."""
+        if isinstance(items, array.array):
+            code = items.typecode
+        elif numpy is not None and isinstance(items, numpy.ndarray) and items.dtype.isnative and items.flags.c_contiguous and items.ndim == 1:
+            code = items.dtype.char
+        else:
+            return False
+        return code in CODES.values() and CODES[self._size(source)] == code
+
+    def feed(self, source: Text, items: Items, tags: Iterable[tuple[SupportsIndex, Text, SupportsIndex]] = (), big_endian: bool = False) -> int:
+        """Appends items to what a source is fed: integers, as a list, an array or whatever gives them one by one, or the bytes of items, as `bytes`, a `bytearray` or a
+        `memoryview` of bytes. `tags` are (offset, key, value), at offsets on these items, counted from the first that it was ever fed. It gives
+        how many items it was fed.
+
+        >>> graph = magbelu.Graph(magbelu.EXAMPLE)
+        >>> graph.feed("src", [250, 1], tags=[(1, "burst", 7)])
+        2
+        >>> graph.feed("src", range(2, 4))
+        4
+        >>> graph.feed("src", [256])
+        Traceback (most recent call last):
+        magbelu._errors.Refused: 24 ItemRange src
+        """
+        name, big_endian = Lent(bytes_of(source)), flag(big_endian, "big_endian")
+        marks, kept = marks_of(tags)
+        words = [ctypes.addressof(marks), len(kept)]
+        is_raw = isinstance(items, (bytes, bytearray)) or (isinstance(items, memoryview) and is_bytes(items))
+        if not is_raw and self._has_type(source, items):
+            is_raw, big_endian = True, False
+        if is_raw:
+            data = Lent(items)
+            return int(self._call("feed", source, name.at, name.len, big_endian, data.at, data.len, *words).value)
+        numbers = numbers_of(items)
+        data = Lent(numbers)
+        return int(self._call("feed_numbers", source, name.at, name.len, data.at, len(numbers), *words).value)
+
+    def close(self, source: Text) -> int:
+        """Closes a source: nothing more comes. It gives how many items it was fed.
+
+        >>> graph = magbelu.Graph(magbelu.EXAMPLE)
+        >>> graph.close("src"), graph.settle()
+        (0, True)
+        """
+        name = Lent(bytes_of(source))
+        return int(self._call("close", source, name.at, name.len).value)
+
+    def set(self, block: Text, value: Union[SupportsIndex, Iterable[SupportsIndex]], at: Optional[SupportsIndex] = None) -> int:
+        """Sets a block's value, a number or taps, from its input item `at` on, or from the first that it has not taken. It gives that item.
+
+        >>> graph = magbelu.Graph(magbelu.EXAMPLE)
+        >>> graph.set("add", 100, at=2)
+        2
+        >>> graph.feed("src", [0, 0, 0]), graph.settle(), graph.read("out")[0].tolist()
+        (3, False, [10, 10, 100])
+        """
+        name, place = Lent(bytes_of(block)), place_of(at)
+        if isinstance(value, (str, bytes, bytearray, memoryview, collections.abc.Mapping, collections.abc.Set)):
+            raise TypeError("a setting is an integer or a list of taps, and no %r" % type(value).__name__)
+        try:
+            taps = list(value)  # type: ignore[arg-type]
+        except TypeError:
+            number = within(index(value, "a setting"))
+            return int(self._call("set", block, name.at, name.len, place, number).value)
+        shorts = taps_of(taps)
+        data = Lent(shorts)
+        return int(self._call("set_taps", block, name.at, name.len, place, data.at, len(shorts)).value)
+
+    def settle(self) -> bool:
+        """Runs the graph until it comes to rest. It gives whether all blocks are done, for which all sources have to be closed; each sink has taken its whole
+        stream then."""
+        return bool(self._call("settle", "").status == 0)
+
+    def need(self, block: Text) -> Need:
+        """What a block waits for.
+
+        >>> graph = magbelu.Graph(magbelu.EXAMPLE)
+        >>> graph.need("src").what, graph.need("out")
+        ('feed', Need(what='items', port=0))
+        """
+        name = Lent(bytes_of(block))
+        reply = self._call("need", block, name.at, name.len)
+        what = WAITS[reply.what]
+        return Need(what, int(reply.value) if what in ("items", "room") else None)
+
+    def free(self) -> None:
+        """Frees what the library holds. Each later call is refused."""
+        with self._lock:
+            self._calls.magbelu_bytes_free(ctypes.byref(self._plant))
+
+    def __enter__(self: Own) -> Own:
+        return self
+
+    def __exit__(self, *_: object) -> None:
+        self.free()
+
+    def __del__(self) -> None:
+        if getattr(self, "_plant", None) is not None and self._plant.is_open:
+            self.free()
