@@ -1,15 +1,16 @@
 -- A plant as it opens keeps what a plant keeps.
-use Rattle.std.proofs.Common.{◌≡◌, ℕ, ◌<◌, All, List, [], ◌∷◌, map, length, refl, arith, ap, sym, ◌∙◌, subst}
+use Rattle.std.proofs.Common.{◌≡◌, ℕ, ◌<◌, All, Option, Some, None, List, [], ◌∷◌, map, length, refl, arith, ap, sym, ◌∙◌, subst}
 use Rattle.std.specs.Prelude.{replicate}
 use Rattle.std.proofs.lemmas.List.{get_or-map, get_or-replicate}
 use Rattle.std.proofs.lemmas.List.Elements.{All-nil, All-cons}
 use Rattle.stream_model.specs.Network.{Network, Progress, State, no_progress, handed_at, no_node, Handed, Node, nothing_handed, nothing_within, progress_at, opening_within}
+use Rattle.stream_model.specs.Settings.{Value}
 use Rattle.stream_laws.specs.CanRun.{CanRun}
 use Rattle.machine_laws.specs.Sound.{Sound}
 use Rattle.machine_laws.proofs.Moving.{opening_sound}
 use Rattle.plant_laws.specs.Holds.{Holds}
-use Rattle.plant_laws.specs.Stored.{Tape, Collected, firsts_of}
-use Rattle.plant_laws.specs.Opening.{empty_tape, empty_sink, stored_opening}
+use Rattle.plant_laws.specs.Stored.{Tape, Collected, settings_from, firsts_of}
+use Rattle.plant_laws.specs.Opening.{empty_tape, empty_sink, own_settings, stored_opening}
 use Rattle.plant_laws.proofs.Opening.{opening_holds}
 use Rattle.graph_model.specs.Gains.{IsWithinGain}
 use Rattle.graph_model.specs.Rates.{balance_of, capacities_of}
@@ -63,7 +64,11 @@ module _ (net : Network) (longest : ℕ) (f : Fresh) (is : IsFresh net longest f
   pub whole_opened : ForgetsNone (firsts_of (stored_in f.stores))
   whole_opened =
       subst (λ stored. ForgetsNone (firsts_of stored)) (sym is.stored)
-      (record { tapes = all_zero (λ (t : Tape). t.from) empty_tape (λ n. refl) net.nodes; sinks = all_zero (λ (s : Collected). s.from) empty_sink (λ n. refl) net.nodes })
+      (record { tapes = all_zero (λ (t : Tape). t.from) empty_tape (λ n. refl) net.nodes; sinks = all_zero (λ (s : Collected). s.from) empty_sink (λ n. refl) net.nodes; settings = all_zero settings_from (λ (n : Node). own_settings n.meaning.own) (λ n. own_unread n.meaning.own) net.nodes })
+    where
+      own_unread : (o : Option Value) → settings_from (own_settings o) ≡ 0
+      own_unread None = refl
+      own_unread (Some own) = refl
 
   pub longest_opened : All (λ n. n ≡ longest) (map (λ (h : Intake). h.longest) f.stores.handed.items)
   longest_opened =

@@ -1,5 +1,5 @@
 -- A block's setting: why it is refused, what it makes, and that what a plant keeps stays true.
-use Rattle.std.proofs.Common.{◌≡◌, ℕ, ◌<◌, ◌≤◌, ◌+◌, ◌*◌, List, map, length, get_or, set, refl, ap, sym, ◌∙◌, subst, true, false, Bool, Option, Some, None, not, nat_lt, lt-ltb, le-ltb, ltb-true, if◌then◌else◌}
+use Rattle.std.proofs.Common.{◌≡◌, ℕ, ◌<◌, ◌≤◌, ◌+◌, ◌*◌, List, map, length, get_or, set, refl, ap, sym, ◌∙◌, subst, true, false, Bool, Option, Some, None, not, nat_lt, lt-ltb, le-ltb, ltb-true, if◌then◌else◌, arith}
 use Rattle.std.proofs.lemmas.List.{map-set}
 use Rattle.std.specs.Option.{unwrap_or}
 use Rattle.std.specs.Prelude.{IsSome}
@@ -9,16 +9,19 @@ use Rattle.stream_model.specs.declared.vocabulary.Role.TheVariants.{Source, Work
 use Rattle.stream_model.specs.Settings.{Value, Held, put_setting}
 use Rattle.stream_model.specs.Meaning.{Meaning, KeepsRole}
 use Rattle.stream_model.specs.Network as model
-use Rattle.stream_model.specs.Network.{Network, Progress, State, node_at, role_at, is_source, handed_at, writers_of}
+use Rattle.stream_model.specs.Network.{Network, Progress, State, node_at, role_at, is_source, handed_at, progress_at, writers_of, taken_by}
 use Rattle.stream_model.specs.Machine as machine
 use Rattle.stream_model.specs.Machine.{Capacities, Reply, Refused, is_wanted, floor_of, place_setting, set_wanted, set_of, with_handed, next}
 use Rattle.graph_model.specs.Graphs.{IsValidGraph}
 use Rattle.stream_laws.specs.CanRun.{CanRun}
+use Rattle.machine_laws.specs.Sound.{fired}
+use Rattle.stream_model.proofs.Streams.{taken_by-rises}
 use Rattle.machine_laws.specs.Bounds.{IsSmall}
 use Rattle.machine_laws.proofs.Bounding.{counts_are_small}
 use Rattle.std.specs.List.{Any}
-use Rattle.settings.specs.Timelines.{Settings, held_at}
-use Rattle.plant_laws.specs.Stored.{timeline_at}
+use Rattle.settings.specs.Timelines.{held_at}
+use Rattle.recordings.specs.Recent.{SettingsState}
+use Rattle.plant_laws.specs.Stored.{timeline_at, settings_from}
 use Rattle.plant_laws.specs.Calls.{TakesOneMore}
 use Rattle.plant_laws.specs.Changes.{with_settings}
 use Rattle.plant_laws.specs.Holds.{Holds}
@@ -116,8 +119,8 @@ module _ (net : Network) (caps : Capacities) (can : CanRun net) (s : Stores) (ps
     pub takes : takes_memory (set_of net (state_of s.handed.items ps) b at v).0 ≡ true
     takes = ap (λ (now : Reply × State). takes_memory now.0) set_now
 
-    law : (old : Settings) × (timeline_at (stored_in s) b ≡ Some old)
-        × ((new : Settings) → TakesOneMore old new (held_at place v) → Holds net caps (next net caps (state_of s.handed.items ps) (machine.Set b at v)).1 (with_settings (stored_in s) b new))
+    law : (old : SettingsState) × (timeline_at (stored_in s) b ≡ Some old)
+        × ((new : SettingsState) → TakesOneMore old new (held_at place v) → Holds net caps (next net caps (state_of s.handed.items ps) (machine.Set b at v)).1 (with_settings (stored_in s) b new))
     law = setting_holds net caps (state_of s.handed.items ps) (stored_in s) can keeps.sound keeps.stored b at v place (ap (λ (now : Reply × State). now.0) set_now)
 
     in-handed : b < length s.handed.items
@@ -126,6 +129,15 @@ module _ (net : Network) (caps : Capacities) (can : CanRun net) (s : Stores) (ps
     module _ (h : Intake) (h_is : h ≡ get_or s.handed.items b h) where
       pub has_timeline : IsSome h.timeline
       has_timeline = let there : h.timeline ≡ Some law.0 = sym (timeline_before s.handed.items b h in-handed h_is s.words.items (rows_in s) s.sinks.items) ∙ law.1 in rw there refl
+
+      -- no item from the place on was read
+      pub unread_there : settings_from h.timeline ≤ place
+      unread_there =
+          let before = timeline_before s.handed.items b h in-handed h_is s.words.items (rows_in s) s.sinks.items in
+          let low : settings_from (timeline_at (stored_in s) b) ≤ taken_by (node_at net b) 0 (fired (state_of s.handed.items ps) b) = keeps.stored.unread b is.inside in
+          let rises : taken_by (node_at net b) 0 (fired (state_of s.handed.items ps) b) ≤ floor_of net (state_of s.handed.items ps) b =
+          taken_by-rises (node_at net b) (can.sound b) 0 (progress_at ps b).firings ((progress_at ps b).firings + (progress_at ps b).claimed) (omega arith) in
+          subst (λ o. settings_from o ≤ place) before (omega (arith, low, rises, open'))
 
       -- where there is a setting of the place already, the block's timeline has it
       pub has_place : (other : ℕ) → (set_of net (state_of s.handed.items ps) b at v).0 ≡ machine.Taken other → Any (λ (x : Held). x.at ≡ other) (handed_at (map handed_of s.handed.items) b).settings →

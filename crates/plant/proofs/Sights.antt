@@ -20,7 +20,7 @@ use Rattle.buffers.specs.Buffer.{BufferState}
 use Rattle.flowgraph.specs.declared.parts.Input.{Input}
 use Rattle.flowgraph.specs.Wiring.{writers_in, IsItsReader}
 use Rattle.plant_laws.specs.Stored as plain
-use Rattle.plant_laws.specs.Stored.{tape_at, timeline_at, buffer_at}
+use Rattle.plant_laws.specs.Stored.{tape_at, timeline_at, settings_from, buffer_at}
 use Rattle.plant_laws.specs.Claims.{MayFire, Serves, held_over, input_buffer, input_reader}
 use Rattle.plant_laws.proofs.Windows.{length-windows}
 use Rattle.plant_laws.proofs.Serving.{flights_may_fire, firings_are_served, is_end, enough, job_window}
@@ -226,6 +226,9 @@ module _ {names : List (List ℕ)} {net : Network} {s : Stores} {ps : List Progr
 
     pub held_is : held_over h.timeline (taken_by (node_at net b) 0 first) (taken_by (node_at net b) 0 (first + claimed)) ≡ (in_flight net (state_of s.handed.items ps) b).held
     held_is = rw (r.first_is, r.claimed_is, ← timeline_here) (serves names net r.can r.valid s ps r.stored b r.inside r.some).held
+
+    pub settings_unread : settings_from h.timeline ≤ taken_by (node_at net b) 0 first
+    settings_unread = rw (r.first_is) (subst (λ o. settings_from o ≤ taken_by (node_at net b) 0 (progress_at ps b).firings) timeline_here lends.settings)
 
     -- the window of a source
     module _ (source : is_source (role_at net b) ≡ true) where

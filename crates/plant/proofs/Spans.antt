@@ -1,7 +1,6 @@
 -- What is kept, and how long tapes may come to be.
-use Rattle.std.proofs.Common.{◌≡◌, ℕ, ℤ, ◌<◌, ◌≤◌, Bool, true, false, List, [], length, map, set, get_or, ap, sym, ◌∙◌, subst, All, refl, inl, inr}
+use Rattle.std.proofs.Common.{◌≡◌, ℕ, ℤ, ◌<◌, ◌≤◌, Bool, true, false, Option, Some, None, List, [], length, map, set, get_or, ap, sym, ◌∙◌, subst, All, refl, inl, inr}
 use Rattle.std.specs.Prelude.{nat_lt, if◌then◌else◌, Vec}
-use Rattle.std.specs.Arc.{arc_value}
 use Rattle.std.specs.Global.{Global}
 use Rattle.std.proofs.lemmas.Bool.{cases_Bool, ltb-true, ltb-false}
 use Rattle.std.proofs.Math.Seq.{map-set_same}
@@ -10,12 +9,12 @@ use Rattle.std.proofs.Math.ListN.{get_or-eq_default}
 use Rattle.stream_model.specs.Tags.{Tag, tags_within}
 use Rattle.stream_model.specs.Meaning.{input}
 use Rattle.stream_model.specs.Network.{Network, longest_tape, role_at, is_keeper}
-use Rattle.plant_laws.specs.Stored.{Tape, Collected, Stored, firsts_of, no_tape, nothing_collected, tape_at, sink_at}
+use Rattle.plant_laws.specs.Stored.{Tape, Collected, Stored, firsts_of, no_tape, nothing_collected, tape_at, settings_from, sink_at}
 use Rattle.plant_laws.specs.Changes.{collected, tags_waiting}
 use Rattle.plant_laws.proofs.Forgetting.{firsts-sink}
 use Rattle.stores.specs.declared.intake.Intake.{Intake}
 use Rattle.stores.specs.declared.stores.Stores.{Stores}
-use Rattle.stores.specs.Stores.{rows_in, stored_in, stored_of, tape_of}
+use Rattle.stores.specs.Stores.{IsWhole, rows_in, stored_in, stored_of, tape_of}
 use Rattle.stores.specs.Delivery.{delivered}
 use Rattle.plant.specs.Plant.{Spans, ForgetsNone, KeepsAll, spans_of}
 
@@ -41,16 +40,20 @@ tape_whole stored none b = zero_at (λ (t : Tape). t.from) stored.tapes no_tape 
 pub sink_whole : (stored : Stored) → ForgetsNone (firsts_of stored) → (b : ℕ) → (sink_at stored b).from ≡ 0
 sink_whole stored none b = zero_at (λ (s : Collected). s.from) stored.sinks nothing_collected refl none.sinks b
 
--- what hands a block something, and forgets nothing of its tape
-pub spans_handed : (s : Stores) (b : ℕ) (h h' : Intake) → h ≡ get_or s.handed.items b h → b < length s.handed.items → (tape_of h').from ≡ (tape_of h).from → h'.longest ≡ h.longest →
+-- what hands a block something, and forgets nothing of its tape and of its settings
+pub spans_handed : (s : Stores) (b : ℕ) (h h' : Intake) → h ≡ get_or s.handed.items b h → b < length s.handed.items → (tape_of h').from ≡ (tape_of h).from → settings_from h'.timeline ≡ settings_from h.timeline → h'.longest ≡ h.longest →
     ◌≡◌ {A = Spans} (record { firsts = firsts_of (stored_of (set s.handed.items b h') s.words.items (rows_in s) s.sinks.items); longest = map (λ (x : Intake). x.longest) (set s.handed.items b h') }) (spans_of s)
-spans_handed s b h h' h_is in' from longest =
+spans_handed s b h h' h_is in' from unread longest =
     let here : tape_of h ≡ get_or (map tape_of s.handed.items) b no_tape = ap tape_of h_is ∙ sym (get_or-map tape_of s.handed.items b h no_tape in') in
     let tapes : map (λ (t : Tape). t.from) (map tape_of (set s.handed.items b h')) ≡ map (λ (t : Tape). t.from) (map tape_of s.handed.items) =
     ap (map (λ (t : Tape). t.from)) (map-set tape_of s.handed.items b h') ∙ map-set_same (λ (t : Tape). t.from) (map tape_of s.handed.items) b (tape_of h') no_tape (from ∙ ap (λ (t : Tape). t.from) here) in
     let limits : map (λ (x : Intake). x.longest) (set s.handed.items b h') ≡ map (λ (x : Intake). x.longest) s.handed.items =
     map-set_same (λ (x : Intake). x.longest) s.handed.items b h' h (longest ∙ ap (λ (x : Intake). x.longest) h_is) in
-    rw (tapes, limits) refl
+    let timelines : map settings_from (map (λ (x : Intake). x.timeline) (set s.handed.items b h')) ≡ map settings_from (map (λ (x : Intake). x.timeline) s.handed.items) =
+    ap (map settings_from) (map-set (λ (x : Intake). x.timeline) s.handed.items b h')
+    ∙ map-set_same settings_from (map (λ (x : Intake). x.timeline) s.handed.items) b h'.timeline None
+    (unread ∙ ap settings_from (ap (λ (x : Intake). x.timeline) h_is ∙ sym (get_or-map (λ (x : Intake). x.timeline) s.handed.items b h None in'))) in
+    rw (tapes, limits, timelines) refl
 
 -- a commit forgets nothing
 collected_keeps : (stored : Stored) (b : ℕ) (xs : List ℤ) (ts : List Tag) (t : Bool) → firsts_of (record stored { sinks = if t then set stored.sinks b (collected (sink_at stored b) xs ts) else stored.sinks }) ≡ firsts_of stored
@@ -64,11 +67,18 @@ spans_delivered net s s' b k next windows outputs word stored handed =
     let limits : map (λ (x : Intake). x.longest) s'.handed.items ≡ map (λ (x : Intake). x.longest) s.handed.items = ap (λ (v : Vec Intake Global). map (λ (x : Intake). x.longest) v.items) handed in
     (λ i. record { firsts = firsts i; longest = limits i })
 
--- nothing of the tapes that blocks were handed is forgotten
-pub tapes_whole : (s : Stores) → ForgetsNone (firsts_of (stored_in s)) → (hs : List Intake) → hs ≡ s.handed.items → All (λ (h : Intake). (arc_value h.tape).from ≡ 0) hs
-tapes_whole s none hs is = λ k d lt.
+-- nothing of what blocks were handed is forgotten
+pub handed_whole : (s : Stores) → ForgetsNone (firsts_of (stored_in s)) → (hs : List Intake) → hs ≡ s.handed.items → All IsWhole hs
+handed_whole s none hs is = λ k d lt.
+    let timelines : All (λ n. n ≡ 0) (map settings_from (map (λ (h : Intake). h.timeline) hs)) = subst (λ xs. All (λ n. n ≡ 0) (map settings_from (map (λ (h : Intake). h.timeline) xs))) (sym is) none.settings in
+    let many : k < length (map (λ (h : Intake). h.timeline) hs) = rw (length-map hs (λ (h : Intake). h.timeline)) lt in
     let tapes : All (λ n. n ≡ 0) (map (λ (t : Tape). t.from) (map tape_of hs)) = subst (λ xs. All (λ n. n ≡ 0) (map (λ (t : Tape). t.from) (map tape_of xs))) (sym is) none.tapes in
     let wide : k < length (map tape_of hs) = rw (length-map hs tape_of) lt in
-    sym (ap (λ (t : Tape). t.from) (get_or-map tape_of hs k d no_tape lt))
-    ∙ sym (get_or-map (λ (t : Tape). t.from) (map tape_of hs) k no_tape 0 wide)
-    ∙ tapes k 0 (rw (length-map (map tape_of hs) (λ (t : Tape). t.from)) wide)
+    record {
+      tape = sym (ap (λ (t : Tape). t.from) (get_or-map tape_of hs k d no_tape lt))
+          ∙ sym (get_or-map (λ (t : Tape). t.from) (map tape_of hs) k no_tape 0 wide)
+          ∙ tapes k 0 (rw (length-map (map tape_of hs) (λ (t : Tape). t.from)) wide);
+      settings = sym (ap settings_from (get_or-map (λ (h : Intake). h.timeline) hs k d None lt))
+          ∙ sym (get_or-map settings_from (map (λ (h : Intake). h.timeline) hs) k None 0 many)
+          ∙ timelines k 0 (rw (length-map (map (λ (h : Intake). h.timeline) hs) settings_from) many);
+    }

@@ -49,7 +49,7 @@ pub record KeepsBut (net : Network) (caps : Capacities) (s : Stores) (progress :
 abbrev pub plant_of : {B P : Type 0} → Parts B P → PlantState B
 plant_of p = record { graph = arc_value p.graph; capacities = sizes_of p.capacities; state = state_of p.stores.handed.items p.firings }
 
--- the first items that are kept, and for each block the most items that its tape may come to hold
+-- the first items that are kept, and those at which settings may still be read, and for each block the most items that its tape may come to hold
 pub record Spans : Type 0 where
   pub firsts : Firsts
   pub longest : List ℕ
@@ -64,6 +64,7 @@ spans_in p = spans_of p.stores
 pub record ForgetsNone (firsts : Firsts) : Type 0 where
   pub tapes : All (λ k. k ≡ 0) firsts.tapes
   pub sinks : All (λ k. k ≡ 0) firsts.sinks
+  pub settings : All (λ k. k ≡ 0) firsts.settings
 
 -- nor does a tape grow beyond the usual
 pub record KeepsAll (spans : Spans) : Type 0 where

@@ -6,8 +6,7 @@ ghost use Rattle.stream_model.specs.Network as model;
 ghost use Rattle.firings.specs.State.{progress_of};
 ghost use Rattle.flowgraph.specs.Agreeing.{graphs_agree};
 ghost use Rattle.flowgraph.specs.Flowgraph.{net_of};
-ghost use Rattle.stores.specs.declared.intake.Intake.{Intake};
-ghost use Rattle.stores.specs.Stores.{handed_of};
+ghost use Rattle.stores.specs.Stores.{IsWhole, handed_of};
 ghost use Rattle.plant.specs.Plant.{ForgetsNone, plant_of, spans_in};
 
 use crate::parts::Parts;
@@ -117,7 +116,7 @@ impl<B: Block> Parts<B> {
 
 // A copy of what each block was handed.
 fn copies(alloc: Global, handed: &[Intake]) -> Result<Vec<IntakeCopy>, AllocError>
-    requires { All (λ (h : Intake). (arc_value h.tape).from ≡ 0) handed.now }
+    requires { All IsWhole handed.now }
     ensures { IfOk result (λ copies. copies.items ≡ map handed_of handed.now) }
 {
     let mut copies = Vec::with_capacity(alloc, handed.len())?;
@@ -129,7 +128,7 @@ fn copies(alloc: Global, handed: &[Intake]) -> Result<Vec<IntakeCopy>, AllocErro
 
 // Whether the copies are of what the blocks were handed.
 fn are_of(copies: &[IntakeCopy], handed: &[Intake]) -> bool
-    requires { All (λ (h : Intake). (arc_value h.tape).from ≡ 0) handed.now }
+    requires { All IsWhole handed.now }
     ensures { IsTrue result ↔ (copies.now ≡ map handed_of handed.now) }
 {
     let mut rest = copies;

@@ -6,6 +6,7 @@ ghost use Rattle.items.specs.Items.{type_of, numbers_of};
 ghost use Rattle.settings.specs.Values.{held_of};
 ghost use Rattle.ring_readers.specs.State.{IsEndOf};
 ghost use Rattle.flowgraph.specs.Flowgraph.{net_of};
+ghost use Rattle.plant_laws.specs.Stored.{settings_from};
 ghost use Rattle.plant_laws.specs.Claims.{held_over};
 ghost use Rattle.plant.specs.Seen.{CanSee, CanSeeAll, AreEnds, AreSeen, ring_behind, seen_of};
 
@@ -14,8 +15,8 @@ use buffers::{Buffer, Reader};
 use flowgraph::{BlockId, Input, Valid};
 use items::Items;
 use numbers::Number;
-use settings::{Held, Timeline};
-use stores::Recording;
+use settings::Held;
+use stores::{RecentSettings, Recording};
 
 // Whether the items are those of `whole` from place `from` to below place `to`.
 #[tactic(auto, using(items::proofs::Numbers::map_same, numbers::proofs::Mapped::map_slice_range))]
@@ -51,7 +52,7 @@ pub(crate) fn is_cut(tape: &Recording, first: u64, next: u64, windows: &[Items])
 pub(crate) fn are_held<B: Block>(
     graph: &Valid<B>,
     block: BlockId,
-    timeline: &Option<Timeline>,
+    timeline: &Option<RecentSettings>,
     first: u64,
     next: u64,
     held: &[Held],
@@ -60,6 +61,7 @@ pub(crate) fn are_held<B: Block>(
     requires firings { (node_at (net_of B.meaning graph.now) block.0).multiple * next < 2 ^ 62 }
     requires ordered { first ≤ next }
     requires taken { taken_by (node_at (net_of B.meaning graph.now) block.0) 0 next < 2 ^ 62 }
+    requires unread { settings_from timeline.now ≤ taken_by (node_at (net_of B.meaning graph.now) block.0) 0 first }
     ensures { let n = node_at (net_of B.meaning graph.now) block.0 in
         IsTrue result ↔ (map held_of held.now ≡ held_over timeline.now (taken_by n 0 first) (taken_by n 0 next)) }
 {

@@ -26,7 +26,7 @@ use Rattle.ring_readers.specs.declared.reader.ReaderState.{ReaderState}
 use Rattle.ring_readers.specs.State.{reader_at}
 use Rattle.tags.specs.TagList.{insert_tags}
 use Rattle.buffers.proofs.Readers.{GoesOn}
-use Rattle.plant_laws.specs.Stored.{tape_at, OutputBuffer, Collected, Stored, no_buffer, nothing_collected, buffers_in, buffer_in, buffer_at, sink_at}
+use Rattle.plant_laws.specs.Stored.{tape_at, timeline_at, settings_from, OutputBuffer, Collected, Stored, no_buffer, nothing_collected, buffers_in, buffer_in, buffer_at, sink_at}
 use Rattle.plant_laws.specs.Holds.{IsBuffer, HasCollected, Holds, place_of, has_no_reader, word_of}
 use Rattle.plant_laws.specs.Changes.{reader_number, pushed, advanced, taken_buffers, tags_waiting, tags_brought, given_buffers, collected, with_committed}
 use Rattle.plant_laws.specs.Claims.{MayFire}
@@ -343,6 +343,12 @@ module _ (net : Network) (can : CanRun net) (caps : Capacities) (st : State) (so
               | inr ne ↦ subst (λ (n : ℕ). (tape_at stored c).from ≤ n) (sym (fired-other c ne)) (holds.kept c in1 e)
             ];
             timelines = holds.timelines;
+            unread = λ c in1. elim (cases_eq c b) [
+              | inl same ↦ subst (λ k. settings_from (timeline_at stored k) ≤ taken_by (node_at net k) 0 (fired (over) k)) (sym same)
+                  (subst (λ (n : ℕ). settings_from (timeline_at stored b) ≤ taken_by (node_at net b) 0 n) (sym fired-here)
+                  (let before = holds.unread b in' in let rises = taken_by-rises (node_at net b) (can.sound b) 0 (fired st b) (reached st b) (omega arith) in omega (arith, before, rises)))
+              | inr ne ↦ subst (λ (n : ℕ). settings_from (timeline_at stored c) ≤ taken_by (node_at net c) 0 n) (sym (fired-other c ne)) (holds.unread c in1)
+            ];
             words = words_at;
             buffers = all.1;
             sinks = sinks_at (is_keeper (role_at net b)) refl;

@@ -12,7 +12,7 @@ use Rattle.stream_laws.proofs.Writers.{is_input}
 use Rattle.machine_laws.specs.Sound.{fired, Sound}
 use Rattle.ring_readers.specs.declared.reader.ReaderState.{ReaderState}
 use Rattle.buffers.proofs.Readers.{GoesOn}
-use Rattle.plant_laws.specs.Stored.{tape_at, sink_at, OutputBuffer, Stored, buffer_in, buffer_at}
+use Rattle.plant_laws.specs.Stored.{tape_at, timeline_at, settings_from, sink_at, OutputBuffer, Stored, buffer_in, buffer_at}
 use Rattle.plant_laws.specs.Holds.{IsBuffer, Holds, place_of, has_no_reader}
 use Rattle.plant_laws.specs.Changes.{reader_number, released, released_buffers, with_released}
 use Rattle.plant_laws.specs.Calls.{EndingHolds}
@@ -157,6 +157,7 @@ module _ (net : Network) (can : CanRun net) (caps : Capacities) (st : State) (so
         tapes = holds.tapes;
         kept = λ c in1 e. subst (λ (n : ℕ). (tape_at stored c).from ≤ n) (sym (fired-same c)) (holds.kept c in1 e);
         timelines = holds.timelines;
+        unread = λ c in1. subst (λ (n : ℕ). settings_from (timeline_at stored c) ≤ taken_by (node_at net c) 0 n) (sym (fired-same c)) (holds.unread c in1);
         words = λ c in1. holds.words c in1 ∙ ap (λ k. (node_at net c).meaning.word (handed_at st.handed c).settings (entering net st.handed c) ((node_at net c).multiple * k)) (sym (fired-same c));
         buffers = all.1;
         sinks = λ c in1 keeper. let has = holds.sinks c in1 keeper in record {

@@ -8,16 +8,17 @@ use Rattle.stream_model.specs.Numbers.{types_agree}
 use Rattle.stream_model.specs.Settings.{Value, Held, put_setting}
 use Rattle.stream_model.specs.Tags.{Mark}
 use Rattle.stream_model.specs.Meaning.{IsWanted}
-use Rattle.stream_model.specs.Network.{Network, Handed, Progress, State, nothing_handed, no_progress, node_at, handed_at, progress_at, role_at, is_source}
+use Rattle.stream_model.specs.Network.{Network, Handed, Progress, State, nothing_handed, no_progress, node_at, handed_at, progress_at, role_at, is_source, taken_by}
 use Rattle.stream_model.specs.Claims.{Decision, IsDone, IsBusy, Ends, Fires, LacksItems, LacksRoom, decide}
 use Rattle.stream_model.specs.Machine.{Capacities, Call, Feed, Close, Set, Claim, Abandon, Reply, Fed, Closed, Taken, Claimed, Abandoned, Job, with_handed, with_progress, with_tape, tag_of, marks_fit, feed_of, close_of, set_of, set_wanted, place_setting, is_wanted, floor_of, claimed_by, claim_of, counts_of, is_in_flight, abandon_of, next}
 use Rattle.stream_laws.specs.CanRun.{CanRun}
 use Rattle.machine_laws.specs.Sound.{Sound, fired}
 use Rattle.machine_laws.proofs.Choices.{if_both, not_false}
 use Rattle.machine_laws.proofs.Sounds as sounds
-use Rattle.settings.specs.Timelines.{Settings, held_at}
+use Rattle.settings.specs.Timelines.{held_at}
+use Rattle.recordings.specs.Recent.{SettingsState}
 use Rattle.tags.specs.TagList.{insert_tags}
-use Rattle.plant_laws.specs.Stored.{Tape, Stored, no_tape, tape_at, timeline_at}
+use Rattle.plant_laws.specs.Stored.{Tape, Stored, no_tape, tape_at, timeline_at, settings_from}
 use Rattle.plant_laws.specs.Holds.{IsTape, IsTimeline, Holds}
 use Rattle.plant_laws.specs.Changes.{with_settings}
 use Rattle.plant_laws.specs.Calls.{StaysPut, TakesOneMore, FeedingHolds, ClosingHolds, SettingHolds, ClaimingHolds, AbandoningHolds}
@@ -67,10 +68,11 @@ module _ (net : Network) (can : CanRun net) (caps : Capacities) (st : State) (so
           | inl same ↦ subst (λ (ts : List Held). IsTimeline (node_at net c).meaning.own ts (timeline_at stored c)) (sym (ap (λ (g : Handed). g.settings) (ap (handed_at (after).handed) same ∙ handed-here) ∙ settings ∙ ap (λ k. (handed_at st.handed k).settings) (sym same))) (holds.timelines c in1)
           | inr ne ↦ timelines-other c ne in1
         ])
+        holds.unread
 
     -- and so is a timeline
-    pub new_timeline : ((tape : Tape) → IsTape (node_at net b).meaning.outputs.item (handed_at st.handed b) tape → IsTape (node_at net b).meaning.outputs.item h tape) → (s : Settings) → IsTimeline (node_at net b).meaning.own h.settings (Some s) → Holds net caps (after) (with_settings stored b s)
-    new_timeline tape s is =
+    pub new_timeline : ((tape : Tape) → IsTape (node_at net b).meaning.outputs.item (handed_at st.handed b) tape → IsTape (node_at net b).meaning.outputs.item h tape) → (s : SettingsState) → IsTimeline (node_at net b).meaning.own h.settings (Some s) → s.from ≡ settings_from (timeline_at stored b) → Holds net caps (after) (with_settings stored b s)
+    new_timeline tape s is from =
         all-put net can caps st sound stored holds call (puts) stored.tapes (set stored.timelines b (Some s)) holds.places.tapes (length-set stored.timelines b (Some s) ∙ holds.places.timelines)
         (λ c in1 e. elim (cases_eq c b) [
           | inl same ↦ subst (λ k. IsTape (node_at net k).meaning.outputs.item (handed_at st.handed k) (tape_at stored k) → IsTape (node_at net k).meaning.outputs.item (handed_at (after).handed k) (tape_at stored k)) (sym same)
@@ -84,6 +86,12 @@ module _ (net : Network) (can : CanRun net) (caps : Capacities) (st : State) (so
               (subst (λ (g : Handed). IsTimeline (node_at net b).meaning.own g.settings (Some s)) (sym (handed-here)) is))
           | inr ne ↦ subst (λ o. IsTimeline (node_at net c).meaning.own (handed_at (after).handed c).settings o) (sym (get_or-set_other stored.timelines b c (Some s) None ne)) (timelines-other c ne in1)
         ])
+        (λ c in1. elim (cases_eq c b) [
+          | inl same ↦ subst (λ k. settings_from (get_or (set stored.timelines b (Some s)) k None) ≤ taken_by (node_at net k) 0 (fired st k)) (sym same)
+              (subst (λ o. settings_from o ≤ taken_by (node_at net b) 0 (fired st b)) (sym (get_or-set_same stored.timelines b (Some s) None (let i = handed.inside in rw holds.places.timelines i)))
+              (subst (λ (n : ℕ). n ≤ taken_by (node_at net b) 0 (fired st b)) (sym from) (holds.unread b handed.inside)))
+          | inr ne ↦ subst (λ o. settings_from o ≤ taken_by (node_at net c) 0 (fired st c)) (sym (get_or-set_other stored.timelines b c (Some s) None ne)) (holds.unread c in1)
+        ])
 
   -- nothing is stored anew where the progress of one block is written over, its committed firings and whether it is done as they were
   pub nothing_new : (b : ℕ) (s : Progress) → b < length net.nodes → (after) ≡ with_progress st b s → s.firings ≡ fired st b → s.done ≡ (progress_at st.progress b).done → Holds net caps (after) stored
@@ -93,6 +101,7 @@ module _ (net : Network) (can : CanRun net) (caps : Capacities) (st : State) (so
       (λ c in1 e. subst (λ hs. IsTape (node_at net c).meaning.outputs.item (handed_at hs c) (tape_at stored c)) (sym handed) (holds.tapes c in1 e))
       holds.kept
       (λ c in1. subst (λ hs. IsTimeline (node_at net c).meaning.own (handed_at hs c).settings (timeline_at stored c)) (sym handed) (holds.timelines c in1))
+      holds.unread
     where
       at : (c : ℕ) → progress_at (after).progress c ≡ progress_at (with_progress st b s).progress c
       at c = ap (λ (t : State). progress_at t.progress c) is
@@ -182,8 +191,8 @@ taken_is net st b at v place =
     (λ member. set_is net st b place v (ltb-true b (length net.nodes) (not_false _ member)) (node_at net b).meaning.setting refl at)
 
 -- a timeline with one more setting, where there is a setting and so a value of the block's own
-one_more : (setting : Option Wanted) (own : Option Value) → IsSome setting → MatchOption setting (own ≡ None) (λ w. MatchOption own ⊥ (IsWanted w)) → (ts : List Held) (h : Held) (o : Option Settings) → IsTimeline own ts o →
-    (old : Settings) × (o ≡ Some old) × ((new : Settings) → TakesOneMore old new h → IsTimeline own (put_setting h ts) (Some new))
+one_more : (setting : Option Wanted) (own : Option Value) → IsSome setting → MatchOption setting (own ≡ None) (λ w. MatchOption own ⊥ (IsWanted w)) → (ts : List Held) (h : Held) (o : Option SettingsState) → IsTimeline own ts o →
+    (old : SettingsState) × (o ≡ Some old) × ((new : SettingsState) → TakesOneMore old new h → IsTimeline own (put_setting h ts) (Some new))
 one_more None own some has ts h o is = absurd (cc)
 one_more (Some w) None some has ts h o is = absurd (has)
 one_more (Some w) (Some v) some has ts h None is = absurd (is)
@@ -197,7 +206,8 @@ setting_holds net caps st stored can sound holds b at v place e =
       more.0,
       more.1,
       λ new takes. new_timeline net can caps st sound stored holds (Set b at v) b (record s { settings = put_setting (held_at place v) s.settings }) set'.handed
-          (λ tape is. record { type = is.type; items = is.items; tags = is.tags; closed = is.closed }) new (more.2 new takes),
+          (λ tape is. record { type = is.type; items = is.items; tags = is.tags; closed = is.closed }) new (more.2 new takes)
+          (takes.2 ∙ sym (ap settings_from more.1)),
     )
 
 -- a claim that fires

@@ -8,7 +8,7 @@ use Rattle.std.proofs.lemmas.List.FromFn.{length-map-range_with_len, get_or-map-
 use Rattle.stream_model.specs.Lists.{below}
 use Rattle.stream_model.specs.Settings.{Value}
 use Rattle.stream_model.specs.Tags.{sorted_tags, tags_within}
-use Rattle.stream_model.specs.Network.{Network, Connection, Handed, Node, Progress, no_node, no_progress, nothing_handed, node_at, handed_at, progress_at, role_at, is_source, readers_of, used_outputs, given_by, items_of, entering, tags_entering, nothing_within, opening_within}
+use Rattle.stream_model.specs.Network.{Network, Connection, Handed, Node, Progress, no_node, no_progress, nothing_handed, node_at, handed_at, progress_at, role_at, is_source, readers_of, used_outputs, taken_by, given_by, items_of, entering, tags_entering, nothing_within, opening_within}
 use Rattle.stream_model.specs.Machine.{Capacities, capacity_at}
 use Rattle.stream_model.proofs.Counts.{given-zero}
 use Rattle.stream_model.proofs.Maps.{map-agree}
@@ -23,7 +23,8 @@ use Rattle.std.specs.Option.{option_map_or}
 use Rattle.tags.specs.TagList.{tags_from}
 use Rattle.ring_readers.specs.State.{slowest_of, most_kept}
 use Rattle.buffers.specs.Buffer.{wanted_tags}
-use Rattle.plant_laws.specs.Stored.{Tape, buffers_in, buffer_at, no_buffer, OutputBuffer}
+use Rattle.plant_laws.specs.Stored.{Tape, settings_from, buffers_in, buffer_at, no_buffer, OutputBuffer}
+use Rattle.recordings.specs.Recent.{SettingsState}
 use Rattle.plant_laws.specs.Holds.{IsTape, IsTimeline, IsBuffer, HasCollected, HasPlaces, greatest_history, place_of, word_of, tags_given}
 use Rattle.plant_laws.specs.Opening.{empty_tape, empty_sink, own_settings, first_place, empty_buffer, stored_opening, OpeningHolds}
 
@@ -63,6 +64,10 @@ module _ (net : Network) (longest : ℕ) (can : CanRun net) where
   first_word b =
       ap (λ k. (node_at net b).meaning.word (handed_at (opening_within longest net).handed b).settings (entering net (opening_within longest net).handed b) k) (ap (λ k. (node_at net b).multiple * k) (none-fired b) ∙ mul-zero (node_at net b).multiple)
       ∙ (can.sound b).lawful.starts (handed_at (opening_within longest net).handed b).settings (entering net (opening_within longest net).handed b)
+
+  first_unread : {n : ℕ} (o : Option Value) → settings_from (own_settings o) ≤ n
+  first_unread None = zero-le
+  first_unread (Some own) = zero-le
 
   first_timeline : (o : Option Value) → IsTimeline o [] (own_settings o)
   first_timeline None = refl
@@ -124,6 +129,9 @@ opening_holds net caps longest can =
       timelines = λ b in'.
           subst (λ s. IsTimeline (node_at net b).meaning.own (handed_at (opening_within longest net).handed b).settings s) (sym (get_or-map (λ (n : Node). own_settings n.meaning.own) net.nodes b no_node))
           (subst (λ (h : Handed). IsTimeline (node_at net b).meaning.own h.settings (own_settings (node_at net b).meaning.own)) (sym (nothing-at net longest can b in')) (first_timeline net longest can (node_at net b).meaning.own));
+      unread = λ b in'.
+          subst (λ (o : Option SettingsState). settings_from o ≤ taken_by (node_at net b) 0 (fired (opening_within longest net) b)) (sym (get_or-map (λ (n : Node). own_settings n.meaning.own) net.nodes b no_node))
+          (first_unread net longest can (node_at net b).meaning.own);
       words = λ b in'. get_or-map (λ (n : Node). n.meaning.start) net.nodes b no_node ∙ sym (first_word net longest can b);
       buffers = λ b p in' used. subst (IsBuffer net caps (opening_within longest net) b p) (sym (buffer-is net longest can caps b p in' used)) (first_buffer net longest can caps b p in');
       sinks = λ b in' e.

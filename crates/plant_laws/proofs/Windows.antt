@@ -7,7 +7,7 @@ use Rattle.circular_buffer.specs.Buffer.{keep_last}
 use Rattle.stream_model.specs.Lists.{window}
 use Rattle.stream_model.specs.Settings.{Value, Held, between}
 use Rattle.stream_model.specs.Meaning.{Meaning, input, windows_from, held_of}
-use Rattle.settings.specs.Timelines.{Settings}
+use Rattle.recordings.specs.Recent.{SettingsState}
 use Rattle.ring_readers.specs.State.{EndsWith}
 use Rattle.plant_laws.specs.Holds.{IsTimeline}
 use Rattle.plant_laws.specs.Claims.{held_over}
@@ -37,7 +37,7 @@ length-windows m p [] first n = refl
 length-windows m p (x ∷ xs) first n = ap suc (length-windows m (suc p) xs first n)
 
 -- settings over items, as a timeline has them
-pub held_is : (m : Meaning) (ts : List Held) (first n : ℕ) (o : Option Value) (s : Option Settings) → m.own ≡ o → IsTimeline o ts s → held_over s (m.taken 0 first) (m.taken 0 (first + n)) ≡ held_of m ts first n
+pub held_is : (m : Meaning) (ts : List Held) (first n : ℕ) (o : Option Value) (s : Option SettingsState) → m.own ≡ o → IsTimeline o ts s → held_over s (m.taken 0 first) (m.taken 0 (first + n)) ≡ held_of m ts first n
 held_is m ts first n None None e is = rw e refl
 held_is m ts first n None (Some s) e is = absurd (is)
 held_is m ts first n (Some own) None e is = absurd (is)

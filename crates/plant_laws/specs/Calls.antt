@@ -4,15 +4,16 @@ use Rattle.stream_model.specs.declared.vocabulary.ItemType.{ItemType}
 use Rattle.stream_model.specs.Settings.{Value, Held, put_setting}
 use Rattle.stream_model.specs.Tags.{Mark, tags_within}
 use Rattle.stream_model.specs.Meaning.{given_outputs}
-use Rattle.stream_model.specs.Network.{Network, State, node_at, handed_at, progress_at, role_at, is_keeper, readers_of, used_outputs, entering}
+use Rattle.stream_model.specs.Network.{Network, State, node_at, handed_at, progress_at, role_at, is_keeper, readers_of, used_outputs, taken_by, entering}
 use Rattle.stream_model.specs.Claims.{IsDone, Ends, decide}
 use Rattle.stream_model.specs.Machine.{Capacities, Job, Call, Feed, Close, Set, Claim, Commit, Abandon, Read, Reply, Fed, Closed, Taken, Claimed, Done, Did, Abandoned, Piece, counts_of, next}
 use Rattle.stream_laws.specs.CanRun.{CanRun}
 use Rattle.machine_laws.specs.Sound.{fired, Sound}
-use Rattle.settings.specs.Timelines.{Settings, held_at}
+use Rattle.settings.specs.Timelines.{held_at}
+use Rattle.recordings.specs.Recent.{SettingsState}
 use Rattle.plant_laws.specs.Stored.{OutputBuffer, Collected, Stored, timeline_at, sink_at}
 use Rattle.plant_laws.specs.Holds.{word_of, IsBuffer, HasCollected, Holds}
-use Rattle.plant_laws.specs.Changes.{with_fed, with_closed, with_settings, with_released, with_committed, with_tape_from, with_sink_from}
+use Rattle.plant_laws.specs.Changes.{with_fed, with_closed, with_settings, with_released, with_committed, with_tape_from, with_sink_from, with_settings_from}
 
 -- a law of all stored things that are right
 abbrev pub WhereHolds : (Network → Capacities → State → Stored → Type 0) → Type 0
@@ -30,14 +31,14 @@ abbrev pub ClosingHolds : Type 0
 ClosingHolds = WhereHolds (λ net caps st stored. (b total : ℕ) → LeadsTo net caps st (Close b) (Closed total) (with_closed stored b))
 
 -- a timeline with one more setting
-abbrev pub TakesOneMore : Settings → Settings → Held → Type 0
-TakesOneMore old new h = (new.own ≡ old.own) × (new.settings ≡ put_setting h old.settings)
+abbrev pub TakesOneMore : SettingsState → SettingsState → Held → Type 0
+TakesOneMore old new h = (new.own ≡ old.own) × (new.settings ≡ put_setting h old.settings) × (new.from ≡ old.from)
 
 -- a block whose setting is accepted has a timeline
 abbrev pub SettingHolds : Type 0
 SettingHolds = WhereHolds (λ net caps st stored. (b : ℕ) (at : Option ℕ) (v : Value) (place : ℕ) → (next net caps st (Set b at v)).0 ≡ Taken place →
-    (old : Settings) × (timeline_at stored b ≡ Some old)
-    × ((new : Settings) → TakesOneMore old new (held_at place v) → Holds net caps (next net caps st (Set b at v)).1 (with_settings stored b new)))
+    (old : SettingsState) × (timeline_at stored b ≡ Some old)
+    × ((new : SettingsState) → TakesOneMore old new (held_at place v) → Holds net caps (next net caps st (Set b at v)).1 (with_settings stored b new)))
 
 -- a claim changes nothing that is stored, unless the block ends
 abbrev pub ClaimingHolds : Type 0
@@ -110,10 +111,11 @@ OthersStay =
     (net : Network) (caps : Capacities) (st : State) → CanRun net → Sound net caps st → (call : Call) → (b : ℕ) → b < length net.nodes →
     let after = (next net caps st call).1 in StaysPut st after b → StoredStays net caps st after b
 
--- what a source's firings took may be forgotten, and what a sink's did
+-- what a source's firings took may be forgotten, what a sink's did, and the settings that no item is read with any more
 pub record ForgettingHolds (net : Network) (caps : Capacities) (st : State) (stored : Stored) : Type 0 where
   pub tapes : (b to : ℕ) → b < length net.nodes → to ≤ fired st b → Holds net caps st (with_tape_from stored b to)
   pub sinks : (b to : ℕ) → b < length net.nodes → to ≤ fired st b → Holds net caps st (with_sink_from stored b to)
+  pub settings : (b to : ℕ) → b < length net.nodes → to ≤ taken_by (node_at net b) 0 (fired st b) → Holds net caps st (with_settings_from stored b to)
 
 abbrev pub WhatIsTakenMayGo : Type 0
 WhatIsTakenMayGo = (net : Network) (caps : Capacities) (st : State) (stored : Stored) → Holds net caps st stored → ForgettingHolds net caps st stored

@@ -1,5 +1,5 @@
 -- What each call makes of what is stored: each changes the one or two things that it is about.
-use Rattle.std.specs.Prelude.{ℕ, ◌+◌, ◌-◌, ℤ, List, [], ◌∷◌, ◌++◌, map, Some, true, false, if◌then◌else◌, slice_index_or, slice_set}
+use Rattle.std.specs.Prelude.{ℕ, ◌+◌, ◌-◌, ℤ, List, [], ◌∷◌, ◌++◌, map, Option, Some, None, true, false, if◌then◌else◌, slice_index_or, slice_set}
 use Rattle.std.specs.List.{position_or_len}
 use Rattle.stream_model.specs.Lists.{below}
 use Rattle.stream_model.specs.Tags.{Tag, Mark, tags_within}
@@ -7,11 +7,11 @@ use Rattle.stream_model.specs.Meaning.{input}
 use Rattle.stream_model.specs.Network.{Network, Connection, State, node_at, role_at, is_source, is_keeper, enters, writers_of, readers_of, used_outputs, taken_by}
 use Rattle.stream_model.specs.Machine.{Capacities, Job, tag_of}
 use Rattle.stream_laws.specs.Tags.{brought}
-use Rattle.settings.specs.Timelines.{Settings}
+use Rattle.recordings.specs.Recent.{SettingsState}
 use Rattle.ring_readers.specs.State.{with_items, with_taken, without_reader}
 use Rattle.tags.specs.TagList.{insert_tags}
 use Rattle.buffers.specs.Buffer.{wanted_tags}
-use Rattle.plant_laws.specs.Stored.{OutputBuffer, Collected, Stored, tape_at, buffers_in, buffer_in, buffer_at, sink_at}
+use Rattle.plant_laws.specs.Stored.{OutputBuffer, Collected, Stored, tape_at, timeline_at, buffers_in, buffer_in, buffer_at, sink_at}
 use Rattle.plant_laws.specs.Holds.{has_no_reader}
 
 -- feeding puts items at the end of a tape, and its marks among the tags
@@ -23,7 +23,7 @@ with_fed stored b xs ms =
 abbrev pub with_closed : Stored → ℕ → Stored
 with_closed stored b = record stored { tapes = slice_set stored.tapes b (record (tape_at stored b) { closed = true }) }
 
-abbrev pub with_settings : Stored → ℕ → Settings → Stored
+abbrev pub with_settings : Stored → ℕ → SettingsState → Stored
 with_settings stored b s = record stored { timelines = slice_set stored.timelines b (Some s) }
 
 -- a buffer with more items and tags, one of whose readers takes items, and one that waits for a reader no longer
@@ -113,3 +113,11 @@ with_tape_from stored b to = record stored { tapes = slice_set stored.tapes b (r
 
 abbrev pub with_sink_from : Stored → ℕ → ℕ → Stored
 with_sink_from stored b to = record stored { sinks = slice_set stored.sinks b (record (sink_at stored b) { from = to }) }
+
+-- no item before one is read with settings any more
+abbrev pub with_settings_to : ℕ → Option SettingsState → Option SettingsState
+with_settings_to to None = None
+with_settings_to to (Some s) = Some (record s { from = to })
+
+abbrev pub with_settings_from : Stored → ℕ → ℕ → Stored
+with_settings_from stored b to = record stored { timelines = slice_set stored.timelines b (with_settings_to to (timeline_at stored b)) }

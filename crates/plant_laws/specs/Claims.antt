@@ -9,7 +9,7 @@ use Rattle.stream_model.specs.Claims.{Fires, decide}
 use Rattle.stream_model.specs.Machine.{Capacities, counts_of, job_of}
 use Rattle.stream_laws.specs.CanRun.{CanRun}
 use Rattle.machine_laws.specs.Sound.{fired, Fits, Sound}
-use Rattle.settings.specs.Timelines.{Settings}
+use Rattle.recordings.specs.Recent.{SettingsState}
 use Rattle.ring_readers.specs.State.{RingState, IsLive, IsEndOf, reader_at, unread_of, past_of, room_of}
 use Rattle.plant_laws.specs.Stored.{OutputBuffer, Stored, tape_at, timeline_at, word_at, buffer_at}
 use Rattle.plant_laws.specs.Holds.{Holds, has_no_reader}
@@ -44,7 +44,7 @@ abbrev pub tape_windows : Stored → ℕ → ℕ → ℕ → List (List ℤ)
 tape_windows stored b k count = slice_range (tape_at stored b).items k (k + count) ∷ []
 
 -- the settings in force over items
-abbrev pub held_over : Option Settings → ℕ → ℕ → List Held
+abbrev pub held_over : Option SettingsState → ℕ → ℕ → List Held
 held_over None from to = []
 held_over (Some s) from to = between s.own s.settings from to
 

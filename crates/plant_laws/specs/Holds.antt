@@ -10,11 +10,11 @@ use Rattle.stream_model.specs.Claims.{is_abandoned}
 use Rattle.stream_model.specs.Machine.{Capacities, capacity_at, output_counts}
 use Rattle.stream_laws.specs.Tags.{tags_in, brought}
 use Rattle.machine_laws.specs.Sound.{fired}
-use Rattle.settings.specs.Timelines.{Settings}
+use Rattle.recordings.specs.Recent.{SettingsState}
 use Rattle.ring_readers.specs.declared.reader.ReaderState.{ReaderState}
 use Rattle.ring_readers.specs.State.{most_kept}
 use Rattle.buffers.specs.Buffer.{wanted_tags}
-use Rattle.plant_laws.specs.Stored.{Tape, OutputBuffer, Collected, Stored, tape_at, timeline_at, word_at, buffers_in, buffer_at, sink_at}
+use Rattle.plant_laws.specs.Stored.{Tape, OutputBuffer, Collected, Stored, tape_at, timeline_at, settings_from, word_at, buffers_in, buffer_at, sink_at}
 
 -- a source's tape, with its tags put in order
 pub record IsTape (item : ItemType) (handed : Handed) (tape : Tape) : Type 0 where
@@ -24,7 +24,7 @@ pub record IsTape (item : ItemType) (handed : Handed) (tape : Tape) : Type 0 whe
   pub closed : tape.closed ≡ handed.closed
 
 -- a timeline where the block has a parameter of its own: that, and the settings
-abbrev pub IsTimeline : Option Value → List Held → Option Settings → Type 0
+abbrev pub IsTimeline : Option Value → List Held → Option SettingsState → Type 0
 IsTimeline None ts None = ts ≡ []
 IsTimeline None ts (Some s) = ⊥
 IsTimeline (Some own) ts None = ⊥
@@ -92,12 +92,14 @@ pub record HasPlaces (net : Network) (stored : Stored) : Type 0 where
   pub outputs : (b : ℕ) → b < length net.nodes → length (buffers_in stored.buffers b) ≡ used_outputs net b
   pub sinks : length stored.sinks ≡ length net.nodes
 
--- what is stored is what the state's streams say, each thing by itself; what a tape forgot, its source took
+-- what is stored is what the state's streams say, each thing by itself; what a tape forgot, its source took, and settings may be read from the items on
+-- that their block did not take
 pub record Holds (net : Network) (caps : Capacities) (st : State) (stored : Stored) : Type 0 where
   pub places : HasPlaces net stored
   pub tapes : (b : ℕ) → b < length net.nodes → is_source (role_at net b) ≡ true → IsTape (node_at net b).meaning.outputs.item (handed_at st.handed b) (tape_at stored b)
   pub kept : (b : ℕ) → b < length net.nodes → is_source (role_at net b) ≡ true → (tape_at stored b).from ≤ fired st b
   pub timelines : (b : ℕ) → b < length net.nodes → IsTimeline (node_at net b).meaning.own (handed_at st.handed b).settings (timeline_at stored b)
+  pub unread : (b : ℕ) → b < length net.nodes → settings_from (timeline_at stored b) ≤ taken_by (node_at net b) 0 (fired st b)
   pub words : (b : ℕ) → b < length net.nodes → word_at stored b ≡ word_of net st b
   pub buffers : (b p : ℕ) → b < length net.nodes → p < used_outputs net b → IsBuffer net caps st b p (buffer_at stored b p)
   pub sinks : (b : ℕ) → b < length net.nodes → is_keeper (role_at net b) ≡ true → HasCollected net st b (sink_at stored b)

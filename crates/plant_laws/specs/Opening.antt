@@ -5,16 +5,16 @@ use Rattle.stream_model.specs.Settings.{Value}
 use Rattle.stream_model.specs.Network.{Network, Node, Connection, node_at, readers_of, used_outputs, opening_within}
 use Rattle.stream_model.specs.Machine.{Capacities, capacity_at}
 use Rattle.stream_laws.specs.CanRun.{CanRun}
-use Rattle.settings.specs.Timelines.{Settings}
+use Rattle.recordings.specs.Recent.{SettingsState}
 use Rattle.ring_readers.specs.declared.reader.ReaderState.{ReaderState}
 use Rattle.ring_readers.specs.State.{ring_state}
 use Rattle.plant_laws.specs.Stored.{Tape, OutputBuffer, Collected, Stored, no_tape, nothing_collected}
 use Rattle.plant_laws.specs.Holds.{Holds, greatest_history}
 
 -- no settings: the block's own parameter is in force
-abbrev pub own_settings : Option Value → Option Settings
+abbrev pub own_settings : Option Value → Option SettingsState
 own_settings None = None
-own_settings (Some own) = Some (record { own = own; settings = [] })
+own_settings (Some own) = Some (record { own = own; settings = []; from = 0 })
 
 -- a reader before the first item
 abbrev pub first_place : Network → Connection → ReaderState

@@ -1,9 +1,9 @@
 -- What a plant stores, in plain lists.
-use Rattle.std.specs.Prelude.{ℕ, ℤ, List, [], map, Option, None, Bool, false, slice_index_or}
+use Rattle.std.specs.Prelude.{ℕ, ℤ, List, [], map, Option, Some, None, Bool, false, slice_index_or}
 use Rattle.stream_model.specs.declared.vocabulary.ItemType.{ItemType}
 use Rattle.stream_model.specs.declared.vocabulary.ItemType.TheVariants.{Byte}
 use Rattle.stream_model.specs.Tags.{Tag}
-use Rattle.settings.specs.Timelines.{Settings}
+use Rattle.recordings.specs.Recent.{SettingsState}
 use Rattle.ring_readers.specs.State.{RingState, empty_ring}
 
 -- a source's tape: its items with their type, its tags in order, whether it is closed, and the first item that is kept in memory
@@ -31,7 +31,7 @@ pub record Collected : Type 0 where
 -- and what the sinks that keep their items have collected
 pub record Stored : Type 0 where
   pub tapes : List Tape
-  pub timelines : List (Option Settings)
+  pub timelines : List (Option SettingsState)
   pub words : List ℕ
   pub buffers : List (List OutputBuffer)
   pub sinks : List Collected
@@ -49,7 +49,7 @@ nothing_collected = record { item = Byte; items = []; tags = []; from = 0 }
 abbrev pub tape_at : Stored → ℕ → Tape
 tape_at stored b = slice_index_or stored.tapes b no_tape
 
-abbrev pub timeline_at : Stored → ℕ → Option Settings
+abbrev pub timeline_at : Stored → ℕ → Option SettingsState
 timeline_at stored b = slice_index_or stored.timelines b None
 
 abbrev pub word_at : Stored → ℕ → ℕ
@@ -68,10 +68,16 @@ buffer_at stored b p = buffer_in stored.buffers b p
 abbrev pub sink_at : Stored → ℕ → Collected
 sink_at stored b = slice_index_or stored.sinks b nothing_collected
 
--- the first item that is kept of each tape, and of what each sink has collected
+-- the first item at which settings may still be read, where there are any
+abbrev pub settings_from : Option SettingsState → ℕ
+settings_from None = 0
+settings_from (Some s) = s.from
+
+-- the first item that is kept of each tape, and of what each sink has collected, and the first at which the settings of each block may still be read
 pub record Firsts : Type 0 where
   pub tapes : List ℕ
   pub sinks : List ℕ
+  pub settings : List ℕ
 
 abbrev pub firsts_of : Stored → Firsts
-firsts_of stored = record { tapes = map (λ (t : Tape). t.from) stored.tapes; sinks = map (λ (s : Collected). s.from) stored.sinks }
+firsts_of stored = record { tapes = map (λ (t : Tape). t.from) stored.tapes; sinks = map (λ (s : Collected). s.from) stored.sinks; settings = map settings_from stored.timelines }

@@ -1,10 +1,14 @@
--- What a contract sees of items and of tags of which only the last may be in memory: all of them.
-use Rattle.std.specs.Prelude.{◌≡◌, ℕ, ◌+◌, ◌*◌, ◌^◌, ◌<◌, ◌≤◌, ℤ, List, length, take, flat_map, All}
+-- What a contract sees of items, tags and settings of which only the last may be in memory: all of them.
+use Rattle.std.specs.Prelude.{◌≡◌, ℕ, ◌+◌, ◌*◌, ◌^◌, ◌<◌, ◌≤◌, ℤ, List, [], length, take, fold, flat_map, All}
 use Rattle.stream_model.specs.declared.vocabulary.ItemType.{ItemType}
 use Rattle.stream_model.specs.Tags.{Tag, tags_within}
+use Rattle.stream_model.specs.Settings as model
 use Rattle.items.specs.declared.stream_items.Items.{Items}
 use Rattle.items.specs.Items.{numbers_of}
 use Rattle.tags.specs.TagList.{TagList}
+use Rattle.settings.specs.declared.value.Value.{Value}
+use Rattle.settings.specs.Values.{placed}
+use Rattle.settings.specs.Timelines.{kept_from}
 
 -- the type of the items, all items, the first that is kept, and how many more fit before memory is needed
 pub record ItemsState : Type 0 where
@@ -36,3 +40,20 @@ pub record AreRecent (forgotten : List (Items × ℕ)) (before gone : ℕ) (item
 -- what is forgotten lies on items before the first whose tags are kept
 abbrev pub LieBefore : ℕ → List (TagList × ℕ) → Type 0
 LieBefore from pieces = All (λ t. t.offset < from) (forgotten_tags pieces)
+
+-- a block's own parameter, all settings by their items, and the first item at which they may still be read
+pub record SettingsState : Type 0 where
+  pub own : model.Value
+  pub settings : List model.Held
+  pub from : ℕ
+
+-- the settings that these calls made, each a value with its item
+abbrev pub settings_made : List (Value × ℕ) → List model.Held
+settings_made calls = fold (λ hs call. model.put_setting (placed (call.1, call.0)) hs) [] calls
+
+-- of these settings those are in memory that were made at an item or later, and so is that in force at item from, if it is no more the block's own
+pub record ArePastSettings (own : model.Value) (made : List model.Held) (from : ℕ) (kept : List model.Held) : Type 0 where
+  pub first : ℕ
+  pub reads : first ≤ (model.setting_at own made from).at
+  pub rising : model.IsRising made
+  pub kept_is : kept ≡ kept_from first made

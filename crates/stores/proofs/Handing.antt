@@ -8,7 +8,7 @@ use Rattle.stream_model.specs.Network.{Progress, State, handed_at, nothing_hande
 use Rattle.stream_model.specs.Tags.{Mark}
 use Rattle.stream_model.specs.Settings.{Held, put_setting}
 use Rattle.stream_model.specs.Machine.{with_handed, with_tape, tag_of}
-use Rattle.settings.specs.Timelines.{Settings}
+use Rattle.recordings.specs.Recent.{SettingsState}
 use Rattle.tags.specs.TagList.{insert_tags}
 use Rattle.recordings.specs.Recording.{RecordingState}
 use Rattle.buffers.specs.Buffer.{BufferState}
@@ -70,7 +70,7 @@ module _ (hs : List Intake) (b : ℕ) (old : Intake) (in' : b < length hs) (here
     pub stored_setting : (h : Held) (new : Intake) → (set : IsSet h old new) → stored_of (slice_set hs b new) words rows sinks ≡ with_settings now b set.timeline.after
     stored_setting h new set =
         timeline_set hs words rows sinks b new old (set.tape ∙ ap tape_of here)
-        ∙ ap (λ (t : Option Settings). record now { timelines = slice_set (map (λ (h : Intake). h.timeline) hs) b t }) set.timeline.has
+        ∙ ap (λ (t : Option SettingsState). record now { timelines = slice_set (map (λ (h : Intake). h.timeline) hs) b t }) set.timeline.has
 
     pub setting_before : (h : Held) (new : Intake) → (set : IsSet h old new) → timeline_at now b ≡ Some set.timeline.before
     setting_before h new set = timeline_before ∙ set.timeline.had

@@ -124,4 +124,4 @@ module _ (names : List (List ℕ)) (net : Network) (can : CanRun net) (valid : I
           }
 
       pub can_lend : CanLend net stored b (fired st b) count
-      can_lend = record { inside = may.inside; places = holds.places; tape = has_tape; inputs = has_input; words = fits_words }
+      can_lend = record { inside = may.inside; places = holds.places; tape = has_tape; settings = holds.unread b may.inside; inputs = has_input; words = fits_words }

@@ -13,7 +13,7 @@ use Rattle.ring_readers.specs.State.{IsLive, empty_ring, reader_at, unread_of}
 use Rattle.buffers.specs.Buffer.{BufferState}
 use Rattle.recordings.specs.Recording.{RecordingState}
 use Rattle.block_kinds.specs.Work.{IsReady}
-use Rattle.plant_laws.specs.Stored.{Stored, tape_at, timeline_at, word_at}
+use Rattle.plant_laws.specs.Stored.{Stored, tape_at, timeline_at, settings_from, word_at}
 use Rattle.plant_laws.specs.Holds.{HasPlaces}
 use Rattle.plant_laws.specs.Changes.{tags_waiting, tags_brought}
 use Rattle.plant_laws.specs.Claims.{IsSeen, input_buffer, input_reader, tape_windows, held_over}
@@ -52,6 +52,7 @@ pub record CanLend (net : Network) (stored : Stored) (b first count : ℕ) : Typ
   pub inside : b < length net.nodes
   pub places : HasPlaces net stored
   pub tape : is_source (role_at net b) ≡ true → HasTapeItems net stored b first (first + count)
+  pub settings : settings_from (timeline_at stored b) ≤ taken_by (node_at net b) 0 first
   pub inputs : (p : ℕ) → p < length (writers_of net b) → HasInput net stored b p first (first + count)
   pub words : FitsWords net b (first + count)
 

@@ -7,17 +7,18 @@ use Rattle.stream_model.specs.Network.{Progress, State}
 use Rattle.stream_model.specs.Machine.{with_tape, tag_of}
 use Rattle.tags.specs.TagList.{insert_tags}
 use Rattle.stream_model.specs.Settings.{Held, put_setting}
-use Rattle.settings.specs.Timelines.{Settings}
+use Rattle.recordings.specs.Recent.{SettingsState}
 use Rattle.recordings.specs.Recording.{RecordingState}
 use Rattle.buffers.specs.Buffer.{BufferState}
-use Rattle.plant_laws.specs.Stored.{Tape, OutputBuffer, Collected, Stored}
+use Rattle.plant_laws.specs.Stored.{Tape, OutputBuffer, Collected, Stored, settings_from}
+use Rattle.plant_laws.specs.Changes.{with_settings_to}
 use Rattle.plant_laws.specs.Calls.{TakesOneMore}
 pub use Rattle.stores.specs.Marks.{mark_of, stamped}
 use Rattle.stores.specs.declared.intake.Intake.{Intake}
 use Rattle.stores.specs.declared.stores.Stores.{Stores}
 
 -- the settings of a block, none where it has no setting
-abbrev pub settings_in : Option Settings → List Held
+abbrev pub settings_in : Option SettingsState → List Held
 settings_in None = []
 settings_in (Some s) = s.settings
 
@@ -51,6 +52,11 @@ stored_in s = stored_of s.handed.items s.words.items (rows_in s) s.sinks.items
 abbrev pub state_of : List Intake → List Progress → State
 state_of handed progress = record { handed = map handed_of handed; progress = progress }
 
+-- nothing of what was handed to a block is forgotten
+pub record IsWhole (h : Intake) : Type 0 where
+  pub tape : (arc_value h.tape).from ≡ 0
+  pub settings : settings_from h.timeline ≡ 0
+
 -- nothing that was handed to a block changed
 pub record IsAsBefore (old new : Intake) : Type 0 where
   pub handed : handed_of new ≡ handed_of old
@@ -64,9 +70,9 @@ pub record IsFed (b : ℕ) (xs : List ℤ) (ms : List model_tags.Mark) (old new 
   pub timeline : new.timeline ≡ old.timeline
 
 -- there is a timeline before and after, with one more setting
-pub record HasOneMore (h : Held) (old new : Option Settings) : Type 0 where
-  pub before : Settings
-  pub after : Settings
+pub record HasOneMore (h : Held) (old new : Option SettingsState) : Type 0 where
+  pub before : SettingsState
+  pub after : SettingsState
   pub had : old ≡ Some before
   pub has : new ≡ Some after
   pub more : TakesOneMore before after h
@@ -82,3 +88,9 @@ pub record HasForgotten (to : ℕ) (old new : Intake) : Type 0 where
   pub handed : handed_of new ≡ handed_of old
   pub tape : tape_of new ≡ record (tape_of old) { from = to }
   pub timeline : new.timeline ≡ old.timeline
+
+-- its settings are read from an item on; a contract sees all of them still
+pub record HasForgottenSettings (to : ℕ) (old new : Intake) : Type 0 where
+  pub handed : handed_of new ≡ handed_of old
+  pub tape : tape_of new ≡ tape_of old
+  pub timeline : new.timeline ≡ with_settings_to to old.timeline

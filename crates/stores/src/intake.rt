@@ -8,15 +8,17 @@ ghost use Rattle.stream_model.specs.Network.{nothing_within};
 ghost use Rattle.items.specs.Items.{type_of, numbers_of};
 ghost use Rattle.settings.specs.Values.{value_of};
 ghost use Rattle.settings.specs.Timelines.{held_at};
-ghost use Rattle.plant_laws.specs.Stored.{no_tape};
+ghost use Rattle.plant_laws.specs.Stored.{no_tape, settings_from};
+ghost use Rattle.plant_laws.specs.Changes.{with_settings_to};
 ghost use Rattle.plant_laws.specs.Opening.{own_settings};
 ghost use Rattle.stores.specs.Marks.{mark_of};
 ghost use Rattle.stores.specs.Tapes.{longer_tape};
-ghost use Rattle.stores.specs.Stores.{handed_of, tape_of, settings_in, HasForgotten, HasOneMore, IsAsBefore, IsFed, IsSet};
+ghost use Rattle.stores.specs.Stores.{handed_of, tape_of, settings_in, HasForgotten, HasForgottenSettings, HasOneMore, IsAsBefore, IsFed, IsSet};
 
 use crate::tape::Tape;
 use items::{ItemType, Items, Mark};
-use settings::{Timeline, Value};
+use recordings::RecentSettings;
+use settings::Value;
 use std::alloc::{AllocError, Global};
 use std::sync::Arc;
 
@@ -27,7 +29,7 @@ pub struct Intake {
     /// Whether the tape is closed.
     pub closed: bool,
     /// The settings, where the block has one.
-    pub timeline: Option<Timeline>,
+    pub timeline: Option<RecentSettings>,
     /// The most items that the tape may come to hold.
     pub longest: u64,
 }
@@ -46,7 +48,7 @@ impl Intake {
         ensures timeline { IfOk result (λ intake. intake.timeline ≡ own_settings (option_map value_of own)) }
     {
         let timeline = match own {
-            Some(value) => Some(Timeline::new(alloc, value)),
+            Some(value) => Some(RecentSettings::new(alloc, value)),
             None => None,
         };
         Ok(Intake {
@@ -77,9 +79,18 @@ impl Intake {
         forget_in(&mut self.tape, to)
     }
 
+    /// The settings that no item from `to` on is read with are forgotten. It takes no memory.
+    pub fn forget_settings(&mut self, to: u64)
+        requires { settings_from self.old.timeline ≤ to }
+        ensures { HasForgottenSettings to self.old self.new }
+    {
+        forget_settings_in(&mut self.timeline, to);
+    }
+
     /// Sets what is in force from an item on. An `Err` changes nothing, and comes only where there is no setting of that item yet.
     pub fn set(&mut self, at: u64, value: Value) -> Result<(), AllocError>
-        requires { IsSome self.old.timeline }
+        requires some { IsSome self.old.timeline }
+        requires unread { settings_from self.old.timeline ≤ at }
         ensures ok { OnOk result (IsSet (held_at at (value_of value)) self.old self.new) }
         ensures err { OnErr result (IsAsBefore self.old self.new) }
         ensures replaces { Any (λ h. h.at ≡ at) (settings_in self.old.timeline) → IsOk result }
@@ -123,18 +134,26 @@ fn forget_in(tape: &mut Arc<Tape, Global>, to: u64) -> Result<(), AllocError>
     Ok(())
 }
 
-// Sets a value from an item on, whichever it is: no floor is asked of the timeline.
-fn set_in(timeline: &mut Option<Timeline>, at: u64, value: Value) -> Result<(), AllocError>
-    requires { IsSome timeline.old }
+// Forgets the settings that no item from `to` on is read with.
+fn forget_settings_in(timeline: &mut Option<RecentSettings>, to: u64)
+    requires { settings_from timeline.old ≤ to }
+    ensures { timeline.new ≡ with_settings_to to timeline.old }
+{
+    if let Some(settings) = timeline {
+        settings.forget(to);
+    }
+}
+
+// Sets a value from an item on.
+fn set_in(timeline: &mut Option<RecentSettings>, at: u64, value: Value) -> Result<(), AllocError>
+    requires some { IsSome timeline.old }
+    requires unread { settings_from timeline.old ≤ at }
     ensures ok { OnOk result (HasOneMore (held_at at (value_of value)) timeline.old timeline.new) }
     ensures err { OnErr result (timeline.new ≡ timeline.old) }
     ensures replaces { Any (λ h. h.at ≡ at) (settings_in timeline.old) → IsOk result }
 {
     match timeline {
-        Some(timeline) => match timeline.set(at, value, 0) {
-            Ok(()) => Ok(()),
-            Err(_) => Err(AllocError),
-        },
+        Some(settings) => settings.set(at, value),
         None => unreachable!(),
     }
 }

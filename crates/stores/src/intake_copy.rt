@@ -3,11 +3,13 @@
 ghost use Rattle.std.specs.Arc.{arc_value};
 ghost use Rattle.std.specs.Prelude.{◌≡◌, ◌↔◌, map, IsTrue, IfOk};
 ghost use Rattle.settings.specs.Values.{held_of};
-ghost use Rattle.stores.specs.Stores.{handed_of, settings_in};
+ghost use Rattle.plant_laws.specs.Stored.{settings_from};
+ghost use Rattle.stores.specs.Stores.{IsWhole, handed_of, settings_in};
 
 use crate::intake::Intake;
 use crate::tape::Tape;
-use settings::{Held, Timeline};
+use recordings::RecentSettings;
+use settings::Held;
 use std::alloc::{AllocError, Global};
 use std::fmt;
 use std::marker::Model;
@@ -57,7 +59,7 @@ impl Model for IntakeCopy {
 impl IntakeCopy {
     /// A copy of what a block was handed. It takes memory for the settings alone, and fails only where the allocator refuses.
     pub fn of(alloc: Global, intake: &Intake) -> Result<IntakeCopy, AllocError>
-        requires { (arc_value intake.now.tape).from ≡ 0 }
+        requires { IsWhole intake.now }
         ensures { IfOk result (λ copy. copy ≡ handed_of intake.now) }
     {
         Ok(IntakeCopy {
@@ -71,7 +73,7 @@ impl IntakeCopy {
     /// Whether the block was handed the same: the items of its tape, the tags in the order of feeding, whether it is closed, how long it may
     /// come to be, and the settings.
     pub fn agrees(&self, intake: &Intake) -> bool
-        requires { (arc_value intake.now.tape).from ≡ 0 }
+        requires { IsWhole intake.now }
         ensures { IsTrue result ↔ (self.now ≡ handed_of intake.now) }
     {
         self.closed == intake.closed
@@ -92,7 +94,8 @@ impl IntakeCopy {
 }
 
 // A copy of the settings of a block, none where it has no setting.
-fn settings_of(alloc: Global, timeline: &Option<Timeline>) -> Result<Vec<Held>, AllocError>
+fn settings_of(alloc: Global, timeline: &Option<RecentSettings>) -> Result<Vec<Held>, AllocError>
+    requires { settings_from timeline.now ≡ 0 }
     ensures { IfOk result (λ settings. map held_of settings.items ≡ settings_in timeline.now) }
 {
     match timeline {
@@ -102,7 +105,8 @@ fn settings_of(alloc: Global, timeline: &Option<Timeline>) -> Result<Vec<Held>, 
 }
 
 // Whether these are the settings of a block.
-fn are_settings(settings: &[Held], timeline: &Option<Timeline>) -> bool
+fn are_settings(settings: &[Held], timeline: &Option<RecentSettings>) -> bool
+    requires { settings_from timeline.now ≡ 0 }
     ensures { IsTrue result ↔ (map held_of settings.now ≡ settings_in timeline.now) }
 {
     match timeline {

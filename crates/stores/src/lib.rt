@@ -10,7 +10,7 @@ pub mod tape;
 
 pub use intake::Intake;
 pub use intake_copy::IntakeCopy;
-pub use recordings::Recording;
+pub use recordings::{RecentSettings, Recording};
 pub use stored::Stored;
 pub use stores::Stores;
 pub use tape::{Tape, are_same};

@@ -1,8 +1,8 @@
 -- What a contract sees of a plant that streams.
-use Rattle.std.specs.Prelude.{ℕ, ◌+◌, ◌<◌, ◌≡◌, List, ◌++◌, length, take, true, slice_index_or, slice_set, ℤ}
+use Rattle.std.specs.Prelude.{ℕ, ◌+◌, ◌<◌, ◌≡◌, List, ◌++◌, length, take, true, false, IsSome, slice_index_or, slice_set, ℤ}
 use Rattle.stream_model.specs.Tags.{Tag, tags_within}
 use Rattle.stream_model.specs.Meaning.{Meaning, input}
-use Rattle.stream_model.specs.Network.{Network, State, role_at, is_source, entering, tags_entering}
+use Rattle.stream_model.specs.Network.{Network, State, node_at, role_at, is_source, taken_by, entering, tags_entering}
 use Rattle.stream_model.specs.Machine.{Capacities, Call, run_of, is_idle}
 use Rattle.graph_model.specs.Gains.{longest_within_gain}
 use Rattle.machine_laws.specs.Sound.{fired}
@@ -12,7 +12,8 @@ use Rattle.plant.specs.declared.parts.Parts.{Parts}
 use Rattle.plant.specs.Plant.{IsRight, PlantState, plant_of}
 use Rattle.plant.specs.Opening.{opening_plant_within}
 
--- the plant as it would be if it forgot nothing, and the first item that is kept in memory of each tape, and of what each sink has collected
+-- the plant as it would be if it forgot nothing, and the first item that is kept in memory of each tape, of what each sink has collected, and of each
+-- block's settings
 pub record StreamingState (B : Type 0) : Type 0 where
   pub plant : PlantState B
   pub kept : Firsts
@@ -30,6 +31,10 @@ drained s b = slice_index_or s.kept.sinks b 0
 abbrev pub tape_kept : {B : Type 0} → StreamingState B → ℕ → ℕ
 tape_kept s b = slice_index_or s.kept.tapes b 0
 
+-- the first item at which a block's settings may still be read
+abbrev pub settings_kept : {B : Type 0} → StreamingState B → ℕ → ℕ
+settings_kept s b = slice_index_or s.kept.settings b 0
+
 -- the one stream that enters a sink, and its tags, by the equations of the blocks
 abbrev pub stream_into : Network → State → ℕ → List ℤ
 stream_into net st b = input (entering net st.handed b) 0
@@ -46,10 +51,12 @@ pub record HasDrainedTo {B : Type 0} (old new : StreamingState B) (sink to : ℕ
   pub plant : new.plant ≡ old.plant
   pub tapes : new.kept.tapes ≡ old.kept.tapes
   pub sinks : new.kept.sinks ≡ slice_set old.kept.sinks sink to
+  pub settings : new.kept.settings ≡ old.kept.settings
 
--- of no tape is anything kept that its source has taken
-abbrev pub KeepsNoTaken : {B : Type 0} → Network → StreamingState B → Type 0
-KeepsNoTaken net s = (b : ℕ) → b < length net.nodes → is_source (role_at net b) ≡ true → tape_kept s b ≡ fired s.plant.state b
+-- of no tape is anything kept that its source has taken, nor of the settings of a block that has some what no item is read with any more
+pub record KeepsNoTaken {B : Type 0} (net : Network) (s : StreamingState B) : Type 0 where
+  pub tapes : (b : ℕ) → b < length net.nodes → is_source (role_at net b) ≡ true → tape_kept s b ≡ fired s.plant.state b
+  pub settings : (b : ℕ) → b < length net.nodes → is_source (role_at net b) ≡ false → IsSome (node_at net b).meaning.own → settings_kept s b ≡ taken_by (node_at net b) 0 (fired s.plant.state b)
 
 -- what is drained of a sink goes on where it stopped: with these items and tags, what was drained is a longer beginning of the stream
 pub record GoesOn (net : Network) (st : State) (b from : ℕ) (items : List ℤ) (tags : List Tag) : Type 0 where

@@ -1,4 +1,4 @@
-//! How much is in memory of what sources were fed and of what sinks have taken.
+//! How much is in memory of what sources were fed, of what sinks have taken, and of settings.
 
 ghost use Rattle.std.specs.Prelude.{◌-◌, ◌*◌, ◌<◌, ◌≡◌, ◌≤◌, length, true, slice_index_or};
 ghost use Rattle.stream_model.specs.Network.{handed_at, role_at, is_keeper, is_source};
@@ -27,6 +27,17 @@ pub(crate) fn items_in_memory<B: Block>(parts: &Parts<B>, block: BlockId) -> usi
         Role::Source => parts.stores.handed[at].tape.recording().in_memory(),
         Role::Keep => parts.stores.sinks[at].in_memory(),
         Role::Work | Role::Discard => 0,
+    }
+}
+
+/// How many settings of a block are in memory.
+pub(crate) fn settings_in_memory<B: Block>(parts: &Parts<B>, block: BlockId) -> usize {
+    let Some(intake) = parts.stores.handed.get(block.0 as usize) else {
+        return 0;
+    };
+    match &intake.timeline {
+        Some(settings) => settings.in_memory(),
+        None => 0,
     }
 }
 

@@ -25,7 +25,7 @@ ghost use Rattle.streaming.specs.Streaming.{GoesOn, HasDrainedTo, KeepsNoTaken, 
 
 use crate::draining::{Appended, consume, drain, drain_into, peek};
 use crate::forgetting::forget_taken;
-use crate::memory::{items_in_memory, tags_in_memory};
+use crate::memory::{items_in_memory, settings_in_memory, tags_in_memory};
 use firings::BlockNeed;
 use flowgraph::{Block, BlockId, Valid};
 use items::{ItemType, Items, Mark};
@@ -174,7 +174,7 @@ impl<B: Block> StreamingPlant<B> {
         self.parts.step(alloc, block, max)
     }
 
-    /// Forgets all that sources have taken. It takes no memory, and an `Err` never comes while nobody shares a tape.
+    /// Forgets all that sources have taken, and the settings that no item is read with any more. It takes no memory, and an `Err` never comes while nobody shares a tape.
     pub fn release(&mut self) -> Result<(), AllocError>
         ensures plant { self.new.plant ≡ self.old.plant }
         ensures sinks { self.new.kept.sinks ≡ self.old.kept.sinks }
@@ -184,7 +184,7 @@ impl<B: Block> StreamingPlant<B> {
     }
 
     /// Steps all blocks in their order, at most `max` firings each, again and again, until all are done, or a whole round did nothing. Then it
-    /// forgets what sources have taken. Where it is out of memory it stops, and stays where its steps took it.
+    /// forgets what sources have taken, and settings that are past. Where it is out of memory it stops, and stays where its steps took it.
     pub fn settle(&mut self, alloc: Global, max: u32) -> Result<Settled, AllocError>
         requires { 1 ≤ max }
         ensures same { self.new.plant ≡ record self.old.plant { state = self.new.plant.state } }
@@ -315,6 +315,11 @@ impl<B: Block> StreamingPlant<B> {
     /// How many tags are in memory of these.
     pub fn tags_in_memory(&self, block: BlockId) -> usize {
         tags_in_memory(&self.parts, block)
+    }
+
+    /// How many settings of a block are in memory: that in force at the first item that it has not taken, and those made for later items.
+    pub fn settings_in_memory(&self, block: BlockId) -> usize {
+        settings_in_memory(&self.parts, block)
     }
 
     /// Recalls what every plant that streams keeps: the graph can run, the state is one that calls lead to, nothing is in flight, each block has a place for how much was

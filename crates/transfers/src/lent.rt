@@ -3,7 +3,7 @@ ghost use Rattle.std.specs.Prelude.{◌≡◌, ◌+◌, ◌*◌, ◌^◌, ◌<�
 ghost use Rattle.stream_model.specs.Network.{node_at, taken_by};
 ghost use Rattle.settings.specs.Values.{held_of};
 ghost use Rattle.flowgraph.specs.Flowgraph.{net_of};
-ghost use Rattle.plant_laws.specs.Stored.{timeline_at};
+ghost use Rattle.plant_laws.specs.Stored.{timeline_at, settings_from};
 ghost use Rattle.plant_laws.specs.Claims.{held_over};
 ghost use Rattle.stores.specs.Stores.{stored_in};
 ghost use Rattle.stores.specs.Lending.{CanLend, IsLent};
@@ -14,9 +14,9 @@ use crate::windows::lend_windows;
 use block_kinds::Block;
 use flowgraph::{BlockId, Valid};
 use jobs::Lent;
-use settings::{Held, SettingFault, Timeline};
+use settings::Held;
 use std::alloc::{AllocError, Global};
-use stores::Stores;
+use stores::{RecentSettings, Stores};
 
 /// Makes `lent` what a job of these firings is lent, in the memory that it has where that suffices. It fails only where the allocator
 /// refuses. The items that `lent` has are then left open, but none of its memory is lost.
@@ -63,7 +63,7 @@ pub fn lend<B: Block>(
 fn lend_settings<B: Block>(
     alloc: Global,
     graph: &Valid<B>,
-    timeline: &Option<Timeline>,
+    timeline: &Option<RecentSettings>,
     block: BlockId,
     first: u64,
     next: u64,
@@ -73,6 +73,7 @@ fn lend_settings<B: Block>(
     requires ordered { first ≤ next }
     requires firings { (node_at (net_of B.meaning graph.now) block.0).multiple * next < 2 ^ 62 }
     requires taken { taken_by (node_at (net_of B.meaning graph.now) block.0) 0 next < 2 ^ 62 }
+    requires unread { settings_from timeline.now ≤ taken_by (node_at (net_of B.meaning graph.now) block.0) 0 first }
     ensures held { let n = node_at (net_of B.meaning graph.now) block.0 in
         OnOk result (map held_of held.new.items ≡ held_over timeline.now (taken_by n 0 first) (taken_by n 0 next)) }
     ensures succeeds { timeline.now ≡ None → IsOk result }
@@ -86,11 +87,7 @@ fn lend_settings<B: Block>(
             graph.recall();
             let from = graph.taken(block, 0, first);
             let to = graph.taken(block, 0, next);
-            match timeline.copy_between(alloc, from, to, held) {
-                Ok(()) => Ok(()),
-                Err(SettingFault::Memory) => Err(AllocError),
-                Err(SettingFault::Late { .. }) => unreachable!(),
-            }
+            timeline.copy_between(alloc, from, to, held)
         }
     }
 }

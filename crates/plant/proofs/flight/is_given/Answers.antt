@@ -32,6 +32,9 @@ are_held-requires-clause-firings g c = sights.to_fits (claim g (goal.at.are_held
 pub are_held-requires-clause-taken : goal.are_held-requires-clause-taken
 are_held-requires-clause-taken g c = sights.to_small (claim g (goal.at.are_held-requires-clause-taken g c).After-from)
 
+pub are_held-requires-clause-unread : goal.are_held-requires-clause-unread
+are_held-requires-clause-unread g c = sights.settings_unread (claim g (goal.at.are_held-requires-clause-unread g c).After-from) c.index-handed.result.now c.index-handed.ensures
+
 pub is_cut-requires-clause-within : goal.is_cut-requires-clause-within
 is_cut-requires-clause-within g c =
     let source : is_source (role_at (net_of g.B.Block.meaning c.args.graph.now) c.args.block.0) ≡ true = ap is_source (sym c.role.ensures ∙ c.in-Source.is) in

@@ -1,4 +1,4 @@
-use Rattle.std.proofs.Common.{◌≡◌, ◌∙◌, List, ap, sym, subst, arith, length, map}
+use Rattle.std.proofs.Common.{◌≡◌, ◌∙◌, List, refl, ap, sym, subst, arith, length, map}
 use Rattle.std.specs.Prelude.{OnOk}
 use Rattle.std.specs.List.{All}
 use Rattle.std.proofs.lemmas.List.{with_items_is}
@@ -11,6 +11,7 @@ use Rattle.stream_model.specs.Network.{node_at, writers_of}
 use Rattle.flowgraph.specs.Flowgraph.{net_of, node_of}
 use Rattle.stores.specs.Stores.{stored_in, tape_of}
 use Rattle.transfers.specs.declared.firing_range.FiringRange.{FiringRange}
+use Rattle.transfers.specs.Places.{KeepRoom, windows_of}
 use Rattle.transfers.proofs.Reading.{can_read_here}
 use Rattle.transfers.proofs.WindowLists.{windows_read}
 use Rattle.transfers.proofs.Wires.{as_many_inputs}
@@ -34,6 +35,20 @@ returns-clause-types g c =
     let back = with_items_is c.resize-2.new.places read (c.read_inputs.auto.windows ∙ c.deref_mut.ensures.len) in
     subst (λ (ws : List Items). OnOk c.read_inputs.result (All (λ w. type_of w ≡ (node_at net c.args.block.0).meaning.inputs.item) ws)) (sym back)
     (on_ok_weaker c.read_inputs.result (λ seen p d less. (seen p d less).type ∙ ap (λ (f : FiringRange). (node_at net f.block.0).meaning.inputs.item) c.new-firings.ensures) c.read_inputs.ensures.read)
+
+pub returns-clause-keeps : goal.returns-clause-keeps
+returns-clause-keeps g c are =
+    let net = net_of g.B.Block.meaning c.args.graph.now in
+    let read = c.read_inputs.new.windows in
+    let back = with_items_is c.resize-2.new.places read (c.read_inputs.auto.windows ∙ c.deref_mut.ensures.len) in
+    let table = as_many_inputs net c.args.block.0 c.inputs.result.now c.inputs.ensures.writers in
+    let many : windows_of net c.args.block.0 ≡ length (writers_of net c.args.block.0) =
+    (let none = sym c.is_source.ensures ∙ c.if-is_source.false in rw (windows_of, none) refl) in
+    let same = c.deref_mut.ensures.value ∙ c.resize-2.ensures.same (are.many ∙ many ∙ sym table) in
+    subst (KeepRoom c.args.windows.now.items) (sym back)
+    (subst (λ ws. KeepRoom ws read) same
+    (c.read_inputs.ensures.keeps (subst (All (λ w. type_of w ≡ (node_at net c.new-firings.result.block.0).meaning.inputs.item)) (sym same)
+    (λ p d less. are.types p d less ∙ sym (ap (λ (f : FiringRange). (node_at net f.block.0).meaning.inputs.item) c.new-firings.ensures)))))
 
 pub read_inputs-requires-clause-reads : goal.read_inputs-requires-clause-reads
 read_inputs-requires-clause-reads g c =

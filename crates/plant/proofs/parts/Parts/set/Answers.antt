@@ -1,4 +1,4 @@
-use Rattle.std.proofs.Common.{◌≡◌, ◌≤◌, Some, refl, arith, ap, sym, ◌∙◌}
+use Rattle.std.proofs.Common.{◌≡◌, ◌≤◌, Option, Some, refl, arith, ap, sym, ◌∙◌}
 use Rattle.std.proofs.lemmas.Result.{err_from_is_err_and}
 use Rattle.std.specs.Arc.{arc_value}
 use Rattle.std.specs.Option.{unwrap_or}
@@ -10,12 +10,18 @@ use Rattle.stores.specs.Stores.{state_of}
 use Rattle.plant.specs.Setting.{fault_in}
 use Rattle.plant.proofs.Refusals.{answered}
 use Rattle.plant.proofs.Moves.{keeps_same, state_same}
-use Rattle.plant.proofs.Sets.{taken_there, set-refused, set-late, input_there, takes, has_timeline, has_place, refusal_sets_nothing, sets, keeps_set}
+use Rattle.plant.proofs.Sets.{taken_there, set-refused, set-late, input_there, takes, has_timeline, unread_there, has_place, refusal_sets_nothing, sets, keeps_set}
 use Rattle.stream_model.specs.Network.{Handed}
 use Rattle.plant_laws.specs.Stored as stored
 use Rattle.plant.proofs.Spans.{spans_handed}
 use Rattle.plant.proofs.Moves.{handed_long}
+use Rattle.recordings.specs.Recent.{SettingsState}
+use Rattle.stream_model.specs.Settings.{Held}
+use Rattle.stores.specs.Stores.{HasOneMore}
 use Rattle.plant.proofs.parts.Parts.set.Goals as goal
+
+unread_same : {h : Held} {old new : Option SettingsState} → HasOneMore h old new → stored.settings_from new ≡ stored.settings_from old
+unread_same one = ap stored.settings_from one.has ∙ one.more.2 ∙ sym (ap stored.settings_from one.had)
 
 pub returns-in_err-wanted-clause-answered : goal.returns-in_err-wanted-clause-answered
 returns-in_err-wanted-clause-answered g c =
@@ -55,14 +61,23 @@ returns-then-place-floor-clause-replaces g c = λ place taken has.
     let late = sym (ap (λ (now : Reply × State). now.0) no) ∙ taken in
     absurd (cc)
 
-pub set-requires : goal.set-requires
-set-requires g c =
+pub set-requires-clause-some : goal.set-requires-clause-some
+set-requires-clause-some g c =
     let net = net_of g.B.Block.meaning (arc_value c.args.self.now.graph) in
     let is = taken_there net c.args.block.0 (value_of c.args.value) (rw (← c.deref-2.ensures) (sym c.wanted.ensures ∙ ap fault_in c.in_ok-wanted.was)) in
     let floor_is : c.floor-floor.result ≡ floor_of net (state_of c.args.self.now.stores.handed.items c.args.self.now.firings) c.args.block.0 = c.floor-floor.ensures in
     let place_is : c.unwrap_or-place.result ≡ unwrap_or c.args.at (floor_of net (state_of c.args.self.now.stores.handed.items c.args.self.now.firings) c.args.block.0) = c.unwrap_or-place.ensures ∙ ap (unwrap_or c.args.at) floor_is in
     let open' : floor_of net (state_of c.args.self.now.stores.handed.items c.args.self.now.firings) c.args.block.0 ≤ c.unwrap_or-place.result = omega (arith, floor_is, c.if-place-floor.false) in
     has_timeline net _ (rw (← c.deref.ensures) c.recall.ensures.runs) _ _ c.requires.keeps c.args.block.0 (value_of c.args.value) is c.args.at c.unwrap_or-place.result place_is open' c.index_mut.result.now c.index_mut.ensures.value
+
+pub set-requires-clause-unread : goal.set-requires-clause-unread
+set-requires-clause-unread g c =
+    let net = net_of g.B.Block.meaning (arc_value c.args.self.now.graph) in
+    let is = taken_there net c.args.block.0 (value_of c.args.value) (rw (← c.deref-2.ensures) (sym c.wanted.ensures ∙ ap fault_in c.in_ok-wanted.was)) in
+    let floor_is : c.floor-floor.result ≡ floor_of net (state_of c.args.self.now.stores.handed.items c.args.self.now.firings) c.args.block.0 = c.floor-floor.ensures in
+    let place_is : c.unwrap_or-place.result ≡ unwrap_or c.args.at (floor_of net (state_of c.args.self.now.stores.handed.items c.args.self.now.firings) c.args.block.0) = c.unwrap_or-place.ensures ∙ ap (unwrap_or c.args.at) floor_is in
+    let open' : floor_of net (state_of c.args.self.now.stores.handed.items c.args.self.now.firings) c.args.block.0 ≤ c.unwrap_or-place.result = omega (arith, floor_is, c.if-place-floor.false) in
+    unread_there net _ (rw (← c.deref.ensures) c.recall.ensures.runs) _ _ c.requires.keeps c.args.block.0 (value_of c.args.value) is c.args.at c.unwrap_or-place.result place_is open' c.index_mut.result.now c.index_mut.ensures.value
 
 pub returns-in_err-set-clause-right : goal.returns-in_err-set-clause-right
 returns-in_err-set-clause-right g c =
@@ -124,7 +139,7 @@ returns-in_err-set-clause-spans g c =
     let long = handed_long net _ (rw (← c.deref.ensures) c.recall.ensures.runs) _ _ c.requires.keeps in
     let same = c.in_err-set.ensures.err in
     spans_handed c.args.self.now.stores c.args.block.0 c.index_mut.result.now c.set.new.self c.index_mut.ensures.value (rw long is.inside)
-    (ap (λ (t : stored.Tape). t.from) same.tape) (ap (λ (h : Handed). h.longest) same.handed)
+    (ap (λ (t : stored.Tape). t.from) same.tape) (ap stored.settings_from same.timeline) (ap (λ (h : Handed). h.longest) same.handed)
 
 pub returns-clause-spans : goal.returns-clause-spans
 returns-clause-spans g c =
@@ -133,4 +148,4 @@ returns-clause-spans g c =
     let long = handed_long net _ (rw (← c.deref.ensures) c.recall.ensures.runs) _ _ c.requires.keeps in
     let set = c.in_ok-set.ensures.ok in
     spans_handed c.args.self.now.stores c.args.block.0 c.index_mut.result.now c.set.new.self c.index_mut.ensures.value (rw long is.inside)
-    (ap (λ (t : stored.Tape). t.from) set.tape) (ap (λ (h : Handed). h.longest) set.handed)
+    (ap (λ (t : stored.Tape). t.from) set.tape) (unread_same set.timeline) (ap (λ (h : Handed). h.longest) set.handed)

@@ -6,8 +6,8 @@ use Rattle.flowgraph.specs.Flowgraph.{net_of, node_of}
 use Rattle.plant_laws.specs.Stored as stored
 use Rattle.plant.specs.Plant.{plant_of}
 use Rattle.plant.proofs.Moves.{handed_long, keeps_same, state_same}
-use Rattle.streaming.proofs.Releases.{keeps_tape, tape_same, froms_set, froms_other}
-use Rattle.streaming.proofs.forgetting.forget_own.Goals as goal
+use Rattle.streaming.proofs.Releases.{keeps_tape, tape_same, froms_set, froms_other, reads_stay}
+use Rattle.streaming.proofs.forgetting.forget_tape.Goals as goal
 
 pub returns-in_err-forget-clause-right : goal.returns-in_err-forget-clause-right
 returns-in_err-forget-clause-right g c =
@@ -45,7 +45,7 @@ returns-clause-same g c =
     (tape_same c.args.parts.now.stores.handed.items c.args.parts.now.firings c.args.block.0 c.progress-taken.result.firings c.index_mut.result.now c.forget.new.self c.index_mut.ensures.value c.in_ok-forget.ensures.ok)
 
 pub returns-clause-own : goal.returns-clause-own
-returns-clause-own g c = λ source.
+returns-clause-own g c =
     let net = net_of g.B.Block.meaning (arc_value c.args.parts.now.graph) in
     let inside : c.args.block.0 < length net.nodes = omega (arith, c.requires.block, length-map (arc_value c.args.parts.now.graph).blocks (node_of g.B.Block.meaning)) in
     let long = handed_long net _ (rw (← c.deref.ensures) c.recall.ensures.runs) _ _ c.requires.right.keeps in
@@ -54,3 +54,11 @@ returns-clause-own g c = λ source.
 
 pub returns-clause-others : goal.returns-clause-others
 returns-clause-others g c = λ a ne. froms_other c.args.parts.now.stores.handed.items c.args.block.0 a c.forget.new.self ne
+
+pub returns-clause-settings : goal.returns-clause-settings
+returns-clause-settings g c =
+    reads_stay c.args.parts.now.stores.handed.items c.args.block.0 c.progress-taken.result.firings c.index_mut.result.now c.forget.new.self c.index_mut.ensures.value c.in_ok-forget.ensures.ok.timeline
+
+pub returns-in_err-forget-clause-settings : goal.returns-in_err-forget-clause-settings
+returns-in_err-forget-clause-settings g c =
+    reads_stay c.args.parts.now.stores.handed.items c.args.block.0 c.progress-taken.result.firings c.index_mut.result.now c.forget.new.self c.index_mut.ensures.value c.in_err-forget.ensures.err.timeline
