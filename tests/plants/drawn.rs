@@ -16,7 +16,9 @@ use streaming::StreamingPlant;
 #[derive(Clone, Copy)]
 pub enum Make {
     Source,
+    ShortSource,
     Sink,
+    ShortSink,
     AddConst(i64),
     MultiplyConst(i64),
     Not,
@@ -36,7 +38,9 @@ fn made(make: Make) -> Result<Kind, ParamFault> {
     let byte = ItemType::Byte;
     Ok(match make {
         Make::Source => Kind::VectorSource(VectorSource::new(byte)),
+        Make::ShortSource => Kind::VectorSource(VectorSource::new(ItemType::Short)),
         Make::Sink => Kind::VectorSink(VectorSink::new(byte)),
+        Make::ShortSink => Kind::VectorSink(VectorSink::new(ItemType::Short)),
         Make::AddConst(value) => Kind::AddConst(AddConst::new(byte, value)?),
         Make::MultiplyConst(value) => Kind::MultiplyConst(MultiplyConst::new(byte, value)?),
         Make::Not => Kind::Not(Not::new(byte)),

@@ -5,6 +5,7 @@ mod balanced;
 mod calls;
 mod drawn;
 mod handed;
+mod marked;
 mod needs;
 mod orders;
 mod pipelines;

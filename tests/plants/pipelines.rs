@@ -3,7 +3,7 @@ use super::drawn::{Make, bytes, mark, plant, streaming};
 use super::orders::drawn;
 use super::streamed::{BLOCKS, SINKS, WIRES};
 use flowgraph::BlockId;
-use items::{Items, Mark};
+use items::{Items, Mark, Refusal};
 use kinds::Kind;
 use pipeline::{ByteOrder, End, Pipeline, PipelineFault, PlantFault, Settled};
 use plant::Plant;
@@ -17,11 +17,11 @@ const SOURCE: BlockId = BlockId(0);
 
 // Gives bytes in pieces of random lengths, and fails at one of its reads.
 #[derive(Drop)]
-struct Pieces {
-    bytes: Vec<u8>,
-    most: u64,
-    chance: u64,
-    reads_left: u64,
+pub struct Pieces {
+    pub bytes: Vec<u8>,
+    pub most: u64,
+    pub chance: u64,
+    pub reads_left: u64,
 }
 
 impl Read for Pieces {
@@ -41,7 +41,7 @@ impl Read for Pieces {
 
 // Keeps what is written, takes a few bytes at once, and fails at one of its writes.
 #[derive(Drop)]
-struct Written {
+pub struct Written {
     bytes: Vec<u8>,
     writes_left: u64,
 }
@@ -64,9 +64,9 @@ impl Write for Written {
     }
 }
 
-type Run = Pipeline<Kind, Pieces, Written>;
+pub type Run = Pipeline<Kind, Pieces, Written>;
 
-fn written(alloc: Global, writes_left: u64) -> Option<Written> {
+pub fn written(alloc: Global, writes_left: u64) -> Option<Written> {
     Some(Written {
         bytes: Vec::new(alloc),
         writes_left,
@@ -74,7 +74,7 @@ fn written(alloc: Global, writes_left: u64) -> Option<Written> {
 }
 
 // What the writers of a sink were given, of items and of tags.
-fn given<'a>(rt: &impl Abort, run: &'a Run, sink: BlockId) -> (&'a [u8], &'a [u8]) {
+pub fn given<'a>(rt: &impl Abort, run: &'a Run, sink: BlockId) -> (&'a [u8], &'a [u8]) {
     let End::Output(output) = &run.ends[sink.0 as usize] else {
         panic!(rt; "an output");
     };
@@ -91,13 +91,13 @@ const BEFORE: usize = 200;
 
 // The items of the source, its marks, and the whole run of them.
 #[derive(Drop)]
-struct Whole {
-    numbers: Vec<i64>,
-    marks: Vec<Mark>,
-    plant: Plant<Kind>,
+pub struct Whole {
+    pub numbers: Vec<i64>,
+    pub marks: Vec<Mark>,
+    pub plant: Plant<Kind>,
 }
 
-fn whole(rt: &impl Abort, alloc: Global) -> Result<Whole, Fail> {
+pub fn whole(rt: &impl Abort, alloc: Global) -> Result<Whole, Fail> {
     let mut numbers = Vec::new(alloc);
     let mut marks = Vec::new(alloc);
     for n in 0..LENGTH {
@@ -147,7 +147,7 @@ fn joined(
 }
 
 // The bytes of all items of a sink, and the lines of its tags.
-fn texts(rt: &impl Abort, alloc: Global, plant: &Plant<Kind>, sink: BlockId) -> Result<[Vec<u8>; 2], Fail> {
+pub fn texts(rt: &impl Abort, alloc: Global, plant: &Plant<Kind>, sink: BlockId) -> Result<[Vec<u8>; 2], Fail> {
     let Ok(piece) = plant.read(alloc, sink, 0, 1_000_000) else {
         panic!(rt; "read");
     };
@@ -184,6 +184,22 @@ fn pieces_of_any_lengths_are_written_whole(rt: HostRuntime) -> Result<(), Fail> 
     Ok(())
 }
 
+// Whether a run ended by a fault of this number, and whose text begins so.
+pub fn told(
+    rt: &impl Abort,
+    alloc: Global,
+    ended: &Result<Settled, PipelineFault>,
+    number: u32,
+    text: &str,
+) -> Result<(), Fail> {
+    let Err(fault) = ended else {
+        panic!(rt; "no fault");
+    };
+    assert!(rt; fault.number() == number, "number {number}");
+    assert!(rt; format!(in alloc; "{fault}")?.as_str().starts_with(text), "{text}");
+    Ok(())
+}
+
 #[test]
 fn each_failing_read_and_write_leaves_a_beginning(rt: HostRuntime) -> Result<(), Fail> {
     let alloc = rt.alloc();
@@ -197,9 +213,15 @@ fn each_failing_read_and_write_leaves_a_beginning(rt: HostRuntime) -> Result<(),
                 Ok(settled) => assert!(rt; *settled == Settled::Done, "done"),
                 Err(PipelineFault::Read(block, _)) => {
                     assert!(rt; *block == SOURCE && writes == u64::MAX, "the reader");
+                    told(&rt, alloc, &ended, 51, "reading failed: ")?;
                 }
-                Err(PipelineFault::WriteItems(block, _) | PipelineFault::WriteTags(block, _)) => {
+                Err(PipelineFault::WriteItems(block, _)) => {
                     assert!(rt; SINKS.contains(block) && reads == u64::MAX, "a writer");
+                    told(&rt, alloc, &ended, 52, "writing items failed: ")?;
+                }
+                Err(PipelineFault::WriteTags(block, _)) => {
+                    assert!(rt; SINKS.contains(block) && reads == u64::MAX, "a writer");
+                    told(&rt, alloc, &ended, 52, "writing tags failed: ")?;
                 }
                 Err(_) => panic!(rt; "another fault"),
             }
@@ -269,10 +291,47 @@ fn what_cannot_be_joined_is_refused(rt: HostRuntime) -> Result<(), Fail> {
         let refused = run.write_to(alloc, block, little, written(alloc, 1), None);
         assert!(rt; matches!(refused, Err(PipelineFault::Plant(at, was)) if at == block && was == fault), "no sink");
     }
+    for block in [BlockId(8), SOURCE, SINKS[0]] {
+        let refused = run.mark_from(alloc, block, reader());
+        assert!(rt; matches!(refused, Err(PipelineFault::Joined(at)) if at == block), "no reader of items");
+    }
     assert!(rt; run.read_from(alloc, SOURCE, little, reader()).is_ok(), "joined");
-    let again = run.read_from(alloc, SOURCE, little, reader());
+    assert!(rt; run.mark_from(alloc, SOURCE, reader()).is_ok(), "marks of its items");
+    let again = run.mark_from(alloc, SOURCE, reader());
     assert!(rt; matches!(again, Err(PipelineFault::Joined(at)) if at == SOURCE), "once");
+    let again = run.read_from(alloc, SOURCE, little, reader());
+    assert!(rt; matches!(&again, Err(PipelineFault::Joined(at)) if *at == SOURCE), "once");
+    if let Err(fault) = again {
+        assert!(rt; fault.number() == 34 && fault.name() == "Joined", "34");
+        assert!(rt; format!(in alloc; "{fault}")?.as_str() == "the block is joined already", "in words");
+    }
     // A source whose reader gives nothing is closed, and no item comes.
     assert!(rt; matches!(run.run(alloc), Ok(Settled::Done)), "done");
+    Ok(())
+}
+
+#[test]
+fn an_input_that_ends_within_an_item_is_told(rt: HostRuntime) -> Result<(), Fail> {
+    let alloc = rt.alloc();
+    let blocks = [Make::ShortSource, Make::ShortSink];
+    let Ok(mut run) = Pipeline::new(alloc, streaming(&rt, alloc, &blocks, &[(0, 0, 1, 0)], 64)) else {
+        panic!(rt; "no memory");
+    };
+    let mut cut = Vec::new(alloc);
+    cut.extend_from_slice(&[1, 2, 3])?;
+    let reader = Pieces {
+        bytes: cut,
+        most: 1,
+        chance: 1,
+        reads_left: u64::MAX,
+    };
+    assert!(rt; run.read_from(alloc, SOURCE, ByteOrder::Big, reader).is_ok(), "a reader");
+    let (items, tags) = (written(alloc, u64::MAX), written(alloc, u64::MAX));
+    assert!(rt; run.write_to(alloc, BlockId(1), ByteOrder::Big, items, tags).is_ok(), "writers");
+    let ended = run.run(alloc);
+    assert!(rt; matches!(ended, Err(PipelineFault::CutItem(SOURCE))), "cut");
+    told(&rt, alloc, &ended, 53, "the input ends within an item")?;
+    let (bytes, _) = given(&rt, &run, BlockId(1));
+    assert!(rt; bytes == &[1, 2][..], "what came before is out");
     Ok(())
 }

@@ -331,3 +331,39 @@ fn a_long_stream_stays_small(rt: HostRuntime) -> Result<(), Fail> {
     }
     Ok(())
 }
+
+#[test]
+fn settings_that_are_past_are_forgotten(rt: HostRuntime) -> Result<(), Fail> {
+    let alloc = rt.alloc();
+    let mut plant = adder(&rt, alloc);
+    assert!(rt; plant.settings_in_memory(MIDDLE) == 0, "the block's own parameter is none");
+    // One that stays, since its item is not there yet.
+    let far = plant.set(MIDDLE, Some(2_000), Value::Number(7));
+    assert!(rt; matches!(far, Ok(at) if at.0 == 2_000), "set for later");
+    let mut before = 10_i64;
+    for round in 0..100_u64 {
+        let value = (round % 50) as i64;
+        let set = plant.set(MIDDLE, Some(round * 10 + 5), Value::Number(value));
+        assert!(rt; matches!(set, Ok(at) if at.0 == round * 10 + 5), "set");
+        assert!(rt; plant.feed(SOURCE, &bytes(&rt, alloc, &[1; 10]), &[]).is_ok(), "fed");
+        settled(&rt, alloc, &mut plant);
+        assert!(rt; plant.settings_in_memory(MIDDLE) == 2, "that in force, and the one for later");
+        let out = drained(&rt, alloc, &mut plant, SINK, 10);
+        let (old, new) = (before + 1, value + 1);
+        assert!(rt; out.items == bytes(&rt, alloc, &[old, old, old, old, old, new, new, new, new, new]), "round {round}");
+        before = value;
+    }
+    // What is in force stays so where nothing is set, and below the items that were taken nothing can be.
+    assert!(rt; plant.feed(SOURCE, &bytes(&rt, alloc, &[1; 1_001]), &[]).is_ok(), "fed");
+    settled(&rt, alloc, &mut plant);
+    let rest = drained(&rt, alloc, &mut plant, SINK, 1_000);
+    assert!(rt; rest.items == bytes(&rt, alloc, &[50; 1_000]), "one and forty-nine");
+    assert!(rt; drained(&rt, alloc, &mut plant, SINK, 9).items == bytes(&rt, alloc, &[8]), "one and seven");
+    assert!(rt; plant.settings_in_memory(MIDDLE) == 1, "that in force");
+    let late = plant.set(MIDDLE, Some(2_000), Value::Number(1));
+    assert!(rt; matches!(late, Err(PlantFault::Late { floor: 2_001 })), "taken");
+    let now = plant.set(MIDDLE, None, Value::Number(1));
+    assert!(rt; matches!(now, Ok(at) if at.0 == 2_001), "the next item");
+    assert!(rt; plant.settings_in_memory(MIDDLE) == 2 && plant.settings_in_memory(NOBODY) == 0, "both");
+    Ok(())
+}

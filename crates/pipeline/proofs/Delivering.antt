@@ -78,3 +78,11 @@ on_ok (Err e) p = tt
 pub on_err : {X E P : Type 0} (r : Result X E) → P → OnErr r P
 on_err (Ok x) p = tt
 on_err (Err e) p = p
+
+pub on_err_both : {X E : Type 0} (P Q : Type 0) (r : Result X E) → OnErr r P → OnErr r Q → OnErr r (P × Q)
+on_err_both P Q (Ok x) p q = tt
+on_err_both P Q (Err e) p q = (p, q)
+
+pub on_ok_both : {X E : Type 0} (P Q : Type 0) (r : Result X E) → OnOk r P → OnOk r Q → OnOk r (P × Q)
+on_ok_both P Q (Ok x) p q = (p, q)
+on_ok_both P Q (Err e) p q = tt

@@ -1,5 +1,5 @@
 -- A pipeline that goes on, and on.
-use Rattle.std.proofs.Common.{◌≡◌, ℕ, ◌<◌, ◌≤◌, List, [], ◌++◌, length, take, refl, ap, sym, ◌∙◌, subst, arith, inl, inr, get_or, set, get_or-set_same, get_or-set_other, length-set}
+use Rattle.std.proofs.Common.{◌≡◌, ℕ, ◌<◌, ◌≤◌, List, [], ◌++◌, length, take, true, not, refl, ap, sym, ◌∙◌, subst, arith, inl, inr, get_or, set, get_or-set_same, get_or-set_other, length-set}
 use Rattle.std.specs.Prelude.{Option, slice_range, slice_index_or}
 use Rattle.std.specs.List.{flat_map}
 use Rattle.std.specs.Io.KnownBytes.{Appends}
@@ -24,7 +24,7 @@ use Rattle.pipeline.specs.Ends.{InputState}
 use Rattle.pipeline.specs.declared.end.End.{End}
 use Rattle.pipeline.specs.declared.end.End.TheVariants as ends
 use Rattle.pipeline.specs.declared.end.Output.{Output}
-use Rattle.pipeline.specs.Pipeline.{Begins, EndMoves, GoesOn, Growth, HasRead, HasWritten, Intake, KeepsDrained, MayHaveRead, Moves, WriterGrows, end_at}
+use Rattle.pipeline.specs.Pipeline.{Begins, EndMoves, GoesOn, Growth, HasRead, HasWritten, Intake, KeepsDrained, MayHaveRead, Lacks, Moves, WriterGrows, end_at, has_more}
 use Rattle.pipeline.proofs.Growing.{Follows, appends_none, appends_then, begins_none as begins_none_of, begins_then, writer_begins, writer_none, writer_then}
 use Rattle.pipeline.proofs.Reading.{may_read-same, may_read-then, read-same, read-then}
 use Rattle.pipeline.specs.Steps.{Delivers, TakesIn}
@@ -33,7 +33,7 @@ use Rattle.pipeline.proofs.Parting.{part_none, part_same, parts_join, within_nar
 
 -- what reads go on
 abbrev pub Continues : {R : Type 0} → (R → Option (List ℕ)) → Intake R → Type 0
-Continues remaining Reads = (i j k : InputState _) (f g h : Handed) → HasRead remaining i j f g → Reads j k g h → Reads i k f h
+Continues remaining Reads = (b : ℕ) (i j k : InputState _) (f g h : Handed) → HasRead remaining b i j f g → Reads b j k g h → Reads b i k f h
 
 module _ {B : Type 0} (net : Network) (p q r : StreamingState B) where
   -- what was drained stays through both
@@ -76,11 +76,11 @@ module _ {W : Type 0} (Grows : Growth) (follows : Follows Grows) (contents : W �
       }
 
 module _ {R W B : Type 0} (Grows : Growth) (Reads : Intake R) (contents : W → Option (List ℕ)) (net : Network) where
-  module _ (none : (a : Option (List ℕ)) → Grows a a []) (same : (i : InputState R) (h : Handed) → Reads i i h h) where
+  module _ (none : (a : Option (List ℕ)) → Grows a a []) (same : (b : ℕ) (i : InputState R) (h : Handed) → Reads b i i h h) where
     -- an end of which nothing came
     pub end_still : (p q : StreamingState B) (b : ℕ) → handed_at q.plant.state.handed b ≡ handed_at p.plant.state.handed b → drained q b ≡ drained p b → (e : End R W) → EndMoves Grows Reads contents net p q b e e
     end_still p q b handed drained_is ends.Open = (handed, drained_is)
-    end_still p q b handed drained_is (ends.Input i) = (subst (Reads i i (handed_at p.plant.state.handed b)) (sym handed) (same i (handed_at p.plant.state.handed b)), drained_is)
+    end_still p q b handed drained_is (ends.Input i) = (subst (Reads b i i (handed_at p.plant.state.handed b)) (sym handed) (same b i (handed_at p.plant.state.handed b)), drained_is)
     end_still p q b handed drained_is (ends.Output o) = (
       handed,
       λ _ _. record {
@@ -162,7 +162,7 @@ module _ {R W B : Type 0} (Grows : Growth) (follows : Follows Grows) (remaining 
   end_then b ends.Open ends.Open (ends.Output o) first second = absurd second
   end_then b ends.Open (ends.Input i) g first second = absurd first
   end_then b ends.Open (ends.Output o) g first second = absurd first
-  end_then b (ends.Input i) (ends.Input j) (ends.Input k) first second = (continues _ _ _ _ _ _ first.0 second.0, second.1 ∙ first.1)
+  end_then b (ends.Input i) (ends.Input j) (ends.Input k) first second = (continues b _ _ _ _ _ _ first.0 second.0, second.1 ∙ first.1)
   end_then b (ends.Input i) (ends.Input j) ends.Open first second = absurd second
   end_then b (ends.Input i) (ends.Input j) (ends.Output o) first second = absurd second
   end_then b (ends.Input i) ends.Open g first second = absurd first
@@ -256,3 +256,9 @@ module _ {R W B : Type 0} (remaining : R → Option (List ℕ)) (contents : W �
 
   pub begins_more : Begins remaining contents (net_of meaning q.plant.graph) q r fs gs → Begins remaining contents (net_of meaning p.plant.graph) p r es gs
   begins_more second = begins_then_of remaining contents (net_of meaning p.plant.graph) p q r es fs gs first (subst (λ (graph : Flowgraph B). Begins remaining contents (net_of meaning graph) q r fs gs) first.graph second)
+
+-- what lacks items has more
+pub lacks_more : {R W B : Type 0} (net : Network) (p : StreamingState B) (b : ℕ) (e : End R W) → Lacks net p b e → has_more e ≡ true
+lacks_more net p b (ends.Input i) lacks = ap not lacks.0
+lacks_more net p b ends.Open lacks = absurd lacks
+lacks_more net p b (ends.Output o) lacks = absurd lacks

@@ -1,9 +1,10 @@
 -- What feeding and closing leave.
-use Rattle.std.proofs.Common.{◌≡◌, ℕ, ◌+◌, ◌<◌, ◌⊎◌, ℤ, true, false, not, List, [], ◌∷◌, length, refl, ap, sym, ◌∙◌, subst, inl, inr, Option, Some, None, ltb-true, get_or-set_same, get_or-set_other}
+use Rattle.std.proofs.Common.{◌≡◌, ℕ, ◌+◌, ◌<◌, ◌⊎◌, ℤ, ◌++◌, true, false, not, List, [], ◌∷◌, length, refl, ap, sym, ◌∙◌, subst, inl, inr, Option, Some, None, ltb-true, get_or-set_same, get_or-set_other}
 use Rattle.std.specs.Prelude.{nat_lt}
+use Rattle.std.proofs.lemmas.List.{append-nil, set-get_or}
 use Rattle.stream_model.specs.declared.vocabulary.ItemType.{ItemType}
 use Rattle.stream_model.specs.Numbers.{types_agree}
-use Rattle.stream_model.specs.Tags.{Mark}
+use Rattle.stream_model.specs.Tags.{Mark, Tag}
 use Rattle.stream_model.specs.Network.{Network, Handed, State, node_at, handed_at, nothing_handed, role_at, is_source, is_keeper}
 use Rattle.stream_model.specs.Machine as machine
 use Rattle.stream_model.specs.Machine.{Capacities, Call, Feed, Close, Reply, with_handed, with_tape, marks_fit, feed_of, close_of, next}
@@ -108,7 +109,7 @@ module _ {R B : Type 0} (Reads : Intake R) (net : Network) (old new : StreamingS
 
   pub takes_in : new.plant ≡ record old.plant { state = after } → after ≡ with_handed old.plant.state b h → new.kept ≡ old.kept →
       ((c : ℕ) → c < length net.nodes → is_keeper (role_at net c) ≡ true → StaysBegun net old.plant.capacities old.plant.state c (drained old c)) →
-      (i i' : InputState R) → Reads i i' (handed_at old.plant.state.handed b) h → TakesIn Reads net old new b i i'
+      (i i' : InputState R) → Reads b i i' (handed_at old.plant.state.handed b) h → TakesIn Reads net old new b i i'
   takes_in is led kept stays i i' reads =
       let state : new.plant.state ≡ after = ap PlantState.state is in
       let there : b < length old.plant.state.handed = rw sound.handed_count in' in
@@ -117,5 +118,12 @@ module _ {R B : Type 0} (Reads : Intake R) (net : Network) (old new : StreamingS
         kept = kept;
         stays = λ c in1 keeper. rw state (stays c in1 keeper (call ∷ []));
         others = λ c ne. ap (λ (st : State). handed_at st.handed c) (state ∙ led) ∙ get_or-set_other old.plant.state.handed b c h nothing_handed ne;
-        own = subst (Reads i i' (handed_at old.plant.state.handed b)) (sym (ap (λ (st : State). handed_at st.handed b) (state ∙ led) ∙ get_or-set_same old.plant.state.handed b h nothing_handed there)) reads;
+        own = subst (Reads b i i' (handed_at old.plant.state.handed b)) (sym (ap (λ (st : State). handed_at st.handed b) (state ∙ led) ∙ get_or-set_same old.plant.state.handed b h nothing_handed there)) reads;
       }
+
+-- a feed of nothing changes nothing
+pub nothing-fed : (h : Handed) (b : ℕ) → with_tape h b [] [] ≡ h
+nothing-fed h b = ap (λ (xs : List ℤ). record h { tape = xs; tags = h.tags ++ [] }) (append-nil h.tape) ∙ ap (λ (ts : List Tag). record h { tags = ts }) (append-nil h.tags)
+
+pub handed-same : (st : State) (b : ℕ) → with_handed st b (handed_at st.handed b) ≡ st
+handed-same st b = ap (λ (hs : List Handed). record st { handed = hs }) (set-get_or st.handed b nothing_handed)

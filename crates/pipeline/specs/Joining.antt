@@ -1,5 +1,5 @@
 -- What a block of a pipeline is joined to.
-use Rattle.std.specs.Prelude.{ℕ, ◌≡◌, List, [], length, false, not, nat_lt, if◌then◌else◌, Option, Result, Ok, Err, slice_set}
+use Rattle.std.specs.Prelude.{ℕ, ◌≡◌, List, [], length, false, not, nat_lt, if◌then◌else◌, Option, Some, None, Result, Ok, Err, slice_set}
 use Rattle.stream_model.specs.declared.vocabulary.ItemType.{ItemType}
 use Rattle.stream_model.specs.Network.{Network, node_at, role_at, is_keeper}
 use Rattle.items.specs.Items.{type_of}
@@ -9,6 +9,8 @@ use Rattle.plant.specs.declared.fault.PlantFault.TheVariants.{NoSuchBlock, NotSi
 use Rattle.pipeline.specs.declared.end.End.{End}
 use Rattle.pipeline.specs.declared.end.End.TheVariants as ends
 use Rattle.pipeline.specs.declared.end.Output.{Output}
+use Rattle.pipeline.specs.Ends.{InputState}
+use Rattle.pipeline.specs.Pipeline.{end_at}
 
 -- the type of the items that a sink takes, where the block is one
 abbrev pub sink_type_of : Network → ℕ → Result ItemType PlantFault
@@ -17,10 +19,23 @@ sink_type_of net b =
     else (if not (is_keeper (role_at net b)) then Err NotSink
     else Ok (node_at net b).meaning.inputs.item)
 
--- a block is joined to a reader of which nothing was read
+-- a block is joined to a reader of which nothing was read, and has no marks
 abbrev pub JoinsReader : {R W : Type 0} → Network → ℕ → ByteOrder → R → List (End R W) → List (End R W) → Type 0
 JoinsReader net b order reader es es' =
-    es' ≡ slice_set es b (ends.Input (record { reader = reader; decoder = record { item_type = (node_at net b).meaning.outputs.item; order = order; cut = [] }; is_ended = false }))
+    es' ≡ slice_set es b (ends.Input (record { reader = reader; decoder = record { item_type = (node_at net b).meaning.outputs.item; order = order; cut = [] }; marks = None; is_ended = false }))
+
+-- the items of a reader are marked by another, of which nothing was read
+pub record JoinsMarks {R W : Type 0} (b : ℕ) (reader : R) (es es' : List (End R W)) : Type 0 where
+  pub input : InputState R
+  pub was : end_at es b ≡ ends.Input input
+  pub unmarked : input.marks ≡ None
+  pub joined : es' ≡ slice_set es b (ends.Input (record input { marks = Some (record { reader = reader; rest = []; held = None; is_over = false }) }))
+
+-- a block has a reader of items, and none of marks
+abbrev pub IsUnmarked : {R W : Type 0} → End R W → Type 0
+IsUnmarked (ends.Input i) = i.marks ≡ None
+IsUnmarked ends.Open = ⊥
+IsUnmarked (ends.Output o) = ⊥
 
 -- it is joined to writers
 pub record JoinsWriters {R W : Type 0} (net : Network) (b : ℕ) (order : ByteOrder) (items tags : Option W) (es es' : List (End R W)) : Type 0 where

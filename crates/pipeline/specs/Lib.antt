@@ -1,4 +1,6 @@
+pub mod Marks
 pub mod Ends
 pub mod Pipeline
 pub mod Steps
 pub mod Joining
+pub mod Faults

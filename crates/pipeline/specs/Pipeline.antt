@@ -1,8 +1,8 @@
 -- What the ends of a pipeline have read and written.
-use Rattle.std.specs.Prelude.{ℕ, ℤ, ◌≡◌, ◌<◌, ◌≤◌, List, [], ◌++◌, length, take, true, false, slice_range, slice_index_or, ⊤, Option, Some, None}
+use Rattle.std.specs.Prelude.{ℕ, ℤ, ◌≡◌, ◌<◌, ◌≤◌, List, [], ◌++◌, length, take, Bool, true, false, not, slice_range, slice_index_or, ⊤, Option, Some, None}
 use Rattle.std.specs.List.{flat_map}
 use Rattle.std.specs.Io.KnownBytes.{Appends, Consumes, IsAtEnd}
-use Rattle.stream_model.specs.Tags.{tags_within}
+use Rattle.stream_model.specs.Tags.{Tag, tags_within}
 use Rattle.stream_model.specs.Network.{Network, Handed, State, handed_at, role_at, is_keeper}
 use Rattle.machine_laws.specs.Sound.{fired}
 use Rattle.machine_laws.specs.Waits.{ForFeed, wait_of}
@@ -15,6 +15,7 @@ use Rattle.streaming.specs.Streaming.{StreamingState, drained, stream_into, tags
 use Rattle.pipeline.specs.declared.end.End.{End}
 use Rattle.pipeline.specs.declared.end.End.TheVariants as ends
 use Rattle.pipeline.specs.Ends.{InputState}
+use Rattle.pipeline.specs.Marks.{AreOver, AreTold, BeginTold, ReadsMarks}
 use Rattle.pipeline.specs.declared.end.Output.{Output}
 
 -- how known bytes grow by a text: by all of it, or by a beginning
@@ -35,35 +36,42 @@ pub record HasWritten {W : Type 0} (Grows : Growth) (contents : W → Option (Li
   pub items : WriterGrows Grows contents old.items_to new.items_to (all_bytes_of (type_of old.items) old.order (slice_range (stream_into net st b) from to))
   pub tags : WriterGrows Grows contents old.tags_to new.tags_to (flat_map tag_line (tags_within from to (tags_into net st b)))
 
--- how a reader and what its source is handed change
+-- how a reader and what its source, block b, is handed change
 abbrev pub Intake : Type 0 → Type 1
-Intake R = InputState R → InputState R → Handed → Handed → Type 0
+Intake R = (b : ℕ) → InputState R → InputState R → Handed → Handed → Type 0
 
 -- what was read was fed: if the tape ended with the items of some bytes, it ends with those of these bytes and what was read. A reader at its end
--- gives no more, and its source is closed
-pub record HasRead {R : Type 0} (remaining : R → Option (List ℕ)) (old new : InputState R) (handed handed' : Handed) : Type 0 where
+-- gives no more, and its source is closed. If its tags were those at some start and the marks that were given on of some bytes, they are those that were given on
+-- of these bytes and what was read of the reader of marks, and all of them where the source is closed
+pub record HasRead {R : Type 0} (remaining : R → Option (List ℕ)) (b : ℕ) (old new : InputState R) (handed handed' : Handed) : Type 0 where
   pub bytes : List ℕ
   pub read : Consumes (remaining old.reader) (remaining new.reader) bytes
   pub layout : new.decoder ≡ record old.decoder { cut = new.decoder.cut }
   pub fed : (before : List ℕ) (start : List ℤ) → HasDecoded old.decoder before start handed.tape → HasDecoded new.decoder (before ++ bytes) start handed'.tape
-  pub alone : handed' ≡ record handed { tape = handed'.tape; closed = handed'.closed }
+  pub marks : List ℕ
+  pub marks_read : ReadsMarks remaining old.marks new.marks marks
+  pub marked : (before : List ℕ) (start : List Tag) → AreTold remaining b old.marks before start handed.tags → AreTold remaining b new.marks (before ++ marks) start handed'.tags
+  pub alone : handed' ≡ record handed { tape = handed'.tape; tags = handed'.tags; closed = handed'.closed }
   pub stays_open : new.is_ended ≡ false → handed'.closed ≡ handed.closed
-  pub closes : old.is_ended ≡ false → new.is_ended ≡ true → (handed'.closed ≡ true) × IsAtEnd (remaining new.reader) × (new.decoder.cut ≡ [])
+  pub closes : old.is_ended ≡ false → new.is_ended ≡ true → (handed'.closed ≡ true) × IsAtEnd (remaining new.reader) × (new.decoder.cut ≡ []) × AreOver new.marks
   pub over : old.is_ended ≡ true → (new ≡ old) × (handed' ≡ handed)
 
--- the same, but that a piece which was read last may not have been fed
-pub record MayHaveRead {R : Type 0} (remaining : R → Option (List ℕ)) (old new : InputState R) (handed handed' : Handed) : Type 0 where
+-- the same, but that a piece which was read last may not have been fed, and the marks that were are those of the first lines
+pub record MayHaveRead {R : Type 0} (remaining : R → Option (List ℕ)) (b : ℕ) (old new : InputState R) (handed handed' : Handed) : Type 0 where
   pub bytes : List ℕ
   pub rest : List ℕ
   pub read : Consumes (remaining old.reader) (remaining new.reader) (bytes ++ rest)
   pub fed : (before : List ℕ) (start : List ℤ) → HasDecoded old.decoder before start handed.tape →
       handed'.tape ≡ start ++ items_of old.decoder.item_type old.decoder.order (before ++ bytes)
-  pub alone : handed' ≡ record handed { tape = handed'.tape; closed = handed'.closed }
+  pub marks : List ℕ
+  pub marks_read : ReadsMarks remaining old.marks new.marks marks
+  pub marked : (before : List ℕ) (start : List Tag) → AreTold remaining b old.marks before start handed.tags → BeginTold b old.marks (before ++ marks) start handed'.tags
+  pub alone : handed' ≡ record handed { tape = handed'.tape; tags = handed'.tags; closed = handed'.closed }
 
 -- what became of an end of block b in the meantime
 abbrev pub EndMoves : {R W B : Type 0} → Growth → Intake R → (W → Option (List ℕ)) → Network → (old new : StreamingState B) → ℕ → End R W → End R W → Type 0
 EndMoves Grows Reads contents net old new b ends.Open ends.Open = (handed_at new.plant.state.handed b ≡ handed_at old.plant.state.handed b) × (drained new b ≡ drained old b)
-EndMoves Grows Reads contents net old new b (ends.Input i) (ends.Input i') = Reads i i' (handed_at old.plant.state.handed b) (handed_at new.plant.state.handed b) × (drained new b ≡ drained old b)
+EndMoves Grows Reads contents net old new b (ends.Input i) (ends.Input i') = Reads b i i' (handed_at old.plant.state.handed b) (handed_at new.plant.state.handed b) × (drained new b ≡ drained old b)
 EndMoves Grows Reads contents net old new b (ends.Output o) (ends.Output o') =
     (handed_at new.plant.state.handed b ≡ handed_at old.plant.state.handed b) ×
     (b < length net.nodes → is_keeper (role_at net b) ≡ true → HasWritten Grows contents net new.plant.state b (drained old b) (drained new b) o o')
@@ -103,6 +111,12 @@ IsDelivered p b (ends.Input i) = ⊤
 
 abbrev pub AreDelivered : {R W B : Type 0} → Network → StreamingState B → List (End R W) → Type 0
 AreDelivered net p es = (b : ℕ) → b < length net.nodes → IsDelivered p b (end_at es b)
+
+-- an end is a reader of items that is not at its end
+abbrev pub has_more : {R W : Type 0} → End R W → Bool
+has_more (ends.Input i) = not i.is_ended
+has_more ends.Open = false
+has_more (ends.Output o) = false
 
 -- a reader is not at its end, and its source has given all that it was fed
 abbrev pub Lacks : {R W B : Type 0} → Network → StreamingState B → ℕ → End R W → Type 0

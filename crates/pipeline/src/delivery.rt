@@ -1,6 +1,6 @@
 //! What a sink has taken goes to its writers.
 
-ghost use Rattle.std.specs.Prelude.{◌≡◌, ◌<◌, ◌^◌, length, true, [], OnOk, OnErr};
+ghost use Rattle.std.specs.Prelude.{◌≡◌, ◌<◌, ◌^◌, length, true, [], IfErr, OnOk, OnErr};
 ghost use Rattle.std.specs.List.{flat_map};
 ghost use Rattle.std.specs.Io.KnownBytes.{Appends};
 ghost use Rattle.stream_model.specs.Network.{role_at, is_keeper};
@@ -12,6 +12,7 @@ ghost use Rattle.script_text.specs.Ends.{AppendsBeginning};
 ghost use Rattle.script_text.specs.Printed.{tags_seen};
 ghost use Rattle.script_text.specs.Replies.{tag_line};
 ghost use Rattle.streaming.specs.Streaming.{drained};
+ghost use Rattle.pipeline.specs.Faults.{IsOfWriters};
 ghost use Rattle.pipeline.specs.Pipeline.{WriterGrows};
 ghost use Rattle.pipeline.specs.Steps.{Delivers};
 
@@ -32,6 +33,7 @@ pub(crate) fn deliver<B: Block, W: Write>(
     ensures ok { OnOk result (Delivers Appends W.contents (net_of B.meaning plant.old.plant.graph) plant.old plant.new sink.0 output.old output.new) }
     ensures all { OnOk result (drained plant.new sink.0 ≡ fired plant.new.plant.state sink.0) }
     ensures err { OnErr result (Delivers AppendsBeginning W.contents (net_of B.meaning plant.old.plant.graph) plant.old plant.new sink.0 output.old output.new) }
+    ensures fault { IfErr result (IsOfWriters sink output.new) }
 {
     plant.recall();
     output.items.clear();
@@ -58,6 +60,7 @@ fn write_items<W: Write>(sink: BlockId, output: &mut Output<W>) -> Result<(), Pi
     ensures rest { output.new ≡ record output.old { items_to = output.new.items_to; bytes = output.new.bytes } }
     ensures ok { OnOk result (WriterGrows Appends W.contents output.old.items_to output.new.items_to (all_bytes_of (type_of output.old.items) output.old.order (numbers_of output.old.items))) }
     ensures err { OnErr result (WriterGrows AppendsBeginning W.contents output.old.items_to output.new.items_to (all_bytes_of (type_of output.old.items) output.old.order (numbers_of output.old.items))) }
+    ensures fault { IfErr result (IsOfWriters sink output.new) }
 {
     let Some(writer) = &mut output.items_to else {
         return Ok(());
@@ -81,6 +84,7 @@ fn write_tags<W: Write>(sink: BlockId, output: &mut Output<W>) -> Result<(), Pip
     ensures rest { output.new ≡ record output.old { tags_to = output.new.tags_to; bytes = output.new.bytes } }
     ensures ok { OnOk result (WriterGrows Appends W.contents output.old.tags_to output.new.tags_to (flat_map tag_line (tags_seen output.old.tags.items))) }
     ensures err { OnErr result (WriterGrows AppendsBeginning W.contents output.old.tags_to output.new.tags_to (flat_map tag_line (tags_seen output.old.tags.items))) }
+    ensures fault { IfErr result (IsOfWriters sink output.new) }
 {
     let Some(writer) = &mut output.tags_to else {
         return Ok(());
@@ -98,6 +102,7 @@ pub(crate) fn flush<W: Write>(sink: BlockId, output: &mut Output<W>) -> Result<(
     ensures rest { output.new ≡ record output.old { items_to = output.new.items_to; tags_to = output.new.tags_to } }
     ensures items { WriterGrows Appends W.contents output.old.items_to output.new.items_to [] }
     ensures tags { WriterGrows Appends W.contents output.old.tags_to output.new.tags_to [] }
+    ensures fault { IfErr result (IsOfWriters sink output.new) }
 {
     if let Some(writer) = &mut output.items_to {
         if let Err(error) = writer.flush() {

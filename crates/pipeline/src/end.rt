@@ -1,22 +1,30 @@
 //! What the blocks of a pipeline are joined to.
 
-ghost use Rattle.std.specs.Prelude.{◌≡◌, [], false};
+ghost use Rattle.std.specs.Prelude.{◌≡◌, [], false, None, Some, Err, IfErr, IsOk, OnErr, OnOk};
+ghost use Rattle.pipeline.specs.declared.fault.PipelineFault.TheVariants.{Joined, Memory};
 ghost use Rattle.items.specs.Items.{type_of};
+ghost use Rattle.pipeline.specs.Pipeline.{has_more};
 
-use items::{ItemType, Items};
+use crate::fault::PipelineFault;
+use crate::marks::MarkReader;
+use flowgraph::BlockId;
+use items::{ItemType, Items, Mark};
 use raw_items::{ByteOrder, Decoder};
 use std::alloc::Global;
 use std::marker::Model;
 use tags::Tag;
 
-/// A reader whose bytes are the items of a source.
+/// A reader whose bytes are the items of a source, and one of its marks where there is one.
 #[derive(Drop)]
 pub struct Input<R> {
     pub(crate) reader: R,
     // What makes items of the bytes.
     pub(crate) decoder: Decoder,
-    // The items of the last piece that was read.
+    // What the marks on these items are read from.
+    pub(crate) marks: Option<MarkReader<R>>,
+    // The items of the last piece that was read, and the marks on them.
     pub(crate) items: Items,
+    pub(crate) found: Vec<Mark>,
     // Whether the reader has no more, and the source is closed.
     pub(crate) is_ended: bool,
 }
@@ -28,7 +36,7 @@ impl<R> Model for Input<R> {
 
     ghost Value = { InputState R };
 
-    ghost view = { λ i. record { reader = i.reader; decoder = i.decoder; is_ended = i.is_ended } };
+    ghost view = { λ i. record { reader = i.reader; decoder = i.decoder; marks = i.marks; is_ended = i.is_ended } };
 
     ghost invariant = { λ i. type_of i.items ≡ i.decoder.item_type };
 }
@@ -43,14 +51,38 @@ impl<R> Input<R> {
 
     /// A reader of which nothing was read, for a source of such items.
     pub(crate) fn new(alloc: Global, item: ItemType, order: ByteOrder, reader: R) -> Input<R>
-        ensures { result ≡ record { reader = reader; decoder = record { item_type = item; order = order; cut = [] }; is_ended = false } }
+        ensures { result ≡ record { reader = reader; decoder = record { item_type = item; order = order; cut = [] }; marks = None; is_ended = false } }
     {
         Input {
             reader,
             decoder: Decoder::new(item, order),
+            marks: None,
             items: Items::empty(alloc, item),
+            found: Vec::new(alloc),
             is_ended: false,
         }
+    }
+}
+
+impl<R: Drop> Input<R> {
+    /// Joins a reader of marks, where there is none.
+    pub(crate) fn join_marks(
+        &mut self,
+        alloc: Global,
+        source: BlockId,
+        reader: R,
+    ) -> Result<(), PipelineFault>
+        ensures joined { (self.old.marks ≡ None → ⊥) → result ≡ Err (Joined source) }
+        ensures free { self.old.marks ≡ None → IfErr result (λ fault. fault ≡ Memory) }
+        ensures ok { OnOk result (self.new ≡ record self.old { marks = Some (record { reader = reader; rest = []; held = None; is_over = false }) }) }
+        ensures unmarked { OnOk result (self.old.marks ≡ None) }
+        ensures err { OnErr result (self.new ≡ self.old) }
+    {
+        if self.marks.is_some() {
+            return Err(PipelineFault::Joined(source));
+        }
+        self.marks = Some(MarkReader::new(alloc, reader)?);
+        Ok(())
     }
 }
 
@@ -104,4 +136,16 @@ pub enum End<R, W> {
     Input(Input<R>),
     /// Writers of what it takes.
     Output(Output<W>),
+}
+
+impl<R, W> End<R, W> {
+    /// Whether it is a reader of items that is not at its end.
+    pub(crate) fn has_more(&self) -> bool
+        ensures { result ≡ has_more self.now }
+    {
+        match self {
+            End::Input(input) => !input.is_ended,
+            End::Open | End::Output(_) => false,
+        }
+    }
 }

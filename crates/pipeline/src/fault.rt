@@ -2,10 +2,13 @@
 
 ghost use Rattle.std.specs.Prelude.{◌≡◌};
 ghost use Rattle.pipeline.specs.declared.fault.PipelineFault.TheVariants.{Memory};
+ghost use Rattle.pipeline.specs.Faults.{of_plant, row_of, text_of};
 
 use flowgraph::BlockId;
+use items::Refusal;
 use std::alloc::AllocError;
-use std::io;
+use std::error::Error;
+use std::{fmt, io};
 use streaming::PlantFault;
 
 /// Why a pipeline stopped, or what it refused to be joined to. Each names the block.
@@ -19,6 +22,12 @@ pub enum PipelineFault {
     Read(BlockId, io::Error),
     /// What was read for it ends within an item.
     CutItem(BlockId),
+    /// The reader of its marks failed.
+    ReadMarks(BlockId, io::Error),
+    /// The line of this number, from 1, of its marks is no mark.
+    BadMark(BlockId, u64),
+    /// The mark in the line of this number is on an item before that of the line above it, or on none that its reader gives.
+    MarkPlace(BlockId, u64),
     /// The writer of its items failed.
     WriteItems(BlockId, io::Error),
     /// The writer of its tags failed.
@@ -29,13 +38,55 @@ pub enum PipelineFault {
 
 impl PipelineFault {
     // What a plant refuses of a block.
-    pub(crate) fn of_plant(block: BlockId, fault: PlantFault) -> PipelineFault {
+    pub(crate) fn of_plant(block: BlockId, fault: PlantFault) -> PipelineFault
+        ensures { result ≡ of_plant block fault }
+    {
         match fault {
             PlantFault::Memory => PipelineFault::Memory,
             _ => PipelineFault::Plant(block, fault),
         }
     }
 }
+
+impl Refusal for PipelineFault {
+    ghost row = { row_of };
+
+    fn row(&self) -> (u32, &'static str) {
+        match self {
+            PipelineFault::Plant(_, fault) => fault.row(),
+            PipelineFault::Joined(_) => (34, "Joined"),
+            PipelineFault::Read(..) | PipelineFault::ReadMarks(..) => (51, "Read"),
+            PipelineFault::BadMark(..) => (50, "BadLine"),
+            PipelineFault::MarkPlace(..) => (25, "TagPlace"),
+            PipelineFault::WriteItems(..) | PipelineFault::WriteTags(..) => (52, "Write"),
+            PipelineFault::CutItem(_) => (53, "CutItem"),
+            PipelineFault::Memory => (32, "Memory"),
+        }
+    }
+}
+
+impl fmt::Display for PipelineFault {
+    ghost output = { text_of };
+
+    fn fmt<W: fmt::Write>(&self, f: &mut fmt::Formatter<W>) -> fmt::Result {
+        match self {
+            PipelineFault::Plant(_, fault) => write!(f, "{fault}"),
+            PipelineFault::Joined(_) => f.write_str("the block is joined already"),
+            PipelineFault::Read(_, error) => write!(f, "reading failed: {error}"),
+            PipelineFault::ReadMarks(_, error) => write!(f, "reading marks failed: {error}"),
+            PipelineFault::BadMark(_, line) => write!(f, "line {line} of the marks is no mark"),
+            PipelineFault::MarkPlace(_, line) => {
+                write!(f, "the mark in line {line} is on no item that it may be on")
+            }
+            PipelineFault::WriteItems(_, error) => write!(f, "writing items failed: {error}"),
+            PipelineFault::WriteTags(_, error) => write!(f, "writing tags failed: {error}"),
+            PipelineFault::CutItem(_) => f.write_str("the input ends within an item"),
+            PipelineFault::Memory => f.write_str("out of memory"),
+        }
+    }
+}
+
+impl Error for PipelineFault {}
 
 impl From<AllocError> for PipelineFault {
     ghost from_gives = { λ _ e. e ≡ Memory };

@@ -1,14 +1,19 @@
 //! What a reader gives goes to its source.
 
-ghost use Rattle.std.specs.Prelude.{◌≡◌, false, OnOk, OnErr};
+ghost use Rattle.std.specs.Prelude.{◌≡◌, [], false, IfErr, OnOk, OnErr};
 ghost use Rattle.std.specs.Io.KnownBytes.{IsAtEnd};
 ghost use Rattle.flowgraph.specs.Flowgraph.{net_of};
+ghost use Rattle.items.specs.Items.{numbers_of};
+ghost use Rattle.pipeline.specs.Faults.{IsOfPlant, IsOfReader};
+ghost use Rattle.pipeline.specs.Marks.{AreRead};
 ghost use Rattle.pipeline.specs.Pipeline.{HasRead, MayHaveRead};
 ghost use Rattle.pipeline.specs.Steps.{HasFed, TakesIn};
 
 use crate::end::Input;
 use crate::fault::PipelineFault;
+use crate::marks::{end_marks, find_marks};
 use flowgraph::{Block, BlockId};
+use items::Items;
 use std::io::Read;
 use streaming::StreamingPlant;
 
@@ -24,6 +29,7 @@ impl<R: Read> Input<R> {
     ) -> Result<(), PipelineFault>
         ensures ok { OnOk result (TakesIn (HasRead R.remaining) (net_of B.meaning plant.old.plant.graph) plant.old plant.new source.0 self.old self.new) }
         ensures err { OnErr result (TakesIn (MayHaveRead R.remaining) (net_of B.meaning plant.old.plant.graph) plant.old plant.new source.0 self.old self.new) }
+        ensures fault { IfErr result (IsOfReader R.remaining source self.new) }
     {
         if self.is_ended {
             return Ok(());
@@ -46,14 +52,20 @@ impl<R: Read> Input<R> {
         source: BlockId,
         bytes: &[u8],
     ) -> Result<(), PipelineFault>
-        ensures ok { OnOk result (TakesIn (HasFed bytes.now) (net_of B.meaning plant.old.plant.graph) plant.old plant.new source.0 self.old self.new) }
+        ensures ok { OnOk result (TakesIn (HasFed R.remaining bytes.now) (net_of B.meaning plant.old.plant.graph) plant.old plant.new source.0 self.old self.new) }
         ensures reader { self.new.reader ≡ self.old.reader }
         ensures err { OnErr result (plant.new ≡ plant.old) }
+        ensures marks { OnErr result (AreRead R.remaining self.old.marks self.new.marks) }
+        ensures fault { IfErr result (IsOfReader R.remaining source self.new) }
     {
-        plant.recall();
         self.items.clear();
+        self.found.clear();
+        let start = start_of(self.marks.is_some(), plant, source, &self.items)?;
         self.decoder.push(bytes, &mut self.items)?;
-        if let Err(fault) = plant.feed(source, &self.items, &[]) {
+        let end = start.saturating_add(self.items.len() as u64);
+        find_marks(&mut self.marks, source, start, end, &mut self.found)?;
+        plant.recall();
+        if let Err(fault) = plant.feed(source, &self.items, &self.found) {
             return Err(PipelineFault::of_plant(source, fault));
         }
         Ok(())
@@ -70,15 +82,39 @@ impl<R: Read> Input<R> {
         ensures ok { OnOk result (TakesIn (HasRead R.remaining) (net_of B.meaning plant.old.plant.graph) plant.old plant.new source.0 self.old self.new) }
         ensures reader { self.new.reader ≡ self.old.reader }
         ensures err { OnErr result (plant.new ≡ plant.old) }
+        ensures marks { OnErr result (AreRead R.remaining self.old.marks self.new.marks) }
+        ensures fault { IfErr result (IsOfReader R.remaining source self.new) }
     {
         if self.decoder.is_cut() {
             return Err(PipelineFault::CutItem(source));
         }
+        end_marks(&mut self.marks, source)?;
         plant.recall();
         if let Err(fault) = plant.close(source) {
             return Err(PipelineFault::of_plant(source, fault));
         }
         self.is_ended = true;
         Ok(())
+    }
+}
+
+// Where the next items of a source stand, which is asked only where they may have marks.
+fn start_of<B: Block>(
+    may_have_marks: bool,
+    plant: &mut StreamingPlant<B>,
+    source: BlockId,
+    nothing: &Items,
+) -> Result<u64, PipelineFault>
+    requires nothing { numbers_of nothing.now ≡ [] }
+    ensures same { plant.new ≡ plant.old }
+    ensures fault { IfErr result (IsOfPlant source) }
+{
+    if !may_have_marks {
+        return Ok(0);
+    }
+    // A feed of nothing tells how many there were.
+    match plant.feed(source, nothing, &[]) {
+        Ok(total) => Ok(total.0),
+        Err(fault) => Err(PipelineFault::of_plant(source, fault)),
     }
 }

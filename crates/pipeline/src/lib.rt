@@ -17,10 +17,12 @@ pub mod end;
 pub mod fault;
 mod intake;
 mod joining;
+mod marks;
 pub mod pipeline;
 
 pub use end::{End, Input, Output};
 pub use fault::PipelineFault;
+pub use marks::MarkReader;
 pub use pipeline::Pipeline;
 pub use raw_items::ByteOrder;
 pub use streaming::{Block, BlockId, PlantFault, Settled, StreamingPlant};

@@ -1,10 +1,12 @@
 //! The pipeline.
 
-ghost use Rattle.std.specs.Prelude.{◌≡◌, ℕ, true, Ok, Some, IfNone, IfOk, IfSome, OnErr, OnOk};
+ghost use Rattle.std.specs.Prelude.{◌≡◌, ℕ, true, Ok, Some, IfErr, IfNone, IfOk, IfSome, OnErr, OnOk};
 ghost use Rattle.stream_model.specs.Machine.{IsWhole};
 ghost use Rattle.flowgraph.specs.Flowgraph.{net_of};
 ghost use Rattle.plant.specs.declared.answers.Settled.TheVariants.{Done, Quiet};
 ghost use Rattle.plant.specs.Settling.{HasMoved, HasSettled};
+ghost use Rattle.pipeline.specs.declared.fault.PipelineFault.TheVariants.{Memory};
+ghost use Rattle.pipeline.specs.Faults.{IsFaultOf};
 ghost use Rattle.pipeline.specs.Pipeline.{AreDelivered, Begins, GoesOn, IsDelivered, Lacks, NoneLacks, end_at};
 
 use crate::delivery::{deliver, flush};
@@ -40,6 +42,7 @@ impl<B: Block, R: Read, W: Write> Pipeline<B, R, W> {
     pub fn run(&mut self, alloc: Global) -> Result<Settled, PipelineFault>
         ensures goes { OnOk result (GoesOn R.remaining W.contents (net_of B.meaning self.old.plant.plant.graph) self.old.plant self.new.plant self.old.ends.items self.new.ends.items) }
         ensures begins { OnErr result (Begins R.remaining W.contents (net_of B.meaning self.old.plant.plant.graph) self.old.plant self.new.plant self.old.ends.items self.new.ends.items) }
+        ensures fault { IfErr result (IsFaultOf R.remaining self.new.ends.items) }
         ensures settled { IfOk result (λ settled. HasSettled (net_of B.meaning self.new.plant.plant.graph) self.new.plant.plant.capacities self.new.plant.plant.state settled) }
         ensures whole { result ≡ Ok Done → IsWhole (net_of B.meaning self.new.plant.plant.graph) self.new.plant.plant.state }
         ensures written { OnOk result (AreDelivered (net_of B.meaning self.new.plant.plant.graph) self.new.plant self.new.ends.items) }
@@ -56,6 +59,7 @@ impl<B: Block, R: Read, W: Write> Pipeline<B, R, W> {
     ) -> Result<Settled, PipelineFault>
         ensures goes { OnOk result (GoesOn R.remaining W.contents (net_of B.meaning self.old.plant.plant.graph) self.old.plant self.new.plant self.old.ends.items self.new.ends.items) }
         ensures begins { OnErr result (Begins R.remaining W.contents (net_of B.meaning self.old.plant.plant.graph) self.old.plant self.new.plant self.old.ends.items self.new.ends.items) }
+        ensures fault { IfErr result (IsFaultOf R.remaining self.new.ends.items) }
         ensures settled { IfOk result (λ settled. HasSettled (net_of B.meaning self.new.plant.plant.graph) self.new.plant.plant.capacities self.new.plant.plant.state settled) }
         ensures whole { result ≡ Ok Done → IsWhole (net_of B.meaning self.new.plant.plant.graph) self.new.plant.plant.state }
         ensures written { OnOk result (AreDelivered (net_of B.meaning self.new.plant.plant.graph) self.new.plant self.new.ends.items) }
@@ -76,6 +80,7 @@ impl<B: Block, R: Read, W: Write> Pipeline<B, R, W> {
     pub fn turn(&mut self, alloc: Global) -> Result<Option<Settled>, PipelineFault>
         ensures goes { OnOk result (GoesOn R.remaining W.contents (net_of B.meaning self.old.plant.plant.graph) self.old.plant self.new.plant self.old.ends.items self.new.ends.items) }
         ensures begins { OnErr result (Begins R.remaining W.contents (net_of B.meaning self.old.plant.plant.graph) self.old.plant self.new.plant self.old.ends.items self.new.ends.items) }
+        ensures fault { IfErr result (IsFaultOf R.remaining self.new.ends.items) }
         ensures settled { IfOk result (λ end. IfSome end (λ settled. HasSettled (net_of B.meaning self.new.plant.plant.graph) self.new.plant.plant.capacities self.new.plant.plant.state settled)) }
         ensures whole { result ≡ Ok (Some Done) → IsWhole (net_of B.meaning self.new.plant.plant.graph) self.new.plant.plant.state }
         ensures written { IfOk result (λ end. IfSome end (λ _. AreDelivered (net_of B.meaning self.new.plant.plant.graph) self.new.plant self.new.ends.items)) }
@@ -103,6 +108,7 @@ impl<B: Block, R: Read, W: Write> Pipeline<B, R, W> {
     // One round of the plant's blocks.
     fn round(&mut self, alloc: Global) -> Result<bool, PipelineFault>
         ensures goes { GoesOn R.remaining W.contents (net_of B.meaning self.old.plant.plant.graph) self.old.plant self.new.plant self.old.ends.items self.new.ends.items }
+        ensures fault { IfErr result (λ fault. fault ≡ Memory) }
         ensures moved { IfOk result (HasMoved (net_of B.meaning self.new.plant.plant.graph) self.new.plant.plant.capacities self.old.plant.plant.state self.new.plant.plant.state) }
     {
         Ok(self.plant.round(alloc, TURN)?)
@@ -112,6 +118,7 @@ impl<B: Block, R: Read, W: Write> Pipeline<B, R, W> {
     fn write(&mut self, least: usize) -> Result<(), PipelineFault>
         ensures goes { OnOk result (GoesOn R.remaining W.contents (net_of B.meaning self.old.plant.plant.graph) self.old.plant self.new.plant self.old.ends.items self.new.ends.items) }
         ensures begins { OnErr result (Begins R.remaining W.contents (net_of B.meaning self.old.plant.plant.graph) self.old.plant self.new.plant self.old.ends.items self.new.ends.items) }
+        ensures fault { IfErr result (IsFaultOf R.remaining self.new.ends.items) }
         ensures same { self.new.plant.plant ≡ self.old.plant.plant }
         ensures written { least ≡ 0 → OnOk result (AreDelivered (net_of B.meaning self.new.plant.plant.graph) self.new.plant self.new.ends.items) }
     {
@@ -125,6 +132,7 @@ impl<B: Block, R: Read, W: Write> Pipeline<B, R, W> {
     fn deliver(&mut self, block: BlockId, least: usize) -> Result<(), PipelineFault>
         ensures goes { OnOk result (GoesOn R.remaining W.contents (net_of B.meaning self.old.plant.plant.graph) self.old.plant self.new.plant self.old.ends.items self.new.ends.items) }
         ensures begins { OnErr result (Begins R.remaining W.contents (net_of B.meaning self.old.plant.plant.graph) self.old.plant self.new.plant self.old.ends.items self.new.ends.items) }
+        ensures fault { IfErr result (IsFaultOf R.remaining self.new.ends.items) }
         ensures same { self.new.plant.plant ≡ self.old.plant.plant }
         ensures own { least ≡ 0 → OnOk result (IsDelivered self.new.plant block.0 (end_at self.new.ends.items block.0)) }
         ensures others { (b : ℕ) → (b ≡ block.0 → ⊥) → IsDelivered self.old.plant b (end_at self.old.ends.items b) → IsDelivered self.new.plant b (end_at self.new.ends.items b) }
@@ -146,6 +154,7 @@ impl<B: Block, R: Read, W: Write> Pipeline<B, R, W> {
     fn flush(&mut self) -> Result<(), PipelineFault>
         ensures goes { OnOk result (GoesOn R.remaining W.contents (net_of B.meaning self.old.plant.plant.graph) self.old.plant self.new.plant self.old.ends.items self.new.ends.items) }
         ensures begins { OnErr result (Begins R.remaining W.contents (net_of B.meaning self.old.plant.plant.graph) self.old.plant self.new.plant self.old.ends.items self.new.ends.items) }
+        ensures fault { IfErr result (IsFaultOf R.remaining self.new.ends.items) }
         ensures same { self.new.plant ≡ self.old.plant }
         ensures written { AreDelivered (net_of B.meaning self.old.plant.plant.graph) self.old.plant self.old.ends.items → AreDelivered (net_of B.meaning self.new.plant.plant.graph) self.new.plant self.new.ends.items }
     {
@@ -159,6 +168,7 @@ impl<B: Block, R: Read, W: Write> Pipeline<B, R, W> {
     fn flush_own(&mut self, block: BlockId) -> Result<(), PipelineFault>
         ensures goes { OnOk result (GoesOn R.remaining W.contents (net_of B.meaning self.old.plant.plant.graph) self.old.plant self.new.plant self.old.ends.items self.new.ends.items) }
         ensures begins { OnErr result (Begins R.remaining W.contents (net_of B.meaning self.old.plant.plant.graph) self.old.plant self.new.plant self.old.ends.items self.new.ends.items) }
+        ensures fault { IfErr result (IsFaultOf R.remaining self.new.ends.items) }
         ensures same { self.new.plant ≡ self.old.plant }
         ensures written { AreDelivered (net_of B.meaning self.old.plant.plant.graph) self.old.plant self.old.ends.items → AreDelivered (net_of B.meaning self.new.plant.plant.graph) self.new.plant self.new.ends.items }
     {
@@ -176,6 +186,7 @@ impl<B: Block, R: Read, W: Write> Pipeline<B, R, W> {
     fn take_in(&mut self, block: BlockId) -> Result<(), PipelineFault>
         ensures goes { OnOk result (GoesOn R.remaining W.contents (net_of B.meaning self.old.plant.plant.graph) self.old.plant self.new.plant self.old.ends.items self.new.ends.items) }
         ensures begins { OnErr result (Begins R.remaining W.contents (net_of B.meaning self.old.plant.plant.graph) self.old.plant self.new.plant self.old.ends.items self.new.ends.items) }
+        ensures fault { IfErr result (IsFaultOf R.remaining self.new.ends.items) }
     {
         let at = block.0 as usize;
         if self.ends.len() <= at {
@@ -245,14 +256,13 @@ impl<B: Block, R: Read, W: Write> Pipeline<B, R, W> {
     }
 
     // Whether a source has given all that it was fed, and its reader has more.
+    #[tactic(auto, using(crate::proofs::Moving::lacks_more))]
     fn lacks(&self, block: BlockId) -> bool
         ensures { Lacks (net_of B.meaning self.now.plant.plant.graph) self.now.plant block.0 (end_at self.now.ends.items block.0) → result ≡ true }
     {
         match self.ends.get(block.0 as usize) {
-            Some(End::Input(input)) if !input.is_ended => {
-                matches!(self.plant.need(block), Ok(BlockNeed::Feed))
-            }
-            _ => false,
+            Some(end) => end.has_more() && matches!(self.plant.need(block), Ok(BlockNeed::Feed)),
+            None => false,
         }
     }
 }

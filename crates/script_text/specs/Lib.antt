@@ -9,3 +9,4 @@ pub mod Replies
 pub mod Reports
 pub mod Printed
 pub mod Scripts
+pub mod MarkLines

@@ -14,7 +14,8 @@ use crate::{Command, Line};
 use items::{BlockName, Mark, TagKey};
 use std::alloc::{AllocError, Global};
 
-const LONGEST_LINE: usize = 65536;
+/// So many bytes a line may have, without what ends it.
+pub(crate) const LONGEST_LINE: usize = 65536;
 
 /// What a line says, without what ends it. Memory is asked for only where it is a command with numbers or marks.
 #[tactic(auto, unfolding(crate::specs::Grammar::parsed_line))]
@@ -349,7 +350,8 @@ fn parse_marks(alloc: Global, fields: &[u8]) -> Result<Option<Vec<Mark>>, AllocE
     Ok(Some(marks))
 }
 
-fn parse_mark(field: &[u8]) -> Option<Mark>
+/// The mark that a field is.
+pub(crate) fn parse_mark(field: &[u8]) -> Option<Mark>
     ensures { option_map mark_seen result ≡ mark_of field.now }
 {
     if !begins_with(field, b'@') {

@@ -7,17 +7,19 @@ use Rattle.pipeline.specs.Ends.{InputState}
 use Rattle.pipeline.specs.Pipeline.{HasRead, MayHaveRead}
 use Rattle.pipeline.specs.Steps.{HasFed}
 use Rattle.pipeline.proofs.Reading.{fed-read, keeps_consumes, may_read-gone, read-begun, read-then, takes_none, takes_then}
+use Rattle.pipeline.proofs.Delivering.{on_err_both}
+use Rattle.pipeline.proofs.Telling.{are_read-none}
 use Rattle.pipeline.proofs.end.Input.take_in.Goals as goal
 
 pub returns-in-Err-clause-err : goal.returns-in-Err-clause-err
 returns-in-Err-clause-err g c =
     let remaining = g.R.Read.remaining in
     let p = c.args.plant.now in
-    let i : InputState _ = record { reader = c.self.inside.reader; decoder = c.self.inside.decoder; is_ended = c.self.inside.is_ended } in
-    let k : InputState _ = record { reader = c.read.new.self; decoder = c.self.inside.decoder; is_ended = c.self.inside.is_ended } in
+    let i : InputState _ = record { reader = c.self.inside.reader; decoder = c.self.inside.decoder; marks = c.self.inside.marks; is_ended = c.self.inside.is_ended } in
+    let k : InputState _ = record { reader = c.read.new.self; decoder = c.self.inside.decoder; marks = c.self.inside.marks; is_ended = c.self.inside.is_ended } in
     rw (← c.self.view_is)
     (takes_none (MayHaveRead remaining) (net_of g.B.Block.meaning p.plant.graph) p p c.args.source.0 i i k refl
-    (may_read-gone remaining i k (handed_at p.plant.state.handed c.args.source.0) [] (keeps_consumes _ _ c.in-Err.ensures.bytes)))
+    (may_read-gone remaining c.args.source.0 i k (handed_at p.plant.state.handed c.args.source.0) [] (keeps_consumes _ _ c.in-Err.ensures.bytes) (are_read-none remaining i.marks)))
 
 pub returns-then-count-eq0-clause-ok : goal.returns-then-count-eq0-clause-ok
 returns-then-count-eq0-clause-ok g c =
@@ -25,13 +27,13 @@ returns-then-count-eq0-clause-ok g c =
     let p = c.args.plant.now in
     let net = net_of g.B.Block.meaning p.plant.graph in
     let b = c.args.source.0 in
-    let i : InputState _ = record { reader = c.self.inside.reader; decoder = c.self.inside.decoder; is_ended = c.self.inside.is_ended } in
-    let j : InputState _ = record { reader = c.read.new.self; decoder = c.self.inside.decoder; is_ended = c.self.inside.is_ended } in
+    let i : InputState _ = record { reader = c.self.inside.reader; decoder = c.self.inside.decoder; marks = c.self.inside.marks; is_ended = c.self.inside.is_ended } in
+    let j : InputState _ = record { reader = c.read.new.self; decoder = c.self.inside.decoder; marks = c.self.inside.marks; is_ended = c.self.inside.is_ended } in
     rw (← c.self.view_is)
     (on_ok_weaker c.end.result
     (λ takes. takes_then (HasRead remaining) net p c.end.new.plant b i j c.end.new.self takes (HasRead remaining)
-    (read-then remaining i j c.end.new.self _ _ _ (read-begun remaining i j (handed_at p.plant.state.handed b)
-    (subst (λ n. Consumes (remaining c.self.inside.reader) (remaining c.read.new.self) (take n c.read.new.buf)) c.if-count-eq0.true c.in-Ok.ensures.bytes.0) refl c.if-self.false refl)))
+    (read-then remaining b i j c.end.new.self _ _ _ (read-begun remaining b i j (handed_at p.plant.state.handed b)
+    (subst (λ n. Consumes (remaining c.self.inside.reader) (remaining c.read.new.self) (take n c.read.new.buf)) c.if-count-eq0.true c.in-Ok.ensures.bytes.0) refl refl c.if-self.false refl)))
     c.end.ensures.ok)
 
 pub returns-then-count-eq0-clause-err : goal.returns-then-count-eq0-clause-err
@@ -40,12 +42,12 @@ returns-then-count-eq0-clause-err g c =
     let p = c.args.plant.now in
     let net = net_of g.B.Block.meaning p.plant.graph in
     let b = c.args.source.0 in
-    let i : InputState _ = record { reader = c.self.inside.reader; decoder = c.self.inside.decoder; is_ended = c.self.inside.is_ended } in
+    let i : InputState _ = record { reader = c.self.inside.reader; decoder = c.self.inside.decoder; marks = c.self.inside.marks; is_ended = c.self.inside.is_ended } in
     rw (← c.self.view_is)
     (on_err_weaker c.end.result
-    (λ same. takes_none (MayHaveRead remaining) net p c.end.new.plant b i i c.end.new.self same
-    (may_read-gone remaining i c.end.new.self (handed_at p.plant.state.handed b) [] (rw c.end.ensures.reader (subst (λ n. Consumes (remaining c.self.inside.reader) (remaining c.read.new.self) (take n c.read.new.buf)) c.if-count-eq0.true c.in-Ok.ensures.bytes.0))))
-    c.end.ensures.err)
+    (λ both. takes_none (MayHaveRead remaining) net p c.end.new.plant b i i c.end.new.self both.0
+    (may_read-gone remaining b i c.end.new.self (handed_at p.plant.state.handed b) [] (rw c.end.ensures.reader (subst (λ n. Consumes (remaining c.self.inside.reader) (remaining c.read.new.self) (take n c.read.new.buf)) c.if-count-eq0.true c.in-Ok.ensures.bytes.0)) both.1))
+    (on_err_both _ _ c.end.result c.end.ensures.err c.end.ensures.marks))
 
 pub returns-clause-ok : goal.returns-clause-ok
 returns-clause-ok g c =
@@ -53,12 +55,12 @@ returns-clause-ok g c =
     let p = c.args.plant.now in
     let net = net_of g.B.Block.meaning p.plant.graph in
     let b = c.args.source.0 in
-    let i : InputState _ = record { reader = c.self.inside.reader; decoder = c.self.inside.decoder; is_ended = c.self.inside.is_ended } in
-    let j : InputState _ = record { reader = c.read.new.self; decoder = c.self.inside.decoder; is_ended = c.self.inside.is_ended } in
+    let i : InputState _ = record { reader = c.self.inside.reader; decoder = c.self.inside.decoder; marks = c.self.inside.marks; is_ended = c.self.inside.is_ended } in
+    let j : InputState _ = record { reader = c.read.new.self; decoder = c.self.inside.decoder; marks = c.self.inside.marks; is_ended = c.self.inside.is_ended } in
     rw (← c.self.view_is)
     (on_ok_weaker c.feed.result
-    (λ takes. takes_then (HasFed (take c.in-Ok.count c.read.new.buf)) net p c.feed.new.plant b i j c.feed.new.self takes (HasRead remaining)
-    (fed-read remaining i j c.feed.new.self _ _ (take c.in-Ok.count c.read.new.buf) (rw c.feed.ensures.reader c.in-Ok.ensures.bytes.0) refl c.if-self.false c.if-self.false))
+    (λ takes. takes_then (HasFed remaining (take c.in-Ok.count c.read.new.buf)) net p c.feed.new.plant b i j c.feed.new.self takes (HasRead remaining)
+    (fed-read remaining b i j c.feed.new.self _ _ (take c.in-Ok.count c.read.new.buf) (rw c.feed.ensures.reader c.in-Ok.ensures.bytes.0) refl refl c.if-self.false c.if-self.false))
     c.feed.ensures.ok)
 
 pub returns-clause-err : goal.returns-clause-err
@@ -67,9 +69,9 @@ returns-clause-err g c =
     let p = c.args.plant.now in
     let net = net_of g.B.Block.meaning p.plant.graph in
     let b = c.args.source.0 in
-    let i : InputState _ = record { reader = c.self.inside.reader; decoder = c.self.inside.decoder; is_ended = c.self.inside.is_ended } in
+    let i : InputState _ = record { reader = c.self.inside.reader; decoder = c.self.inside.decoder; marks = c.self.inside.marks; is_ended = c.self.inside.is_ended } in
     rw (← c.self.view_is)
     (on_err_weaker c.feed.result
-    (λ same. takes_none (MayHaveRead remaining) net p c.feed.new.plant b i i c.feed.new.self same
-    (may_read-gone remaining i c.feed.new.self (handed_at p.plant.state.handed b) (take c.in-Ok.count c.read.new.buf) (rw c.feed.ensures.reader c.in-Ok.ensures.bytes.0)))
-    c.feed.ensures.err)
+    (λ both. takes_none (MayHaveRead remaining) net p c.feed.new.plant b i i c.feed.new.self both.0
+    (may_read-gone remaining b i c.feed.new.self (handed_at p.plant.state.handed b) (take c.in-Ok.count c.read.new.buf) (rw c.feed.ensures.reader c.in-Ok.ensures.bytes.0) both.1))
+    (on_err_both _ _ c.feed.result c.feed.ensures.err c.feed.ensures.marks))

@@ -2,6 +2,10 @@ use Rattle.std.proofs.Common.{refl, sym, ◌∙◌, arith}
 use Rattle.std.proofs.lemmas.Result.{on_ok_weaker, on_err_weaker}
 use Rattle.flowgraph.specs.Flowgraph.{net_of}
 use Rattle.pipeline.proofs.Moving.{begins_by_delivery, goes_by_delivery, goes_none, goes_set, there}
+use Rattle.std.proofs.lemmas.Result.{IfErr-weaker}
+use Rattle.pipeline.specs.declared.end.End.TheVariants.{Output}
+use Rattle.pipeline.specs.Faults.{IsOfWriters}
+use Rattle.pipeline.proofs.Faulting.{fault_of_end}
 use Rattle.pipeline.proofs.pipeline.Pipeline.deliver.Goals as goal
 
 pub returns-then-items_in_memory-least-clause-goes : goal.returns-then-items_in_memory-least-clause-goes
@@ -31,3 +35,8 @@ returns-in-Output-clause-begins g c =
     let net = net_of g.B.Block.meaning p.plant.graph in
     let b = c.args.block.0 in
     on_err_weaker c.deliver.result (begins_by_delivery g.R.Read.remaining g.W.Write.contents net p c.deliver.new.plant es b c.in-Output.output c.deliver.new.output (omega (arith, c.if-len-at.false)) (sym (there es b c.index_mut.result.now (omega (arith, c.if-len-at.false)) c.index_mut.ensures.value) ∙ c.in-Output.is)) c.deliver.ensures.err
+
+pub returns-in-Output-clause-fault : goal.returns-in-Output-clause-fault
+returns-in-Output-clause-fault g c =
+    IfErr-weaker c.deliver.result (IsOfWriters c.args.block c.deliver.new.output) _
+    (fault_of_end g.R.Read.remaining c.args.self.now.ends.items c.args.block (Output c.deliver.new.output) (omega (arith, c.if-len-at.false))) c.deliver.ensures.fault

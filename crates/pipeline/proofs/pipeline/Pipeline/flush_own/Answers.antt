@@ -2,6 +2,10 @@ use Rattle.std.proofs.Common.{refl, sym, ◌∙◌, arith}
 use Rattle.flowgraph.specs.Flowgraph.{net_of}
 use Rattle.pipeline.proofs.Delivering.{on_err, on_ok}
 use Rattle.pipeline.proofs.Moving.{begins_by_delivery, delivery_begins, flushed, goes_by_delivery, goes_none, goes_set, there}
+use Rattle.std.proofs.lemmas.Result.{IfErr-weaker}
+use Rattle.pipeline.specs.declared.end.End.TheVariants.{Output}
+use Rattle.pipeline.specs.Faults.{IsOfWriters}
+use Rattle.pipeline.proofs.Faulting.{fault_of_end}
 use Rattle.pipeline.proofs.pipeline.Pipeline.flush_own.Goals as goal
 
 pub returns-then-len-at-clause-goes : goal.returns-then-len-at-clause-goes
@@ -32,3 +36,8 @@ returns-in-Output-clause-begins g c =
     let contents = g.W.Write.contents in
     on_err c.flush.result (begins_by_delivery g.R.Read.remaining contents net p p es b c.in-Output.output c.flush.new.output (omega (arith, c.if-len-at.false)) (sym (there es b c.index_mut.result.now (omega (arith, c.if-len-at.false)) c.index_mut.ensures.value) ∙ c.in-Output.is)
     (delivery_begins g.R.Read.remaining contents net p p b c.in-Output.output c.flush.new.output (flushed g.R.Read.remaining contents net p b c.in-Output.output c.flush.new.output c.flush.ensures.rest c.flush.ensures.items c.flush.ensures.tags)))
+
+pub returns-in-Output-clause-fault : goal.returns-in-Output-clause-fault
+returns-in-Output-clause-fault g c =
+    IfErr-weaker c.flush.result (IsOfWriters c.args.block c.flush.new.output) _
+    (fault_of_end g.R.Read.remaining c.args.self.now.ends.items c.args.block (Output c.flush.new.output) (omega (arith, c.if-len-at.false))) c.flush.ensures.fault

@@ -1,7 +1,11 @@
 use Rattle.std.proofs.Common.{refl}
 use Rattle.pipeline.proofs.Delivering.{on_err}
 use Rattle.pipeline.proofs.Moving.{begins_more, begins_none, goes_more, goes_none}
+use Rattle.pipeline.specs.Faults.{NoMemory}
 use Rattle.pipeline.proofs.pipeline.Pipeline.run_watched.Goals as goal
+
+pub returns-clause-fault : goal.returns-clause-fault
+returns-clause-fault g c = NoMemory
 
 pub loop-turns-init : goal.loop-turns-init
 loop-turns-init g c = goes_none g.R.Read.remaining g.W.Write.contents _ _ _ _ refl

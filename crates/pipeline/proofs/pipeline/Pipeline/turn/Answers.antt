@@ -1,8 +1,19 @@
-use Rattle.std.proofs.Common.{refl}
+use Rattle.std.proofs.Common.{rules, ◌≡◌, refl, subst, sym}
+use Rattle.std.specs.Prelude.{IfErr}
+use Rattle.std.proofs.lemmas.Result.{IfErr-weaker}
 use Rattle.flowgraph.specs.Flowgraph.{net_of}
 use Rattle.pipeline.proofs.Delivering.{on_err}
 use Rattle.pipeline.proofs.Moving.{begins_more, begins_none, goes_more, goes_still}
+use Rattle.pipeline.specs.declared.fault.PipelineFault.{PipelineFault}
+use Rattle.pipeline.specs.declared.fault.PipelineFault.TheVariants.{Memory}
+use Rattle.pipeline.specs.Faults.{IsFaultOf, NoMemory}
 use Rattle.pipeline.proofs.pipeline.Pipeline.turn.Goals as goal
+
+pub returns-in_err-has_moved-clause-fault : goal.returns-in_err-has_moved-clause-fault
+returns-in_err-has_moved-clause-fault g c =
+    let told : IfErr c.from_residual.result (λ (fault : PipelineFault). fault ≡ Memory) = search rules in
+    IfErr-weaker c.from_residual.result (λ (fault : PipelineFault). fault ≡ Memory) _
+    (λ fault is. subst (IsFaultOf g.R.Read.remaining c.round.new.self.ends.items) (sym is) NoMemory) told
 
 pub returns-in_err-has_moved-clause-begins : goal.returns-in_err-has_moved-clause-begins
 returns-in_err-has_moved-clause-begins g c = on_err c.from_residual.result

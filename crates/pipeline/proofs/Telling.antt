@@ -1,0 +1,252 @@
+-- Readers that give on marks.
+use Rattle.std.proofs.Common.{◌≡◌, ℕ, suc, ◌+◌, ◌≤◌, arith, length, List, [], ◌∷◌, ◌++◌, true, false, map, refl, ap, sym, ◌∙◌, subst, append_assoc}
+use Rattle.std.proofs.lemmas.List.{append-nil, map-append}
+use Rattle.std.specs.Prelude.{Option, Some, None, IsSome}
+use Rattle.std.specs.Option.{option_map, option_to_list}
+use Rattle.std.specs.Io.KnownBytes.{Consumes, IsAtEnd}
+use Rattle.stream_model.specs.Tags.{Mark, Tag}
+use Rattle.stream_model.specs.Machine.{tag_of}
+use Rattle.script_text.specs.Lines.{lines_of, without_return}
+use Rattle.script_text.specs.Splits.{IsUnfinished, most_held}
+use Rattle.script_text.specs.MarkLines.{line_mark, marks_said}
+use Rattle.pipeline.specs.Marks.{AreRead, AreTold, BeginTold, FindsMarks, Gives, GivesTo, HasTold, IsRead, Marking, ReadsMarks}
+use Rattle.pipeline.proofs.Growing.{consumes_none, consumes_then}
+
+module _ {R : Type 0} (remaining : R → Option (List ℕ)) where
+  told_as : (m : Marking R) (bs cs : List ℕ) (xs ys : List Mark) → bs ≡ cs → xs ≡ ys → HasTold remaining m bs xs → HasTold remaining m cs ys
+  told_as m bs cs xs ys e f told = subst (λ (zs : List Mark). HasTold remaining m cs zs) f (subst (λ (ds : List ℕ). HasTold remaining m ds xs) e told)
+
+  pub gives-none : (m : Marking R) → Gives remaining m m []
+  gives-none m = record {
+    bytes = [];
+    read = consumes_none (remaining m.reader);
+    told = λ before given told. told_as m before (before ++ []) given (given ++ []) (sym (append-nil before)) (sym (append-nil given)) told;
+    over = λ e. refl;
+    stays_over = λ e. e;
+  }
+
+  module _ (k l m : Marking R) (xs : List Mark) (first : Gives remaining k l xs) where
+    pub gives-then : (ys : List Mark) → Gives remaining l m ys → Gives remaining k m (xs ++ ys)
+    gives-then ys second = record {
+      bytes = first.bytes ++ second.bytes;
+      read = consumes_then _ _ _ first.bytes second.bytes first.read second.read;
+      told = λ before given told. told_as m _ _ _ _ (append_assoc before first.bytes second.bytes) (append_assoc given xs ys) (second.told (before ++ first.bytes) (given ++ xs) (first.told before given told));
+      over = λ e. let none = first.over e in let more = second.over (first.stays_over e) in rw (none, more) refl;
+      stays_over = λ e. second.stays_over (first.stays_over e);
+    }
+
+    pub gives-read-then : IsRead remaining l m → IsRead remaining k m
+    gives-read-then second = record {
+      bytes = first.bytes ++ second.bytes;
+      read = consumes_then _ _ _ first.bytes second.bytes first.read second.read;
+      over = λ e. let none = first.over e in let more = second.over (first.stays_over e) in rw (none, more) refl;
+    }
+
+    pub gives-read : IsRead remaining k l
+    gives-read = record { bytes = first.bytes; read = first.read; over = first.over }
+
+  pub gives_to-then : (k l m : Marking R) (xs ys zs : List Mark) → GivesTo remaining k l xs ys → GivesTo remaining l m ys zs → GivesTo remaining k m xs zs
+  gives_to-then k l m xs ys zs first second = (
+    first.0 ++ second.0,
+    gives-then k l m first.0 first.1 second.0 second.1,
+    second.2 ∙ ap (λ ws. ws ++ second.0) first.2 ∙ append_assoc xs first.0 second.0,
+  )
+
+  -- a line was taken that says a mark, which is held
+  pub line-gives : (m m' : Marking R) (line : List ℕ) (mark : Mark) → m.is_over ≡ false → m.held ≡ None → m' ≡ record m { rest = m'.rest; held = Some mark } →
+      ((more : List ℕ) → lines_of (m.rest ++ more) ≡ line ∷ lines_of (m'.rest ++ more)) → line_mark line ≡ Some mark → Gives remaining m m' []
+  line-gives m m' line mark goes_on none is taken says =
+      let reader : m'.reader ≡ m.reader = ap Marking.reader is in
+      let held : m'.held ≡ Some mark = ap Marking.held is in
+      let still : m'.is_over ≡ false = ap Marking.is_over is ∙ goes_on in
+      record {
+        bytes = [];
+        read = rw reader (consumes_none (remaining m.reader));
+        told = λ before given told. record {
+          lines = λ more _.
+              let was = told.lines more (λ e. absurd (cc (e, goes_on))) in
+              let first : marks_said (m.rest ++ more) ≡ Some mark ∷ marks_said (m'.rest ++ more) = ap (map line_mark) (taken more) ∙ ap (λ x. x ∷ marks_said (m'.rest ++ more)) says in
+              rw (append-nil before, append-nil given, held)
+              (was ∙ ap (λ h. map Some (given ++ option_to_list h) ++ marks_said (m.rest ++ more)) none ∙ ap (λ zs. map Some zs ++ marks_said (m.rest ++ more)) (append-nil given)
+              ∙ ap (λ ws. map Some given ++ ws) first ∙ sym (append_assoc (map Some given) (Some mark ∷ []) (marks_said (m'.rest ++ more)))
+              ∙ ap (λ zs. zs ++ marks_said (m'.rest ++ more)) (sym (map-append Some given (mark ∷ []))));
+          at_end = λ e. absurd (cc (e, still));
+        };
+        over = λ e. refl;
+        stays_over = λ e. absurd (cc (e, goes_on));
+      }
+
+  -- a piece was read, of which no line was taken as yet
+  pub piece-gives : (m m' : Marking R) (piece : List ℕ) → m.is_over ≡ false → m' ≡ record m { reader = m'.reader; rest = m.rest ++ piece } → Consumes (remaining m.reader) (remaining m'.reader) piece → Gives remaining m m' []
+  piece-gives m m' piece goes_on is read =
+      let held : m'.held ≡ m.held = ap Marking.held is in
+      let rest : m'.rest ≡ m.rest ++ piece = ap Marking.rest is in
+      let still : m'.is_over ≡ false = ap Marking.is_over is ∙ goes_on in
+      record {
+        bytes = piece;
+        read = read;
+        told = λ before given told. record {
+          lines = λ more _.
+              let was = told.lines (piece ++ more) (λ e. absurd (cc (e, goes_on))) in
+              rw (append-nil given, held, rest, append_assoc before piece more, append_assoc m.rest piece more) was;
+          at_end = λ e. absurd (cc (e, still));
+        };
+        over = λ e. absurd (cc (e, goes_on));
+        stays_over = λ e. absurd (cc (e, goes_on));
+      }
+
+  -- the reader was at its end, and the line that it ends, where there is one, says the mark that is held
+  pub end-gives : (m m' : Marking R) → m.is_over ≡ false → m.held ≡ None → Consumes (remaining m.reader) (remaining m'.reader) [] → IsAtEnd (remaining m'.reader) → m'.is_over ≡ true → m'.rest ≡ [] →
+      marks_said m.rest ≡ map Some (option_to_list m'.held) → Gives remaining m m' []
+  end-gives m m' goes_on none read at over rest says = record {
+    bytes = [];
+    read = read;
+    told = λ before given told. record {
+      lines = λ more nothing.
+          let is : more ≡ [] = nothing over in
+          let was = told.lines [] (λ e. refl) in
+          rw (append-nil before, append-nil given, is, rest, append-nil (map Some (given ++ option_to_list m'.held)))
+          (was ∙ ap (λ h. map Some (given ++ option_to_list h) ++ marks_said (m.rest ++ [])) none ∙ ap (λ zs. map Some zs ++ marks_said (m.rest ++ [])) (append-nil given)
+          ∙ ap (λ zs. map Some given ++ marks_said zs) (append-nil m.rest) ∙ ap (λ ws. map Some given ++ ws) says ∙ sym (map-append Some given (option_to_list m'.held)));
+      at_end = λ e. at;
+    };
+    over = λ e. refl;
+    stays_over = λ e. over;
+  }
+
+  -- the mark that was held was given on
+  pub held-gives : (m m' : Marking R) (mark : Mark) → m.held ≡ Some mark → m' ≡ record m { held = None } → Gives remaining m m' (mark ∷ [])
+  held-gives m m' mark held is =
+      let reader : m'.reader ≡ m.reader = ap Marking.reader is in
+      let none : m'.held ≡ None = ap Marking.held is in
+      let rest : m'.rest ≡ m.rest = ap Marking.rest is in
+      let same : m'.is_over ≡ m.is_over = ap Marking.is_over is in
+      record {
+        bytes = [];
+        read = rw reader (consumes_none (remaining m.reader));
+        told = λ before given told. record {
+          lines = λ more nothing.
+              let was = told.lines more (λ e. nothing (same ∙ e)) in
+              rw (append-nil before, none, rest, append-nil (given ++ mark ∷ []))
+              (was ∙ ap (λ h. map Some (given ++ option_to_list h) ++ marks_said (m.rest ++ more)) held);
+          at_end = λ e. rw reader (told.at_end (sym same ∙ e));
+        };
+        over = λ e. refl;
+        stays_over = λ e. same ∙ e;
+      }
+
+  -- what was given on stands behind the tags
+  pub finds-told : (b : ℕ) (k l : Option (Marking R)) (marks : List Mark) → FindsMarks remaining k l marks →
+      (bytes : List ℕ) × ReadsMarks remaining k l bytes × ((before : List ℕ) (start tags : List Tag) → AreTold remaining b k before start tags → AreTold remaining b l (before ++ bytes) start (tags ++ map (tag_of b) marks))
+  finds-told b None None marks finds = ([], tt, λ before start tags told. ap (λ ms. tags ++ map (tag_of b) ms) finds ∙ append-nil tags ∙ told)
+  finds-told b None (Some m) marks finds = absurd finds
+  finds-told b (Some k) None marks finds = absurd finds
+  finds-told b (Some k) (Some l) marks finds = (
+    finds.bytes,
+    finds.read,
+    λ before start tags told. (
+      told.0 ++ marks,
+      finds.told before told.0 told.1,
+      ap (λ ts. ts ++ map (tag_of b) marks) told.2 ∙ append_assoc start (map (tag_of b) told.0) (map (tag_of b) marks) ∙ ap (λ ts. start ++ ts) (sym (map-append (tag_of b) told.0 marks)),
+    ),
+  )
+
+  pub finds-read : (k l : Option (Marking R)) (marks : List Mark) → FindsMarks remaining k l marks → AreRead remaining k l
+  finds-read None None marks finds = tt
+  finds-read None (Some m) marks finds = absurd finds
+  finds-read (Some k) None marks finds = absurd finds
+  finds-read (Some k) (Some l) marks finds = gives-read k l l marks finds
+
+  pub are_read-none : (k : Option (Marking R)) → AreRead remaining k k
+  are_read-none None = tt
+  are_read-none (Some m) = gives-read m m m [] (gives-none m)
+
+  -- what stood behind them before is a beginning
+  pub read-begins : (b : ℕ) (k l : Option (Marking R)) → AreRead remaining k l →
+      (bytes : List ℕ) × ReadsMarks remaining k l bytes × ((before : List ℕ) (start tags : List Tag) → AreTold remaining b k before start tags → BeginTold b k (before ++ bytes) start tags)
+  read-begins b None None read = ([], tt, λ before start tags told. told)
+  read-begins b None (Some m) read = absurd read
+  read-begins b (Some k) None read = absurd read
+  read-begins b (Some k) (Some l) read = (
+    read.bytes,
+    read.read,
+    λ before start tags told. (
+      told.0,
+      map Some (option_to_list k.held) ++ marks_said (k.rest ++ read.bytes),
+      told.1.lines read.bytes read.over ∙ ap (λ zs. zs ++ marks_said (k.rest ++ read.bytes)) (map-append Some told.0 (option_to_list k.held))
+          ∙ append_assoc (map Some told.0) (map Some (option_to_list k.held)) (marks_said (k.rest ++ read.bytes)),
+      told.2,
+    ),
+  )
+
+  pub reads-none : (k : Option (Marking R)) → ReadsMarks remaining k k []
+  reads-none None = tt
+  reads-none (Some m) = consumes_none (remaining m.reader)
+
+  pub reads-then : (k l m : Option (Marking R)) (xs ys : List ℕ) → ReadsMarks remaining k l xs → ReadsMarks remaining l m ys → ReadsMarks remaining k m (xs ++ ys)
+  reads-then None None None xs ys p q = tt
+  reads-then None None (Some m) xs ys p q = absurd q
+  reads-then None (Some l) m xs ys p q = absurd p
+  reads-then (Some k) None m xs ys p q = absurd p
+  reads-then (Some k) (Some l) None xs ys p q = absurd q
+  reads-then (Some k) (Some l) (Some m) xs ys p q = consumes_then _ _ _ xs ys p q
+
+  pub told-as : (b : ℕ) (k : Option (Marking R)) (bs cs : List ℕ) (start tags : List Tag) → bs ≡ cs → AreTold remaining b k bs start tags → AreTold remaining b k cs start tags
+  told-as b k bs cs start tags e told = subst (λ (ds : List ℕ). AreTold remaining b k ds start tags) e told
+
+  -- all of them are a beginning too
+  pub begins-here : (b : ℕ) (k : Option (Marking R)) (bytes : List ℕ) (start tags : List Tag) → AreTold remaining b k bytes start tags → BeginTold b k bytes start tags
+  begins-here b None bytes start tags told = told
+  begins-here b (Some m) bytes start tags told = (
+    told.0,
+    map Some (option_to_list m.held) ++ marks_said (m.rest ++ []),
+    ap marks_said (sym (append-nil bytes)) ∙ told.1.lines [] (λ e. refl) ∙ ap (λ zs. zs ++ marks_said (m.rest ++ [])) (map-append Some told.0 (option_to_list m.held))
+        ∙ append_assoc (map Some told.0) (map Some (option_to_list m.held)) (marks_said (m.rest ++ [])),
+    told.2,
+  )
+
+  pub begins-before : (b : ℕ) (k l : Option (Marking R)) (xs bytes : List ℕ) (start tags : List Tag) → ReadsMarks remaining k l xs → BeginTold b l bytes start tags → BeginTold b k bytes start tags
+  begins-before b None None xs bytes start tags read begins = begins
+  begins-before b None (Some l) xs bytes start tags read begins = absurd read
+  begins-before b (Some k) None xs bytes start tags read begins = absurd read
+  begins-before b (Some k) (Some l) xs bytes start tags read begins = begins
+
+  -- the same where a line may say no mark, and where a read gave nothing
+  pub said-gives : (m m' : Marking R) (line : List ℕ) (said : Option Mark) → m.is_over ≡ false → m.held ≡ None → m' ≡ record m { rest = m'.rest; held = said } →
+      ((more : List ℕ) → lines_of (m.rest ++ more) ≡ line ∷ lines_of (m'.rest ++ more)) → said ≡ line_mark line → IsSome said → Gives remaining m m' []
+  said-gives m m' line None goes_on none is taken says some = absurd (cc some)
+  said-gives m m' line (Some mark) goes_on none is taken says some = line-gives m m' line mark goes_on none is taken (sym says)
+
+  pub last-gives : (m m' : Marking R) (line : List ℕ) (said : Option Mark) → m.is_over ≡ false → m.held ≡ None → m'.reader ≡ m.reader → IsAtEnd (remaining m.reader) → m'.is_over ≡ true → m'.rest ≡ [] → m'.held ≡ said →
+      line ∷ [] ≡ lines_of m.rest → said ≡ line_mark line → IsSome said → Gives remaining m m' []
+  last-gives m m' line None goes_on none reader at over rest held lines says some = absurd (cc some)
+  last-gives m m' line (Some mark) goes_on none reader at over rest held lines says some =
+      end-gives m m' goes_on none (rw reader (consumes_none (remaining m.reader))) (rw reader at) over rest
+      (rw held (ap (map line_mark) (sym lines) ∙ ap (λ x. x ∷ []) (sym says)))
+
+  pub none-gives : (m m' : Marking R) → m.is_over ≡ false → m.held ≡ None → m' ≡ record m { rest = []; is_over = true } → IsAtEnd (remaining m.reader) → [] ≡ lines_of m.rest → Gives remaining m m' []
+  none-gives m m' goes_on none is at lines =
+      let reader : m'.reader ≡ m.reader = ap Marking.reader is in
+      let held : m'.held ≡ None = ap Marking.held is ∙ none in
+      end-gives m m' goes_on none (rw reader (consumes_none (remaining m.reader))) (rw reader at) (ap Marking.is_over is) (ap Marking.rest is) (rw held (ap (map line_mark) (sym lines)))
+
+  pub nothing-gives : (m m' : Marking R) → m.is_over ≡ false → m' ≡ record m { reader = m'.reader } → Consumes (remaining m.reader) (remaining m'.reader) [] → Gives remaining m m' []
+  nothing-gives m m' goes_on is read = piece-gives m m' [] goes_on (is ∙ ap (λ (xs : List ℕ). record m { reader = m'.reader; rest = xs }) (sym (append-nil m.rest))) read
+
+  -- a read that failed gave nothing
+  pub nothing-read : (m m' : Marking R) → Consumes (remaining m.reader) (remaining m'.reader) [] → IsRead remaining m m'
+  nothing-read m m' read = record { bytes = []; read = read; over = λ e. refl }
+
+pub some_seen : {A B : Type 0} (f : A → B) (x : Option A) → IsSome x → IsSome (option_map f x)
+some_seen f None some = absurd (cc some)
+some_seen f (Some a) some = some
+
+-- only a carriage return is left out
+return_less : (bytes : List ℕ) → length bytes ≤ suc (length (without_return bytes))
+return_less [] = omega arith
+return_less (b ∷ []) = omega arith
+return_less (b ∷ c ∷ bs) = let rest = return_less (c ∷ bs) in omega (arith, rest)
+
+-- there is room for a piece behind less than a line
+pub room_for : (rest piece : List ℕ) → IsUnfinished rest → length piece ≤ 65536 → length rest + length piece ≤ most_held
+room_for rest piece u low = let most = return_less rest in omega (arith, most, u.short, low)

@@ -1,0 +1,80 @@
+-- Marks that come as the lines of a reader.
+use Rattle.std.specs.Prelude.{ℕ, ◌≡◌, List, [], ◌++◌, Bool, true, map, ⊤, Option, Some, None}
+use Rattle.std.specs.Option.{option_to_list}
+use Rattle.std.specs.Io.KnownBytes.{Consumes, IsAtEnd}
+use Rattle.stream_model.specs.Tags.{Mark, Tag}
+use Rattle.stream_model.specs.Machine.{tag_of}
+use Rattle.script_text.specs.MarkLines.{marks_said}
+
+-- a reader of marks: what was read of which no line was taken, the mark that was read and not given yet, and whether the reader has no more
+pub record Marking (R : Type 0) : Type 0 where
+  pub reader : R
+  pub rest : List ℕ
+  pub held : Option Mark
+  pub is_over : Bool
+
+-- of these bytes, all that the reader gave, the lines say the marks that were given on and then the one that is held, and the rest is behind them:
+-- whatever bytes follow, of which there are none where the reader has no more
+pub record HasTold {R : Type 0} (remaining : R → Option (List ℕ)) (m : Marking R) (bytes : List ℕ) (given : List Mark) : Type 0 where
+  pub lines : (more : List ℕ) → (m.is_over ≡ true → more ≡ []) → marks_said (bytes ++ more) ≡ map Some (given ++ option_to_list m.held) ++ marks_said (m.rest ++ more)
+  pub at_end : m.is_over ≡ true → IsAtEnd (remaining m.reader)
+
+-- the reader was read, and gave on these marks
+pub record Gives {R : Type 0} (remaining : R → Option (List ℕ)) (old new : Marking R) (marks : List Mark) : Type 0 where
+  pub bytes : List ℕ
+  pub read : Consumes (remaining old.reader) (remaining new.reader) bytes
+  pub told : (before : List ℕ) (given : List Mark) → HasTold remaining old before given → HasTold remaining new (before ++ bytes) (given ++ marks)
+  pub over : old.is_over ≡ true → bytes ≡ []
+  pub stays_over : old.is_over ≡ true → new.is_over ≡ true
+
+-- the reader was read, and which marks came of that is not told
+pub record IsRead {R : Type 0} (remaining : R → Option (List ℕ)) (old new : Marking R) : Type 0 where
+  pub bytes : List ℕ
+  pub read : Consumes (remaining old.reader) (remaining new.reader) bytes
+  pub over : old.is_over ≡ true → bytes ≡ []
+
+-- it gave on marks to the end of a list
+abbrev pub GivesTo : {R : Type 0} → (R → Option (List ℕ)) → (old new : Marking R) → (before after : List Mark) → Type 0
+GivesTo remaining old new before after = (marks : List Mark) × Gives remaining old new marks × (after ≡ before ++ marks)
+
+-- it has no more, and no mark is left
+pub record IsOver {R : Type 0} (m : Marking R) : Type 0 where
+  pub is_over : m.is_over ≡ true
+  pub held : m.held ≡ None
+  pub rest : m.rest ≡ []
+
+-- the same where a source may have no marks: what was read of their reader
+abbrev pub ReadsMarks : {R : Type 0} → (R → Option (List ℕ)) → Option (Marking R) → Option (Marking R) → List ℕ → Type 0
+ReadsMarks remaining None None bytes = ⊤
+ReadsMarks remaining (Some m) (Some m') bytes = Consumes (remaining m.reader) (remaining m'.reader) bytes
+ReadsMarks remaining None (Some m') bytes = ⊥
+ReadsMarks remaining (Some m) None bytes = ⊥
+
+-- the tags of source b are those that it had at the start, and behind them the marks that the reader gave on of these bytes
+abbrev pub AreTold : {R : Type 0} → (R → Option (List ℕ)) → ℕ → Option (Marking R) → List ℕ → List Tag → List Tag → Type 0
+AreTold remaining b None bytes start out = out ≡ start
+AreTold remaining b (Some m) bytes start out = (given : List Mark) × HasTold remaining m bytes given × (out ≡ start ++ map (tag_of b) given)
+
+-- behind those that it had at the start are marks that the first lines of these bytes say
+abbrev pub BeginTold : {R : Type 0} → ℕ → Option (Marking R) → List ℕ → List Tag → List Tag → Type 0
+BeginTold b None bytes start out = out ≡ start
+BeginTold b (Some m) bytes start out = (given : List Mark) × (later : List (Option Mark)) × (marks_said bytes ≡ map Some given ++ later) × (out ≡ start ++ map (tag_of b) given)
+
+-- no mark is left
+abbrev pub AreOver : {R : Type 0} → Option (Marking R) → Type 0
+AreOver None = ⊤
+AreOver (Some m) = IsOver m
+
+-- where there is a reader of marks, it gave on these
+abbrev pub FindsMarks : {R : Type 0} → (R → Option (List ℕ)) → Option (Marking R) → Option (Marking R) → List Mark → Type 0
+FindsMarks remaining None None marks = marks ≡ []
+FindsMarks remaining (Some m) (Some m') marks = Gives remaining m m' marks
+FindsMarks remaining None (Some m') marks = ⊥
+FindsMarks remaining (Some m) None marks = ⊥
+
+-- it was read, and which marks came of that is not told
+abbrev pub AreRead : {R : Type 0} → (R → Option (List ℕ)) → Option (Marking R) → Option (Marking R) → Type 0
+AreRead remaining None None = ⊤
+AreRead remaining (Some m) (Some m') = IsRead remaining m m'
+AreRead remaining None (Some m') = ⊥
+AreRead remaining (Some m) None = ⊥

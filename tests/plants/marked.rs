@@ -1,0 +1,209 @@
+//! Pipelines whose sources have marks: lines in pieces of any lengths beside one feed, each failing read, and each refusal.
+use super::drawn::{Make, streaming};
+use super::pipelines::{Pieces, Run, Whole, given, texts, told, whole, written};
+use super::streamed::{BLOCKS, SINKS, WIRES};
+use flowgraph::BlockId;
+use items::Mark;
+use pipeline::{ByteOrder, Pipeline, PipelineFault, Settled};
+use std::alloc::Global;
+use std::process::Abort;
+use std::test::Fail;
+
+const SOURCE: BlockId = BlockId(0);
+
+// The lines of marks, as a person may write them: with zeros in front, with a source that is passed over, and without a line feed at the end.
+fn lines_of(rt: &impl Abort, alloc: Global, marks: &[Mark], style: u64) -> Result<Vec<u8>, Fail> {
+    let mut lines = Vec::new(alloc);
+    for (n, mark) in marks.iter().enumerate() {
+        let Ok(key) = std::str::from_utf8(mark.key.bytes()) else {
+            panic!(rt; "a key is text");
+        };
+        let line = match style % 3 {
+            0 => format!(in alloc; "@{}:{key}={}", mark.offset, mark.value)?,
+            1 => format!(in alloc; "@00{}:{key}={}/{n}", mark.offset, mark.value)?,
+            _ => format!(in alloc; "@{}:{key}={}\r", mark.offset, mark.value)?,
+        };
+        lines.extend_from_slice(line.as_bytes())?;
+        if style % 3 != 0 || n + 1 < marks.len() {
+            lines.push(b'\n')?;
+        }
+    }
+    Ok(lines)
+}
+
+// The same items all from a reader, and the marks from another, each in pieces of random lengths.
+fn marked(
+    rt: &impl Abort,
+    alloc: Global,
+    whole: &Whole,
+    lines: Vec<u8>,
+    seed: u64,
+    reads_left: u64,
+) -> Result<Run, Fail> {
+    let mut items = Vec::new(alloc);
+    for number in &whole.numbers {
+        items.push(*number as u8)?;
+    }
+    let reader = Pieces {
+        bytes: items,
+        most: 1 + seed * 5,
+        chance: seed,
+        reads_left: u64::MAX,
+    };
+    let marks = Pieces {
+        bytes: lines,
+        most: 1 + (seed * 7) % 60,
+        chance: seed + 1,
+        reads_left,
+    };
+    let Ok(mut run) = Pipeline::new(alloc, streaming(rt, alloc, &BLOCKS, &WIRES, 7)) else {
+        panic!(rt; "no memory");
+    };
+    assert!(rt; run.read_from(alloc, SOURCE, ByteOrder::Little, reader).is_ok(), "a reader");
+    assert!(rt; run.mark_from(alloc, SOURCE, marks).is_ok(), "one of marks");
+    for sink in SINKS {
+        let (items, tags) = (written(alloc, u64::MAX), written(alloc, u64::MAX));
+        assert!(rt; run.write_to(alloc, sink, ByteOrder::Little, items, tags).is_ok(), "writers");
+    }
+    Ok(run)
+}
+
+#[test]
+fn marks_in_pieces_are_those_of_one_feed(rt: HostRuntime) -> Result<(), Fail> {
+    let alloc = rt.alloc();
+    let whole = whole(&rt, alloc)?;
+    assert!(rt; 20 < whole.marks.len(), "many");
+    for seed in 0..30 {
+        let lines = lines_of(&rt, alloc, &whole.marks, seed)?;
+        let mut run = marked(&rt, alloc, &whole, lines, seed, u64::MAX)?;
+        assert!(rt; matches!(run.run(alloc), Ok(Settled::Done)), "done, seed {seed}");
+        for sink in SINKS {
+            let [items, lines] = texts(&rt, alloc, &whole.plant, sink)?;
+            let (bytes, tags) = given(&rt, &run, sink);
+            assert!(rt; bytes == &items[..], "items, seed {seed}");
+            assert!(rt; tags == &lines[..] && 0 < lines.len(), "tags, seed {seed}");
+        }
+    }
+    Ok(())
+}
+
+#[test]
+fn each_failing_read_of_marks_leaves_a_beginning(rt: HostRuntime) -> Result<(), Fail> {
+    let alloc = rt.alloc();
+    let whole = whole(&rt, alloc)?;
+    let mut failed = 0;
+    for left in 0..60 {
+        let lines = lines_of(&rt, alloc, &whole.marks, 0)?;
+        let mut run = marked(&rt, alloc, &whole, lines, 3, left)?;
+        let ended = run.run(alloc);
+        match &ended {
+            Ok(settled) => assert!(rt; *settled == Settled::Done, "done"),
+            Err(PipelineFault::ReadMarks(block, _)) => {
+                assert!(rt; *block == SOURCE, "the source");
+                told(&rt, alloc, &ended, 51, "reading marks failed: ")?;
+            }
+            Err(_) => panic!(rt; "another fault"),
+        }
+        failed += u32::from(ended.is_err());
+        for sink in SINKS {
+            let [items, lines] = texts(&rt, alloc, &whole.plant, sink)?;
+            let (bytes, tags) = given(&rt, &run, sink);
+            assert!(rt; items.starts_with(bytes), "a beginning, {left}");
+            assert!(rt; lines.starts_with(tags), "of the tags too, {left}");
+            assert!(rt; ended.is_err() || (bytes == &items[..] && tags == &lines[..]), "or all");
+        }
+    }
+    assert!(rt; 20 < failed && failed < 60, "some of these fail");
+    Ok(())
+}
+
+// A source of bytes and a sink, between a reader and writers, with marks.
+fn short_run(rt: &impl Abort, alloc: Global, items: &[u8], marks: &[u8], most: u64) -> Result<Run, Fail> {
+    let blocks = [Make::Source, Make::Sink];
+    let Ok(mut run) = Pipeline::new(alloc, streaming(rt, alloc, &blocks, &[(0, 0, 1, 0)], 64)) else {
+        panic!(rt; "no memory");
+    };
+    let pieces = |bytes, chance| Pieces { bytes, most, chance, reads_left: u64::MAX };
+    let (items, marks) = (Vec::from_slice(alloc, items)?, Vec::from_slice(alloc, marks)?);
+    assert!(rt; run.read_from(alloc, SOURCE, ByteOrder::Little, pieces(items, 1)).is_ok(), "a reader");
+    assert!(rt; run.mark_from(alloc, SOURCE, pieces(marks, 2)).is_ok(), "one of marks");
+    let (items, tags) = (written(alloc, u64::MAX), written(alloc, u64::MAX));
+    assert!(rt; run.write_to(alloc, BlockId(1), ByteOrder::Little, items, tags).is_ok(), "writers");
+    Ok(run)
+}
+
+#[test]
+fn tags_that_are_written_can_be_read_as_marks(rt: HostRuntime) -> Result<(), Fail> {
+    let alloc = rt.alloc();
+    let lines = b"@0:a=-1/0\n@0:b=2/0\n@4:a=9223372036854775807/0\n@5:a=-9223372036854775808/0\n@5:a=0/0\n";
+    for most in 1..40 {
+        let mut first = short_run(&rt, alloc, b"source", lines, most)?;
+        assert!(rt; matches!(first.run(alloc), Ok(Settled::Done)), "done");
+        let (bytes, tags) = given(&rt, &first, BlockId(1));
+        assert!(rt; bytes == b"source".as_slice() && tags == lines.as_slice(), "as they came");
+        let mut second = short_run(&rt, alloc, bytes, tags, 41 - most)?;
+        assert!(rt; matches!(second.run(alloc), Ok(Settled::Done)), "done");
+        let (_, tags) = given(&rt, &second, BlockId(1));
+        assert!(rt; tags == lines.as_slice(), "and again");
+    }
+    Ok(())
+}
+
+#[test]
+fn bad_marks_are_told_by_their_line(rt: HostRuntime) -> Result<(), Fail> {
+    let alloc = rt.alloc();
+    // Six items, of which those before the fault come out where each is read alone.
+    let cases: [(&[u8], u64, bool, usize); 7] = [
+        (b"k=1\n", 1, true, 0),
+        (b"@0:k=1\n@1:k=\n", 2, true, 0),
+        (b"@0:k=1\n@3:k=1\n@4;k=1\n", 3, true, 3),
+        (b"@0:k=1\n@3:k=1\n@2:k=1\n", 3, false, 3),
+        (b"@5:k=1\n@6:k=1\n", 2, false, 6),
+        (b"@18446744073709551615:k=1", 1, false, 6),
+        (b"@18446744073709551616:k=1", 1, true, 0),
+    ];
+    for (marks, number, is_bad, out) in cases {
+        let mut run = short_run(&rt, alloc, b"source", marks, 1)?;
+        let ended = run.run(alloc);
+        match &ended {
+            Err(PipelineFault::BadMark(SOURCE, line)) => {
+                assert!(rt; is_bad && *line == number, "a bad line, {number}");
+                told(&rt, alloc, &ended, 50, "line ")?;
+            }
+            Err(PipelineFault::MarkPlace(SOURCE, line)) => {
+                assert!(rt; !is_bad && *line == number, "a bad place, {number}");
+                told(&rt, alloc, &ended, 25, "the mark in line ")?;
+            }
+            _ => panic!(rt; "no such fault, {number}"),
+        }
+        let (bytes, _) = given(&rt, &run, BlockId(1));
+        assert!(rt; bytes == &b"source"[..out], "what came before is out, {number}");
+    }
+    Ok(())
+}
+
+#[test]
+fn marks_are_read_no_further_than_the_items(rt: HostRuntime) -> Result<(), Fail> {
+    let alloc = rt.alloc();
+    let blocks = [Make::Source, Make::Sink];
+    let Ok(mut run) = Pipeline::new(alloc, streaming(&rt, alloc, &blocks, &[(0, 0, 1, 0)], 64)) else {
+        panic!(rt; "no memory");
+    };
+    // The items come one at a time, and fail behind the fourth; the lines come one at a time too, eight bytes each.
+    let pieces = |bytes, most, reads_left| Pieces { bytes, most, chance: 1, reads_left };
+    let items = Vec::from_slice(alloc, b"source")?;
+    let mut lines = Vec::new(alloc);
+    for n in 0..6 {
+        lines.extend_from_slice(&[b'@', b'0' + 2 * n, b':', b'k', b'=', b'1', b'\n'])?;
+    }
+    assert!(rt; run.read_from(alloc, SOURCE, ByteOrder::Little, pieces(items, 1, 4)).is_ok(), "a reader");
+    assert!(rt; run.mark_from(alloc, SOURCE, pieces(lines, 1, 21)).is_ok(), "21 bytes are three lines");
+    let (items, tags) = (written(alloc, u64::MAX), written(alloc, u64::MAX));
+    assert!(rt; run.write_to(alloc, BlockId(1), ByteOrder::Little, items, tags).is_ok(), "writers");
+    let ended = run.run(alloc);
+    assert!(rt; matches!(ended, Err(PipelineFault::Read(SOURCE, _))), "the reader of items fails first");
+    let (bytes, tags) = given(&rt, &run, BlockId(1));
+    assert!(rt; bytes == b"sour".as_slice(), "four items");
+    assert!(rt; tags == b"@0:k=1/0\n@2:k=1/0\n".as_slice(), "and their tags");
+    Ok(())
+}
