@@ -1,8 +1,12 @@
 //! How runs end: whole, or stalled.
 use super::drawn::{Drawing, EMPTY, Make, SOURCE, STRAIGHT, fed, feed, plant, tape_item};
-use super::runs::{End, piece, ran, ran_to, same_sinks, settled};
+use super::runs::{End, Host, piece, same_sinks, settled};
+use super::ways::{WAYS, Way, ran_by, ran_by_to};
 use flowgraph::BlockId;
+use std::alloc::Global;
+use std::process::Abort;
 use std::test::Fail;
+use threads::Turns;
 
 // A source goes to a join, directly and by every second item.
 const THINNED: Drawing<'static> = Drawing {
@@ -22,8 +26,9 @@ const SMALL: Drawing<'static> = Drawing {
 fn a_join_of_unequal_rates_stalls(rt: HostRuntime) -> Result<(), Fail> {
     let alloc = rt.alloc();
     for number in 0..200 {
-        let (end, plant) = ran(rt, alloc, fed(&rt, alloc, &THINNED));
-        assert!(rt; end == End::Stalled, "run {number}: {end:?}");
+        let way = WAYS[number % WAYS.len()];
+        let (end, plant) = ran_by(rt, alloc, way, fed(&rt, alloc, &THINNED), Turns::default());
+        assert!(rt; end == End::Stalled, "{way:?}, run {number}: {end:?}");
         let piece = piece(&rt, alloc, &plant, BlockId(3));
         // 1 + 2, 2 + 4, 3 + 6. The fourth sum wants item 8, and 7 of the buffer's items are the most that are given: 3 are taken, and 4 fit.
         assert!(rt; piece.held == 3 && !piece.done, "run {number}: three sums");
@@ -45,10 +50,12 @@ fn workers_that_wait_for_one_another_come_to_rest(rt: HostRuntime) -> Result<(),
         };
         let settled = settled(&rt, alloc, &thinned);
         for number in 0..20 {
-            let (end, plant) = ran(rt, alloc, fed(&rt, alloc, &thinned));
+            let way = WAYS[number % WAYS.len()];
+            let plant = fed(&rt, alloc, &thinned);
+            let (end, plant) = ran_by(rt, alloc, way, plant, Turns::default());
             assert!(rt;
                 end == End::Stalled,
-                "capacity {capacity}, run {number}: {end:?}"
+                "{way:?}, capacity {capacity}, run {number}: {end:?}"
             );
             same_sinks(&rt, alloc, &thinned, &plant, &settled, "stalled");
         }
@@ -58,44 +65,53 @@ fn workers_that_wait_for_one_another_come_to_rest(rt: HostRuntime) -> Result<(),
 
 #[test]
 fn a_source_that_is_open_stalls_and_goes_on_later(rt: HostRuntime) -> Result<(), Fail> {
-    let alloc = rt.alloc();
+    for way in WAYS {
+        stalls_and_goes_on(rt, rt.alloc(), way);
+    }
+    Ok(())
+}
+
+fn stalls_and_goes_on<R: Host + 'static>(rt: R, alloc: Global, way: Way) {
     let small = plant(&rt, alloc, &SMALL);
-    let mut plant = ran_to(rt, alloc, small, End::Stalled, "nothing yet");
+    let mut plant = ran_by_to(rt, alloc, way, small, End::Stalled, "nothing yet");
     feed(&rt, alloc, &mut plant, SOURCE, 10);
-    let mut plant = ran_to(rt, alloc, plant, End::Stalled, "open");
-    assert!(rt;
+    let mut plant = ran_by_to(rt, alloc, way, plant, End::Stalled, "open");
+    assert!(&rt;
         piece(&rt, alloc, &plant, BlockId(1)).held == 10,
         "ten items"
     );
-    assert!(rt; plant.close(SOURCE).is_ok(), "closed");
-    let plant = ran_to(rt, alloc, plant, End::Done, "closed");
-    assert!(rt; piece(&rt, alloc, &plant, BlockId(1)).done, "all of them");
+    assert!(&rt; plant.close(SOURCE).is_ok(), "closed");
+    let plant = ran_by_to(rt, alloc, way, plant, End::Done, "closed");
+    assert!(&rt; piece(&rt, alloc, &plant, BlockId(1)).done, "all of them");
     // What is done stays so.
-    let _ = ran_to(rt, alloc, plant, End::Done, "again");
-    Ok(())
+    let _ = ran_by_to(rt, alloc, way, plant, End::Done, "again");
 }
 
 #[test]
 fn the_smallest_graphs_are_done(rt: HostRuntime) -> Result<(), Fail> {
-    let alloc = rt.alloc();
+    for way in WAYS {
+        smallest_are_done(rt, rt.alloc(), way);
+    }
+    Ok(())
+}
+
+fn smallest_are_done<R: Host + 'static>(rt: R, alloc: Global, way: Way) {
     let empty = fed(&rt, alloc, &EMPTY);
-    let _ = ran_to(rt, alloc, empty, End::Done, "no block");
+    let _ = ran_by_to(rt, alloc, way, empty, End::Done, "no block");
     for items in [0, 1, 100] {
         let straight = Drawing { items, ..SMALL };
-        let (end, plant) = ran(rt, alloc, fed(&rt, alloc, &straight));
-        assert!(rt; end == End::Done, "{items} items: {end:?}");
+        let plant = ran_by_to(rt, alloc, way, fed(&rt, alloc, &straight), End::Done, "small");
         let piece = piece(&rt, alloc, &plant, BlockId(1));
-        assert!(rt;
+        assert!(&rt;
             piece.done && piece.held == u64::from(items),
             "{items} items"
         );
         for n in 0..items {
-            assert!(rt; piece.items.number(n as usize) == tape_item(n), "item {n}");
+            assert!(&rt; piece.items.number(n as usize) == tape_item(n), "item {n}");
         }
-        assert!(rt;
+        assert!(&rt;
             piece.tags.len() as u32 == items.div_ceil(7),
             "the tags of {items}"
         );
     }
-    Ok(())
 }

@@ -1,10 +1,17 @@
 //! Turns of all lengths.
-use super::drawn::{Drawing, SINK, TURNED, fed};
+use super::desks::Sets;
+use super::drawn::{Drawing, SINK, SOURCE, TURNED, fed};
 use super::gates::Counts;
-use super::runs::{End, ended, holds_turned, ran_with, same_sinks, settled, share, shared};
+use super::live_runs::{Does, finished_with};
+use super::runs::{
+    End, ended, ended_as, holds_turned, launched, same_sinks, settled, share, shared,
+};
+use super::ways::{WAYS, ran_by};
+use flowgraph::BlockId;
 use std::process::Abort;
+use std::sync::atomic::{AtomicU64, Ordering};
 use std::test::Fail;
-use threads::{Turns, launch_with};
+use threads::{Gate, Turns, launch_with};
 
 const LENGTHS: [u32; 4] = [1, 7, 1_024, 65_536];
 
@@ -39,10 +46,13 @@ fn sinks_do_not_tell_how_long_the_turns_are(rt: HostRuntime) -> Result<(), Fail>
     let alloc = rt.alloc();
     let settled = settled(&rt, alloc, &CHAIN);
     for most in LENGTHS {
-        let (end, plant) = ran_with(rt, alloc, fed(&rt, alloc, &CHAIN), turns(&rt, most));
-        assert!(rt; end == End::Done, "turns of {most}: {end:?}");
-        holds_turned(&rt, alloc, &plant, SINK, CHAIN.items);
-        same_sinks(&rt, alloc, &CHAIN, &plant, &settled, "turns");
+        for way in WAYS {
+            let plant = fed(&rt, alloc, &CHAIN);
+            let (end, plant) = ran_by(rt, alloc, way, plant, turns(&rt, most));
+            assert!(rt; end == End::Done, "{way:?}, turns of {most}: {end:?}");
+            holds_turned(&rt, alloc, &plant, SINK, CHAIN.items);
+            same_sinks(&rt, alloc, &CHAIN, &plant, &settled, "turns");
+        }
     }
     Ok(())
 }
@@ -71,6 +81,78 @@ fn a_turn_is_of_so_many_firings_at_most(rt: HostRuntime) -> Result<(), Fail> {
             "one firing in each turn"
         );
         assert!(rt; gate.missed() == 0, "turns of {most}: a sleeper was missed");
+    }
+    Ok(())
+}
+
+// Half of a buffer is more than a usual turn, and less than the longest.
+const ROOMY: Drawing<'static> = Drawing {
+    capacity: 4_096,
+    items: 5_000,
+    ..TURNED
+};
+
+// The gate that notes at which firing the source passes it a second time.
+#[derive(Drop)]
+struct SecondTurn {
+    firing: AtomicU64,
+}
+
+impl SecondTurn {
+    fn new() -> SecondTurn {
+        SecondTurn {
+            firing: AtomicU64::new(u64::MAX),
+        }
+    }
+
+    fn begins_at(&self) -> u64 {
+        self.firing.load(Ordering::SeqCst)
+    }
+}
+
+impl Gate for SecondTurn {
+    fn pass(&self, block: BlockId, firing: u64) {
+        if block == SOURCE && 0 < firing {
+            self.firing.fetch_min(firing, Ordering::SeqCst);
+        }
+    }
+}
+
+// As a run begins, the source has all its items, and nothing lies in its buffer. So its first turn is as long as the turns may be, but for half of the buffer.
+const FIRST_TURNS: [(u32, u64); 4] = [(1, 1), (7, 7), (1_024, 1_024), (65_536, 2_048)];
+
+#[test]
+fn a_turn_is_as_long_as_it_may_be(rt: HostRuntime) -> Result<(), Fail> {
+    let alloc = rt.alloc();
+    for (most, second) in FIRST_TURNS {
+        let gate = shared(&rt, alloc, SecondTurn::new());
+        let plant = fed(&rt, alloc, &ROOMY);
+        let running = match launch_with(rt, alloc, plant, share(&rt, &gate), turns(&rt, most)) {
+            Ok(running) => running,
+            Err(fault) => panic!(rt; "not launched: {fault}"),
+        };
+        let (end, _) = ended(&rt, running);
+        assert!(rt; end == End::Done, "turns of {most}: {end:?}");
+        assert_eq!(rt; gate.begins_at(), second, "turns of {most}");
+    }
+    let gate = shared(&rt, alloc, SecondTurn::new());
+    let running = launched(rt, alloc, fed(&rt, alloc, &ROOMY), &gate);
+    let (end, _) = ended(&rt, running);
+    assert!(rt; end == End::Done, "the usual turns: {end:?}");
+    assert_eq!(rt; gate.begins_at(), 1_024, "the usual turns");
+    Ok(())
+}
+
+#[test]
+fn a_turn_of_a_run_with_callers_is_as_long_as_it_may_be(rt: HostRuntime) -> Result<(), Fail> {
+    let alloc = rt.alloc();
+    for (most, second) in FIRST_TURNS {
+        let gate = shared(&rt, alloc, SecondTurn::new());
+        let nobody: Vec<Does<Sets>> = Vec::new(alloc);
+        let plant = fed(&rt, alloc, &ROOMY);
+        let ran = finished_with(&rt, alloc, plant, &gate, nobody, turns(&rt, most));
+        let _ = ended_as(&rt, ran.outcome, End::Done);
+        assert_eq!(rt; gate.begins_at(), second, "turns of {most}");
     }
     Ok(())
 }

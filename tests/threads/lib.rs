@@ -1,6 +1,7 @@
 //! Tests of runs in threads, of what no contract says: that workers overlap, that no wake-up is lost, that a stop is seen, and that each run ends.
 //! Each waits for a bounded time at most.
 
+mod adaptive;
 mod desks;
 mod drawn;
 mod ends;
@@ -21,4 +22,5 @@ mod stops;
 mod taps;
 mod top_blocks;
 mod wakes;
+mod ways;
 mod wide;

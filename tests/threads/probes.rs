@@ -7,6 +7,10 @@ use items::Items;
 use kinds::Kind;
 use std::alloc::Global;
 use std::sync::Arc;
+use std::sync::atomic::{AtomicU64, Ordering};
+
+// A turn takes a few nanoseconds.
+const TURNS: u32 = 10_000;
 
 /// What two blocks share that are to work at the same time.
 #[derive(Drop)]
@@ -47,8 +51,32 @@ pub enum Habit {
     Plain,
     /// In the work from its first firing on it looks for the other of the two that meet; it is this of them, 0 or 1.
     Meets(usize, Arc<Meeting, Global>),
+    /// It takes some tens of microseconds for each work that begins with a firing of this range.
+    IsDear([u64; 2], Spinner),
     /// It is equal to no block, itself included, against what `Eq` is to mean.
     Unlike,
+}
+
+/// What takes time.
+#[derive(Drop)]
+pub struct Spinner {
+    turns: AtomicU64,
+}
+
+impl Spinner {
+    /// It has not turned yet.
+    pub fn new() -> Spinner {
+        Spinner {
+            turns: AtomicU64::new(0),
+        }
+    }
+
+    // Some tens of microseconds.
+    fn spin(&self) {
+        for _ in 0..TURNS {
+            self.turns.fetch_add(1, Ordering::SeqCst);
+        }
+    }
 }
 
 /// A block of any kind with a habit.
@@ -69,6 +97,7 @@ impl PartialEq for Probe {
         let is_alike = match (&self.habit, &other.habit) {
             (Habit::Plain, Habit::Plain) => true,
             (Habit::Meets(one, _), Habit::Meets(two, _)) => one == two,
+            (Habit::IsDear(one, _), Habit::IsDear(two, _)) => one == two,
             _ => false,
         };
         is_alike && self.kind == other.kind
@@ -97,8 +126,10 @@ impl Block for Probe {
         held: &[Held],
         out: &mut [Items],
     ) -> u64 {
-        if let (0, Habit::Meets(number, meeting)) = (first, &self.habit) {
-            meeting.attend(*number);
+        match &self.habit {
+            Habit::Meets(number, meeting) if first == 0 => meeting.attend(*number),
+            Habit::IsDear([from, to], spinner) if *from <= first && first < *to => spinner.spin(),
+            _ => {}
         }
         self.kind.work(state, first, count, windows, held, out)
     }

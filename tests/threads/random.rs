@@ -1,6 +1,7 @@
-//! Graphs that are drawn by chance, run in threads, settled on one, and stepped in any order.
+//! Graphs that are drawn by chance, run in threads in each way, settled on one, and stepped in any order.
 use super::drawn::{Drawing, Make, Wire, fed};
-use super::runs::{ran_with, same_sinks, settled};
+use super::runs::{same_sinks, settled};
+use super::ways::{WAYS, ran_by};
 use flowgraph::BlockId;
 use kinds::Kind;
 use plant::Plant;
@@ -216,8 +217,10 @@ fn drawn_graphs_show_the_same_in_threads_settled_and_stepped(rt: HostRuntime) ->
         let Some(turns) = Turns::new(1 + chance.below(8) as u32) else {
             panic!(rt; "no turns");
         };
-        let (_, plant) = ran_with(rt, alloc, fed(&rt, alloc, &drawing), turns);
-        same_sinks(&rt, alloc, &drawing, &plant, &settled, &what);
+        for way in WAYS {
+            let (_, plant) = ran_by(rt, alloc, way, fed(&rt, alloc, &drawing), turns);
+            same_sinks(&rt, alloc, &drawing, &plant, &settled, &what);
+        }
     }
     Ok(())
 }

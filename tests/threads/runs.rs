@@ -9,6 +9,7 @@ use std::alloc::Global;
 use std::process::Abort;
 use std::sync::{Arc, Wait};
 use std::thread::Threads;
+use std::time::Clock;
 use threads::{Gate, Outcome, Running, Turns, launch, run_with};
 
 // More items than any sink of the tests holds.
@@ -67,9 +68,9 @@ pub fn share<T>(rt: &impl Abort, shared: &Arc<T, Global>) -> Arc<T, Global> {
 }
 
 /// What a test that starts threads is handed.
-pub trait Host: Abort + Threads + Wait + Copy + Send {}
+pub trait Host: Abort + Threads + Wait + Clock + Copy + Send {}
 
-impl<R: Abort + Threads + Wait + Copy + Send> Host for R {}
+impl<R: Abort + Threads + Wait + Clock + Copy + Send> Host for R {}
 
 /// Launches a plant.
 pub fn launched<

@@ -4,11 +4,13 @@ use super::drawn::Make::{
     Skip, Source,
 };
 use super::drawn::{Drawing, Wire, fed};
-use super::runs::{Host, ran, same_sinks, settled};
+use super::runs::{Host, same_sinks, settled};
+use super::ways::{WAYS, ran_by};
 use std::alloc::Global;
 use std::test::Fail;
+use threads::Turns;
 
-// Runs of each graph with each capacity.
+// Runs of each graph with each capacity in each way.
 const RUNS: u32 = 12;
 
 const CHAIN: Drawing<'static> = Drawing {
@@ -30,7 +32,7 @@ const FAN: Drawing<'static> = Drawing {
     ..CHAIN
 };
 
-// Each graph runs many times with buffers of 1 to 4 items. The sinks show what they show after it has settled on one thread.
+// Each graph runs many times in each way with buffers of 1 to 4 items. The sinks show what they show after it has settled on one thread.
 fn same_as_settled<R: Host + 'static>(rt: R, alloc: Global, drawing: Drawing<'_>) {
     for capacity in 1..=4 {
         let drawing = Drawing {
@@ -38,9 +40,12 @@ fn same_as_settled<R: Host + 'static>(rt: R, alloc: Global, drawing: Drawing<'_>
             ..drawing
         };
         let settled = settled(&rt, alloc, &drawing);
-        for _ in 0..RUNS {
-            let (_, plant) = ran(rt, alloc, fed(&rt, alloc, &drawing));
-            same_sinks(&rt, alloc, &drawing, &plant, &settled, "in threads");
+        for way in WAYS {
+            for _ in 0..RUNS {
+                let plant = fed(&rt, alloc, &drawing);
+                let (_, plant) = ran_by(rt, alloc, way, plant, Turns::default());
+                same_sinks(&rt, alloc, &drawing, &plant, &settled, "in threads");
+            }
         }
     }
 }

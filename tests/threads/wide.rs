@@ -2,7 +2,8 @@
 use super::drawn::{Drawing, Make, fed, plant, tape_item};
 use super::live_runs::{Answered, Part, Seat, answered, doing};
 use super::replays::{replay, same_logs};
-use super::runs::{End, Host, ended_as, piece, ran, ran_to};
+use super::runs::{End, Host, ended_as, piece};
+use super::ways::{WAYS, ran_by, ran_by_to};
 use flowgraph::BlockId;
 use kinds::Kind;
 use plant::Plant;
@@ -10,7 +11,7 @@ use std::alloc::{AllocError, Global};
 use std::process::Abort;
 use std::sync::Wait;
 use std::test::Fail;
-use threads::Gate;
+use threads::{Gate, Turns};
 
 const ITEMS: u32 = 40;
 
@@ -70,8 +71,10 @@ fn a_chain_of_254_blocks(rt: HostRuntime) -> Result<(), Fail> {
     let chain = chain_of(alloc, 254)?;
     let sink = chain.makes.len() as u32 - 1;
     for capacity in [1, 8] {
-        let (end, plant) = ran(rt, alloc, fed(&rt, alloc, &chain.drawing(capacity)));
-        assert!(rt; end == End::Done, "capacity {capacity}: {end:?}");
+        for way in WAYS {
+        let plant = fed(&rt, alloc, &chain.drawing(capacity));
+        let (end, plant) = ran_by(rt, alloc, way, plant, Turns::default());
+        assert!(rt; end == End::Done, "{way:?}, capacity {capacity}: {end:?}");
         let piece = piece(&rt, alloc, &plant, BlockId(sink));
         assert!(rt;
             piece.done && piece.held == u64::from(ITEMS),
@@ -84,14 +87,17 @@ fn a_chain_of_254_blocks(rt: HostRuntime) -> Result<(), Fail> {
                 "capacity {capacity}: item {n}"
             );
         }
+        }
     }
     Ok(())
 }
 
 // Each of these sinks shows the tape with so much added.
 fn show_the_tape<R: Host + 'static>(rt: R, alloc: Global, drawing: &Drawing<'_>, added: i64) {
-    let plant = ran_to(rt, alloc, fed(&rt, alloc, drawing), End::Done, "wide");
-    each_shows_the_tape(&rt, alloc, &plant, drawing, added);
+    for way in WAYS {
+        let plant = ran_by_to(rt, alloc, way, fed(&rt, alloc, drawing), End::Done, "wide");
+        each_shows_the_tape(&rt, alloc, &plant, drawing, added);
+    }
 }
 
 fn each_shows_the_tape(

@@ -65,7 +65,7 @@ pub fn print_table(rt: &HostRuntime) -> io::Result<()> {
             print_row(rt, Shape { items, ..plain })?;
         }
     }
-    // The graph of a run between raw items, which docs/SPEED.md times from C, from Python and in the program.
+    // The graph of a run between raw items.
     print_row(
         rt,
         Shape {

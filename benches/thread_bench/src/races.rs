@@ -1,4 +1,5 @@
-//! A graph that runs to its end in threads, on one thread, and plain loops over slices that do the same work: how long each takes.
+//! A graph that runs to its end with a thread for each block, on one thread, and in as many as the work is worth, and plain loops over slices that do the same
+//! work: how long each takes.
 
 ghost use Rattle.std.specs.Prelude.{◌≤◌};
 
@@ -15,7 +16,7 @@ use std::io;
 use std::sync::{Arc, Wait};
 use std::thread::Threads;
 use std::time::{Clock, CpuClock, Instant};
-use threads::{Caller, Desk, Gate, Open, Outcome, Turns, live, run_with};
+use threads::{Caller, Desk, Gate, Open, Outcome, Turns, live, run_adaptive, run_with};
 
 // On one thread a block fires as often as items and room let it.
 const MOST_FIRINGS: u32 = u32::MAX;
@@ -44,13 +45,14 @@ impl Span {
     }
 }
 
-/// How long a shape takes in plain loops, on one thread, and in threads, how long a turn holds the lock in the mean, how long it takes in threads whose
-/// claims and commits are noted in a history, and how many entries that has.
+/// How long a shape takes in plain loops, on one thread, with a thread for each block, and in as many as the work is worth, how long a turn holds the lock in
+/// the mean, how long it takes in threads whose claims and commits are noted in a history, and how many entries that has.
 #[derive(Clone, Copy)]
 pub struct Times {
     pub plain: u128,
     pub settled: u128,
     pub threads: Span,
+    pub adaptive: Span,
     pub hold: u128,
     pub live: u128,
     pub entries: usize,
@@ -67,6 +69,7 @@ pub fn race<R: Host + 'static>(rt: R, alloc: Global, shape: Shape, runs: u32) ->
         plain: u128::MAX,
         settled: u128::MAX,
         threads: Span::LONGEST,
+        adaptive: Span::LONGEST,
         hold: u128::MAX,
         live: u128::MAX,
         entries: 0,
@@ -76,7 +79,12 @@ pub fn race<R: Host + 'static>(rt: R, alloc: Global, shape: Shape, runs: u32) ->
         times = Times {
             plain: times.plain.min(plain_time(&rt, alloc, shape)?),
             settled: times.settled.min(settled_time(&rt, alloc, shape)?),
-            threads: times.threads.or_shorter(threads_span(rt, alloc, shape)?),
+            threads: times
+                .threads
+                .or_shorter(threads_span(rt, alloc, shape, Threading::PerBlock)?),
+            adaptive: times
+                .adaptive
+                .or_shorter(threads_span(rt, alloc, shape, Threading::Adaptive)?),
             hold: times.hold.min(hold_time(&rt, alloc, shape)?),
             live: times.live.min(live),
             entries,
@@ -85,7 +93,19 @@ pub fn race<R: Host + 'static>(rt: R, alloc: Global, shape: Shape, runs: u32) ->
     Ok(times)
 }
 
-fn threads_span<R: Host + 'static>(rt: R, alloc: Global, shape: Shape) -> io::Result<Span> {
+// How many threads a run has.
+#[derive(Clone, Copy)]
+enum Threading {
+    PerBlock,
+    Adaptive,
+}
+
+fn threads_span<R: Host + 'static>(
+    rt: R,
+    alloc: Global,
+    shape: Shape,
+    threading: Threading,
+) -> io::Result<Span> {
     let plant = fed_plant(alloc, shape)?.plant;
     let (Some(turns), Ok(gate)) = (Turns::new(shape.turns), Arc::new(alloc, Open)) else {
         return Err(io::Error::from(Fault::Run));
@@ -95,7 +115,11 @@ fn threads_span<R: Host + 'static>(rt: R, alloc: Global, shape: Shape) -> io::Re
     }
     let start = Instant::now(&rt)?;
     let used = rt.process_cpu_time()?;
-    match run_with(rt, alloc, plant, gate, turns) {
+    let ended = match threading {
+        Threading::PerBlock => run_with(rt, alloc, plant, gate, turns),
+        Threading::Adaptive => run_adaptive(rt, alloc, plant, gate, turns),
+    };
+    match ended {
         Ok(Outcome::Done(_)) => {}
         _ => return Err(io::Error::from(Fault::Run)),
     }

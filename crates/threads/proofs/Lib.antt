@@ -1,8 +1,11 @@
+mod Acts
 mod Agreeing
 mod Flights
 mod Histories
+mod Keeping
 mod Owns
 mod Places
 mod Promises
 mod Records
 mod Sames
+mod Weighing

@@ -3,7 +3,7 @@ use Rattle.std.specs.Prelude.{ℕ, ◌≡◌, Bool, Option, None, Result}
 use Rattle.stream_model.specs.Meaning.{Meaning}
 use Rattle.stream_model.specs.Network.{State}
 use Rattle.stream_model.specs.Machine as machine
-use Rattle.stream_model.specs.Machine.{Reply, next, commit_of}
+use Rattle.stream_model.specs.Machine.{Reply, next, commit_of, step_of}
 use Rattle.flowgraph.specs.Fault.{id}
 use Rattle.flowgraph.specs.Flowgraph.{net_of}
 use Rattle.jobs.specs.Jobs.{WorkedState}
@@ -28,6 +28,13 @@ HasClaimed meaning b most (engine.Plain old) (engine.Plain new) reply = Answered
 HasClaimed meaning b most (engine.Noted old) (engine.Noted new) reply = IsClaimNoted meaning (caller.Worker (id b)) (Asks (machine.Claim b most)) old new reply
 HasClaimed meaning b most (engine.Plain old) (engine.Noted new) reply = ⊥
 HasClaimed meaning b most (engine.Noted old) (engine.Plain new) reply = ⊥
+
+-- a block was stepped as by the machine; or it was out of memory, or calls are recorded, and nothing changed
+abbrev pub HasStepped : {B P : Type 0} → (B → Meaning) → (block most : ℕ) → Engine B P → Engine B P → Option Reply → Type 0
+HasStepped meaning b most (engine.Plain old) (engine.Plain new) reply = Answered (step_of (net_of meaning old.graph) old.capacities old.state b most) old new reply
+HasStepped meaning b most (engine.Noted old) (engine.Noted new) reply = (reply ≡ None) × (new ≡ old)
+HasStepped meaning b most (engine.Plain old) (engine.Noted new) reply = ⊥
+HasStepped meaning b most (engine.Noted old) (engine.Plain new) reply = ⊥
 
 -- what the machine answers now to work that is brought
 abbrev pub commit_now : {B : Type 0} → (B → Meaning) → (B → B → Bool) → PlantState B → WorkedState B → Reply × State

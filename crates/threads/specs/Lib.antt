@@ -1,6 +1,7 @@
 pub mod Desk
 pub mod Desks
 pub mod Engine
+pub mod Errands
 pub mod Fault
 pub mod Hall
 pub mod History

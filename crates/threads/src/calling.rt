@@ -13,12 +13,14 @@ use crate::desk::Caller;
 use crate::desks::{Came, Room, at_desks};
 use crate::engine::Engine;
 use crate::entry::Entry;
+use crate::errands::Waiting;
 use crate::fault::RunFault;
 use crate::gate::Gate;
 use crate::hall::Hall;
 use crate::launching::make_beds;
 use crate::logs::are_logs;
 use crate::outcome::Outcome;
+use crate::pool::Pool;
 use crate::recorded::Recorded;
 use crate::seats::Seats;
 use crate::shared::Shared;
@@ -114,6 +116,7 @@ where
     } = rooms;
     let shared = Shared {
         hall: Mutex::new(hall),
+        waiting: Waiting::new(),
         beds,
         lookout: Parker::new(),
         gate,
@@ -154,6 +157,7 @@ fn prepare<B: Block, C: Caller<B> + Drop + Send>(
             Hall::new(
                 Engine::Noted(Recorded::new(alloc, plant, opening)),
                 seats,
+                Pool::none(alloc),
                 callers,
             ),
             rooms,

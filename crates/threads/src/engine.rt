@@ -4,23 +4,23 @@ ghost use Rattle.std.specs.Prelude.{◌≡◌, ◌≤◌, IfOk};
 ghost use Rattle.std.specs.Arc.{arc_value};
 ghost use Rattle.stream_model.specs.Machine as machine;
 ghost use Rattle.settings.specs.Values.{value_of};
-ghost use Rattle.plant.specs.Answers.{IsOf, claim_reply, piece_reply, reply_of};
+ghost use Rattle.plant.specs.Answers.{IsOf, claim_reply, piece_reply, reply_of, step_reply};
 ghost use Rattle.threads.specs.declared.entry.Call.TheVariants as call;
-ghost use Rattle.threads.specs.Engine.{HasCalled, HasClaimed, HasCommitted, plant_in};
+ghost use Rattle.threads.specs.Engine.{HasCalled, HasClaimed, HasCommitted, HasStepped, plant_in};
 ghost use Rattle.threads.specs.History.{asked_by};
 
 use crate::entry::{Feed, Setting};
-use crate::lent_calls::{claim_in, commit_in};
+use crate::lent_calls::{claim_in, commit_in, step_in};
 use crate::recorded::Recorded;
 use flowgraph::{Block, BlockId};
 use jobs::Worked;
-use plant::{Claim, Closed, Did, Fed, Piece, Plant, PlantFault, Taken};
+use plant::{Claim, Closed, Did, Fed, Piece, Plant, PlantFault, Step, Taken};
 use settings::Value;
 use std::alloc::Global;
 use std::sync::Arc;
 
 /// What workers and callers make their calls of. A caller's call of a plant that records nothing is out of memory; but callers are only there
-/// where calls are recorded.
+/// where calls are recorded. So is a step of one that records; but there each block has a worker.
 #[derive(Drop)]
 pub enum Engine<B: Block> {
     /// Nothing is recorded.
@@ -49,6 +49,17 @@ impl<B: Block> Engine<B> {
         match self {
             Engine::Plain(plant) => claim_in(plant, alloc, block, max),
             Engine::Noted(recorded) => recorded.claim(alloc, block, max),
+        }
+    }
+
+    /// Claims firings, does their work and commits it.
+    pub fn step(&mut self, alloc: Global, block: BlockId, max: u32) -> Result<Step, PlantFault>
+        requires { 1 ≤ max }
+        ensures { HasStepped B.meaning block.0 max self.old self.new (reply_of step_reply result) }
+    {
+        match self {
+            Engine::Plain(plant) => step_in(plant, alloc, block, max),
+            Engine::Noted(_) => Err(PlantFault::Memory),
         }
     }
 

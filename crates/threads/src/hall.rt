@@ -5,6 +5,7 @@ ghost use Rattle.threads.specs.declared.hall.Next.TheVariants as next;
 ghost use Rattle.threads.specs.Hall.{HasBrought, HasNext, HasTurned, IsOwn};
 
 use crate::engine::Engine;
+use crate::pool::Pool;
 use crate::seats::{Seats, share_of};
 use crate::turns::Turns;
 use crate::woken::Woken;
@@ -29,7 +30,10 @@ pub enum Next<B: Block> {
 #[derive(Drop)]
 pub struct Hall<B: Block> {
     pub engine: Engine<B>,
+    /// What the worker of each block does, where each has one.
     pub seats: Seats,
+    /// What a pool of threads does, where it acts for all blocks.
+    pub pool: Pool,
     /// How many callers have not returned.
     pub callers: usize,
     /// Whether a caller asked for the end of the run.
@@ -42,12 +46,13 @@ pub struct Hall<B: Block> {
 
 impl<B: Block> Hall<B> {
     /// All workers work, and so many callers have not returned.
-    pub fn new(engine: Engine<B>, seats: Seats, callers: usize) -> Hall<B>
+    pub fn new(engine: Engine<B>, seats: Seats, pool: Pool, callers: usize) -> Hall<B>
         ensures { result.engine ≡ engine }
     {
         Hall {
             engine,
             seats,
+            pool,
             callers,
             asked: false,
             ends: false,
@@ -75,7 +80,7 @@ impl<B: Block> Hall<B> {
         ensures brought { worker.new.brought ≡ None }
         ensures block { worker.new.block ≡ worker.old.block }
         ensures most { worker.new.most ≡ worker.old.most }
-        ensures others { self.new ≡ record self.old { engine = self.new.engine; seats = self.new.seats; ends = self.new.ends; starved = self.new.starved } }
+        ensures others { self.new ≡ record self.old { engine = self.new.engine; seats = self.new.seats; pool = self.new.pool; ends = self.new.ends; starved = self.new.starved } }
     {
         self.seats.works(worker.block);
         self.take_back(worker.brought.take(), woken);
@@ -89,7 +94,7 @@ impl<B: Block> Hall<B> {
 
     /// A caller has returned. Once none is left the run ends as all rest.
     pub fn caller_leaves(&mut self, woken: &mut Woken)
-        ensures { self.new ≡ record self.old { callers = self.old.callers - 1; seats = self.new.seats; ends = self.new.ends } }
+        ensures { self.new ≡ record self.old { callers = self.old.callers - 1; seats = self.new.seats; pool = self.new.pool; ends = self.new.ends } }
     {
         self.callers = self.callers.saturating_sub(1);
         self.look(woken);
@@ -97,19 +102,20 @@ impl<B: Block> Hall<B> {
 
     /// The workers are to leave, each once it has committed what it works on.
     pub fn end(&mut self, woken: &mut Woken) -> Next<B>
-        ensures others { self.new ≡ record self.old { seats = self.new.seats; ends = true } }
+        ensures others { self.new ≡ record self.old { seats = self.new.seats; pool = self.new.pool; ends = true } }
         ensures leaves { result ≡ next.Leave }
     {
         self.ends = true;
         woken.ends = true;
         self.seats.wake_all(woken);
+        self.pool.wake_all(woken);
         Next::Leave
     }
 
     // What comes back is none of the plant's: then the run ends, and what is held is looked at.
     fn take_back(&mut self, brought: Option<Worked<B>>, woken: &mut Woken)
         ensures committed { HasBrought B.meaning B.eq brought self.old.engine self.new.engine }
-        ensures others { self.new ≡ record self.old { engine = self.new.engine; seats = self.new.seats; ends = self.new.ends } }
+        ensures others { self.new ≡ record self.old { engine = self.new.engine; seats = self.new.seats; pool = self.new.pool; ends = self.new.ends } }
     {
         let Some(worked) = brought else {
             return;
@@ -132,7 +138,7 @@ impl<B: Block> Hall<B> {
     fn claim(&mut self, alloc: Global, block: BlockId, most: u32, woken: &mut Woken) -> Next<B>
         requires { 1 ≤ most }
         ensures claimed { HasNext B.meaning block.0 most self.old self.new result }
-        ensures others { self.new ≡ record self.old { engine = self.new.engine; seats = self.new.seats; ends = self.new.ends; starved = self.new.starved } }
+        ensures others { self.new ≡ record self.old { engine = self.new.engine; seats = self.new.seats; pool = self.new.pool; ends = self.new.ends; starved = self.new.starved } }
     {
         if self.ends {
             return Next::Leave;
@@ -151,7 +157,7 @@ impl<B: Block> Hall<B> {
     }
 
     fn sleep(&mut self, block: BlockId, need: Need, woken: &mut Woken) -> Next<B>
-        ensures others { self.new ≡ record self.old { seats = self.new.seats; ends = self.new.ends } }
+        ensures others { self.new ≡ record self.old { seats = self.new.seats; pool = self.new.pool; ends = self.new.ends } }
         ensures sleeps { result ≡ next.Sleep }
     {
         let graph = self.engine.plant().graph();
@@ -163,7 +169,7 @@ impl<B: Block> Hall<B> {
     }
 
     fn leave(&mut self, block: BlockId, woken: &mut Woken) -> Next<B>
-        ensures others { self.new ≡ record self.old { seats = self.new.seats; ends = self.new.ends } }
+        ensures others { self.new ≡ record self.old { seats = self.new.seats; pool = self.new.pool; ends = self.new.ends } }
         ensures leaves { result ≡ next.Leave }
     {
         let graph = self.engine.plant().graph();
@@ -176,7 +182,7 @@ impl<B: Block> Hall<B> {
 
     // Once all rest and no caller is left the run is over, or a worker slept though it could act: then all look again.
     fn look(&mut self, woken: &mut Woken)
-        ensures { self.new ≡ record self.old { seats = self.new.seats; ends = self.new.ends } }
+        ensures { self.new ≡ record self.old { seats = self.new.seats; pool = self.new.pool; ends = self.new.ends } }
     {
         if 0 < self.callers || !self.seats.all_rest() {
             return;

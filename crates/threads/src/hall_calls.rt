@@ -86,7 +86,7 @@ impl<B: Block> Hall<B> {
 
     /// A caller asks for the end of the run.
     pub fn stop(&mut self, woken: &mut Woken)
-        ensures { self.new ≡ record self.old { seats = self.new.seats; asked = true; ends = true } }
+        ensures { self.new ≡ record self.old { seats = self.new.seats; pool = self.new.pool; asked = true; ends = true } }
     {
         self.asked = true;
         let _ = self.end(woken);

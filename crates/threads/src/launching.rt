@@ -6,9 +6,11 @@ ghost use Rattle.stream_model.specs.Machine.{is_idle};
 ghost use Rattle.threads.specs.Outcomes.{CameBack, GivesBack, IsSo, handed_of};
 
 use crate::engine::Engine;
+use crate::errands::Waiting;
 use crate::fault::RunFault;
 use crate::gate::{Gate, Open};
 use crate::hall::Hall;
+use crate::pool::Pool;
 use crate::running::{Running, came_back};
 use crate::seats::Seats;
 use crate::shared::Shared;
@@ -38,8 +40,8 @@ where
     launch_with(rt, alloc, plant, gate, turns)
 }
 
-// A plant with the gate that does nothing.
-fn with_open_gate<B: Block>(
+/// A plant with the gate that does nothing.
+pub(crate) fn with_open_gate<B: Block>(
     alloc: Global,
     plant: Plant<B>,
 ) -> Result<(Plant<B>, Arc<Open, Global>), RunFault<B>>
@@ -54,8 +56,8 @@ fn with_open_gate<B: Block>(
     }
 }
 
-// A plant that lacked the memory to run.
-fn out_of_memory<B: Block>(plant: Plant<B>) -> RunFault<B>
+/// A plant that lacked the memory to run.
+pub(crate) fn out_of_memory<B: Block>(plant: Plant<B>) -> RunFault<B>
     requires { is_idle plant.state ≡ true }
     ensures back { GivesBack B.meaning B.eq (handed_of plant) result }
     ensures memory { IsSo true false result }
@@ -116,6 +118,7 @@ where
     } = prepare(alloc, plant)?;
     let shared = Shared {
         hall: Mutex::new(hall),
+        waiting: Waiting::new(),
         beds,
         lookout: Parker::new(),
         gate,
@@ -136,7 +139,7 @@ fn prepare<B: Block>(alloc: Global, plant: Plant<B>) -> Result<Prepared<B>, RunF
 {
     match rooms_of(alloc, &plant) {
         Ok((handed, seats, beds, workers)) => Ok(Prepared {
-            hall: Hall::new(Engine::Plain(plant), seats, 0),
+            hall: Hall::new(Engine::Plain(plant), seats, Pool::none(alloc), 0),
             handed,
             beds,
             workers,
@@ -224,8 +227,8 @@ where
     thread::spawn(&rt, move || work(&rt, alloc, &*shared, block)).ok()
 }
 
-// Has the workers that were started leave, and gives the plant back.
-fn called_back<B: Block, G: Gate + Drop, R: Threads + Wait + Copy>(
+/// Has the workers that were started leave, and gives the plant back.
+pub(crate) fn called_back<B: Block, G: Gate + Drop, R: Threads + Wait + Copy>(
     rt: R,
     shared: Arc<Shared<B, G>, Global>,
     workers: Vec<JoinHandle<()>>,
@@ -247,8 +250,8 @@ fn called_back<B: Block, G: Gate + Drop, R: Threads + Wait + Copy>(
     }
 }
 
-// Gives the plant back where there was no memory for what its threads share.
-fn lacked<B: Block, G: Gate + Drop>(
+/// Gives the plant back where there was no memory for what its threads share.
+pub(crate) fn lacked<B: Block, G: Gate + Drop>(
     refused: AllocFailed<Shared<B, G>>,
     handed: &Handed<B>,
 ) -> RunFault<B>

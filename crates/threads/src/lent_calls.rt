@@ -1,15 +1,15 @@
-//! The two calls of a worker's turn, which are lent the plant that lies under the lock.
+//! The calls of turns, which are lent the plant that lies under the lock.
 
 ghost use Rattle.std.specs.Prelude.{◌≡◌, ◌≤◌, IfOk};
 ghost use Rattle.stream_model.specs.Machine as machine;
-ghost use Rattle.stream_model.specs.Machine.{next, commit_of};
+ghost use Rattle.stream_model.specs.Machine.{next, commit_of, step_of};
 ghost use Rattle.flowgraph.specs.Flowgraph.{net_of};
 ghost use Rattle.plant.specs.Own.{is_own};
-ghost use Rattle.plant.specs.Answers.{Answered, IsOf, IsTaken, claim_reply, reply_of};
+ghost use Rattle.plant.specs.Answers.{Answered, IsOf, IsTaken, claim_reply, reply_of, step_reply};
 
 use flowgraph::{Block, BlockId};
 use jobs::Worked;
-use plant::{Claim, Did, Plant, PlantFault};
+use plant::{Claim, Did, Plant, PlantFault, Step};
 use std::alloc::Global;
 
 /// Claims for a worker, as the plant does.
@@ -24,6 +24,19 @@ pub fn claim_in<B: Block>(
     ensures of_graph { IfOk result (IsOf plant.old.graph) }
 {
     plant.claim(alloc, block, max)
+}
+
+/// Steps a block, as the plant does.
+pub fn step_in<B: Block>(
+    plant: &mut Plant<B>,
+    alloc: Global,
+    block: BlockId,
+    max: u32,
+) -> Result<Step, PlantFault>
+    requires { 1 ≤ max }
+    ensures { Answered (step_of (net_of B.meaning plant.old.graph) plant.old.capacities plant.old.state block.0 max) plant.old plant.new (reply_of step_reply result) }
+{
+    plant.step(alloc, block, max)
 }
 
 /// Commits what a worker has done, as the plant does.

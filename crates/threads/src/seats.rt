@@ -48,6 +48,14 @@ impl Seats {
         })
     }
 
+    /// No seats: whoever acts has no block of its own.
+    pub fn none(alloc: Global) -> Seats {
+        Seats {
+            seats: Vec::new(alloc),
+            working: 1,
+        }
+    }
+
     /// Whether none works.
     pub fn all_rest(&self) -> bool {
         self.working == 0

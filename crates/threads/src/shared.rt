@@ -7,6 +7,7 @@ ghost use Rattle.settings.specs.Values.{value_of};
 ghost use Rattle.threads.specs.Hall.{IsOwn};
 
 use crate::entry::{Feed, Setting};
+use crate::errands::{Brought, Errand, Waiting};
 use crate::gate::Gate;
 use crate::hall::{Hall, Next};
 use crate::turns::Turns;
@@ -17,8 +18,10 @@ use plant::{Closed, Fed, Headway, Piece, PlantFault, Taken, Watch};
 use settings::Value;
 use std::alloc::Global;
 use std::hint::spin_loop;
+use std::sync::atomic::Ordering;
 use std::sync::{Arc, Mutex, MutexGuard, Wait};
 use std::thread::Parker;
+use std::time::Clock;
 
 // So often a worker looks whether the lock is free before it sleeps for it, some microseconds long: most turns hold it for less.
 const LOOKS: u32 = 500;
@@ -27,7 +30,9 @@ const LOOKS: u32 = 500;
 #[derive(Drop)]
 pub struct Shared<B: Block, G: Gate + Drop> {
     pub hall: Mutex<Hall<B>>,
-    /// For each block where its worker sleeps.
+    /// Who waits for it, in a run whose threads act for all blocks: they hold it long.
+    pub waiting: Waiting,
+    /// For each block where its worker sleeps, or for each thread of a pool.
     pub beds: Vec<Parker>,
     /// Where who looks on sleeps between two looks.
     pub lookout: Parker,
@@ -58,14 +63,14 @@ impl<B: Block, G: Gate + Drop> Shared<B, G> {
 
     /// How many items all sources were fed, and how many of these they have given by now. It takes the lock, and looks at each block.
     pub fn headway<R: Wait>(&self, rt: &R) -> Headway {
-        self.hall.lock(rt).engine.plant().headway()
+        self.as_guest(rt).engine.plant().headway()
     }
 
     /// Shows `watch` how far the plant is until the run is over, each time that its pause is over.
     pub fn show<R: Wait, W: Watch>(&self, rt: &R, watch: &mut W) {
         if let Some(pause) = watch.pause() {
             for _ in rt.forever() {
-                if self.hall.lock(rt).is_over() {
+                if self.as_guest(rt).is_over() {
                     break;
                 }
                 self.lookout.park_timeout(rt, pause);
@@ -78,7 +83,7 @@ impl<B: Block, G: Gate + Drop> Shared<B, G> {
     /// Has the workers leave, each once it has committed what it works on.
     pub fn end<R: Wait>(&self, rt: &R) {
         let mut woken = Woken::new();
-        let _ = self.hall.lock(rt).end(&mut woken);
+        let _ = self.as_guest(rt).end(&mut woken);
         self.wake(&woken);
     }
 
@@ -104,6 +109,39 @@ impl<B: Block, G: Gate + Drop> Shared<B, G> {
         ensures most { worker.new.most ≡ worker.old.most }
     {
         self.locked(rt).turn(alloc, worker, woken)
+    }
+
+    /// The next turn of a thread of a pool. A thread that brings something back is counted while it waits for the lock, so that who has it goes soon.
+    pub fn errand<R: Wait + Clock>(
+        &self,
+        rt: &R,
+        alloc: Global,
+        thread: usize,
+        brought: Option<Brought<B>>,
+        woken: &mut Woken,
+    ) -> Errand<B> {
+        let mut hall = if brought.is_some() {
+            self.as_mate(rt)
+        } else {
+            self.locked(rt)
+        };
+        hall.errand(rt, alloc, thread, brought, &self.waiting, woken)
+    }
+
+    // The lock for a thread of a pool that is counted while it waits.
+    fn as_mate<R: Wait>(&self, rt: &R) -> MutexGuard<'_, Hall<B>> {
+        self.waiting.mates.fetch_add(1, Ordering::SeqCst);
+        let hall = self.locked(rt);
+        self.waiting.mates.fetch_sub(1, Ordering::SeqCst);
+        hall
+    }
+
+    // The lock for a guest, who is let go first.
+    fn as_guest<R: Wait>(&self, rt: &R) -> MutexGuard<'_, Hall<B>> {
+        self.waiting.guests.fetch_add(1, Ordering::SeqCst);
+        let hall = self.hall.lock(rt);
+        self.waiting.guests.fetch_sub(1, Ordering::SeqCst);
+        hall
     }
 
     // The lock, for which it sleeps only once it was looked for some time.

@@ -13,6 +13,8 @@ pub struct Woken {
     pub missed: bool,
     /// Whether the run is over, so that who looks on is woken too.
     pub ends: bool,
+    /// Whether a pool has work for one thread more than it has.
+    pub wants: bool,
 }
 
 impl Woken {
@@ -22,6 +24,7 @@ impl Woken {
             words: [0; WORDS],
             missed: false,
             ends: false,
+            wants: false,
         }
     }
 

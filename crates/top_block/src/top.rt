@@ -14,7 +14,7 @@ ghost use Rattle.plant.specs.Opening.{opening_plant};
 ghost use Rattle.plant.specs.Plant.{PlantState};
 ghost use Rattle.threads.specs.History.{noted_by};
 ghost use Rattle.threads.specs.Live.{AreLogs, CameFrom, EndsLive, GivesBackLive, opening_of};
-ghost use Rattle.threads.specs.Outcomes.{EndsIn, GivesBack, handed_of};
+ghost use Rattle.threads.specs.Outcomes.{EndsIn, GivesBack, IsSo, handed_of};
 ghost use Rattle.top_block.specs.Closing.{with_all_closed};
 
 use crate::closing::close_all;
@@ -28,9 +28,10 @@ use std::fmt;
 use std::marker::Model;
 use std::sync::{Arc, Wait};
 use std::thread::Threads;
+use std::time::Clock;
 use threads::{
     Caller, Finished, Gate, Open, Outcome, RunFault, Running, Turns, launch_open, live_watched,
-    run_with,
+    run_adaptive_open, run_with,
 };
 
 /// A plant of kinds with no claim in flight, which is fed and then run in threads. It is the whole life of a flowgraph whose data are there from
@@ -175,6 +176,40 @@ impl TopBlock {
         let TopBlock { mut plant } = self;
         close_all(&mut plant);
         run_with(rt, alloc, plant, gate, turns)
+    }
+
+    /// Closes each source that is open, runs the plant in as many threads as its work is worth, and waits for its end, which is never `Stopped`: on
+    /// this thread alone, as `Plant::settle`, while the work is cheap, and in up to one thread a processor where it pays. The work of a block must
+    /// not wait for that of another. Fails with `RunFault::Memory`, which returns the plant with its sources closed; `RunFault::Foreign` should never
+    /// come.
+    pub fn run_adaptive<R: Threads + Wait + Clock + Copy + Send + 'static>(
+        self,
+        rt: R,
+        alloc: Global,
+        turns: Turns,
+    ) -> Result<Outcome<Kind>, RunFault<Kind>>
+        ensures ok { IfOk result (EndsIn meaning_of ⟦<Kind as PartialEq>⟧.eq (handed_of (with_all_closed meaning_of self)) false) }
+        ensures err { IfErr result (GivesBack meaning_of ⟦<Kind as PartialEq>⟧.eq (handed_of (with_all_closed meaning_of self))) }
+        ensures told { IfErr result (IsSo true false) }
+    {
+        self.run_adaptive_watched(rt, alloc, turns, &mut Unwatched)
+    }
+
+    /// As `run_adaptive`; it calls `watch.show` where a pause is over, now and then while the run is on one thread, and `watch.end` as it is over.
+    pub fn run_adaptive_watched<R: Threads + Wait + Clock + Copy + Send + 'static, W: Watch>(
+        self,
+        rt: R,
+        alloc: Global,
+        turns: Turns,
+        watch: &mut W,
+    ) -> Result<Outcome<Kind>, RunFault<Kind>>
+        ensures ok { IfOk result (EndsIn meaning_of ⟦<Kind as PartialEq>⟧.eq (handed_of (with_all_closed meaning_of self)) false) }
+        ensures err { IfErr result (GivesBack meaning_of ⟦<Kind as PartialEq>⟧.eq (handed_of (with_all_closed meaning_of self))) }
+        ensures told { IfErr result (IsSo true false) }
+    {
+        let TopBlock { mut plant } = self;
+        close_all(&mut plant);
+        run_adaptive_open(rt, alloc, plant, turns, watch)
     }
 
     /// Starts a worker for each block and a thread for each of at most 16 callers, and waits until all callers have returned and the plant has come

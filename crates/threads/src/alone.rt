@@ -1,0 +1,208 @@
+//! Steps of all blocks in turn on one thread, as `settle` makes them, until the plant rests or its work is worth more threads.
+
+ghost use Rattle.std.specs.Prelude.{◌≡◌, ◌≤◌, Some, IfOk};
+ghost use Rattle.stream_model.specs.Machine.{step_of};
+ghost use Rattle.flowgraph.specs.Flowgraph.{net_of};
+ghost use Rattle.plant.specs.Answers.{Answered, step_reply};
+ghost use Rattle.threads.specs.Outcomes.{handed_of};
+
+use crate::number_set::NumberSet;
+use crate::policy::{Found, Rounds, Timed, is_long, is_worth};
+use crate::stopwatch::{Pauses, nanos_between, nanos_since, now};
+use flowgraph::{Block, BlockId};
+use plant::{Claim, Plant, PlantFault, Step, Watch};
+use std::alloc::Global;
+use std::time::Clock;
+
+/// Why rounds on one thread end.
+#[derive(Drop)]
+pub enum Ended {
+    /// No block can act, or all are done.
+    Rests,
+    /// Memory ran out.
+    Starved,
+    /// The work of each of these blocks is worth a thread, and there are at least two.
+    Splits(NumberSet),
+}
+
+/// Steps all blocks in their order, again and again. Where a round is timed and its pause is over, `watch` is shown how far the plant is.
+pub fn settle_alone<B: Block, R: Clock, W: Watch>(
+    rt: &R,
+    alloc: Global,
+    plant: &mut Plant<B>,
+    watch: &mut W,
+) -> Ended
+    ensures { handed_of plant.new ≡ handed_of plant.old }
+{
+    let mut pauses = Pauses::of(rt, watch);
+    let mut rounds = Rounds::new();
+    'rounds: for _ in 0..u64::MAX {
+        let Ok(round) = round_of(rt, alloc, plant, rounds.most(), rounds.timed()) else {
+            return Ended::Starved;
+        };
+        if plant.all_done() || (!round.moved && plant.quiet()) {
+            return Ended::Rests;
+        }
+        if let Timed::Round = rounds.timed() {
+            if pauses.end(rt) {
+                watch.show(plant.headway());
+            }
+        }
+        if let Some(heavy) = rounds.ends(&round.found) {
+            return Ended::Splits(heavy);
+        }
+    }
+    Ended::Rests
+}
+
+// What a round did.
+#[derive(Clone, Copy)]
+struct Round {
+    // Whether a block fired.
+    moved: bool,
+    found: Found,
+}
+
+// Steps each block once.
+fn round_of<B: Block, R: Clock>(
+    rt: &R,
+    alloc: Global,
+    plant: &mut Plant<B>,
+    most: u32,
+    timed: Timed,
+) -> Result<Round, PlantFault>
+    requires { 1 ≤ most }
+    ensures { handed_of plant.new ≡ handed_of plant.old }
+{
+    let mut moved = false;
+    let mut long = NumberSet::new();
+    let start = match timed {
+        Timed::Round => now(rt),
+        _ => None,
+    };
+    for block in 0..plant.graph().len() {
+        let seen = turn_of(rt, alloc, plant, BlockId(block as u32), most, timed)?;
+        if seen.moved {
+            moved = true;
+        }
+        if seen.is_long {
+            long.add(block);
+        }
+    }
+    let nanos = nanos_since(rt, start);
+    Ok(Round {
+        moved,
+        found: Found { nanos, long },
+    })
+}
+
+// What was seen of a block's step.
+#[derive(Clone, Copy)]
+struct Seen {
+    moved: bool,
+    is_long: bool,
+}
+
+// Steps a block, and times it where that is wanted.
+fn turn_of<B: Block, R: Clock>(
+    rt: &R,
+    alloc: Global,
+    plant: &mut Plant<B>,
+    block: BlockId,
+    most: u32,
+    timed: Timed,
+) -> Result<Seen, PlantFault>
+    requires { 1 ≤ most }
+    ensures { handed_of plant.new ≡ handed_of plant.old }
+{
+    match timed {
+        Timed::Steps => {
+            let start = now(rt);
+            let moved = moves(plant, alloc, block, most)?;
+            let is_long = is_long(nanos_since(rt, start));
+            Ok(Seen { moved, is_long })
+        }
+        Timed::Work(blocks) if blocks.has(block.0 as usize) => {
+            let weighed = weigh(rt, alloc, plant, block, most)?;
+            Ok(Seen {
+                moved: matches!(weighed.step, Step::Did(_)),
+                is_long: is_worth(weighed.nanos, weighed.held),
+            })
+        }
+        _ => Ok(Seen {
+            moved: moves(plant, alloc, block, most)?,
+            is_long: false,
+        }),
+    }
+}
+
+// Steps a block, and returns whether it fired.
+fn moves<B: Block>(
+    plant: &mut Plant<B>,
+    alloc: Global,
+    block: BlockId,
+    most: u32,
+) -> Result<bool, PlantFault>
+    requires { 1 ≤ most }
+    ensures { handed_of plant.new ≡ handed_of plant.old }
+{
+    match plant.step(alloc, block, most)? {
+        Step::Did(_) => Ok(true),
+        _ => Ok(false),
+    }
+}
+
+// A step, and how many nanoseconds its work took, and its claim with its commit.
+#[derive(Clone, Copy)]
+struct Weighed {
+    step: Step,
+    nanos: u64,
+    held: u64,
+}
+
+impl Weighed {
+    // A step that fired nothing.
+    fn nothing(step: Step) -> Weighed
+        ensures { result.step ≡ step }
+    {
+        Weighed {
+            step,
+            nanos: 0,
+            held: 0,
+        }
+    }
+}
+
+// Steps a block by its claim, its work and its commit, and times them.
+fn weigh<B: Block, R: Clock>(
+    rt: &R,
+    alloc: Global,
+    plant: &mut Plant<B>,
+    block: BlockId,
+    most: u32,
+) -> Result<Weighed, PlantFault>
+    requires { 1 ≤ most }
+    ensures handed { handed_of plant.new ≡ handed_of plant.old }
+    ensures stepped { IfOk result (λ w. Answered (step_of (net_of B.meaning plant.old.graph) plant.old.capacities plant.old.state block.0 most) plant.old plant.new (Some (step_reply w.step))) }
+{
+    let start = now(rt);
+    match plant.claim(alloc, block, most)? {
+        Claim::Claimed(job) => {
+            let claimed = now(rt);
+            let worked = job.work();
+            let done = now(rt);
+            // (it is the claim in flight, and is taken)
+            let Ok(did) = plant.commit(worked) else {
+                return Err(PlantFault::Memory);
+            };
+            Ok(Weighed {
+                step: Step::Did(did.0),
+                nanos: nanos_between(claimed, done),
+                held: nanos_between(start, claimed).saturating_add(nanos_since(rt, done)),
+            })
+        }
+        Claim::Done => Ok(Weighed::nothing(Step::Done)),
+        Claim::Busy => Ok(Weighed::nothing(Step::Busy)),
+        Claim::Waiting(need) => Ok(Weighed::nothing(Step::Waiting(need))),
+    }
+}

@@ -1,0 +1,253 @@
+//! The turn of a thread of a pool, under the lock: what it did is committed, light blocks are stepped, and firings of a heavy one are claimed.
+
+ghost use Rattle.std.specs.Prelude.{Some};
+ghost use Rattle.std.specs.Option.{option_map};
+ghost use Rattle.threads.specs.Errands.{HasErrand, HasRun, HasStep, IsStepped};
+ghost use Rattle.threads.specs.Hall.{HasBrought};
+
+use crate::hall::Hall;
+use crate::policy::{NextStep, STEPS};
+use crate::stopwatch::{nanos_since, now};
+use crate::woken::Woken;
+use flowgraph::{Block, BlockId};
+use jobs::{Job, Worked};
+use plant::{Claim, Step};
+use std::alloc::Global;
+use std::sync::atomic::{AtomicU64, Ordering};
+use std::time::Clock;
+
+/// What a thread of a pool has to do next.
+#[derive(Drop)]
+pub enum Errand<B: Block> {
+    /// The work of a claim, which took so many nanoseconds.
+    Work(Job<B>, u64),
+    /// To take its turn again.
+    Again,
+    /// To sleep until it is called.
+    Sleep,
+    /// To leave: the run ends.
+    Leave,
+}
+
+/// What a thread brings back: what it did, and how many nanoseconds its claim took, and its work.
+#[derive(Drop)]
+pub struct Brought<B: Block> {
+    pub worked: Worked<B>,
+    pub held: u64,
+    pub nanos: u64,
+}
+
+/// Who waits for the lock.
+#[derive(Drop)]
+pub struct Waiting {
+    /// How many threads of the pool have something to bring back.
+    pub mates: AtomicU64,
+    /// How many others there are.
+    pub guests: AtomicU64,
+}
+
+impl Waiting {
+    /// Nobody.
+    pub fn new() -> Waiting {
+        Waiting {
+            mates: AtomicU64::new(0),
+            guests: AtomicU64::new(0),
+        }
+    }
+
+    /// Whether a guest waits.
+    pub fn has_guest(&self) -> bool {
+        self.guests.load(Ordering::SeqCst) != 0
+    }
+
+    /// Whether a thread of the pool does.
+    pub fn has_mate(&self) -> bool {
+        self.mates.load(Ordering::SeqCst) != 0
+    }
+}
+
+impl<B: Block> Hall<B> {
+    /// The next turn of a thread of the pool.
+    pub fn errand<R: Clock>(
+        &mut self,
+        rt: &R,
+        alloc: Global,
+        thread: usize,
+        brought: Option<Brought<B>>,
+        waiting: &Waiting,
+        woken: &mut Woken,
+    ) -> Errand<B>
+        ensures { HasRun B.meaning B.eq (option_map (λ b. b.worked) brought) self.old self.new result }
+    {
+        self.pool.is_here(thread);
+        let from = self.bring(rt, brought, woken);
+        self.go_on(rt, alloc, thread, from, waiting, woken)
+    }
+
+    // Step after step, until the turn ends.
+    fn go_on<R: Clock>(
+        &mut self,
+        rt: &R,
+        alloc: Global,
+        thread: usize,
+        from: usize,
+        waiting: &Waiting,
+        woken: &mut Woken,
+    ) -> Errand<B>
+        ensures { HasErrand B.meaning self.old.engine self.new.engine self.new.ends result }
+    {
+        'steps: for _ in 0..STEPS {
+            if let Some(errand) = self.act(rt, alloc, thread, from, waiting, woken) {
+                return errand;
+            }
+        }
+        Errand::Again
+    }
+
+    // One step, or the end of the turn.
+    fn act<R: Clock>(
+        &mut self,
+        rt: &R,
+        alloc: Global,
+        thread: usize,
+        from: usize,
+        waiting: &Waiting,
+        woken: &mut Woken,
+    ) -> Option<Errand<B>>
+        ensures { HasStep B.meaning self.old.engine self.new.engine self.new.ends result }
+    {
+        if self.ends {
+            return Some(Errand::Leave);
+        }
+        if waiting.has_guest() {
+            return Some(Errand::Again);
+        }
+        let light = self.pool.next_light();
+        if light.is_none() || waiting.has_mate() {
+            if let Some(block) = self.pool.next_heavy(from) {
+                return self.claim_heavy(rt, alloc, block, woken);
+            }
+        }
+        match light {
+            Some(block) => {
+                let next = self.pool.begins(block);
+                self.step_light(rt, alloc, block, next, woken);
+                None
+            }
+            None => Some(self.rest(thread, woken)),
+        }
+    }
+
+    // What a thread did is committed. It returns the number behind that of its block.
+    fn bring<R: Clock>(&mut self, rt: &R, brought: Option<Brought<B>>, woken: &mut Woken) -> usize
+        ensures { HasBrought B.meaning B.eq (option_map (λ b. b.worked) brought) self.old.engine self.new.engine }
+    {
+        let Some(brought) = brought else {
+            return 0;
+        };
+        let Brought {
+            worked,
+            held,
+            nanos,
+        } = brought;
+        let block = worked.block();
+        let start = now(rt);
+        let answer = self.engine.commit(worked);
+        self.pool.comes(block);
+        match answer {
+            Ok(did) => {
+                let held = held.saturating_add(nanos_since(rt, start));
+                self.pool.worked(block, did.0, nanos, held);
+            }
+            // What comes back is none of the plant's: then the run ends, and what is held is looked at.
+            Err(_) => {
+                let _ = self.end(woken);
+            }
+        }
+        (block.0 as usize).saturating_add(1)
+    }
+
+    // A block is stepped under the lock.
+    fn step_light<R: Clock>(
+        &mut self,
+        rt: &R,
+        alloc: Global,
+        block: BlockId,
+        next: NextStep,
+        woken: &mut Woken,
+    )
+        ensures { IsStepped B.meaning block.0 next.most self.old.engine self.new.engine }
+    {
+        let start = if next.is_timed { now(rt) } else { None };
+        match self.engine.step(alloc, block, next.most) {
+            Ok(Step::Did(firings)) => {
+                self.pool.went_on(block);
+                if next.is_timed {
+                    self.pool.stepped(block, firings, nanos_since(rt, start));
+                }
+            }
+            Ok(Step::Done) => self.pool.leaves(block),
+            Ok(Step::Waiting(_)) => self.pool.waits(block),
+            Ok(Step::Busy) => self.pool.waits(block),
+            Err(_) => {
+                self.starved = true;
+                let _ = self.end(woken);
+            }
+        }
+    }
+
+    // Firings of a block are claimed for work outside of the lock, if it can act.
+    fn claim_heavy<R: Clock>(
+        &mut self,
+        rt: &R,
+        alloc: Global,
+        block: BlockId,
+        woken: &mut Woken,
+    ) -> Option<Errand<B>>
+        ensures { HasStep B.meaning self.old.engine self.new.engine self.new.ends result }
+    {
+        let start = now(rt);
+        let share = self.pool.share(block);
+        match self.engine.claim(alloc, block, share) {
+            Ok(Claim::Claimed(job)) => {
+                self.pool.goes(block, woken);
+                Some(Errand::Work(job, nanos_since(rt, start)))
+            }
+            Ok(Claim::Waiting(_)) => {
+                self.pool.waits(block);
+                None
+            }
+            Ok(Claim::Busy) => {
+                self.pool.waits(block);
+                None
+            }
+            Ok(Claim::Done) => {
+                self.pool.leaves(block);
+                None
+            }
+            Err(_) => {
+                self.starved = true;
+                let _ = self.end(woken);
+                Some(Errand::Leave)
+            }
+        }
+    }
+
+    // No block can act that nobody works for. Once nobody works the run is over, or a block was not marked though it can act.
+    fn rest(&mut self, thread: usize, woken: &mut Woken) -> Errand<B>
+        ensures errand { HasStep B.meaning self.old.engine self.new.engine self.new.ends (Some result) }
+    {
+        if self.pool.some_work() {
+            self.pool.sleeps(thread);
+            return Errand::Sleep;
+        }
+        let plant = self.engine.plant();
+        if plant.all_done() || plant.quiet() {
+            let _ = self.end(woken);
+            return Errand::Leave;
+        }
+        woken.missed = true;
+        self.pool.all_ready();
+        Errand::Again
+    }
+}

@@ -1,0 +1,203 @@
+//! The threads of a pool: the first, which starts the others, and these.
+
+use crate::errands::{Brought, Errand};
+use crate::gate::Gate;
+use crate::policy::YIELDS;
+use crate::shared::Shared;
+use crate::stopwatch::{Pauses, nanos_since, now};
+use crate::woken::Woken;
+use flowgraph::Block;
+use jobs::Job;
+use plant::Watch;
+use std::alloc::Global;
+use std::hint::spin_loop;
+use std::sync::{Arc, Wait};
+use std::thread;
+use std::thread::{JoinHandle, Threads};
+use std::time::{Clock, Duration};
+
+// The number of the first thread.
+const FIRST: usize = 0;
+
+/// Turn after turn of the first thread of a pool until the run ends. It starts the others as they are wanted, joins them, and shows `watch` how far
+/// the plant is each time that its pause is over. Where no thread can be started the run goes on with those that are there.
+pub fn lead<
+    B: Block + Send + Sync + 'static,
+    G: Gate + Drop + Send + Sync + 'static,
+    R: Threads + Wait + Clock + Copy + Send + 'static,
+    W: Watch,
+>(rt: R, alloc: Global, shared: &Arc<Shared<B, G>, Global>, watch: &mut W)
+where
+    B::Places: Send + Sync + 'static,
+{
+    let mut pauses = Pauses::of(&rt, watch);
+    let mut mates = Mates::new(alloc);
+    let mut brought = None;
+    for _ in rt.forever() {
+        let turned = shared.round(&rt, alloc, FIRST, brought, pauses.length());
+        brought = turned.brought;
+        if turned.leaves {
+            break;
+        }
+        if turned.wants {
+            mates.one_more(rt, alloc, shared);
+        }
+        if pauses.end(&rt) {
+            watch.show(shared.headway(&rt));
+        }
+    }
+    mates.join(&rt);
+}
+
+// The threads that the first one started.
+#[derive(Drop)]
+struct Mates {
+    handles: Vec<JoinHandle<()>>,
+    // How many threads there may be, once that was asked for.
+    limit: Option<usize>,
+}
+
+impl Mates {
+    fn new(alloc: Global) -> Mates {
+        Mates {
+            handles: Vec::new(alloc),
+            limit: None,
+        }
+    }
+
+    // Starts one more, up to one a processor and one a block, where there is memory and a thread for it.
+    fn one_more<
+        B: Block + Send + Sync + 'static,
+        G: Gate + Drop + Send + Sync + 'static,
+        R: Threads + Wait + Clock + Copy + Send + 'static,
+    >(&mut self, rt: R, alloc: Global, shared: &Arc<Shared<B, G>, Global>)
+    where
+        B::Places: Send + Sync + 'static,
+    {
+        let limit = match self.limit {
+            Some(limit) => limit,
+            None => processors(&rt).min(shared.beds.len()),
+        };
+        self.limit = Some(limit);
+        let number = self.handles.len().saturating_add(1);
+        if limit <= number || self.handles.reserve(1).is_err() {
+            return;
+        }
+        match start_mate(rt, alloc, shared, number) {
+            Some(mate) => self.handles.push_reserved(mate),
+            // (nor is it tried again)
+            None => self.limit = Some(number),
+        }
+    }
+
+    fn join<R: Threads + Wait>(self, rt: &R) {
+        for mate in self.handles {
+            mate.join(rt);
+        }
+    }
+}
+
+fn processors<R: Threads>(rt: &R) -> usize {
+    match thread::available_parallelism(rt) {
+        Ok(count) => count.get(),
+        Err(_) => 1,
+    }
+}
+
+fn start_mate<
+    B: Block + Send + Sync + 'static,
+    G: Gate + Drop + Send + Sync + 'static,
+    R: Threads + Wait + Clock + Copy + Send + 'static,
+>(rt: R, alloc: Global, shared: &Arc<Shared<B, G>, Global>, number: usize) -> Option<JoinHandle<()>>
+where
+    B::Places: Send + Sync + 'static,
+{
+    let shared = Arc::try_clone(shared).ok()?;
+    thread::spawn(&rt, move || follow(&rt, alloc, &*shared, number)).ok()
+}
+
+// Turn after turn of another thread.
+fn follow<B: Block, G: Gate + Drop, R: Wait + Clock>(
+    rt: &R,
+    alloc: Global,
+    shared: &Shared<B, G>,
+    number: usize,
+) {
+    let mut brought = None;
+    for _ in rt.forever() {
+        let turned = shared.round(rt, alloc, number, brought, None);
+        brought = turned.brought;
+        if turned.leaves {
+            break;
+        }
+    }
+}
+
+// What came of a turn.
+#[derive(Drop)]
+struct Turned<B: Block> {
+    brought: Option<Brought<B>>,
+    // Whether another thread would have something to do.
+    wants: bool,
+    leaves: bool,
+}
+
+impl<B: Block, G: Gate + Drop> Shared<B, G> {
+    // A turn of a thread, with its work or its sleep, which is of such a length at most.
+    fn round<R: Wait + Clock>(
+        &self,
+        rt: &R,
+        alloc: Global,
+        thread: usize,
+        brought: Option<Brought<B>>,
+        longest: Option<Duration>,
+    ) -> Turned<B> {
+        let mut woken = Woken::new();
+        let errand = self.errand(rt, alloc, thread, brought, &mut woken);
+        self.wake(&woken);
+        let mut turned = Turned {
+            brought: None,
+            wants: woken.wants,
+            leaves: false,
+        };
+        match errand {
+            Errand::Work(job, held) => turned.brought = Some(self.works(rt, job, held)),
+            Errand::Again => self.yield_to_guests(),
+            Errand::Sleep => self.doze(rt, thread, longest),
+            Errand::Leave => turned.leaves = true,
+        }
+        turned
+    }
+
+    // Passes the gate and does a job, with no lock held.
+    fn works<R: Clock>(&self, rt: &R, job: Job<B>, held: u64) -> Brought<B> {
+        self.gate.pass(job.block(), job.first());
+        let start = now(rt);
+        let worked = job.work();
+        Brought {
+            worked,
+            held,
+            nanos: nanos_since(rt, start),
+        }
+    }
+
+    // Sleeps until it is called, or so long.
+    fn doze<R: Wait>(&self, rt: &R, thread: usize, longest: Option<Duration>) {
+        if let Some(bed) = self.beds.get(thread) {
+            match longest {
+                Some(length) => bed.park_timeout(rt, length),
+                None => bed.park(rt),
+            }
+        }
+    }
+
+    // Lets guests take the lock first.
+    fn yield_to_guests(&self) {
+        for _ in 0..YIELDS {
+            if !self.waiting.has_guest() {
+                return;
+            }
+            spin_loop();
+        }
+    }
+}
