@@ -7,7 +7,7 @@
  *
  * Each buffer is a pointer and a number of bytes. NULL may stand for one of 0 bytes; with more it is refused (54). Buffers that a call writes must not
  * overlap those that it reads, nor one another. Calls on several threads at the same time are allowed, since they share
- * nothing, where each plant that is held stays on one thread.
+ * nothing, where each plant that is held is called by one thread at a time.
  */
 #ifndef MAGBELU_H
 #define MAGBELU_H

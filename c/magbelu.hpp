@@ -296,7 +296,7 @@ private:
 } // namespace detail
 
 /*
- * A graph with its tapes, its buffers and how far it is. It may be moved, and not copied; it stays on the thread that opened it. Items are `std::uint8_t`,
+ * A graph with its tapes, its buffers and how far it is. It may be moved, and not copied; it is called by one thread at a time. Items are `std::uint8_t`,
  * `std::int16_t` or `std::int32_t`, as the source or the sink has them: those of another size are a `std::invalid_argument`.
  */
 class graph : public detail::held {

@@ -234,6 +234,24 @@ def freed_graphs_are_refused():
     graph.free()
 
 
+def threads_call_one_graph():
+    """Each call of one graph is made as a whole, whichever thread makes it."""
+    with chain("byte") as graph:
+        def work(value):
+            for _ in range(200):
+                graph.feed("src", [value] * 10)
+                graph.settle()
+
+        threads = [threading.Thread(target=work, args=(value,)) for value in range(8)]
+        for thread in threads:
+            thread.start()
+        for thread in threads:
+            thread.join()
+        items = list(graph.read("out")[0])
+    assert sorted(items) == [value + 10 for value in range(8) for _ in range(2000)]
+    assert all(items[at : at + 10] == items[at : at + 1] * 10 for at in range(0, len(items), 10))
+
+
 def streams_give_what_runs_give():
     """Generated graphs, which are fed in pieces, give what a run of the whole feed gives, and what was given is forgotten."""
     if tomllib is None:
@@ -292,6 +310,23 @@ def streams_are_tagged_set_and_refused():
     for call in [lambda: stream.feed("src", [1]), lambda: stream.settle(), lambda: stream.drain("out"), lambda: stream.need("src"), lambda: stream.through(src=[])]:
         refuses(55, "NotOpen", call)
     refuses(40, "Syntax", lambda: magbelu.Stream("x"))
+
+
+def streams_drain_into_arrays():
+    """Items are written where the caller says, with their tags, however many lines these are; and nothing else is written."""
+    stream, room = magbelu.Stream(CHAIN % (3 * ("short",))), array.array("h", [-1] * 3000)
+    stream.feed("src", range(2000), tags=[(at, "a_key_of_16_bytes"[:16], at) for at in range(2000)])
+    stream.settle()
+    count, tags = stream.drain_into("out", memoryview(room)[1:1001])
+    assert count == 1000 and room.tolist() == [-1] + list(range(10, 1010)) + [-1] * 1999
+    assert [it[:3] for it in tags] == [(at, "a_key_of_16_bytes"[:16], at) for at in range(1000)]
+    for wrong in [array.array("i", [0]), array.array("B", [0]), bytes(2), memoryview(room)[::2], memoryview(room).toreadonly(), [0, 0]]:
+        raises(TypeError, lambda: stream.drain_into("out", wrong))
+    assert stream.drain_into("out", room[:0]) == (0, [])
+    count, tags = stream.drain_into("out", room)
+    assert (count, len(tags)) == (1000, 1000) and room.tolist() == [*range(1010, 2010), 1009] + [-1] * 1999
+    assert stream.anew().drain_into("out", room) == (0, [])
+    refuses(22, "NotSink", lambda: stream.drain_into("add", room))
 
 
 def raw_items_in_and_out():
@@ -440,12 +475,14 @@ tests = [
     streams_give_what_runs_give,
     streams_take_what_they_lack,
     streams_are_tagged_set_and_refused,
+    streams_drain_into_arrays,
     raw_items_in_and_out,
     what_is_wrong_is_refused,
     nothing_is_cut,
     places_of_faults_are_shown,
     graphs_are_drawn_as_by_flow,
     threads_call_side_by_side,
+    threads_call_one_graph,
 ]
 for test in tests:
     test()

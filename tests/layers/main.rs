@@ -8,12 +8,19 @@ use std::io::Eprint;
 use std::process::{Abort, ExitCode};
 use std::sync::Wait;
 use std::thread::Threads;
+use std::time::Clock;
 use std::{env, fs, io};
 
 /// What a test may do.
-pub trait Host: Abort + Threads + Wait + AllocGlobal + Eprint + Copy + Send + Sync + 'static {}
+pub trait Host:
+    Abort + Threads + Wait + Clock + AllocGlobal + Eprint + Copy + Send + Sync + 'static
+{
+}
 
-impl<R: Abort + Threads + Wait + AllocGlobal + Eprint + Copy + Send + Sync + 'static> Host for R {}
+impl<R: Abort + Threads + Wait + Clock + AllocGlobal + Eprint + Copy + Send + Sync + 'static> Host
+    for R
+{
+}
 
 fn main(rt: HostRuntime) -> io::Result<ExitCode> {
     // The first word is the program's name.

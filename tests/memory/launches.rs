@@ -7,7 +7,10 @@ use plant::{Plant, PlantFault, Settled};
 use std::alloc::Global;
 use std::sync::{Arc, Wait};
 use std::thread::Threads;
-use threads::{Open, Outcome, RunError, RunFault, launch, run};
+use std::time::Clock;
+use threads::{
+    Open, Outcome, RunError, RunFault, Turns, launch, launch_adaptive, run, run_adaptive,
+};
 use top_block::TopBlock;
 
 const BYTE: ItemType = ItemType::Byte;
@@ -28,6 +31,10 @@ pub enum Way {
     Start,
     /// By `launch` and `wait`, of a plant without blocks, for which no thread is started.
     LaunchNothing,
+    /// By `run_adaptive`.
+    Adaptive,
+    /// By `launch_adaptive` and `wait`.
+    Pool,
 }
 
 /// A plant and what its run needs.
@@ -41,7 +48,7 @@ pub struct Ready {
 pub fn make_ready(alloc: Global, way: Way) -> Option<Ready> {
     let plant = match way {
         Way::LaunchNothing => Plant::open(alloc, Graph::new(alloc).validate(alloc).ok()?).ok()?,
-        Way::Launch | Way::Run | Way::Start => fed(alloc)?,
+        _ => fed(alloc)?,
     };
     let gate = Arc::new(alloc, Open).ok()?;
     Some(Ready { plant, gate })
@@ -102,7 +109,7 @@ fn end_of(outcome: Result<Outcome<Kind>, RunFault<Kind>>, has_begun: bool) -> En
 }
 
 /// Runs a plant.
-pub fn run_ready<R: Threads + Wait + Copy + Send + 'static>(
+pub fn run_ready<R: Threads + Wait + Clock + Copy + Send + 'static>(
     rt: R,
     alloc: Global,
     way: Way,
@@ -111,6 +118,14 @@ pub fn run_ready<R: Threads + Wait + Copy + Send + 'static>(
     let Ready { plant, gate } = ready;
     match way {
         Way::Run => end_of(run(rt, alloc, plant, gate), false),
+        Way::Adaptive => end_of(
+            run_adaptive(rt, alloc, plant, gate, Turns::default()),
+            false,
+        ),
+        Way::Pool => match launch_adaptive(rt, alloc, plant, gate, Turns::default()) {
+            Ok(running) => end_of(running.wait(&rt), true),
+            Err(fault) => end_of(Err(fault), false),
+        },
         Way::Launch | Way::LaunchNothing => match launch(rt, alloc, plant, gate) {
             Ok(running) => end_of(running.wait(&rt), true),
             Err(fault) => end_of(Err(fault), false),
@@ -142,7 +157,7 @@ fn is_whole(alloc: Global, plant: &Plant<Kind>) -> bool {
 
 /// Whether the run ended well; or it was refused memory, or before it had begun a thread, and its plant, run again, ends well. Where no thread is to be started none is
 /// refused. Nothing is refused memory any more.
-pub fn is_right<R: Threads + Wait + Copy + Send + 'static>(
+pub fn is_right<R: Threads + Wait + Clock + Copy + Send + 'static>(
     rt: R,
     alloc: Global,
     way: Way,
@@ -156,7 +171,7 @@ pub fn is_right<R: Threads + Wait + Copy + Send + 'static>(
     let Some(plant) = plant else {
         return false;
     };
-    let starts_none = matches!(way, Way::LaunchNothing);
+    let starts_none = matches!(way, Way::LaunchNothing | Way::Adaptive);
     match fault {
         None => return plant.all_done() && is_whole(alloc, &plant),
         Some(RunError::Thread) if has_begun || starts_none => return false,

@@ -244,8 +244,9 @@ pub fn run_live<R: Threads + Wait + Sync>(rt: &R, alloc: Global, ready: Ready) -
             Outcome::Done(plant) => (Some(plant), finished.logs.len() == 1),
             Outcome::Stalled(_) | Outcome::Stopped(_) => (None, false),
         },
-        Err(RunFault::Memory(plant) | RunFault::Thread(plant)) => (Some(plant), false),
-        Err(RunFault::Foreign) => (None, false),
+        Err(RunFault::Memory(plant)) => (Some(plant), false),
+        // (no thread is refused here)
+        Err(RunFault::Thread(_) | RunFault::Foreign) => (None, false),
     };
     Ended {
         plant,

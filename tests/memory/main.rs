@@ -1,13 +1,14 @@
 //! Calls of a library, a run in threads, a call of the program, or the reading of its words and its file, of which one allocation fails. The first word
 //! says which; the second how many allocations are made before, so that the failure of a fixed one comes to each in turn; the third, where a file is read, names it. It writes
 //! whether one of them came to fail; of `steady`, in whose rounds none is made, also whether the one that failed came before them. Where a run in
-//! threads was refused, a second line has the fault's number.
+//! threads was refused, which is told 60 and never 61, a second line has the fault's number.
 #![tactic(auto)]
 
 mod calls;
 mod chains;
 mod launches;
 mod live;
+mod piped;
 mod raw;
 mod served;
 mod steady;
@@ -25,6 +26,7 @@ use std::{env, fs};
 use std::process::{Abort, ExitCode};
 use std::sync::Wait;
 use std::thread::Threads;
+use std::time::Clock;
 
 // More allocations than are made in between.
 const MANY: u32 = 2000;
@@ -41,7 +43,8 @@ enum Task {
     Live,
     Launches(Way),
     Serve(Case),
-    Raw(bool),
+    Raw,
+    Piped,
     Stall,
     Words,
     Call,
@@ -52,9 +55,9 @@ enum Task {
 }
 
 // What runs in threads may be handed on.
-trait Host: Abort + Threads + Wait + Copy + Send + Sync + 'static {}
+trait Host: Abort + Threads + Wait + Clock + Copy + Send + Sync + 'static {}
 
-impl<R: Abort + Threads + Wait + Copy + Send + Sync + 'static> Host for R {}
+impl<R: Abort + Threads + Wait + Clock + Copy + Send + Sync + 'static> Host for R {}
 
 fn main(rt: HostRuntime) -> ExitCode {
     let Some((task, before, path)) = asked(&rt) else {
@@ -66,7 +69,8 @@ fn main(rt: HostRuntime) -> ExitCode {
         Task::Live => (live_task(rt, alloc, before), None),
         Task::Launches(way) => launches_task(rt, alloc, before, way),
         Task::Serve(case) => serve_task(rt, alloc, before, case),
-        Task::Raw(is_alone) => raw_task(rt, alloc, before, is_alone),
+        Task::Raw => raw_task(&rt, alloc, before),
+        Task::Piped => (piped_task(rt, alloc, before), None),
         Task::Stall => (stall_task(rt, alloc, before), None),
         Task::Words | Task::Call | Task::File => {
             (words_task(&rt, &rt, alloc, before, task, &path), None)
@@ -89,6 +93,11 @@ fn place(is_early: bool, is_late: bool) -> &'static str {
     } else {
         "inside"
     }
+}
+
+// Whether a fault does not tell of a thread. The allocation that fails is never one that starts a thread, as the C library makes those.
+fn is_no_thread_refused(fault: Option<u32>) -> bool {
+    fault != Some(61)
 }
 
 fn calls_task(rt: &impl Abort, alloc: Global, before: u32) -> &'static str {
@@ -124,7 +133,7 @@ fn launches_task(
     let is_late = waste(alloc, MANY);
     let fault = ended.fault.map(|fault| fault.number());
     assert!(&rt;
-        launches::is_right(rt, alloc, way, ended),
+        is_no_thread_refused(fault) && launches::is_right(rt, alloc, way, ended),
         "a run went wrong: {}",
         fault.unwrap_or(0)
     );
@@ -142,26 +151,38 @@ fn serve_task(
     let is_late = waste(alloc, MANY);
     let is_right = served::is_right(rt, alloc, case, &answer) == Ok(true);
     let (output, errors) = (answer.output.text(), answer.errors.text());
-    assert!(&rt; is_right, "{} {output}{errors}", answer.status);
-    (place(is_early, is_late), served::run_fault(&answer))
+    let fault = served::run_fault(&answer);
+    assert!(&rt;
+        is_right && is_no_thread_refused(fault),
+        "{} {output}{errors}",
+        answer.status
+    );
+    (place(is_early, is_late), fault)
 }
 
-fn raw_task(
-    rt: impl Host,
-    alloc: Global,
-    before: u32,
-    is_alone: bool,
-) -> (&'static str, Option<u32>) {
+fn raw_task(rt: &impl Abort, alloc: Global, before: u32) -> (&'static str, Option<u32>) {
     let is_early = waste(alloc, before);
-    let left = raw::answer(rt, alloc, is_alone);
+    let left = raw::answer(alloc);
     let is_late = waste(alloc, MANY);
     let fault = left.fault;
-    assert!(&rt;
-        raw::is_right(&left, is_alone),
+    assert!(rt;
+        raw::is_right(&left),
         "a raw run went wrong: {}",
         fault.unwrap_or(0)
     );
     (place(is_early, is_late), fault)
+}
+
+fn piped_task(rt: impl Host, alloc: Global, before: u32) -> &'static str {
+    let is_early = waste(alloc, before);
+    let left = piped::answer(alloc);
+    let is_late = waste(alloc, MANY);
+    assert!(&rt;
+        piped::is_right(&left),
+        "a pipeline went wrong: {}",
+        left.fault.unwrap_or(0)
+    );
+    place(is_early, is_late)
 }
 
 fn stall_task(rt: impl Host, alloc: Global, before: u32) -> &'static str {
@@ -201,14 +222,14 @@ fn words_task(
 
 // No thread can be started, and nothing is refused memory: each run is told 61.
 fn no_threads_task(rt: impl Host, alloc: Global) -> &'static str {
-    for way in [Way::Launch, Way::Run, Way::Start] {
+    for way in [Way::Launch, Way::Run, Way::Start, Way::Pool] {
         let Some(ready) = launches::make_ready(alloc, way) else {
             panic!(&rt; "nothing is ready");
         };
         let ended = launches::run_ready(rt, alloc, way, ready);
         assert!(&rt; launches::is_refused(alloc, ended), "a run is not told 61");
     }
-    for case in [served::RUN, served::CHAIN, served::LIVE] {
+    for case in [served::PER_BLOCK, served::LIVE] {
         let answer = served::answer(rt, alloc, case);
         let is_right = served::is_right(rt, alloc, case, &answer) == Ok(true);
         assert!(&rt;
@@ -217,11 +238,19 @@ fn no_threads_task(rt: impl Host, alloc: Global) -> &'static str {
             answer.errors.text()
         );
     }
-    let left = raw::answer(rt, alloc, false);
-    assert!(&rt; left.fault == Some(61), "a raw run is not told 61");
-    let alone = served::answer(rt, alloc, served::ALONE);
-    let is_right = served::is_right(rt, alloc, served::ALONE, &alone) == Ok(true);
-    assert!(&rt; is_right && alone.status == 0, "one thread is enough");
+    let Some(ready) = launches::make_ready(alloc, Way::Adaptive) else {
+        panic!(&rt; "nothing is ready");
+    };
+    let ended = launches::run_ready(rt, alloc, Way::Adaptive, ready);
+    assert!(&rt;
+        ended.fault.is_none() && launches::is_right(rt, alloc, Way::Adaptive, ended),
+        "the caller's thread is enough"
+    );
+    for case in [served::RUN, served::CHAIN, served::ALONE] {
+        let answer = served::answer(rt, alloc, case);
+        let is_right = served::is_right(rt, alloc, case, &answer) == Ok(true);
+        assert!(&rt; is_right && answer.status == 0, "one thread is enough");
+    }
     "refused"
 }
 
@@ -276,10 +305,13 @@ fn task_of(name: &str) -> Option<Task> {
         "whole_run" => Task::Launches(Way::Run),
         "start" => Task::Launches(Way::Start),
         "launch_nothing" => Task::Launches(Way::LaunchNothing),
+        "adaptive" => Task::Launches(Way::Adaptive),
+        "pool" => Task::Launches(Way::Pool),
         "check" => Task::Serve(served::CHECK),
         "feeds" => Task::Serve(served::FEEDS),
         "draw" => Task::Serve(served::DRAW),
         "run" => Task::Serve(served::RUN),
+        "per_block" => Task::Serve(served::PER_BLOCK),
         "alone" => Task::Serve(served::ALONE),
         "chain" => Task::Serve(served::CHAIN),
         "script" => Task::Serve(served::SCRIPT),
@@ -287,8 +319,8 @@ fn task_of(name: &str) -> Option<Task> {
         "tags" => Task::Serve(served::TAGS),
         "settings" => Task::Serve(served::SETTINGS),
         "fork" => Task::Serve(served::FORK),
-        "raw" => Task::Raw(false),
-        "raw_alone" => Task::Raw(true),
+        "raw" => Task::Raw,
+        "piped" => Task::Piped,
         "stall" => Task::Stall,
         "words" => Task::Words,
         "call" => Task::Call,

@@ -2,13 +2,12 @@
 use crate::streams::{Page, Text};
 use flow::raw_fault::EndPlace::{Output, Tags};
 use flow::raw_fault::RawFault;
+use flow::raw_output::{write_items, write_tags};
 use flow::raw_run::RawRun;
 use items::Refusal;
-use plant::{BlockId, Unwatched};
+use plant::BlockId;
 use raw_items::ByteOrder;
 use std::alloc::Global;
-use std::sync::Wait;
-use std::thread::Threads;
 
 // A source of shorts, a block that adds one, and a sink. An item with a tag stands on the tape.
 const FILE: &str = r#"
@@ -41,67 +40,46 @@ const ITEM_BYTES: [u8; 6] = [0xfb, 0, 0x32, 0x31, 0x80, 0x7f];
 
 const TAG_LINES: &[u8] = b"@0:k=-5/0\n";
 
-const REPORT: &[u8] = b"sink o 3\ndone\n";
-
 /// What a run leaves.
 #[derive(Drop)]
 pub struct Left {
     items: Page,
     tags: Page,
-    report: Page,
     /// The number of the fault that ended it.
     pub fault: Option<u32>,
 }
 
-/// Runs it, in threads or on one.
-pub fn answer<R: Threads + Wait + Copy + Send + 'static>(
-    rt: R,
-    alloc: Global,
-    is_alone: bool,
-) -> Left {
+/// Runs it.
+pub fn answer(alloc: Global) -> Left {
     let mut left = Left {
         items: Page::new(),
         tags: Page::new(),
-        report: Page::new(),
         fault: None,
     };
-    if let Err(fault) = answer_to(rt, alloc, is_alone, &mut left) {
+    if let Err(fault) = answer_to(alloc, &mut left) {
         left.fault = Some(fault.number());
     }
     left
 }
 
-fn answer_to<R: Threads + Wait + Copy + Send + 'static>(
-    rt: R,
-    alloc: Global,
-    is_alone: bool,
-    left: &mut Left,
-) -> Result<(), RawFault> {
+fn answer_to(alloc: Global, left: &mut Left) -> Result<(), RawFault> {
     let mut run = RawRun::open(alloc, FILE.as_bytes())?;
     let mut input = Text::new(INPUT);
     run.feed_from(alloc, 0, SOURCE, ByteOrder::Little, &mut input)?;
-    let ran = if is_alone {
-        run.run_alone(alloc, &mut Unwatched)?
-    } else {
-        run.run(rt, alloc, &mut Unwatched)?
-    };
-    ran.write_items(alloc, Output(0), SINK, ByteOrder::Little, &mut left.items)?;
-    ran.write_tags(alloc, Tags(0), SINK, &mut left.tags)?;
-    let report = ran.report(alloc, &[SINK])?;
-    left.report.put(&report);
-    Ok(())
+    let plant = run.settle(alloc)?;
+    write_items(alloc, &plant, Output(0), SINK, ByteOrder::Little, &mut left.items)?;
+    write_tags(alloc, &plant, Tags(0), SINK, &mut left.tags)
 }
 
-/// Whether all was written; or memory was refused, or in threads a thread, and a beginning was written.
-pub fn is_right(left: &Left, is_alone: bool) -> bool {
-    let (items, tags, report) = (left.items.bytes(), left.tags.bytes(), left.report.bytes());
+/// Whether all was written; or memory was refused, and a beginning was written.
+pub fn is_right(left: &Left) -> bool {
+    let (items, tags) = (left.items.bytes(), left.tags.bytes());
     match left.fault {
-        None => items == ITEM_BYTES.as_slice() && tags == TAG_LINES && report == REPORT,
+        None => items == ITEM_BYTES.as_slice() && tags == TAG_LINES,
         Some(fault) => {
-            let is_told = fault == 32 || !is_alone && (fault == 60 || fault == 61);
             let is_beginning = tags.is_empty()
                 || tags == TAG_LINES && items == ITEM_BYTES.as_slice();
-            is_told && ITEM_BYTES.starts_with(items) && is_beginning && report.is_empty()
+            fault == 32 && ITEM_BYTES.starts_with(items) && is_beginning
         }
     }
 }

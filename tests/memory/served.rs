@@ -2,12 +2,14 @@
 use crate::chains;
 use crate::streams::{Page, Text};
 use drawings::Format;
+use flow::running::Threading;
 use flow::serve::{Action, serve};
 use flow::stalls::Notes;
 use plant::Unwatched;
 use std::alloc::{AllocError, Global};
 use std::sync::Wait;
 use std::thread::Threads;
+use std::time::Clock;
 
 // A source goes to a filter, which has a setting, and on to a sink.
 const FILTER: &str = r#"
@@ -146,10 +148,15 @@ pub const DRAW: Case = Case {
 };
 
 pub const RUN: Case = Case {
-    command: Action::Run,
+    command: Action::Run(Threading::Adaptive),
     file: JOIN,
     lines: "",
     whole: RAN,
+};
+
+pub const PER_BLOCK: Case = Case {
+    command: Action::Run(Threading::PerBlock),
+    ..RUN
 };
 
 pub const ALONE: Case = Case {
@@ -204,7 +211,7 @@ pub const FORK: Case = Case {
 };
 
 /// What a case leaves.
-pub fn answer<R: Threads + Wait + Copy + Send + Sync + 'static>(
+pub fn answer<R: Threads + Wait + Clock + Copy + Send + Sync + 'static>(
     rt: R,
     alloc: Global,
     case: Case,
@@ -213,12 +220,12 @@ pub fn answer<R: Threads + Wait + Copy + Send + Sync + 'static>(
 }
 
 /// A run that stalls.
-pub fn stall<R: Threads + Wait + Copy + Send + Sync + 'static>(rt: R, alloc: Global) -> Written {
+pub fn stall<R: Threads + Wait + Clock + Copy + Send + Sync + 'static>(rt: R, alloc: Global) -> Written {
     answer_of(rt, alloc, Action::RunAlone, UNEVEN, "")
 }
 
 // Does a command with a file.
-fn answer_of<R: Threads + Wait + Copy + Send + Sync + 'static>(
+fn answer_of<R: Threads + Wait + Clock + Copy + Send + Sync + 'static>(
     rt: R,
     alloc: Global,
     command: Action,
@@ -248,7 +255,7 @@ fn answer_of<R: Threads + Wait + Copy + Send + Sync + 'static>(
 
 /// Whether the answer is whole; or reports the refusal behind a beginning of it, which of a report is nothing or all, and of a live run has no report; or
 /// is that of the lines without the one that it refuses.
-pub fn is_right<R: Threads + Wait + Copy + Send + Sync + 'static>(
+pub fn is_right<R: Threads + Wait + Clock + Copy + Send + Sync + 'static>(
     rt: R,
     alloc: Global,
     case: Case,
@@ -268,8 +275,9 @@ pub fn is_right<R: Threads + Wait + Copy + Send + Sync + 'static>(
 }
 
 fn is_told(command: Action, errors: &str) -> bool {
-    let is_in_threads = matches!(command, Action::Run | Action::Live);
-    errors == MEMORY || is_in_threads && (errors == NO_RUN || errors == NO_THREAD)
+    let starts_threads = matches!(command, Action::Run(Threading::PerBlock) | Action::Live);
+    let is_run = matches!(command, Action::Run(_) | Action::Live);
+    errors == MEMORY || is_run && errors == NO_RUN || starts_threads && errors == NO_THREAD
 }
 
 fn is_beginning(case: Case, output: &str) -> bool {
@@ -319,7 +327,7 @@ fn without(alloc: Global, text: &str, number: usize) -> Result<String, AllocErro
 }
 
 // A line that was refused memory has left nothing: the other replies are those of the lines without it.
-fn is_like_the_others<R: Threads + Wait + Copy + Send + Sync + 'static>(
+fn is_like_the_others<R: Threads + Wait + Clock + Copy + Send + Sync + 'static>(
     rt: R,
     alloc: Global,
     case: Case,

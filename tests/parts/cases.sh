@@ -12,7 +12,7 @@ declare -A folder_of=()
 # Those that are no calls with an input that is there: the program answers a producer that waits for it, and ends where nobody reads on.
 pipes=(pipes/slow_producer pipes/closed_output)
 
-# add CASE FOLDER: the case, and the second run of a run
+# add CASE FOLDER: the case, and the runs of a run on one thread and in one for each block
 add() {
     local words=()
     folder_of[$1]=$2
@@ -20,9 +20,14 @@ add() {
     if [[ -e $2/args ]]; then
         mapfile -t words <"$2/args"
     fi
-    if [[ ${words[0]-} == run && " ${words[*]} " != *" --one-thread "* ]]; then
+    if [[ ${words[0]-} == run && " ${words[*]} " != *" --one-thread "* && " ${words[*]} " != *" --thread-per-block "* ]]; then
         folder_of[$1/one_thread]=$2
         echo "$1/one_thread"
+        # (between raw files all blocks are on one thread)
+        if [[ " ${words[*]} " != *=* ]]; then
+            folder_of[$1/thread_per_block]=$2
+            echo "$1/thread_per_block"
+        fi
     fi
 }
 
@@ -80,6 +85,8 @@ call() {
     done
     if [[ $1 == */one_thread ]]; then
         words=("${words[0]}" --one-thread "${words[@]:1}")
+    elif [[ $1 == */thread_per_block ]]; then
+        words=("${words[0]}" --thread-per-block "${words[@]:1}")
     fi
     mkdir -p "$came/here"
     (cd -- "$came/here" && exec env -i timeout 60 "${start[@]}" "${words[@]}") <"$(file_of "$folder" stdin)" >"$came/stdout" 2>"$came/errors" || status=$?

@@ -1,5 +1,5 @@
 #!/usr/bin/env bash
-# Calls of a plant, runs in threads with a caller and without, commands of the program on graph files with lines, runs between raw streams, and the reading of the
+# Calls of a plant, runs in threads with a caller and without, commands of the program on graph files with lines, runs between raw streams, a pipeline, and the reading of the
 # program's words and file, in each of which one allocation fails: a case for each allocation. The program of tests/memory ends with status 0 each time. And
 # rounds of a plant in which no allocation is made, so that none of them comes to fail. Tried are each eighth allocation, beginning with that of MEMORY_EIGHTH, 0
 # to 7, or of the day of the month, or with MEMORY_EIGHTH=all each one.
@@ -14,10 +14,10 @@ refused=400
 # left out, since another task makes them too: `check` reads and tests a file as all do that take one, and `calls` opens a plant as `live` does before its run.
 # The bounds are near, since each case takes its time; the cases at the bounds, which are always tried, test them.
 file=130
-declare -A most=([calls]=165 [live]=165 [launch]=330 [whole_run]=330 [start]=331 [launch_nothing]=14 [check]=172 [feeds]=202 [draw]=165 [run]=254 [alone]=226
-    [chain]=195 [script]=244 [lines]=230 [tags]=255 [settings]=215 [fork]=245 [raw]=212 [raw_alone]=208 [stall]=208 [words]=26 [call]=116 [file]=24 [steady]=171)
-declare -A left_out=([calls]=0 [live]=96 [launch]=240 [whole_run]=240 [start]=240 [launch_nothing]=0 [check]=0 [feeds]=$file [draw]=$file [run]=$file [alone]=$file
-    [chain]=0 [script]=$file [lines]=$file [tags]=$file [settings]=$file [fork]=$file [raw]=$file [raw_alone]=$file [stall]=$file [words]=0 [call]=0 [file]=0 [steady]=163)
+declare -A most=([calls]=165 [live]=165 [launch]=330 [whole_run]=330 [start]=331 [launch_nothing]=14 [adaptive]=330 [pool]=330 [check]=172 [feeds]=202 [draw]=165 [run]=236 [per_block]=254 [alone]=226
+    [chain]=195 [script]=244 [lines]=230 [tags]=255 [settings]=215 [fork]=245 [raw]=208 [piped]=260 [stall]=208 [words]=26 [call]=116 [file]=24 [steady]=171)
+declare -A left_out=([calls]=0 [live]=96 [launch]=240 [whole_run]=240 [start]=240 [launch_nothing]=0 [adaptive]=240 [pool]=240 [check]=0 [feeds]=$file [draw]=$file [run]=$file [per_block]=$file [alone]=$file
+    [chain]=0 [script]=$file [lines]=$file [tags]=$file [settings]=$file [fork]=$file [raw]=$file [piped]=$file [stall]=$file [words]=0 [call]=0 [file]=0 [steady]=163)
 
 # list: each case has the number of the allocation of its task that is refused
 list() {
@@ -42,7 +42,7 @@ said_of() { head -n 1 "$room/came/$1.stdout"; }
 wanted_of() {
     local first='(inside|outside)'
     case $1 in
-    calls | check | live | launch | whole_run | start | launch_nothing | chain | words | call | file) first=outside ;;
+    calls | check | live | launch | whole_run | start | launch_nothing | adaptive | pool | chain | words | call | file) first=outside ;;
     steady) first=early ;;
     *) first=inside ;;
     esac
@@ -96,10 +96,7 @@ judge() {
 
 # build: the program, in which the allocation of that number fails, as rt compiles it
 build() {
-    put_apart tree memory_tests flow clap
-    put_sources "$top/tests/memory" "$room/tree/crates/memory_tests/src"
-    # (these read the words of the program)
-    cp -- "$top/crates/$program_crate/src/"{ends,words}.rt "$room/tree/crates/memory_tests/src"
+    put_memory_tests
     build_copy "$room/tree/crates/memory_tests" --fail-alloc "$refused" -- copy 0 "$room/program"
 }
 

@@ -8,10 +8,7 @@ source "$(dirname -- "$(readlink -f -- "${BASH_SOURCE[0]}")")/../part.sh"
 list() { echo no_threads/each_run_is_told_61; }
 
 run() {
-    put_apart tree memory_tests flow clap
-    put_sources "$top/tests/memory" "$room/tree/crates/memory_tests/src"
-    # (these read the words of the program)
-    cp -- "$top/crates/$program_crate/src/"{ends,words}.rt "$room/tree/crates/memory_tests/src"
+    put_memory_tests
     mkdir "$room/given"
     : >"$room/given/no_threads"
     printf '%s\n' no_threads 0 >"$room/given/no_threads.args"

@@ -1,20 +1,20 @@
 //! Runs between raw inputs and outputs that come in pieces, or fail.
 use super::fakes::{Pieces, Written};
 use flow::fault::Fault;
-use flow::ran_raw::RanRaw;
 use flow::raw_fault::EndPlace::{Input, Output, Tags};
 use flow::raw_fault::{EndFault, RawFault};
+use flow::raw_output::{write_items, write_tags};
 use flow::raw_run::{RawRun, sink_named, source_named};
 use flow::script::ScriptFault;
 use flow::telling::report_raw;
 use graph_file::FileFault;
-use plant::{BlockId, PlantFault, Unwatched};
+use items::Items;
+use kinds::Kind;
+use plant::{BlockId, Plant, PlantFault};
 use raw_items::ByteOrder;
 use std::alloc::Global;
 use std::process::Abort;
-use std::sync::Wait;
 use std::test::Fail;
-use std::thread::Threads;
 
 // A source and a sink of shorts. Their numbers are 0 and 1.
 const CHAIN: &str = "[[block]]\nname = \"src\"\nkind = \"vector_source\"\ntype = \"short\"\n\
@@ -43,15 +43,18 @@ fn output(alloc: Global, room: usize) -> Written {
 }
 
 // The run of a file with its feeds behind the chain, and the bytes fed to its source.
-fn ran<R: Threads + Wait + Copy + Send + 'static>(
-    rt: R,
-    alloc: Global,
-    file: &str,
-    input: &mut Pieces<'_>,
-) -> Result<RanRaw, RawFault> {
+fn ran(alloc: Global, file: &str, input: &mut Pieces<'_>) -> Result<Plant<Kind>, RawFault> {
     let mut run = RawRun::open(alloc, file.as_bytes())?;
     run.feed_from(alloc, 0, SOURCE, ByteOrder::Little, input)?;
-    run.run(rt, alloc, &mut Unwatched)
+    Ok(run.settle(alloc)?)
+}
+
+// The shorts that the sink holds.
+fn held(alloc: Global, ran: &Plant<Kind>) -> Result<Vec<i16>, Fail> {
+    match ran.read(alloc, SINK, 0, u64::MAX).map_err(|_| "a sink")?.items {
+        Items::Short(shorts) => Ok(shorts),
+        Items::Byte(_) | Items::Int(_) => Err("shorts")?,
+    }
 }
 
 // So many bytes, which do not repeat soon.
@@ -74,12 +77,12 @@ fn items_come_and_go_in_pieces(rt: HostRuntime) -> Result<(), Fail> {
                 continue;
             }
             let mut input = input(&bytes, most, usize::MAX);
-            let ran = ran(rt, alloc, CHAIN, &mut input).map_err(|_| "a run")?;
+            let ran = ran(alloc, CHAIN, &mut input).map_err(|_| "a run")?;
             let mut output = output(alloc, usize::MAX);
-            let written = ran.write_items(alloc, Output(0), SINK, ByteOrder::Little, &mut output);
+            let written = write_items(alloc, &ran, Output(0), SINK, ByteOrder::Little, &mut output);
             assert!(rt; written.is_ok(), "{count} bytes, {most} at once");
             assert!(rt; output.bytes == bytes, "{count} bytes, {most} at once");
-            assert_eq!(rt; ran.status(), 0);
+            assert!(rt; ran.all_done());
         }
     }
     Ok(())
@@ -89,19 +92,12 @@ fn items_come_and_go_in_pieces(rt: HostRuntime) -> Result<(), Fail> {
 fn each_order_turns_the_other_about(rt: HostRuntime) -> Result<(), Fail> {
     let alloc = rt.alloc();
     for (order, turned) in [(ByteOrder::Little, "abcd"), (ByteOrder::Big, "badc")] {
-        let ran = ran(rt, alloc, CHAIN, &mut input(b"abcd", 3, 9)).map_err(|_| "a run")?;
+        let ran = ran(alloc, CHAIN, &mut input(b"abcd", 3, 9)).map_err(|_| "a run")?;
         let mut output = output(alloc, 9);
-        let written = ran.write_items(alloc, Output(0), SINK, order, &mut output);
+        let written = write_items(alloc, &ran, Output(0), SINK, order, &mut output);
         assert!(rt; written.is_ok());
         assert_eq!(rt; output.bytes.as_slice(), turned.as_bytes());
-        assert_eq!(rt;
-            ran.report(alloc, &[SINK])?.as_slice(),
-            b"sink out 2\ndone\n".as_slice()
-        );
-        assert_eq!(rt;
-            ran.report(alloc, &[])?.as_slice(),
-            b"sink out 2 25185 25699\ndone\n".as_slice()
-        );
+        assert_eq!(rt; held(alloc, &ran)?.as_slice(), [25_185, 25_699].as_slice());
     }
     Ok(())
 }
@@ -111,7 +107,7 @@ fn a_failed_read_ends_an_input(rt: HostRuntime) -> Result<(), Fail> {
     let alloc = rt.alloc();
     for good in [0, 1, 2, 3] {
         let mut input = input(b"abcd", 1, good);
-        let fault = ran(rt, alloc, CHAIN, &mut input).err().ok_or("a fault")?;
+        let fault = ran(alloc, CHAIN, &mut input).err().ok_or("a fault")?;
         assert_eq!(rt;
             fault.to_string(alloc)?.as_str(),
             "51 Read input 0",
@@ -122,7 +118,7 @@ fn a_failed_read_ends_an_input(rt: HostRuntime) -> Result<(), Fail> {
     }
     for count in [1, 3] {
         let mut input = input(&b"abcd"[..count], 1, usize::MAX);
-        let fault = ran(rt, alloc, CHAIN, &mut input).err().ok_or("a fault")?;
+        let fault = ran(alloc, CHAIN, &mut input).err().ok_or("a fault")?;
         assert_eq!(rt; fault.to_string(alloc)?.as_str(), "53 CutItem input 0");
         assert_eq!(rt; (input.failures, input.left.len()), (0, 0));
     }
@@ -133,12 +129,12 @@ fn a_failed_read_ends_an_input(rt: HostRuntime) -> Result<(), Fail> {
 fn a_failed_write_leaves_a_beginning(rt: HostRuntime) -> Result<(), Fail> {
     let alloc = rt.alloc();
     let bytes = bytes(alloc, 140_000)?;
-    let ran = ran(rt, alloc, CHAIN, &mut input(&bytes, usize::MAX, usize::MAX)).map_err(
+    let ran = ran(alloc, CHAIN, &mut input(&bytes, usize::MAX, usize::MAX)).map_err(
         |_| "a run",
     )?;
     for room in [0, 1, 131_071, 131_072, 139_999] {
         let mut output = output(alloc, room);
-        let written = ran.write_items(alloc, Output(3), SINK, ByteOrder::Little, &mut output);
+        let written = write_items(alloc, &ran, Output(3), SINK, ByteOrder::Little, &mut output);
         let fault = written.err().ok_or("a fault")?;
         assert_eq!(rt;
             fault.to_string(alloc)?.as_str(),
@@ -162,17 +158,12 @@ fn tags_are_written_line_by_line(rt: HostRuntime) -> Result<(), Fail> {
     file.push_str(
         "[[feed]]\nsource = \"src\"\nitems = [1, 2]\ntags = [{ at = 1, key = \"k\", value = -7 }, { at = 0, key = \"k\", value = 5 }]\n",
     )?;
-    let ran = ran(
-        rt,
-        alloc,
-        file.as_str(),
-        &mut input(&bytes, usize::MAX, usize::MAX),
-    )
-    .map_err(|_| "a run")?;
+    let mut input = input(&bytes, usize::MAX, usize::MAX);
+    let ran = ran(alloc, file.as_str(), &mut input).map_err(|_| "a run")?;
     let lines = "@0:k=5/0\n@1:k=-7/0\n";
     for room in [0, 5, 9, lines.len()] {
         let mut output = output(alloc, room);
-        let written = ran.write_tags(alloc, Tags(0), SINK, &mut output);
+        let written = write_tags(alloc, &ran, Tags(0), SINK, &mut output);
         assert_eq!(rt; written.is_ok(), room == lines.len(), "room for {room}");
         assert_eq!(rt;
             output.bytes.as_slice(),
@@ -208,7 +199,7 @@ fn ends_are_named_by_blocks(rt: HostRuntime) -> Result<(), Fail> {
 }
 
 #[test]
-fn a_run_on_one_thread_is_the_same(rt: HostRuntime) -> Result<(), Fail> {
+fn inputs_of_a_source_stand_one_behind_the_other(rt: HostRuntime) -> Result<(), Fail> {
     let alloc = rt.alloc();
     let mut run = RawRun::open(alloc, CHAIN.as_bytes()).map_err(|_| "a run")?;
     for number in 0..2 {
@@ -221,17 +212,14 @@ fn a_run_on_one_thread_is_the_same(rt: HostRuntime) -> Result<(), Fail> {
         );
         assert!(rt; fed.is_ok());
     }
-    let ran = run.run_alone(alloc, &mut Unwatched)?;
-    assert_eq!(rt;
-        ran.report(alloc, &[SOURCE])?.as_slice(),
-        b"sink out 4 -32768 1 -32768 1\ndone\n".as_slice()
-    );
+    let ran = run.settle(alloc)?;
+    assert_eq!(rt; held(alloc, &ran)?.as_slice(), [-32_768, 1, -32_768, 1].as_slice());
     let mut output = output(alloc, 9);
     for (block, text) in [
         (SOURCE, "22 NotSink output 1"),
         (BlockId(2), "20 NoSuchBlock output 1"),
     ] {
-        let written = ran.write_items(alloc, Output(1), block, ByteOrder::Little, &mut output);
+        let written = write_items(alloc, &ran, Output(1), block, ByteOrder::Little, &mut output);
         assert_eq!(rt;
             written.err().ok_or("a fault")?.to_string(alloc)?.as_str(),
             text

@@ -1,10 +1,12 @@
 //! What is written to standard error.
 use super::served::{Ends, GOOD, served};
+use flow::running::Threading;
 use flow::serve::Action;
 use std::alloc::Global;
 use std::sync::Wait;
 use std::test::Fail;
 use std::thread::Threads;
+use std::time::Clock;
 
 // A source and a sink of bytes, with what follows.
 const CHAIN: &str = "[[block]]\nname = \"src\"\nkind = \"vector_source\"\ntype = \"byte\"\n\
@@ -59,7 +61,7 @@ const FILES: [(&str, &str); 14] = [
 ];
 
 // Whether a command writes nothing but this refusal, in place of any output, and ends in this status.
-fn is_refused<R: Threads + Wait + Copy + Send + Sync + 'static>(
+fn is_refused<R: Threads + Wait + Clock + Copy + Send + Sync + 'static>(
     rt: R,
     alloc: Global,
     command: Action,
@@ -81,7 +83,8 @@ fn refusals_are_told(rt: HostRuntime) -> Result<(), Fail> {
         let file = format!(in alloc; "{CHAIN}{more}\n")?;
         for command in [
             Action::CheckFeeds,
-            Action::Run,
+            Action::Run(Threading::Adaptive),
+            Action::Run(Threading::PerBlock),
             Action::RunAlone,
             Action::Script,
         ] {

@@ -1,6 +1,7 @@
 //! Calls whose streams come in pieces, or fail.
 use super::fakes::lines_in;
 use super::served::{Ends, GOOD, served, served_with};
+use flow::running::Threading;
 use flow::serve::Action;
 use flow::stalls::Notes;
 use std::test::Fail;
@@ -42,7 +43,8 @@ fn streams_come_in_pieces_and_fail(rt: HostRuntime) -> Result<(), Fail> {
     for (command, output) in [
         (Action::Check, CHECK),
         (Action::CheckFeeds, CHECK),
-        (Action::Run, RUN),
+        (Action::Run(Threading::Adaptive), RUN),
+        (Action::Run(Threading::PerBlock), RUN),
         (Action::RunAlone, RUN),
         (Action::Script, REPLIES),
     ] {
@@ -130,7 +132,12 @@ flow: stalled: the rates are uneven: on longer streams any capacity may fill\n";
 fn a_stall_is_explained(rt: HostRuntime) -> Result<(), Fail> {
     let alloc = rt.alloc();
     let file = UNEVEN.as_bytes();
-    for command in [Action::Run, Action::RunAlone, Action::Live] {
+    for command in [
+        Action::Run(Threading::Adaptive),
+        Action::Run(Threading::PerBlock),
+        Action::RunAlone,
+        Action::Live,
+    ] {
         let left = served_with(rt, alloc, GOOD, command, Notes::Hidden, file, "");
         assert!(rt; left.is(STALLED.as_bytes(), "", 3), "nothing is told");
         for errors_room in [0, 1, 14, 50, 100, 200, RING.len() - 1, RING.len()] {

@@ -6,6 +6,7 @@ use plant::Unwatched;
 use std::alloc::Global;
 use std::sync::Wait;
 use std::thread::Threads;
+use std::time::Clock;
 
 /// How the input comes, and how much can be written.
 #[derive(Clone, Copy)]
@@ -44,7 +45,7 @@ impl Left {
 }
 
 /// What a command leaves. Why a run stalled is explained.
-pub fn served<R: Threads + Wait + Copy + Send + Sync + 'static>(
+pub fn served<R: Threads + Wait + Clock + Copy + Send + Sync + 'static>(
     rt: R,
     alloc: Global,
     ends: Ends,
@@ -56,7 +57,7 @@ pub fn served<R: Threads + Wait + Copy + Send + Sync + 'static>(
 }
 
 /// The same with notes or without.
-pub fn served_with<R: Threads + Wait + Copy + Send + Sync + 'static>(
+pub fn served_with<R: Threads + Wait + Clock + Copy + Send + Sync + 'static>(
     rt: R,
     alloc: Global,
     ends: Ends,

@@ -2,6 +2,7 @@
 use super::terminal::Terminal;
 use super::words::call_of;
 use clap::error::ErrorKind;
+use flow::running::Threading;
 use flow::serve::{Action, serve};
 use flow::stalls::Notes;
 use script_text::{ReadEnd, WriteEnd};
@@ -43,7 +44,7 @@ impl Clock for Ticking {
 }
 
 // What a run shows where a clock goes on by so many milliseconds each time, and what it ends in.
-fn shown<R: Threads + Wait + Copy + Send + Sync + 'static>(
+fn shown<R: Threads + Wait + Clock + Copy + Send + Sync + 'static>(
     rt: R,
     alloc: Global,
     step: u64,
@@ -89,10 +90,12 @@ fn a_run_shows_how_far_it_is(rt: HostRuntime) -> Result<(), Fail> {
     Ok(())
 }
 
+const RUN: Action = Action::Run(Threading::Adaptive);
+
 #[test]
 fn words_ask_for_calls(rt: HostRuntime) -> Result<(), Fail> {
     let alloc = rt.alloc();
-    let cases: [(&[&str], Action, bool); 10] = [
+    let cases: [(&[&str], Action, bool); 11] = [
         (&["flow", "check", "a.toml"], Action::Check, false),
         (
             &["flow", "check", "--feeds", "a.toml"],
@@ -104,10 +107,15 @@ fn words_ask_for_calls(rt: HostRuntime) -> Result<(), Fail> {
             Action::CheckFeeds,
             false,
         ),
-        (&["flow", "run", "a.toml"], Action::Run, false),
-        (&["flow", "run", "--quiet", "a.toml"], Action::Run, true),
-        (&["flow", "run", "-q", "a.toml"], Action::Run, true),
-        (&["flow", "run", "a.toml", "--quiet"], Action::Run, true),
+        (&["flow", "run", "a.toml"], RUN, false),
+        (&["flow", "run", "--quiet", "a.toml"], RUN, true),
+        (&["flow", "run", "-q", "a.toml"], RUN, true),
+        (&["flow", "run", "a.toml", "--quiet"], RUN, true),
+        (
+            &["flow", "run", "--thread-per-block", "a.toml"],
+            Action::Run(Threading::PerBlock),
+            false,
+        ),
         (
             &["flow", "run", "--one-thread", "a.toml"],
             Action::RunAlone,

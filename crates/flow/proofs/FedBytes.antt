@@ -20,7 +20,7 @@ use Rattle.raw_items.proofs.Pieces.{HasDecoded-more}
 use Rattle.flow.specs.declared.fault.Fault.TheVariants.{Script}
 use Rattle.flow.specs.declared.script.ScriptFault.TheVariants.{Memory}
 use Rattle.flow.specs.declared.raw_fault.EndFault.{EndFault}
-use Rattle.flow.specs.declared.raw_fault.EndFault.TheVariants.{NoSuchBlock, NotSource, NotSink, Closed, TapeFull, Read, Write, CutItem}
+use Rattle.flow.specs.declared.raw_fault.EndFault.TheVariants.{NoSuchBlock, NotSource, NotSink, Closed, TapeFull, Read, Write, CutItem, BadLine, TagPlace}
 use Rattle.flow.specs.declared.raw_fault.EndPlace.{EndPlace}
 use Rattle.flow.specs.declared.raw_fault.EndPlace.TheVariants.{Input}
 use Rattle.flow.specs.declared.raw_fault.RawFault.{RawFault}
@@ -71,6 +71,8 @@ wrong_feed net st b order rest bytes TapeFull h = h
 wrong_feed net st b order rest bytes Read h = absurd h
 wrong_feed net st b order rest bytes Write h = h
 wrong_feed net st b order rest bytes CutItem h = absurd h
+wrong_feed net st b order rest bytes (BadLine line) h = absurd h
+wrong_feed net st b order rest bytes (TagPlace line) h = absurd h
 
 -- so far an input was read, all whole items of it are fed, and the bytes behind them are held
 pub record Feeding (net : Network) (st now : State) (b : ℕ) (order : ByteOrder) (input input' : Option (List ℕ)) (decoder : Decoding) : Type 0 where

@@ -30,9 +30,6 @@ use Rattle.script_text.specs.Ends.{AppendsBeginning}
 use Rattle.flow.specs.Session.{in_state, turn}
 use Rattle.flow.specs.Reports.{run_text}
 use Rattle.flow.specs.Threads.{HasCome}
-use Rattle.stream_laws.specs.CanRun.{CanRun}
-use Rattle.machine_laws.proofs.Wholes.{all_done_is_whole}
-use Rattle.flow.specs.RawEnds.{ComesToRest}
 use Rattle.flow.specs.Serve.{Becomes, Fails, IsNoFile, Refuses, RunsNot, StopsLive, Writes, WritesNot, IsAtRest, IsLiveTo, IsRunTo, IsRunAloneTo, plant_in, stalled_in, reads_in, reads_failed, writes_in, writes_failed}
 use Rattle.flow.specs.declared.fault.Fault.{Fault}
 use Rattle.flow.specs.declared.fault.Fault.TheVariants.{File, Script, Run}
@@ -235,18 +232,6 @@ module _ (file text : List ℕ) (p r : PlantState Kind) (eq : Kind → Kind → 
         },
         stalled_is (opened_of p) (opened_of r) r.state done stalled same all left,
       )
-
--- a run in threads came to rest
-pub comes_to_rest : (p r : PlantState Kind) (eq : Kind → Kind → Bool) (settled : Settled) → CameBack meaning_of eq (handed_of (with_all_closed meaning_of p)) r →
-    p.capacities ≡ capacities_of (net_of meaning_of p.graph) (balance_of (net_of meaning_of p.graph)) → CanRun (net_of meaning_of r.graph) → Sound (net_of meaning_of r.graph) r.capacities r.state →
-    HasSettled (net_of meaning_of r.graph) r.capacities r.state settled → ComesToRest (opened_of p) (opened_of r)
-comes_to_rest p r eq settled back fit can sound rests =
-    record {
-      same = same_plant p r eq back.graph back.net back.capacities fit;
-      handed = back.handed;
-      sound = sound;
-      rests = at_rest (net_of meaning_of r.graph) r.capacities r.state settled rests (all_done_is_whole (net_of meaning_of r.graph) r.capacities r.state can sound);
-    }
 
 -- how a live run ended that came to rest
 module _ (eq : Kind → Kind → Bool) (o : OpeningState Kind) (history : List Noted) {P : Type 0} (out : Outcome Kind P) (p : PlantState Kind) where

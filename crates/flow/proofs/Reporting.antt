@@ -1,5 +1,5 @@
 -- Texts with a line for each block in turn.
-use Rattle.std.proofs.Common.{◌≡◌, ℕ, ◌+◌, ◌-◌, ◌≤◌, ◌<◌, min, List, [], ◌++◌, length, take, drop, Bool, true, false, not, refl, ap, sym, ◌∙◌, append_assoc, arith, ltb-true, ltb-false, nat_lt, ℤ}
+use Rattle.std.proofs.Common.{◌≡◌, ℕ, ◌+◌, ◌-◌, ◌≤◌, ◌<◌, min, List, [], ◌++◌, length, take, Bool, true, false, not, refl, ap, sym, ◌∙◌, append_assoc, arith, ltb-false, nat_lt, ℤ}
 use Rattle.std.specs.Prelude.{slice_range, slice_index_or, if◌then◌else◌}
 use Rattle.std.specs.List.{flat_map}
 use Rattle.stream_model.specs.Lists.{below}
@@ -22,8 +22,7 @@ use Rattle.plant.specs.declared.answers.Settled.TheVariants.{Done, Quiet}
 use Rattle.graph_file.specs.Blocks.{Draft}
 use Rattle.script_text.specs.Replies.{line_text}
 use Rattle.script_text.specs.Reports.{sink_text, done_text, stalled_text}
-use Rattle.stream_laws.proofs.InTime.{within-none}
-use Rattle.flow.specs.RawEnds.{count_line, held_count, rest_line}
+use Rattle.flow.specs.RawEnds.{rest_line}
 use Rattle.flow.specs.Reports.{sink_line, held_line, name_at, settled_text}
 
 -- one block more
@@ -39,9 +38,6 @@ pub settled_is : (net : Network) (caps : Capacities) (st : State) (settled : Set
 settled_is net caps st Done h = sym (ap (λ (b : Bool). if b then done_text else stalled_text) h)
 settled_is net caps st Quiet h = sym (ap (λ (b : Bool). if b then done_text else stalled_text) h.0)
 
-pub sink_kept : (d : Draft) (st : State) (b : ℕ) → is_keeper (role_at d.net b) ≡ true → sink_line d st b ≡ held_line d st b
-sink_kept d st b keeps = ap (λ (k : Bool). if k then held_line d st b else []) keeps
-
 pub sink_none : (d : Draft) (st : State) (b : ℕ) → is_keeper (role_at d.net b) ≡ false → sink_line d st b ≡ []
 sink_none d st b keeps = ap (λ (k : Bool). if k then held_line d st b else []) keeps
 
@@ -49,93 +45,16 @@ not_true : (b : Bool) → not b ≡ true → b ≡ false
 not_true true e = cc
 not_true false e = refl
 
-module _ (net : Network) (st : State) (b max : ℕ) where
-  -- what a sink shows up to an item
-  abbrev shown : ℕ → Reply
-  shown to = machine.Piece 0 (progress_at st.progress b).firings (slice_range (input (entering net st.handed b) 0) 0 to) (tags_within 0 to (tags_entering net st.handed b 0)) (progress_at st.progress b).done
-
-  -- a piece is that of a sink
-  abbrev IsOfSink : Reply → Type 0
-  IsOfSink piece = (is_keeper (role_at net b) ≡ true) × (piece ≡ shown (min (0 + max) (progress_at st.progress b).firings))
-
-  -- only a sink shows a piece
-  piece_of : (from held : ℕ) (items : List ℤ) (tags : List Tag) (done : Bool) → machine.Piece from held items tags done ≡ (read_of net st b 0 max).0 → IsOfSink (machine.Piece from held items tags done)
-  unfolding read_of
-  piece_of from held items tags done e =
-      let Shows : Reply × State → Type 0 = λ (r : Reply × State). machine.Piece from held items tags done ≡ r.0 → IsOfSink (machine.Piece from held items tags done) in
-      if_both (not (nat_lt b (length net.nodes))) _ _ Shows
-      (λ _ h. absurd (cc))
-      (λ _. if_both (not (is_keeper (role_at net b))) _ _ Shows
-      (λ _ h. absurd (cc))
-      (λ keeps. if_both (nat_lt (progress_at st.progress b).firings 0) _ _ Shows
-      (λ _ h. absurd (cc))
-      (λ _ h. (not_false _ keeps, h)))) e
-
-  -- only what is no sink is refused as none
-  pub no_sink : b < length net.nodes → machine.Refused machine.not_sink ≡ (read_of net st b 0 max).0 → is_keeper (role_at net b) ≡ false
-  unfolding read_of
-  no_sink inside e =
-      let Shows : Reply × State → Type 0 = λ (r : Reply × State). machine.Refused machine.not_sink ≡ r.0 → is_keeper (role_at net b) ≡ false in
-      if_both (not (nat_lt b (length net.nodes))) _ _ Shows
-      (λ out h. let past = ltb-false b (length net.nodes) (not_true _ out) in absurd (omega arith))
-      (λ _. if_both (not (is_keeper (role_at net b))) _ _ Shows
-      (λ keeps h. not_true _ keeps)
-      (λ keeps. if_both (nat_lt (progress_at st.progress b).firings 0) _ _ Shows
-      (λ few h. let less = ltb-true (progress_at st.progress b).firings 0 few in absurd (omega arith))
-      (λ _ h. absurd (cc)))) e
-
--- a piece of all that a sink holds
-pub piece_line : (d : Draft) (st : State) (b max from held : ℕ) (items : List ℤ) (tags : List Tag) (done : Bool) (name : List ℕ) → held ≤ max → name_at d b ≡ name →
-    machine.Piece from held items tags done ≡ (read_of d.net st b 0 max).0 → line_text (sink_text name held items tags) ≡ sink_line d st b
-piece_line d st b max from held items tags done name few named e =
-    let s = progress_at st.progress b in
-    let taken = input (entering d.net st.handed b) 0 in
-    let entered = tags_entering d.net st.handed b 0 in
-    let of = piece_of d.net st b max from held items tags done e in
-    let count : held ≡ s.firings = cc (of.1) in
-    let all : min (0 + max) s.firings ≡ s.firings = omega arith in
-    let whole : min (0 + max) s.firings - 0 ≡ s.firings = omega arith in
-    let shows : items ≡ slice_range taken 0 (min (0 + max) s.firings) = cc (of.1) in
-    let tagged : tags ≡ tags_within 0 (min (0 + max) s.firings) entered = cc (of.1) in
-    let items_are : items ≡ take s.firings taken = shows ∙ ap (λ (k : ℕ). take k (drop 0 taken)) whole in
-    let tags_are : tags ≡ tags_within 0 s.firings entered = tagged ∙ ap (λ (k : ℕ). tags_within 0 k entered) all in
-    ap (λ (l : List ℕ). line_text (sink_text l held items tags)) (sym named)
-    ∙ ap (λ k. line_text (sink_text (name_at d b) k items tags)) count
-    ∙ ap (λ l. line_text (sink_text (name_at d b) s.firings l tags)) items_are
-    ∙ ap (λ l. line_text (sink_text (name_at d b) s.firings (take s.firings taken) l)) tags_are
-    ∙ sym (sink_kept d st b of.0)
-
-pub count_none : (d : Draft) (st : State) (b : ℕ) → is_keeper (role_at d.net b) ≡ false → count_line d st b ≡ []
-count_none d st b keeps = ap (λ (k : Bool). if k then line_text (sink_text (name_at d b) (held_count st b) [] []) else []) keeps
-
--- a piece of nothing that a sink holds
-pub piece_count : (d : Draft) (st : State) (b from held : ℕ) (items : List ℤ) (tags : List Tag) (done : Bool) (name : List ℕ) → name_at d b ≡ name →
-    machine.Piece from held items tags done ≡ (read_of d.net st b 0 0).0 → line_text (sink_text name held items tags) ≡ count_line d st b
-piece_count d st b from held items tags done name named e =
-    let s = progress_at st.progress b in
-    let taken = input (entering d.net st.handed b) 0 in
-    let entered = tags_entering d.net st.handed b 0 in
-    let of = piece_of d.net st b 0 from held items tags done e in
-    let count : held ≡ s.firings = cc (of.1) in
-    let none : min (0 + 0) s.firings ≡ 0 = omega arith in
-    let shows : items ≡ slice_range taken 0 (min (0 + 0) s.firings) = cc (of.1) in
-    let tagged : tags ≡ tags_within 0 (min (0 + 0) s.firings) entered = cc (of.1) in
-    let items_are : items ≡ [] = shows ∙ ap (λ (k : ℕ). slice_range taken 0 k) none in
-    let tags_are : tags ≡ [] = tagged ∙ ap (λ (k : ℕ). tags_within 0 k entered) none ∙ within-none 0 entered in
-    ap (λ (l : List ℕ). line_text (sink_text l held items tags)) (sym named)
-    ∙ ap (λ k. line_text (sink_text (name_at d b) k items tags)) count
-    ∙ ap (λ l. line_text (sink_text (name_at d b) s.firings l tags)) items_are
-    ∙ ap (λ l. line_text (sink_text (name_at d b) s.firings [] l)) tags_are
-    ∙ sym (ap (λ (k : Bool). if k then line_text (sink_text (name_at d b) (held_count st b) [] []) else []) of.0)
-
--- the same of what was not drained
 module _ (net : Network) (st : State) (b at max : ℕ) where
+  -- what a sink shows from an item up to another
   abbrev rest : ℕ → Reply
   rest to = machine.Piece at (progress_at st.progress b).firings (slice_range (input (entering net st.handed b) 0) at to) (tags_within at to (tags_entering net st.handed b 0)) (progress_at st.progress b).done
 
+  -- a piece is that of a sink
   abbrev IsRest : Reply → Type 0
   IsRest piece = (is_keeper (role_at net b) ≡ true) × (piece ≡ rest (min (at + max) (progress_at st.progress b).firings))
 
+  -- only a sink shows a piece
   rest_of : (from held : ℕ) (items : List ℤ) (tags : List Tag) (done : Bool) → machine.Piece from held items tags done ≡ (read_of net st b at max).0 → IsRest (machine.Piece from held items tags done)
   unfolding read_of
   rest_of from held items tags done e =
@@ -148,6 +67,7 @@ module _ (net : Network) (st : State) (b at max : ℕ) where
       (λ _ h. absurd (cc))
       (λ _ h. (not_false _ keeps, h)))) e
 
+  -- only what is no sink is refused as none
   pub no_rest : b < length net.nodes → machine.Refused machine.not_sink ≡ (read_of net st b at max).0 → is_keeper (role_at net b) ≡ false
   unfolding read_of
   no_rest inside e =
@@ -163,6 +83,7 @@ module _ (net : Network) (st : State) (b at max : ℕ) where
 pub rest_none : (d : Draft) (st : State) (drained : List ℕ) (b : ℕ) → is_keeper (role_at d.net b) ≡ false → rest_line d st drained b ≡ []
 rest_none d st drained b keeps = rw keeps refl
 
+-- a piece of what was not drained
 pub rest_piece : (d : Draft) (st : State) (drained : List ℕ) (b max from held : ℕ) (items : List ℤ) (tags : List Tag) (done : Bool) (name : List ℕ) → held ≤ max → name_at d b ≡ name →
     machine.Piece from held items tags done ≡ (read_of d.net st b (slice_index_or drained b 0) max).0 → line_text (sink_text name held items tags) ≡ rest_line d st drained b
 rest_piece d st drained b max from held items tags done name few named e =
@@ -182,3 +103,12 @@ rest_piece d st drained b max from held items tags done name few named e =
     ∙ ap (λ k. line_text (sink_text (name_at d b) k items tags)) count
     ∙ ap (λ l. line_text (sink_text (name_at d b) s.firings l tags)) items_are
     ∙ ap (λ l. line_text (sink_text (name_at d b) s.firings (slice_range taken at s.firings) l)) tags_are)
+
+-- a piece of all that a sink holds
+pub piece_line : (d : Draft) (st : State) (b max from held : ℕ) (items : List ℤ) (tags : List Tag) (done : Bool) (name : List ℕ) → held ≤ max → name_at d b ≡ name →
+    machine.Piece from held items tags done ≡ (read_of d.net st b 0 max).0 → line_text (sink_text name held items tags) ≡ sink_line d st b
+piece_line d st b max from held items tags done name few named e =
+    let count = (progress_at st.progress b).firings in
+    let all : count - 0 ≡ count = omega arith in
+    let line : ℕ → List ℕ = λ (k : ℕ). line_text (sink_text (name_at d b) count (take k (input (entering d.net st.handed b) 0)) (tags_within 0 count (tags_entering d.net st.handed b 0))) in
+    rest_piece d st [] b max from held items tags done name few named e ∙ ap (λ (k : ℕ). if is_keeper (role_at d.net b) then line k else []) all

@@ -1,13 +1,10 @@
 -- Runs of plants that were fed raw items, and what is written of their sinks.
-use Rattle.std.specs.Prelude.{◌≡◌, ℕ, ◌==◌, ℤ, List, [], ◌∷◌, ◌++◌, ◌≤◌, ◌+◌, min, slice_range, slice_index_or, false, length, map, take, Bool, Option, if◌then◌else◌}
-use Rattle.std.specs.List.{list_any, flat_map}
+use Rattle.std.specs.Prelude.{◌≡◌, ℕ, ℤ, List, [], ◌≤◌, ◌+◌, min, slice_range, slice_index_or, false, length, map, take, Option, if◌then◌else◌}
+use Rattle.std.specs.List.{flat_map}
 use Rattle.stream_model.specs.declared.vocabulary.ItemType.{ItemType}
 use Rattle.stream_model.specs.Meaning.{input}
 use Rattle.stream_model.specs.Tags.{Tag, tags_within}
 use Rattle.stream_model.specs.Network.{Network, State, node_at, progress_at, role_at, is_keeper, entering, tags_entering}
-use Rattle.stream_model.specs.Machine.{is_all_done}
-use Rattle.machine_laws.specs.Sound.{Sound}
-use Rattle.flowgraph.specs.declared.parts.BlockId.{BlockId}
 use Rattle.items.specs.Items.{type_of, numbers_of}
 use Rattle.items.specs.Tags.{tag_of}
 use Rattle.plant.specs.declared.answers.Piece.{Piece}
@@ -19,27 +16,20 @@ use Rattle.raw_items.specs.Values.{all_bytes_of}
 use Rattle.script_text.specs.Ends.{AppendsBeginning}
 use Rattle.script_text.specs.Replies.{line_text}
 pub use Rattle.script_text.specs.Replies.{tag_line}
-use Rattle.script_text.specs.Reports.{sink_text, done_text, stalled_text}
+use Rattle.script_text.specs.Reports.{sink_text}
 use Rattle.top_block.specs.Closing.{closed}
 use Rattle.flow.specs.declared.fault.Fault.TheVariants.{Script}
 use Rattle.flow.specs.declared.script.ScriptFault.TheVariants as script
 use Rattle.flow.specs.declared.raw_fault.EndFault.{EndFault}
-use Rattle.flow.specs.declared.raw_fault.EndFault.TheVariants.{NoSuchBlock, NotSource, NotSink, Closed, TapeFull, Read, Write, CutItem}
+use Rattle.flow.specs.declared.raw_fault.EndFault.TheVariants.{NoSuchBlock, NotSource, NotSink, Closed, TapeFull, Read, Write, CutItem, BadLine, TagPlace}
 use Rattle.flow.specs.declared.raw_fault.EndPlace.{EndPlace}
 use Rattle.flow.specs.declared.raw_fault.RawFault.{RawFault}
 use Rattle.flow.specs.declared.raw_fault.RawFault.TheVariants.{Whole, End}
-use Rattle.flow.specs.Reports.{each_block, name_at, sink_line}
+use Rattle.flow.specs.Reports.{each_block, name_at}
 use Rattle.flow.specs.Serve.{IsAtRest}
 use Rattle.flow.specs.Session.{turn}
 
--- a plant whose sources were closed came to rest in threads, with what it was handed. Which block fired when is nowhere said
-pub record ComesToRest (old new : Opened) : Type 0 where
-  pub same : new ≡ record old { state = new.state }
-  pub handed : new.state.handed ≡ (closed old.draft.net old.state).handed
-  pub sound : Sound new.draft.net new.capacities new.state
-  pub rests : IsAtRest new.draft.net new.capacities new.state
-
--- the same on one thread: it went on, block by block
+-- a plant whose sources were closed came to rest, block by block
 pub record StepsToRest (old new : Opened) : Type 0 where
   pub same : new ≡ record old { state = new.state }
   pub steps : StepsLead old.draft.net old.capacities turn (closed old.draft.net old.state) new.state
@@ -83,6 +73,8 @@ IsNoSink net b TapeFull = ⊥
 IsNoSink net b Read = ⊥
 IsNoSink net b Write = ⊥
 IsNoSink net b CutItem = ⊥
+IsNoSink net b (BadLine line) = ⊥
+IsNoSink net b (TagPlace line) = ⊥
 
 -- why a text of block b was not written whole: it is no sink, and nothing was written; or a write failed, behind a beginning
 abbrev pub IsUnwritten : Network → ℕ → Option (List ℕ) → Option (List ℕ) → List ℕ → EndFault → Type 0
@@ -93,20 +85,6 @@ IsUnwritten net b out out' text fault = IsNoSink net b fault × (out' ≡ out)
 abbrev pub StopsWriting : Network → ℕ → EndPlace → Option (List ℕ) → Option (List ℕ) → List ℕ → RawFault → Type 0
 StopsWriting net b place out out' text (End at fault) = (at ≡ place) × IsUnwritten net b out out' text fault
 StopsWriting net b place out out' text (Whole fault) = (fault ≡ Script script.Memory) × AppendsBeginning out out' text
-
--- of a sink whose items are written elsewhere it is only told how many it holds
-abbrev pub count_line : Draft → State → ℕ → List ℕ
-count_line d st b = if is_keeper (role_at d.net b) then line_text (sink_text (name_at d b) (held_count st b) [] []) else []
-
-abbrev pub is_elsewhere : List BlockId → ℕ → Bool
-is_elsewhere elsewhere b = list_any (λ sink. sink.0 == b) elsewhere
-
-abbrev pub told_line : Draft → State → List BlockId → ℕ → List ℕ
-told_line d st elsewhere b = if is_elsewhere elsewhere b then count_line d st b else sink_line d st b
-
--- the report of a run that came to rest in a state, where what these sinks hold is written elsewhere
-abbrev pub raw_text : Draft → State → List BlockId → List ℕ
-raw_text d st elsewhere = each_block d (told_line d st elsewhere) ++ line_text (if is_all_done st then done_text else stalled_text)
 
 -- of a sink how many items it has taken, and those that were not drained of it, with their tags
 abbrev pub rest_line : Draft → State → List ℕ → ℕ → List ℕ

@@ -13,7 +13,7 @@ use Rattle.raw_items.specs.Values.{items_of}
 use Rattle.flow.specs.declared.fault.Fault.TheVariants.{Script}
 use Rattle.flow.specs.declared.script.ScriptFault.TheVariants as script
 use Rattle.flow.specs.declared.raw_fault.EndFault.{EndFault}
-use Rattle.flow.specs.declared.raw_fault.EndFault.TheVariants.{NoSuchBlock, NotSource, NotSink, Closed, TapeFull, Read, Write, CutItem}
+use Rattle.flow.specs.declared.raw_fault.EndFault.TheVariants.{NoSuchBlock, NotSource, NotSink, Closed, TapeFull, Read, Write, CutItem, BadLine, TagPlace}
 use Rattle.flow.specs.declared.raw_fault.EndPlace.{EndPlace}
 use Rattle.flow.specs.declared.raw_fault.EndPlace.TheVariants.{Input}
 use Rattle.flow.specs.declared.raw_fault.RawFault.{RawFault}
@@ -51,6 +51,8 @@ IsRefusedFor reply TapeFull = reply ≡ machine.Refused machine.tape_full
 IsRefusedFor reply Read = ⊥
 IsRefusedFor reply Write = ⊥
 IsRefusedFor reply CutItem = ⊥
+IsRefusedFor reply (BadLine line) = ⊥
+IsRefusedFor reply (TagPlace line) = ⊥
 
 -- what is wrong behind these bytes of an input: the source does not take the items that they are, no more could be read, or the input ends there
 -- within an item

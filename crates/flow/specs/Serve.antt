@@ -199,7 +199,7 @@ abbrev pub Does : Action → List ℕ → Option (List ℕ) → Option (List ℕ
 Does action.Check file input input' out out' status stalled = (input' ≡ input) × Writes (IsCheck file) out out' status × (stalled ≡ None)
 Does action.CheckFeeds file input input' out out' status stalled = (input' ≡ input) × Writes (IsCheckOfFeeds file) out out' status × (stalled ≡ None)
 Does (action.Draw format) file input input' out out' status stalled = (input' ≡ input) × Writes (IsPicture format file) out out' status × (stalled ≡ None)
-Does action.Run file input input' out out' status stalled = (input' ≡ input) × Writes (IsRunTo file stalled) out out' status
+Does (action.Run threading) file input input' out out' status stalled = (input' ≡ input) × Writes (IsRunTo file stalled) out out' status
 Does action.RunAlone file input input' out out' status stalled = (input' ≡ input) × Writes (IsRunAloneTo file stalled) out out' status
 Does action.Live file input input' out out' status stalled = (between : Option (List ℕ)) × Writes (IsLiveTo file stalled) between out' status
 Does action.Script file input input' out out' status stalled = IsScript file input input' out out' × (status ≡ 0) × (stalled ≡ None)
@@ -209,7 +209,7 @@ abbrev pub DoesNot : Action → List ℕ → Option (List ℕ) → Option (List 
 DoesNot action.Check file input input' out out' fault = (input' ≡ input) × WritesNot (IsCheck file) (graph_in file) out out' fault
 DoesNot action.CheckFeeds file input input' out out' fault = (input' ≡ input) × WritesNot (IsCheckOfFeeds file) (plant_in file) out out' fault
 DoesNot (action.Draw format) file input input' out out' fault = (input' ≡ input) × WritesNot (IsPicture format file) (graph_in file) out out' fault
-DoesNot action.Run file input input' out out' fault = (input' ≡ input) × RunsNot (IsRun file) (plant_in file) out out' fault
+DoesNot (action.Run threading) file input input' out out' fault = (input' ≡ input) × RunsNot (IsRun file) (plant_in file) out out' fault
 DoesNot action.RunAlone file input input' out out' fault = (input' ≡ input) × WritesNot (IsRunAlone file) (plant_in file) out out' fault
 DoesNot action.Live file input input' out out' fault = StopsLive file input input' out out' fault
 DoesNot action.Script file input input' out out' fault = StopsScript file input input' out out' fault
@@ -246,7 +246,7 @@ abbrev pub Grows : Action → ℕ → ℕ → ℕ → Type 0
 Grows action.Check old new n = new ≡ old + n
 Grows action.CheckFeeds old new n = new ≡ old + n
 Grows (action.Draw format) old new n = new ≡ old + n
-Grows action.Run old new n = new ≡ old + n
+Grows (action.Run threading) old new n = new ≡ old + n
 Grows action.RunAlone old new n = new ≡ old + n
 Grows action.Live old new n = ⊤
 Grows action.Script old new n = new ≡ old + n

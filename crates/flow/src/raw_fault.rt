@@ -1,6 +1,7 @@
 //! Why a run with raw items stops, and how it says so.
 
 ghost use Rattle.std.specs.Prelude.{◌≡◌, ◌++◌, codes};
+ghost use Rattle.std.specs.Fmt.{decimal};
 ghost use Rattle.flow.specs.declared.fault.Fault.TheVariants.{Script};
 ghost use Rattle.flow.specs.declared.raw_fault.RawFault.TheVariants.{Whole};
 ghost use Rattle.flow.specs.declared.script.ScriptFault.TheVariants.{Memory};
@@ -35,6 +36,10 @@ pub enum EndFault {
     Write,
     /// The input ends within an item.
     CutItem,
+    /// The line of this number, from 1, is no mark.
+    BadLine(u64),
+    /// The mark in the line of this number is on an item before that of the line above it, or on none of the items of the input.
+    TagPlace(u64),
 }
 
 /// Which end of a run, each counted from 0.
@@ -46,6 +51,8 @@ pub enum EndPlace {
     Output(usize),
     /// An output of tags.
     Tags(usize),
+    /// An input of marks.
+    Marks(usize),
 }
 
 /// Why a run with raw items stopped. Its text is the number of the refusal, its name, and what the name alone does not say.
@@ -70,6 +77,8 @@ impl Refusal for EndFault {
             EndFault::Read => (51, "Read"),
             EndFault::Write => (52, "Write"),
             EndFault::CutItem => (53, "CutItem"),
+            EndFault::BadLine(_) => (50, "BadLine"),
+            EndFault::TagPlace(_) => PlantFault::TagPlace.row(),
         }
     }
 }
@@ -83,6 +92,7 @@ impl EndPlace {
             EndPlace::Input(_) => " input ",
             EndPlace::Output(_) => " output ",
             EndPlace::Tags(_) => " tags ",
+            EndPlace::Marks(_) => " marks ",
         }
     }
 
@@ -90,7 +100,10 @@ impl EndPlace {
         ensures { result ≡ place_number self }
     {
         match self {
-            EndPlace::Input(number) | EndPlace::Output(number) | EndPlace::Tags(number) => number,
+            EndPlace::Input(number)
+            | EndPlace::Output(number)
+            | EndPlace::Tags(number)
+            | EndPlace::Marks(number) => number,
         }
     }
 }
@@ -128,8 +141,33 @@ impl RawFault {
     {
         match self {
             RawFault::Whole(fault) => fault.pieces(),
-            RawFault::End(place, fault) => placed(fault.row(), *place),
+            RawFault::End(place, fault) => match fault {
+                EndFault::BadLine(line) | EndFault::TagPlace(line) => {
+                    placed_line(fault.row(), *place, *line)
+                }
+                _ => placed(fault.row(), *place),
+            },
         }
+    }
+}
+
+// The number and the name of a fault, its place, and the number of a line there.
+fn placed_line(row: (u32, &'static str), place: EndPlace, line: u64) -> Pieces<'static>
+    ensures { joined result ≡ head (row.entry.0, row.entry.1.now) ++ place_text place ++ codes " " ++ decimal line }
+{
+    let (number, name) = row;
+    Pieces {
+        list: [
+            Piece::Number(u64::from(number)),
+            Piece::Text(" "),
+            Piece::Text(name),
+            Piece::Text(place.word()),
+            Piece::Number(place.number() as u64),
+            Piece::Text(" "),
+            Piece::Number(line),
+            Piece::Text(""),
+            Piece::Text(""),
+        ],
     }
 }
 

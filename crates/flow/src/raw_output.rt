@@ -23,7 +23,7 @@ use std::alloc::{AllocError, Global};
 const PIECE: u64 = 65_536;
 
 /// Writes the bytes of all items that a sink holds.
-pub(crate) fn write_items<O: ByteOut>(
+pub fn write_items<O: ByteOut>(
     alloc: Global,
     plant: &Plant<Kind>,
     place: EndPlace,
@@ -55,7 +55,7 @@ pub(crate) fn write_items<O: ByteOut>(
 }
 
 /// Writes a line for each tag on the items that a sink holds.
-pub(crate) fn write_tags<O: ByteOut>(
+pub fn write_tags<O: ByteOut>(
     alloc: Global,
     plant: &Plant<Kind>,
     place: EndPlace,

@@ -10,9 +10,8 @@ ghost use Rattle.plant.specs.Feeding.{given_type};
 ghost use Rattle.graph_file.specs.declared.fault.FileFault.{FileFault};
 ghost use Rattle.graph_file.specs.Opening.{opened_of};
 ghost use Rattle.graph_file.specs.Refusals.{IsRefused};
-ghost use Rattle.flow.specs.declared.fault.Fault.TheVariants.{File, Run};
-ghost use Rattle.threads.specs.declared.fault.RunError.{RunError};
-ghost use Rattle.flow.specs.RawEnds.{ComesToRest, StepsToRest};
+ghost use Rattle.flow.specs.declared.fault.Fault.TheVariants.{File};
+ghost use Rattle.flow.specs.RawEnds.{StepsToRest};
 ghost use Rattle.flow.specs.declared.raw_fault.RawFault.TheVariants.{Whole, End};
 ghost use Rattle.flow.specs.declared.raw_fault.EndFault.TheVariants.{CutItem};
 ghost use Rattle.plant.specs.Answers.{source_type_of};
@@ -22,22 +21,18 @@ ghost use Rattle.flow.specs.Session.{in_state};
 ghost use Rattle.flow.specs.RawFeeds.{IsFedBy, IsOfEnd, IsRefusedFor, IsWrong, StopsFeeding, raw_reads, source_at, sink_at};
 
 use crate::fault::Fault;
-use crate::ran_raw::RanRaw;
 use crate::raw_fault::{EndFault, EndPlace, RawFault};
-use crate::running::run_plant;
 use crate::serve::{TURN, open_plant};
 use crate::session::find_named;
 use flowgraph::{BlockId, Valid};
 use items::{ItemType, Items};
 use kinds::Kind;
-use plant::{Plant, PlantFault, Watch};
+use plant::{Plant, PlantFault};
 use raw_items::{ByteOrder, Decoder};
 use script_text::ByteIn;
 use std::alloc::{AllocError, Global};
 use std::fmt;
 use std::marker::Model;
-use std::sync::Wait;
-use std::thread::Threads;
 use top_block::close_all;
 
 // How many bytes of an input are read at once, at most.
@@ -106,35 +101,14 @@ impl RawRun {
         feed_plant(alloc, &mut self.plant, number, source, order, input)
     }
 
-    /// Closes each source and runs the plant in threads until it comes to rest, and shows it to `watch` while it goes on.
-    pub fn run<R: Threads + Wait + Copy + Send + 'static, W: Watch>(
-        self,
-        rt: R,
-        alloc: Global,
-        watch: &mut W,
-    ) -> Result<RanRaw, RawFault>
-        ensures rests { IfOk result (λ ran. ComesToRest (opened_of self) (opened_of ran)) }
-        ensures failed { IfErr result (λ fault. (why : RunError) × (fault ≡ Whole (Run why))) }
-    {
-        let RawRun { plant } = self;
-        plant.recall();
-        match run_plant(rt, alloc, plant, watch) {
-            Ok((plant, settled)) => {
-                plant.recall();
-                Ok(RanRaw::new(plant, settled))
-            }
-            Err(fault) => Err(RawFault::Whole(Fault::Run(fault.error()))),
-        }
-    }
-
-    /// The same on one thread, block by block.
-    pub fn run_alone<W: Watch>(self, alloc: Global, watch: &mut W) -> Result<RanRaw, AllocError>
-        ensures { IfOk result (λ ran. StepsToRest (opened_of self) (opened_of ran)) }
+    /// Closes each source, and lets the plant settle, block by block.
+    pub fn settle(self, alloc: Global) -> Result<Plant<Kind>, AllocError>
+        ensures { IfOk result (λ plant. StepsToRest (opened_of self) (opened_of plant)) }
     {
         let RawRun { mut plant } = self;
         close_all(&mut plant);
-        let settled = plant.settle_watched(alloc, TURN, watch)?;
-        Ok(RanRaw::new(plant, settled))
+        plant.settle(alloc, TURN)?;
+        Ok(plant)
     }
 }
 

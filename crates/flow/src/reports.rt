@@ -10,7 +10,7 @@ ghost use Rattle.graph_file.specs.Blocks.{drafted};
 ghost use Rattle.script_text.specs.Replies.{line_text};
 ghost use Rattle.script_text.specs.Printed.{reported, tags_seen};
 ghost use Rattle.script_text.specs.Reports.{sink_text};
-ghost use Rattle.flow.specs.RawEnds.{count_line, is_elsewhere, raw_text, rest_line, streamed_text, told_line};
+ghost use Rattle.flow.specs.RawEnds.{rest_line, streamed_text};
 ghost use Rattle.flow.specs.Reports.{check_text, rates_text, run_text, each_block, firings_line, sink_line, settled_text};
 
 use flowgraph::{BlockId, Valid};
@@ -97,24 +97,6 @@ pub(crate) fn ended(
     Ok(text)
 }
 
-/// The same, where what these sinks hold is written elsewhere: of them it tells only how many items.
-pub(crate) fn ended_but(
-    alloc: Global,
-    plant: &Plant<Kind>,
-    settled: Settled,
-    elsewhere: &[BlockId],
-) -> Result<Vec<u8>, AllocError>
-    requires { HasSettled (net_of meaning_of plant.now.graph) plant.now.capacities plant.now.state settled }
-    ensures { IfOk result (λ text. text.items ≡ raw_text (drafted plant.now.graph) plant.now.state elsewhere.now) }
-{
-    let mut text = Vec::new(alloc);
-    for block in 0..plant.graph().len() {
-        add_told(alloc, &mut text, plant, elsewhere, BlockId(block as u32))?;
-    }
-    add_end(alloc, &mut text, settled)?;
-    Ok(text)
-}
-
 /// The report on a run of a plant that streams: how many items each sink has taken with those that were not drained, and how the run ended.
 pub fn streamed(
     alloc: Global,
@@ -148,52 +130,6 @@ fn add_rest(
         }
         Err(PlantFault::NotSink) => Ok(()),
         // (as below)
-        Err(_) => Err(AllocError),
-    }
-}
-
-// What a block holds, or how many items where they are written elsewhere.
-fn add_told(
-    alloc: Global,
-    text: &mut Vec<u8>,
-    plant: &Plant<Kind>,
-    elsewhere: &[BlockId],
-    block: BlockId,
-) -> Result<(), AllocError>
-    requires { block.0 < length plant.now.graph.blocks }
-    ensures { OnOk result (text.new.items ≡ text.old.items ++ told_line (drafted plant.now.graph) plant.now.state elsewhere.now block.0) }
-{
-    if is_elsewhere(elsewhere, block) {
-        add_count(alloc, text, plant, block)
-    } else {
-        add_sink(alloc, text, plant, block)
-    }
-}
-
-// Whether what a block holds is written elsewhere.
-fn is_elsewhere(elsewhere: &[BlockId], block: BlockId) -> bool
-    ensures { result ≡ is_elsewhere elsewhere.now block.0 }
-{
-    elsewhere.iter().any(|sink| sink.0 == block.0)
-}
-
-// How many items a block holds, where it keeps them.
-fn add_count(
-    alloc: Global,
-    text: &mut Vec<u8>,
-    plant: &Plant<Kind>,
-    block: BlockId,
-) -> Result<(), AllocError>
-    requires { block.0 < length plant.now.graph.blocks }
-    ensures { OnOk result (text.new.items ≡ text.old.items ++ count_line (drafted plant.now.graph) plant.now.state block.0) }
-{
-    match plant.read(alloc, block, 0, 0) {
-        Ok(piece) => {
-            let name = plant.graph().name(block);
-            add_held(alloc, text, name, piece.held, &piece)
-        }
-        Err(PlantFault::NotSink) => Ok(()),
-        // (as above)
         Err(_) => Err(AllocError),
     }
 }

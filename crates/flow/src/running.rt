@@ -1,11 +1,11 @@
 //! A plant that runs in threads until it comes to rest.
 
-ghost use Rattle.std.specs.Prelude.{◌≡◌, true, IfOk, IfErr};
+ghost use Rattle.std.specs.Prelude.{◌≡◌, true, false, IfOk, IfErr};
 ghost use Rattle.stream_model.specs.Machine.{is_idle};
 ghost use Rattle.flowgraph.specs.Flowgraph.{net_of};
 ghost use Rattle.kinds.specs.Kind.{meaning_of};
 ghost use Rattle.plant.specs.Settling.{HasSettled};
-ghost use Rattle.threads.specs.Outcomes.{CameBack, GivesBack, handed_of};
+ghost use Rattle.threads.specs.Outcomes.{CameBack, EndsIn, GivesBack, handed_of};
 ghost use Rattle.top_block.specs.Closing.{with_all_closed};
 
 use kinds::Kind;
@@ -13,17 +13,28 @@ use plant::{Plant, Settled, Watch};
 use std::alloc::Global;
 use std::sync::Wait;
 use std::thread::Threads;
+use std::time::Clock;
 use threads::{Outcome, RunFault, Turns};
 use top_block::TopBlock;
 
 // How many firings a worker claims at once, at most.
 const TURN: u32 = 65_536;
 
+/// In how many threads a run is.
+#[derive(Clone, Copy, Debug, PartialEq, Eq)]
+pub enum Threading {
+    /// In as many as its work is worth: on the thread of the caller while it is cheap.
+    Adaptive,
+    /// In one for each block.
+    PerBlock,
+}
+
 /// Closes the sources of a plant, runs it in threads, and shows it to `watch` until it comes to rest. It gives the plant back as it is then, and
 /// a run that fails gives it back in its fault.
-pub(crate) fn run_plant<R: Threads + Wait + Copy + Send + 'static, W: Watch>(
+pub(crate) fn run_plant<R: Threads + Wait + Clock + Copy + Send + 'static, W: Watch>(
     rt: R,
     alloc: Global,
+    threading: Threading,
     plant: Plant<Kind>,
     watch: &mut W,
 ) -> Result<(Plant<Kind>, Settled), RunFault<Kind>>
@@ -32,15 +43,34 @@ pub(crate) fn run_plant<R: Threads + Wait + Copy + Send + 'static, W: Watch>(
     ensures settled { IfOk result (λ r. HasSettled (net_of meaning_of r.0.graph) r.0.capacities r.0.state r.1) }
     ensures fails { IfErr result (GivesBack meaning_of ⟦<Kind as PartialEq>⟧.eq (handed_of (with_all_closed meaning_of plant))) }
 {
-    match TopBlock::from_plant(plant).start_turns(rt, alloc, turns()) {
-        Ok(running) => match running.wait_watched(&rt, watch) {
-            Ok(Outcome::Done(plant)) => Ok((plant, Settled::Done)),
-            Ok(Outcome::Stalled(plant)) => Ok((plant, Settled::Quiet)),
-            // Nobody asks for a stop.
-            Ok(Outcome::Stopped(_)) => unreachable!(),
+    match ended_in(rt, alloc, threading, plant, watch) {
+        Ok(Outcome::Done(plant)) => Ok((plant, Settled::Done)),
+        Ok(Outcome::Stalled(plant)) => Ok((plant, Settled::Quiet)),
+        // Nobody asks for a stop.
+        Ok(Outcome::Stopped(_)) => unreachable!(),
+        Err(fault) => Err(fault),
+    }
+}
+
+// How a run ended in so many threads.
+fn ended_in<R: Threads + Wait + Clock + Copy + Send + 'static, W: Watch>(
+    rt: R,
+    alloc: Global,
+    threading: Threading,
+    plant: Plant<Kind>,
+    watch: &mut W,
+) -> Result<Outcome<Kind>, RunFault<Kind>>
+    requires { is_idle plant.state ≡ true }
+    ensures ok { IfOk result (EndsIn meaning_of ⟦<Kind as PartialEq>⟧.eq (handed_of (with_all_closed meaning_of plant)) false) }
+    ensures err { IfErr result (GivesBack meaning_of ⟦<Kind as PartialEq>⟧.eq (handed_of (with_all_closed meaning_of plant))) }
+{
+    let top = TopBlock::from_plant(plant);
+    match threading {
+        Threading::Adaptive => top.run_adaptive_watched(rt, alloc, turns(), watch),
+        Threading::PerBlock => match top.start_turns(rt, alloc, turns()) {
+            Ok(running) => running.wait_watched(&rt, watch),
             Err(fault) => Err(fault),
         },
-        Err(fault) => Err(fault),
     }
 }
 

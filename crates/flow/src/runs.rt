@@ -7,13 +7,14 @@ ghost use Rattle.flow.specs.Serve.{Fails, IsRunAloneTo, IsRunTo, Refuses, plant_
 
 use crate::fault::Fault;
 use crate::reports::ended;
-use crate::running::run_plant;
+use crate::running::{Threading, run_plant};
 use crate::serve::{TURN, open_plant};
 use kinds::Kind;
 use plant::{Plant, Watch};
 use std::alloc::Global;
 use std::sync::Wait;
 use std::thread::Threads;
+use std::time::Clock;
 use top_block::close_all;
 
 // The exit status of a run that came to rest before all blocks were done.
@@ -34,9 +35,10 @@ pub(crate) struct Ran {
 }
 
 /// Lets the plant of a file run in threads until it comes to rest, where its sources give no more, and tells what it holds then.
-pub(crate) fn run_file<R: Threads + Wait + Copy + Send + 'static, W: Watch>(
+pub(crate) fn run_file<R: Threads + Wait + Clock + Copy + Send + 'static, W: Watch>(
     rt: R,
     alloc: Global,
+    threading: Threading,
     file: &[u8],
     watch: &mut W,
 ) -> Result<Ran, Fault>
@@ -45,7 +47,7 @@ pub(crate) fn run_file<R: Threads + Wait + Copy + Send + 'static, W: Watch>(
 {
     let plant = open_plant(alloc, file)?;
     plant.recall();
-    let (plant, settled) = run_plant(rt, alloc, plant, watch)?;
+    let (plant, settled) = run_plant(rt, alloc, threading, plant, watch)?;
     plant.recall();
     let text = ended(alloc, &plant, settled)?;
     let done = plant.all_done();
@@ -86,8 +88,8 @@ pub(crate) fn stalled_one(plant: Plant<Kind>, done: bool) -> Option<Plant<Kind>>
     if done { None } else { Some(plant) }
 }
 
-/// The status of a run that came to rest.
-pub(crate) fn status_of(done: bool) -> u8
+/// The exit status of a run that came to rest: 3 where that was before all blocks were done.
+pub fn status_of(done: bool) -> u8
     ensures { result ≡ (if done then 0 else 3) }
 {
     if done { 0 } else { STALLED }

@@ -17,6 +17,7 @@ ghost use Rattle.flow.specs.declared.script.ScriptFault.TheVariants.{Write};
 use crate::fault::Fault;
 use crate::live::live_plant;
 use crate::reports::{checked, ended};
+use crate::running::Threading;
 use crate::runs::{Outcome, Ran, run_file, run_file_alone, stalled_one, status_of};
 use crate::script::{ScriptFault, script};
 use crate::stalls::{Notes, remark};
@@ -31,6 +32,7 @@ use script_text::{ByteIn, ByteOut};
 use std::alloc::{AllocError, Global};
 use std::sync::Wait;
 use std::thread::Threads;
+use std::time::Clock;
 
 /// How many firings of a block a run on one thread steps at once, at most.
 pub(crate) const TURN: u32 = 65_536;
@@ -44,7 +46,7 @@ pub enum Action {
     /// To write its graph as text from which a picture is made.
     Draw(Format),
     /// To feed it, let it run to its end in threads, and tell what its sinks hold.
-    Run,
+    Run(Threading),
     /// The same on one thread, block by block.
     RunAlone,
     /// To feed it, let it run in threads while the lines of standard input make calls of it, and tell what its sinks hold at the end.
@@ -64,7 +66,7 @@ struct Ended {
 /// 1 and 4 one line on `errors` says why. With 3, where `notes` are shown, lines say what the blocks wait for. Whether these writes succeed changes
 /// nothing. A run is shown to `watch` while it goes on, and is over for it before anything is written.
 pub fn serve<
-    R: Threads + Wait + Copy + Send + Sync + 'static,
+    R: Threads + Wait + Clock + Copy + Send + Sync + 'static,
     I: ByteIn + Send,
     O: ByteOut + Send,
     E: ByteOut,
@@ -100,7 +102,7 @@ pub fn serve<
 
 // Does an action.
 fn obey<
-    R: Threads + Wait + Copy + Send + Sync + 'static,
+    R: Threads + Wait + Clock + Copy + Send + Sync + 'static,
     I: ByteIn + Send,
     O: ByteOut + Send,
     W: Watch,
@@ -124,7 +126,7 @@ fn obey<
         Action::Check => unstalled(check(alloc, file, output)),
         Action::CheckFeeds => unstalled(check_feeds(alloc, file, output)),
         Action::Draw(format) => unstalled(draw(alloc, format, file, output)),
-        Action::Run => run(rt, alloc, file, output, watch),
+        Action::Run(threading) => run(rt, alloc, threading, file, output, watch),
         Action::RunAlone => run_on_one(alloc, file, output, watch),
         Action::Live => run_live(&rt, alloc, file, input, output, watch),
         Action::Script => unstalled(run_script(alloc, file, input, output)),
@@ -182,9 +184,10 @@ fn draw<O: ByteOut>(alloc: Global, format: Format, file: &[u8], output: &mut O) 
     }
 }
 
-fn run<R: Threads + Wait + Copy + Send + 'static, O: ByteOut, W: Watch>(
+fn run<R: Threads + Wait + Clock + Copy + Send + 'static, O: ByteOut, W: Watch>(
     rt: R,
     alloc: Global,
+    threading: Threading,
     file: &[u8],
     output: &mut O,
     watch: &mut W,
@@ -194,7 +197,7 @@ fn run<R: Threads + Wait + Copy + Send + 'static, O: ByteOut, W: Watch>(
     ensures does_not { IfErr result (RunsNot (IsRun file.now) (plant_in file.now) (O.contents output.old) (O.contents output.new)) }
     ensures failed_writes { O.failed output.new ≡ O.failed output.old + writes_in result }
 {
-    match run_file(rt, alloc, file, watch) {
+    match run_file(rt, alloc, threading, file, watch) {
         Ok(ran) => written_run(output, ran),
         Err(fault) => Err(fault),
     }

@@ -27,11 +27,12 @@ impl NamedEnd<'_> {
     }
 }
 
-/// Where the raw items of a run come from, and where they and tags go.
+/// Where the raw items of a run and the marks on them come from, and where items and tags go.
 #[derive(Drop)]
 pub struct Ends<'a> {
     pub order: ByteOrder,
     pub inputs: Vec<NamedEnd<'a>>,
+    pub marks: Vec<NamedEnd<'a>>,
     pub outputs: Vec<NamedEnd<'a>>,
     pub tags: Vec<NamedEnd<'a>>,
 }
@@ -47,6 +48,8 @@ pub enum EndsFault {
     StreamTwice,
     /// A file is named for two outputs, or for an output and for what is read.
     FileTwice,
+    /// Marks are named for a block without an input.
+    NoInput,
     /// Memory ran out.
     Memory,
 }
@@ -59,6 +62,7 @@ impl EndsFault {
             EndsFault::BlockTwice => Some("two files are named for what one block holds"),
             EndsFault::StreamTwice => Some("a standard stream is named twice"),
             EndsFault::FileTwice => Some("a file that is written is named twice"),
+            EndsFault::NoInput => Some("marks are named for a block without an input"),
             EndsFault::Memory => None,
         }
     }
@@ -91,6 +95,7 @@ impl<'a> Ends<'a> {
         let mut ends = Ends {
             order,
             inputs: Vec::new(alloc),
+            marks: Vec::new(alloc),
             outputs: Vec::new(alloc),
             tags: Vec::new(alloc),
         };
@@ -108,18 +113,36 @@ impl<'a> Ends<'a> {
         file: &str,
     ) -> Result<(), EndsFault> {
         add_ends(&mut self.inputs, matches.get_strs("input"))?;
+        add_ends(&mut self.marks, matches.get_strs("marks"))?;
         add_ends(&mut self.outputs, matches.get_strs("output"))?;
         add_ends(&mut self.tags, matches.get_strs("tags"))?;
-        if names_twice(alloc, &self.outputs)? || names_twice(alloc, &self.tags)? {
+        if self.names_block_twice(alloc)? {
             return Err(EndsFault::BlockTwice);
         }
-        if 1 < standard_ends(&self.inputs) || 1 < self.standard_outputs() {
+        if !self.marks_have_inputs(alloc)? {
+            return Err(EndsFault::NoInput);
+        }
+        if 1 < self.standard_inputs() || 1 < self.standard_outputs() {
             return Err(EndsFault::StreamTwice);
         }
         if self.writes_twice(alloc, file)? {
             return Err(EndsFault::FileTwice);
         }
         Ok(())
+    }
+
+    // Whether two files are named for the marks, the items or the tags of one block.
+    fn names_block_twice(&self, alloc: Global) -> Result<bool, AllocError> {
+        if names_twice(alloc, &self.marks)? || names_twice(alloc, &self.outputs)? {
+            return Ok(true);
+        }
+        names_twice(alloc, &self.tags)
+    }
+
+    // Whether each block that has marks has an input.
+    fn marks_have_inputs(&self, alloc: Global) -> Result<bool, AllocError> {
+        let fed = sorted_blocks(alloc, &self.inputs)?;
+        Ok(self.marks.iter().all(|end| is_among(&fed, end.block)))
     }
 
     // Whether a file would be written by two outputs, or read and written.
@@ -135,19 +158,27 @@ impl<'a> Ends<'a> {
         if stand_side_by_side(&written) || is_among(&written, file) {
             return Ok(true);
         }
-        Ok(self.inputs.iter().any(|end| is_among(&written, end.path)))
+        let mut read = self.inputs.iter().chain(self.marks.iter());
+        Ok(read.any(|end| is_among(&written, end.path)))
     }
 
     /// Whether there are none.
     pub fn are_none(&self) -> bool
-        ensures { IsTrue result ↔ ((vec_len self.now.inputs ≡ 0) × (vec_len self.now.outputs ≡ 0) × (vec_len self.now.tags ≡ 0)) }
+        ensures { IsTrue result ↔ ((vec_len self.now.inputs ≡ 0) × (vec_len self.now.marks ≡ 0) × (vec_len self.now.outputs ≡ 0) × (vec_len self.now.tags ≡ 0)) }
     {
-        self.inputs.is_empty() && self.outputs.is_empty() && self.tags.is_empty()
+        self.inputs.is_empty()
+            && self.marks.is_empty()
+            && self.outputs.is_empty()
+            && self.tags.is_empty()
     }
 
     /// Whether standard output has items or tags.
     pub fn use_output(&self) -> bool {
         0 < self.standard_outputs()
+    }
+
+    fn standard_inputs(&self) -> usize {
+        standard_ends(&self.inputs).saturating_add(standard_ends(&self.marks))
     }
 
     fn standard_outputs(&self) -> usize {
@@ -172,13 +203,19 @@ fn add_ends<'a>(ends: &mut Vec<NamedEnd<'a>>, words: Option<&[&'a str]>) -> Resu
 
 // Whether two ends are of one block.
 fn names_twice(alloc: Global, ends: &[NamedEnd<'_>]) -> Result<bool, AllocError> {
+    let blocks = sorted_blocks(alloc, ends)?;
+    Ok(stand_side_by_side(&blocks))
+}
+
+// The blocks of ends, in the order of their names.
+fn sorted_blocks<'a>(alloc: Global, ends: &[NamedEnd<'a>]) -> Result<Vec<&'a str>, AllocError> {
     let mut blocks = Vec::new(alloc);
     for end in ends {
         blocks.reserve(1)?;
         blocks.push_reserved(end.block);
     }
     blocks.sort_unstable();
-    Ok(stand_side_by_side(&blocks))
+    Ok(blocks)
 }
 
 // Whether two that are equal stand side by side.
@@ -193,9 +230,9 @@ fn stand_side_by_side(names: &[&str]) -> bool {
     false
 }
 
-// Whether a path is one of these, which are sorted.
-fn is_among(paths: &[&str], path: &str) -> bool {
-    paths.binary_search(&path).is_ok()
+// Whether a name is one of these, which are sorted.
+fn is_among(names: &[&str], name: &str) -> bool {
+    names.binary_search(&name).is_ok()
 }
 
 // How many ends are the standard stream.

@@ -42,6 +42,21 @@ pub fn join_inputs(rt: &HostRuntime, run: &mut Stream<'_>, ends: &Ends<'_>) -> R
     Ok(())
 }
 
+/// Opens the inputs of marks, in their order, and joins each source to its own. Their sources have inputs.
+pub fn join_marks(rt: &HostRuntime, run: &mut Stream<'_>, ends: &Ends<'_>) -> Result<(), Stop> {
+    for (number, end) in ends.marks.iter().enumerate() {
+        let place = EndPlace::Marks(number);
+        let source = source_named(run.plant.graph(), place, end.block.as_bytes())?;
+        let device = open(rt, end, place)?;
+        let mut chain = Chain::new(rt.alloc(), 1);
+        chain.push(number, device)?;
+        if let Err(fault) = run.mark_from(rt.alloc(), source, chain) {
+            return Err(stop_of(run, ends, fault));
+        }
+    }
+    Ok(())
+}
+
 // The writers of a sink, with the numbers of the words that name them.
 #[derive(Drop)]
 struct Targets<'a> {

@@ -25,6 +25,7 @@ use std::io::{IsTerminal, Write};
 use std::process::ExitCode;
 use std::sync::Wait;
 use std::thread::Threads;
+use std::time::Clock;
 use std::{env, fs};
 
 fn main(rt: HostRuntime) -> ExitCode {
@@ -32,7 +33,10 @@ fn main(rt: HostRuntime) -> ExitCode {
 }
 
 // Only `main` may hand on the leave to start threads: `threads` is the same runtime with it.
-fn status<R: Threads + Wait + Copy + Send + Sync + 'static>(threads: R, rt: &HostRuntime) -> u8 {
+fn status<R: Threads + Wait + Clock + Copy + Send + Sync + 'static>(
+    threads: R,
+    rt: &HostRuntime,
+) -> u8 {
     let arguments = match env::args(rt) {
         Ok(arguments) => arguments,
         Err(error) => return begins_none(rt, StartFault::of_words(error.kind())),
@@ -53,7 +57,7 @@ fn status<R: Threads + Wait + Copy + Send + Sync + 'static>(threads: R, rt: &Hos
     }
 }
 
-fn run<R: Threads + Wait + Copy + Send + Sync + 'static>(
+fn run<R: Threads + Wait + Clock + Copy + Send + Sync + 'static>(
     threads: R,
     rt: &HostRuntime,
     call: Call<'_>,

@@ -1,7 +1,7 @@
 //! Runs between files and pipes of raw items, which are read and written as the items come.
 
 use crate::ends::Ends;
-use crate::joins::{Kept, join_inputs, join_outputs};
+use crate::joins::{Kept, join_inputs, join_marks, join_outputs};
 use crate::refusing::buffered;
 use crate::stops::{Stop, Stream, explain, stop_of};
 use crate::words::Call;
@@ -54,6 +54,7 @@ fn stream<'a, W: Watch>(
     let ends = &call.ends;
     let mut run = opened(rt, file)?;
     join_inputs(rt, &mut run, ends)?;
+    join_marks(rt, &mut run, ends)?;
     let kept = join_outputs(rt, &mut run, ends)?;
     close_others(&mut run);
     let settled = go(rt, &mut run, ends, watch)?;

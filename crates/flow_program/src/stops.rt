@@ -61,6 +61,23 @@ pub fn stop_of(run: &Stream<'_>, ends: &Ends<'_>, fault: PipelineFault) -> Stop 
         },
         PipelineFault::Read(block, error) => (input_place(run, block), EndFault::Read, Some(error)),
         PipelineFault::CutItem(block) => (input_place(run, block), EndFault::CutItem, None),
+        PipelineFault::ReadMarks(block, error) => {
+            (marks_place(graph, ends, block), EndFault::Read, Some(error))
+        }
+        PipelineFault::BadMark(block, line) => {
+            (
+                marks_place(graph, ends, block),
+                EndFault::BadLine(line),
+                None,
+            )
+        }
+        PipelineFault::MarkPlace(block, line) => {
+            (
+                marks_place(graph, ends, block),
+                EndFault::TagPlace(line),
+                None,
+            )
+        }
         PipelineFault::WriteItems(block, error) => {
             let number = number_of(&ends.outputs, name_of(graph, block));
             (EndPlace::Output(number), EndFault::Write, Some(error))
@@ -82,6 +99,11 @@ fn input_place(run: &Stream<'_>, block: BlockId) -> EndPlace {
         Some(End::Input(input)) => EndPlace::Input(input.reader().number()),
         _ => EndPlace::Input(0),
     }
+}
+
+// The input of the marks of a source.
+fn marks_place(graph: &Valid<Kind>, ends: &Ends<'_>, block: BlockId) -> EndPlace {
+    EndPlace::Marks(number_of(&ends.marks, name_of(graph, block)))
 }
 
 // The name of a block, where there is such a block.
@@ -136,6 +158,7 @@ pub fn explain(
         EndPlace::Input(number) => ends.inputs.get(number),
         EndPlace::Output(number) => ends.outputs.get(number),
         EndPlace::Tags(number) => ends.tags.get(number),
+        EndPlace::Marks(number) => ends.marks.get(number),
     };
     let Some(NamedEnd { block, path }) = end else {
         return;
@@ -160,5 +183,8 @@ fn meaning(fault: EndFault) -> &'static str {
         EndFault::Read => "it cannot be read",
         EndFault::Write => "it cannot be written",
         EndFault::CutItem => "it ends within an item of the source's type",
+        EndFault::BadLine(_) => "the line is no @OFFSET:KEY=VALUE",
+        EndFault::TagPlace(_) =>
+            "the offset is less than that of the line above, or of no item of the input",
     }
 }

@@ -7,6 +7,7 @@ use super::ends::{Ends, EndsFault};
 use clap::error::ErrorKind;
 use clap::{Arg, ArgAction, ArgMatches};
 use drawings::Format;
+use flow::running::Threading;
 use flow::serve::Action;
 use flow::stalls::Notes;
 use std::alloc::{AllocError, Global};
@@ -83,7 +84,8 @@ fn action_of(name: &str, inner: &ArgMatches<'_>) -> Action {
         "check" => Action::Check,
         "draw" => Action::Draw(format_of(inner.get_str("format"))),
         "run" if inner.get_flag("one-thread") => Action::RunAlone,
-        "run" => Action::Run,
+        "run" if inner.get_flag("thread-per-block") => Action::Run(Threading::PerBlock),
+        "run" => Action::Run(Threading::Adaptive),
         "live" => Action::Live,
         _ => Action::Script,
     }
@@ -181,8 +183,23 @@ fn run_command<'a>(alloc: Global) -> Result<clap::Command<'a>, clap::Error> {
         "Runs the graph and prints what its sinks hold",
     )?;
     let run = run.arg(quiet(alloc))?;
-    let run = run.arg(flag(alloc, "one-thread", "Runs all blocks on one thread"))?;
+    let run = with_threading(alloc, run)?;
     with_ends(alloc, run)
+}
+
+// The words that say how many threads a run has, of which one is given at most.
+fn with_threading<'a>(
+    alloc: Global,
+    run: clap::Command<'a>,
+) -> Result<clap::Command<'a>, clap::Error> {
+    let one = flag(alloc, "one-thread", "Runs all blocks on one thread");
+    let run = run.arg(one.conflicts_with("thread-per-block")?)?;
+    let each = flag(
+        alloc,
+        "thread-per-block",
+        "Runs each block in a thread of its own",
+    );
+    Ok(run.arg(each)?)
 }
 
 // The words for files of raw items.
@@ -194,6 +211,12 @@ fn with_ends<'a>(alloc: Global, run: clap::Command<'a>) -> Result<clap::Command<
     ))?;
     let input = ends(alloc, "input", "Feeds the raw items of a file to a source").short('i');
     let run = run.arg(input)?;
+    let marks = ends(
+        alloc,
+        "marks",
+        "Puts tags on the items of an input, a line each",
+    );
+    let run = run.arg(marks)?;
     let output = ends(alloc, "output", "Writes the items of a sink to a file, raw").short('o');
     let run = run.arg(output)?;
     let tags = ends(

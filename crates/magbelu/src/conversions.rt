@@ -1,7 +1,7 @@
 //! Conversions into an error, for `?`: of each fault, of a failed allocation, and of what a call that failed hands back, which is dropped.
 
 ghost use Rattle.std.specs.Prelude.{◌≡◌};
-ghost use Rattle.magbelu.specs.declared.error.Error.TheVariants.{Items, Block, Graph, Plant, NoJob, File, Run, Memory};
+ghost use Rattle.magbelu.specs.declared.error.Error.TheVariants.{Items, Block, Graph, Plant, NoJob, File, Pipeline, Run, Memory};
 ghost use Rattle.threads.specs.Fault as threads;
 
 use crate::error::Error;
@@ -9,8 +9,10 @@ use block_kinds::{Block, ParamFault};
 use flowgraph::{Graph, GraphFault, Valid};
 use graph_file::FileFault;
 use items::ItemFault;
+use pipeline::PipelineFault;
 use plant::{Job, PlantFault, Worked};
 use std::alloc::{AllocError, AllocFailed};
+use streaming::StreamingPlant;
 use threads::RunFault;
 
 impl From<ItemFault> for Error {
@@ -86,6 +88,23 @@ impl From<FileFault> for Error {
 
     fn from(fault: FileFault) -> Error {
         Error::File(fault)
+    }
+}
+
+impl From<PipelineFault> for Error {
+    ghost from_gives = { λ fault e. e ≡ Pipeline fault };
+
+    fn from(fault: PipelineFault) -> Error {
+        Error::Pipeline(fault)
+    }
+}
+
+/// For `Pipeline::new`. The plant is dropped. To try again, match on the pair instead.
+impl<B: Block> From<(StreamingPlant<B>, AllocError)> for Error {
+    ghost from_gives = { λ _ e. e ≡ Memory };
+
+    fn from(_refusal: (StreamingPlant<B>, AllocError)) -> Error {
+        Error::Memory
     }
 }
 

@@ -1,18 +1,18 @@
 //! One error type, to which `?` converts the fault of any call.
 
-ghost use Rattle.std.specs.Prelude.{Some};
 ghost use Rattle.magbelu.specs.Errors.{row_of, text_of};
 
 use block_kinds::ParamFault;
 use flowgraph::GraphFault;
 use graph_file::FileFault;
 use items::{ItemFault, Refusal};
+use pipeline::PipelineFault;
 use plant::PlantFault;
 use std::fmt;
 use threads::RunError;
 
-/// Why a call was refused, or why a run in threads failed. Number, name and text are those of the fault that it was converted from: 1 to 12, 20 to 33,
-/// 40 to 44, or 60 to 62, and a name as `Loop` or `Memory`.
+/// Why a call was refused, why a pipeline stopped, or why a run in threads failed. Number, name and text are those of the fault that it was converted from: 1 to 12,
+/// 20 to 34, 40 to 44, 51 to 53, or 60 to 62, and a name as `Loop` or `Memory`.
 #[derive(Debug, Drop, thiserror::Error)]
 pub enum Error {
     /// Items could not be made.
@@ -27,6 +27,8 @@ pub enum Error {
     NoJob,
     /// A graph file is refused.
     File(FileFault),
+    /// A pipeline stopped, or is joined already.
+    Pipeline(PipelineFault),
     /// A run in threads failed.
     Run(RunError),
     /// Out of memory.
@@ -44,6 +46,7 @@ impl Refusal for Error {
             Error::Plant(fault) => fault.row(),
             Error::NoJob => (30, "NoJob"),
             Error::File(fault) => fault.row(),
+            Error::Pipeline(fault) => fault.row(),
             Error::Run(fault) => fault.row(),
             Error::Memory => (32, "Memory"),
         }
@@ -51,7 +54,7 @@ impl Refusal for Error {
 }
 
 impl fmt::Display for Error {
-    ghost output = { λ error. Some (text_of error) };
+    ghost output = { text_of };
 
     fn fmt<W: fmt::Write>(&self, f: &mut fmt::Formatter<W>) -> fmt::Result {
         match self {
@@ -61,6 +64,7 @@ impl fmt::Display for Error {
             Error::Plant(fault) => write!(f, "{fault}"),
             Error::NoJob => write!(f, "the block has no such job"),
             Error::File(fault) => write!(f, "{fault}"),
+            Error::Pipeline(fault) => write!(f, "{fault}"),
             Error::Run(fault) => write!(f, "{fault}"),
             Error::Memory => write!(f, "out of memory"),
         }

@@ -10,12 +10,13 @@ ghost use Rattle.flow.specs.Session.{in_state};
 ghost use Rattle.magbelu_c.specs.Between.{AreFed, AreHeld, AreMisfed, FailsBetween, IsFed, IsMisfed, IsMisnamed, IsTaken, RunsBetween, output_bytes, sink_of};
 
 use crate::tables::{Input, Output};
-use flow::ran_raw::RanRaw;
 use flow::raw_fault::{EndPlace, RawFault};
+use flow::raw_output::{write_items, write_tags};
 use flow::raw_run::{RawRun, sink_named, source_named};
+use flow::runs::status_of;
 use flowgraph::{BlockId, Valid};
 use kinds::Kind;
-use plant::Unwatched;
+use plant::Plant;
 use raw_items::ByteOrder;
 use script_text::{ReadEnd, WriteEnd};
 use std::alloc::{AllocError, Global};
@@ -50,14 +51,13 @@ pub(crate) fn run_between(
     if let Err(fault) = test_names(run.graph(), outputs) {
         return Err(fault);
     }
-    let ran = match run.run_alone(alloc, &mut Unwatched) {
-        Ok(ran) => ran,
+    let plant = match run.settle(alloc) {
+        Ok(plant) => plant,
         Err(refusal) => return Err(RawFault::from(refusal)),
     };
-    let status = ran.status();
-    match take_all(alloc, &ran, order, outputs) {
+    match take_all(alloc, &plant, order, outputs) {
         Ok((lens, bytes)) => Ok(Given {
-            status,
+            status: status_of(plant.all_done()),
             lens,
             bytes,
         }),
@@ -119,18 +119,18 @@ fn test_names(graph: &Valid<Kind>, outputs: &[Output<'_>]) -> Result<(), RawFaul
 // What the sinks hold, one behind the other, and how many bytes that is of each.
 fn take_all(
     alloc: Global,
-    ran: &RanRaw,
+    plant: &Plant<Kind>,
     order: ByteOrder,
     outputs: &[Output<'_>],
 ) -> Result<(Vec<u64>, Vec<u8>), RawFault>
-    ensures held { IfOk result (λ given. AreHeld (drafted ran.now.graph) ran.now.state order 0 outputs.now given.0.items given.1.items) }
-    ensures fails { IfErr result (λ fault. (fault ≡ Whole (Script Memory)) ⊎ IsMisnamed (drafted ran.now.graph) 0 outputs.now fault) }
+    ensures held { IfOk result (λ given. AreHeld (drafted plant.now.graph) plant.now.state order 0 outputs.now given.0.items given.1.items) }
+    ensures fails { IfErr result (λ fault. (fault ≡ Whole (Script Memory)) ⊎ IsMisnamed (drafted plant.now.graph) 0 outputs.now fault) }
 {
     let mut lens = Vec::new(alloc);
     let mut bytes = WriteEnd::new(Vec::new(alloc));
     for (number, output) in outputs.iter().enumerate() {
         let start = bytes.writer.len();
-        if let Err(fault) = take(alloc, ran, order, number, output, &mut bytes) {
+        if let Err(fault) = take(alloc, plant, order, number, output, &mut bytes) {
             return Err(fault);
         }
         let len = bytes.writer.len() - start;
@@ -144,23 +144,23 @@ fn take_all(
 // Appends what an output is to have.
 fn take(
     alloc: Global,
-    ran: &RanRaw,
+    plant: &Plant<Kind>,
     order: ByteOrder,
     number: usize,
     output: &Output<'_>,
     bytes: &mut WriteEnd<Vec<u8>>,
 ) -> Result<(), RawFault>
     requires { bytes.old.failures ≡ 0 }
-    ensures taken { OnOk result (IsTaken (drafted ran.now.graph) ran.now.state order number output.now bytes.old.writer.items bytes.new.writer.items) }
+    ensures taken { OnOk result (IsTaken (drafted plant.now.graph) plant.now.state order number output.now bytes.old.writer.items bytes.new.writer.items) }
     ensures counted { OnOk result (bytes.new.failures ≡ 0) }
-    ensures fails { IfErr result (λ fault. (fault ≡ Whole (Script Memory)) ⊎ (sink_of (drafted ran.now.graph) number output.now ≡ Err fault)) }
+    ensures fails { IfErr result (λ fault. (fault ≡ Whole (Script Memory)) ⊎ (sink_of (drafted plant.now.graph) number output.now ≡ Err fault)) }
 {
     let place = EndPlace::Output(number);
-    let sink = match sink_named(ran.graph(), place, output.name) {
+    let sink = match sink_named(plant.graph(), place, output.name) {
         Ok(sink) => sink,
         Err(fault) => return Err(fault),
     };
-    match write(alloc, ran, order, place, output, sink, bytes) {
+    match write(alloc, plant, order, place, output, sink, bytes) {
         Ok(()) => Ok(()),
         // A sink is refused only where memory runs out.
         Err(_) => Err(RawFault::from(AllocError)),
@@ -169,7 +169,7 @@ fn take(
 
 fn write(
     alloc: Global,
-    ran: &RanRaw,
+    plant: &Plant<Kind>,
     order: ByteOrder,
     place: EndPlace,
     output: &Output<'_>,
@@ -177,12 +177,12 @@ fn write(
     bytes: &mut WriteEnd<Vec<u8>>,
 ) -> Result<(), RawFault>
     requires { bytes.old.failures ≡ 0 }
-    ensures written { OnOk result (bytes.new.writer.items ≡ bytes.old.writer.items ++ output_bytes (drafted ran.now.graph) ran.now.state order output.now sink) }
+    ensures written { OnOk result (bytes.new.writer.items ≡ bytes.old.writer.items ++ output_bytes (drafted plant.now.graph) plant.now.state order output.now sink) }
     ensures counted { bytes.new.failures ≡ bytes.old.failures + raw_writes result }
 {
     if output.tags == 0 {
-        ran.write_items(alloc, place, sink, order, bytes)
+        write_items(alloc, plant, place, sink, order, bytes)
     } else {
-        ran.write_tags(alloc, place, sink, bytes)
+        write_tags(alloc, plant, place, sink, bytes)
     }
 }

@@ -6,7 +6,7 @@ use Rattle.flowgraph.specs.Flowgraph.{net_of, node_of}
 use Rattle.kinds.specs.Kind.{meaning_of}
 use Rattle.graph_file.specs.Blocks.{drafted}
 use Rattle.flow.proofs.Naming.{name_is}
-use Rattle.flow.proofs.Reporting.{piece_line, no_sink, sink_none}
+use Rattle.flow.proofs.Reporting.{piece_line, no_rest, sink_none}
 use Rattle.flow.proofs.reports.add_sink.Goals as goal
 
 pub returns-in-Ok : goal.returns-in-Ok
@@ -22,5 +22,5 @@ pub returns-in-Err-NotSink : goal.returns-in-Err-NotSink
 returns-in-Err-NotSink c =
     let p = c.args.plant.now in
     let refused = rw c.in-Err-NotSink.field-0-is at c.in-Err-NotSink.ensures.answered in
-    let none = no_sink (net_of meaning_of p.graph) p.state c.args.block.0 18446744073709551615 (omega (arith, c.requires, length-map p.graph.blocks (node_of meaning_of))) refused in
+    let none = no_rest (net_of meaning_of p.graph) p.state c.args.block.0 0 18446744073709551615 (omega (arith, c.requires, length-map p.graph.blocks (node_of meaning_of))) refused in
     sym (ap (λ (l : List ℕ). c.args.text.now.items ++ l) (sink_none (drafted p.graph) p.state c.args.block.0 none) ∙ append-nil c.args.text.now.items)

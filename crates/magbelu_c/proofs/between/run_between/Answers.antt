@@ -19,11 +19,11 @@ returns-in-Err-test_names-clause-fails c =
     misnamed c.args.file.now c.args.order c.args.inputs.now c.args.outputs.now (opened_of c.in-Ok.run') c.in-Ok.ensures.opens (drafted c.graph.result.now)
     (ap (λ (g : Flowgraph Kind). drafted g) c.graph.ensures ∙ ap (λ (p : PlantState Kind). drafted p.graph) c.in_default.ensures.same) c.in-Err-test_names.fault c.in-Err-test_names.ensures.misnamed
 
-pub returns-in-Err-run_alone-clause-fails : goal.returns-in-Err-run_alone-clause-fails
-returns-in-Err-run_alone-clause-fails c =
+pub returns-in-Err-settle-clause-fails : goal.returns-in-Err-settle-clause-fails
+returns-in-Err-settle-clause-fails c =
     no_memory c.args.file.now c.args.order c.args.inputs.now c.args.outputs.now (opened_of c.in-Ok.run') c.in-Ok.ensures.opens c.from.result c.from.ensures
 
 pub returns-clause-fails : goal.returns-clause-fails
 returns-clause-fails c =
-    untaken c.args.file.now c.args.order c.args.inputs.now c.args.outputs.now (opened_of c.in-Ok.run') c.in-Ok.ensures.opens (drafted c.in-Ok-run_alone.ran.graph)
-    (ap (λ (p : Opened). p.draft) c.in-Ok-run_alone.ensures.same ∙ ap (λ (p : PlantState Kind). drafted p.graph) c.in_default.ensures.same) c.in-Err-take_all.fault c.in-Err-take_all.ensures.fails
+    untaken c.args.file.now c.args.order c.args.inputs.now c.args.outputs.now (opened_of c.in-Ok.run') c.in-Ok.ensures.opens (drafted c.in-Ok-settle.plant.graph)
+    (ap (λ (p : Opened). p.draft) c.in-Ok-settle.ensures.same ∙ ap (λ (p : PlantState Kind). drafted p.graph) c.in_default.ensures.same) c.in-Err-take_all.fault c.in-Err-take_all.ensures.fails

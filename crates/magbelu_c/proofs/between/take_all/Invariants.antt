@@ -8,7 +8,7 @@ use Rattle.magbelu_c.proofs.between.take_all.Given as goal
 abbrev pub invariant-loop-number : goal.invariant-loop-number
 invariant-loop-number l = record {
   whole : l.bytes.failures ≡ 0;
-  held : (lens bytes : List ℕ) → AreHeld (drafted l.ran.graph) l.ran.state l.order l.number (drop l.number l.outputs) lens bytes →
-      AreHeld (drafted l.ran.graph) l.ran.state l.order 0 l.outputs (l.lens.items ++ lens) (l.bytes.writer.items ++ bytes);
-  misnamed : (fault : RawFault) → IsMisnamed (drafted l.ran.graph) l.number (drop l.number l.outputs) fault → IsMisnamed (drafted l.ran.graph) 0 l.outputs fault;
+  held : (lens bytes : List ℕ) → AreHeld (drafted l.plant.graph) l.plant.state l.order l.number (drop l.number l.outputs) lens bytes →
+      AreHeld (drafted l.plant.graph) l.plant.state l.order 0 l.outputs (l.lens.items ++ lens) (l.bytes.writer.items ++ bytes);
+  misnamed : (fault : RawFault) → IsMisnamed (drafted l.plant.graph) l.number (drop l.number l.outputs) fault → IsMisnamed (drafted l.plant.graph) 0 l.outputs fault;
 }
