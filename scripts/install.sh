@@ -42,7 +42,7 @@ put_library() {
     echo "build: installed $root/$lib_folder/libmagbelu.a, with its headers, as magbelu of pkg-config" >&2
     if [[ -e $c_folder/libmagbelu.so ]] && python_folder=$(python_folder_of "$root" 2>/dev/null); then
         put_python
-        echo "build: installed $root/$python_folder/magbelu for Python" >&2
+        echo "build: installed $root/$python_folder/magbelu for Python, and $root/share/gnuradio/grc/blocks for GNU Radio Companion" >&2
     fi
 }
 

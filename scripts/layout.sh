@@ -77,5 +77,8 @@ write_pc() {
         "Libs: -L\"\${libdir}\" -lmagbelu"
 }
 
-# put_python: the package for Python
-put_python() { put_all "$top/python/magbelu" "$python_folder/magbelu"; }
+# put_python: the package for Python, and what GNU Radio Companion reads of it
+put_python() {
+    put_all "$top/python/magbelu" "$python_folder/magbelu"
+    put_all "$top/share/gnuradio" share/gnuradio
+}

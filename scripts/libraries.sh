@@ -97,7 +97,7 @@ make_libraries() {
     if command -v cc >/dev/null; then
         name=$(shared_name)
         echo '{ global: magbelu_*; local: *; };' >exports
-        cc -shared -Wl,-soname,"$name" -Wl,--version-script=exports -Wl,--whole-archive "$c_crate.a" -Wl,--no-whole-archive \
+        cc -shared -Wl,-soname,"$name" -Wl,-z,relro,-z,now -Wl,--version-script=exports -Wl,--whole-archive "$c_crate.a" -Wl,--no-whole-archive \
             libmagbelu.a -o libmagbelu.so
         rm -- exports
         # (by this name a program looks for it that was linked with it)

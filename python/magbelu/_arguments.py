@@ -96,8 +96,14 @@ def numbers_of(items: Any) -> array.array[int]:
         return array.array("q", [within(operator.index(it)) for it in items])
 
 
+# What the library reads where there are no tags.
+NO_MARKS = (Mark * 1)()
+
+
 def marks_of(tags: Iterable[tuple[Any, Any, Any]]) -> tuple[Any, list[Lent]]:
     """Tags of a feed as C has them, and their keys, which have to be kept. (An offset beyond 64 bits is on no item, as the greatest is.)"""
+    if isinstance(tags, (tuple, list)) and not tags:
+        return NO_MARKS, []
     kept, marks = [], []
     for offset, key, value in tags:
         offset, value, lent = index(offset, "the offset of a tag"), index(value, "the value of a tag"), Lent(bytes_of(key))

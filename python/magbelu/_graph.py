@@ -8,7 +8,7 @@ from typing import Any, Optional, SupportsIndex
 from ._arguments import MOST, Text, bytes_of, count_of, flag, index
 from ._drawing import dot_of, svg_of
 from ._held import Array, Held, Tag, array_of, tags_of, tested
-from ._library import Lent, Room
+from ._library import Room, lent_name
 from ._plot import plot
 
 
@@ -37,7 +37,7 @@ class Graph(Held):
         >>> graph.feed("src", [1, 2, 3]), graph.step("src", 2), graph.step("add")
         (3, 2, 2)
         """
-        name = Lent(bytes_of(block))
+        name = lent_name(bytes_of(block))
         reply = self._call("step", block, name.at, name.len, count_of(count, "a count of firings", 2**32 - 1))
         return int(reply.value) if reply.what == 0 else 0
 
@@ -51,7 +51,7 @@ class Graph(Held):
         >>> items.tolist(), tags
         ([11, 12], [Tag(offset=1, key='burst', value=7, source=0)])
         """
-        name = Lent(bytes_of(sink))
+        name = lent_name(bytes_of(sink))
         first, most = count_of(start, "the start of a read", MOST), MOST if count is None else count_of(count, "a count of items", MOST)
         room, tags_room = 65536, 4096
         with self._lock:

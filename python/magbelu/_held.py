@@ -12,7 +12,7 @@ from typing import Any, Iterable, NamedTuple, Optional, SupportsIndex, TypeVar, 
 
 from ._arguments import Text, bytes_of, flag, index, is_bytes, marks_of, numbers_of, numpy, place_of, taps_of, within
 from ._errors import refused
-from ._library import Lent, Plant, Room, calls
+from ._library import Lent, Plant, Room, calls, lent_name
 from ._runs import NO_PATH, refusal
 
 # How arrays of items are called, by how many bytes an item has.
@@ -91,9 +91,11 @@ class Held:
     def __init__(self, text: Text, path: str = NO_PATH) -> None:
         self._plant = Plant(None, False)
         self._lock = threading.Lock()
-        self._text = bytes_of(text)
+        self._text, self.path = bytes_of(text), path
         lent, error = Lent(self._text), Room(4096)
         self._calls = calls()
+        # How many bytes an item has of each source that was asked for it.
+        self._source_sizes: dict[bytes, int] = {}
         answer = getattr(self._calls, "magbelu_bytes_" + self._opens)(ctypes.byref(self._plant), lent.at, lent.len, error.at, error.size)
         if answer.error_len:
             raise refusal(answer, error, lent, path)
@@ -115,7 +117,7 @@ class Held:
         return tested(reply, block)
 
     def _size(self, source: Text) -> int:
-        name = Lent(bytes_of(source))
+        name = lent_name(bytes_of(source))
         return int(self._call("item_size", source, name.at, name.len).value)
 
     def _has_type(self, source: Text, items: Any) -> bool:
@@ -126,7 +128,12 @@ class Held:
             code = items.dtype.char
         else:
             return False
-        return code in CODES.values() and CODES[self._size(source)] == code
+        if code not in CODES.values():
+            return False
+        name = bytes_of(source)
+        if name not in self._source_sizes:
+            self._source_sizes[name] = self._size(source)
+        return CODES[self._source_sizes[name]] == code
 
     def feed(self, source: Text, items: Items, tags: Iterable[tuple[SupportsIndex, Text, SupportsIndex]] = (), big_endian: bool = False) -> int:
         """Appends items to what a source is fed: integers, as a list, an array or whatever gives them one by one, or the bytes of items, as `bytes`, a `bytearray` or a
@@ -142,7 +149,7 @@ class Held:
         Traceback (most recent call last):
         magbelu._errors.Refused: 24 ItemRange src
         """
-        name, big_endian = Lent(bytes_of(source)), flag(big_endian, "big_endian")
+        name, big_endian = lent_name(bytes_of(source)), flag(big_endian, "big_endian")
         marks, kept = marks_of(tags)
         words = [ctypes.addressof(marks), len(kept)]
         is_raw = isinstance(items, (bytes, bytearray)) or (isinstance(items, memoryview) and is_bytes(items))
@@ -162,7 +169,7 @@ class Held:
         >>> graph.close("src"), graph.settle()
         (0, True)
         """
-        name = Lent(bytes_of(source))
+        name = lent_name(bytes_of(source))
         return int(self._call("close", source, name.at, name.len).value)
 
     def set(self, block: Text, value: Union[SupportsIndex, Iterable[SupportsIndex]], at: Optional[SupportsIndex] = None) -> int:
@@ -174,7 +181,7 @@ class Held:
         >>> graph.feed("src", [0, 0, 0]), graph.settle(), graph.read("out")[0].tolist()
         (3, False, [10, 10, 100])
         """
-        name, place = Lent(bytes_of(block)), place_of(at)
+        name, place = lent_name(bytes_of(block)), place_of(at)
         if isinstance(value, (str, bytes, bytearray, memoryview, collections.abc.Mapping, collections.abc.Set)):
             raise TypeError("a setting is an integer or a list of taps, and no %r" % type(value).__name__)
         try:
@@ -198,7 +205,7 @@ class Held:
         >>> graph.need("src").what, graph.need("out")
         ('feed', Need(what='items', port=0))
         """
-        name = Lent(bytes_of(block))
+        name = lent_name(bytes_of(block))
         reply = self._call("need", block, name.at, name.len)
         what = WAITS[reply.what]
         return Need(what, int(reply.value) if what in ("items", "room") else None)

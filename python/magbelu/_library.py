@@ -3,6 +3,7 @@
 from __future__ import annotations
 
 import ctypes
+import functools
 import mmap
 import os
 import pathlib
@@ -135,8 +136,14 @@ class Lent:
             self.kept = view.obj if isinstance(view.obj, bytes) and len(view.obj) == len(view) else bytes(view)
             self.at = ctypes.cast(ctypes.c_char_p(self.kept), ctypes.c_void_p).value
         else:
-            self.kept = (ctypes.c_char * len(view)).from_buffer(view)
+            self.kept = ctypes.c_char.from_buffer(view)
             self.at = ctypes.addressof(self.kept)
+
+
+@functools.lru_cache(maxsize=1024)
+def lent_name(name: bytes) -> Lent:
+    """The place of a name, which is kept: calls of a plant name its few blocks again and again."""
+    return Lent(name)
 
 
 class Room:

@@ -3,12 +3,13 @@
 from __future__ import annotations
 
 import ctypes
-from typing import Iterable, Iterator, NamedTuple, Optional, SupportsIndex
+from typing import Any, Iterable, Iterator, NamedTuple, Optional, SupportsIndex
 
 from ._arguments import MOST, Text, bytes_of, count_of
 from ._file import tables_of
-from ._held import Array, Held, Items, Tag, array_of, tags_of, tested
-from ._library import Lent, Room
+from ._held import CODES, Array, Held, Items, Tag, array_of, tags_of, tested
+from ._library import Lent, Room, lent_name
+from ._runs import NO_PATH
 
 # How many items of a sink are drained at a time, at most.
 PIECE = 65536
@@ -44,6 +45,16 @@ class Stream(Held):
 
     _opens = "open_stream"
 
+    def __init__(self, text: Text, path: str = NO_PATH) -> None:
+        super().__init__(text, path)
+        # (for the lines of tags, which most drains have few of)
+        self._lines = Room(4096)
+        self._item_sizes: dict[bytes, int] = {}
+
+    def anew(self) -> Stream:
+        """A stream of the same graph, at its beginning."""
+        return type(self)(self._text, self.path)
+
     def drain(self, sink: Text, count: Optional[SupportsIndex] = None) -> tuple[Array, list[Tag]]:
         """Takes at most `count` items away of those that a sink has taken and that were not drained yet, and gives them with the tags on them. The offset of a tag counts
         from the first item that the sink ever took.
@@ -57,17 +68,57 @@ class Stream(Held):
         >>> items.tolist(), tags
         ([11, 12], [Tag(offset=2, key='burst', value=7, source=0)])
         """
-        name, most = Lent(bytes_of(sink)), MOST if count is None else count_of(count, "a count of items", MOST)
-        room, tags_room = 4 * PIECE, 4096
+        most, room = MOST if count is None else count_of(count, "a count of items", MOST), 4 * PIECE
         with self._lock:
             while True:
-                data, lines = Room(room), Room(tags_room)
-                piece = self._calls.magbelu_bytes_drain(ctypes.byref(self._plant), name.at, name.len, most, 0, data.at, data.size, lines.at, lines.size)
-                if piece.bytes_len <= room and piece.tags_len <= tags_room:
+                data = Room(room)
+                piece, tags = self._drained_to(sink, most, data.at, data.size)
+                if piece.bytes_len <= room:
                     break
-                room, tags_room = max(room, piece.bytes_len), max(tags_room, piece.tags_len)
-        tested(piece, sink)
-        return array_of(piece.item_size, data.part(0, piece.bytes_len)), tags_of(lines.part(0, piece.tags_len).decode().split())
+                room = piece.bytes_len
+        return array_of(piece.item_size, data.part(0, piece.bytes_len)), tags
+
+    def drain_into(self, sink: Text, room: Any) -> tuple[int, list[Tag]]:
+        """Does the same with an array of the caller, which gets at most as many items as it has places: one of numpy or an `array.array`, of the type that `drain` gives.
+        It tells how many items it got.
+
+        >>> import array
+        >>> stream, room = Stream(magbelu.EXAMPLE), array.array("B", [0, 0])
+        >>> stream.feed("src", [250, 1, 2]), stream.settle(), stream.drain_into("out", room), room.tolist()
+        (3, False, (2, []), [4, 11])
+        >>> stream.drain_into("out", room), room.tolist()
+        ((1, []), [12, 11])
+        """
+        view = memoryview(room)
+        with self._lock:
+            size = self._item_size(sink)
+            if view.format != CODES[size] or view.ndim != 1 or not view.c_contiguous or view.readonly:
+                raise TypeError("what %r drains into is an array of type %r that can be written" % (sink, CODES[size]))
+            if not view.nbytes:
+                return 0, []
+            data = Lent(view)
+            piece, tags = self._drained_to(sink, len(view), data.at, data.len)
+        return piece.bytes_len // size, tags
+
+    def _item_size(self, sink: Text) -> int:
+        """How many bytes an item of a sink has."""
+        name = bytes_of(sink)
+        if name not in self._item_sizes:
+            self._item_sizes[name] = self._drained_to(sink, 0, None, 0)[0].item_size
+        return self._item_sizes[name]
+
+    def _drained_to(self, sink: Text, most: int, at: Optional[int], size: int) -> tuple[Any, list[Tag]]:
+        """Drains into memory of this size, where the items fit: else nothing is taken away, and there are no tags."""
+        name = lent_name(bytes_of(sink))
+        while True:
+            lines = self._lines
+            words = (name.at, name.len, most, 0, at or lines.at, size, lines.at, lines.size)
+            piece = tested(self._calls.magbelu_bytes_drain(ctypes.byref(self._plant), *words), sink)
+            if piece.bytes_len > size or not piece.tags_len:
+                return piece, []
+            if piece.tags_len <= lines.size:
+                return piece, tags_of(lines.part(0, piece.tags_len).decode().split())
+            self._lines = Room(piece.tags_len)
 
     def through(self, **pieces: Iterable[Items]) -> Iterator[Piece]:
         """Runs the graph over what comes in, and gives what its sinks give, piece after piece, until all blocks are done. `pieces` has an iterable for each source: of

@@ -1,6 +1,9 @@
 # shellcheck shell=bash disable=SC2154
 # For tests/parts/newcomer.sh to source: what ./build installs, and takes away again.
 
+# What Companion reads of the package for Python.
+companion=share/gnuradio/grc/blocks/magbelu_flowgraph.block.yml
+
 # brings PLACE FILE: the file stands at this place under the prefix
 brings() { cmp -s "$2" "$elsewhere/a prefix/$1" || wrong "--install brings no $1"; }
 
@@ -14,7 +17,8 @@ install_puts_all_in_place() {
     calls 0 ./build_by_link --install "a prefix"
     [[ ! -e $room/bin/proved ]] || wrong "--install proves again what was proved"
     grep -qx "build: the library for C is not installed: ./build --c has not built it from these sources" "$room/errors" || wrong "--install says nothing of C"
-    (cd -- "$top/share" && find . -type f) >"$room/files"
+    # (the block for Companion comes with the package for Python)
+    (cd -- "$top/share" && find . -path ./gnuradio -prune -o -type f -print) >"$room/files"
     while IFS= read -r file; do
         brings "share/$file" "$top/share/$file"
     done <"$room/files"
@@ -53,6 +57,7 @@ install_brings_the_library_for_c() {
     fi
     if command -v python3 >/dev/null; then
         is_found_by_python
+        brings "$companion" "$top/$companion"
     fi
 }
 
@@ -116,7 +121,7 @@ deb_makes_packages() {
     grep -qx "prefix=/usr" "$room/unpacked/$lib/pkgconfig/magbelu.pc" || wrong "magbelu.pc has another prefix"
     says libmagbelu-dev Depends "libmagbelu1 (= $version), libc6-dev"
     mapfile -t files < <(cd -- "$top/python/magbelu" && find . -type f ! -name '*.pyc' -printf 'usr/lib/python3/dist-packages/magbelu/%P\n')
-    has_files python3-magbelu "${files[@]}"
+    has_files python3-magbelu "${files[@]}" "usr/$companion"
     says python3-magbelu Depends "libmagbelu1 (>= $version), python3:any (>= 3.9)"
     mapfile -t files < <(cd -- "$top/python" && find flow_from_grc -name '*.py' -printf 'usr/share/magbelu/%p\n')
     has_files magbelu usr/bin/flow{,-from-grc} usr/share/man/man1/flow{,-from-grc}.1.gz usr/share/bash-completion/completions/flow \

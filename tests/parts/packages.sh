@@ -1,12 +1,12 @@
 #!/usr/bin/env bash
 # The packages for Debian that ./build --deb has made of these sources, in a fresh Debian of their own without the toolchain: README's first command, the program of
-# docs/C.md in C, the package for Python, and that nothing of them stays. It takes root, debootstrap and some minutes of a network, so ./test tries it by its
+# docs/C.md in C, the package for Python, the block of GNU Radio, and that nothing of them stays. It takes root, debootstrap and some minutes of a network, so ./test tries it by its
 # name alone. What debootstrap brings is kept at $MAGBELU_DEBIAN for a next run, where that names a folder.
 set -euo pipefail
 # shellcheck source=tests/part.sh
 source "$(dirname -- "$(readlink -f -- "${BASH_SOURCE[0]}")")/../part.sh"
 
-cases=(lintian_is_silent first_command_runs program_in_c_runs python_runs drawing_is_converted nothing_stays)
+cases=(lintian_is_silent first_command_runs program_in_c_runs python_runs drawing_is_converted block_of_gnuradio_runs nothing_stays)
 # What the machine itself has, of which a fresh system may be made.
 suite=$(sed -n 's/^VERSION_CODENAME=//p' /etc/os-release)
 
@@ -95,6 +95,22 @@ print(graph.read("out")[0].tolist())'
 drawing_is_converted() {
     cp -- "$top/examples/grc/rates.grc" "$system/root"
     gives "$(<"$top/examples/grc/rates.toml")" sh -c 'flow-from-grc /root/rates.grc 2>/dev/null'
+}
+
+# The program that docs/FOR_GNU_RADIO_USERS.md begins with, and a drawing with the block of Companion.
+block_of_gnuradio_runs() {
+    inside apt-get install --yes --no-install-recommends gnuradio
+    mkdir -p -- "$system/root/examples"
+    cp -r -- "$top/examples/filter" "$system/root/examples"
+    cp -- "$top"/tests/gnuradio/{drawing.grc,graph.toml} "$system/root"
+    # shellcheck disable=SC2016
+    sed -n '/^```python$/,/^```$/{//d;p}' "$top/docs/FOR_GNU_RADIO_USERS.md" | sed '/^print/q' >"$system/root/program.py"
+    gives "[1, 6, 14] done" sh -c 'cd /root && python3 program.py'
+    gives "[101, 102, 103] [-2, -4]" sh -c 'cd /root && grcc drawing.grc >said 2>&1 && python3 -c "
+import drawing
+top = drawing.drawing()
+top.run()
+print(list(top.summed.data()), list(top.kept.data()))" || cat said'
 }
 
 nothing_stays() {

@@ -39,7 +39,7 @@ words_of() {
         grep -qF "$saying" "$share/man/man1/flow.1" || wrong "the man page lacks: $saying"
     done < <(sayings "$help")
     for option in $(options "$help"); do
-        grep -qE -- "[*,{' ]$option\b" <<<"$zsh_words" || wrong "the completion for zsh lacks $option"
+        grep -qE -- "[*,{' )]$option\b" <<<"$zsh_words" || wrong "the completion for zsh lacks $option"
     done
     saying=$(sed -n 1p <<<"$help")
     grep -qE "^ +'$1:$saying'\$" <<<"$zsh_words" || wrong "the completion for zsh lacks what $1 does: $saying"

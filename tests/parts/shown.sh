@@ -81,6 +81,18 @@ make_call() {
     fi
 }
 
+# make_pipe CASE OUTPUT BYTES WORD..: a call between pipes as a page shows it, with what printf is given for its standard input; the numbers of the bytes that od
+# shows stand behind the report
+make_pipe() {
+    local name=$1 bytes
+    bytes=$(grep '^ ' <<<"$2" | xargs printf '\\x%x')
+    make_call "$name" '' "${@:4}"
+    rm -f -- "$shown/$name/stdout"
+    printf '%b' "$bytes" >"$shown/$name/stdout"
+    printf "$3" >"$shown/$name/stdin"
+    grep -v '^ ' <<<"$2" >"$shown/$name/stderr"
+}
+
 # make_calls_of FILE: the calls that a page shows; in a fence without a language each runs from its `$` to the next, or to the end of the fence. (Those with
 # files of raw items are of examples/signal, whose recording is a case of its own.)
 make_calls_of() {
@@ -93,6 +105,10 @@ make_calls_of() {
                 number=$((number + 1))
                 read -ra words <<<"${BASH_REMATCH[2]}"
                 make_call "$page/$number" "${output%$'\n'}" "${words[@]}"
+            elif [[ $call =~ ^printf\ \'(.*)\'\ \|\ \./flow\ (run\ .*)\ \|\ od\ -An\ -tu1$ ]]; then
+                number=$((number + 1))
+                read -ra words <<<"${BASH_REMATCH[2]}"
+                make_pipe "$page/$number" "${output%$'\n'}" "${BASH_REMATCH[1]}" "${words[@]}"
             fi
             call='' output=''
         fi

@@ -1,0 +1,53 @@
+"""What the block of GNU Radio Companion asks of a graph file while it is drawn: share/gnuradio/grc/blocks has its description."""
+
+from __future__ import annotations
+
+import functools
+import os
+
+from ._errors import Refused
+from ._ports import Path, Port, Ports, ports
+
+
+@functools.lru_cache(maxsize=64)
+def _ports_at(path: str, _time: int, _size: int) -> Ports:
+    try:
+        return ports(path)
+    except Refused:
+        return Ports([], [])
+
+
+def _ports(path: Path) -> dict[str, list[Port]]:
+    """The "inputs" and "outputs" of a file, or none where it is not there or is refused: they are asked for each port, and while a path is being typed."""
+    try:
+        found = os.stat(path)
+    except OSError:
+        return Ports([], [])._asdict()
+    return _ports_at(os.fspath(path), found.st_mtime_ns, found.st_size)._asdict()
+
+
+def has_ports(path: Path) -> bool:
+    """Whether a file has any port.
+
+    >>> has_ports("no/such/file")
+    False
+    """
+    return any(_ports(path).values())
+
+
+def has_port(path: Path, side: str, number: int) -> bool:
+    """Whether a file has this port of its "inputs" or "outputs".
+
+    >>> has_port("examples/echo/graph.toml", "outputs", 1), has_port("examples/echo/graph.toml", "outputs", 2)
+    (True, False)
+    """
+    return number < len(_ports(path)[side])
+
+
+def type_of(path: Path, side: str, number: int) -> str:
+    """The type of a port, as Companion calls it, and any where there is no such port.
+
+    >>> type_of("examples/filter/graph.toml", "inputs", 0)
+    'short'
+    """
+    return _ports(path)[side][number].type if has_port(path, side, number) else "byte"
