@@ -1,0 +1,2 @@
+-- The same under another name.
+pub use Rattle.low.specs.Base.{weight}
