@@ -1,6 +1,6 @@
 #!/usr/bin/env bash
 # That the man page and the completions of share/ have the words of `flow`: of each command the options that its help has, and no others, and what the
-# help says of them. The help is that of tests/cases/words, which are held against the program.
+# help says of them. The help is that of tests/cases/words, which are held against the program. And that all places that name a version name the same.
 set -euo pipefail
 # shellcheck source=tests/part.sh
 source "$(dirname -- "$(readlink -f -- "${BASH_SOURCE[0]}")")/../part.sh"
@@ -45,7 +45,40 @@ words_of() {
     grep -qE "^ +'$1:$saying'\$" <<<"$zsh_words" || wrong "the completion for zsh lacks what $1 does: $saying"
 }
 
-list() { printf 'share/%s\n' "${commands[@]}"; }
+# is_version OF WANTED WHERE CAME: a place names the version of this
+is_version() { [[ $2 == "$4" ]] || wrong "$3 has version '$4' of $1, and it is '$2'"; }
+
+# versions_of_all: the version of the program, and of all that is installed with it
+versions_of_all() {
+    local it wanted
+    wanted=$(version_of_all)
+    for it in "$share"/man/man1/*.1; do
+        is_version "the program" "$wanted" "${it#"$top/"}" "$(sed -nE '1s/^\.TH .* "flow ([^"]*)".*/\1/p' "$it")"
+    done
+    is_version "the program" "$wanted" tests/cases/words/call_for_the_version "$(sed -n 's/^flow //p' "$top/tests/cases/words/call_for_the_version/stderr")"
+    is_version "the program" "$wanted" "the newest part of CHANGELOG.md" "$(sed -n '/^## /{s///p;q}' "$top/CHANGELOG.md")"
+}
+
+# versions_of_calls: the version of the library's calls
+versions_of_calls() {
+    local wanted
+    wanted=$(version_of_calls)
+    is_version "the calls" "$wanted" crates/magbelu_c "$(sed -n 's/^const VERSION: u32 = \(.*\);$/\1/p' "$top/crates/$c_crate/src/calls.rt")"
+    is_version "the calls" "$wanted" python/magbelu "$(sed -n 's/^_VERSION = //p' "$top/python/magbelu/_library.py")"
+    is_version "the calls" "$wanted" "the package of Debian" "$(sed -n 's/^Package: libmagbelu\([0-9]*\)$/\1/p' "$top/scripts/debian/control")"
+    is_version "the calls" "$wanted" "the newest part of CHANGELOG.md" "$(sed -nE '/^The calls of the library for C: version (.*)\.$/{s//\1/p;q}' "$top/CHANGELOG.md")"
+}
+
+# tell CASE: how it ended
+tell() {
+    if ((${#faults[@]} == 0)); then
+        passed "$1"
+    else
+        printf '%s\n' "${faults[@]}" | failed "$1"
+    fi
+}
+
+list() { printf 'share/%s\n' "${commands[@]}" versions; }
 
 run() {
     local it zsh_words faults
@@ -58,12 +91,16 @@ run() {
             continue
         fi
         words_of "$it"
-        if ((${#faults[@]} == 0)); then
-            passed "share/$it"
-        else
-            printf '%s\n' "${faults[@]}" | failed "share/$it"
-        fi
+        tell "share/$it"
     done
+    if is_wanted share/versions; then
+        # shellcheck source=scripts/layout.sh
+        source "$top/scripts/layout.sh"
+        faults=()
+        versions_of_all
+        versions_of_calls
+        tell share/versions
+    fi
 }
 
 "$1"
