@@ -1,4 +1,16 @@
 //! What stands behind a refusal of a graph file or of a line of a script: the place in the text, what was found there and what may stand there.
+//!
+//! ```text
+//! flow: refused 44 UnknownKind block 1
+//!  --> graph.toml:7:8
+//!   |
+//! 7 | kind = "add_cnst"
+//!   |        ^ there is no kind `add_cnst`; is `add_const` meant?
+//! ```
+//!
+//! [`explain`] reads the file again, with the places of its tables and keys (`document`, `entries`, `tokens`), and finds what the fault is about: `table_faults`,
+//! `graph_faults` and `feed_faults` have a function for each. `expected` says what may stand at a key, `near` which name was meant, `frame` prints the place.
+//! [`KeptLines`] keep the lines of a script for the same, and [`Noted`] a device with the reason why it failed. No contract says what it prints; that is tested.
 #![tactic(auto)]
 
 mod commands;

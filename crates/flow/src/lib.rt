@@ -1,4 +1,17 @@
 //! What the program `flow` does with a graph file and its standard streams, over any source and place of bytes.
+//!
+//! ```text
+//! let status = serve(rt, alloc, Action::Run(Threading::Adaptive), Notes::Shown, file, &mut input, &mut output, &mut errors, &mut watch);
+//! ```
+//!
+//! `serve` is all of it: its contract says which bytes come out for which bytes of the file and the input, and which status. Below it:
+//!
+//! - `script` takes lines one by one, and a `session` answers them; `live` has the same lines make calls at the desk of a plant that runs.
+//! - `running` has a plant run in threads, `runs` reports on it, and `reports` has the text.
+//! - `stalls` explains why a run came to rest, and `fault` and `telling` why a command stopped, without memory.
+//! - `streams`, `raw_run` and `raw_output` are the steps of runs over raw items, for who joins them to files or buffers: the program and the library for C.
+//!
+//! Arguments, files and the terminal are those of `flow_program`.
 #![tactic(auto)]
 
 mod answerer;

@@ -1,4 +1,14 @@
 //! The reading of graph files.
+//!
+//! ```text
+//! let file = read_graph(alloc, text)?;     // the document: blocks, connections, feeds
+//! let plant = file.open(alloc)?;           // tested as a graph, opened and fed
+//! ```
+//!
+//! `validate` gives the graph and the feeds alone, and `stream` a plant that streams. A file that is refused is a [`FileFault`]: a number, a name and the place.
+//! Which cause is reported, where there are several, and that all else is accepted, says the contract of [`read_graph`]. `blocks`, `connections` and `feeds` read
+//! the tables, [`kind_keys`] makes a block of a table, and `only` refuses keys that a table may not have. A fault is made without memory, and its text comes in
+//! [`Pieces`] for the same reason.
 #![tactic(auto)]
 
 pub mod accepted;

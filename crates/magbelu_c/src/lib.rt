@@ -1,4 +1,12 @@
 //! Magbelu from C: what c/magbelu.h declares. No call has a `requires`, since nothing holds a caller in C to one.
+//!
+//! ```c
+//! struct magbelu_answer answer = magbelu_bytes_run(file, file_len, output, output_room, error, error_room);
+//! ```
+//!
+//! A call takes pointers with their lengths, refuses what they may not be (54 and on), and does one call of the libraries below: `calls` whole runs of a file,
+//! `raw_calls` and `between` runs between raw items, `held_calls` those of a plant that is held behind a `handle`, `streams` and `draining` those of one that
+//! streams, `kernels` arithmetic over slices. It starts no thread, and keeps nothing between two calls but what a handle holds.
 #![tactic(auto)]
 
 pub mod answer;

@@ -1,4 +1,27 @@
 //! The plant of any graph: what it stores of a run, and the calls that move it.
+//!
+//! ```text
+//! let mut plant = Plant::open(alloc, graph)?;
+//! plant.feed(source, items, &[])?;
+//! plant.close(source)?;
+//! let settled = plant.settle(alloc, 1024)?;          // steps of all blocks, until none can act
+//! let piece = plant.read(alloc, sink, 0, u64::MAX)?; // what the sink has taken
+//! ```
+//!
+//! A [`Plant`] has no thread and no clock. Who wants to decide which block acts calls `step`; who wants to work elsewhere claims a [`Job`], does it, and commits
+//! what came of it:
+//!
+//! ```text
+//! if let Claim::Claimed(job) = plant.claim(alloc, block, 64)? {
+//!     let worked = job.work(); // needs no plant, and may be done on any thread
+//!     plant.commit(worked)?;
+//! }
+//! ```
+//!
+//! Each call is one of the machine (`stream_model/specs/Machine.antt`): its contract says that the reply and the state after it are the machine's. A call that is
+//! refused changes nothing. Which call is where: `feeds` has what hands something to a block, `claims` and `commits` the firings, `reading` what is shown,
+//! `settle` the loop over all blocks, `waits` why a block cannot act, `handed` what is compared when a plant comes back from elsewhere. All of them are calls of
+//! [`Parts`], of which a plant that streams is made, too.
 #![tactic(auto)]
 
 pub mod answers;

@@ -1,5 +1,21 @@
-//! Runs of a plant in threads, which claim, work and commit until it comes to rest, and what it holds then: a thread for each block, or as many as
-//! the work is worth.
+//! Runs of a plant in threads, which claim, work and commit until it comes to rest, and what it holds then.
+//!
+//! ```text
+//! let running = launch(rt, alloc, plant, gate)?; // a thread for each block
+//! match running.wait(&rt)? {
+//!     Outcome::Done(plant) => ..,                // each sink has its whole stream
+//!     Outcome::Stalled(plant) => ..,             // no block can act, and not all are done
+//!     Outcome::Stopped(plant) => ..,             // a stop was asked for
+//! }
+//! ```
+//!
+//! - [`launch`] and [`run`] have a worker for each block. Whose progress wakes whom is decided in `seats`.
+//! - [`run_adaptive`] and [`launch_adaptive`] take as many threads as the work is worth. All that is decided there stands in `policy`, a page to read.
+//! - [`live`] has callers at desks make calls while a thread for each block works, and returns the history of all calls.
+//!
+//! The plant lies under one lock, and each call that is made of it there is one call of `Hall`, whose contract is exact. What a worker does between two looks at the
+//! lock is a turn: it commits, claims, and leaves to work. What comes out of the lock is compared with what was handed in, since a lock tells nothing but a
+//! type of what it holds. So the contracts say what a plant holds at the end, for every schedule.
 #![tactic(auto)]
 
 mod adaptive;

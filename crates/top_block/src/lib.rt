@@ -1,4 +1,13 @@
 //! The top block: a graph of kinds that is fed, and runs in threads to its end.
+//!
+//! ```text
+//! let mut top = TopBlock::from_graph(alloc, graph)?;
+//! top.feed(source, items, &marks)?;
+//! let outcome = top.run(rt, alloc)?;       // closes all sources, runs, and waits
+//! ```
+//!
+//! A [`TopBlock`] is for who comes from GNU Radio: `run` is `start` and `wait`. `start` closes the sources, since a run in threads ends when nothing more can come;
+//! `start_live` leaves them open, for callers that feed meanwhile. What is called at single blocks is a matter of the plant, which comes back at the end.
 #![tactic(auto)]
 
 pub mod closing;
