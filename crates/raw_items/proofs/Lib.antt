@@ -1,3 +1,4 @@
+pub mod Bytes
 pub mod Numbers
 pub mod Parts
 pub mod Pieces

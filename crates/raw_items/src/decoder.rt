@@ -8,6 +8,7 @@ ghost use Rattle.raw_items.specs.Values.{items_of, all_bytes_of};
 use crate::chunks::{push_numbers, write_at};
 use crate::{ByteOrder, item_size};
 use items::{ItemType, Items};
+use numbers::vectors::{append, are_in_range};
 use std::alloc::AllocError;
 use std::marker::Model;
 
@@ -114,7 +115,11 @@ fn push_items(out: &mut Items, bytes: &[u8], order: ByteOrder)
     ensures spare { spare_of out.old ≤ spare_of out.new + count_of (type_of out.old) bytes.now }
 {
     match out {
-        Items::Byte(numbers) => push_numbers(numbers, bytes, order),
+        Items::Byte(numbers) => {
+            // Each is its own byte, so that they are copied as they stand.
+            are_in_range(bytes);
+            append(numbers, bytes);
+        }
         Items::Short(numbers) => push_numbers(numbers, bytes, order),
         Items::Int(numbers) => push_numbers(numbers, bytes, order),
     }

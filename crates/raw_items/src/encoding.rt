@@ -7,6 +7,7 @@ ghost use Rattle.raw_items.specs.Values.{items_of, all_bytes_of};
 use crate::ByteOrder;
 use crate::chunks::push_number_bytes;
 use items::Items;
+use numbers::vectors::are_in_range;
 use std::alloc::AllocError;
 
 /// Appends the bytes of the items from place `from` to below place `to`. It fails only where there is no room for them and the allocator refuses.
@@ -32,7 +33,11 @@ pub fn push_item_bytes(
         (all_bytes_of (type_of items.now) order (slice_range (numbers_of items.now) from to)) ≡ slice_range (numbers_of items.now) from to) }
 {
     match items {
-        Items::Byte(numbers) => push_number_bytes(out, &numbers[from..to], order),
+        Items::Byte(numbers) => {
+            // Each is its own byte, so that they are copied as they stand.
+            are_in_range(&numbers[from..to]);
+            out.extend_from_slice(&numbers[from..to])
+        }
         Items::Short(numbers) => push_number_bytes(out, &numbers[from..to], order),
         Items::Int(numbers) => push_number_bytes(out, &numbers[from..to], order),
     }

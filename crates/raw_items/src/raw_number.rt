@@ -21,20 +21,6 @@ pub(crate) trait RawNumber<const N: usize>: Number {
     ghost has_size: { size_of Self.kind ≡ N };
 }
 
-impl RawNumber<1> for u8 {
-    ghost use Rattle.std.specs.Prelude.{refl};
-
-    ghost has_size = { refl };
-
-    fn from_bytes(bytes: &[u8; 1], _order: ByteOrder) -> u8 {
-        bytes[0]
-    }
-
-    fn to_bytes(self, _order: ByteOrder) -> [u8; 1] {
-        [self]
-    }
-}
-
 impl RawNumber<2> for i16 {
     ghost use Rattle.std.specs.Prelude.{refl};
 
