@@ -25,6 +25,12 @@ pub trait Watch {
     /// The plant is so far: after each round of all blocks on one thread, and after each pause in threads.
     fn show(&mut self, headway: Headway);
 
+    /// `settle` begins a step of this block. A run in threads tells its gate of turns instead.
+    fn begins(&mut self, _block: BlockId) {}
+
+    /// The step that `settle` began came to this. There is no such call where memory ran out.
+    fn stepped(&mut self, _block: BlockId, _step: Step) {}
+
     /// The run is over, however it ended.
     fn end(&mut self);
 }
@@ -63,7 +69,7 @@ impl<B: Block> Parts<B> {
         ensures whole { let new = plant_of self.new in IfOk result (HoldsSettled (net_of B.meaning new.graph) new.state) }
     {
         'rounds: loop {
-            let moved = self.round(alloc, max)?;
+            let moved = self.round(alloc, max, watch)?;
             watch.show(self.headway());
             self.graph.recall();
             if self.firings.all_done() {
@@ -76,7 +82,12 @@ impl<B: Block> Parts<B> {
     }
 
     /// Steps each block once, and returns whether one moved on.
-    pub fn round(&mut self, alloc: Global, max: u32) -> Result<bool, AllocError>
+    pub fn round<W: Watch>(
+        &mut self,
+        alloc: Global,
+        max: u32,
+        watch: &mut W,
+    ) -> Result<bool, AllocError>
         requires right { IsRight B.meaning self.old }
         requires idle { is_idle (plant_of self.old).state ≡ true }
         requires some { 1 ≤ max }
@@ -90,7 +101,7 @@ impl<B: Block> Parts<B> {
         self.graph.recall();
         let mut moved = false;
         for block in 0..self.graph.len() {
-            if self.moves(alloc, BlockId(block as u32), max)? {
+            if self.moves(alloc, BlockId(block as u32), max, watch)? {
                 moved = true;
             }
         }
@@ -98,7 +109,13 @@ impl<B: Block> Parts<B> {
     }
 
     // Steps a block, and returns whether it fired or became done.
-    fn moves(&mut self, alloc: Global, block: BlockId, max: u32) -> Result<bool, AllocError>
+    fn moves<W: Watch>(
+        &mut self,
+        alloc: Global,
+        block: BlockId,
+        max: u32,
+        watch: &mut W,
+    ) -> Result<bool, AllocError>
         requires right { IsRight B.meaning self.old }
         requires block { block.0 < length (arc_value self.old.graph).blocks }
         requires some { 1 ≤ max }
@@ -112,10 +129,16 @@ impl<B: Block> Parts<B> {
     {
         self.graph.recall();
         let was_done = self.firings.progress(block).done;
+        watch.begins(block);
         match self.step(alloc, block, max) {
-            Ok(Step::Did(_)) => Ok(true),
-            Ok(Step::Done) => Ok(!was_done),
-            Ok(Step::Busy | Step::Waiting(_)) => Ok(false),
+            Ok(step) => {
+                watch.stepped(block, step);
+                match step {
+                    Step::Did(_) => Ok(true),
+                    Step::Done => Ok(!was_done),
+                    Step::Busy | Step::Waiting(_) => Ok(false),
+                }
+            }
             Err(_) => Err(AllocError),
         }
     }

@@ -210,7 +210,7 @@ impl<B: Block> StreamingPlant<B> {
         ensures sinks { self.new.kept.sinks ≡ self.old.kept.sinks }
         ensures taken { IfOk result (λ _. KeepsNoTaken (net_of B.meaning self.new.plant.graph) self.new) }
     {
-        let moved = self.parts.round(alloc, max)?;
+        let moved = self.parts.round(alloc, max, &mut Unwatched)?;
         forget_taken(&mut self.parts)?;
         Ok(moved)
     }
