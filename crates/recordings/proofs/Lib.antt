@@ -1,3 +1,4 @@
 pub mod Parts
 pub mod Forgetting
+pub mod Counts
 pub mod PastSettings

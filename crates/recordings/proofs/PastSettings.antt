@@ -2,7 +2,7 @@
 use Rattle.std.proofs.Common.{◌≡◌, ℕ, zero, suc, ◌+◌, ◌-◌, ◌<◌, ◌≤◌, true, false, nat_le, cond, inl, inr, List, [], ◌∷◌, ◌++◌, Option, Some, None, All, length, get_or, refl, sym, ap, ◌∙◌, subst, arith, zero-le}
 use Rattle.std.specs.Prelude.{◌==◌, filter_map}
 use Rattle.std.specs.List.{Any, cons_option}
-use Rattle.std.proofs.lemmas.Bool.{le-leb, cases_lt}
+use Rattle.std.proofs.lemmas.Bool.{cases_lt}
 use Rattle.std.proofs.lemmas.List.Elements.{All-nil, All-cons, All-head, All-weaker, All-filter}
 use Rattle.std.proofs.lemmas.List.Sums.{fold-append}
 use Rattle.stream_model.specs.Lists.{numbers_from}
@@ -16,9 +16,7 @@ use Rattle.settings.specs.Timelines.{kept_from}
 use Rattle.settings.proofs.Latest.{latest-later}
 use Rattle.settings.proofs.Pruned.{kept-below}
 use Rattle.recordings.specs.Recent.{ArePastSettings, settings_made}
-
-kept-at : (first : ℕ) (t : Held) (ts : List Held) → first ≤ t.at → kept_from first (t ∷ ts) ≡ t ∷ kept_from first ts
-kept-at first t ts le = ap (λ b. cond b (t ∷ kept_from first ts) (kept_from first ts)) (le-leb first t.at le)
+use Rattle.recordings.proofs.Counts.{kept-at, no_more_later, no_more_than_made, put_counts, in_force_counts}
 
 -- what is in force at an item was made at that item or before
 latest-within : (h : Held) (ts : List Held) (a : ℕ) → h.at ≤ a → (latest h ts a).at ≤ a
@@ -144,13 +142,25 @@ module _ (own : Value) (made : List Held) (from : ℕ) (kept : List Held) (are :
       let within = in_force-within own made from in
       subst (Any (λ (h : Held). h.at ≡ n)) (sym are.kept_is) (still_kept are.first n (omega (arith, reads, within, le)) made any.0 any.1 any.2 any.3 any.4)
 
+  -- how many are there
+  pub all_read : length (kept_from (setting_at own made from).at made) ≤ length kept
+  all_read = let all = ap length are.kept_is in let more = no_more_later are.first (setting_at own made from).at made are.reads in omega (arith, all, more)
+
+  pub all_made : length kept ≤ length made
+  all_made = let all = ap length are.kept_is in let few = no_more_than_made are.first made in omega (arith, all, few)
+
   -- a setting more, of such an item
   pub one_more : (h : Held) → from ≤ h.at → ArePastSettings own (put_setting h made) from (put_setting h kept)
   one_more h le = record {
     first = are.first;
     reads = reads_more;
     rising = put-rises h made are.rising;
-    kept_is = ap (put_setting h) are.kept_is ∙ put-kept are.first h made low;
+    kept_is = kept_now;
+    few = let now = ap length kept_now in
+        let before = ap length are.kept_is in
+        let few = are.few in
+        let counts = put_counts are.first from h made low le in
+        omega (arith, now, before, few, counts);
   }
     where
       g : Held
@@ -183,18 +193,24 @@ module _ (own : Value) (made : List Held) (from : ℕ) (kept : List Held) (are :
             ]
           ]
 
+      kept_now : put_setting h kept ≡ kept_from are.first (put_setting h made)
+      kept_now = ap (put_setting h) are.kept_is ∙ put-kept are.first h made low
+
   -- what no item from one on reads goes
   pub fewer : (to : ℕ) → from ≤ to → ArePastSettings own made to (kept_from (setting_at own kept to).at kept)
   fewer to le =
       let same = reads_same to le in
       let reads = are.reads in
       let rises = in_force-rises own made from to are.rising le in
+      let left : kept_from (setting_at own kept to).at kept ≡ kept_from (setting_at own made to).at made =
+      ap (λ (h : Held). kept_from h.at kept) same ∙ ap (kept_from (setting_at own made to).at) are.kept_is
+      ∙ kept-kept (setting_at own made to).at are.first made (omega (arith, reads, rises)) in
       record {
         first = (setting_at own made to).at;
         reads = omega arith;
         rising = are.rising;
-        kept_is = ap (λ (h : Held). kept_from h.at kept) same ∙ ap (kept_from (setting_at own made to).at) are.kept_is
-            ∙ kept-kept (setting_at own made to).at are.first made (omega (arith, reads, rises));
+        kept_is = left;
+        few = let now = ap length left in let few = in_force_counts own made to are.rising in omega (arith, now, few);
       }
     where
       kept-kept : (high low : ℕ) (ts : List Held) → low ≤ high → kept_from high (kept_from low ts) ≡ kept_from high ts
@@ -207,7 +223,7 @@ module _ (own : Value) (made : List Held) (from : ℕ) (kept : List Held) (are :
           ]
 
 pub none_past : (own : Value) → ArePastSettings own [] 0 []
-none_past own = record { first = 0; reads = zero-le; rising = rising_nil; kept_is = refl }
+none_past own = record { first = 0; reads = zero-le; rising = rising_nil; kept_is = refl; few = zero-le }
 
 -- a setting more
 pub made_more : (calls : List (typed.Value × ℕ)) (v : typed.Value) (at : ℕ) → settings_made (calls ++ (v, at) ∷ []) ≡ put_setting (placed (at, v)) (settings_made calls)

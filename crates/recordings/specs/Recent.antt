@@ -41,6 +41,15 @@ pub record AreRecent (forgotten : List (Items × ℕ)) (before gone : ℕ) (item
 abbrev pub LieBefore : ℕ → List (TagList × ℕ) → Type 0
 LieBefore from pieces = All (λ t. t.offset < from) (forgotten_tags pieces)
 
+-- and these lie on that item or later
+abbrev pub LieFrom : ℕ → List Tag → Type 0
+LieFrom from ts = All (λ t. from ≤ t.offset) ts
+
+-- of all tags those on items from one on are in memory, and the others are not
+pub record AreRecentTags (from : ℕ) (forgotten : List (TagList × ℕ)) (kept : List Tag) : Type 0 where
+  pub before : LieBefore from forgotten
+  pub behind : LieFrom from kept
+
 -- a block's own parameter, all settings by their items, and the first item at which they may still be read
 pub record SettingsState : Type 0 where
   pub own : model.Value
@@ -51,9 +60,11 @@ pub record SettingsState : Type 0 where
 abbrev pub settings_made : List (Value × ℕ) → List model.Held
 settings_made calls = fold (λ hs call. model.put_setting (placed (call.1, call.0)) hs) [] calls
 
--- of these settings those are in memory that were made at an item or later, and so is that in force at item from, if it is no more the block's own
+-- of these settings those are in memory that were made at an item or later, and so is that in force at item from, if it is no more the block's own;
+-- of those made before item from there is at most one
 pub record ArePastSettings (own : model.Value) (made : List model.Held) (from : ℕ) (kept : List model.Held) : Type 0 where
   pub first : ℕ
   pub reads : first ≤ (model.setting_at own made from).at
   pub rising : model.IsRising made
   pub kept_is : kept ≡ kept_from first made
+  pub few : length kept ≤ 1 + length (kept_from from made)

@@ -1,10 +1,10 @@
 //! The settings of a block, of which those that no later item reads may be forgotten.
 
-ghost use Rattle.std.specs.Prelude.{◌≡◌, ◌≤◌, ◌↔◌, [], map, IsOk, IsTrue, IfOk, OnOk, OnErr};
+ghost use Rattle.std.specs.Prelude.{◌≡◌, ◌+◌, ◌≤◌, ◌↔◌, [], length, map, IsOk, IsTrue, IfOk, OnOk, OnErr};
 ghost use Rattle.std.specs.List.{Any};
 ghost use Rattle.stream_model.specs.Settings as model;
 ghost use Rattle.settings.specs.Values.{value_of, held_of};
-ghost use Rattle.settings.specs.Timelines.{held_at};
+ghost use Rattle.settings.specs.Timelines.{held_at, kept_from};
 
 use past::Past;
 use settings::{Held, Timeline, Value};
@@ -56,8 +56,13 @@ impl RecentSettings {
         }
     }
 
-    /// How many settings are in memory.
-    pub fn in_memory(&self) -> usize {
+    /// How many settings are in memory: all that may still be read, and of those made before the first item that may read them at most one. It was in
+    /// force at that item as others were forgotten, and stays until `forget`, even where that very item is set then.
+    pub fn in_memory(&self) -> usize
+        ensures read { length (kept_from (model.setting_at self.now.own self.now.settings self.now.from).at self.now.settings) ≤ result }
+        ensures past { result ≤ 1 + length (kept_from self.now.from self.now.settings) }
+        ensures made { result ≤ length self.now.settings }
+    {
         self.timeline.len()
     }
 

@@ -1,9 +1,10 @@
 //! Tags of which only those on the last items may be in memory.
 
-ghost use Rattle.std.specs.Prelude.{◌≡◌, ◌+◌, ◌≤◌, [], length, map, IfOk, OnOk, IsOk};
-ghost use Rattle.stream_model.specs.Tags.{tags_within};
+ghost use Rattle.std.specs.Prelude.{◌≡◌, ◌+◌, ◌≤◌, ℕ, [], length, map, false, IfOk, OnOk, IsOk};
+ghost use Rattle.stream_model.specs.Tags.{IsOrdered, tags_within};
 ghost use Rattle.items.specs.Tags.{tag_of};
-ghost use Rattle.tags.specs.TagList.{insert_tags};
+ghost use Rattle.tags.specs.TagList.{insert_tags, tags_from};
+ghost use Rattle.recordings.specs.Recent.{LieBefore, LieFrom, forgotten_tags};
 
 use past::Past;
 use std::alloc::{AllocError, Global};
@@ -18,6 +19,7 @@ pub struct RecentTags {
     // The tags that are out of memory: of each of these those on items below one.
     forgotten: Past<Tags, u64>,
     from: u64,
+    // Those in memory: the tags on items from `from` on.
     tags: Tags,
 }
 
@@ -29,7 +31,7 @@ impl fmt::Debug for RecentTags {
 
 impl Model for RecentTags {
     ghost use Rattle.tags.specs.TagList.{insert_tags};
-    ghost use Rattle.recordings.specs.Recent.{TagsState, LieBefore, forgotten_tags};
+    ghost use Rattle.recordings.specs.Recent.{TagsState, AreRecentTags, forgotten_tags};
 
     ghost Value = { TagsState };
 
@@ -39,7 +41,7 @@ impl Model for RecentTags {
       spare = r.tags.spare;
     } };
 
-    ghost invariant = { λ r. LieBefore r.from r.forgotten.pieces };
+    ghost invariant = { λ r. AreRecentTags r.from r.forgotten.pieces r.tags.tags };
 }
 
 impl RecentTags {
@@ -55,8 +57,10 @@ impl RecentTags {
         }
     }
 
-    /// How many tags are in memory.
-    pub fn in_memory(&self) -> usize {
+    /// How many tags are in memory: those on items from the first on whose tags are kept.
+    pub fn in_memory(&self) -> usize
+        ensures { result ≡ length (tags_from self.now.from self.now.tags) }
+    {
         self.tags.len()
     }
 
@@ -71,14 +75,15 @@ impl RecentTags {
         self.tags.reserve(n)
     }
 
-    /// Takes in tags, each at its place. It takes no memory.
+    /// Takes in tags, each at its place. Those on items whose tags are not kept are forgotten at once. It takes no memory.
     pub fn insert_all(&mut self, more: &[Tag])
         requires { length more.now ≤ self.old.spare }
         ensures tags { self.new.tags ≡ insert_tags (map tag_of more.now) self.old.tags }
         ensures from { self.new.from ≡ self.old.from }
-        ensures spare { self.new.spare + length more.now ≡ self.old.spare }
+        ensures spare { self.old.spare ≤ self.new.spare + length more.now }
     {
         self.tags.insert_all(more);
+        take_out(&mut self.forgotten, &mut self.tags, self.from);
     }
 
     /// The tags on items `from` to below `to`, which are kept.
@@ -96,12 +101,7 @@ impl RecentTags {
         ensures from { self.new.from ≡ to }
         ensures spare { self.old.spare ≤ self.new.spare }
     {
-        if self.tags.as_slice().is_empty() {
-            self.from = to;
-            return;
-        }
-        self.forgotten = self.forgotten.and(&self.tags, &to);
-        self.tags.prune(to);
+        take_out(&mut self.forgotten, &mut self.tags, to);
         self.from = to;
     }
 
@@ -118,5 +118,29 @@ impl RecentTags {
             from: self.from,
             tags,
         })
+    }
+}
+
+// Takes the tags on items before `to` out of memory. It looks at one tag where there is none.
+fn take_out(forgotten: &mut Past<Tags, u64>, tags: &mut Tags, to: u64)
+    ensures same { insert_tags (forgotten_tags forgotten.new.pieces) tags.new.tags ≡ insert_tags (forgotten_tags forgotten.old.pieces) tags.old.tags }
+    ensures before { (from : ℕ) → from ≤ to → LieBefore from forgotten.old.pieces → LieBefore to forgotten.new.pieces }
+    ensures behind { LieFrom to tags.new.tags }
+    ensures spare { tags.old.spare ≤ tags.new.spare }
+{
+    if begins_before(tags.as_slice(), to) {
+        *forgotten = forgotten.and(tags, &to);
+        tags.prune(to);
+    }
+}
+
+// Whether the first of the tags is on an item before `to`. If not, none is.
+fn begins_before(tags: &[Tag], to: u64) -> bool
+    requires { IsOrdered (map tag_of tags.now) }
+    ensures { result ≡ false → LieFrom to (map tag_of tags.now) }
+{
+    match tags.first() {
+        Some(first) => first.offset < to,
+        None => false,
     }
 }

@@ -5,7 +5,7 @@ ghost use Rattle.stream_model.specs.Tags.{tags_within};
 ghost use Rattle.items.specs.Items as typed;
 ghost use Rattle.items.specs.Items.{numbers_of};
 ghost use Rattle.items.specs.Tags.{tag_of};
-ghost use Rattle.tags.specs.TagList.{insert_tags};
+ghost use Rattle.tags.specs.TagList.{insert_tags, tags_from};
 
 use crate::recent_items::{Kept, RecentItems};
 use crate::recent_tags::RecentTags;
@@ -90,8 +90,10 @@ impl Recording {
         self.items.in_memory()
     }
 
-    /// How many tags are in memory.
-    pub fn tags_in_memory(&self) -> usize {
+    /// How many tags are in memory: those on items that are kept.
+    pub fn tags_in_memory(&self) -> usize
+        ensures { result ≡ length (tags_from self.now.from self.now.tags) }
+    {
         self.tags.in_memory()
     }
 
@@ -119,7 +121,7 @@ impl Recording {
         ensures tags { self.new.tags ≡ insert_tags (map tag_of tags.now) self.old.tags }
         ensures from { self.new.from ≡ self.old.from }
         ensures spare { self.old.spare_items ≤ self.new.spare_items + length (numbers_of items.now) }
-        ensures spare_tags { self.new.spare_tags + length tags.now ≡ self.old.spare_tags }
+        ensures spare_tags { self.old.spare_tags ≤ self.new.spare_tags + length tags.now }
     {
         self.items.push(items);
         self.tags.insert_all(tags);

@@ -11,5 +11,5 @@ returns c =
     let kept = c.requires in
     c.range.ensures
     ∙ sym (within_behind c.args.from c.args.to (forgotten_tags c.self.inside.forgotten.pieces) c.self.inside.tags.tags
-    (All-weaker (λ (t : Tag). t.offset < c.self.inside.from) (λ (t : Tag). t.offset < c.args.from) (λ t h. omega (arith, from, kept, h)) (forgotten_tags c.self.inside.forgotten.pieces) c.self.invariant))
+    (All-weaker (λ (t : Tag). t.offset < c.self.inside.from) (λ (t : Tag). t.offset < c.args.from) (λ t h. omega (arith, from, kept, h)) (forgotten_tags c.self.inside.forgotten.pieces) c.self.invariant.before))
     ∙ ap (λ (s : TagsState). tags_within c.args.from c.args.to s.tags) c.self.view_is
