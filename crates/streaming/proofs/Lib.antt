@@ -3,3 +3,4 @@ pub mod Idles
 pub mod Releases
 pub mod Pieces
 pub mod Joins
+pub mod InMemory

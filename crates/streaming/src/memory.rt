@@ -1,10 +1,14 @@
 //! How much is in memory of what sources were fed, of what sinks have taken, and of settings.
 
-ghost use Rattle.std.specs.Prelude.{◌-◌, ◌*◌, ◌<◌, ◌≡◌, ◌≤◌, length, true, slice_index_or};
+ghost use Rattle.std.specs.Prelude.{◌-◌, ◌+◌, ◌*◌, ◌<◌, ◌≡◌, ◌≤◌, length, true, slice_index_or};
 ghost use Rattle.stream_model.specs.Network.{handed_at, role_at, is_keeper, is_source};
+ghost use Rattle.stream_model.specs.Tags.{tags_within};
 ghost use Rattle.machine_laws.specs.Sound.{fired};
+ghost use Rattle.tags.specs.TagList.{tags_from};
+ghost use Rattle.settings.specs.Timelines.{kept_from};
 ghost use Rattle.flowgraph.specs.Flowgraph.{net_of};
 ghost use Rattle.plant.specs.Plant.{IsRight, plant_of, spans_in};
+ghost use Rattle.streaming.specs.Streaming.{tags_into};
 
 use flowgraph::{Block, BlockId};
 use plant::Parts;
@@ -30,26 +34,36 @@ pub(crate) fn items_in_memory<B: Block>(parts: &Parts<B>, block: BlockId) -> usi
     }
 }
 
-/// How many settings of a block are in memory.
-pub(crate) fn settings_in_memory<B: Block>(parts: &Parts<B>, block: BlockId) -> usize {
+/// How many tags are in memory of these: just those on items that are kept.
+pub(crate) fn tags_in_memory<B: Block>(parts: &Parts<B>, block: BlockId) -> usize
+    requires { IsRight B.meaning parts.now }
+    ensures source { let plant = plant_of parts.now in let net = net_of B.meaning plant.graph in block.0 < length net.nodes → is_source (role_at net block.0) ≡ true →
+        result ≡ length (tags_from (slice_index_or (spans_in parts.now).firsts.tapes block.0 0) (handed_at plant.state.handed block.0).tags) }
+    ensures sink { let plant = plant_of parts.now in let net = net_of B.meaning plant.graph in block.0 < length net.nodes → is_keeper (role_at net block.0) ≡ true →
+        result ≡ length (tags_within (slice_index_or (spans_in parts.now).firsts.sinks block.0 0) (fired plant.state block.0) (tags_into net plant.state block.0)) }
+{
+    parts.graph.recall();
+    let at = block.0 as usize;
+    if parts.graph.len() <= at {
+        return 0;
+    }
+    match parts.graph.role(block) {
+        Role::Source => parts.stores.handed[at].tape.recording().tags_in_memory(),
+        Role::Keep => parts.stores.sinks[at].tags_in_memory(),
+        Role::Work | Role::Discard => 0,
+    }
+}
+
+/// How many settings of a block are in memory: no more than were made, and at most one more than were made at the first item that may read them or later.
+pub(crate) fn settings_in_memory<B: Block>(parts: &Parts<B>, block: BlockId) -> usize
+    ensures made { result ≤ length (handed_at (plant_of parts.now).state.handed block.0).settings }
+    ensures past { result ≤ 1 + length (kept_from (slice_index_or (spans_in parts.now).firsts.settings block.0 0) (handed_at (plant_of parts.now).state.handed block.0).settings) }
+{
     let Some(intake) = parts.stores.handed.get(block.0 as usize) else {
         return 0;
     };
     match &intake.timeline {
         Some(settings) => settings.in_memory(),
         None => 0,
-    }
-}
-
-/// How many tags are in memory of these.
-pub(crate) fn tags_in_memory<B: Block>(parts: &Parts<B>, block: BlockId) -> usize {
-    let at = block.0 as usize;
-    let tape = match parts.stores.handed.get(at) {
-        Some(intake) => intake.tape.recording().tags_in_memory(),
-        None => 0,
-    };
-    match parts.stores.sinks.get(at) {
-        Some(collected) => tape.saturating_add(collected.tags_in_memory()),
-        None => tape,
     }
 }

@@ -6,12 +6,15 @@ ghost use Rattle.std.specs.Option.{option_map};
 ghost use Rattle.stream_model.specs.Machine as machine;
 ghost use Rattle.stream_model.specs.Machine.{step_of, feed_of, close_of, set_of, read_of, is_idle, is_all_done, is_quiet, IsWhole, HoldsAll};
 ghost use Rattle.stream_model.specs.Network.{node_at, handed_at, role_at, is_keeper, is_source};
+ghost use Rattle.stream_model.specs.Tags.{tags_within};
 ghost use Rattle.stream_laws.specs.CanRun.{CanRun};
 ghost use Rattle.machine_laws.specs.Sound.{Sound, fired};
 ghost use Rattle.machine_laws.specs.Waits.{ring_of};
 ghost use Rattle.items.specs.Items.{type_of, numbers_of, spare_of};
 ghost use Rattle.items.specs.Tags.{tag_of};
+ghost use Rattle.settings.specs.Timelines.{kept_from};
 ghost use Rattle.settings.specs.Values.{value_of};
+ghost use Rattle.tags.specs.TagList.{tags_from};
 ghost use Rattle.flowgraph.specs.Flowgraph.{net_of};
 ghost use Rattle.stores.specs.Stores.{mark_of};
 ghost use Rattle.plant.specs.declared.fault.PlantFault.TheVariants.{NoSuchBlock, NotSink};
@@ -21,7 +24,7 @@ ghost use Rattle.plant.specs.Feeding.{feed_numbers};
 ghost use Rattle.plant.specs.Settling.{StepsLead, HasMoved, HasSettled, HoldsSettled};
 ghost use Rattle.plant.specs.Waits.{need_of, wait_in};
 ghost use Rattle.streaming.specs.Draining.{HasRoom, IsAtSink, MayBeRefused, drain_fault, end_of, items_taken, tags_taken};
-ghost use Rattle.streaming.specs.Streaming.{GoesOn, HasDrainedTo, KeepsNoTaken, StaysBegun, drained, streaming_opening, tape_kept};
+ghost use Rattle.streaming.specs.Streaming.{GoesOn, HasDrainedTo, KeepsNoTaken, StaysBegun, drained, settings_kept, streaming_opening, tags_into, tape_kept};
 
 use crate::draining::{Appended, consume, drain, drain_into, peek};
 use crate::forgetting::forget_taken;
@@ -312,13 +315,22 @@ impl<B: Block> StreamingPlant<B> {
         items_in_memory(&self.parts, block)
     }
 
-    /// How many tags are in memory of these.
-    pub fn tags_in_memory(&self, block: BlockId) -> usize {
+    /// How many tags are in memory of these: just those on items that are kept, of what a source was fed or of what a sink has taken.
+    pub fn tags_in_memory(&self, block: BlockId) -> usize
+        ensures source { let net = net_of B.meaning self.now.plant.graph in block.0 < length net.nodes → is_source (role_at net block.0) ≡ true →
+            result ≡ length (tags_from (tape_kept self.now block.0) (handed_at self.now.plant.state.handed block.0).tags) }
+        ensures sink { let net = net_of B.meaning self.now.plant.graph in block.0 < length net.nodes → is_keeper (role_at net block.0) ≡ true →
+            result ≡ length (tags_within (drained self.now block.0) (fired self.now.plant.state block.0) (tags_into net self.now.plant.state block.0)) }
+    {
         tags_in_memory(&self.parts, block)
     }
 
-    /// How many settings of a block are in memory: that in force at the first item that it has not taken, and those made for later items.
-    pub fn settings_in_memory(&self, block: BlockId) -> usize {
+    /// How many settings of a block are in memory: no more than were made, and at most one more than were made at the first item that may read them or
+    /// later. That one was in force there as what is past was forgotten, and stays until that is done again.
+    pub fn settings_in_memory(&self, block: BlockId) -> usize
+        ensures made { result ≤ length (handed_at self.now.plant.state.handed block.0).settings }
+        ensures past { result ≤ 1 + length (kept_from (settings_kept self.now block.0) (handed_at self.now.plant.state.handed block.0).settings) }
+    {
         settings_in_memory(&self.parts, block)
     }
 
