@@ -89,11 +89,12 @@ impl Level {
     }
 }
 
-/// The gate that counts how often a worker was found asleep that could act.
+/// The gate that counts how often a worker was found asleep that could act, how often it was passed, and the firings that it was told of.
 #[derive(Drop)]
 pub struct Counts {
     missed: AtomicU64,
     passed: AtomicU64,
+    fired: AtomicU64,
 }
 
 impl Counts {
@@ -102,7 +103,13 @@ impl Counts {
         Counts {
             missed: AtomicU64::new(0),
             passed: AtomicU64::new(0),
+            fired: AtomicU64::new(0),
         }
+    }
+
+    /// How many firings it was told of.
+    pub fn fired(&self) -> u64 {
+        self.fired.load(Ordering::SeqCst)
     }
 
     /// How often all slept though one could act.
@@ -123,6 +130,10 @@ impl Gate for Counts {
 
     fn missed(&self) {
         self.missed.fetch_add(1, Ordering::SeqCst);
+    }
+
+    fn worked(&self, _block: BlockId, firings: u32) {
+        self.fired.fetch_add(u64::from(firings), Ordering::SeqCst);
     }
 }
 

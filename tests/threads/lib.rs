@@ -10,6 +10,7 @@ mod growing;
 mod leaving;
 mod lengths;
 mod live_runs;
+mod measured;
 mod overlaps;
 mod probes;
 mod random;

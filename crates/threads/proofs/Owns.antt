@@ -24,5 +24,5 @@ own_job meaning b most (engine.Noted old) (engine.Plain new) job h = absurd h
 
 pub own_next : {B P : Type 0} (meaning : B → Meaning) (b most : ℕ) (old new : Hall B P) (does : Next B P) → HasNext meaning b most old new does → IsOwn b does
 own_next meaning b most old new (next.Work job) h = own_job meaning b most old.engine new.engine job.job h.1
-own_next meaning b most old new next.Sleep h = tt
+own_next meaning b most old new (next.Sleep need) h = tt
 own_next meaning b most old new next.Leave h = tt

@@ -2,7 +2,6 @@
 use Rattle.std.specs.Prelude.{ℕ, ◌≡◌, ◌⊎◌, ⊤, Bool, true, Option, Some, None, Result}
 use Rattle.stream_model.specs.Meaning.{Meaning}
 use Rattle.stream_model.specs.Machine as machine
-use Rattle.firings.specs.declared.decision.Need.{Need}
 use Rattle.jobs.specs.Jobs.{WorkedState}
 use Rattle.plant.specs.Answers.{refusal_of, waiting_reply}
 use Rattle.plant.specs.declared.answers.Did.{Did}
@@ -30,7 +29,7 @@ HasLeft meaning b most old new =
 -- what a worker has to do next is what its claim was answered
 abbrev pub HasNext : {B P : Type 0} → (B → Meaning) → (block most : ℕ) → Hall B P → Hall B P → Next B P → Type 0
 HasNext meaning b most old new (next.Work job) = (job.graph ≡ (plant_in old.engine).graph) × HasClaimed meaning b most old.engine new.engine (Some (machine.Claimed job.job))
-HasNext meaning b most old new next.Sleep = (need : Need) × HasClaimed meaning b most old.engine new.engine (Some (waiting_reply need))
+HasNext meaning b most old new (next.Sleep need) = HasClaimed meaning b most old.engine new.engine (Some (waiting_reply need))
 HasNext meaning b most old new next.Leave = HasLeft meaning b most old new
 
 -- a turn commits what its worker brought, and then claims for its block
@@ -42,5 +41,5 @@ pub record HasTurned {B P : Type 0} (meaning : B → Meaning) (eq : B → B → 
 -- the work that a worker is given is of its own block
 abbrev pub IsOwn : {B P : Type 0} → (block : ℕ) → Next B P → Type 0
 IsOwn b (next.Work job) = job.job.block ≡ b
-IsOwn b next.Sleep = ⊤
+IsOwn b (next.Sleep need) = ⊤
 IsOwn b next.Leave = ⊤

@@ -29,9 +29,9 @@ use std::time::Clock;
 
 /// Runs a plant to its end in as many threads as its work is worth, and waits for that: on the caller's own, which steps all blocks in their order as
 /// `Plant::settle` does, and, once the work of several blocks is found to be worth it, in up to one a processor. It is never `Stopped`. The gate is
-/// passed before work that another thread could do, and not by steps on one thread; the work of a block must not wait for that of another. Where no
-/// thread can be started the caller's does all. Sources that are open stay open. What the sinks hold is what `run` leaves there. Fails with
-/// `RunFault::Memory`, which returns the plant.
+/// passed before work that another thread could do, and not by steps on one thread, of which it is told; the work of a block must not wait for that
+/// of another. Where no thread can be started the caller's does all. Sources that are open stay open. What the sinks hold is what `run` leaves
+/// there. Fails with `RunFault::Memory`, which returns the plant.
 pub fn run_adaptive<
     B: Block + Send + Sync + 'static,
     G: Gate + Drop + Send + Sync + 'static,
@@ -104,7 +104,7 @@ where
     ensures told { IfErr result (IsSo true false) }
 {
     let mut plant = plant;
-    let ended = settle_alone(&rt, alloc, &mut plant, watch);
+    let ended = settle_alone(&rt, alloc, &mut plant, &*gate, watch);
     let outcome = went_on(rt, alloc, plant, gate, turns, ended, watch);
     watch.end();
     outcome

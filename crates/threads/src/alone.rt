@@ -6,6 +6,7 @@ ghost use Rattle.flowgraph.specs.Flowgraph.{net_of};
 ghost use Rattle.plant.specs.Answers.{Answered, step_reply};
 ghost use Rattle.threads.specs.Outcomes.{handed_of};
 
+use crate::gate::Gate;
 use crate::number_set::NumberSet;
 use crate::policy::{Found, Rounds, Timed, is_long, is_worth};
 use crate::stopwatch::{Pauses, nanos_between, nanos_since, now};
@@ -25,11 +26,13 @@ pub enum Ended {
     Splits(NumberSet),
 }
 
-/// Steps all blocks in their order, again and again. Where a round is timed and its pause is over, `watch` is shown how far the plant is.
-pub fn settle_alone<B: Block, R: Clock, W: Watch>(
+/// Steps all blocks in their order, again and again, and tells the gate of each step. Where a round is timed and its pause is over, `watch` is shown
+/// how far the plant is.
+pub fn settle_alone<B: Block, R: Clock, G: Gate, W: Watch>(
     rt: &R,
     alloc: Global,
     plant: &mut Plant<B>,
+    gate: &G,
     watch: &mut W,
 ) -> Ended
     ensures { handed_of plant.new ≡ handed_of plant.old }
@@ -37,7 +40,7 @@ pub fn settle_alone<B: Block, R: Clock, W: Watch>(
     let mut pauses = Pauses::of(rt, watch);
     let mut rounds = Rounds::new();
     'rounds: for _ in 0..u64::MAX {
-        let Ok(round) = round_of(rt, alloc, plant, rounds.most(), rounds.timed()) else {
+        let Ok(round) = round_of(rt, alloc, plant, rounds.most(), rounds.timed(), gate) else {
             return Ended::Starved;
         };
         if plant.all_done() || (!round.moved && plant.quiet()) {
@@ -64,12 +67,13 @@ struct Round {
 }
 
 // Steps each block once.
-fn round_of<B: Block, R: Clock>(
+fn round_of<B: Block, R: Clock, G: Gate>(
     rt: &R,
     alloc: Global,
     plant: &mut Plant<B>,
     most: u32,
     timed: Timed,
+    gate: &G,
 ) -> Result<Round, PlantFault>
     requires { 1 ≤ most }
     ensures { handed_of plant.new ≡ handed_of plant.old }
@@ -81,8 +85,8 @@ fn round_of<B: Block, R: Clock>(
         _ => None,
     };
     for block in 0..plant.graph().len() {
-        let seen = turn_of(rt, alloc, plant, BlockId(block as u32), most, timed)?;
-        if seen.moved {
+        let seen = turn_of(rt, alloc, plant, BlockId(block as u32), most, timed, gate)?;
+        if let Step::Did(_) = seen.step {
             moved = true;
         }
         if seen.is_long {
@@ -99,12 +103,35 @@ fn round_of<B: Block, R: Clock>(
 // What was seen of a block's step.
 #[derive(Clone, Copy)]
 struct Seen {
-    moved: bool,
+    step: Step,
     is_long: bool,
 }
 
+// Steps a block, and tells the gate of it.
+fn turn_of<B: Block, R: Clock, G: Gate>(
+    rt: &R,
+    alloc: Global,
+    plant: &mut Plant<B>,
+    block: BlockId,
+    most: u32,
+    timed: Timed,
+    gate: &G,
+) -> Result<Seen, PlantFault>
+    requires { 1 ≤ most }
+    ensures { handed_of plant.new ≡ handed_of plant.old }
+{
+    gate.begins(block);
+    let seen = step_seen(rt, alloc, plant, block, most, timed)?;
+    match seen.step {
+        Step::Did(firings) => gate.worked(block, firings),
+        Step::Waiting(need) => gate.waits(block, need),
+        Step::Done | Step::Busy => {}
+    }
+    Ok(seen)
+}
+
 // Steps a block, and times it where that is wanted.
-fn turn_of<B: Block, R: Clock>(
+fn step_seen<B: Block, R: Clock>(
     rt: &R,
     alloc: Global,
     plant: &mut Plant<B>,
@@ -118,38 +145,35 @@ fn turn_of<B: Block, R: Clock>(
     match timed {
         Timed::Steps => {
             let start = now(rt);
-            let moved = moves(plant, alloc, block, most)?;
+            let step = stepped(plant, alloc, block, most)?;
             let is_long = is_long(nanos_since(rt, start));
-            Ok(Seen { moved, is_long })
+            Ok(Seen { step, is_long })
         }
         Timed::Work(blocks) if blocks.has(block.0 as usize) => {
             let weighed = weigh(rt, alloc, plant, block, most)?;
             Ok(Seen {
-                moved: matches!(weighed.step, Step::Did(_)),
+                step: weighed.step,
                 is_long: is_worth(weighed.nanos, weighed.held),
             })
         }
         _ => Ok(Seen {
-            moved: moves(plant, alloc, block, most)?,
+            step: stepped(plant, alloc, block, most)?,
             is_long: false,
         }),
     }
 }
 
-// Steps a block, and returns whether it fired.
-fn moves<B: Block>(
+// Steps a block, which changes nothing that the plant was handed.
+fn stepped<B: Block>(
     plant: &mut Plant<B>,
     alloc: Global,
     block: BlockId,
     most: u32,
-) -> Result<bool, PlantFault>
+) -> Result<Step, PlantFault>
     requires { 1 ≤ most }
     ensures { handed_of plant.new ≡ handed_of plant.old }
 {
-    match plant.step(alloc, block, most)? {
-        Step::Did(_) => Ok(true),
-        _ => Ok(false),
-    }
+    plant.step(alloc, block, most)
 }
 
 // A step, and how many nanoseconds its work took, and its claim with its commit.

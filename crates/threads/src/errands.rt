@@ -5,6 +5,7 @@ ghost use Rattle.std.specs.Option.{option_map};
 ghost use Rattle.threads.specs.Errands.{HasErrand, HasRun, HasStep, IsStepped};
 ghost use Rattle.threads.specs.Hall.{HasBrought};
 
+use crate::gate::Gate;
 use crate::hall::Hall;
 use crate::policy::{NextStep, STEPS};
 use crate::stopwatch::{nanos_since, now};
@@ -68,36 +69,38 @@ impl Waiting {
 
 impl<B: Block> Hall<B> {
     /// The next turn of a thread of the pool.
-    pub fn errand<R: Clock>(
+    pub fn errand<R: Clock, G: Gate>(
         &mut self,
         rt: &R,
         alloc: Global,
         thread: usize,
         brought: Option<Brought<B>>,
         waiting: &Waiting,
+        gate: &G,
         woken: &mut Woken,
     ) -> Errand<B>
         ensures { HasRun B.meaning B.eq (option_map (λ b. b.worked) brought) self.old self.new result }
     {
         self.pool.is_here(thread);
         let from = self.bring(rt, brought, woken);
-        self.go_on(rt, alloc, thread, from, waiting, woken)
+        self.go_on(rt, alloc, thread, from, waiting, gate, woken)
     }
 
     // Step after step, until the turn ends.
-    fn go_on<R: Clock>(
+    fn go_on<R: Clock, G: Gate>(
         &mut self,
         rt: &R,
         alloc: Global,
         thread: usize,
         from: usize,
         waiting: &Waiting,
+        gate: &G,
         woken: &mut Woken,
     ) -> Errand<B>
         ensures { HasErrand B.meaning self.old.engine self.new.engine self.new.ends result }
     {
         'steps: for _ in 0..STEPS {
-            if let Some(errand) = self.act(rt, alloc, thread, from, waiting, woken) {
+            if let Some(errand) = self.act(rt, alloc, thread, from, waiting, gate, woken) {
                 return errand;
             }
         }
@@ -105,13 +108,14 @@ impl<B: Block> Hall<B> {
     }
 
     // One step, or the end of the turn.
-    fn act<R: Clock>(
+    fn act<R: Clock, G: Gate>(
         &mut self,
         rt: &R,
         alloc: Global,
         thread: usize,
         from: usize,
         waiting: &Waiting,
+        gate: &G,
         woken: &mut Woken,
     ) -> Option<Errand<B>>
         ensures { HasStep B.meaning self.old.engine self.new.engine self.new.ends result }
@@ -125,13 +129,13 @@ impl<B: Block> Hall<B> {
         let light = self.pool.next_light();
         if light.is_none() || waiting.has_mate() {
             if let Some(block) = self.pool.next_heavy(from) {
-                return self.claim_heavy(rt, alloc, block, woken);
+                return self.claim_heavy(rt, alloc, block, gate, woken);
             }
         }
         match light {
             Some(block) => {
                 let next = self.pool.begins(block);
-                self.step_light(rt, alloc, block, next, woken);
+                self.step_light(rt, alloc, block, next, gate, woken);
                 None
             }
             None => Some(self.rest(thread, woken)),
@@ -168,16 +172,18 @@ impl<B: Block> Hall<B> {
     }
 
     // A block is stepped under the lock.
-    fn step_light<R: Clock>(
+    fn step_light<R: Clock, G: Gate>(
         &mut self,
         rt: &R,
         alloc: Global,
         block: BlockId,
         next: NextStep,
+        gate: &G,
         woken: &mut Woken,
     )
         ensures { IsStepped B.meaning block.0 next.most self.old.engine self.new.engine }
     {
+        gate.begins(block);
         let start = if next.is_timed { now(rt) } else { None };
         match self.engine.step(alloc, block, next.most) {
             Ok(Step::Did(firings)) => {
@@ -185,9 +191,13 @@ impl<B: Block> Hall<B> {
                 if next.is_timed {
                     self.pool.stepped(block, firings, nanos_since(rt, start));
                 }
+                gate.worked(block, firings);
             }
             Ok(Step::Done) => self.pool.leaves(block),
-            Ok(Step::Waiting(_)) => self.pool.waits(block),
+            Ok(Step::Waiting(need)) => {
+                self.pool.waits(block);
+                gate.waits(block, need);
+            }
             Ok(Step::Busy) => self.pool.waits(block),
             Err(_) => {
                 self.starved = true;
@@ -197,11 +207,12 @@ impl<B: Block> Hall<B> {
     }
 
     // Firings of a block are claimed for work outside of the lock, if it can act.
-    fn claim_heavy<R: Clock>(
+    fn claim_heavy<R: Clock, G: Gate>(
         &mut self,
         rt: &R,
         alloc: Global,
         block: BlockId,
+        gate: &G,
         woken: &mut Woken,
     ) -> Option<Errand<B>>
         ensures { HasStep B.meaning self.old.engine self.new.engine self.new.ends result }
@@ -213,8 +224,9 @@ impl<B: Block> Hall<B> {
                 self.pool.goes(block, woken);
                 Some(Errand::Work(job, nanos_since(rt, start)))
             }
-            Ok(Claim::Waiting(_)) => {
+            Ok(Claim::Waiting(need)) => {
                 self.pool.waits(block);
+                gate.waits(block, need);
                 None
             }
             Ok(Claim::Busy) => {

@@ -1,15 +1,26 @@
-//! Gates that workers pass.
+//! Gates that workers pass, and that are told of turns.
 
 use flowgraph::BlockId;
+use plant::Need;
 
 /// What each worker calls after each claim and before its work, with no lock held. A gate that waits delays its own worker, and those that
-/// wait for its block's items. It is there for tests and for probes; `Open` does nothing.
+/// wait for its block's items. It is there for tests and for probes; `Open` does nothing. It is also told of each turn and each wait of a block, by
+/// calls that do nothing unless it has bodies for them. These may come with the lock held: such a body is short, and waits for nobody.
 pub trait Gate {
     /// The worker of this block has claimed firings from this one on, counted from 0.
     fn pass(&self, block: BlockId, firing: u64);
 
     /// All workers slept or had left though a block could act, so that all are woken to look again. It should never be called; a probe may count it.
     fn missed(&self) {}
+
+    /// A turn of this block begins: the work of a claim, or where one thread acts for several blocks a step, which is a claim, its work and its commit.
+    fn begins(&self, _block: BlockId) {}
+
+    /// The turn that began last for this block ended with so many firings. Where a step came to none there is no such call.
+    fn worked(&self, _block: BlockId, _firings: u32) {}
+
+    /// No firing of this block fits as yet: it waits for that, at least until its next turn begins.
+    fn waits(&self, _block: BlockId, _need: Need) {}
 }
 
 /// The gate that does nothing.

@@ -20,8 +20,8 @@ use std::alloc::Global;
 pub enum Next<B: Block> {
     /// The work of a claim.
     Work(Job<B>),
-    /// To sleep until it is woken.
-    Sleep,
+    /// To sleep until it is woken: its block waits for that.
+    Sleep(Need),
     /// To leave: its block is done, or the run ends.
     Leave,
 }
@@ -158,14 +158,14 @@ impl<B: Block> Hall<B> {
 
     fn sleep(&mut self, block: BlockId, need: Need, woken: &mut Woken) -> Next<B>
         ensures others { self.new ≡ record self.old { seats = self.new.seats; pool = self.new.pool; ends = self.new.ends } }
-        ensures sleeps { result ≡ next.Sleep }
+        ensures sleeps { result ≡ next.Sleep need }
     {
         let graph = self.engine.plant().graph();
         if (block.0 as usize) < graph.len() {
             self.seats.waits(graph, block, need, woken);
         }
         self.look(woken);
-        Next::Sleep
+        Next::Sleep(need)
     }
 
     fn leave(&mut self, block: BlockId, woken: &mut Woken) -> Next<B>

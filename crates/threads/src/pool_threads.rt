@@ -171,13 +171,18 @@ impl<B: Block, G: Gate + Drop> Shared<B, G> {
 
     // Passes the gate and does a job, with no lock held.
     fn works<R: Clock>(&self, rt: &R, job: Job<B>, held: u64) -> Brought<B> {
-        self.gate.pass(job.block(), job.first());
+        let block = job.block();
+        let firings = job.count();
+        self.gate.pass(block, job.first());
+        self.gate.begins(block);
         let start = now(rt);
         let worked = job.work();
+        let nanos = nanos_since(rt, start);
+        self.gate.worked(block, firings);
         Brought {
             worked,
             held,
-            nanos: nanos_since(rt, start),
+            nanos,
         }
     }
 

@@ -125,7 +125,15 @@ impl<B: Block, G: Gate + Drop> Shared<B, G> {
         } else {
             self.locked(rt)
         };
-        hall.errand(rt, alloc, thread, brought, &self.waiting, woken)
+        hall.errand(
+            rt,
+            alloc,
+            thread,
+            brought,
+            &self.waiting,
+            &*self.gate,
+            woken,
+        )
     }
 
     // The lock for a thread of a pool that is counted while it waits.

@@ -39,15 +39,18 @@ impl<B: Block> Worker<B> {
         }
     }
 
-    /// Passes the gate and does a job of its block, with no lock held.
+    /// Passes the gate and does a job of its block, with no lock held. The gate is told of it.
     fn works<G: Gate>(&mut self, gate: &G, job: Job<B>)
         requires { job.job.block ≡ self.old.block.0 }
         ensures brings { BringsJob job self.new.brought }
         ensures block { self.new.block ≡ self.old.block }
         ensures most { self.new.most ≡ self.old.most }
     {
+        let firings = job.count();
         gate.pass(self.block, job.first());
+        gate.begins(self.block);
         self.brought = Some(job.work());
+        gate.worked(self.block, firings);
     }
 }
 
@@ -65,7 +68,10 @@ pub fn work<B: Block, G: Gate + Drop, R: Wait>(
         shared.wake(&woken);
         match next {
             Next::Work(job) => worker.works(&*shared.gate, job),
-            Next::Sleep => shared.sleep(rt, block),
+            Next::Sleep(need) => {
+                shared.gate.waits(block, need);
+                shared.sleep(rt, block);
+            }
             Next::Leave => return,
         }
     }
