@@ -8,7 +8,7 @@ use super::runs::{End, Host, ended_as, holds_turned, share, shared};
 use flowgraph::{BlockId, Valid};
 use items::{ItemType, Items};
 use kinds::Kind;
-use plant::{Headway, PlantFault, Watch};
+use plant::{Headway, PlantFault, Unwatched, Watch};
 use std::alloc::{AllocError, Global};
 use std::process::Abort;
 use std::test::Fail;
@@ -119,6 +119,34 @@ fn chains_run_past_a_gate_in_turns_of_any_length(rt: HostRuntime) -> Result<(), 
         assert!(rt; least <= gate.passed(), "{} passes", gate.passed());
         assert!(rt; gate.missed() == 0, "a sleeper was missed");
     }
+    Ok(())
+}
+
+#[test]
+fn a_gate_is_told_of_turns_by_both_calls(rt: HostRuntime) -> Result<(), Fail> {
+    let alloc = rt.alloc();
+    let gate = shared(&rt, alloc, Counts::new());
+    let top = fed_chains(&rt, alloc);
+    let own = share(&rt, &gate);
+    match top.run_adaptive_with(rt, alloc, own, Turns::default(), &mut Unwatched) {
+        Ok(outcome) => {
+            let _ = ended_as(&rt, outcome, End::Done);
+        }
+        Err(fault) => panic!(&rt; "not run: {fault}"),
+    }
+    let fired = gate.fired();
+    assert!(rt; fired == u64::from(6 * ITEMS), "told of {fired} firings");
+    match fed_chains(&rt, alloc).start_with(rt, alloc, share(&rt, &gate), Turns::default()) {
+        Ok(running) => match running.wait(&rt) {
+            Ok(outcome) => {
+                let _ = ended_as(&rt, outcome, End::Done);
+            }
+            Err(fault) => panic!(&rt; "not ended: {fault}"),
+        },
+        Err(fault) => panic!(&rt; "not started: {fault}"),
+    }
+    let fired = gate.fired();
+    assert!(rt; fired == u64::from(12 * ITEMS), "told of {fired} firings");
     Ok(())
 }
 

@@ -30,8 +30,8 @@ use std::sync::{Arc, Wait};
 use std::thread::Threads;
 use std::time::Clock;
 use threads::{
-    Caller, Finished, Gate, Open, Outcome, RunFault, Running, Turns, launch_open, live_watched,
-    run_adaptive_open, run_with,
+    Caller, Finished, Gate, Open, Outcome, RunFault, Running, Turns, launch_open, launch_with,
+    live_watched, run_adaptive_open, run_adaptive_watched, run_with,
 };
 
 /// A plant of kinds with no claim in flight, which is fed and then run in threads. It is the whole life of a flowgraph whose data are there from
@@ -140,6 +140,25 @@ impl TopBlock {
         launch_open(rt, alloc, plant, turns)
     }
 
+    /// As `start_turns`, with a gate.
+    pub fn start_with<
+        G: Gate + Drop + Send + Sync + 'static,
+        R: Threads + Wait + Copy + Send + 'static,
+    >(
+        self,
+        rt: R,
+        alloc: Global,
+        gate: Arc<G, Global>,
+        turns: Turns,
+    ) -> Result<Running<Kind, G>, RunFault<Kind>>
+        ensures ok { IfOk result (λ r. r ≡ record { handed = handed_of (with_all_closed meaning_of self); asked = false; most = turns.most }) }
+        ensures err { IfErr result (GivesBack meaning_of ⟦<Kind as PartialEq>⟧.eq (handed_of (with_all_closed meaning_of self))) }
+    {
+        let TopBlock { mut plant } = self;
+        close_all(&mut plant);
+        launch_with(rt, alloc, plant, gate, turns)
+    }
+
     /// Closes each source that is open, runs the plant in threads, and waits for its end, which is never `Stopped`. Fails as `start` and
     /// `Running::wait` do.
     pub fn run<R: Threads + Wait + Copy + Send + 'static>(
@@ -210,6 +229,28 @@ impl TopBlock {
         let TopBlock { mut plant } = self;
         close_all(&mut plant);
         run_adaptive_open(rt, alloc, plant, turns, watch)
+    }
+
+    /// As `run_adaptive_watched`, with a gate, which is told of the steps on this thread too.
+    pub fn run_adaptive_with<
+        G: Gate + Drop + Send + Sync + 'static,
+        R: Threads + Wait + Clock + Copy + Send + 'static,
+        W: Watch,
+    >(
+        self,
+        rt: R,
+        alloc: Global,
+        gate: Arc<G, Global>,
+        turns: Turns,
+        watch: &mut W,
+    ) -> Result<Outcome<Kind>, RunFault<Kind>>
+        ensures ok { IfOk result (EndsIn meaning_of ⟦<Kind as PartialEq>⟧.eq (handed_of (with_all_closed meaning_of self)) false) }
+        ensures err { IfErr result (GivesBack meaning_of ⟦<Kind as PartialEq>⟧.eq (handed_of (with_all_closed meaning_of self))) }
+        ensures told { IfErr result (IsSo true false) }
+    {
+        let TopBlock { mut plant } = self;
+        close_all(&mut plant);
+        run_adaptive_watched(rt, alloc, plant, gate, turns, watch)
     }
 
     /// Starts a worker for each block and a thread for each of at most 16 callers, and waits until all callers have returned and the plant has come
