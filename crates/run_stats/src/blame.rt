@@ -1,0 +1,81 @@
+//! Which block limits a run, and whom blocks wait for.
+
+ghost use Rattle.std.specs.Prelude.{◌<◌, length};
+
+use crate::figures::{Figures, Stats};
+use flowgraph::{Block, BlockId, Valid};
+
+/// The block that was at work for the longest time, and the lowest of several; none where none was.
+pub(crate) fn limiting(stats: &Stats) -> Option<BlockId> {
+    let mut longest = 0;
+    let mut found = None;
+    for (block, figures) in (0..u32::MAX).zip(&stats.blocks) {
+        if longest < figures.nanos {
+            longest = figures.nanos;
+            found = Some(BlockId(block));
+        }
+    }
+    found
+}
+
+/// Whether other blocks waited, and each time for this one.
+pub(crate) fn all_wait_for<B: Block>(graph: &Valid<B>, stats: &Stats, limit: BlockId) -> bool {
+    let mut some = false;
+    for block in 0..graph.len() {
+        if let Some(figures) = stats.blocks.get(block) {
+            let block = BlockId(block as u32);
+            if block != limit {
+                match waits_for(graph, block, figures, limit) {
+                    Whom::Nobody => {}
+                    Whom::It => some = true,
+                    Whom::Others => return false,
+                }
+            }
+        }
+    }
+    some
+}
+
+// For whom a block waited.
+#[derive(Clone, Copy)]
+enum Whom {
+    Nobody,
+    // For this one alone.
+    It,
+    Others,
+}
+
+fn waits_for<B: Block>(graph: &Valid<B>, block: BlockId, figures: &Figures, limit: BlockId) -> Whom
+    requires { block.0 < length graph.now.blocks }
+{
+    let mut whom = Whom::Nobody;
+    for (input, waited) in graph.inputs(block).iter().zip(&figures.inputs) {
+        if 0 < waited.count {
+            if input.connection.from != limit {
+                return Whom::Others;
+            }
+            whom = Whom::It;
+        }
+    }
+    for port in 0..graph.outputs(block) {
+        if has_waited(figures, port) {
+            if !graph
+                .readers(block, port)
+                .iter()
+                .any(|reader| reader.to == limit)
+            {
+                return Whom::Others;
+            }
+            whom = Whom::It;
+        }
+    }
+    whom
+}
+
+// Whether a block waited for room on this output.
+fn has_waited(figures: &Figures, port: usize) -> bool {
+    match figures.outputs.get(port) {
+        Some(waited) => 0 < waited.count,
+        None => false,
+    }
+}
