@@ -244,6 +244,7 @@ fn answer_of<R: Threads + Wait + Clock + Copy + Send + Sync + 'static>(
         &mut input,
         &mut output,
         &mut errors,
+        None,
         &mut Unwatched,
     );
     Written {

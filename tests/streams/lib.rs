@@ -9,3 +9,4 @@ mod refusals;
 mod runs;
 mod served;
 mod texts;
+mod times;

@@ -129,6 +129,7 @@ fn each_line_is_answered_before_the_next_is_read(rt: HostRuntime) -> Result<(), 
         &mut input,
         &mut output,
         &mut errors,
+        None,
         &mut Unwatched,
     );
     assert_eq!(rt; (status, input.next, input.early), (0, LINES.len(), 0));
@@ -289,6 +290,7 @@ fn a_live_run_is_stopped_behind_a_fault(rt: HostRuntime) -> Result<(), Fail> {
             &mut input,
             &mut output,
             &mut errors,
+            None,
             &mut given,
         );
         assert_eq!(rt;

@@ -91,6 +91,7 @@ pub fn served_with<R: Threads + Wait + Clock + Copy + Send + Sync + 'static>(
         &mut input,
         &mut output,
         &mut errors,
+        None,
         &mut Unwatched,
     );
     Left {

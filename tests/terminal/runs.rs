@@ -68,6 +68,7 @@ fn shown<R: Threads + Wait + Clock + Copy + Send + Sync + 'static>(
             &mut ReadEnd::new(b"".as_slice()),
             &mut output,
             &mut errors,
+            None,
             &mut terminal,
         )
     };

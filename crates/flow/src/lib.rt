@@ -21,6 +21,7 @@ mod desk_calls;
 pub mod fault;
 mod line_caller;
 mod live;
+pub mod measured;
 pub mod raw_fault;
 pub mod raw_output;
 pub mod raw_run;

@@ -10,8 +10,9 @@ ghost use Rattle.top_block.specs.Closing.{with_all_closed};
 
 use kinds::Kind;
 use plant::{Plant, Settled, Watch};
+use run_stats::Meter;
 use std::alloc::Global;
-use std::sync::Wait;
+use std::sync::{Arc, Wait};
 use std::thread::Threads;
 use std::time::Clock;
 use threads::{Outcome, RunFault, Turns};
@@ -29,13 +30,14 @@ pub enum Threading {
     PerBlock,
 }
 
-/// Closes the sources of a plant, runs it in threads, and shows it to `watch` until it comes to rest. It gives the plant back as it is then, and
-/// a run that fails gives it back in its fault.
-pub(crate) fn run_plant<R: Threads + Wait + Clock + Copy + Send + 'static, W: Watch>(
+/// Closes the sources of a plant, runs it in threads, and shows it to `watch` until it comes to rest; where there is a meter, that measures. It gives
+/// the plant back as it is then, and a run that fails gives it back in its fault.
+pub(crate) fn run_plant<R: Threads + Wait + Clock + Copy + Send + Sync + 'static, W: Watch>(
     rt: R,
     alloc: Global,
     threading: Threading,
     plant: Plant<Kind>,
+    meter: Option<Arc<Meter<R>, Global>>,
     watch: &mut W,
 ) -> Result<(Plant<Kind>, Settled), RunFault<Kind>>
     requires { is_idle plant.state ≡ true }
@@ -43,7 +45,7 @@ pub(crate) fn run_plant<R: Threads + Wait + Clock + Copy + Send + 'static, W: Wa
     ensures settled { IfOk result (λ r. HasSettled (net_of meaning_of r.0.graph) r.0.capacities r.0.state r.1) }
     ensures fails { IfErr result (GivesBack meaning_of ⟦<Kind as PartialEq>⟧.eq (handed_of (with_all_closed meaning_of plant))) }
 {
-    match ended_in(rt, alloc, threading, plant, watch) {
+    match ended_in(rt, alloc, threading, plant, meter, watch) {
         Ok(Outcome::Done(plant)) => Ok((plant, Settled::Done)),
         Ok(Outcome::Stalled(plant)) => Ok((plant, Settled::Quiet)),
         // Nobody asks for a stop.
@@ -53,11 +55,12 @@ pub(crate) fn run_plant<R: Threads + Wait + Clock + Copy + Send + 'static, W: Wa
 }
 
 // How a run ended in so many threads.
-fn ended_in<R: Threads + Wait + Clock + Copy + Send + 'static, W: Watch>(
+fn ended_in<R: Threads + Wait + Clock + Copy + Send + Sync + 'static, W: Watch>(
     rt: R,
     alloc: Global,
     threading: Threading,
     plant: Plant<Kind>,
+    meter: Option<Arc<Meter<R>, Global>>,
     watch: &mut W,
 ) -> Result<Outcome<Kind>, RunFault<Kind>>
     requires { is_idle plant.state ≡ true }
@@ -65,9 +68,16 @@ fn ended_in<R: Threads + Wait + Clock + Copy + Send + 'static, W: Watch>(
     ensures err { IfErr result (GivesBack meaning_of ⟦<Kind as PartialEq>⟧.eq (handed_of (with_all_closed meaning_of plant))) }
 {
     let top = TopBlock::from_plant(plant);
-    match threading {
-        Threading::Adaptive => top.run_adaptive_watched(rt, alloc, turns(), watch),
-        Threading::PerBlock => match top.start_turns(rt, alloc, turns()) {
+    match (threading, meter) {
+        (Threading::Adaptive, None) => top.run_adaptive_watched(rt, alloc, turns(), watch),
+        (Threading::Adaptive, Some(meter)) => {
+            top.run_adaptive_with(rt, alloc, meter, turns(), watch)
+        }
+        (Threading::PerBlock, None) => match top.start_turns(rt, alloc, turns()) {
+            Ok(running) => running.wait_watched(&rt, watch),
+            Err(fault) => Err(fault),
+        },
+        (Threading::PerBlock, Some(meter)) => match top.start_with(rt, alloc, meter, turns()) {
             Ok(running) => running.wait_watched(&rt, watch),
             Err(fault) => Err(fault),
         },

@@ -11,8 +11,9 @@ use crate::running::{Threading, run_plant};
 use crate::serve::{TURN, open_plant};
 use kinds::Kind;
 use plant::{Plant, Watch};
+use run_stats::Meter;
 use std::alloc::Global;
-use std::sync::Wait;
+use std::sync::{Arc, Wait};
 use std::thread::Threads;
 use std::time::Clock;
 use top_block::close_all;
@@ -35,11 +36,12 @@ pub(crate) struct Ran {
 }
 
 /// Lets the plant of a file run in threads until it comes to rest, where its sources give no more, and tells what it holds then.
-pub(crate) fn run_file<R: Threads + Wait + Clock + Copy + Send + 'static, W: Watch>(
+pub(crate) fn run_file<R: Threads + Wait + Clock + Copy + Send + Sync + 'static, W: Watch>(
     rt: R,
     alloc: Global,
     threading: Threading,
     file: &[u8],
+    meter: Option<Arc<Meter<R>, Global>>,
     watch: &mut W,
 ) -> Result<Ran, Fault>
     ensures ok { IfOk result (λ ran. IsRunTo file.now (option_map opened_of ran.stalled) ran.outcome.text.items ran.outcome.status) }
@@ -47,7 +49,7 @@ pub(crate) fn run_file<R: Threads + Wait + Clock + Copy + Send + 'static, W: Wat
 {
     let plant = open_plant(alloc, file)?;
     plant.recall();
-    let (plant, settled) = run_plant(rt, alloc, threading, plant, watch)?;
+    let (plant, settled) = run_plant(rt, alloc, threading, plant, meter, watch)?;
     plant.recall();
     let text = ended(alloc, &plant, settled)?;
     let done = plant.all_done();
