@@ -5,6 +5,7 @@ mod devices;
 mod ends;
 mod explaining;
 mod joins;
+mod measuring;
 mod raw;
 mod refusing;
 mod stops;
@@ -12,6 +13,7 @@ mod terminal;
 mod words;
 
 use crate::explaining::{REFUSED, explain_device, explain_file, explain_line};
+use crate::measuring::{measured_for, tell_times};
 use crate::raw::run_raw;
 use crate::refusing::{begins_none, buffered};
 use crate::terminal::Terminal;
@@ -20,6 +22,7 @@ use clap::error::ErrorKind;
 use explanations::{KeptLines, Noted};
 use flow::serve::serve;
 use flow::start::StartFault;
+use plant::Watch;
 use script_text::{ReadEnd, WriteEnd};
 use std::io::{IsTerminal, Write};
 use std::process::ExitCode;
@@ -77,6 +80,20 @@ fn run<R: Threads + Wait + Clock + Copy + Send + Sync + 'static>(
     if !call.ends.are_none() {
         return run_raw(rt, &call, &file, &mut terminal);
     }
+    serve_file(threads, rt, &call, &file, &mut terminal)
+}
+
+// Does what the words ask for with a file, between the standard streams.
+fn serve_file<R: Threads + Wait + Clock + Copy + Send + Sync + 'static, W: Watch>(
+    threads: R,
+    rt: &HostRuntime,
+    call: &Call<'_>,
+    file: &[u8],
+    watch: &mut W,
+) -> u8 {
+    let Ok((measured, meter)) = measured_for(threads, rt.alloc(), call, file) else {
+        return begins_none(rt, StartFault::Memory);
+    };
     let reader = ReadEnd::new(Noted::new(rt.reader()));
     let mut input = KeptLines::new(rt.alloc(), reader, call.explains);
     let mut output = WriteEnd::new(Noted::new(std::io::writer(rt)));
@@ -86,16 +103,17 @@ fn run<R: Threads + Wait + Clock + Copy + Send + Sync + 'static>(
         rt.alloc(),
         call.action,
         call.notes(),
-        &file,
+        file,
         &mut input,
         &mut output,
         &mut errors,
-        &mut terminal,
+        meter,
+        watch,
     );
     let _ = errors.writer.flush();
     if call.explains {
-        if status == REFUSED && !explain_file(rt, &call, &file) {
-            explain_line(rt, &call, &input);
+        if status == REFUSED && !explain_file(rt, call, file) {
+            explain_line(rt, call, &input);
         }
         if let Some(error) = &input.inner.reader.reason {
             explain_device(rt, "standard input", error);
@@ -104,5 +122,5 @@ fn run<R: Threads + Wait + Clock + Copy + Send + Sync + 'static>(
             explain_device(rt, "standard output", error);
         }
     }
-    status
+    tell_times(rt, call, &measured, status)
 }

@@ -7,6 +7,7 @@ use super::ends::{Ends, EndsFault};
 use clap::error::ErrorKind;
 use clap::{Arg, ArgAction, ArgMatches};
 use drawings::Format;
+use flow::measured::Form;
 use flow::running::Threading;
 use flow::serve::Action;
 use flow::stalls::Notes;
@@ -22,6 +23,8 @@ pub struct Call<'a> {
     pub is_quiet: bool,
     /// Whether a refusal is explained.
     pub explains: bool,
+    /// How it is told where the time of the run went, if that is wanted.
+    pub stats: Option<Form>,
     pub ends: Ends<'a>,
 }
 
@@ -72,6 +75,7 @@ fn call_in<'a>(alloc: Global, matches: &ArgMatches<'a>) -> Result<Call<'a>, Ends
             path,
             is_quiet: inner.get_flag("quiet"),
             explains: inner.get_flag("explain"),
+            stats: form_of(inner.get_str("stats")),
             ends,
         }),
         Err(fault) => Err(fault),
@@ -108,6 +112,15 @@ fn format_of(word: Option<&str>) -> Format {
     match word {
         Some("mermaid") => Format::Mermaid,
         _ => Format::Dot,
+    }
+}
+
+// The form of a report of times, if one is asked for. No other words are taken.
+fn form_of(word: Option<&str>) -> Option<Form> {
+    match word {
+        Some("json") => Some(Form::Json),
+        Some(_) => Some(Form::Text),
+        None => None,
     }
 }
 
@@ -184,6 +197,7 @@ fn run_command<'a>(alloc: Global) -> Result<clap::Command<'a>, clap::Error> {
     )?;
     let run = run.arg(quiet(alloc))?;
     let run = with_threading(alloc, run)?;
+    let run = run.arg(stats(alloc)?)?;
     with_ends(alloc, run)
 }
 
@@ -200,6 +214,22 @@ fn with_threading<'a>(
         "Runs each block in a thread of its own",
     );
     Ok(run.arg(each)?)
+}
+
+// The word for a report of times, which no run between files has.
+fn stats<'a>(alloc: Global) -> Result<Arg<'a>, AllocError> {
+    let stats = Arg::new(alloc, "stats")
+        .long("stats")
+        .value_name("FORM")
+        .num_args(0..=1)
+        .require_equals(true)
+        .default_missing_value("text")
+        .value_parser(["text", "json"].as_slice())
+        .help("Tells where the time of the run went");
+    let stats = stats.conflicts_with("input")?;
+    let stats = stats.conflicts_with("marks")?;
+    let stats = stats.conflicts_with("output")?;
+    stats.conflicts_with("tags")
 }
 
 // The words for files of raw items.
