@@ -3,10 +3,11 @@ use Rattle.std.proofs.Common.{inl, inr, ◌≡◌, ◌<◌, ◌≤◌, ℕ, suc,
 use Rattle.std.specs.Prelude.{Option, Result, Ok, Err, IfErr}
 use Rattle.std.specs.Io.KnownBytes.{Appends, Consumes, Keeps, IsAtEnd}
 use Rattle.std.proofs.KnownBytes.{Consumes-nil, Consumes-trans, Consumes-kept}
-use Rattle.script_text.specs.Lines.{lines_of, without_return}
+use Rattle.script_text.specs.Lines.{lines_of}
 use Rattle.script_text.specs.Splits.{Split, IsUnfinished, most_held}
 use Rattle.script_text.specs.Scripts.{said_of, GoesOn}
 use Rattle.script_text.specs.Grammar.{Command, Parsed, Nothing, Bad, Says, SaysList, parsed_from}
+use Rattle.script_text.proofs.LineLemmas.{return_less}
 use Rattle.flow.specs.Script.{Answering, HasNone, Replies, Answered, Begins, Stops, StopsBetween, Went, Unwritten, Flows, Ends, Breaks, script_after, script_of}
 use Rattle.flow.specs.declared.script.ScriptFault.{ScriptFault}
 use Rattle.flow.specs.declared.script.ScriptFault.TheVariants.{BadLine, Read, Write, Memory}
@@ -27,12 +28,6 @@ replies_both A (Nothing ∷ xs) ys a b c s t p q = replies_both A xs ys a b c s 
 replies_both A (Bad ∷ xs) ys a b c s t p q = absurd p
 replies_both A (Says c' ∷ xs) ys a b c s t p q =
     (p.0, p.1, p.2 ++ t, ap (λ (l : List ℕ). l ++ t) p.3 ∙ append_assoc p.1 p.2 t, p.4, replies_both A xs ys p.0 b c p.2 t p.5 q)
-
--- only a carriage return is left out
-return_less : (bytes : List ℕ) → length bytes ≤ suc (length (without_return bytes))
-return_less [] = omega arith
-return_less (b ∷ []) = omega arith
-return_less (b ∷ c ∷ bs) = let rest = return_less (c ∷ bs) in omega (arith, rest)
 
 -- there is room for a piece behind less than a line
 pub room_for : (s : Split) (piece : List ℕ) → IsUnfinished s.rest → length piece ≤ 4096 → length s.rest + length piece ≤ most_held

@@ -1,14 +1,15 @@
 -- Readers that give on marks.
-use Rattle.std.proofs.Common.{◌≡◌, ℕ, suc, ◌+◌, ◌≤◌, arith, length, List, [], ◌∷◌, ◌++◌, true, false, map, refl, ap, sym, ◌∙◌, subst, append_assoc}
+use Rattle.std.proofs.Common.{◌≡◌, ℕ, ◌+◌, ◌≤◌, arith, length, List, [], ◌∷◌, ◌++◌, true, false, map, refl, ap, sym, ◌∙◌, subst, append_assoc}
 use Rattle.std.proofs.lemmas.List.{append-nil, map-append}
 use Rattle.std.specs.Prelude.{Option, Some, None, IsSome}
 use Rattle.std.specs.Option.{option_map, option_to_list}
 use Rattle.std.specs.Io.KnownBytes.{Consumes, IsAtEnd}
 use Rattle.stream_model.specs.Tags.{Mark, Tag}
 use Rattle.stream_model.specs.Machine.{tag_of}
-use Rattle.script_text.specs.Lines.{lines_of, without_return}
+use Rattle.script_text.specs.Lines.{lines_of}
 use Rattle.script_text.specs.Splits.{IsUnfinished, most_held}
 use Rattle.script_text.specs.MarkLines.{line_mark, marks_said}
+use Rattle.script_text.proofs.LineLemmas.{return_less}
 use Rattle.pipeline.specs.Marks.{AreRead, AreTold, BeginTold, FindsMarks, Gives, GivesTo, HasTold, IsRead, Marking, ReadsMarks}
 use Rattle.pipeline.proofs.Growing.{consumes_none, consumes_then}
 
@@ -240,12 +241,6 @@ module _ {R : Type 0} (remaining : R → Option (List ℕ)) where
 pub some_seen : {A B : Type 0} (f : A → B) (x : Option A) → IsSome x → IsSome (option_map f x)
 some_seen f None some = absurd (cc some)
 some_seen f (Some a) some = some
-
--- only a carriage return is left out
-return_less : (bytes : List ℕ) → length bytes ≤ suc (length (without_return bytes))
-return_less [] = omega arith
-return_less (b ∷ []) = omega arith
-return_less (b ∷ c ∷ bs) = let rest = return_less (c ∷ bs) in omega (arith, rest)
 
 -- there is room for a piece behind less than a line
 pub room_for : (rest piece : List ℕ) → IsUnfinished rest → length piece ≤ 65536 → length rest + length piece ≤ most_held

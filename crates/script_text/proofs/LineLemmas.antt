@@ -25,6 +25,12 @@ other_end (b ∷ []) (suc n) p e = absurd (omega arith)
 other_end (b ∷ c ∷ bs) zero p e = absurd (omega arith)
 other_end (b ∷ c ∷ bs) (suc n) p e = ap (λ (xs : List ℕ). b ∷ xs) (other_end (c ∷ bs) n (omega arith) e)
 
+-- only a carriage return is left out
+pub return_less : (bytes : List ℕ) → length bytes ≤ suc (length (without_return bytes))
+return_less [] = omega arith
+return_less (b ∷ []) = omega arith
+return_less (b ∷ c ∷ bs) = let rest = return_less (c ∷ bs) in omega (arith, rest)
+
 later : (b : ℕ) (bs : List ℕ) → NoFeed (b ∷ bs) → NoFeed bs
 later b bs h k lt = h (suc k) (omega arith)
 
