@@ -17,15 +17,16 @@ use items::Items;
 use std::io::Read;
 use streaming::StreamingPlant;
 
-// How many bytes are read at once, at most.
-const PIECE: usize = 65_536;
+/// How many bytes are read at once, at most.
+pub(crate) const PIECE: usize = 65_536;
 
 impl<R: Read> Input<R> {
-    /// Reads once, and feeds the source what was read; or closes it where the reader is at its end. After that it does nothing.
+    /// Reads once into `piece`, and feeds the source what was read; or closes it where the reader is at its end. After that it does nothing.
     pub(crate) fn take_in<B: Block>(
         &mut self,
         plant: &mut StreamingPlant<B>,
         source: BlockId,
+        piece: &mut [u8; PIECE],
     ) -> Result<(), PipelineFault>
         ensures ok { OnOk result (TakesIn (HasRead R.remaining) (net_of B.meaning plant.old.plant.graph) plant.old plant.new source.0 self.old self.new) }
         ensures err { OnErr result (TakesIn (MayHaveRead R.remaining) (net_of B.meaning plant.old.plant.graph) plant.old plant.new source.0 self.old self.new) }
@@ -34,15 +35,14 @@ impl<R: Read> Input<R> {
         if self.is_ended {
             return Ok(());
         }
-        let mut buffer = [0; PIECE];
-        let count = match self.reader.read(&mut buffer) {
+        let count = match self.reader.read(piece) {
             Ok(count) => count,
             Err(error) => return Err(PipelineFault::Read(source, error)),
         };
         if count == 0 {
             return self.end(plant, source);
         }
-        self.feed(plant, source, &buffer[..count])
+        self.feed(plant, source, &piece[..count])
     }
 
     // Feeds the source what bytes are.

@@ -11,6 +11,7 @@ ghost use Rattle.pipeline.specs.Pipeline.{end_at};
 
 use crate::end::{End, Input, Output};
 use crate::fault::PipelineFault;
+use crate::intake::PIECE;
 use crate::pipeline::Pipeline;
 use flowgraph::{Block, BlockId};
 use items::ItemType;
@@ -29,13 +30,18 @@ impl<B: Block, R: Read + Drop, W: Write + Drop> Pipeline<B, R, W> {
         ensures open { IfOk result (λ pipeline. pipeline.ends.items ≡ replicate (length plant.plant.graph.blocks) Open) }
         ensures back { IfErr result (λ refusal. refusal.0 ≡ plant) }
     {
-        match all_open(alloc, plant.graph().len()) {
-            Ok(ends) => Ok(Pipeline {
+        let ends = match all_open(alloc, plant.graph().len()) {
+            Ok(ends) => ends,
+            Err(refusal) => return Err((plant, refusal)),
+        };
+        match Box::new(alloc, [0; PIECE]) {
+            Ok(piece) => Ok(Pipeline {
                 plant,
                 ends,
                 sink: BlockId(0),
+                piece,
             }),
-            Err(refusal) => Err((plant, refusal)),
+            Err(refusal) => Err((plant, refusal.into())),
         }
     }
 

@@ -9,6 +9,7 @@ ghost use Rattle.pipeline.specs.Faults.{IsOfMarks};
 ghost use Rattle.pipeline.specs.Marks.{AreOver, AreRead, FindsMarks, Gives, GivesTo, IsOver, IsRead};
 
 use crate::fault::PipelineFault;
+use crate::intake::PIECE;
 use flowgraph::BlockId;
 use items::Mark;
 use script_text::{FirstLine, LineSplitter, parse_mark_line};
@@ -16,13 +17,12 @@ use std::alloc::{AllocError, Global};
 use std::io::Read;
 use std::marker::Model;
 
-// How many bytes are read at once, at most.
-const PIECE: usize = 65_536;
-
 /// A reader whose lines are marks, in the order of their items.
 #[derive(Drop)]
 pub struct MarkReader<R> {
     reader: R,
+    // Where it puts the bytes of a piece.
+    piece: Box<[u8; PIECE]>,
     // What makes lines of its bytes.
     lines: LineSplitter,
     // The mark that was read last, where it is not fed yet.
@@ -58,9 +58,11 @@ impl<R: Drop> MarkReader<R> {
     pub(crate) fn new(alloc: Global, reader: R) -> Result<MarkReader<R>, AllocError>
         ensures { IfOk result (λ marks. marks ≡ record { reader = reader; rest = []; held = None; is_over = false }) }
     {
+        let piece = Box::new(alloc, [0; PIECE])?;
         let lines = LineSplitter::new(alloc)?;
         Ok(MarkReader {
             reader,
+            piece,
             lines,
             held: None,
             is_over: false,
@@ -182,15 +184,14 @@ impl<R: Read> MarkReader<R> {
         ensures err { OnErr result (IsRead R.remaining self.old self.new) }
         ensures fault { IfErr result (IsOfMarks source) }
     {
-        let mut buffer = [0; PIECE];
-        let count = match self.reader.read(&mut buffer) {
+        let count = match self.reader.read(&mut self.piece[..]) {
             Ok(count) => count,
             Err(error) => return Err(PipelineFault::ReadMarks(source, error)),
         };
         if count == 0 {
             return self.end_lines(source);
         }
-        self.lines.push(&buffer[..count]);
+        self.lines.push(&self.piece[..count]);
         Ok(())
     }
 

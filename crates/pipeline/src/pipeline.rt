@@ -12,6 +12,7 @@ ghost use Rattle.pipeline.specs.Pipeline.{AreDelivered, Begins, GoesOn, IsDelive
 use crate::delivery::{deliver, flush};
 use crate::end::End;
 use crate::fault::PipelineFault;
+use crate::intake;
 use flowgraph::{Block, BlockId};
 use std::alloc::Global;
 use std::io::{Read, Write};
@@ -32,6 +33,8 @@ pub struct Pipeline<B: Block, R, W> {
     pub ends: Vec<End<R, W>>,
     /// The sink whose waits led to the last source that was fed.
     pub sink: BlockId,
+    /// Where each reader puts the bytes of a piece, before they are fed.
+    pub piece: Box<[u8; intake::PIECE]>,
 }
 
 impl<B: Block, R: Read, W: Write> Pipeline<B, R, W> {
@@ -193,7 +196,7 @@ impl<B: Block, R: Read, W: Write> Pipeline<B, R, W> {
             return Ok(());
         }
         match &mut self.ends[at] {
-            End::Input(input) => input.take_in(&mut self.plant, block),
+            End::Input(input) => input.take_in(&mut self.plant, block, &mut self.piece),
             End::Open | End::Output(_) => Ok(()),
         }
     }
