@@ -86,3 +86,8 @@ on_err_both P Q (Err e) p q = (p, q)
 pub on_ok_both : {X E : Type 0} (P Q : Type 0) (r : Result X E) → OnOk r P → OnOk r Q → OnOk r (P × Q)
 on_ok_both P Q (Ok x) p q = (p, q)
 on_ok_both P Q (Err e) p q = tt
+
+-- what follows where all of these hold
+pub on_ok_three : {X E : Type 0} (P Q S T : Type 0) (r : Result X E) → OnOk r P → OnOk r Q → OnOk r S → (P → Q → S → T) → OnOk r T
+on_ok_three P Q S T (Ok x) p q s then' = then' p q s
+on_ok_three P Q S T (Err e) p q s then' = tt

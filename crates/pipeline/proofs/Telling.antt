@@ -10,8 +10,26 @@ use Rattle.script_text.specs.Lines.{lines_of}
 use Rattle.script_text.specs.Splits.{IsUnfinished, most_held}
 use Rattle.script_text.specs.MarkLines.{line_mark, marks_said}
 use Rattle.script_text.proofs.LineLemmas.{return_less}
-use Rattle.pipeline.specs.Marks.{AreRead, AreTold, BeginTold, FindsMarks, Gives, GivesTo, HasTold, IsRead, Marking, ReadsMarks}
+use Rattle.pipeline.specs.Marks.{AreRead, AreTold, BeginTold, FindsMarks, Follows, Gives, GivesTo, HasTold, IsRead, Marking, ReadsMarks, Rise, RiseTo, last_item}
 use Rattle.pipeline.proofs.Growing.{consumes_none, consumes_then}
+
+-- one more mark that is not before the last
+rise-more : (n : ℕ) (marks : List Mark) (mark : Mark) → Rise n marks → last_item n marks ≤ mark.offset → Rise n (marks ++ mark ∷ [])
+rise-more n [] mark rise low = (low, tt)
+rise-more n (m ∷ marks) mark rise low = (rise.0, rise-more m.offset marks mark rise.1 low)
+
+last-more : (n : ℕ) (marks : List Mark) (mark : Mark) → last_item n (marks ++ mark ∷ []) ≡ mark.offset
+last-more n [] mark = refl
+last-more n (m ∷ marks) mark = last-more m.offset marks mark
+
+rise-held : (marks : List Mark) (held held' : Option Mark) (n k : ℕ) → held ≡ None → Follows n held' k → RiseTo n (marks ++ option_to_list held) → RiseTo k (marks ++ option_to_list held')
+rise-held marks held None n k none follows rise = subst (λ h. RiseTo k (marks ++ option_to_list h)) none (subst (λ i. RiseTo i (marks ++ option_to_list held)) (sym follows) rise)
+rise-held marks held (Some mark) n k none follows rise =
+    let before : RiseTo n marks = subst (RiseTo n) (append-nil marks) (subst (λ h. RiseTo n (marks ++ option_to_list h)) none rise) in
+    let first : n ≤ mark.offset = follows.0 in
+    let last : last_item 0 (marks ++ mark ∷ []) ≡ mark.offset = last-more 0 marks mark in
+    let is : k ≡ mark.offset = follows.1 in
+    (rise-more 0 marks mark before.0 (omega (arith, before.1, first)), omega (arith, last, is))
 
 module _ {R : Type 0} (remaining : R → Option (List ℕ)) where
   told_as : (m : Marking R) (bs cs : List ℕ) (xs ys : List Mark) → bs ≡ cs → xs ≡ ys → HasTold remaining m bs xs → HasTold remaining m cs ys
@@ -54,9 +72,9 @@ module _ {R : Type 0} (remaining : R → Option (List ℕ)) where
   )
 
   -- a line was taken that says a mark, which is held
-  pub line-gives : (m m' : Marking R) (line : List ℕ) (mark : Mark) → m.is_over ≡ false → m.held ≡ None → m' ≡ record m { rest = m'.rest; held = Some mark } →
+  pub line-gives : (m m' : Marking R) (line : List ℕ) (mark : Mark) → m.is_over ≡ false → m.held ≡ None → m' ≡ record m { rest = m'.rest; held = Some mark; least = m'.least } → Follows m.least (Some mark) m'.least →
       ((more : List ℕ) → lines_of (m.rest ++ more) ≡ line ∷ lines_of (m'.rest ++ more)) → line_mark line ≡ Some mark → Gives remaining m m' []
-  line-gives m m' line mark goes_on none is taken says =
+  line-gives m m' line mark goes_on none is follows taken says =
       let reader : m'.reader ≡ m.reader = ap Marking.reader is in
       let held : m'.held ≡ Some mark = ap Marking.held is in
       let still : m'.is_over ≡ false = ap Marking.is_over is ∙ goes_on in
@@ -72,6 +90,7 @@ module _ {R : Type 0} (remaining : R → Option (List ℕ)) where
               ∙ ap (λ ws. map Some given ++ ws) first ∙ sym (append_assoc (map Some given) (Some mark ∷ []) (marks_said (m'.rest ++ more)))
               ∙ ap (λ zs. zs ++ marks_said (m'.rest ++ more)) (sym (map-append Some given (mark ∷ []))));
           at_end = λ e. absurd (cc (e, still));
+          rise = rw (append-nil given, held) (rise-held given m.held (Some mark) m.least m'.least none follows told.rise);
         };
         over = λ e. refl;
         stays_over = λ e. absurd (cc (e, goes_on));
@@ -82,6 +101,7 @@ module _ {R : Type 0} (remaining : R → Option (List ℕ)) where
   piece-gives m m' piece goes_on is read =
       let held : m'.held ≡ m.held = ap Marking.held is in
       let rest : m'.rest ≡ m.rest ++ piece = ap Marking.rest is in
+      let least : m'.least ≡ m.least = ap Marking.least is in
       let still : m'.is_over ≡ false = ap Marking.is_over is ∙ goes_on in
       record {
         bytes = piece;
@@ -91,6 +111,7 @@ module _ {R : Type 0} (remaining : R → Option (List ℕ)) where
               let was = told.lines (piece ++ more) (λ e. absurd (cc (e, goes_on))) in
               rw (append-nil given, held, rest, append_assoc before piece more, append_assoc m.rest piece more) was;
           at_end = λ e. absurd (cc (e, still));
+          rise = rw (append-nil given, held, least) told.rise;
         };
         over = λ e. absurd (cc (e, goes_on));
         stays_over = λ e. absurd (cc (e, goes_on));
@@ -98,8 +119,8 @@ module _ {R : Type 0} (remaining : R → Option (List ℕ)) where
 
   -- the reader was at its end, and the line that it ends, where there is one, says the mark that is held
   pub end-gives : (m m' : Marking R) → m.is_over ≡ false → m.held ≡ None → Consumes (remaining m.reader) (remaining m'.reader) [] → IsAtEnd (remaining m'.reader) → m'.is_over ≡ true → m'.rest ≡ [] →
-      marks_said m.rest ≡ map Some (option_to_list m'.held) → Gives remaining m m' []
-  end-gives m m' goes_on none read at over rest says = record {
+      marks_said m.rest ≡ map Some (option_to_list m'.held) → Follows m.least m'.held m'.least → Gives remaining m m' []
+  end-gives m m' goes_on none read at over rest says follows = record {
     bytes = [];
     read = read;
     told = λ before given told. record {
@@ -110,6 +131,7 @@ module _ {R : Type 0} (remaining : R → Option (List ℕ)) where
           (was ∙ ap (λ h. map Some (given ++ option_to_list h) ++ marks_said (m.rest ++ [])) none ∙ ap (λ zs. map Some zs ++ marks_said (m.rest ++ [])) (append-nil given)
           ∙ ap (λ zs. map Some given ++ marks_said zs) (append-nil m.rest) ∙ ap (λ ws. map Some given ++ ws) says ∙ sym (map-append Some given (option_to_list m'.held)));
       at_end = λ e. at;
+      rise = rw (append-nil given) (rise-held given m.held m'.held m.least m'.least none follows told.rise);
     };
     over = λ e. refl;
     stays_over = λ e. over;
@@ -122,6 +144,7 @@ module _ {R : Type 0} (remaining : R → Option (List ℕ)) where
       let none : m'.held ≡ None = ap Marking.held is in
       let rest : m'.rest ≡ m.rest = ap Marking.rest is in
       let same : m'.is_over ≡ m.is_over = ap Marking.is_over is in
+      let least : m'.least ≡ m.least = ap Marking.least is in
       record {
         bytes = [];
         read = rw reader (consumes_none (remaining m.reader));
@@ -131,6 +154,28 @@ module _ {R : Type 0} (remaining : R → Option (List ℕ)) where
               rw (append-nil before, none, rest, append-nil (given ++ mark ∷ []))
               (was ∙ ap (λ h. map Some (given ++ option_to_list h) ++ marks_said (m.rest ++ more)) held);
           at_end = λ e. rw reader (told.at_end (sym same ∙ e));
+          rise = rw (none, least, append-nil (given ++ mark ∷ [])) (subst (λ h. RiseTo m.least (given ++ option_to_list h)) held told.rise);
+        };
+        over = λ e. refl;
+        stays_over = λ e. same ∙ e;
+      }
+
+  -- the next mark may not be on some more items
+  pub raised-gives : (m m' : Marking R) → m' ≡ record m { least = m'.least } → m.least ≤ m'.least → Gives remaining m m' []
+  raised-gives m m' is low =
+      let reader : m'.reader ≡ m.reader = ap Marking.reader is in
+      let held : m'.held ≡ m.held = ap Marking.held is in
+      let rest : m'.rest ≡ m.rest = ap Marking.rest is in
+      let same : m'.is_over ≡ m.is_over = ap Marking.is_over is in
+      record {
+        bytes = [];
+        read = rw reader (consumes_none (remaining m.reader));
+        told = λ before given told. record {
+          lines = λ more nothing. rw (append-nil before, append-nil given, held, rest) (told.lines more (λ e. nothing (same ∙ e)));
+          at_end = λ e. rw reader (told.at_end (sym same ∙ e));
+          rise =
+              let last : last_item 0 (given ++ option_to_list m.held) ≤ m.least = told.rise.1 in
+              rw (append-nil given, held) (told.rise.0, omega (arith, last, low));
         };
         over = λ e. refl;
         stays_over = λ e. same ∙ e;
@@ -213,23 +258,23 @@ module _ {R : Type 0} (remaining : R → Option (List ℕ)) where
   begins-before b (Some k) (Some l) xs bytes start tags read begins = begins
 
   -- the same where a line may say no mark, and where a read gave nothing
-  pub said-gives : (m m' : Marking R) (line : List ℕ) (said : Option Mark) → m.is_over ≡ false → m.held ≡ None → m' ≡ record m { rest = m'.rest; held = said } →
+  pub said-gives : (m m' : Marking R) (line : List ℕ) (said : Option Mark) → m.is_over ≡ false → m.held ≡ None → m' ≡ record m { rest = m'.rest; held = said; least = m'.least } → Follows m.least said m'.least →
       ((more : List ℕ) → lines_of (m.rest ++ more) ≡ line ∷ lines_of (m'.rest ++ more)) → said ≡ line_mark line → IsSome said → Gives remaining m m' []
-  said-gives m m' line None goes_on none is taken says some = absurd (cc some)
-  said-gives m m' line (Some mark) goes_on none is taken says some = line-gives m m' line mark goes_on none is taken (sym says)
+  said-gives m m' line None goes_on none is follows taken says some = absurd (cc some)
+  said-gives m m' line (Some mark) goes_on none is follows taken says some = line-gives m m' line mark goes_on none is follows taken (sym says)
 
   pub last-gives : (m m' : Marking R) (line : List ℕ) (said : Option Mark) → m.is_over ≡ false → m.held ≡ None → m'.reader ≡ m.reader → IsAtEnd (remaining m.reader) → m'.is_over ≡ true → m'.rest ≡ [] → m'.held ≡ said →
-      line ∷ [] ≡ lines_of m.rest → said ≡ line_mark line → IsSome said → Gives remaining m m' []
-  last-gives m m' line None goes_on none reader at over rest held lines says some = absurd (cc some)
-  last-gives m m' line (Some mark) goes_on none reader at over rest held lines says some =
+      line ∷ [] ≡ lines_of m.rest → said ≡ line_mark line → IsSome said → Follows m.least said m'.least → Gives remaining m m' []
+  last-gives m m' line None goes_on none reader at over rest held lines says some follows = absurd (cc some)
+  last-gives m m' line (Some mark) goes_on none reader at over rest held lines says some follows =
       end-gives m m' goes_on none (rw reader (consumes_none (remaining m.reader))) (rw reader at) over rest
-      (rw held (ap (map line_mark) (sym lines) ∙ ap (λ x. x ∷ []) (sym says)))
+      (rw held (ap (map line_mark) (sym lines) ∙ ap (λ x. x ∷ []) (sym says))) (rw held follows)
 
   pub none-gives : (m m' : Marking R) → m.is_over ≡ false → m.held ≡ None → m' ≡ record m { rest = []; is_over = true } → IsAtEnd (remaining m.reader) → [] ≡ lines_of m.rest → Gives remaining m m' []
   none-gives m m' goes_on none is at lines =
       let reader : m'.reader ≡ m.reader = ap Marking.reader is in
       let held : m'.held ≡ None = ap Marking.held is ∙ none in
-      end-gives m m' goes_on none (rw reader (consumes_none (remaining m.reader))) (rw reader at) (ap Marking.is_over is) (ap Marking.rest is) (rw held (ap (map line_mark) (sym lines)))
+      end-gives m m' goes_on none (rw reader (consumes_none (remaining m.reader))) (rw reader at) (ap Marking.is_over is) (ap Marking.rest is) (rw held (ap (map line_mark) (sym lines))) (rw held (ap Marking.least is))
 
   pub nothing-gives : (m m' : Marking R) → m.is_over ≡ false → m' ≡ record m { reader = m'.reader } → Consumes (remaining m.reader) (remaining m'.reader) [] → Gives remaining m m' []
   nothing-gives m m' goes_on is read = piece-gives m m' [] goes_on (is ∙ ap (λ (xs : List ℕ). record m { reader = m'.reader; rest = xs }) (sym (append-nil m.rest))) read

@@ -29,7 +29,7 @@ pub record JoinsMarks {R W : Type 0} (b : ℕ) (reader : R) (es es' : List (End 
   pub input : InputState R
   pub was : end_at es b ≡ ends.Input input
   pub unmarked : input.marks ≡ None
-  pub joined : es' ≡ slice_set es b (ends.Input (record input { marks = Some (record { reader = reader; rest = []; held = None; is_over = false }) }))
+  pub joined : es' ≡ slice_set es b (ends.Input (record input { marks = Some (record { reader = reader; rest = []; held = None; is_over = false; least = 0 }) }))
 
 -- a block has a reader of items, and none of marks
 abbrev pub IsUnmarked : {R W : Type 0} → End R W → Type 0

@@ -74,7 +74,7 @@ impl<R: Drop> Input<R> {
     ) -> Result<(), PipelineFault>
         ensures joined { (self.old.marks ≡ None → ⊥) → result ≡ Err (Joined source) }
         ensures free { self.old.marks ≡ None → IfErr result (λ fault. fault ≡ Memory) }
-        ensures ok { OnOk result (self.new ≡ record self.old { marks = Some (record { reader = reader; rest = []; held = None; is_over = false }) }) }
+        ensures ok { OnOk result (self.new ≡ record self.old { marks = Some (record { reader = reader; rest = []; held = None; is_over = false; least = 0 }) }) }
         ensures unmarked { OnOk result (self.old.marks ≡ None) }
         ensures err { OnErr result (self.new ≡ self.old) }
     {

@@ -1,12 +1,12 @@
 //! The marks of a source, which come as lines.
 
-ghost use Rattle.std.specs.Prelude.{◌≡◌, ◌+◌, ◌-◌, ◌^◌, ◌<◌, true, false, [], ◌++◌, map, length, None, IsSome, IfErr, IfOk, OnOk, OnErr};
+ghost use Rattle.std.specs.Prelude.{◌≡◌, ◌+◌, ◌-◌, ◌^◌, ◌<◌, ◌≤◌, true, false, [], ◌++◌, map, length, None, IsSome, IfErr, IfOk, OnOk, OnErr};
 ghost use Rattle.std.specs.Option.{option_map};
 ghost use Rattle.std.specs.Io.KnownBytes.{IsAtEnd};
 ghost use Rattle.script_text.specs.Commands.{mark_seen, marks_seen};
 ghost use Rattle.script_text.specs.Splits.{IsUnfinished};
 ghost use Rattle.pipeline.specs.Faults.{IsOfMarks};
-ghost use Rattle.pipeline.specs.Marks.{AreOver, AreRead, FindsMarks, Gives, GivesTo, IsOver, IsRead};
+ghost use Rattle.pipeline.specs.Marks.{AreOver, AreRead, FindsMarks, Follows, Gives, GivesTo, IsOver, IsRead};
 
 use crate::fault::PipelineFault;
 use crate::intake::PIECE;
@@ -50,13 +50,14 @@ impl<R> Model for MarkReader<R> {
       rest = (if m.is_over then [] else m.lines.rest);
       held = option_map mark_seen m.held;
       is_over = m.is_over;
+      least = m.least;
     } };
 }
 
 impl<R: Drop> MarkReader<R> {
     /// A reader of which nothing was read.
     pub(crate) fn new(alloc: Global, reader: R) -> Result<MarkReader<R>, AllocError>
-        ensures { IfOk result (λ marks. marks ≡ record { reader = reader; rest = []; held = None; is_over = false }) }
+        ensures { IfOk result (λ marks. marks ≡ record { reader = reader; rest = []; held = None; is_over = false; least = 0 }) }
     {
         let piece = Box::new(alloc, [0; PIECE])?;
         let lines = LineSplitter::new(alloc)?;
@@ -85,7 +86,7 @@ impl<R: Read> MarkReader<R> {
         ensures err { OnErr result (IsRead R.remaining self.old self.new) }
         ensures fault { IfErr result (IsOfMarks source) }
     {
-        self.least = self.least.max(start);
+        self.raise(start);
         for _marks in 0..u64::MAX {
             if !self.take_one(source, end, marks)? {
                 return Ok(());
@@ -93,6 +94,14 @@ impl<R: Read> MarkReader<R> {
         }
         // No memory holds so many marks.
         Err(PipelineFault::Memory)
+    }
+
+    // Has the next mark be on no item below `start`.
+    fn raise(&mut self, start: u64)
+        ensures rest { self.new ≡ record self.old { least = self.new.least } }
+        ensures low { self.old.least ≤ self.new.least }
+    {
+        self.least = self.least.max(start);
     }
 
     // Appends the next mark where it is on an item below `end`, and tells whether it is.
@@ -184,14 +193,15 @@ impl<R: Read> MarkReader<R> {
         ensures err { OnErr result (IsRead R.remaining self.old self.new) }
         ensures fault { IfErr result (IsOfMarks source) }
     {
-        let count = match self.reader.read(&mut self.piece[..]) {
+        let piece: &mut [u8; PIECE] = &mut self.piece;
+        let count = match self.reader.read(piece) {
             Ok(count) => count,
             Err(error) => return Err(PipelineFault::ReadMarks(source, error)),
         };
         if count == 0 {
             return self.end_lines(source);
         }
-        self.lines.push(&self.piece[..count]);
+        self.lines.push(&piece[..count]);
         Ok(())
     }
 
@@ -219,7 +229,8 @@ impl<R: Read> MarkReader<R> {
     // Holds the mark of a line.
     fn hold(&mut self, source: BlockId, line: u64, mark: Option<Mark>) -> Result<(), PipelineFault>
         ensures some { OnOk result (IsSome mark) }
-        ensures ok { OnOk result (self.new ≡ record self.old { held = option_map mark_seen mark }) }
+        ensures ok { OnOk result (self.new ≡ record self.old { held = option_map mark_seen mark; least = self.new.least }) }
+        ensures follows { OnOk result (Follows self.old.least (option_map mark_seen mark) self.new.least) }
         ensures err { OnErr result (self.new ≡ self.old) }
         ensures fault { IfErr result (IsOfMarks source) }
     {

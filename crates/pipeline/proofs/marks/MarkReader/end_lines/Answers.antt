@@ -1,9 +1,8 @@
 use Rattle.std.proofs.Common.{◌≡◌, ◌∙◌, [], false, true, cond, refl, ap, sym, None}
-use Rattle.std.proofs.lemmas.Result.{on_ok_weaker}
 use Rattle.std.specs.Option.{option_map}
 use Rattle.script_text.specs.Commands.{mark_seen}
 use Rattle.pipeline.specs.Marks.{Marking}
-use Rattle.pipeline.proofs.Delivering.{on_ok_both}
+use Rattle.pipeline.proofs.Delivering.{on_ok_three}
 use Rattle.pipeline.proofs.Telling.{last-gives, none-gives, some_seen}
 use Rattle.pipeline.proofs.marks.MarkReader.end_lines.Goals as goal
 
@@ -11,17 +10,16 @@ pub returns-in-Some-clause-ok : goal.returns-in-Some-clause-ok
 returns-in-Some-clause-ok g c =
     let s = c.self.inside in
     let rest : c.args.self.now.rest ≡ s.lines.rest = sym (ap Marking.rest c.self.view_is) ∙ (let open0 : s.is_over ≡ false = ap Marking.is_over c.self.view_is ∙ c.requires.goes_on in rw open0 refl) in
-    on_ok_weaker c.hold.result
-    (λ both. last-gives g.R.Read.remaining c.args.self.now c.hold.new.self c.in-Some.line.now (option_map mark_seen c.parse_mark_line-mark.result) c.requires.goes_on c.requires.none
-    (ap Marking.reader both.1 ∙ ap Marking.reader c.self.view_is) c.requires.at_end (ap Marking.is_over both.1) (ap Marking.rest both.1) (ap Marking.held both.1)
-    (rw rest c.in-Some.ensures) c.parse_mark_line-mark.ensures (some_seen mark_seen _ both.0))
-    (on_ok_both _ _ c.hold.result c.hold.ensures.some c.hold.ensures.ok)
+    on_ok_three _ _ _ _ c.hold.result c.hold.ensures.some c.hold.ensures.ok c.hold.ensures.follows
+    (λ some held follows. last-gives g.R.Read.remaining c.args.self.now c.hold.new.self c.in-Some.line.now (option_map mark_seen c.parse_mark_line-mark.result) c.requires.goes_on c.requires.none
+    (ap Marking.reader held ∙ ap Marking.reader c.self.view_is) c.requires.at_end (ap Marking.is_over held) (ap Marking.rest held) (ap Marking.held held)
+    (rw rest c.in-Some.ensures) c.parse_mark_line-mark.ensures (some_seen mark_seen _ some) (rw (← ap Marking.least c.self.view_is) follows))
 
 pub returns-in-None-clause-ok : goal.returns-in-None-clause-ok
 returns-in-None-clause-ok g c =
     let s = c.self.inside in
     let open0 : s.is_over ≡ false = ap Marking.is_over c.self.view_is ∙ c.requires.goes_on in
-    let m : Marking _ = record { reader = s.reader; rest = cond s.is_over [] s.lines.rest; held = option_map mark_seen s.held; is_over = s.is_over } in
+    let m : Marking _ = record { reader = s.reader; rest = cond s.is_over [] s.lines.rest; held = option_map mark_seen s.held; is_over = s.is_over; least = s.least } in
     let m' : Marking _ = record m { rest = []; is_over = true } in
     let none : m.held ≡ None = ap Marking.held c.self.view_is ∙ c.requires.none in
     rw (← c.self.view_is)

@@ -26,7 +26,7 @@ returns-then-count-eq0-clause-ok g c =
     let remaining = g.R.Read.remaining in
     let s = c.self.inside in
     let open0 : s.is_over ≡ false = ap Marking.is_over c.self.view_is ∙ c.requires.goes_on in
-    let m : Marking _ = record { reader = s.reader; rest = cond s.is_over [] s.lines.rest; held = option_map mark_seen s.held; is_over = s.is_over } in
+    let m : Marking _ = record { reader = s.reader; rest = cond s.is_over [] s.lines.rest; held = option_map mark_seen s.held; is_over = s.is_over; least = s.least } in
     let k : Marking _ = record m { reader = c.read.new.self } in
     let read : Consumes (remaining s.reader) (remaining c.read.new.self) [] = subst (λ n. Consumes (remaining s.reader) (remaining c.read.new.self) (take n c.read.new.buf)) c.if-count-eq0.true c.in-Ok.ensures.bytes.0 in
     rw (← c.self.view_is)
@@ -37,7 +37,7 @@ returns-then-count-eq0-clause-err g c =
     let remaining = g.R.Read.remaining in
     let s = c.self.inside in
     let open0 : s.is_over ≡ false = ap Marking.is_over c.self.view_is ∙ c.requires.goes_on in
-    let m : Marking _ = record { reader = s.reader; rest = cond s.is_over [] s.lines.rest; held = option_map mark_seen s.held; is_over = s.is_over } in
+    let m : Marking _ = record { reader = s.reader; rest = cond s.is_over [] s.lines.rest; held = option_map mark_seen s.held; is_over = s.is_over; least = s.least } in
     let k : Marking _ = record m { reader = c.read.new.self } in
     let read : Consumes (remaining s.reader) (remaining c.read.new.self) [] = subst (λ n. Consumes (remaining s.reader) (remaining c.read.new.self) (take n c.read.new.buf)) c.if-count-eq0.true c.in-Ok.ensures.bytes.0 in
     rw (← c.self.view_is)
@@ -47,7 +47,7 @@ pub returns-clause-ok : goal.returns-clause-ok
 returns-clause-ok g c =
     let s = c.self.inside in
     let open0 : s.is_over ≡ false = ap Marking.is_over c.self.view_is ∙ c.requires.goes_on in
-    let m : Marking _ = record { reader = s.reader; rest = cond s.is_over [] s.lines.rest; held = option_map mark_seen s.held; is_over = s.is_over } in
-    let m' : Marking _ = record { reader = c.read.new.self; rest = cond s.is_over [] c.push.new.self.rest; held = option_map mark_seen s.held; is_over = s.is_over } in
+    let m : Marking _ = record { reader = s.reader; rest = cond s.is_over [] s.lines.rest; held = option_map mark_seen s.held; is_over = s.is_over; least = s.least } in
+    let m' : Marking _ = record { reader = c.read.new.self; rest = cond s.is_over [] c.push.new.self.rest; held = option_map mark_seen s.held; is_over = s.is_over; least = s.least } in
     rw (← c.self.view_is)
     (piece-gives g.R.Read.remaining m m' (take c.in-Ok.count c.read.new.buf) open0 (rw (open0, c.push.ensures.rest) refl) c.in-Ok.ensures.bytes.0)

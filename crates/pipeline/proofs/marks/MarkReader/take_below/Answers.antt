@@ -1,6 +1,8 @@
+use Rattle.std.proofs.Common.{[], sym}
+use Rattle.std.proofs.lemmas.List.{append-nil}
 use Rattle.script_text.specs.Commands.{marks_seen}
 use Rattle.pipeline.proofs.Delivering.{on_err}
-use Rattle.pipeline.proofs.Telling.{gives-read-then, gives_to-then}
+use Rattle.pipeline.proofs.Telling.{gives-read-then, gives_to-then, raised-gives}
 use Rattle.pipeline.proofs.marks.MarkReader.take_below.Goals as goal
 
 pub returns-in_err-take_one-clause-err : goal.returns-in_err-take_one-clause-err
@@ -14,3 +16,10 @@ returns-then-not-branch-clause-ok g c =
 pub loop-marks-preserved : goal.loop-marks-preserved
 loop-marks-preserved g c =
     gives_to-then g.R.Read.remaining c.args.self.now c.loop-marks.self c.take_one.new.self (marks_seen c.args.marks.now.items) (marks_seen c.loop-marks.marks.items) (marks_seen c.take_one.new.marks.items) c.loop-marks.invariant c.in_ok-take_one.ensures.ok
+
+pub loop-marks-init : goal.loop-marks-init
+loop-marks-init g c = (
+  [],
+  raised-gives g.R.Read.remaining c.args.self.now c.raise.new.self c.raise.ensures.rest c.raise.ensures.low,
+  sym (append-nil (marks_seen c.args.marks.now.items)),
+)
