@@ -30,7 +30,7 @@ try() {
 # copy_tree: the checkout as git would bring it
 copy_tree() {
     mkdir -p "$tree" "$elsewhere" "$room/bin" "$room/tools"
-    tar -C "$top" --exclude=./.git --exclude="./crates/*/out" -cf - . | tar -C "$tree" -xf -
+    tar -C "$top" --exclude=./.git --exclude=./out --exclude="./crates/*/out" -cf - . | tar -C "$tree" -xf -
     mkdir -p "$room/bin/a kit/bin"
     cp "$top/tests/newcomer/rt_in_its_place" "$room/bin/rt"
     cp "$top/tests/newcomer/rt_in_its_place" "$room/bin/a kit/bin/rattle"
