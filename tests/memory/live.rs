@@ -10,7 +10,8 @@ use std::alloc::Global;
 use std::sync::atomic::{AtomicBool, Ordering};
 use std::sync::{Arc, Wait};
 use std::thread::Threads;
-use threads::{Caller, Desk, Gate, Open, Outcome, RunFault, Turns, live, run};
+use std::time::Clock;
+use threads::{Caller, Desk, Gate, Open, Outcome, RunFault, Turns, live, live_adaptive, run};
 
 const SHORT: ItemType = ItemType::Short;
 
@@ -231,15 +232,34 @@ pub struct Ended {
     is_done: bool,
 }
 
+/// A way of a run with a caller.
+#[derive(Clone, Copy)]
+pub enum Way {
+    /// By `live`.
+    EachBlock,
+    /// By `live_adaptive`.
+    Adaptive,
+}
+
 /// Runs it with its caller.
-pub fn run_live<R: Threads + Wait + Sync>(rt: &R, alloc: Global, ready: Ready) -> Ended {
+pub fn run_live<R: Threads + Wait + Clock + Sync>(
+    rt: &R,
+    alloc: Global,
+    way: Way,
+    ready: Ready,
+) -> Ended {
     let Ready {
         plant,
         gate,
         notes,
         callers,
     } = ready;
-    let (plant, is_done) = match live(rt, alloc, plant, gate, callers, Turns::default()) {
+    let turns = Turns::default();
+    let ended = match way {
+        Way::EachBlock => live(rt, alloc, plant, gate, callers, turns),
+        Way::Adaptive => live_adaptive(rt, alloc, plant, gate, callers, turns),
+    };
+    let (plant, is_done) = match ended {
         Ok(finished) => match finished.outcome {
             Outcome::Done(plant) => (Some(plant), finished.logs.len() == 1),
             Outcome::Stalled(_) | Outcome::Stopped(_) => (None, false),

@@ -40,7 +40,7 @@ const FILE_BYTES: usize = 3_000;
 #[derive(Clone, Copy)]
 enum Task {
     Calls,
-    Live,
+    Live(live::Way),
     Launches(Way),
     Serve(Case),
     Raw,
@@ -66,7 +66,7 @@ fn main(rt: HostRuntime) -> ExitCode {
     let alloc = rt.alloc();
     let (came, fault) = match task {
         Task::Calls => (calls_task(&rt, alloc, before), None),
-        Task::Live => (live_task(rt, alloc, before), None),
+        Task::Live(way) => (live_task(rt, alloc, before, way), None),
         Task::Launches(way) => launches_task(rt, alloc, before, way),
         Task::Serve(case) => serve_task(rt, alloc, before, case),
         Task::Raw => raw_task(&rt, alloc, before),
@@ -107,12 +107,12 @@ fn calls_task(rt: &impl Abort, alloc: Global, before: u32) -> &'static str {
 }
 
 // (what is made ready in this and the next is opened elsewhere with each allocation failing)
-fn live_task(rt: impl Host, alloc: Global, before: u32) -> &'static str {
+fn live_task(rt: impl Host, alloc: Global, before: u32, way: live::Way) -> &'static str {
     let Some(ready) = live::make_ready(alloc) else {
         panic!(&rt; "nothing is ready");
     };
     let is_early = waste(alloc, before);
-    let ended = live::run_live(&rt, alloc, ready);
+    let ended = live::run_live(&rt, alloc, way, ready);
     let is_late = waste(alloc, MANY);
     // (from here on nothing fails)
     assert!(&rt; live::is_right(rt, alloc, ended), "a live run went wrong");
@@ -300,7 +300,8 @@ fn asked(rt: &HostRuntime) -> Option<(Task, u32, String)> {
 fn task_of(name: &str) -> Option<Task> {
     Some(match name {
         "calls" => Task::Calls,
-        "live" => Task::Live,
+        "live" => Task::Live(live::Way::EachBlock),
+        "live_adaptive" => Task::Live(live::Way::Adaptive),
         "launch" => Task::Launches(Way::Launch),
         "whole_run" => Task::Launches(Way::Run),
         "start" => Task::Launches(Way::Start),

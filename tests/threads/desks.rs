@@ -2,7 +2,7 @@
 use super::drawn::Make::{AddConst, Not, Sink, Source};
 use super::drawn::{Drawing, EMPTY, SINK, SOURCE, plant};
 use super::gates::Flag;
-use super::live_runs::{Answered, Part, Seat, answered, bytes, counted, doing, finished};
+use super::live_runs::{answered, Answered, bytes, counted, doing, finished, LIVE_WAYS, Part, Seat};
 use super::replays::{replay, same_logs};
 use super::runs::{ALL, End, ended_as, piece, share, shared};
 use flowgraph::BlockId;
@@ -81,8 +81,9 @@ impl Part for Sets {
 #[test]
 fn a_caller_is_answered_as_by_a_plant(rt: HostRuntime) -> Result<(), Fail> {
     let alloc = rt.alloc();
+    for way in LIVE_WAYS {
     let callers = doing(&rt, alloc, vec![in alloc; Sets { wrong: 0 }]?);
-    let ran = counted(&rt, alloc, plant(&rt, alloc, &ADDER), callers);
+    let ran = counted(&rt, alloc, way, plant(&rt, alloc, &ADDER), callers);
     let wrong = ran.callers[0].part.wrong;
     assert!(&rt; ran.callers[0].is_right && wrong == 0, "wrong: {wrong}");
     assert!(&rt; ran.logs[0].len() == 6, "six calls");
@@ -90,6 +91,7 @@ fn a_caller_is_answered_as_by_a_plant(rt: HostRuntime) -> Result<(), Fail> {
     holds_what_was_set(&rt, alloc, &plant);
     same_logs(&rt, &ran.history, &ran.logs);
     replay(&rt, alloc, &ADDER, &ran.history, &plant);
+    }
     Ok(())
 }
 
@@ -117,13 +119,17 @@ struct Sees {
 }
 
 impl Gate for Sees {
-    fn pass(&self, block: BlockId, firing: u64) {
-        if block.0 == SINK.0 && firing == 0 {
-            self.first.raise();
+    fn pass(&self, _block: BlockId, _firing: u64) {}
+
+    // (one item is there at a time)
+    fn worked(&self, block: BlockId, _firings: u32) {
+        if block.0 != SINK.0 {
+            return;
         }
-        if block.0 == SINK.0 && firing == 1 {
+        if self.first.is_up() {
             self.second.raise();
         }
+        self.first.raise();
     }
 }
 
@@ -143,6 +149,7 @@ impl Part for Overlaps {
 #[test]
 fn callers_and_workers_go_on_together(rt: HostRuntime) -> Result<(), Fail> {
     let alloc = rt.alloc();
+    for way in LIVE_WAYS {
     let sees = Sees {
         first: Flag::new(),
         second: Flag::new(),
@@ -152,12 +159,13 @@ fn callers_and_workers_go_on_together(rt: HostRuntime) -> Result<(), Fail> {
         gate: share(&rt, &gate),
     };
     let callers = doing(&rt, alloc, vec![in alloc; caller]?);
-    let ran = finished(&rt, alloc, plant(&rt, alloc, &ADDER), &gate, callers);
+    let ran = finished(&rt, alloc, way, plant(&rt, alloc, &ADDER), &gate, callers);
     assert!(&rt;
         ran.callers.len() == 1 && ran.callers[0].is_right,
         "what was read begins with 11"
     );
     let _ = ended_as(&rt, ran.outcome, End::Done);
+    }
     Ok(())
 }
 
@@ -230,12 +238,13 @@ fn holds_what_was_fed(rt: &impl Abort, chain: u32, piece: &Piece) {
 #[test]
 fn four_callers_feed_a_source_each(rt: HostRuntime) -> Result<(), Fail> {
     let alloc = rt.alloc();
+    for way in LIVE_WAYS {
     let mut parts = Vec::new(alloc);
     for chain in 0..4 {
         parts.push(Feeds { chain })?;
     }
     let callers = doing(&rt, alloc, parts);
-    let ran = answered(&rt, alloc, plant(&rt, alloc, &FOUR), callers);
+    let ran = answered(&rt, alloc, way, plant(&rt, alloc, &FOUR), callers);
     for (chain, log) in ran.logs.iter().enumerate() {
         assert!(&rt; log.len() == PIECES as usize * 2 + 1, "log {chain}");
     }
@@ -245,6 +254,7 @@ fn four_callers_feed_a_source_each(rt: HostRuntime) -> Result<(), Fail> {
     }
     same_logs(&rt, &ran.history, &ran.logs);
     replay(&rt, alloc, &FOUR, &ran.history, &plant);
+    }
     Ok(())
 }
 
@@ -266,17 +276,19 @@ impl Part for Leaves {
 #[test]
 fn a_source_left_open_stalls_or_is_stopped(rt: HostRuntime) -> Result<(), Fail> {
     let alloc = rt.alloc();
+    for way in LIVE_WAYS {
     for (parts, wanted) in [
         (vec![in alloc; Leaves { stops: false }]?, End::Stalled),
         (vec![in alloc; Leaves { stops: true }]?, End::Stopped),
         (Vec::new(alloc), End::Stalled),
     ] {
         let callers = doing(&rt, alloc, parts);
-        let ran = answered(&rt, alloc, plant(&rt, alloc, &ADDER), callers);
+        let ran = answered(&rt, alloc, way, plant(&rt, alloc, &ADDER), callers);
         for log in &ran.logs {
             assert!(&rt; log.is_empty(), "no call");
         }
         let _ = ended_as(&rt, ran.outcome, wanted);
+    }
     }
     Ok(())
 }

@@ -1,7 +1,7 @@
 //! Sinks that grow while callers feed and read.
 use super::drawn::{Drawing, Make, SOURCE, STRAIGHT, plant};
 use super::gates::Level;
-use super::live_runs::{Answered, Does, Part, Seat, answered, bytes, doing};
+use super::live_runs::{answered, Answered, bytes, Does, doing, LIVE_WAYS, Part, Seat};
 use super::replays::{is_beginning, replay, same_logs};
 use super::runs::{ALL, End, ended_as, piece, share, shared};
 use flowgraph::BlockId;
@@ -93,8 +93,9 @@ fn is_call(entry: &Entry, number: u64) -> bool {
 #[test]
 fn a_caller_feeds_100_000_single_bytes(rt: HostRuntime) -> Result<(), Fail> {
     let alloc = rt.alloc();
+    for way in LIVE_WAYS {
     let callers = doing(&rt, alloc, vec![in alloc; FeedsBytes]?);
-    let ran = answered(&rt, alloc, plant(&rt, alloc, &WIDE), callers);
+    let ran = answered(&rt, alloc, way, plant(&rt, alloc, &WIDE), callers);
     assert!(&rt; ran.logs[0].len() as u64 == BYTES + 1, "the log");
     for (number, entry) in (0..).zip(&ran.logs[0]) {
         assert!(&rt; is_call(entry, number), "call {number} in the log");
@@ -112,6 +113,7 @@ fn a_caller_feeds_100_000_single_bytes(rt: HostRuntime) -> Result<(), Fail> {
     assert!(&rt; piece.done && piece.held == BYTES, "{} items", piece.held);
     for n in 0..BYTES {
         assert!(&rt; piece.items.number(n as usize) == tape(n), "item {n}");
+    }
     }
     Ok(())
 }
@@ -226,8 +228,9 @@ fn has_it_twice(rt: &impl Abort, piece: &Piece) {
 #[test]
 fn what_is_read_of_a_sink_that_grows_is_its_beginning(rt: HostRuntime) -> Result<(), Fail> {
     let alloc = rt.alloc();
+    for way in LIVE_WAYS {
     let callers = one_of_each(&rt, alloc)?;
-    let ran = answered(&rt, alloc, plant(&rt, alloc, &TWICE), callers);
+    let ran = answered(&rt, alloc, way, plant(&rt, alloc, &TWICE), callers);
     for caller in &ran.callers {
         if let Role::Reads(reads) = &caller.part {
             // (no more than some pieces come in one read, the first included)
@@ -250,5 +253,6 @@ fn what_is_read_of_a_sink_that_grows_is_its_beginning(rt: HostRuntime) -> Result
     }
     same_logs(&rt, &ran.history, &ran.logs);
     replay(&rt, alloc, &TWICE, &ran.history, &plant);
+    }
     Ok(())
 }

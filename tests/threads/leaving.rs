@@ -1,7 +1,7 @@
 //! Callers that leave one after another, that stop the run, that do nothing, or that are not there.
 use super::drawn::{Drawing, SINK, SOURCE, TURNED, fed, feed, plant, tape_item};
 use super::gates::Level;
-use super::live_runs::{Answered, Does, Part, Seat, answered, counted, doing};
+use super::live_runs::{answered, Answered, counted, Does, doing, LIVE_WAYS, LiveWay, Part, Seat};
 use super::replays::{replay_on, same_logs};
 use super::runs::{ALL, End, Host, ended_as, holds_turned, piece, share, shared};
 use kinds::Kind;
@@ -112,9 +112,10 @@ fn stand_in_order(rt: &impl Abort, history: &[Entry], order: &[u32]) {
 #[test]
 fn callers_keep_their_order_however_they_leave(rt: HostRuntime) -> Result<(), Fail> {
     let alloc = rt.alloc();
+    for way in LIVE_WAYS {
     for order in ORDERS {
         let callers = callers_in(&rt, alloc, &order)?;
-        let ran = answered(&rt, alloc, fed(&rt, alloc, &CHAIN), callers);
+        let ran = answered(&rt, alloc, way, fed(&rt, alloc, &CHAIN), callers);
         stand_by_number(&rt, &ran);
         stand_in_order(&rt, &ran.history, &order);
         same_logs(&rt, &ran.history, &ran.logs);
@@ -127,6 +128,7 @@ fn callers_keep_their_order_however_they_leave(rt: HostRuntime) -> Result<(), Fa
             &ran.history,
             &plant,
         );
+    }
     }
     Ok(())
 }
@@ -168,7 +170,7 @@ impl Part for Stops {
 }
 
 // A run that is stopped: nothing is claimed behind the stop, and callers go on.
-fn stopped<R: Host + Sync>(rt: &R, alloc: Global) -> Result<(Plant<Kind>, Vec<Entry>), AllocError> {
+fn stopped<R: Host + Sync>(rt: &R, alloc: Global, way: LiveWay) -> Result<(Plant<Kind>, Vec<Entry>), AllocError> {
     let stopped = shared(rt, alloc, Level::new());
     let mut parts = Vec::new(alloc);
     for goes_on in [true, false] {
@@ -178,7 +180,7 @@ fn stopped<R: Host + Sync>(rt: &R, alloc: Global) -> Result<(Plant<Kind>, Vec<En
         })?;
     }
     let callers = doing(rt, alloc, parts);
-    let ran = answered(rt, alloc, plant(rt, alloc, &CHAIN), callers);
+    let ran = answered(rt, alloc, way, plant(rt, alloc, &CHAIN), callers);
     let mut is_stopped = false;
     for entry in &ran.history {
         is_stopped = is_stopped || entry.caller == CallerId::Desk(0);
@@ -200,16 +202,18 @@ fn nobody(alloc: Global) -> Vec<Does<Idles>> {
 #[test]
 fn a_run_that_a_caller_stopped_goes_on_later(rt: HostRuntime) -> Result<(), Fail> {
     let alloc = rt.alloc();
+    for way in LIVE_WAYS {
     for _ in 0..20 {
-        let (plant_one, history) = stopped(&rt, alloc)?;
+        let (plant_one, history) = stopped(&rt, alloc, way)?;
         let given = plant_one.headway().given;
         assert!(&rt; given <= u64::from(BEFORE), "{given} given");
         let mut own = plant(&rt, alloc, &CHAIN);
         replay_on(&rt, alloc, &mut own, &history, &plant_one);
-        let ran = counted(&rt, alloc, plant_one, nobody(alloc));
+        let ran = counted(&rt, alloc, way, plant_one, nobody(alloc));
         let plant_two = ended_as(&rt, ran.outcome, End::Done);
         holds_turned(&rt, alloc, &plant_two, SINK, ITEMS);
         replay_on(&rt, alloc, &mut own, &ran.history, &plant_two);
+    }
     }
     Ok(())
 }
@@ -225,7 +229,7 @@ impl Part for Idles {
 }
 
 // A run whose callers make no call: it ends so, and the sink has all that was fed.
-fn ends_so<R: Host + Sync>(rt: &R, alloc: Global, closes: bool, callers: Vec<Does<Idles>>) {
+fn ends_so<R: Host + Sync>(rt: &R, alloc: Global, way: LiveWay, closes: bool, callers: Vec<Does<Idles>>) {
     let many = callers.len();
     let mut opened = plant(rt, alloc, &CHAIN);
     let mut own = plant(rt, alloc, &CHAIN);
@@ -235,7 +239,7 @@ fn ends_so<R: Host + Sync>(rt: &R, alloc: Global, closes: bool, callers: Vec<Doe
             assert!(rt; plant.close(SOURCE).is_ok(), "closed");
         }
     }
-    let ran = answered(rt, alloc, opened, callers);
+    let ran = answered(rt, alloc, way, opened, callers);
     same_logs(rt, &ran.history, &ran.logs);
     let wanted = if closes { End::Done } else { End::Stalled };
     let plant = ended_as(rt, ran.outcome, wanted);
@@ -258,10 +262,12 @@ fn ends_so<R: Host + Sync>(rt: &R, alloc: Global, closes: bool, callers: Vec<Doe
 #[test]
 fn a_run_without_calls_stalls_or_is_done(rt: HostRuntime) -> Result<(), Fail> {
     let alloc = rt.alloc();
+    for way in LIVE_WAYS {
     for closes in [false, true] {
-        ends_so(&rt, alloc, closes, nobody(alloc));
+        ends_so(&rt, alloc, way, closes, nobody(alloc));
         let one = doing(&rt, alloc, vec![in alloc; Idles]?);
-        ends_so(&rt, alloc, closes, one);
+        ends_so(&rt, alloc, way, closes, one);
+    }
     }
     Ok(())
 }

@@ -2,7 +2,7 @@
 use super::desks::Sets;
 use super::drawn::{Drawing, SINK, SOURCE, TURNED, fed};
 use super::gates::Counts;
-use super::live_runs::{Does, finished_with};
+use super::live_runs::{Does, LiveWay, finished_with};
 use super::runs::{
     End, ended, ended_as, holds_turned, launched, same_sinks, settled, share, shared,
 };
@@ -150,7 +150,7 @@ fn a_turn_of_a_run_with_callers_is_as_long_as_it_may_be(rt: HostRuntime) -> Resu
         let gate = shared(&rt, alloc, SecondTurn::new());
         let nobody: Vec<Does<Sets>> = Vec::new(alloc);
         let plant = fed(&rt, alloc, &ROOMY);
-        let ran = finished_with(&rt, alloc, plant, &gate, nobody, turns(&rt, most));
+        let ran = finished_with(&rt, alloc, LiveWay::EachBlock, plant, &gate, nobody, turns(&rt, most));
         let _ = ended_as(&rt, ran.outcome, End::Done);
         assert_eq!(rt; gate.begins_at(), second, "turns of {most}");
     }

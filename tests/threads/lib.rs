@@ -10,6 +10,7 @@ mod growing;
 mod leaving;
 mod lengths;
 mod live_runs;
+mod live_ways;
 mod measured;
 mod overlaps;
 mod probes;

@@ -1,6 +1,7 @@
 //! Runs with callers, and what the tests' callers have in common.
 use super::gates::Counts;
 use super::runs::{Host, share, shared};
+use super::ways::{ByChance, WithClock};
 use flowgraph::BlockId;
 use items::{ItemType, Items, Mark};
 use kinds::Kind;
@@ -9,7 +10,7 @@ use settings::Value;
 use std::alloc::Global;
 use std::process::Abort;
 use std::sync::{Arc, Wait};
-use threads::{Caller, Desk, Finished, Gate, Turns, live};
+use threads::{Caller, Desk, Finished, Gate, Turns, live, live_adaptive};
 
 /// Where a caller makes its calls: a desk, and what each call there takes.
 #[derive(Drop)]
@@ -105,19 +106,44 @@ pub fn bytes(alloc: Global, numbers: &[i64]) -> Result<Items, PlantFault> {
     }
 }
 
-/// A run with turns of this length, which ends.
+/// A way of a run with callers.
+#[derive(Clone, Copy, Debug, PartialEq, Eq)]
+pub enum LiveWay {
+    /// A thread for each block.
+    EachBlock,
+    /// As many threads as the work is worth.
+    Adaptive,
+    /// The same by a clock that makes a block seem dear now and then.
+    Erratic,
+}
+
+/// All of them.
+pub const LIVE_WAYS: [LiveWay; 3] = [LiveWay::EachBlock, LiveWay::Adaptive, LiveWay::Erratic];
+
+/// A run in a way, with turns of this length, which ends.
 pub fn finished_with<C: Caller<Kind> + Drop + Send, G: Gate + Drop + Send + Sync, R: Host + Sync>(
     rt: &R,
     alloc: Global,
+    way: LiveWay,
     plant: Plant<Kind>,
     gate: &Arc<G, Global>,
     callers: Vec<C>,
     turns: Turns,
 ) -> Finished<Kind, C> {
     assert!(rt; plant.idle() && callers.len() <= 16, "it may begin");
-    match live(rt, alloc, plant, share(rt, gate), callers, turns) {
+    let own = share(rt, gate);
+    let erratic = WithClock {
+        rt: *rt,
+        clock: ByChance,
+    };
+    let ended = match way {
+        LiveWay::EachBlock => live(rt, alloc, plant, own, callers, turns),
+        LiveWay::Adaptive => live_adaptive(rt, alloc, plant, own, callers, turns),
+        LiveWay::Erratic => live_adaptive(&erratic, alloc, plant, own, callers, turns),
+    };
+    match ended {
         Ok(finished) => finished,
-        Err(fault) => panic!(rt; "not finished: {fault}"),
+        Err(fault) => panic!(rt; "{way:?}: not finished: {fault}"),
     }
 }
 
@@ -125,23 +151,25 @@ pub fn finished_with<C: Caller<Kind> + Drop + Send, G: Gate + Drop + Send + Sync
 pub fn finished<C: Caller<Kind> + Drop + Send, G: Gate + Drop + Send + Sync, R: Host + Sync>(
     rt: &R,
     alloc: Global,
+    way: LiveWay,
     plant: Plant<Kind>,
     gate: &Arc<G, Global>,
     callers: Vec<C>,
 ) -> Finished<Kind, C> {
-    finished_with(rt, alloc, plant, gate, callers, Turns::default())
+    finished_with(rt, alloc, way, plant, gate, callers, Turns::default())
 }
 
 /// A run that ends, with a log for each of its callers, and in which no sleeper is missed.
 pub fn counted<C: Caller<Kind> + Drop + Send, R: Host + Sync>(
     rt: &R,
     alloc: Global,
+    way: LiveWay,
     plant: Plant<Kind>,
     callers: Vec<C>,
 ) -> Finished<Kind, C> {
     let gate = shared(rt, alloc, Counts::new());
     let many = callers.len();
-    let ran = finished(rt, alloc, plant, &gate, callers);
+    let ran = finished(rt, alloc, way, plant, &gate, callers);
     assert!(rt; gate.missed() == 0, "a sleeper was missed");
     assert!(rt; ran.callers.len() == many, "{many} callers");
     assert!(rt; ran.logs.len() == many, "{many} logs");
@@ -152,10 +180,11 @@ pub fn counted<C: Caller<Kind> + Drop + Send, R: Host + Sync>(
 pub fn answered<P: Part + Drop + Send, R: Host + Sync>(
     rt: &R,
     alloc: Global,
+    way: LiveWay,
     plant: Plant<Kind>,
     callers: Vec<Does<P>>,
 ) -> Finished<Kind, Does<P>> {
-    let ran = counted(rt, alloc, plant, callers);
+    let ran = counted(rt, alloc, way, plant, callers);
     for (number, caller) in ran.callers.iter().enumerate() {
         assert!(rt; caller.is_right, "caller {number} was answered otherwise");
     }

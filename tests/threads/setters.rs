@@ -1,7 +1,7 @@
 //! Callers that feed, close, set and read by chance, of graphs that are drawn by chance. Each history is played again, and settled on one thread.
 use super::drawn::{Drawing, Make, plant};
 use super::gates::Counts;
-use super::live_runs::finished_with;
+use super::live_runs::{finished_with, LIVE_WAYS, LiveWay};
 use super::random::{Chance, Graph, drawn_graph};
 use super::random_callers::RandomCaller;
 use super::replays::{is_beginning, replay, same_logs};
@@ -177,7 +177,7 @@ fn is_played_again(
 // The runs of these seeds, of which each kind of answer comes in some.
 fn are_played_again<R: Host + Sync>(
     rt: &R,
-    alloc: Global,
+    alloc: Global, way: LiveWay,
     seeds: Range<u64>,
 ) -> Result<(), AllocError> {
     let mut counts = [0; ANSWER_KINDS.len()];
@@ -191,7 +191,7 @@ fn are_played_again<R: Host + Sync>(
             panic!(rt; "no turns");
         };
         let opened = plant(rt, alloc, &drawing);
-        let ran = finished_with(rt, alloc, opened, &gate, callers, turns);
+        let ran = finished_with(rt, alloc, way, opened, &gate, callers, turns);
         assert!(rt; gate.missed() == 0, "{what}: no sleeper was missed");
         assert!(rt;
             ran.callers.len() == count_of(seed) && ran.logs.len() == count_of(seed),
@@ -212,12 +212,16 @@ fn are_played_again<R: Host + Sync>(
 
 #[test]
 fn calls_by_chance_are_answered_as_by_a_plant(rt: HostRuntime) -> Result<(), Fail> {
-    are_played_again(&rt, rt.alloc(), 0..RUNS)?;
+    for way in LIVE_WAYS {
+    are_played_again(&rt, rt.alloc(), way, 0..RUNS)?;
+    }
     Ok(())
 }
 
 #[test]
 fn more_calls_by_chance_are_answered_as_by_a_plant(rt: HostRuntime) -> Result<(), Fail> {
-    are_played_again(&rt, rt.alloc(), RUNS..2 * RUNS)?;
+    for way in LIVE_WAYS {
+    are_played_again(&rt, rt.alloc(), way, RUNS..2 * RUNS)?;
+    }
     Ok(())
 }

@@ -1,7 +1,7 @@
 //! The taps of a filter that are set while it works.
 use super::drawn::{SINK, SOURCE, opened};
 use super::gates::Level;
-use super::live_runs::{Answered, Part, Seat, answered, doing};
+use super::live_runs::{answered, Answered, doing, LIVE_WAYS, Part, Seat};
 use super::replays::{replay_on, same_logs};
 use super::runs::{End, ended_as, piece, share, shared};
 use fir_blocks::Fir;
@@ -166,6 +166,7 @@ fn has_what_taps_give(rt: &impl Abort, alloc: Global, plant: &Plant<Kind>, histo
 #[test]
 fn taps_are_set_in_the_middle_of_a_run(rt: HostRuntime) -> Result<(), Fail> {
     let alloc = rt.alloc();
+    for way in LIVE_WAYS {
     let set = shared(&rt, alloc, Level::new());
     let mut parts = Vec::new(alloc);
     for sets in [true, false] {
@@ -175,10 +176,11 @@ fn taps_are_set_in_the_middle_of_a_run(rt: HostRuntime) -> Result<(), Fail> {
         })?;
     }
     let callers = doing(&rt, alloc, parts);
-    let ran = answered(&rt, alloc, filtered(&rt, alloc), callers);
+    let ran = answered(&rt, alloc, way, filtered(&rt, alloc), callers);
     let plant = ended_as(&rt, ran.outcome, End::Done);
     has_what_taps_give(&rt, alloc, &plant, &ran.history);
     same_logs(&rt, &ran.history, &ran.logs);
     replay_on(&rt, alloc, &mut filtered(&rt, alloc), &ran.history, &plant);
+    }
     Ok(())
 }

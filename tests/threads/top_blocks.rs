@@ -222,3 +222,28 @@ fn a_run_with_a_caller_is_watched_to_its_end(rt: HostRuntime) -> Result<(), Fail
     }
     Ok(())
 }
+
+#[test]
+fn a_run_with_a_caller_takes_the_threads_that_its_work_is_worth(rt: HostRuntime) -> Result<(), Fail> {
+    let alloc = rt.alloc();
+    let opened = plant(&rt, alloc, &ADDER);
+    assert!(rt; opened.idle(), "idle");
+    let top = TopBlock::from_plant(opened);
+    let gate = shared(&rt, alloc, Counts::new());
+    let callers = one_caller(&rt, alloc)?;
+    let mut ends = Ends { told: 0 };
+    match top.start_live_adaptive(
+        &rt,
+        alloc,
+        share(&rt, &gate),
+        callers,
+        Turns::default(),
+        &mut ends,
+    ) {
+        Ok(ran) => is_answered(&rt, alloc, ran),
+        Err(fault) => panic!(&rt; "not finished: {fault}"),
+    }
+    assert!(rt; ends.told == 1, "the end was told {} times", ends.told);
+    assert!(rt; gate.passed() == 0, "work went to another thread");
+    Ok(())
+}

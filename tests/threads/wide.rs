@@ -1,6 +1,6 @@
 //! As many blocks as a graph may have.
 use super::drawn::{Drawing, Make, fed, plant, tape_item};
-use super::live_runs::{Answered, Part, Seat, answered, doing};
+use super::live_runs::{LIVE_WAYS, Answered, Part, Seat, answered, doing};
 use super::replays::{replay, same_logs};
 use super::runs::{End, Host, ended_as, piece};
 use super::ways::{WAYS, ran_by, ran_by_to};
@@ -190,6 +190,7 @@ impl Part for FeedsAll {
 #[test]
 fn a_caller_feeds_254_blocks(rt: HostRuntime) -> Result<(), Fail> {
     let alloc = rt.alloc();
+    for way in LIVE_WAYS {
     for (wide, added) in [(chain_of(alloc, 252)?, 252), (pairs_of(alloc, 127)?, 0)] {
         assert!(rt; wide.makes.len() == 254, "254 blocks");
         let drawing = wide.drawing(16);
@@ -200,11 +201,12 @@ fn a_caller_feeds_254_blocks(rt: HostRuntime) -> Result<(), Fail> {
             }
         }
         let callers = doing(&rt, alloc, vec![in alloc; FeedsAll { sources }]?);
-        let ran = answered(&rt, alloc, plant(&rt, alloc, &drawing), callers);
+        let ran = answered(&rt, alloc, way, plant(&rt, alloc, &drawing), callers);
         let plant = ended_as(&rt, ran.outcome, End::Done);
         each_shows_the_tape(&rt, alloc, &plant, &drawing, added);
         same_logs(&rt, &ran.history, &ran.logs);
         replay(&rt, alloc, &drawing, &ran.history, &plant);
+    }
     }
     Ok(())
 }

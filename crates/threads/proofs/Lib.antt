@@ -8,4 +8,5 @@ mod Places
 mod Promises
 mod Records
 mod Sames
+mod Stepping
 mod Weighing

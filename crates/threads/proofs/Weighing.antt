@@ -11,13 +11,13 @@ use Rattle.plant.specs.Plant.{PlantState}
 
 module _ (net : Network) where
   -- work that is taken back is one's own
-  taken_own : (st : State) (own : Bool) (job : Job) (n : ℕ) → (commit_of net st own job).0 ≡ machine.Did n → commit_of net st true job ≡ commit_of net st own job
+  pub taken_own : (st : State) (own : Bool) (job : Job) (n : ℕ) → (commit_of net st own job).0 ≡ machine.Did n → commit_of net st true job ≡ commit_of net st own job
   unfolding commit_of
   taken_own st true job n e = refl
   taken_own st false job n e = absurd (let no : machine.Refused machine.foreign ≡ machine.Did n = e in cc)
 
   -- where firings are handed out a step commits them
-  handed_step : (now : Reply × State) (job : Job) → now.0 ≡ machine.Claimed job → commit_claimed net now ≡ commit_of net now.1 true job
+  pub handed_step : (now : Reply × State) (job : Job) → now.0 ≡ machine.Claimed job → commit_claimed net now ≡ commit_of net now.1 true job
   handed_step now job e = subst (λ (r : Reply). commit_claimed net (r, now.1) ≡ commit_of net now.1 true job) (sym e) refl
 
 step_made : {B : Type 0} (meaning : B → Meaning) (old mid new : PlantState B) (b most : ℕ) (job : Job) (own : Bool) (n : ℕ) →

@@ -15,7 +15,7 @@ use Rattle.threads.specs.declared.engine.Engine.{Engine}
 use Rattle.threads.specs.declared.engine.Engine.TheVariants as engine
 use Rattle.threads.specs.declared.entry.CallerId.TheVariants as caller
 use Rattle.threads.specs.History.{Asked, Asks}
-use Rattle.threads.specs.Recorded.{IsNoted, IsClaimNoted, IsBack}
+use Rattle.threads.specs.Recorded.{IsNoted, IsClaimNoted, IsStepNoted, IsBack}
 
 -- the plant
 abbrev pub plant_in : {B P : Type 0} → Engine B P → PlantState B
@@ -29,10 +29,10 @@ HasClaimed meaning b most (engine.Noted old) (engine.Noted new) reply = IsClaimN
 HasClaimed meaning b most (engine.Plain old) (engine.Noted new) reply = ⊥
 HasClaimed meaning b most (engine.Noted old) (engine.Plain new) reply = ⊥
 
--- a block was stepped as by the machine; or it was out of memory, or calls are recorded, and nothing changed
+-- a block was stepped as by the machine, and recorded where calls are; or it was out of memory, and nothing changed
 abbrev pub HasStepped : {B P : Type 0} → (B → Meaning) → (block most : ℕ) → Engine B P → Engine B P → Option Reply → Type 0
 HasStepped meaning b most (engine.Plain old) (engine.Plain new) reply = Answered (step_of (net_of meaning old.graph) old.capacities old.state b most) old new reply
-HasStepped meaning b most (engine.Noted old) (engine.Noted new) reply = (reply ≡ None) × (new ≡ old)
+HasStepped meaning b most (engine.Noted old) (engine.Noted new) reply = IsStepNoted meaning b most old new reply
 HasStepped meaning b most (engine.Plain old) (engine.Noted new) reply = ⊥
 HasStepped meaning b most (engine.Noted old) (engine.Plain new) reply = ⊥
 

@@ -1,9 +1,9 @@
 -- A plant whose calls are recorded.
-use Rattle.std.specs.Prelude.{ℕ, ◌≡◌, ◌==◌, List, [], ◌∷◌, ◌++◌, sum_by, cond, Option, Some, None, Result, Ok, Err}
+use Rattle.std.specs.Prelude.{ℕ, ◌≡◌, ◌==◌, ◌⊎◌, List, [], ◌∷◌, ◌++◌, sum_by, cond, Option, Some, None, Result, Ok, Err}
 use Rattle.stream_model.specs.Meaning.{Meaning}
 use Rattle.stream_model.specs.Network.{State}
 use Rattle.stream_model.specs.Machine as machine
-use Rattle.stream_model.specs.Machine.{Reply, next}
+use Rattle.stream_model.specs.Machine.{Job, Reply, next, step_of}
 use Rattle.flowgraph.specs.Fault.{id}
 use Rattle.flowgraph.specs.Flowgraph.{net_of}
 use Rattle.plant.specs.Handed.{OpeningState}
@@ -11,7 +11,7 @@ use Rattle.plant.specs.Plant.{PlantState}
 use Rattle.plant.specs.declared.answers.Did.{Did}
 use Rattle.threads.specs.declared.entry.CallerId.{CallerId}
 use Rattle.threads.specs.declared.entry.CallerId.TheVariants as caller
-use Rattle.threads.specs.History.{Asked, Brings, Says, Noted, IsRunOf, call_in, said_of}
+use Rattle.threads.specs.History.{Asked, Asks, Brings, Says, Noted, IsRunOf, call_in, said_of}
 
 -- the plant, where it began, and what was recorded since
 pub record RecordedState (B : Type 0) : Type 0 where
@@ -58,3 +58,17 @@ IsClaimNoted meaning caller asked old new (Some reply) = let now = now_in meanin
 abbrev pub IsBack : {B J : Type 0} → (B → Meaning) → Reply × State → RecordedState B → RecordedState B → J → (block : ℕ) → Result Did J → Type 0
 IsBack meaning now old new work b (Ok did) = (now.0 ≡ machine.Did did.0) × (new ≡ moved_on old now.1 (record { caller = caller.Worker (id b); asked = Brings b; said = Says (machine.Did did.0) } ∷ []))
 IsBack meaning now old new work b (Err back) = (now.0 ≡ machine.Refused machine.foreign) × (back ≡ work) × (new ≡ old)
+
+-- what is recorded of a step of a block: the claim, and where that handed out firings the commit of their work
+abbrev pub step_notes : (block most : ℕ) → (claimed : Reply) → Reply → List Noted
+step_notes b most claimed (machine.Did count) =
+    note_of (caller.Worker (id b)) (Asks (machine.Claim b most)) claimed ∷ record { caller = caller.Worker (id b); asked = Brings b; said = Says (machine.Did count) } ∷ []
+step_notes b most claimed reply = claim_notes (caller.Worker (id b)) (Asks (machine.Claim b most)) reply
+
+-- a block was stepped as by the machine, and that was recorded; or it was out of memory: nothing changed, or its work was not taken back
+abbrev pub IsStepNoted : {B : Type 0} → (B → Meaning) → (block most : ℕ) → RecordedState B → RecordedState B → Option Reply → Type 0
+IsStepNoted meaning b most old new None =
+    (new ≡ old) ⊎ ((job : Job) × IsClaimNoted meaning (caller.Worker (id b)) (Asks (machine.Claim b most)) old new (Some (machine.Claimed job)))
+IsStepNoted meaning b most old new (Some reply) =
+    let now = step_of (net_of meaning old.plant.graph) old.plant.capacities old.plant.state b most in
+    (reply ≡ now.0) × (new ≡ moved_on old now.1 (step_notes b most (now_in meaning old (Asks (machine.Claim b most))).0 reply))

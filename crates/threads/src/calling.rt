@@ -19,6 +19,7 @@ use crate::gate::Gate;
 use crate::hall::Hall;
 use crate::launching::make_beds;
 use crate::logs::are_logs;
+use crate::number_set::NumberSet;
 use crate::outcome::Outcome;
 use crate::pool::Pool;
 use crate::recorded::Recorded;
@@ -107,7 +108,7 @@ where
     ensures turns { IfOk result (λ f. f.turns ≡ turns) }
     ensures err { IfErr result (GivesBackLive B.meaning B.eq (opening_of plant)) }
 {
-    let (hall, rooms) = prepare(alloc, plant, callers.len())?;
+    let (hall, rooms) = prepare(alloc, plant, callers.len(), Crew::Workers)?;
     let Rooms {
         opening,
         graph,
@@ -127,20 +128,30 @@ where
     ended(hall.into_inner(), &opening, came, turns)
 }
 
-// What a run needs that lies beside its lock.
-#[derive(Drop)]
-struct Rooms<B: Block, C: Caller<B> + Drop> {
-    opening: Opening<B>,
-    graph: Arc<Valid<B>, Global>,
-    beds: Vec<Parker>,
-    room: Room<B, C>,
+/// Who acts for the blocks of a run.
+#[derive(Clone, Copy)]
+pub(crate) enum Crew {
+    /// A worker for each.
+    Workers,
+    /// A pool of threads for all, with turns of such a length.
+    Pool(Turns),
 }
 
-// All that a run needs.
-fn prepare<B: Block, C: Caller<B> + Drop + Send>(
+/// What a run needs that lies beside its lock.
+#[derive(Drop)]
+pub(crate) struct Rooms<B: Block, C: Caller<B> + Drop> {
+    pub opening: Opening<B>,
+    pub graph: Arc<Valid<B>, Global>,
+    pub beds: Vec<Parker>,
+    pub room: Room<B, C>,
+}
+
+/// All that a run needs.
+pub(crate) fn prepare<B: Block, C: Caller<B> + Drop + Send>(
     alloc: Global,
     plant: Plant<B>,
     callers: usize,
+    crew: Crew,
 ) -> Result<(Hall<B>, Rooms<B, C>), RunFault<B>>
     requires idle { is_idle plant.state ≡ true }
     ensures opening { IfOk result (λ p. p.1.opening ≡ opening_of plant) }
@@ -151,13 +162,13 @@ fn prepare<B: Block, C: Caller<B> + Drop + Send>(
 {
     match (
         rooms_of(alloc, &plant, callers),
-        locked_rooms_of(alloc, &plant),
+        locked_rooms_of(alloc, &plant, crew),
     ) {
-        (Ok(rooms), Ok((opening, seats))) => Ok((
+        (Ok(rooms), Ok((opening, seats, pool))) => Ok((
             Hall::new(
                 Engine::Noted(Recorded::new(alloc, plant, opening)),
                 seats,
-                Pool::none(alloc),
+                pool,
                 callers,
             ),
             rooms,
@@ -198,13 +209,20 @@ fn rooms_of<B: Block, C: Caller<B> + Drop + Send>(
 fn locked_rooms_of<B: Block>(
     alloc: Global,
     plant: &Plant<B>,
-) -> Result<(Opening<B>, Seats), AllocError>
+    crew: Crew,
+) -> Result<(Opening<B>, Seats, Pool), AllocError>
     ensures { IfOk result (λ r. r.0 ≡ opening_of plant.now) }
 {
-    Ok((
-        plant.opening(alloc)?,
-        Seats::new(alloc, plant.graph().len())?,
-    ))
+    let opening = plant.opening(alloc)?;
+    let graph = plant.graph();
+    let (seats, pool) = match crew {
+        Crew::Workers => (Seats::new(alloc, graph.len())?, Pool::none(alloc)),
+        Crew::Pool(turns) => (
+            Seats::none(alloc),
+            Pool::new(alloc, graph, turns, NumberSet::new())?,
+        ),
+    };
+    Ok((opening, seats, pool))
 }
 
 // Runs workers and callers, and returns once all their threads have ended: with what the callers left, where each thread could be started.
@@ -287,8 +305,8 @@ where
     came
 }
 
-// How a run ended that left this.
-fn ended<B: Block, C: Drop>(
+/// How a run ended that left this.
+pub(crate) fn ended<B: Block, C: Drop>(
     hall: Hall<B>,
     opening: &Opening<B>,
     came: Option<Came<C>>,

@@ -37,8 +37,8 @@ impl<B: Block, C: Caller<B>> Promise<(C, Vec<Entry>)> for DeskPromise<B, C> {
     ghost kept_by = { λ p r. C.ran p.caller.value r.0 (opened_at p.graph.value p.number) (map noted_by r.1.items) };
 }
 
-// The thread of a caller.
-type Handle<B, C> = PromisedHandle<(C, Vec<Entry>), DeskPromise<B, C>>;
+/// The thread of a caller.
+pub type Handle<B, C> = PromisedHandle<(C, Vec<Entry>), DeskPromise<B, C>>;
 
 /// Room for what callers leave, and for the handles of their threads. It is made before a thread is started, so that none runs where memory lacks.
 #[derive(Drop)]
@@ -97,8 +97,8 @@ where
     come_back(rt, desks, back, logs)
 }
 
-// A thread for each caller.
-fn seated<
+/// Starts a thread for each caller.
+pub fn seated<
     's,
     'r: 's,
     'h: 's,
@@ -139,8 +139,8 @@ where
     Some(desks)
 }
 
-// What the threads of callers return.
-fn come_back<B: Block, C: Caller<B> + Drop, R: Threads>(
+/// Waits for the threads of callers, and has what they return.
+pub fn come_back<B: Block, C: Caller<B> + Drop, R: Threads>(
     rt: &R,
     desks: Vec<Handle<B, C>>,
     mut callers: Vec<C>,

@@ -20,7 +20,7 @@ use std::alloc::Global;
 use std::sync::Arc;
 
 /// What workers and callers make their calls of. A caller's call of a plant that records nothing is out of memory; but callers are only there
-/// where calls are recorded. So is a step of one that records; but there each block has a worker.
+/// where calls are recorded.
 #[derive(Drop)]
 pub enum Engine<B: Block> {
     /// Nothing is recorded.
@@ -59,7 +59,7 @@ impl<B: Block> Engine<B> {
     {
         match self {
             Engine::Plain(plant) => step_in(plant, alloc, block, max),
-            Engine::Noted(_) => Err(PlantFault::Memory),
+            Engine::Noted(recorded) => recorded.step(alloc, block, max),
         }
     }
 

@@ -245,11 +245,11 @@ impl<B: Block> Hall<B> {
         }
     }
 
-    // No block can act that nobody works for. Once nobody works the run is over, or a block was not marked though it can act.
+    // No block can act that nobody works for. Once nobody works and no caller is left the run is over, or a block was not marked though it can act.
     fn rest(&mut self, thread: usize, woken: &mut Woken) -> Errand<B>
         ensures errand { HasStep B.meaning self.old.engine self.new.engine self.new.ends (Some result) }
     {
-        if self.pool.some_work() {
+        if 0 < self.callers || self.pool.some_work() {
             self.pool.sleeps(thread);
             return Errand::Sleep;
         }

@@ -92,11 +92,14 @@ impl<B: Block> Hall<B> {
         self.ends || (self.callers == 0 && self.seats.all_rest())
     }
 
-    /// A caller has returned. Once none is left the run ends as all rest.
+    /// A caller has returned. Once none is left the run ends as all rest, which a thread of a pool finds.
     pub fn caller_leaves(&mut self, woken: &mut Woken)
         ensures { self.new ≡ record self.old { callers = self.old.callers - 1; seats = self.new.seats; pool = self.new.pool; ends = self.new.ends } }
     {
         self.callers = self.callers.saturating_sub(1);
+        if self.callers == 0 {
+            self.pool.call(woken);
+        }
         self.look(woken);
     }
 

@@ -19,7 +19,7 @@ use std::alloc::Global;
 use std::sync::Arc;
 
 impl<B: Block> Hall<B> {
-    /// Feeds a source, and has its worker look.
+    /// Feeds a source, and has its worker look, or a thread of the pool.
     pub fn feed(
         &mut self,
         desk: u32,
@@ -27,17 +27,18 @@ impl<B: Block> Hall<B> {
         woken: &mut Woken,
     ) -> Result<Fed, PlantFault>
         ensures called { HasCalled B.meaning desk (asked_by (call.Feed feed)) self.old.engine self.new.engine (reply_of (λ f. machine.Fed f.0) result) }
-        ensures others { self.new ≡ record self.old { engine = self.new.engine; seats = self.new.seats } }
+        ensures others { self.new ≡ record self.old { engine = self.new.engine; seats = self.new.seats; pool = self.new.pool } }
     {
         let source = feed.source;
         let answer = self.engine.feed(desk, feed);
         if answer.is_ok() {
             self.seats.wake(source, woken);
+            self.pool.wake(source, woken);
         }
         answer
     }
 
-    /// Closes a source's tape, and has its worker look.
+    /// Closes a source's tape, and has its worker look, or a thread of the pool.
     pub fn close(
         &mut self,
         desk: u32,
@@ -45,11 +46,12 @@ impl<B: Block> Hall<B> {
         woken: &mut Woken,
     ) -> Result<Closed, PlantFault>
         ensures called { HasCalled B.meaning desk (asked_by (call.Close source)) self.old.engine self.new.engine (reply_of (λ c. machine.Closed c.0) result) }
-        ensures others { self.new ≡ record self.old { engine = self.new.engine; seats = self.new.seats } }
+        ensures others { self.new ≡ record self.old { engine = self.new.engine; seats = self.new.seats; pool = self.new.pool } }
     {
         let answer = self.engine.close(desk, source);
         if answer.is_ok() {
             self.seats.wake(source, woken);
+            self.pool.wake(source, woken);
         }
         answer
     }

@@ -11,7 +11,8 @@
 //!
 //! - [`launch`] and [`run`] have a worker for each block. Whose progress wakes whom is decided in `seats`.
 //! - [`run_adaptive`] and [`launch_adaptive`] take as many threads as the work is worth. All that is decided there stands in `policy`, a page to read.
-//! - [`live`] has callers at desks make calls while a thread for each block works, and returns the history of all calls.
+//! - [`live`] has callers at desks make calls while a thread for each block works, and returns the history of all calls; [`live_adaptive`] does so in
+//!   as many threads as the work is worth.
 //!
 //! The plant lies under one lock, and each call that is made of it there is one call of `Hall`, whose contract is exact. What a worker does between two looks at the
 //! lock is a turn: it commits, claims, and leaves to work. What comes out of the lock is compared with what was handed in, since a lock tells nothing but a
@@ -32,6 +33,7 @@ mod hall;
 mod hall_calls;
 mod launching;
 mod lent_calls;
+mod live_pool;
 mod logs;
 mod number_set;
 pub mod outcome;
@@ -54,6 +56,7 @@ pub use entry::{Answer, Call, CallerId, Entry, Feed, Setting};
 pub use fault::{RunError, RunFault};
 pub use gate::{Gate, Open};
 pub use launching::{launch, launch_open, launch_with};
+pub use live_pool::{live_adaptive, live_adaptive_watched};
 pub use outcome::Outcome;
 pub use running::{Running, run, run_with};
 pub use turns::Turns;

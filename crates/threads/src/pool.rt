@@ -99,8 +99,14 @@ impl Pool {
         self.asleep = NumberSet::new();
     }
 
-    // One more thread is called, unless one that was called has not come yet. Where none sleeps, one more is wanted.
-    fn call(&mut self, woken: &mut Woken) {
+    /// More can be done at a block than it was found to wait for: somebody is to look.
+    pub fn wake(&mut self, block: BlockId, woken: &mut Woken) {
+        self.ready.add(block.0 as usize);
+        self.call(woken);
+    }
+
+    /// One more thread is called, unless one that was called has not come yet. Where none sleeps, one more is wanted.
+    pub fn call(&mut self, woken: &mut Woken) {
         if !self.called.is_empty() {
             return;
         }

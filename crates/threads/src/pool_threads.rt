@@ -13,7 +13,7 @@ use std::alloc::Global;
 use std::hint::spin_loop;
 use std::sync::{Arc, Wait};
 use std::thread;
-use std::thread::{JoinHandle, Threads};
+use std::thread::{JoinHandle, Scope, Threads};
 use std::time::{Clock, Duration};
 
 // The number of the first thread.
@@ -49,23 +49,99 @@ where
     mates.join(&rt);
 }
 
+/// As `lead`, with threads of a scope, which joins them. `watch` is shown how far the plant is once no caller is left.
+pub fn lead_in_scope<
+    's,
+    'r: 's,
+    'h: 's,
+    E,
+    B: Block + Send + Sync + 's + 'h,
+    G: Gate + Drop + Send + Sync + 's + 'h,
+    R: Threads + Wait + Clock + Sync + 's + 'r,
+    W: Watch,
+>(rt: &'r R, alloc: Global, scope: &Scope<'s, E>, shared: &'h Shared<B, G>, watch: &mut W)
+where
+    B::Places: Send + Sync,
+{
+    let mut pauses = Pauses::of(rt, watch);
+    let mut places = Places::new();
+    let mut brought = None;
+    for _ in rt.forever() {
+        let turned = shared.round(rt, alloc, FIRST, brought, pauses.length());
+        brought = turned.brought;
+        if turned.leaves {
+            return;
+        }
+        if turned.wants {
+            if let Some(number) = places.next(rt, shared.beds.len()) {
+                let mate = scope.spawn(move || follow(rt, alloc, shared, number));
+                places.came(number, mate.is_ok());
+            }
+        }
+        if pauses.end(rt) {
+            if let Some(headway) = shared.headway_alone(rt) {
+                watch.show(headway);
+            }
+        }
+    }
+}
+
+// The places of a pool's threads beside the first one: up to one a processor and one a block.
+#[derive(Clone, Copy)]
+struct Places {
+    taken: usize,
+    // How many threads there may be in all, once that was asked for.
+    limit: Option<usize>,
+}
+
+impl Places {
+    fn new() -> Places {
+        Places {
+            taken: 0,
+            limit: None,
+        }
+    }
+
+    // The number of the next thread, where there may be one more.
+    fn next<R: Threads>(&mut self, rt: &R, blocks: usize) -> Option<usize> {
+        let limit = match self.limit {
+            Some(limit) => limit,
+            None => processors(rt).min(blocks),
+        };
+        self.limit = Some(limit);
+        let number = self.taken.saturating_add(1);
+        if limit <= number {
+            return None;
+        }
+        Some(number)
+    }
+
+    // The thread of this number is there, or could not be started; then it is not tried again.
+    fn came(&mut self, number: usize, is_there: bool) {
+        if is_there {
+            self.taken = number;
+        } else {
+            self.limit = Some(number);
+        }
+    }
+}
+
 // The threads that the first one started.
 #[derive(Drop)]
 struct Mates {
     handles: Vec<JoinHandle<()>>,
-    // How many threads there may be, once that was asked for.
-    limit: Option<usize>,
+    places: Places,
 }
 
 impl Mates {
     fn new(alloc: Global) -> Mates {
         Mates {
             handles: Vec::new(alloc),
-            limit: None,
+            places: Places::new(),
         }
     }
 
-    // Starts one more, up to one a processor and one a block, where there is memory and a thread for it.
+    // Starts one more, where there is a place, memory and a thread for it.
     fn one_more<
         B: Block + Send + Sync + 'static,
         G: Gate + Drop + Send + Sync + 'static,
@@ -74,19 +150,18 @@ impl Mates {
     where
         B::Places: Send + Sync + 'static,
     {
-        let limit = match self.limit {
-            Some(limit) => limit,
-            None => processors(&rt).min(shared.beds.len()),
+        let Some(number) = self.places.next(&rt, shared.beds.len()) else {
+            return;
         };
-        self.limit = Some(limit);
-        let number = self.handles.len().saturating_add(1);
-        if limit <= number || self.handles.reserve(1).is_err() {
+        if self.handles.reserve(1).is_err() {
             return;
         }
         match start_mate(rt, alloc, shared, number) {
-            Some(mate) => self.handles.push_reserved(mate),
-            // (nor is it tried again)
-            None => self.limit = Some(number),
+            Some(mate) => {
+                self.handles.push_reserved(mate);
+                self.places.came(number, true);
+            }
+            None => self.places.came(number, false),
         }
     }
 

@@ -7,17 +7,17 @@ ghost use Rattle.stream_model.specs.Machine.{is_idle, commit_of};
 ghost use Rattle.settings.specs.Values.{value_of};
 ghost use Rattle.flowgraph.specs.Flowgraph.{net_of};
 ghost use Rattle.plant.specs.Own.{is_own};
-ghost use Rattle.plant.specs.Answers.{IsOf, claim_reply, piece_reply, reply_of};
+ghost use Rattle.plant.specs.Answers.{IsOf, claim_reply, piece_reply, reply_of, step_reply};
 ghost use Rattle.threads.specs.declared.entry.CallerId.TheVariants as caller;
 ghost use Rattle.threads.specs.declared.entry.Call.TheVariants as call;
 ghost use Rattle.threads.specs.History.{Asks, Brings, asked_by, noted_by};
 ghost use Rattle.threads.specs.Live.{CameTo};
-ghost use Rattle.threads.specs.Recorded.{IsNoted, IsClaimNoted, IsBack};
+ghost use Rattle.threads.specs.Recorded.{IsNoted, IsClaimNoted, IsStepNoted, IsBack};
 
 use crate::entry::{Answer, Call, CallerId, Entry, Feed, Setting, shared};
 use flowgraph::{Block, BlockId};
 use jobs::Worked;
-use plant::{Claim, Closed, Did, Fed, Opening, Piece, Plant, PlantFault, Taken};
+use plant::{Claim, Closed, Did, Fed, Opening, Piece, Plant, PlantFault, Step, Taken};
 use settings::Value;
 use std::alloc::{AllocError, Global};
 use std::marker::Model;
@@ -212,6 +212,25 @@ impl<B: Block> Recorded<B> {
             reply: Answer::Did(did.0),
         });
         Ok(did)
+    }
+
+    /// Claims at most `max` firings of a block, does their work and commits it. The claim and the commit are recorded as those of a worker are.
+    pub fn step(&mut self, alloc: Global, block: BlockId, max: u32) -> Result<Step, PlantFault>
+        requires { 1 ≤ max }
+        ensures { IsStepNoted B.meaning block.0 max self.old self.new (reply_of step_reply result) }
+    {
+        match self.claim(alloc, block, max)? {
+            Claim::Claimed(job) => {
+                // (it is the claim in flight, and is taken)
+                let Ok(did) = self.commit(job.work()) else {
+                    return Err(PlantFault::Memory);
+                };
+                Ok(Step::Did(did.0))
+            }
+            Claim::Done => Ok(Step::Done),
+            Claim::Busy => Ok(Step::Busy),
+            Claim::Waiting(need) => Ok(Step::Waiting(need)),
+        }
     }
 
     /// The plant with what was recorded of it, where it has no claim in flight and began there.

@@ -66,6 +66,15 @@ impl<B: Block, G: Gate + Drop> Shared<B, G> {
         self.as_guest(rt).engine.plant().headway()
     }
 
+    /// The same once no caller is left.
+    pub fn headway_alone<R: Wait>(&self, rt: &R) -> Option<Headway> {
+        let hall = self.as_guest(rt);
+        if 0 < hall.callers {
+            return None;
+        }
+        Some(hall.engine.plant().headway())
+    }
+
     /// Shows `watch` how far the plant is until the run is over, each time that its pause is over.
     pub fn show<R: Wait, W: Watch>(&self, rt: &R, watch: &mut W) {
         if let Some(pause) = watch.pause() {
@@ -178,7 +187,7 @@ impl<B: Block, G: Gate + Drop> Shared<B, G> {
         feed: Arc<Feed, Global>,
     ) -> Result<Fed, PlantFault> {
         let mut woken = Woken::new();
-        let answer = self.hall.lock(rt).feed(desk, feed, &mut woken);
+        let answer = self.as_guest(rt).feed(desk, feed, &mut woken);
         self.wake(&woken);
         answer
     }
@@ -186,7 +195,7 @@ impl<B: Block, G: Gate + Drop> Shared<B, G> {
     /// Closes a source's tape for a desk.
     pub fn close<R: Wait>(&self, rt: &R, desk: u32, source: BlockId) -> Result<Closed, PlantFault> {
         let mut woken = Woken::new();
-        let answer = self.hall.lock(rt).close(desk, source, &mut woken);
+        let answer = self.as_guest(rt).close(desk, source, &mut woken);
         self.wake(&woken);
         answer
     }
@@ -201,7 +210,7 @@ impl<B: Block, G: Gate + Drop> Shared<B, G> {
     ) -> Result<Taken, PlantFault>
         requires { value_of value ≡ value_of (arc_value setting).value }
     {
-        self.hall.lock(rt).set(desk, setting, value)
+        self.as_guest(rt).set(desk, setting, value)
     }
 
     /// What a sink shows to a desk, twice.
@@ -216,20 +225,20 @@ impl<B: Block, G: Gate + Drop> Shared<B, G> {
     ) -> Result<(Arc<Piece, Global>, Arc<Piece, Global>), PlantFault>
         ensures { IfOk result (λ p. arc_value p.0 ≡ arc_value p.1) }
     {
-        self.hall.lock(rt).read(alloc, desk, sink, from, max)
+        self.as_guest(rt).read(alloc, desk, sink, from, max)
     }
 
     /// A caller asks for the end of the run.
     pub fn stop<R: Wait>(&self, rt: &R) {
         let mut woken = Woken::new();
-        self.hall.lock(rt).stop(&mut woken);
+        self.as_guest(rt).stop(&mut woken);
         self.wake(&woken);
     }
 
     /// A caller has returned.
     pub fn caller_leaves<R: Wait>(&self, rt: &R) {
         let mut woken = Woken::new();
-        self.hall.lock(rt).caller_leaves(&mut woken);
+        self.as_guest(rt).caller_leaves(&mut woken);
         self.wake(&woken);
     }
 }

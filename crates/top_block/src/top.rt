@@ -31,7 +31,7 @@ use std::thread::Threads;
 use std::time::Clock;
 use threads::{
     Caller, Finished, Gate, Open, Outcome, RunFault, Running, Turns, launch_open, launch_with,
-    live_watched, run_adaptive_open, run_adaptive_watched, run_with,
+    live_adaptive_watched, live_watched, run_adaptive_open, run_adaptive_watched, run_with,
 };
 
 /// A plant of kinds with no claim in flight, which is fed and then run in threads. It is the whole life of a flowgraph whose data are there from
@@ -307,5 +307,34 @@ impl TopBlock {
     {
         let TopBlock { plant } = self;
         live_watched(rt, alloc, plant, gate, callers, turns, watch)
+    }
+
+    /// As `start_live`, but in as many threads as the work is worth: this one alone while it is cheap, and up to one a processor where it pays, beside
+    /// those of the callers. The work of a block must not wait for that of another. `watch` is shown how far the run is as by `start_live_watched`.
+    pub fn start_live_adaptive<
+        G: Gate + Drop + Send + Sync,
+        C: Caller<Kind> + Drop + Send,
+        R: Threads + Wait + Clock + Sync,
+        W: Watch,
+    >(
+        self,
+        rt: &R,
+        alloc: Global,
+        gate: Arc<G, Global>,
+        callers: Vec<C>,
+        turns: Turns,
+        watch: &mut W,
+    ) -> Result<Finished<Kind, C>, RunFault<Kind>>
+        requires { vec_len callers ≤ 16 }
+        ensures ends { IfOk result (λ f. EndsLive meaning_of ⟦<Kind as PartialEq>⟧.eq (opening_of self) (map noted_by f.history.items) f.outcome) }
+        ensures logs { IfOk result (λ f. AreLogs (map (λ l. map noted_by l.items) f.logs.items) (map noted_by f.history.items)) }
+        ensures callers { IfOk result (λ f. vec_len f.callers ≡ vec_len callers) }
+        ensures logged { IfOk result (λ f. vec_len f.logs ≡ vec_len callers) }
+        ensures ran { IfOk result (λ f. CameFrom C.ran self.graph callers.items f.callers.items (map (λ l. map noted_by l.items) f.logs.items)) }
+        ensures turns { IfOk result (λ f. f.turns ≡ turns) }
+        ensures err { IfErr result (GivesBackLive meaning_of ⟦<Kind as PartialEq>⟧.eq (opening_of self)) }
+    {
+        let TopBlock { plant } = self;
+        live_adaptive_watched(rt, alloc, plant, gate, callers, turns, watch)
     }
 }

@@ -1,0 +1,58 @@
+-- A step of which calls are recorded is a claim, and the commit of what that handed out.
+use Rattle.std.proofs.Common.{◌≡◌, ℕ, [], ◌∷◌, ◌++◌, Bool, sym, ap, subst, ◌∙◌, append_assoc, inr}
+use Rattle.std.specs.Prelude.{Some, None}
+use Rattle.stream_model.specs.Meaning.{Meaning}
+use Rattle.stream_model.specs.Network.{Network, State}
+use Rattle.stream_model.specs.Machine as machine
+use Rattle.stream_model.specs.Machine.{Job, Reply, commit_claimed, commit_of, job_of}
+use Rattle.flowgraph.specs.Fault.{id}
+use Rattle.flowgraph.specs.Flowgraph.{net_of}
+use Rattle.machine_laws.proofs.Claiming.{claims}
+use Rattle.threads.specs.declared.entry.CallerId.TheVariants as caller
+use Rattle.threads.specs.History.{Asks, Brings, Says, Noted}
+use Rattle.threads.specs.Recorded.{RecordedState, IsClaimNoted, IsStepNoted, moved_on, note_of, now_in}
+use Rattle.threads.proofs.Weighing.{handed_step, taken_own}
+
+-- what is recorded of a commit
+abbrev committed : (block count : ℕ) → Noted
+committed b n = record { caller = caller.Worker (id b); asked = Brings b; said = Says (machine.Did n) }
+
+module _ {B : Type 0} (meaning : B → Meaning) (b most : ℕ) (old : RecordedState B) where
+  abbrev net : Network
+  net = net_of meaning old.plant.graph
+
+  abbrev now : Reply × State
+  now = now_in meaning old (Asks (machine.Claim b most))
+
+  -- a claim that hands out these firings
+  abbrev Claims : RecordedState B → Reply → Type 0
+  Claims mid reply = IsClaimNoted meaning (caller.Worker (id b)) (Asks (machine.Claim b most)) old mid (Some reply)
+
+  -- they are the block's
+  own_block : (mid : RecordedState B) (job : Job) → Claims mid (machine.Claimed job) → job.block ≡ b
+  unfolding job_of
+  own_block mid job claimed = ap (λ (j : Job). j.block) (claims net old.plant.capacities old.plant.state b most job (sym claimed.0)).job_is
+
+  -- such a claim and the commit of its firings are the whole step
+  whole : (mid new : RecordedState B) (job : Job) (own : Bool) (n : ℕ) → Claims mid (machine.Claimed job) → (commit_of (net_of meaning mid.plant.graph) mid.plant.state own job).0 ≡ machine.Did n →
+      new ≡ moved_on mid (commit_of (net_of meaning mid.plant.graph) mid.plant.state own job).1 (committed b n ∷ []) → IsStepNoted meaning b most old new (Some (machine.Did n))
+  whole mid new job own n claimed did left =
+      let claim = note_of (caller.Worker (id b)) (Asks (machine.Claim b most)) in
+      let taken = subst (λ (m : RecordedState B). ((commit_of (net_of meaning m.plant.graph) m.plant.state own job).0 ≡ machine.Did n)
+      × (new ≡ moved_on m (commit_of (net_of meaning m.plant.graph) m.plant.state own job).1 (committed b n ∷ []))) claimed.1 (did, left) in
+      let step : commit_claimed net now ≡ commit_of net now.1 own job = handed_step net now job (sym claimed.0) ∙ taken_own net now.1 own job n taken.0 in
+      let list : (old.history ++ claim (machine.Claimed job) ∷ []) ++ committed b n ∷ [] ≡ old.history ++ claim now.0 ∷ committed b n ∷ [] =
+      append_assoc old.history (claim (machine.Claimed job) ∷ []) (committed b n ∷ []) ∙ ap (λ r. old.history ++ claim r ∷ committed b n ∷ []) claimed.0 in
+      subst (λ (x : Reply × State). (machine.Did n ≡ x.0) × (new ≡ moved_on old x.1 (claim now.0 ∷ committed b n ∷ []))) (sym step)
+      (sym taken.0, taken.1 ∙ ap (λ h. record { plant = record old.plant { state = (commit_of net now.1 own job).1 }; opening = old.opening; history = h }) list)
+
+  pub whole_step : (mid new : RecordedState B) (reply : Reply) (job : Job) (own : Bool) (n : ℕ) → Claims mid reply → reply ≡ machine.Claimed job →
+      (commit_of (net_of meaning mid.plant.graph) mid.plant.state own job).0 ≡ machine.Did n →
+      new ≡ moved_on mid (commit_of (net_of meaning mid.plant.graph) mid.plant.state own job).1 (committed job.block n ∷ []) → IsStepNoted meaning b most old new (Some (machine.Did n))
+  whole_step mid new reply job own n claimed is did left =
+      let claims = subst (Claims mid) is claimed in
+      whole mid new job own n claims did (subst (λ k. new ≡ moved_on mid (commit_of (net_of meaning mid.plant.graph) mid.plant.state own job).1 (committed k n ∷ [])) (own_block mid job claims) left)
+
+  -- where what was claimed is not taken back, the claim stands
+  pub lost_step : (mid new : RecordedState B) (reply : Reply) (job : Job) → Claims mid reply → reply ≡ machine.Claimed job → new ≡ mid → IsStepNoted meaning b most old new None
+  lost_step mid new reply job claimed is same = inr (job, subst (λ (r : RecordedState B). Claims r (machine.Claimed job)) (sym same) (subst (Claims mid) is claimed))
