@@ -1,4 +1,4 @@
-//! A run in threads of which an input makes calls, line by line.
+//! A run of which an input makes calls, line by line, in as many threads as its work is worth.
 
 ghost use Rattle.std.specs.Prelude.{List, ◌≡◌, ◌≤◌, map, true, vec_len, IfOk, IfErr};
 ghost use Rattle.stream_model.specs.Machine.{is_idle};
@@ -22,12 +22,18 @@ use script_text::{ByteIn, ByteOut, LineSplitter};
 use std::alloc::{AllocError, Global};
 use std::sync::{Arc, Wait};
 use std::thread::Threads;
+use std::time::Clock;
 use threads::{Finished, Open, Outcome, RunError};
 use top_block::TopBlock;
 
-/// Runs a plant in threads while the lines of `input` make calls of it, each answered on `output` before the next is read. At the end of the input
+/// Runs a plant while the lines of `input` make calls of it, each answered on `output` before the next is read. At the end of the input
 /// the run goes on until it comes to rest. It gives the plant back as it is then.
-pub(crate) fn live_plant<R: Threads + Wait + Sync, I: ByteIn + Send, O: ByteOut + Send, W: Watch>(
+pub(crate) fn live_plant<
+    R: Threads + Wait + Clock + Sync,
+    I: ByteIn + Send,
+    O: ByteOut + Send,
+    W: Watch,
+>(
     rt: &R,
     alloc: Global,
     plant: Plant<Kind>,
@@ -42,7 +48,14 @@ pub(crate) fn live_plant<R: Threads + Wait + Sync, I: ByteIn + Send, O: ByteOut 
 {
     let gate = shared_gate(alloc)?;
     let callers = one_caller(alloc, input, output)?;
-    match TopBlock::from_plant(plant).start_live_watched(rt, alloc, gate, callers, turns(), watch) {
+    match TopBlock::from_plant(plant).start_live_adaptive(
+        rt,
+        alloc,
+        gate,
+        callers,
+        turns(),
+        watch,
+    ) {
         Ok(finished) => came_to_rest(finished),
         Err(fault) => Err(Fault::from(fault)),
     }

@@ -50,7 +50,7 @@ pub enum Action {
     Run(Threading),
     /// The same on one thread, block by block.
     RunAlone,
-    /// To feed it, let it run in threads while the lines of standard input make calls of it, and tell what its sinks hold at the end.
+    /// To feed it, let it run while the lines of standard input make calls of it, and tell what its sinks hold at the end.
     Live,
     /// To feed it and do the commands of standard input.
     Script,
@@ -267,7 +267,7 @@ pub fn run_script<I: ByteIn, O: ByteOut>(
     }
 }
 
-fn run_live<R: Threads + Wait + Sync, I: ByteIn + Send, O: ByteOut + Send, W: Watch>(
+fn run_live<R: Threads + Wait + Clock + Sync, I: ByteIn + Send, O: ByteOut + Send, W: Watch>(
     rt: &R,
     alloc: Global,
     file: &[u8],
