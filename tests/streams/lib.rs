@@ -10,3 +10,4 @@ mod runs;
 mod served;
 mod texts;
 mod times;
+mod traces;

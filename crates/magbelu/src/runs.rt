@@ -1,6 +1,9 @@
 //! Running a graph with a thread for each block: to its end, or live, with callers that feed, set and read in the meantime.
 
-pub use run_stats::{Figures, GatedWatch, Meter, Stats, Waited, json_report, text_report};
+pub use run_stats::{
+    Deed, Event, Figures, GatedWatch, Meter, Observer, Stats, Tracer, Waited, json_report,
+    text_report, write_trace,
+};
 pub use threads::{
     Answer, Call, Caller, CallerId, Desk, Entry, Feed, Finished, Gate, Open, Outcome, RunError,
     RunFault, Running, Setting, Turns, launch, launch_open, launch_with, live, live_watched, run,

@@ -1,4 +1,5 @@
-//! Where the time of a run goes, block by block: a gate that counts and measures, and reports of what it saw, as text and as JSON.
+//! Where the time of a run goes, block by block: a gate that counts and measures, with reports of what it saw, as text and as JSON; and one that keeps each turn
+//! and each wait, of which a trace is written.
 #![tactic(auto)]
 
 mod blame;
@@ -7,12 +8,18 @@ mod flow_of_items;
 pub mod gated;
 mod json;
 pub mod meter;
+pub mod observer;
 mod table;
 mod text;
+mod trace;
+pub mod tracer;
 mod units;
 
 pub use figures::{Figures, Stats, Waited};
 pub use gated::GatedWatch;
 pub use json::json_report;
 pub use meter::Meter;
+pub use observer::Observer;
 pub use text::text_report;
+pub use trace::write_trace;
+pub use tracer::{Deed, Event, Tracer};
