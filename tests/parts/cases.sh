@@ -1,6 +1,7 @@
 #!/usr/bin/env bash
-# Calls of the program: those of tests/cases, those of the folders of examples/, and those that pages show, all over one build of it, unproved. A call is a
-# folder as tests/README.md describes; those of examples and pages are made here. A run is made a second time on one thread, and has to end in the same way.
+# Calls of the program: those of tests/cases, those of the folders of examples/, and those that pages show, all over one build of it, unproved; and runs between
+# pipes, and with a trace. A call is a folder as tests/README.md describes; those of examples and pages are made here. A run is made a second time on one thread,
+# and has to end in the same way.
 set -euo pipefail
 # shellcheck source=tests/part.sh
 source "$(dirname -- "$(readlink -f -- "${BASH_SOURCE[0]}")")/../part.sh"
@@ -11,6 +12,8 @@ source "$top/tests/parts/shown.sh"
 declare -A folder_of=()
 # Those that are no calls with an input that is there: the program answers a producer that waits for it, and ends where nobody reads on.
 pipes=(pipes/slow_producer pipes/closed_output)
+# And runs whose trace a program of Python reads.
+traces=(traces/adaptive traces/one_thread traces/thread_per_block traces/first_events)
 
 # add CASE FOLDER: the case, and the runs of a run on one thread and in one for each block
 add() {
@@ -42,7 +45,7 @@ list() {
     for folder in "${made[@]}"; do
         add "$folder" "$1/$folder"
     done
-    printf '%s\n' "${pipes[@]}"
+    printf '%s\n' "${pipes[@]}" "${traces[@]}"
 }
 
 # word_of FOLDER WORD: prints the word as the program gets it, which runs in a folder of its own: where it is a file, or NAME=FILE, of the case or of
@@ -103,7 +106,7 @@ call_all() {
         while (($(jobs -rp | wc -l) >= lanes)); do
             wait -n || true
         done
-        if [[ $it != pipes/* ]]; then
+        if [[ $it != pipes/* && $it != traces/* ]]; then
             call "$it" &
         fi
     done <"$room/wanted"
@@ -156,6 +159,48 @@ pipes_closed_output() {
     differs stdout <(yes | head -c 1000 | tr 'y\n' '\203\024') "$room/thousand" && differs stderr <(echo 'flow: refused 52 Write output 0') "$room/report"
 }
 
+# traced MOST WORD..: a run with these words, whose trace has room for so many turns and waits and goes with the times of the same run; `said` has the lines before
+# these
+traced() {
+    local most=$1
+    shift
+    "${start[@]}" run --stats=json --trace "$room/trace" --trace-size "$most" "$@" "$top/tests/graphs/traced.toml" >"$room/report" 2>"$room/times" || return
+    differs stdout <(echo 'done') "$room/report" || return
+    said=$(head -n -1 "$room/times")
+    python3 "$top/tests/programs/trace.py" "$room/trace" "$room/times" "$most"
+}
+
+# has_all WORD..: a run with these words, of which nothing is left out
+has_all() {
+    local said=''
+    traced 100000 "$@" || return
+    if [[ -n $said ]]; then
+        echo "standard error: wanted one line, and before it came: $said"
+        return 1
+    fi
+}
+
+traces_adaptive() { has_all; }
+traces_one_thread() { has_all --one-thread; }
+traces_thread_per_block() { has_all --thread-per-block; }
+
+# traces_first_events: of which all others are left out, which is told, unless the words say no
+traces_first_events() {
+    local said='' left_out count
+    traced 20 --one-thread || return
+    left_out=$(sed -n 's/.*"left_out":\([0-9]*\)}}$/\1/p' "$room/trace")
+    count=$((left_out + 20))
+    if [[ $left_out -lt 100 || $said != "flow: trace: the last $left_out of $count turns and waits are left out" ]]; then
+        echo "standard error: $left_out are left out, and before the times came: $said"
+        return 1
+    fi
+    traced 20 --one-thread --quiet || return
+    if [[ -n $said ]]; then
+        echo "standard error: with --quiet came: $said"
+        return 1
+    fi
+}
+
 run() {
     local it wrong start=()
     mkdir -p "$room/made"
@@ -163,7 +208,9 @@ run() {
     build
     call_all
     while IFS= read -r it; do
-        if [[ $it == pipes/* ]]; then
+        if [[ $it == traces/* ]] && ! command -v python3 >/dev/null; then
+            left_out "$it" <<<"there is no python3 to read it"
+        elif [[ $it == pipes/* || $it == traces/* ]]; then
             if wrong=$("${it/\//_}"); then
                 passed "$it"
             else

@@ -139,6 +139,12 @@ fn a_start_that_fails_is_told(rt: HostRuntime) -> Result<(), Fail> {
         (StartFault::of_call(true), no_memory, 4),
         (StartFault::of_call(false), "", 2),
         (StartFault::of_file(ErrorKind::OutOfMemory), no_memory, 4),
+        (StartFault::of_trace(ErrorKind::OutOfMemory), no_memory, 4),
+        (
+            StartFault::of_trace(ErrorKind::NotFound),
+            "flow: refused 52 Write trace\n",
+            4,
+        ),
         (
             StartFault::of_file(ErrorKind::NotFound),
             "flow: refused 51 Read\n",

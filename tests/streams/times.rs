@@ -1,6 +1,6 @@
 //! Where the time of a run went: the reports, byte for byte, and what a run of each way is measured.
 use super::fakes::{Pieces, Written};
-use flow::measured::{Form, Measured};
+use flow::measured::{Form, Looks, Measured};
 use flow::running::Threading;
 use flow::serve::{Action, serve};
 use flow::stalls::Notes;
@@ -18,6 +18,12 @@ const GRAPH: &str = "[[block]]\nname = \"src\"\nkind = \"vector_source\"\ntype =
     [[block]]\nname = \"out\"\nkind = \"vector_sink\"\ntype = \"byte\"\n\
     [[connect]]\nfrom = \"src\"\nto = \"a\"\n[[connect]]\nfrom = \"a\"\nto = \"out\"\n\
     [[feed]]\nsource = \"src\"\nitems = [1, 2, 3, 4, 5, 6, 7]\n";
+
+// That times are measured, and nothing is traced.
+const TIMES: Looks = Looks {
+    at_times: true,
+    at_events: None,
+};
 
 const NEVER: Waited = Waited { count: 0, nanos: 0 };
 
@@ -135,7 +141,7 @@ fn a_run_of_each_way_is_counted(rt: HostRuntime) -> Result<(), Fail> {
         Action::Run(Threading::Adaptive),
         Action::Run(Threading::PerBlock),
     ] {
-        let Some(measured) = Measured::of_file(alloc, rt, GRAPH.as_bytes())? else {
+        let Some(measured) = Measured::of_file(alloc, rt, TIMES, GRAPH.as_bytes())? else {
             panic!(rt; "the file is refused");
         };
         let mut input = Pieces {
@@ -163,7 +169,7 @@ fn a_run_of_each_way_is_counted(rt: HostRuntime) -> Result<(), Fail> {
             &mut input,
             &mut output,
             &mut errors,
-            Some(measured.meter()?),
+            Some(measured.observer()?),
             &mut Unwatched,
         );
         assert_eq!(rt; status, 0, "{action:?}");
@@ -182,7 +188,13 @@ fn a_run_of_each_way_is_counted(rt: HostRuntime) -> Result<(), Fail> {
 
 #[test]
 fn a_file_that_is_refused_is_not_measured(rt: HostRuntime) -> Result<(), Fail> {
-    let measured = Measured::of_file(rt.alloc(), rt, b"[[block]]\nname = 7\n")?;
-    assert!(rt; measured.is_none(), "a meter of nothing");
+    for file in [
+        "[[block]]\nname = 7\n",
+        // (its feed is)
+        "[[block]]\nname = \"src\"\nkind = \"null_sink\"\ntype = \"byte\"\n[[feed]]\nsource = \"src\"\nitems = [1]\n",
+    ] {
+        let measured = Measured::of_file(rt.alloc(), rt, TIMES, file.as_bytes())?;
+        assert!(rt; measured.is_none(), "a meter of nothing");
+    }
     Ok(())
 }

@@ -1,9 +1,14 @@
-//! The trace of a run: its text, byte for byte, by a clock that is set.
+//! The trace of a run: its text, byte for byte, by a clock that is set; and what the trace of a run of each way has.
+use super::fakes::{Pieces, Written};
+use flow::measured::{Form, Looks, Measured};
+use flow::running::Threading;
+use flow::serve::{Action, serve};
+use flow::stalls::Notes;
 use flowgraph::{BlockId, Valid};
 use graph_file::read_graph;
 use kinds::Kind;
-use plant::Need;
-use run_stats::{Tracer, write_trace};
+use plant::{Need, Unwatched};
+use run_stats::{Deed, Tracer, write_trace};
 use std::alloc::Global;
 use std::cell::Cell;
 use std::io;
@@ -201,4 +206,83 @@ fn times_are_0_where_no_clock_can_be_read(rt: HostRuntime) -> Result<(), Fail> {
     let kept = "],\"displayTimeUnit\":\"ns\",\"otherData\":{\"events\":1,\"left_out\":0}}\n";
     is_trace(&rt, &text, events, kept);
     Ok(())
+}
+
+#[test]
+fn a_run_of_each_way_is_traced(rt: HostRuntime) -> Result<(), Fail> {
+    let alloc = rt.alloc();
+    for (action, at_times) in [
+        (Action::RunAlone, false),
+        (Action::Run(Threading::Adaptive), false),
+        (Action::Run(Threading::PerBlock), true),
+    ] {
+        let looks = Looks {
+            at_times,
+            at_events: Some(1_000),
+        };
+        let Some(measured) = Measured::of_file(alloc, rt, looks, GRAPH.as_bytes())? else {
+            panic!(rt; "the file is refused");
+        };
+        let observer = measured.observer()?;
+        let mut input = Pieces {
+            left: b"",
+            most: usize::MAX,
+            good: usize::MAX,
+            failures: 0,
+        };
+        let mut output = Written {
+            bytes: Vec::new(alloc),
+            room: usize::MAX,
+            failures: 0,
+        };
+        let mut errors = Written {
+            bytes: Vec::new(alloc),
+            room: usize::MAX,
+            failures: 0,
+        };
+        let status = serve(
+            rt,
+            alloc,
+            action,
+            Notes::Shown,
+            GRAPH.as_bytes(),
+            &mut input,
+            &mut output,
+            &mut errors,
+            Some(measured.observer()?),
+            &mut Unwatched,
+        );
+        assert_eq!(rt; status, 0, "{action:?}");
+        let Some(tracer) = &observer.tracer else {
+            panic!(rt; "no tracer");
+        };
+        let fired = fired(&rt, tracer);
+        assert!(rt; fired == [7, 3, 3, 7], "{action:?}: {fired:?}");
+        assert_eq!(rt; measured.left_out(), (0, tracer.count()), "{action:?}");
+        let told = measured.report(alloc, Form::Json)?;
+        assert!(rt; told.is_empty() != at_times, "{action:?}: the times");
+    }
+    Ok(())
+}
+
+// How often each block fired in its turns, of which none may begin before the one before it, or a wait, has ended.
+fn fired<R: Clock + Drop>(rt: &impl Abort, tracer: &Tracer<R>) -> [u64; 4] {
+    let mut fired = [0u64; 4];
+    let mut ends = [0u64; 4];
+    for number in 0..tracer.kept() {
+        let Some(event) = tracer.event(number) else {
+            panic!(rt; "no event {number}");
+        };
+        let block = event.block.0 as usize;
+        if let Deed::Fired(firings) = event.deed {
+            fired[block] += firings;
+        }
+        let is_behind = ends[block] <= event.began;
+        assert!(rt; is_behind, "{event:?} begins before {}", ends[block]);
+        if let Some(ended) = event.ended {
+            assert!(rt; event.began <= ended, "{event:?}");
+            ends[block] = ended;
+        }
+    }
+    fired
 }

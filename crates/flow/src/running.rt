@@ -10,7 +10,7 @@ ghost use Rattle.top_block.specs.Closing.{with_all_closed};
 
 use kinds::Kind;
 use plant::{Plant, Settled, Watch};
-use run_stats::Meter;
+use run_stats::Observer;
 use std::alloc::Global;
 use std::sync::{Arc, Wait};
 use std::thread::Threads;
@@ -30,14 +30,14 @@ pub enum Threading {
     PerBlock,
 }
 
-/// Closes the sources of a plant, runs it in threads, and shows it to `watch` until it comes to rest; where there is a meter, that measures. It gives
+/// Closes the sources of a plant, runs it in threads, and shows it to `watch` until it comes to rest; where there is an observer, that looks. It gives
 /// the plant back as it is then, and a run that fails gives it back in its fault.
 pub(crate) fn run_plant<R: Threads + Wait + Clock + Copy + Send + Sync + 'static, W: Watch>(
     rt: R,
     alloc: Global,
     threading: Threading,
     plant: Plant<Kind>,
-    meter: Option<Arc<Meter<R>, Global>>,
+    observer: Option<Arc<Observer<R>, Global>>,
     watch: &mut W,
 ) -> Result<(Plant<Kind>, Settled), RunFault<Kind>>
     requires { is_idle plant.state ≡ true }
@@ -45,7 +45,7 @@ pub(crate) fn run_plant<R: Threads + Wait + Clock + Copy + Send + Sync + 'static
     ensures settled { IfOk result (λ r. HasSettled (net_of meaning_of r.0.graph) r.0.capacities r.0.state r.1) }
     ensures fails { IfErr result (GivesBack meaning_of ⟦<Kind as PartialEq>⟧.eq (handed_of (with_all_closed meaning_of plant))) }
 {
-    match ended_in(rt, alloc, threading, plant, meter, watch) {
+    match ended_in(rt, alloc, threading, plant, observer, watch) {
         Ok(Outcome::Done(plant)) => Ok((plant, Settled::Done)),
         Ok(Outcome::Stalled(plant)) => Ok((plant, Settled::Quiet)),
         // Nobody asks for a stop.
@@ -60,7 +60,7 @@ fn ended_in<R: Threads + Wait + Clock + Copy + Send + Sync + 'static, W: Watch>(
     alloc: Global,
     threading: Threading,
     plant: Plant<Kind>,
-    meter: Option<Arc<Meter<R>, Global>>,
+    observer: Option<Arc<Observer<R>, Global>>,
     watch: &mut W,
 ) -> Result<Outcome<Kind>, RunFault<Kind>>
     requires { is_idle plant.state ≡ true }
@@ -68,16 +68,21 @@ fn ended_in<R: Threads + Wait + Clock + Copy + Send + Sync + 'static, W: Watch>(
     ensures err { IfErr result (GivesBack meaning_of ⟦<Kind as PartialEq>⟧.eq (handed_of (with_all_closed meaning_of plant))) }
 {
     let top = TopBlock::from_plant(plant);
-    match (threading, meter) {
+    match (threading, observer) {
         (Threading::Adaptive, None) => top.run_adaptive_watched(rt, alloc, turns(), watch),
-        (Threading::Adaptive, Some(meter)) => {
-            top.run_adaptive_with(rt, alloc, meter, turns(), watch)
+        (Threading::Adaptive, Some(observer)) => {
+            top.run_adaptive_with(rt, alloc, observer, turns(), watch)
         }
         (Threading::PerBlock, None) => match top.start_turns(rt, alloc, turns()) {
             Ok(running) => running.wait_watched(&rt, watch),
             Err(fault) => Err(fault),
         },
-        (Threading::PerBlock, Some(meter)) => match top.start_with(rt, alloc, meter, turns()) {
+        (Threading::PerBlock, Some(observer)) => match top.start_with(
+            rt,
+            alloc,
+            observer,
+            turns(),
+        ) {
             Ok(running) => running.wait_watched(&rt, watch),
             Err(fault) => Err(fault),
         },

@@ -11,7 +11,7 @@ use crate::running::{Threading, run_plant};
 use crate::serve::{TURN, open_plant};
 use kinds::Kind;
 use plant::{Plant, Watch};
-use run_stats::Meter;
+use run_stats::Observer;
 use std::alloc::Global;
 use std::sync::{Arc, Wait};
 use std::thread::Threads;
@@ -41,7 +41,7 @@ pub(crate) fn run_file<R: Threads + Wait + Clock + Copy + Send + Sync + 'static,
     alloc: Global,
     threading: Threading,
     file: &[u8],
-    meter: Option<Arc<Meter<R>, Global>>,
+    observer: Option<Arc<Observer<R>, Global>>,
     watch: &mut W,
 ) -> Result<Ran, Fault>
     ensures ok { IfOk result (λ ran. IsRunTo file.now (option_map opened_of ran.stalled) ran.outcome.text.items ran.outcome.status) }
@@ -49,7 +49,7 @@ pub(crate) fn run_file<R: Threads + Wait + Clock + Copy + Send + Sync + 'static,
 {
     let plant = open_plant(alloc, file)?;
     plant.recall();
-    let (plant, settled) = run_plant(rt, alloc, threading, plant, meter, watch)?;
+    let (plant, settled) = run_plant(rt, alloc, threading, plant, observer, watch)?;
     plant.recall();
     let text = ended(alloc, &plant, settled)?;
     let done = plant.all_done();

@@ -28,7 +28,7 @@ use graph_file::{FileFault, read_graph};
 use kinds::Kind;
 use plant::{Plant, Watch};
 use rates::balance;
-use run_stats::{GatedWatch, Meter};
+use run_stats::{GatedWatch, Observer};
 use script_text::{ByteIn, ByteOut};
 use std::alloc::{AllocError, Global};
 use std::sync::{Arc, Wait};
@@ -65,8 +65,8 @@ struct Ended {
 
 /// Does an action. The status is 0 where all went well, 3 for a run that stalled, 1 for a refused file or line, and 4 for memory and devices; with
 /// 1 and 4 one line on `errors` says why. With 3, where `notes` are shown, lines say what the blocks wait for. Whether these writes succeed changes
-/// nothing. A run is shown to `watch` while it goes on, and is over for it before anything is written; where there is a meter, that
-/// measures it.
+/// nothing. A run is shown to `watch` while it goes on, and is over for it before anything is written; where there is an observer, that
+/// looks at it.
 pub fn serve<
     R: Threads + Wait + Clock + Copy + Send + Sync + 'static,
     I: ByteIn + Send,
@@ -82,7 +82,7 @@ pub fn serve<
     input: &mut I,
     output: &mut O,
     errors: &mut E,
-    meter: Option<Arc<Meter<R>, Global>>,
+    observer: Option<Arc<Observer<R>, Global>>,
     watch: &mut W,
 ) -> u8
     requires reads { I.failed input.old < 2 ^ 64 - 1 }
@@ -90,7 +90,7 @@ pub fn serve<
     requires reports { E.failed errors.old < 2 ^ 64 - 1 }
     ensures { Serves notes action file.now (stream (I.remaining input.old) (I.failed input.old)) (stream (I.remaining input.new) (I.failed input.new)) (stream (O.contents output.old) (O.failed output.old)) (stream (O.contents output.new) (O.failed output.new)) (stream (E.contents errors.old) (E.failed errors.old)) (stream (E.contents errors.new) (E.failed errors.new)) result }
 {
-    match obey(rt, alloc, action, file, input, output, meter, watch) {
+    match obey(rt, alloc, action, file, input, output, observer, watch) {
         Ok(ended) => {
             remark(alloc, notes, &ended.stalled, errors);
             ended.status
@@ -116,7 +116,7 @@ fn obey<
     file: &[u8],
     input: &mut I,
     output: &mut O,
-    meter: Option<Arc<Meter<R>, Global>>,
+    observer: Option<Arc<Observer<R>, Global>>,
     watch: &mut W,
 ) -> Result<Ended, Fault>
     requires reads { I.failed input.old < 2 ^ 64 - 1 }
@@ -130,8 +130,8 @@ fn obey<
         Action::Check => unstalled(check(alloc, file, output)),
         Action::CheckFeeds => unstalled(check_feeds(alloc, file, output)),
         Action::Draw(format) => unstalled(draw(alloc, format, file, output)),
-        Action::Run(threading) => run(rt, alloc, threading, file, output, meter, watch),
-        Action::RunAlone => run_on_one(alloc, file, output, &mut GatedWatch::new(meter, watch)),
+        Action::Run(threading) => run(rt, alloc, threading, file, output, observer, watch),
+        Action::RunAlone => run_on_one(alloc, file, output, &mut GatedWatch::new(observer, watch)),
         Action::Live => run_live(&rt, alloc, file, input, output, watch),
         Action::Script => unstalled(run_script(alloc, file, input, output)),
     }
@@ -194,7 +194,7 @@ fn run<R: Threads + Wait + Clock + Copy + Send + Sync + 'static, O: ByteOut, W: 
     threading: Threading,
     file: &[u8],
     output: &mut O,
-    meter: Option<Arc<Meter<R>, Global>>,
+    observer: Option<Arc<Observer<R>, Global>>,
     watch: &mut W,
 ) -> Result<Ended, Fault>
     requires writes { O.failed output.old < 2 ^ 64 - 1 }
@@ -202,7 +202,7 @@ fn run<R: Threads + Wait + Clock + Copy + Send + Sync + 'static, O: ByteOut, W: 
     ensures does_not { IfErr result (RunsNot (IsRun file.now) (plant_in file.now) (O.contents output.old) (O.contents output.new)) }
     ensures failed_writes { O.failed output.new ≡ O.failed output.old + writes_in result }
 {
-    match run_file(rt, alloc, threading, file, meter, watch) {
+    match run_file(rt, alloc, threading, file, observer, watch) {
         Ok(ran) => written_run(output, ran),
         Err(fault) => Err(fault),
     }

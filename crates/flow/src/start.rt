@@ -1,7 +1,7 @@
 //! Why the program begins no command.
 
 ghost use Rattle.std.specs.Prelude.{◌≡◌};
-ghost use Rattle.flow.specs.Starts.{start_text, start_status, words_fault, call_fault, file_fault};
+ghost use Rattle.flow.specs.Starts.{start_text, start_status, words_fault, call_fault, file_fault, trace_fault};
 
 use std::io::ErrorKind;
 
@@ -14,6 +14,8 @@ pub enum StartFault {
     BadWords,
     /// The graph file could not be read.
     NoFile,
+    /// The file of a trace could not be made, or a write to it failed once the run was over.
+    NoTrace,
     /// Memory ran out.
     Memory,
 }
@@ -40,6 +42,16 @@ impl StartFault {
         }
     }
 
+    /// Why the file of a trace could not be made.
+    pub fn of_trace(kind: ErrorKind) -> StartFault
+        ensures { result ≡ trace_fault kind }
+    {
+        match kind {
+            ErrorKind::OutOfMemory => StartFault::Memory,
+            _ => StartFault::NoTrace,
+        }
+    }
+
     /// Why the graph file could not be read.
     pub fn of_file(kind: ErrorKind) -> StartFault
         ensures { result ≡ file_fault kind }
@@ -58,6 +70,7 @@ impl StartFault {
             StartFault::NoText => "error: a word is no UTF-8\n",
             StartFault::BadWords => "",
             StartFault::NoFile => "flow: refused 51 Read\n",
+            StartFault::NoTrace => "flow: refused 52 Write trace\n",
             StartFault::Memory => "flow: refused 32 Memory\n",
         }
     }
@@ -68,7 +81,7 @@ impl StartFault {
     {
         match self {
             StartFault::NoText | StartFault::BadWords => 2,
-            StartFault::NoFile | StartFault::Memory => 4,
+            StartFault::NoFile | StartFault::NoTrace | StartFault::Memory => 4,
         }
     }
 }

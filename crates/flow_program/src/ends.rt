@@ -50,6 +50,8 @@ pub enum EndsFault {
     FileTwice,
     /// Marks are named for a block without an input.
     NoInput,
+    /// A trace would go to standard output, which has the report of the run.
+    TraceToStream,
     /// Memory ran out.
     Memory,
 }
@@ -63,6 +65,7 @@ impl EndsFault {
             EndsFault::StreamTwice => Some("a standard stream is named twice"),
             EndsFault::FileTwice => Some("a file that is written is named twice"),
             EndsFault::NoInput => Some("marks are named for a block without an input"),
+            EndsFault::TraceToStream => Some("a trace goes to a file, and '-' is none"),
             EndsFault::Memory => None,
         }
     }

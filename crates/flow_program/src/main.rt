@@ -10,6 +10,7 @@ mod raw;
 mod refusing;
 mod stops;
 mod terminal;
+mod tracing;
 mod words;
 
 use crate::explaining::{REFUSED, explain_device, explain_file, explain_line};
@@ -17,6 +18,7 @@ use crate::measuring::{measured_for, tell_times};
 use crate::raw::run_raw;
 use crate::refusing::{begins_none, buffered};
 use crate::terminal::Terminal;
+use crate::tracing::{tell_trace, trace_file_for};
 use crate::words::{Call, call_of};
 use clap::error::ErrorKind;
 use explanations::{KeptLines, Noted};
@@ -91,8 +93,12 @@ fn serve_file<R: Threads + Wait + Clock + Copy + Send + Sync + 'static, W: Watch
     file: &[u8],
     watch: &mut W,
 ) -> u8 {
-    let Ok((measured, meter)) = measured_for(threads, rt.alloc(), call, file) else {
+    let Ok((measured, observer)) = measured_for(threads, rt.alloc(), call, file) else {
         return begins_none(rt, StartFault::Memory);
+    };
+    let trace_file = match trace_file_for(rt, call, &measured) {
+        Ok(trace_file) => trace_file,
+        Err(status) => return status,
     };
     let reader = ReadEnd::new(Noted::new(rt.reader()));
     let mut input = KeptLines::new(rt.alloc(), reader, call.explains);
@@ -107,7 +113,7 @@ fn serve_file<R: Threads + Wait + Clock + Copy + Send + Sync + 'static, W: Watch
         &mut input,
         &mut output,
         &mut errors,
-        meter,
+        observer,
         watch,
     );
     let _ = errors.writer.flush();
@@ -122,5 +128,6 @@ fn serve_file<R: Threads + Wait + Clock + Copy + Send + Sync + 'static, W: Watch
             explain_device(rt, "standard output", error);
         }
     }
+    let status = tell_trace(rt, call, &measured, trace_file, status);
     tell_times(rt, call, &measured, status)
 }

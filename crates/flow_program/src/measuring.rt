@@ -2,9 +2,9 @@
 
 use crate::refusing::begins_none;
 use crate::words::Call;
-use flow::measured::Measured;
+use flow::measured::{Looks, Measured};
 use flow::start::StartFault;
-use run_stats::Meter;
+use run_stats::Observer;
 use std::alloc::{AllocError, Global};
 use std::io::Write;
 use std::sync::Arc;
@@ -13,23 +13,35 @@ use std::time::Clock;
 // The status of a run that came to rest before all blocks were done.
 const STALLED: u8 = 3;
 
-/// What measures the run of a call, and the part of it that the run has.
-pub type ForRun<R> = (Option<Measured<R>>, Option<Arc<Meter<R>, Global>>);
+/// Whether a run came to rest, by the status in which it ended.
+pub fn came_to_rest(status: u8) -> bool {
+    status == 0 || status == STALLED
+}
 
-/// What measures the run of a call, where its words ask for that and the file is not refused.
+/// What looks at the run of a call, and the part of it that the run has.
+pub type ForRun<R> = (Option<Measured<R>>, Option<Arc<Observer<R>, Global>>);
+
+/// What looks at the run of a call, where its words ask for that and the file is not refused.
 pub fn measured_for<R: Clock + Copy>(
     clock: R,
     alloc: Global,
     call: &Call<'_>,
     file: &[u8],
 ) -> Result<ForRun<R>, AllocError> {
-    if call.stats.is_none() {
+    if call.stats.is_none() && call.trace.is_none() {
         return Ok((None, None));
     }
-    match Measured::of_file(alloc, clock, file)? {
+    let looks = Looks {
+        at_times: call.stats.is_some(),
+        at_events: match call.trace {
+            Some(trace) => Some(trace.size),
+            None => None,
+        },
+    };
+    match Measured::of_file(alloc, clock, looks, file)? {
         Some(measured) => {
-            let meter = measured.meter()?;
-            Ok((Some(measured), Some(meter)))
+            let observer = measured.observer()?;
+            Ok((Some(measured), Some(observer)))
         }
         None => Ok((None, None)),
     }
@@ -45,7 +57,7 @@ pub fn tell_times<R: Clock + Copy>(
     let (Some(measured), Some(form)) = (measured, call.stats) else {
         return status;
     };
-    if status != 0 && status != STALLED {
+    if !came_to_rest(status) {
         return status;
     }
     match measured.report(rt.alloc(), form) {

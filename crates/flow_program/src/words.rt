@@ -4,6 +4,7 @@ ghost use Rattle.std.specs.Prelude.{◌≡◌, ◌&&◌, not, if◌then◌else�
 ghost use Rattle.flow.specs.declared.stalls.Notes.TheVariants.{Shown, Hidden};
 
 use super::ends::{Ends, EndsFault};
+use clap::builder::ValueParser;
 use clap::error::ErrorKind;
 use clap::{Arg, ArgAction, ArgMatches};
 use drawings::Format;
@@ -15,6 +16,11 @@ use std::alloc::{AllocError, Global};
 
 const VERSION: &str = "0.1.0";
 
+// For so many turns and waits a trace has room unless the words say another number, and for so many at most.
+const USUAL_TRACE: &str = "100000";
+
+const LONGEST_TRACE: u64 = 10_000_000;
+
 /// What the words ask for.
 #[derive(Drop)]
 pub struct Call<'a> {
@@ -25,7 +31,16 @@ pub struct Call<'a> {
     pub explains: bool,
     /// How it is told where the time of the run went, if that is wanted.
     pub stats: Option<Form>,
+    /// The trace of the run, if one is wanted.
+    pub trace: Option<Trace<'a>>,
     pub ends: Ends<'a>,
+}
+
+/// Where a trace goes, and for how many turns and waits it has room.
+#[derive(Clone, Copy, Debug, PartialEq, Eq)]
+pub struct Trace<'a> {
+    pub path: &'a str,
+    pub size: usize,
 }
 
 impl Call<'_> {
@@ -69,6 +84,7 @@ fn call_in<'a>(alloc: Global, matches: &ArgMatches<'a>) -> Result<Call<'a>, Ends
     let Some(path) = inner.get_str("FILE") else {
         return Err(EndsFault::Memory);
     };
+    let trace = trace_of(inner, path)?;
     match Ends::of_words(alloc, inner, path) {
         Ok(ends) => Ok(Call {
             action: action_of(name, inner),
@@ -76,10 +92,27 @@ fn call_in<'a>(alloc: Global, matches: &ArgMatches<'a>) -> Result<Call<'a>, Ends
             is_quiet: inner.get_flag("quiet"),
             explains: inner.get_flag("explain"),
             stats: form_of(inner.get_str("stats")),
+            trace,
             ends,
         }),
         Err(fault) => Err(fault),
     }
+}
+
+// The trace that words ask for, if they do, beside the path of the graph file.
+fn trace_of<'a>(inner: &ArgMatches<'a>, file: &str) -> Result<Option<Trace<'a>>, EndsFault> {
+    let Some(path) = inner.get_str("trace") else {
+        return Ok(None);
+    };
+    if path == "-" {
+        return Err(EndsFault::TraceToStream);
+    }
+    if path == file {
+        return Err(EndsFault::FileTwice);
+    }
+    // (that it is a number is known of words that were taken)
+    let size = inner.get_one::<usize>("trace-size").unwrap_or(1);
+    Ok(Some(Trace { path, size }))
 }
 
 fn action_of(name: &str, inner: &ArgMatches<'_>) -> Action {
@@ -198,6 +231,7 @@ fn run_command<'a>(alloc: Global) -> Result<clap::Command<'a>, clap::Error> {
     let run = run.arg(quiet(alloc))?;
     let run = with_threading(alloc, run)?;
     let run = run.arg(stats(alloc)?)?;
+    let run = with_trace(alloc, run)?;
     with_ends(alloc, run)
 }
 
@@ -226,10 +260,33 @@ fn stats<'a>(alloc: Global) -> Result<Arg<'a>, AllocError> {
         .default_missing_value("text")
         .value_parser(["text", "json"].as_slice())
         .help("Tells where the time of the run went");
-    let stats = stats.conflicts_with("input")?;
-    let stats = stats.conflicts_with("marks")?;
-    let stats = stats.conflicts_with("output")?;
-    stats.conflicts_with("tags")
+    without_ends(stats)
+}
+
+// The words for a trace, which no run between files has either.
+fn with_trace<'a>(alloc: Global, run: clap::Command<'a>) -> Result<clap::Command<'a>, clap::Error> {
+    let trace = Arg::new(alloc, "trace")
+        .long("trace")
+        .action(ArgAction::Set)
+        .value_name("PATH")
+        .help("Writes each turn and each wait of a block to a file, as a trace");
+    let run = run.arg(without_ends(trace)?)?;
+    let size = Arg::new(alloc, "trace-size")
+        .long("trace-size")
+        .action(ArgAction::Set)
+        .value_name("N")
+        .value_parser(ValueParser::Unsigned(1, LONGEST_TRACE))
+        .default_value(USUAL_TRACE)
+        .help("Has room for so many turns and waits in the trace");
+    Ok(run.arg(size.requires_arg("trace")?)?)
+}
+
+// A word that goes with none of those for files of raw items.
+fn without_ends<'a>(word: Arg<'a>) -> Result<Arg<'a>, AllocError> {
+    let word = word.conflicts_with("input")?;
+    let word = word.conflicts_with("marks")?;
+    let word = word.conflicts_with("output")?;
+    word.conflicts_with("tags")
 }
 
 // The words for files of raw items.
