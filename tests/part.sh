@@ -33,6 +33,9 @@ is_wanted() { grep -qxF -- "$1" "$room/wanted"; }
 # shellcheck disable=SC2016
 first_program() { sed -n '/^```c$/,/^```$/{//d;p}' "$1" | sed '/^}$/q'; }
 
+# try_in FOLDER WORD..: `rt try` of the program in this folder, without the check for a hint that would double the work
+try_in() { (cd -- "$1" && PATH=$top/tests/no_hint:$PATH rt try "${@:2}"); }
+
 # build_copy FOLDER [WORD..] -- CALL..: a program, unproved, as rt compiles it with checks, as $room/program; `start` has the words that start it. To rt each
 # call of a program is a second's work, to the program none: so rt runs it once, with these words to it and those of the call to the program, which copies the file
 # `program` that lies where it runs, and all cases call the copy, as rt would.
@@ -50,7 +53,7 @@ build_copy() {
     mkdir "$room/copy"
     : >"$room/copy/copy"
     printf '%s\n' "$@" >"$room/copy/copy.args"
-    (cd -- "$folder" && rt try --seconds 600 "${words[@]}" --cases "$room/copy") >"$room/said" 2>&1 </dev/null || true
+    try_in "$folder" --seconds 600 "${words[@]}" --cases "$room/copy" >"$room/said" 2>&1 </dev/null || true
     if [[ ! -s $room/program ]]; then
         echo "the program is not built, or did not copy itself:"
         tail -n 40 "$room/said"

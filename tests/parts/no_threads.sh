@@ -14,7 +14,7 @@ run() {
     printf '%s\n' no_threads 0 >"$room/given/no_threads.args"
     # The C library gives a thread a stack of this many KiB, which are more than there are addresses. The first thread of a process has its own way.
     ulimit -s 137438953472
-    (cd -- "$room/tree/crates/memory_tests" && rt try --cases "$room/given") >"$room/output" 2>"$room/said" </dev/null || true
+    try_in "$room/tree/crates/memory_tests" --cases "$room/given" >"$room/output" 2>"$room/said" </dev/null || true
     if grep -q '^case=no_threads run=ended status=0 ' "$room/said" && grep -qx refused "$room/output"; then
         passed no_threads/each_run_is_told_61
     else

@@ -64,7 +64,7 @@ judge() {
 run_programs() {
     local it
     put
-    (cd -- "$room/tree/crates/programs" && rt try --cases "$room/given") >"$room/output" 2>"$room/said" </dev/null || true
+    try_in "$room/tree/crates/programs" --cases "$room/given" >"$room/output" 2>"$room/said" </dev/null || true
     for it in "${programs[@]}"; do
         if is_wanted "$it"; then
             awk -v name="${it##*/}" '/^== / { is_own = $2 == name; next } is_own' "$room/output" >"$room/came"
