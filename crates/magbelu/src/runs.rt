@@ -1,4 +1,5 @@
-//! Running a graph with a thread for each block: to its end, or live, with callers that feed, set and read in the meantime.
+//! Running a graph with a thread for each block, or in as many threads as the work is worth: to its end, or live, with callers that feed, set and read in the
+//! meantime.
 
 pub use run_stats::{
     Deed, Event, Figures, GatedWatch, Meter, Observer, Stats, Tracer, Waited, json_report,
@@ -6,7 +7,8 @@ pub use run_stats::{
 };
 pub use threads::{
     Answer, Call, Caller, CallerId, Desk, Entry, Feed, Finished, Gate, Open, Outcome, RunError,
-    RunFault, Running, Setting, Turns, launch, launch_open, launch_with, live, live_watched, run,
-    run_with,
+    RunFault, Running, Setting, Turns, launch, launch_adaptive, launch_open, launch_with, live,
+    live_adaptive, live_adaptive_watched, live_watched, run, run_adaptive, run_adaptive_open,
+    run_adaptive_watched, run_with,
 };
 pub use top_block::{TopBlock, close_all};
