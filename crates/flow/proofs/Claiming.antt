@@ -1,29 +1,27 @@
 -- Kept jobs, as calls leave them.
-use Rattle.std.proofs.Common.{◌≡◌, ◌≢◌, ℕ, ◌<◌, Bool, true, false, List, length, set, Option, Some, None, refl, sym, ap, ◌∙◌, subst, arith, inl, inr, length-set, get_or, eqb-true}
-use Rattle.std.specs.Prelude.{nat_lt, ◌==◌, ◌&&◌, replicate}
+use Rattle.std.proofs.Common.{◌≡◌, ◌≢◌, ℕ, ◌<◌, Bool, true, false, List, length, set, Option, Some, None, refl, sym, ap, ◌∙◌, subst, arith, inl, length-set, get_or, eqb-true}
+use Rattle.std.specs.Prelude.{◌==◌, replicate}
 use Rattle.std.specs.Cmp.{IsEquivalence}
 use Rattle.std.specs.Prelude.{nat_eq}
 use Rattle.std.proofs.lemmas.Cmp.{nat_eq_equiv}
 use Rattle.std.proofs.lemmas.List.{get_or-set_same, get_or-set_other, map-set, set-get_or, get_or_default, length-map}
-use Rattle.std.proofs.lemmas.Option.{slice_get_cases}
 use Rattle.std.proofs.Math.ListN.{get_or-map}
 use Rattle.std.proofs.lemmas.Simd.{splat_is_map}
 use Rattle.numbers.proofs.Mapped.{map_replicate}
-use Rattle.std.proofs.lemmas.Bool.{and_from, lt-ltb}
 use Rattle.stream_model.specs.Meaning.{Meaning}
 use Rattle.stream_model.specs.Network.{Network, State, Progress, progress_at, no_progress}
 use Rattle.stream_model.specs.Machine as machine
-use Rattle.stream_model.specs.Machine.{Capacities, Call, Job, Reply, job_of, with_progress, next, commit_of, abandon_of, is_in_flight, jobs_agree}
+use Rattle.stream_model.specs.Machine.{Capacities, Call, Job, Reply, with_progress, next, abandon_of}
 use Rattle.stream_laws.specs.CanRun.{CanRun}
 use Rattle.machine_laws.specs.Sound.{Sound}
 use Rattle.machine_laws.specs.Stays.{in_flight, gives_back}
 use Rattle.flowgraph.specs.Flowgraph.{Flowgraph, net_of, node_of}
 use Rattle.jobs.specs.Jobs.{JobState}
 use Rattle.plant.specs.Own.{is_own}
-use Rattle.machine_laws.proofs.Agreeing.{jobs_agree-same}
 use Rattle.plant.specs.Answers.{takes_memory}
 use Rattle.script_text.specs.Replies.{line_text, claimed_text}
 use Rattle.plant.specs.Plant.{PlantState}
+use Rattle.threads.proofs.Owned.{claimed_flies, commits, in_flight_is, own_is}
 use Rattle.flow.specs.Session.{SessionState, KeepsJobs, IsFlying, Gives, is_there, kept_in, kept_by, told, give_back, reply_line, none_kept}
 use Rattle.machine_laws.proofs.Claiming.{claims}
 use Rattle.flow.proofs.Flying.{Leaves, block_of, call_leaves}
@@ -69,35 +67,10 @@ none_at_first {B} {J} p jobs n e count =
 one_at : {J : Type 0} (jobs : List (Option J)) (b : ℕ) (d x : Option J) → b < length jobs → x ≡ get_or jobs b d → get_or jobs b None ≡ x
 one_at jobs b d x in' e = get_or_default jobs b None d in' ∙ sym e
 
--- a claim that was made is the one in flight
-pub claimed_flies : (net : Network) (st : State) (b count : ℕ) → b < length st.progress →
-    in_flight net (with_progress st b (record (progress_at st.progress b) { claimed = count })) b ≡ job_of net st b count
-unfolding job_of
-claimed_flies net st b count in' = let s = get_or-set_same st.progress b (record (progress_at st.progress b) { claimed = count }) no_progress in' in rw s refl
-
--- the claim in flight is taken back
-pub in_flight_is : (net : Network) (st : State) (b : ℕ) → b < length net.nodes → 0 < (progress_at st.progress b).claimed → is_in_flight net st true (in_flight net st b) ≡ true
-unfolding job_of
-in_flight_is net st b in' some =
-    let count = (progress_at st.progress b).claimed in
-    and_from (nat_lt b (length net.nodes) && nat_lt 0 count) (jobs_agree (in_flight net st b) (job_of net st b count))
-    (and_from (nat_lt b (length net.nodes)) (nat_lt 0 count) (lt-ltb b (length net.nodes) in') (lt-ltb 0 count some)) (jobs_agree-same (in_flight net st b) (in_flight net st b) refl)
-
-pub own_is : {B : Type 0} (eq : B → B → Bool) → IsEquivalence eq → (g : Flowgraph B) (b : ℕ) → b < length g.blocks → is_own eq g g b ≡ true
-own_is eq laws g b in' =
-    elim (slice_get_cases g.blocks b).1 [
-      | inl found ↦ (let e = found.2 in rw e (laws.refl found.0.block))
-      | inr past ↦ absurd (let low = past.0 in omega (arith, in', low))
-    ]
-
 -- a call that gives a claim back: one in flight is not refused
 pub record GivesBack (net : Network) (caps : Capacities) (st : State) (call : Bool → Job → Call) : Type 0 where
   pub block : (own : Bool) (job : Job) (b : ℕ) → gives_back b (call own job) ≡ (job.block == b)
   pub taken : (b : ℕ) → b < length net.nodes → 0 < (progress_at st.progress b).claimed → (next net caps st (call true (in_flight net st b))).0 ≢ machine.Refused machine.foreign
-
-commits : (net : Network) (st : State) (b : ℕ) → b < length net.nodes → 0 < (progress_at st.progress b).claimed → (commit_of net st true (in_flight net st b)).0 ≡ machine.Did (progress_at st.progress (in_flight net st b).block).claimed
-unfolding commit_of
-commits net st b in' some = let yes = in_flight_is net st b in' some in rw yes refl
 
 abandons : (net : Network) (st : State) (b : ℕ) → b < length net.nodes → 0 < (progress_at st.progress b).claimed → (abandon_of net st true (in_flight net st b)).0 ≡ machine.Abandoned
 unfolding abandon_of

@@ -3,6 +3,7 @@ mod Agreeing
 mod Flights
 mod Histories
 mod Keeping
+pub mod Owned
 mod Owns
 mod Places
 mod Promises

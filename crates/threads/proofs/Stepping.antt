@@ -1,16 +1,20 @@
 -- A step of which calls are recorded is a claim, and the commit of what that handed out.
-use Rattle.std.proofs.Common.{◌≡◌, ℕ, [], ◌∷◌, ◌++◌, Bool, sym, ap, subst, ◌∙◌, append_assoc, inr}
-use Rattle.std.specs.Prelude.{Some, None}
+use Rattle.std.proofs.Common.{◌≡◌, ℕ, ◌<◌, [], ◌∷◌, ◌++◌, Bool, true, length, sym, ap, subst, ◌∙◌, append_assoc}
+use Rattle.std.specs.Prelude.{Some}
+use Rattle.std.specs.Cmp.{IsEquivalence}
+use Rattle.std.proofs.lemmas.List.{length-map}
 use Rattle.stream_model.specs.Meaning.{Meaning}
 use Rattle.stream_model.specs.Network.{Network, State}
 use Rattle.stream_model.specs.Machine as machine
 use Rattle.stream_model.specs.Machine.{Job, Reply, commit_claimed, commit_of, job_of}
 use Rattle.flowgraph.specs.Fault.{id}
-use Rattle.flowgraph.specs.Flowgraph.{net_of}
+use Rattle.flowgraph.specs.Flowgraph.{Flowgraph, net_of, node_of}
 use Rattle.machine_laws.proofs.Claiming.{claims}
+use Rattle.plant.specs.Own.{is_own}
 use Rattle.threads.specs.declared.entry.CallerId.TheVariants as caller
 use Rattle.threads.specs.History.{Asks, Brings, Says, Noted}
 use Rattle.threads.specs.Recorded.{RecordedState, IsClaimNoted, IsStepNoted, moved_on, note_of, now_in}
+use Rattle.threads.proofs.Owned.{comes_back, own_is}
 use Rattle.threads.proofs.Weighing.{handed_step, taken_own}
 
 -- what is recorded of a commit
@@ -53,6 +57,19 @@ module _ {B : Type 0} (meaning : B → Meaning) (b most : ℕ) (old : RecordedSt
       let claims = subst (Claims mid) is claimed in
       whole mid new job own n claims did (subst (λ k. new ≡ moved_on mid (commit_of (net_of meaning mid.plant.graph) mid.plant.state own job).1 (committed k n ∷ [])) (own_block mid job claims) left)
 
-  -- where what was claimed is not taken back, the claim stands
-  pub lost_step : (mid new : RecordedState B) (reply : Reply) (job : Job) → Claims mid reply → reply ≡ machine.Claimed job → new ≡ mid → IsStepNoted meaning b most old new None
-  lost_step mid new reply job claimed is same = inr (job, subst (λ (r : RecordedState B). Claims r (machine.Claimed job)) (sym same) (subst (Claims mid) is claimed))
+  -- the work of a claim of this graph is the graph's own
+  its_own : (eq : B → B → Bool) → IsEquivalence eq → (graph : Flowgraph B) → graph ≡ old.plant.graph → b < length net.nodes → (mid : RecordedState B) (job : Job) → Claims mid (machine.Claimed job) →
+      is_own eq old.plant.graph graph job.block ≡ true
+  its_own eq laws graph same in' mid job claimed =
+      ap (λ g. is_own eq old.plant.graph g job.block) same ∙ ap (λ k. is_own eq old.plant.graph old.plant.graph k) (own_block mid job claimed)
+      ∙ own_is eq laws old.plant.graph b (subst (λ n. b < n) (length-map old.plant.graph.blocks (node_of meaning)) in')
+
+  -- so its commit is not refused
+  pub not_refused : (eq : B → B → Bool) → IsEquivalence eq → length old.plant.state.progress ≡ length net.nodes → (graph : Flowgraph B) → graph ≡ old.plant.graph →
+      (mid : RecordedState B) (reply : Reply) (job : Job) → Claims mid reply → reply ≡ machine.Claimed job →
+      (commit_of (net_of meaning mid.plant.graph) mid.plant.state (is_own eq mid.plant.graph graph job.block) job).0 ≡ machine.Refused machine.foreign → ⊥
+  not_refused eq laws many graph same mid reply job claimed is refused =
+      let handed = subst (Claims mid) is claimed in
+      let inside = (claims net old.plant.capacities old.plant.state b most job (sym handed.0)).inside in
+      comes_back net old.plant.capacities old.plant.state b most job (is_own eq old.plant.graph graph job.block) many (sym handed.0) (its_own eq laws graph same inside mid job handed)
+      (subst (λ (m : RecordedState B). (commit_of (net_of meaning m.plant.graph) m.plant.state (is_own eq m.plant.graph graph job.block) job).0 ≡ machine.Refused machine.foreign) handed.1 refused)

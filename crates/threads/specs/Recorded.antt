@@ -1,9 +1,9 @@
 -- A plant whose calls are recorded.
-use Rattle.std.specs.Prelude.{ℕ, ◌≡◌, ◌==◌, ◌⊎◌, List, [], ◌∷◌, ◌++◌, sum_by, cond, Option, Some, None, Result, Ok, Err}
+use Rattle.std.specs.Prelude.{ℕ, ◌≡◌, ◌==◌, List, [], ◌∷◌, ◌++◌, sum_by, cond, Option, Some, None, Result, Ok, Err}
 use Rattle.stream_model.specs.Meaning.{Meaning}
 use Rattle.stream_model.specs.Network.{State}
 use Rattle.stream_model.specs.Machine as machine
-use Rattle.stream_model.specs.Machine.{Job, Reply, next, step_of}
+use Rattle.stream_model.specs.Machine.{Reply, next, step_of}
 use Rattle.flowgraph.specs.Fault.{id}
 use Rattle.flowgraph.specs.Flowgraph.{net_of}
 use Rattle.plant.specs.Handed.{OpeningState}
@@ -65,10 +65,9 @@ step_notes b most claimed (machine.Did count) =
     note_of (caller.Worker (id b)) (Asks (machine.Claim b most)) claimed ∷ record { caller = caller.Worker (id b); asked = Brings b; said = Says (machine.Did count) } ∷ []
 step_notes b most claimed reply = claim_notes (caller.Worker (id b)) (Asks (machine.Claim b most)) reply
 
--- a block was stepped as by the machine, and that was recorded; or it was out of memory: nothing changed, or its work was not taken back
+-- a block was stepped as by the machine, and that was recorded; or it was out of memory, and nothing changed
 abbrev pub IsStepNoted : {B : Type 0} → (B → Meaning) → (block most : ℕ) → RecordedState B → RecordedState B → Option Reply → Type 0
-IsStepNoted meaning b most old new None =
-    (new ≡ old) ⊎ ((job : Job) × IsClaimNoted meaning (caller.Worker (id b)) (Asks (machine.Claim b most)) old new (Some (machine.Claimed job)))
+IsStepNoted meaning b most old new None = new ≡ old
 IsStepNoted meaning b most old new (Some reply) =
     let now = step_of (net_of meaning old.plant.graph) old.plant.capacities old.plant.state b most in
     (reply ≡ now.0) × (new ≡ moved_on old now.1 (step_notes b most (now_in meaning old (Asks (machine.Claim b most))).0 reply))

@@ -214,14 +214,16 @@ impl<B: Block> Recorded<B> {
         Ok(did)
     }
 
-    /// Claims at most `max` firings of a block, does their work and commits it. The claim and the commit are recorded as those of a worker are.
+    /// Claims at most `max` firings of a block, does their work and commits it. The claim and the commit are recorded as those of a worker are. An
+    /// `Err` changes nothing.
     pub fn step(&mut self, alloc: Global, block: BlockId, max: u32) -> Result<Step, PlantFault>
         requires { 1 ≤ max }
         ensures { IsStepNoted B.meaning block.0 max self.old self.new (reply_of step_reply result) }
     {
+        self.plant().recall();
         match self.claim(alloc, block, max)? {
             Claim::Claimed(job) => {
-                // (it is the claim in flight, and is taken)
+                // (it is the claim in flight, so that this never happens)
                 let Ok(did) = self.commit(job.work()) else {
                     return Err(PlantFault::Memory);
                 };
