@@ -4,7 +4,7 @@ use fir_blocks::Fir;
 use flowgraph::{BlockId, Graph, Options, Policy};
 use items::{ItemType, Items, Mark, TagKey};
 use kinds::{Kind, VectorSink, VectorSource};
-use plant::{Plant, PlantFault};
+use plant::{Plant, PlantFault, Unwatched};
 use settings::{Taps, Value};
 use std::alloc::Global;
 use std::sync::atomic::{AtomicBool, Ordering};
@@ -257,7 +257,7 @@ pub fn run_live<R: Threads + Wait + Clock + Sync>(
     let turns = Turns::default();
     let ended = match way {
         Way::EachBlock => live(rt, alloc, plant, gate, callers, turns),
-        Way::Adaptive => live_adaptive(rt, alloc, plant, gate, callers, turns),
+        Way::Adaptive => live_adaptive(rt, alloc, plant, gate, callers, turns, &mut Unwatched),
     };
     let (plant, is_done) = match ended {
         Ok(finished) => match finished.outcome {

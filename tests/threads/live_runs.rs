@@ -5,7 +5,7 @@ use super::ways::{ByChance, WithClock};
 use flowgraph::BlockId;
 use items::{ItemType, Items, Mark};
 use kinds::Kind;
-use plant::{Piece, Plant, PlantFault};
+use plant::{Piece, Plant, PlantFault, Unwatched};
 use settings::Value;
 use std::alloc::Global;
 use std::process::Abort;
@@ -138,8 +138,10 @@ pub fn finished_with<C: Caller<Kind> + Drop + Send, G: Gate + Drop + Send + Sync
     };
     let ended = match way {
         LiveWay::EachBlock => live(rt, alloc, plant, own, callers, turns),
-        LiveWay::Adaptive => live_adaptive(rt, alloc, plant, own, callers, turns),
-        LiveWay::Erratic => live_adaptive(&erratic, alloc, plant, own, callers, turns),
+        LiveWay::Adaptive => live_adaptive(rt, alloc, plant, own, callers, turns, &mut Unwatched),
+        LiveWay::Erratic => {
+            live_adaptive(&erratic, alloc, plant, own, callers, turns, &mut Unwatched)
+        }
     };
     match ended {
         Ok(finished) => finished,

@@ -56,7 +56,7 @@ pub use entry::{Answer, Call, CallerId, Entry, Feed, Setting};
 pub use fault::{RunError, RunFault};
 pub use gate::{Gate, Open};
 pub use launching::{launch, launch_open, launch_with};
-pub use live_pool::{live_adaptive, live_adaptive_watched};
+pub use live_pool::live_adaptive;
 pub use outcome::Outcome;
 pub use running::{Running, run, run_with};
 pub use turns::Turns;

@@ -16,7 +16,7 @@ use crate::pool_threads::lead_in_scope;
 use crate::shared::Shared;
 use crate::turns::Turns;
 use flowgraph::{Block, Valid};
-use plant::{Plant, Unwatched, Watch};
+use plant::{Plant, Watch};
 use std::alloc::Global;
 use std::sync::{Arc, Mutex, Wait};
 use std::thread;
@@ -25,38 +25,10 @@ use std::time::Clock;
 
 /// As `live`, but in as many threads as the work is worth: the caller's own, which steps all blocks in their order while that is cheap, and, once the
 /// work of several blocks is found to be worth it, in up to one a processor; each of the callers has its own beside them. What is stepped is
-/// recorded as its claim and its commit. The gate is passed as in `run_adaptive`, and the work of a block must not wait for that of another. Fails as
-/// `live` does, with `RunFault::Thread` where the thread of a caller could not be started.
+/// recorded as its claim and its commit. The gate is passed as in `run_adaptive`, and the work of a block must not wait for that of another. Once all
+/// callers have returned it calls `watch.show` after each pause until the run ends, and then `watch.end`. Fails as `live` does, with
+/// `RunFault::Thread` where the thread of a caller could not be started.
 pub fn live_adaptive<
-    B: Block + Send + Sync,
-    G: Gate + Drop + Send + Sync,
-    C: Caller<B> + Drop + Send,
-    R: Threads + Wait + Clock + Sync,
->(
-    rt: &R,
-    alloc: Global,
-    plant: Plant<B>,
-    gate: Arc<G, Global>,
-    callers: Vec<C>,
-    turns: Turns,
-) -> Result<Finished<B, C>, RunFault<B>>
-where
-    B::Places: Send + Sync,
-    requires idle { is_idle plant.state ≡ true }
-    requires few { vec_len callers ≤ 16 }
-    ensures ends { IfOk result (λ f. EndsLive B.meaning B.eq (opening_of plant) (map noted_by f.history.items) f.outcome) }
-    ensures logs { IfOk result (λ f. AreLogs (map (λ l. map noted_by l.items) f.logs.items) (map noted_by f.history.items)) }
-    ensures callers { IfOk result (λ f. vec_len f.callers ≡ vec_len callers) }
-    ensures logged { IfOk result (λ f. vec_len f.logs ≡ vec_len callers) }
-    ensures ran { IfOk result (λ f. CameFrom C.ran plant.graph callers.items f.callers.items (map (λ l. map noted_by l.items) f.logs.items)) }
-    ensures turns { IfOk result (λ f. f.turns ≡ turns) }
-    ensures err { IfErr result (GivesBackLive B.meaning B.eq (opening_of plant)) }
-{
-    live_adaptive_watched(rt, alloc, plant, gate, callers, turns, &mut Unwatched)
-}
-
-/// As `live_adaptive`; once all callers have returned it calls `watch.show` after each pause until the run ends, and then `watch.end`.
-pub fn live_adaptive_watched<
     B: Block + Send + Sync,
     G: Gate + Drop + Send + Sync,
     C: Caller<B> + Drop + Send,

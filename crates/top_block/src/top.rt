@@ -31,7 +31,7 @@ use std::thread::Threads;
 use std::time::Clock;
 use threads::{
     Caller, Finished, Gate, Open, Outcome, RunFault, Running, Turns, launch_open, launch_with,
-    live_adaptive_watched, live_watched, run_adaptive_open, run_adaptive_watched, run_with,
+    live_adaptive, live_watched, run_adaptive_open, run_adaptive_watched, run_with,
 };
 
 /// A plant of kinds with no claim in flight, which is fed and then run in threads. It is the whole life of a flowgraph whose data are there from
@@ -335,6 +335,6 @@ impl TopBlock {
         ensures err { IfErr result (GivesBackLive meaning_of ⟦<Kind as PartialEq>⟧.eq (opening_of self)) }
     {
         let TopBlock { plant } = self;
-        live_adaptive_watched(rt, alloc, plant, gate, callers, turns, watch)
+        live_adaptive(rt, alloc, plant, gate, callers, turns, watch)
     }
 }
