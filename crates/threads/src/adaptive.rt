@@ -6,7 +6,6 @@ ghost use Rattle.threads.specs.Outcomes.{CameBack, EndsIn, GivesBack, IsSo, hand
 
 use crate::alone::{Ended, settle_alone};
 use crate::engine::Engine;
-use crate::errands::Waiting;
 use crate::fault::RunFault;
 use crate::gate::Gate;
 use crate::hall::Hall;
@@ -22,7 +21,7 @@ use crate::turns::Turns;
 use flowgraph::Block;
 use plant::{Handed, Plant, Unwatched, Watch};
 use std::alloc::{AllocError, Global};
-use std::sync::{Arc, Mutex, Wait};
+use std::sync::{Arc, Wait};
 use std::thread;
 use std::thread::{JoinHandle, Parker, Threads};
 use std::time::Clock;
@@ -269,14 +268,7 @@ fn mustered<B: Block, G: Gate + Drop>(
         beds,
         workers,
     } = prepared(alloc, plant, turns, heavy)?;
-    let shared = Shared {
-        hall: Mutex::new(hall),
-        waiting: Waiting::new(),
-        beds,
-        lookout: Parker::new(),
-        gate,
-        turns,
-    };
+    let shared = Shared::new(hall, beds, gate, turns);
     match Arc::new(alloc, shared) {
         Ok(shared) => Ok(Running {
             shared,

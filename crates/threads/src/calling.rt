@@ -13,7 +13,6 @@ use crate::desk::Caller;
 use crate::desks::{Came, Room, at_desks};
 use crate::engine::Engine;
 use crate::entry::Entry;
-use crate::errands::Waiting;
 use crate::fault::RunFault;
 use crate::gate::Gate;
 use crate::hall::Hall;
@@ -30,7 +29,7 @@ use crate::worker::work;
 use flowgraph::{Block, BlockId, Valid};
 use plant::{Opening, Plant, Unwatched, Watch};
 use std::alloc::{AllocError, Global};
-use std::sync::{Arc, Mutex, Wait};
+use std::sync::{Arc, Wait};
 use std::thread;
 use std::thread::{Parker, Scope, Threads};
 
@@ -115,14 +114,7 @@ where
         beds,
         room,
     } = rooms;
-    let shared = Shared {
-        hall: Mutex::new(hall),
-        waiting: Waiting::new(),
-        beds,
-        lookout: Parker::new(),
-        gate,
-        turns,
-    };
+    let shared = Shared::new(hall, beds, gate, turns);
     let came = in_scope(rt, alloc, &shared, &graph, callers, room, watch);
     let Shared { hall, turns, .. } = shared;
     ended(hall.into_inner(), &opening, came, turns)

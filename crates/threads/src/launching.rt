@@ -6,7 +6,6 @@ ghost use Rattle.stream_model.specs.Machine.{is_idle};
 ghost use Rattle.threads.specs.Outcomes.{CameBack, GivesBack, IsSo, handed_of};
 
 use crate::engine::Engine;
-use crate::errands::Waiting;
 use crate::fault::RunFault;
 use crate::gate::{Gate, Open};
 use crate::hall::Hall;
@@ -19,7 +18,7 @@ use crate::worker::work;
 use flowgraph::{Block, BlockId};
 use plant::{Handed, Plant};
 use std::alloc::{AllocError, AllocFailed, Global};
-use std::sync::{Arc, Mutex, Wait};
+use std::sync::{Arc, Wait};
 use std::thread;
 use std::thread::{JoinHandle, Parker, Threads};
 
@@ -116,14 +115,7 @@ where
         beds,
         workers,
     } = prepare(alloc, plant)?;
-    let shared = Shared {
-        hall: Mutex::new(hall),
-        waiting: Waiting::new(),
-        beds,
-        lookout: Parker::new(),
-        gate,
-        turns,
-    };
+    let shared = Shared::new(hall, beds, gate, turns);
     match Arc::new(alloc, shared) {
         Ok(shared) => start_all(rt, alloc, shared, workers, handed),
         Err(refused) => Err(lacked(refused, &handed)),

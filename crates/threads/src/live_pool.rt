@@ -9,7 +9,6 @@ ghost use Rattle.threads.specs.Live.{AreLogs, CameFrom, EndsLive, GivesBackLive,
 use crate::calling::{Crew, Finished, Rooms, ended, prepare};
 use crate::desk::Caller;
 use crate::desks::{Came, Room, come_back, seated};
-use crate::errands::Waiting;
 use crate::fault::RunFault;
 use crate::gate::Gate;
 use crate::pool_threads::lead_in_scope;
@@ -18,9 +17,9 @@ use crate::turns::Turns;
 use flowgraph::{Block, Valid};
 use plant::{Plant, Watch};
 use std::alloc::Global;
-use std::sync::{Arc, Mutex, Wait};
+use std::sync::{Arc, Wait};
 use std::thread;
-use std::thread::{Parker, Scope, Threads};
+use std::thread::{Scope, Threads};
 use std::time::Clock;
 
 /// As `live`, but in as many threads as the work is worth: the caller's own, which steps all blocks in their order while that is cheap, and, once the
@@ -62,14 +61,7 @@ where
         beds,
         room,
     } = rooms;
-    let shared = Shared {
-        hall: Mutex::new(hall),
-        waiting: Waiting::new(),
-        beds,
-        lookout: Parker::new(),
-        gate,
-        turns,
-    };
+    let shared = Shared::new(hall, beds, gate, turns);
     let came = in_scope(rt, alloc, &shared, &graph, callers, room, watch);
     watch.end();
     let Shared { hall, turns, .. } = shared;

@@ -42,6 +42,20 @@ pub struct Shared<B: Block, G: Gate + Drop> {
 }
 
 impl<B: Block, G: Gate + Drop> Shared<B, G> {
+    /// What is shared as a run begins: nobody has the lock or waits for it.
+    pub fn new(hall: Hall<B>, beds: Vec<Parker>, gate: Arc<G, Global>, turns: Turns) -> Shared<B, G>
+        ensures { result.turns ≡ turns }
+    {
+        Shared {
+            hall: Mutex::new(hall),
+            waiting: Waiting::new(),
+            beds,
+            lookout: Parker::new(),
+            gate,
+            turns,
+        }
+    }
+
     /// Wakes workers. The lock is not held.
     pub fn wake(&self, woken: &Woken) {
         for (beds, word) in self.beds.chunks(BITS).zip(woken.words()) {
