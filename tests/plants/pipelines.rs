@@ -114,7 +114,7 @@ pub fn whole(rt: &impl Abort, alloc: Global) -> Result<Whole, Fail> {
 }
 
 // The same between a reader and writers that fail so soon.
-fn joined(
+pub fn joined(
     rt: &impl Abort,
     alloc: Global,
     whole: &Whole,

@@ -5,5 +5,4 @@ pub mod Reading
 pub mod TakingIn
 pub mod Delivering
 pub mod Moving
-pub mod Rounds
 pub mod Faulting

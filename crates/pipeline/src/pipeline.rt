@@ -17,7 +17,9 @@ use flowgraph::{Block, BlockId};
 use std::alloc::Global;
 use std::io::{Read, Write};
 use stream_model::Role;
-use streaming::{BlockNeed, Settled, StreamingPlant, Unwatched, Watch};
+use streaming::{
+    BlockNeed, Helpers, Job, NoHelpers, Settled, StreamingPlant, Unwatched, Watch, Worked,
+};
 
 // How often a block fires in a round, at most.
 const TURN: u32 = 65_536;
@@ -51,13 +53,14 @@ impl<B: Block, R: Read, W: Write> Pipeline<B, R, W> {
         ensures written { OnOk result (AreDelivered (net_of B.meaning self.new.plant.plant.graph) self.new.plant self.new.ends.items) }
         ensures asked { result ≡ Ok Quiet → NoneLacks (net_of B.meaning self.new.plant.plant.graph) self.new.plant self.new.ends.items }
     {
-        self.run_watched(alloc, &mut Unwatched)
+        self.run_with(alloc, &mut NoHelpers, &mut Unwatched)
     }
 
-    /// The same, which shows to `watch` after each turn how far it is.
-    pub fn run_watched<V: Watch>(
+    /// As `run`, with helpers that do work of its blocks where they are called. It shows to `watch` after each turn how far it is.
+    pub fn run_with<H: Helpers<Job<B>, Worked<B>>, V: Watch>(
         &mut self,
         alloc: Global,
+        helpers: &mut H,
         watch: &mut V,
     ) -> Result<Settled, PipelineFault>
         ensures goes { OnOk result (GoesOn R.remaining W.contents (net_of B.meaning self.old.plant.plant.graph) self.old.plant self.new.plant self.old.ends.items self.new.ends.items) }
@@ -69,7 +72,7 @@ impl<B: Block, R: Read, W: Write> Pipeline<B, R, W> {
         ensures asked { result ≡ Ok Quiet → NoneLacks (net_of B.meaning self.new.plant.plant.graph) self.new.plant self.new.ends.items }
     {
         for _turns in 0..u64::MAX {
-            if let Some(settled) = self.turn(alloc)? {
+            if let Some(settled) = self.turn(alloc, helpers)? {
                 return Ok(settled);
             }
             watch.show(self.plant.headway());
@@ -80,7 +83,11 @@ impl<B: Block, R: Read, W: Write> Pipeline<B, R, W> {
 
     /// One turn of `run`: a round of the plant's blocks, and where none of them moved on, what the sinks have taken is written, and a piece is read. It
     /// returns how the run ended, if it has.
-    pub fn turn(&mut self, alloc: Global) -> Result<Option<Settled>, PipelineFault>
+    pub fn turn<H: Helpers<Job<B>, Worked<B>>>(
+        &mut self,
+        alloc: Global,
+        helpers: &mut H,
+    ) -> Result<Option<Settled>, PipelineFault>
         ensures goes { OnOk result (GoesOn R.remaining W.contents (net_of B.meaning self.old.plant.plant.graph) self.old.plant self.new.plant self.old.ends.items self.new.ends.items) }
         ensures begins { OnErr result (Begins R.remaining W.contents (net_of B.meaning self.old.plant.plant.graph) self.old.plant self.new.plant self.old.ends.items self.new.ends.items) }
         ensures fault { IfErr result (IsFaultOf R.remaining self.new.ends.items) }
@@ -89,7 +96,7 @@ impl<B: Block, R: Read, W: Write> Pipeline<B, R, W> {
         ensures written { IfOk result (λ end. IfSome end (λ _. AreDelivered (net_of B.meaning self.new.plant.plant.graph) self.new.plant self.new.ends.items)) }
         ensures asked { result ≡ Ok (Some Quiet) → NoneLacks (net_of B.meaning self.new.plant.plant.graph) self.new.plant self.new.ends.items }
     {
-        let has_moved = self.round(alloc)?;
+        let has_moved = self.round(alloc, helpers)?;
         if has_moved {
             self.write(PIECE)?;
             return Ok(None);
@@ -109,12 +116,16 @@ impl<B: Block, R: Read, W: Write> Pipeline<B, R, W> {
     }
 
     // One round of the plant's blocks.
-    fn round(&mut self, alloc: Global) -> Result<bool, PipelineFault>
+    fn round<H: Helpers<Job<B>, Worked<B>>>(
+        &mut self,
+        alloc: Global,
+        helpers: &mut H,
+    ) -> Result<bool, PipelineFault>
         ensures goes { GoesOn R.remaining W.contents (net_of B.meaning self.old.plant.plant.graph) self.old.plant self.new.plant self.old.ends.items self.new.ends.items }
         ensures fault { IfErr result (λ fault. fault ≡ Memory) }
         ensures moved { IfOk result (HasMoved (net_of B.meaning self.new.plant.plant.graph) self.new.plant.plant.capacities self.old.plant.plant.state self.new.plant.plant.state) }
     {
-        Ok(self.plant.round(alloc, TURN)?)
+        Ok(self.plant.round_with(alloc, TURN, helpers)?)
     }
 
     // Writes what sinks have taken of which at least so many items are in memory.

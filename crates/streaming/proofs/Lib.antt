@@ -4,3 +4,5 @@ pub mod Releases
 pub mod Pieces
 pub mod Joins
 pub mod InMemory
+pub mod Working
+pub mod GivingUp

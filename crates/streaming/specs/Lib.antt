@@ -1,2 +1,3 @@
 pub mod Draining
 pub mod Streaming
+pub mod Working

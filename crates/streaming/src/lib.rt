@@ -16,14 +16,17 @@
 
 pub mod draining;
 mod forgetting;
+mod helped;
+pub mod helpers;
 mod memory;
 pub mod streaming_plant;
 
 pub use draining::Appended;
 pub use flowgraph::{Block, BlockId, Valid};
+pub use helpers::{Helpers, NoHelpers};
 pub use plant::{
-    BlockNeed, Closed, Fed, Headway, Need, Piece, PlantFault, Settled, Step, Taken, Unwatched,
-    Watch,
+    BlockNeed, Closed, Fed, Headway, Job, Need, Piece, PlantFault, Settled, Step, Taken, Unwatched,
+    Watch, Worked,
 };
 pub use streaming_plant::StreamingPlant;
 pub use tags::Tag;

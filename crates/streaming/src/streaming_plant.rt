@@ -25,15 +25,19 @@ ghost use Rattle.plant.specs.Settling.{StepsLead, HasMoved, HasSettled, HoldsSet
 ghost use Rattle.plant.specs.Waits.{need_of, wait_in};
 ghost use Rattle.streaming.specs.Draining.{HasRoom, IsAtSink, MayBeRefused, drain_fault, end_of, items_taken, tags_taken};
 ghost use Rattle.streaming.specs.Streaming.{GoesOn, HasDrainedTo, KeepsNoTaken, StaysBegun, drained, settings_kept, streaming_opening, tags_into, tape_kept};
+ghost use Rattle.streaming.specs.Working.{HasWorked};
 
 use crate::draining::{Appended, consume, drain, drain_into, peek};
 use crate::forgetting::forget_taken;
+use crate::helped::helped_round;
+use crate::helpers::Helpers;
 use crate::memory::{items_in_memory, settings_in_memory, tags_in_memory};
 use firings::BlockNeed;
 use flowgraph::{Block, BlockId, Valid};
 use items::{ItemType, Items, Mark};
 use plant::{
-    Closed, Fed, Headway, Parts, Piece, PlantFault, Settled, Step, Taken, Unwatched, source_type,
+    Closed, Fed, Headway, Job, Parts, Piece, PlantFault, Settled, Step, Taken, Unwatched, Worked,
+    source_type,
 };
 use settings::Value;
 use std::alloc::{AllocError, Global};
@@ -214,6 +218,25 @@ impl<B: Block> StreamingPlant<B> {
         ensures taken { IfOk result (λ _. KeepsNoTaken (net_of B.meaning self.new.plant.graph) self.new) }
     {
         let moved = self.parts.round(alloc, max, &mut Unwatched)?;
+        forget_taken(&mut self.parts)?;
+        Ok(moved)
+    }
+
+    /// As `round`; and where helpers are called, they do the work of some blocks meanwhile, which so may fire more often. When it returns, all that they were
+    /// given has come back, or was given up.
+    pub fn round_with<H: Helpers<Job<B>, Worked<B>>>(
+        &mut self,
+        alloc: Global,
+        max: u32,
+        helpers: &mut H,
+    ) -> Result<bool, AllocError>
+        requires { 1 ≤ max }
+        ensures worked { HasWorked B.meaning self.old.plant self.new.plant }
+        ensures moved { IfOk result (HasMoved (net_of B.meaning self.new.plant.graph) self.new.plant.capacities self.old.plant.state self.new.plant.state) }
+        ensures sinks { self.new.kept.sinks ≡ self.old.kept.sinks }
+        ensures taken { IfOk result (λ _. KeepsNoTaken (net_of B.meaning self.new.plant.graph) self.new) }
+    {
+        let moved = helped_round(&mut self.parts, alloc, max, helpers)?;
         forget_taken(&mut self.parts)?;
         Ok(moved)
     }

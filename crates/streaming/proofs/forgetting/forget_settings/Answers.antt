@@ -1,7 +1,7 @@
-use Rattle.std.proofs.Common.{◌≡◌, ◌<◌, ◌≤◌, length, arith, ap, refl, sym, subst, ◌∙◌}
+use Rattle.std.proofs.Common.{◌≡◌, ◌<◌, length, arith, ap, refl, ◌∙◌}
 use Rattle.std.specs.Arc.{arc_value}
 use Rattle.std.proofs.lemmas.List.{length-map}
-use Rattle.stream_model.specs.Network.{Progress, node_at, taken_by, role_at, is_source, progress_at}
+use Rattle.stream_model.specs.Network.{Progress, node_at, taken_by, progress_at}
 use Rattle.stream_laws.specs.CanRun.{CanRun}
 use Rattle.flowgraph.specs.Flowgraph.{net_of, node_of}
 use Rattle.stores.specs.Stores.{state_of}

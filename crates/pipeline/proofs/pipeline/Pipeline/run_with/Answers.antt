@@ -2,7 +2,7 @@ use Rattle.std.proofs.Common.{refl}
 use Rattle.pipeline.proofs.Delivering.{on_err}
 use Rattle.pipeline.proofs.Moving.{begins_more, begins_none, goes_more, goes_none}
 use Rattle.pipeline.specs.Faults.{NoMemory}
-use Rattle.pipeline.proofs.pipeline.Pipeline.run_watched.Goals as goal
+use Rattle.pipeline.proofs.pipeline.Pipeline.run_with.Goals as goal
 
 pub returns-clause-fault : goal.returns-clause-fault
 returns-clause-fault g c = NoMemory

@@ -1,0 +1,32 @@
+use Rattle.std.proofs.Common.{◌≡◌, ◌≤◌, length, arith, ap, sym, ◌∙◌, subst, inl, inr}
+use Rattle.std.proofs.lemmas.Bool.{cases_eq}
+use Rattle.std.proofs.lemmas.List.{length-map}
+use Rattle.std.specs.Arc.{arc_value}
+use Rattle.stream_model.specs.Network.{Progress, progress_at}
+use Rattle.flowgraph.specs.Flowgraph.{Flowgraph, node_of}
+use Rattle.plant.specs.Plant.{PlantState, plant_of}
+use Rattle.streaming.proofs.Working.{worked_then}
+use Rattle.streaming.proofs.GivingUp.{idle_from}
+use Rattle.streaming.proofs.helped.give_all_up.Goals as goal
+
+pub loop-block-preserved : goal.loop-block-preserved
+loop-block-preserved g c =
+    let new = plant_of c.give_up.new.parts in
+    let block = c.loop-block.block in
+    record {
+      right = c.give_up.ensures.right;
+      spans = c.give_up.ensures.spans ∙ c.loop-block.invariant.spans;
+      worked = worked_then g.B.Block.meaning (plant_of c.args.parts.now) (plant_of c.loop-block.parts) new c.loop-block.invariant.worked c.give_up.ensures.worked;
+      none = λ b lt. elim (cases_eq b block) [
+        | inl e ↦ subst (λ k. (progress_at new.state.progress k).claimed ≡ 0) (sym e) c.give_up.ensures.own
+        | inr other ↦ ap (λ (p : Progress). p.claimed) (c.give_up.ensures.others b other) ∙ c.loop-block.invariant.none b (omega (arith, lt, other))
+      ];
+    }
+
+pub returns-clause-idle : goal.returns-clause-idle
+returns-clause-idle g c =
+    let now = plant_of c.loop-block.parts in
+    let graph : length now.graph.blocks ≡ length (arc_value c.args.parts.now.graph).blocks = ap (λ (p : PlantState g.row.B.Denot). length p.graph.blocks) c.loop-block.invariant.worked.same in
+    let count : length now.state.progress ≡ length now.graph.blocks = c.loop-block.invariant.right.keeps.sound.progress_count ∙ length-map now.graph.blocks (node_of g.B.Block.meaning) in
+    let all : length (arc_value c.args.parts.now.graph).blocks ≤ c.loop-block.block = omega (arith, c.loop-block-test.false, c.len-block-end.ensures.blocks, ap (λ (x : Flowgraph g.row.B.Denot). length x.blocks) c.deref-2.ensures) in
+    idle_from now.state (λ b lt. c.loop-block.invariant.none b (omega (arith, lt, count, graph, all)))

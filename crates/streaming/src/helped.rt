@@ -1,0 +1,257 @@
+//! Rounds of which helpers do a part.
+
+ghost use Rattle.std.specs.Prelude.{◌≡◌, ◌<◌, ◌≤◌, ℕ, length, true, IfOk};
+ghost use Rattle.std.specs.Arc.{arc_value};
+ghost use Rattle.stream_model.specs.Machine.{is_idle};
+ghost use Rattle.stream_model.specs.Network.{progress_at};
+ghost use Rattle.flowgraph.specs.Flowgraph.{net_of};
+ghost use Rattle.plant.specs.Plant.{IsRight, plant_of, spans_in};
+ghost use Rattle.plant.specs.Settling.{HasMoved};
+ghost use Rattle.streaming.specs.Working.{HasWorked};
+
+use crate::helpers::Helpers;
+use flowgraph::{Block, BlockId};
+use plant::{Claim, Job, Parts, Step, Worked};
+use std::alloc::{AllocError, Global};
+
+// How often a round with helpers looks at each block. A sink takes at most what its buffer holds each time, so that this bounds what a round adds to it.
+const LOOKS: u32 = 256;
+
+/// Steps each block once, and returns whether one moved on. Where helpers are called, it then has them work until nobody has anything to do, or for as many looks at
+/// each block as there may be. When it returns, nothing is in flight.
+pub(crate) fn helped_round<B: Block, H: Helpers<Job<B>, Worked<B>>>(
+    parts: &mut Parts<B>,
+    alloc: Global,
+    max: u32,
+    helpers: &mut H,
+) -> Result<bool, AllocError>
+    requires right { IsRight B.meaning parts.old }
+    requires idle { is_idle (plant_of parts.old).state ≡ true }
+    requires some { 1 ≤ max }
+    ensures right { IsRight B.meaning parts.new }
+    ensures spans { spans_in parts.new ≡ spans_in parts.old }
+    ensures worked { HasWorked B.meaning (plant_of parts.old) (plant_of parts.new) }
+    ensures idle { is_idle (plant_of parts.new).state ≡ true }
+    ensures moved { let old = plant_of parts.old in IfOk result (HasMoved (net_of B.meaning old.graph) old.capacities old.state (plant_of parts.new).state) }
+{
+    parts.graph.recall();
+    let first = max.min(helpers.begins_round().max(1));
+    let moved = parts.round(alloc, first, helpers)?;
+    if !moved || !helpers.are_called() {
+        return Ok(moved);
+    }
+    help(parts, alloc, max, helpers)?;
+    Ok(moved)
+}
+
+// Has helpers work, and takes back or gives up all that they were given.
+fn help<B: Block, H: Helpers<Job<B>, Worked<B>>>(
+    parts: &mut Parts<B>,
+    alloc: Global,
+    max: u32,
+    helpers: &mut H,
+) -> Result<(), AllocError>
+    requires right { IsRight B.meaning parts.old }
+    requires some { 1 ≤ max }
+    ensures right { IsRight B.meaning parts.new }
+    ensures spans { spans_in parts.new ≡ spans_in parts.old }
+    ensures worked { HasWorked B.meaning (plant_of parts.old) (plant_of parts.new) }
+    ensures idle { is_idle (plant_of parts.new).state ≡ true }
+{
+    let looked = look_again(parts, alloc, max, helpers);
+    take_all_back(parts, helpers);
+    give_all_up(parts);
+    looked
+}
+
+// Looks at each block, again and again, until nobody has anything to do.
+fn look_again<B: Block, H: Helpers<Job<B>, Worked<B>>>(
+    parts: &mut Parts<B>,
+    alloc: Global,
+    max: u32,
+    helpers: &mut H,
+) -> Result<(), AllocError>
+    requires right { IsRight B.meaning parts.old }
+    requires some { 1 ≤ max }
+    ensures right { IsRight B.meaning parts.new }
+    ensures spans { spans_in parts.new ≡ spans_in parts.old }
+    ensures worked { HasWorked B.meaning (plant_of parts.old) (plant_of parts.new) }
+{
+    for _looks in 0..LOOKS {
+        if !look(parts, alloc, max, helpers)? && !take_next(parts, helpers) {
+            return Ok(());
+        }
+    }
+    Ok(())
+}
+
+// Looks at each block once, and returns whether something was done or given away.
+fn look<B: Block, H: Helpers<Job<B>, Worked<B>>>(
+    parts: &mut Parts<B>,
+    alloc: Global,
+    max: u32,
+    helpers: &mut H,
+) -> Result<bool, AllocError>
+    requires right { IsRight B.meaning parts.old }
+    requires some { 1 ≤ max }
+    ensures right { IsRight B.meaning parts.new }
+    ensures spans { spans_in parts.new ≡ spans_in parts.old }
+    ensures worked { HasWorked B.meaning (plant_of parts.old) (plant_of parts.new) }
+{
+    let mut acted = false;
+    for block in 0..parts.graph.len() {
+        let took = take_done(parts, helpers);
+        let did = act(parts, alloc, BlockId(block as u32), max, helpers)?;
+        acted = acted || took || did;
+    }
+    Ok(acted)
+}
+
+// Steps a block, or gives its work away, and returns whether it did.
+fn act<B: Block, H: Helpers<Job<B>, Worked<B>>>(
+    parts: &mut Parts<B>,
+    alloc: Global,
+    block: BlockId,
+    max: u32,
+    helpers: &mut H,
+) -> Result<bool, AllocError>
+    requires right { IsRight B.meaning parts.old }
+    requires some { 1 ≤ max }
+    ensures right { IsRight B.meaning parts.new }
+    ensures spans { spans_in parts.new ≡ spans_in parts.old }
+    ensures worked { HasWorked B.meaning (plant_of parts.old) (plant_of parts.new) }
+{
+    match helpers.share(block) {
+        Some(share) => give_away(parts, alloc, block, max.min(share.max(1)), helpers),
+        None => step(parts, alloc, block, max),
+    }
+}
+
+// Steps a block, and returns whether it fired.
+fn step<B: Block>(
+    parts: &mut Parts<B>,
+    alloc: Global,
+    block: BlockId,
+    max: u32,
+) -> Result<bool, AllocError>
+    requires right { IsRight B.meaning parts.old }
+    requires some { 1 ≤ max }
+    ensures right { IsRight B.meaning parts.new }
+    ensures spans { spans_in parts.new ≡ spans_in parts.old }
+    ensures worked { HasWorked B.meaning (plant_of parts.old) (plant_of parts.new) }
+{
+    match parts.step(alloc, block, max) {
+        Ok(Step::Did(_)) => Ok(true),
+        Ok(_) => Ok(false),
+        Err(_) => Err(AllocError),
+    }
+}
+
+// Claims firings of a block for a helper, and returns whether there were some. Where no helper is free, they are done here.
+fn give_away<B: Block, H: Helpers<Job<B>, Worked<B>>>(
+    parts: &mut Parts<B>,
+    alloc: Global,
+    block: BlockId,
+    max: u32,
+    helpers: &mut H,
+) -> Result<bool, AllocError>
+    requires right { IsRight B.meaning parts.old }
+    requires some { 1 ≤ max }
+    ensures right { IsRight B.meaning parts.new }
+    ensures spans { spans_in parts.new ≡ spans_in parts.old }
+    ensures worked { HasWorked B.meaning (plant_of parts.old) (plant_of parts.new) }
+{
+    match parts.claim(alloc, block, max) {
+        Ok(Claim::Claimed(job)) => {
+            if let Err(job) = helpers.give(job) {
+                take_back(parts, job.work());
+            }
+            Ok(true)
+        }
+        Ok(_) => Ok(false),
+        Err(_) => Err(AllocError),
+    }
+}
+
+// Commits work, and returns whether it was of a claim in flight. Other work is dropped.
+fn take_back<B: Block>(parts: &mut Parts<B>, work: Worked<B>) -> bool
+    requires right { IsRight B.meaning parts.old }
+    ensures right { IsRight B.meaning parts.new }
+    ensures spans { spans_in parts.new ≡ spans_in parts.old }
+    ensures worked { HasWorked B.meaning (plant_of parts.old) (plant_of parts.new) }
+{
+    parts.commit(work).is_ok()
+}
+
+// Commits work that is done, if there is some, and returns whether it was of a claim in flight.
+fn take_done<B: Block, H: Helpers<Job<B>, Worked<B>>>(parts: &mut Parts<B>, helpers: &mut H) -> bool
+    requires right { IsRight B.meaning parts.old }
+    ensures right { IsRight B.meaning parts.new }
+    ensures spans { spans_in parts.new ≡ spans_in parts.old }
+    ensures worked { HasWorked B.meaning (plant_of parts.old) (plant_of parts.new) }
+{
+    match helpers.done() {
+        Some(work) => take_back(parts, work),
+        None => false,
+    }
+}
+
+// Waits for work and commits it, and returns whether some came.
+fn take_next<B: Block, H: Helpers<Job<B>, Worked<B>>>(parts: &mut Parts<B>, helpers: &mut H) -> bool
+    requires right { IsRight B.meaning parts.old }
+    ensures right { IsRight B.meaning parts.new }
+    ensures spans { spans_in parts.new ≡ spans_in parts.old }
+    ensures worked { HasWorked B.meaning (plant_of parts.old) (plant_of parts.new) }
+{
+    match helpers.wait() {
+        Some(work) => {
+            take_back(parts, work);
+            true
+        }
+        None => false,
+    }
+}
+
+// Commits all work that is still to come.
+fn take_all_back<B: Block, H: Helpers<Job<B>, Worked<B>>>(parts: &mut Parts<B>, helpers: &mut H)
+    requires right { IsRight B.meaning parts.old }
+    ensures right { IsRight B.meaning parts.new }
+    ensures spans { spans_in parts.new ≡ spans_in parts.old }
+    ensures worked { HasWorked B.meaning (plant_of parts.old) (plant_of parts.new) }
+{
+    for _works in 0..u64::MAX {
+        if !take_next(parts, helpers) {
+            return;
+        }
+    }
+}
+
+// Gives up each claim in flight.
+fn give_all_up<B: Block>(parts: &mut Parts<B>)
+    requires right { IsRight B.meaning parts.old }
+    ensures right { IsRight B.meaning parts.new }
+    ensures spans { spans_in parts.new ≡ spans_in parts.old }
+    ensures worked { HasWorked B.meaning (plant_of parts.old) (plant_of parts.new) }
+    ensures idle { is_idle (plant_of parts.new).state ≡ true }
+{
+    parts.graph.recall();
+    for block in 0..parts.graph.len() {
+        give_up(parts, BlockId(block as u32));
+    }
+}
+
+// Gives up the claim in flight of a block, if it has one.
+fn give_up<B: Block>(parts: &mut Parts<B>, block: BlockId)
+    requires right { IsRight B.meaning parts.old }
+    requires block { block.0 < length (arc_value parts.old.graph).blocks }
+    ensures right { IsRight B.meaning parts.new }
+    ensures spans { spans_in parts.new ≡ spans_in parts.old }
+    ensures worked { HasWorked B.meaning (plant_of parts.old) (plant_of parts.new) }
+    ensures own { (progress_at (plant_of parts.new).state.progress block.0).claimed ≡ 0 }
+    ensures others { (b : ℕ) → (b ≡ block.0 → ⊥) → progress_at (plant_of parts.new).state.progress b ≡ progress_at (plant_of parts.old).state.progress b }
+{
+    parts.graph.recall();
+    if 0 < parts.firings.progress(block).claimed {
+        parts.firings.abandon(block);
+    }
+}
