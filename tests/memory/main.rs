@@ -19,6 +19,7 @@ mod ends;
 mod words;
 
 use crate::launches::Way;
+use crate::piped::Left;
 use crate::served::Case;
 use items::Refusal;
 use std::alloc::Global;
@@ -45,6 +46,7 @@ enum Task {
     Serve(Case),
     Raw,
     Piped,
+    Helped,
     Stall,
     Words,
     Call,
@@ -70,7 +72,8 @@ fn main(rt: HostRuntime) -> ExitCode {
         Task::Launches(way) => launches_task(rt, alloc, before, way),
         Task::Serve(case) => serve_task(rt, alloc, before, case),
         Task::Raw => raw_task(&rt, alloc, before),
-        Task::Piped => (piped_task(rt, alloc, before), None),
+        Task::Piped => (piped_task(rt, alloc, before, piped::answer), None),
+        Task::Helped => (piped_task(rt, alloc, before, |alloc| piped::helped(rt, alloc)), None),
         Task::Stall => (stall_task(rt, alloc, before), None),
         Task::Words | Task::Call | Task::File => {
             (words_task(&rt, &rt, alloc, before, task, &path), None)
@@ -173,9 +176,14 @@ fn raw_task(rt: &impl Abort, alloc: Global, before: u32) -> (&'static str, Optio
     (place(is_early, is_late), fault)
 }
 
-fn piped_task(rt: impl Host, alloc: Global, before: u32) -> &'static str {
+fn piped_task<F: FnOnce(Global) -> Left>(
+    rt: impl Host,
+    alloc: Global,
+    before: u32,
+    answer: F,
+) -> &'static str {
     let is_early = waste(alloc, before);
-    let left = piped::answer(alloc);
+    let left = answer(alloc);
     let is_late = waste(alloc, MANY);
     assert!(&rt;
         piped::is_right(&left),
@@ -322,6 +330,7 @@ fn task_of(name: &str) -> Option<Task> {
         "fork" => Task::Serve(served::FORK),
         "raw" => Task::Raw,
         "piped" => Task::Piped,
+        "helped" => Task::Helped,
         "stall" => Task::Stall,
         "words" => Task::Words,
         "call" => Task::Call,

@@ -1,13 +1,18 @@
-//! A graph file that streams between readers and writers in memory, one of marks among them, of which one allocation may fail.
+//! A graph file that streams between readers and writers in memory, one of marks among them, alone and with threads that help, of which one allocation may fail.
 use crate::streams::Page;
 use flow::streams::open_stream;
 use graph_file::FileFault;
+use helper_threads::HelperThreads;
 use items::Refusal;
 use kinds::Kind;
 use pipeline::{BlockId, ByteOrder, End, Output, Pipeline, PipelineFault, Settled};
 use std::alloc::Global;
 use std::io;
 use std::io::{Read, Write};
+use std::sync::Wait;
+use std::thread::Threads;
+use std::time::{Clock, Duration};
+use streaming::{Helpers, Job, NoHelpers, Unwatched, Worked};
 
 // A source of shorts, a block that adds one, one that keeps the past of two items, and a sink. An item with a tag stands on the tape.
 const FILE: &str = r#"
@@ -93,16 +98,57 @@ pub struct Left {
 
 /// Opens the file, joins it and lets it run.
 pub fn answer(alloc: Global) -> Left {
-    let mut left = Left {
-        items: Page::new(),
-        tags: Page::new(),
-        fault: None,
-    };
+    let mut left = nothing_left();
     match opened(alloc) {
-        Ok(run) => go(alloc, run, &mut left),
+        Ok(run) => go(alloc, run, &mut NoHelpers, &mut left),
         Err(number) => left.fault = Some(number),
     }
     left
+}
+
+/// The same with threads that help, by a clock by which all work is dear.
+pub fn helped<R: Threads + Wait + Clock + Copy + Send + 'static>(rt: R, alloc: Global) -> Left {
+    let mut left = nothing_left();
+    match opened(alloc) {
+        Ok(run) => match HelperThreads::start(Fast { rt }, alloc, run.plant.graph()) {
+            Ok(mut helpers) => {
+                go(alloc, run, &mut helpers, &mut left);
+                helpers.finish();
+            }
+            Err(_) => left.fault = Some(32),
+        },
+        Err(number) => left.fault = Some(number),
+    }
+    left
+}
+
+fn nothing_left() -> Left {
+    Left {
+        items: Page::new(),
+        tags: Page::new(),
+        fault: None,
+    }
+}
+
+// A runtime whose time goes by a million times as fast.
+#[derive(Clone, Copy)]
+struct Fast<R> {
+    rt: R,
+}
+
+impl<R: Threads> Threads for Fast<R> {}
+
+impl<R: Wait> Wait for Fast<R> {}
+
+impl<R: Clock> Clock for Fast<R> {
+    fn monotonic(&self) -> io::Result<Duration> {
+        let time = self.rt.monotonic()?;
+        Ok(Duration::from_nanos((time.as_nanos() as u64).wrapping_mul(1_000_000) >> 1))
+    }
+
+    fn since_1970(&self) -> io::Result<Duration> {
+        self.rt.since_1970()
+    }
 }
 
 fn opened(alloc: Global) -> Result<Run, u32> {
@@ -116,9 +162,14 @@ fn opened(alloc: Global) -> Result<Run, u32> {
     }
 }
 
-fn go(alloc: Global, mut run: Run, left: &mut Left) {
+fn go<H: Helpers<Job<Kind>, Worked<Kind>>>(
+    alloc: Global,
+    mut run: Run,
+    helpers: &mut H,
+    left: &mut Left,
+) {
     let ended = match join(alloc, &mut run) {
-        Ok(()) => run.run(alloc),
+        Ok(()) => run.run_with(alloc, helpers, &mut Unwatched),
         Err(fault) => Err(fault),
     };
     left.fault = match ended {

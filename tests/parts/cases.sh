@@ -26,7 +26,7 @@ add() {
     if [[ ${words[0]-} == run && " ${words[*]} " != *" --one-thread "* && " ${words[*]} " != *" --thread-per-block "* ]]; then
         folder_of[$1/one_thread]=$2
         echo "$1/one_thread"
-        # (between raw files all blocks are on one thread)
+        # (between raw files it asks for nothing else)
         if [[ " ${words[*]} " != *=* ]]; then
             folder_of[$1/thread_per_block]=$2
             echo "$1/thread_per_block"

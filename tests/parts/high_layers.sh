@@ -6,6 +6,6 @@ source "$(dirname -- "$(readlink -f -- "${BASH_SOURCE[0]}")")/../layers.sh"
 
 # (Those whose tests take longest stand first.)
 # shellcheck disable=SC2034  # They are for the script that is sourced.
-folders=(threads streams graph_files terminal) libraries=(flow clap)
+folders=(threads streams graph_files terminal) libraries=(flow helper_threads clap)
 
 "$1"

@@ -7,6 +7,7 @@ mod drawn;
 mod ends;
 mod gates;
 mod growing;
+mod helpers;
 mod leaving;
 mod lengths;
 mod live_runs;

@@ -80,7 +80,7 @@ fn run<R: Threads + Wait + Clock + Copy + Send + Sync + 'static>(
         }
     };
     if !call.ends.are_none() {
-        return run_raw(rt, &call, &file, &mut terminal);
+        return run_raw(threads, rt, &call, &file, &mut terminal);
     }
     serve_file(threads, rt, &call, &file, &mut terminal)
 }

@@ -9,23 +9,34 @@ use flow::fault::Fault;
 use flow::raw_fault::{EndFault, EndPlace, RawFault};
 use flow::reports::streamed;
 use flow::script::ScriptFault;
+use flow::serve::Action;
 use flow::stalls::{Notes, explain_stall};
 use flow::streams::open_stream;
 use flow::telling::report_raw;
 use flowgraph::BlockId;
-use pipeline::{End, Pipeline, Settled};
+use helper_threads::HelperThreads;
+use pipeline::{End, Pipeline, PipelineFault, Settled};
 use script_text::{ByteOut, WriteEnd, push_tag_lines, write_whole};
-use std::alloc::AllocError;
+use std::alloc::{AllocError, Global};
 use std::io::Write;
-use streaming::Watch;
+use std::sync::Wait;
+use std::thread::Threads;
+use std::time::Clock;
+use streaming::{NoHelpers, Watch};
 
 // The exit status of a run that came to rest before all blocks were done.
 const STALLED: u8 = 3;
 
 /// Runs a graph file between files. All of them are opened before the first is read.
-pub fn run_raw<W: Watch>(rt: &HostRuntime, call: &Call<'_>, file: &[u8], watch: &mut W) -> u8 {
+pub fn run_raw<R: Threads + Wait + Clock + Copy + Send + Sync + 'static, W: Watch>(
+    threads: R,
+    rt: &HostRuntime,
+    call: &Call<'_>,
+    file: &[u8],
+    watch: &mut W,
+) -> u8 {
     let mut errors = buffered(rt.alloc(), rt.stderr());
-    match stream(rt, call, file, watch) {
+    match stream(threads, rt, call, file, watch) {
         Ok(None) => 0,
         Ok(Some(stalled)) => {
             if call.notes() == Notes::Shown {
@@ -45,7 +56,8 @@ pub fn run_raw<W: Watch>(rt: &HostRuntime, call: &Call<'_>, file: &[u8], watch: 
 }
 
 // The run, which is returned if it stalled.
-fn stream<'a, W: Watch>(
+fn stream<'a, R: Threads + Wait + Clock + Copy + Send + Sync + 'static, W: Watch>(
+    threads: R,
     rt: &'a HostRuntime,
     call: &Call<'_>,
     file: &[u8],
@@ -57,7 +69,7 @@ fn stream<'a, W: Watch>(
     join_marks(rt, &mut run, ends)?;
     let kept = join_outputs(rt, &mut run, ends)?;
     close_others(&mut run);
-    let settled = go(rt, &mut run, ends, watch)?;
+    let settled = go(threads, rt, &mut run, call, watch)?;
     write_kept(rt, &run, kept)?;
     tell(rt, &run, ends, settled)?;
     match settled {
@@ -90,18 +102,37 @@ fn close_others(run: &mut Stream<'_>) {
 }
 
 // Lets the run go on to its end, and shows how far it is.
-fn go<W: Watch>(
+fn go<R: Threads + Wait + Clock + Copy + Send + Sync + 'static, W: Watch>(
+    threads: R,
     rt: &HostRuntime,
     run: &mut Stream<'_>,
-    ends: &Ends<'_>,
+    call: &Call<'_>,
     watch: &mut W,
 ) -> Result<Settled, Stop> {
-    let ended = run.run_watched(rt.alloc(), watch);
+    let ended = match call.action {
+        Action::Run(_) => run_helped(threads, rt.alloc(), run, watch),
+        _ => run.run_with(rt.alloc(), &mut NoHelpers, watch),
+    };
     watch.end();
     match ended {
         Ok(settled) => Ok(settled),
-        Err(fault) => Err(stop_of(run, ends, fault)),
+        Err(fault) => Err(stop_of(run, &call.ends, fault)),
     }
+}
+
+// The run, with a thread for each other processor that does work where that pays.
+fn run_helped<R: Threads + Wait + Clock + Copy + Send + Sync + 'static, W: Watch>(
+    threads: R,
+    alloc: Global,
+    run: &mut Stream<'_>,
+    watch: &mut W,
+) -> Result<Settled, PipelineFault> {
+    let Ok(mut helpers) = HelperThreads::start(threads, alloc, run.plant.graph()) else {
+        return Err(PipelineFault::Memory);
+    };
+    let ended = run.run_with(alloc, &mut helpers, watch);
+    helpers.finish();
+    ended
 }
 
 // Writes the tags of sinks whose items were kept.

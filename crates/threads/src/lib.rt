@@ -59,4 +59,5 @@ pub use launching::{launch, launch_open, launch_with};
 pub use live_pool::live_adaptive;
 pub use outcome::Outcome;
 pub use running::{Running, run, run_with};
+pub use seats::share_of;
 pub use turns::Turns;

@@ -1,0 +1,16 @@
+//! Threads that help a plant that streams: while its caller's thread steps cheap blocks, they do the work of dear ones.
+//!
+//! ```text
+//! let mut helpers = HelperThreads::start(rt, alloc, plant.graph());
+//! pipeline.run_with(alloc, &mut helpers, &mut Unwatched)?;
+//! helpers.end();
+//! ```
+//!
+//! The plant stays with the caller, who claims firings of a dear block, sends the job, and commits the work that comes back. So no contract speaks of these threads: a
+//! plant takes back the work of a claim in flight alone, whoever brings it. `worth` has all of the policy.
+#![tactic(auto)]
+
+mod helper_threads;
+mod worth;
+
+pub use helper_threads::HelperThreads;
