@@ -1,9 +1,10 @@
 //! A plant runs a graph call by call: feed, set, step, read. Between a claim and its commit a block works apart from the plant. A plant that streams
-//! forgets what was taken of it, so that it runs in constant memory for as long as it is fed; a pipeline does so between readers and writers.
+//! forgets what was taken of it, so that it runs in constant memory for as long as it is fed; a pipeline does so between readers and writers, and threads may help.
 
+pub use helper_threads::HelperThreads;
 pub use pipeline::{End, Input, Output, Pipeline, PipelineFault};
 pub use plant::{
     BlockNeed, Claim, Closed, Did, Fed, Handed, Headway, Job, Need, Opening, Piece, Plant,
     PlantFault, Settled, SinkView, Step, Stored, Taken, Unwatched, Watch, Worked, source_type,
 };
-pub use streaming::{Appended, StreamingPlant};
+pub use streaming::{Appended, Helpers, NoHelpers, StreamingPlant};
