@@ -13,7 +13,7 @@ declare -A folder_of=()
 # Those that are no calls with an input that is there: the program answers a producer that waits for it, and ends where nobody reads on.
 pipes=(pipes/slow_producer pipes/closed_output)
 # And runs whose trace a program of Python reads.
-traces=(traces/adaptive traces/one_thread traces/thread_per_block traces/first_events)
+traces=(traces/adaptive traces/one_thread traces/thread_per_block traces/first_events traces/picture)
 
 # add CASE FOLDER: the case, and the runs of a run on one thread and in one for each block
 add() {
@@ -197,6 +197,20 @@ traces_first_events() {
     traced 20 --one-thread --quiet || return
     if [[ -n $said ]]; then
         echo "standard error: with --quiet came: $said"
+        return 1
+    fi
+}
+
+# traces_picture: the script that draws a trace makes XML, with a rectangle for each turn and each wait that lasts, beside the ground
+traces_picture() {
+    local said='' spans drawn
+    traced 100000 --one-thread || return
+    "$top/scripts/trace_picture.py" "$room/trace" >"$room/picture" || return
+    python3 -c 'import sys, xml.dom.minidom; xml.dom.minidom.parse(sys.argv[1])' "$room/picture" || return
+    spans=$(grep -c '"ph":"X"' "$room/trace")
+    drawn=$(grep -c '^<rect ' "$room/picture")
+    if ((spans < 100 || drawn != spans + 1)); then
+        echo "wanted $spans rectangles and the ground, and there are $drawn"
         return 1
     fi
 }

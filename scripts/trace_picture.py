@@ -1,0 +1,60 @@
+#!/usr/bin/env python3
+"""trace_picture.py TRACE [FIRST [LAST]]: draws a trace of `flow run --trace` as SVG: a row for each block, its turns dark, its waits pale, from FIRST to LAST microseconds."""
+
+import json
+import sys
+from xml.sax.saxutils import escape
+
+# In pixels: the width of a picture, of the names, and the height of a row.
+WIDTH, NAMES, ROW = 960, 90, 26
+COLORS = {"turn": "#2c6fbb", "wait": "#f0d9b5"}
+
+
+def read(path):
+    """The names of the tracks by their numbers, and the spans that last."""
+    with open(path, encoding="utf-8") as file:
+        events = json.load(file)["traceEvents"]
+    names = {it["tid"]: it["args"]["name"] for it in events if it["name"] == "thread_name"}
+    return names, [it for it in events if it["ph"] == "X"]
+
+
+def rectangle(span, first, scale):
+    """A span as a rectangle, with its name and how long it took for who points at it."""
+    left = NAMES + (span["ts"] - first) * scale
+    width = max(span["dur"] * scale, 0.3)
+    top = (span["tid"] - 1) * ROW + 4
+    title = escape(f"{span['name']}: {span['dur']} us")
+    return f'<rect x="{left:.2f}" y="{top}" width="{width:.2f}" height="{ROW - 8}" fill="{COLORS[span["cat"]]}"><title>{title}</title></rect>'
+
+
+def picture(names, spans, first, last):
+    """The lines of the picture."""
+    scale = (WIDTH - NAMES) / (last - first)
+    height = len(names) * ROW + 24
+    yield f'<svg xmlns="http://www.w3.org/2000/svg" viewBox="0 0 {WIDTH} {height}" font-family="sans-serif" font-size="12">'
+    yield f'<rect width="{WIDTH}" height="{height}" fill="white"/>'
+    for span in spans:
+        if first <= span["ts"] and span["ts"] + span["dur"] <= last:
+            yield rectangle(span, first, scale)
+    for number, name in names.items():
+        yield f'<text x="4" y="{number * ROW - 9}">{escape(name)}</text>'
+    for part in range(5):
+        time = first + (last - first) * part / 4
+        anchor = "end" if part == 4 else "middle"
+        yield f'<text x="{NAMES + (time - first) * scale:.0f}" y="{height - 8}" text-anchor="{anchor}">{time:.0f} us</text>'
+    yield "</svg>"
+
+
+def main(words):
+    if not 1 <= len(words) <= 3:
+        sys.exit(__doc__)
+    names, spans = read(words[0])
+    first = float(words[1]) if len(words) > 1 else 0.0
+    last = float(words[2]) if len(words) > 2 else max((it["ts"] + it["dur"] for it in spans), default=first + 1)
+    if last <= first:
+        sys.exit("trace_picture: LAST has to be behind FIRST")
+    print("\n".join(picture(names, spans, first, last)))
+
+
+if __name__ == "__main__":
+    main(sys.argv[1:])
