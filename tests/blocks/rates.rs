@@ -1,6 +1,6 @@
 //! The blocks that change a rate or move a stream.
 use super::runs::{LANE_COUNTS, Trials, is_bad, ramp};
-use block_kinds::Parameter;
+use parameters::Parameter;
 use items::ItemType::{Byte, Int, Short};
 use rate_blocks::{Delay, Head, KeepOneInN, Repeat, SkipHead};
 use std::test::Fail;

@@ -1,5 +1,5 @@
 //! Graphs as the tests write them down.
-use block_kinds::ParamFault;
+use parameters::ParamFault;
 use flowgraph::{BlockId, Graph, GraphFault, Options, Policy, Valid};
 use items::ItemType;
 use kinds::{Kind, VectorSink, VectorSource};

@@ -10,7 +10,8 @@ ghost use Rattle.kernel_bench.specs.Calls.{CanCall};
 
 use crate::contest::{RUN_TIME, RUNS, Row, copies, noise, print_row};
 use crate::item::Item;
-use block_kinds::{Block, Held, ParamFault, Role};
+use block_kinds::{Block, Held, Role};
+use parameters::ParamFault;
 use items::Items;
 use settings::Timeline;
 use std::alloc::Global;

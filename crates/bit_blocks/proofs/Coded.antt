@@ -4,10 +4,10 @@ use Rattle.std.specs.Prelude.{◌-ℤ◌}
 use Rattle.std.proofs.lemmas.List.{get_or-drop, length-drop}
 use Rattle.stream_model.specs.Lists.{item, item_before}
 use Rattle.stream_model.specs.Numbers.{residue}
-use Rattle.stream_model.specs.Kernels.{previous, diff_decode}
+use Rattle.kind_model.specs.Kernels.{previous, diff_decode}
 use Rattle.stream_model.specs.Settings.{Held}
 use Rattle.stream_model.specs.Meaning.{IsFed, input, given_items}
-use Rattle.stream_model.specs.Kinds.Bits.{diff_decoder}
+use Rattle.kind_model.specs.Bits.{diff_decoder}
 use Rattle.block_kinds.specs.Shape.{IsPaced}
 use Rattle.block_kinds.proofs.Fills.{paced, length-paced, past-paced, before-none, given-paced}
 

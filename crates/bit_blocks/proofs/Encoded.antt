@@ -1,9 +1,9 @@
 -- The sum of all bytes so far, as a code.
 use Rattle.std.proofs.Common.{ℕ, ◌<◌, ◌≤◌, pos, refl, ap}
 use Rattle.stream_model.specs.Meaning.{input}
-use Rattle.stream_model.specs.Kinds.Bits.{diff_encoder}
-use Rattle.kind_laws.specs.Windows.{running_sum-more}
-use Rattle.kind_laws.specs.Shared.{residue-less}
+use Rattle.kind_model.specs.Bits.{diff_encoder}
+use Rattle.kind_laws.specs.Bits.{running_sum-more}
+use Rattle.shape_laws.specs.Shaped.{residue-less}
 use Rattle.bit_blocks.specs.Codes.{summed, IsCode}
 
 pub encoder-coded : (m : ℕ) → 1 ≤ m → IsCode (diff_encoder m) 0 (λ word. word < m) (summed m) (summed m)

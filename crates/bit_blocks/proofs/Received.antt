@@ -5,10 +5,10 @@ use borrow.Rule.Slice.PartMut.{put_mid, post_of}
 use Rattle.std.proofs.lemmas.Nat.{pow_pos, mod_below}
 use Rattle.stream_model.specs.Lists.{item, numbers_from}
 use Rattle.stream_model.specs.Numbers.{residue}
-use Rattle.stream_model.specs.Kinds.Bits.{place_in, masked, register_of, received, low_bit}
+use Rattle.kind_model.specs.Bits.{place_in, masked, register_of, received, low_bit}
 use Rattle.kind_laws.specs.Bits.{register_of-places}
 use Rattle.kind_laws.specs.Registers.{received-out, received-word, sum-more}
-use Rattle.kind_laws.specs.Shared.{map-same, get_or-map_numbers, length-map_numbers}
+use Rattle.shape_laws.specs.Shaped.{map-same, get_or-map_numbers, length-map_numbers}
 use Rattle.bit_blocks.specs.Codes.{masked_before, coded, word_after, given_bit, followed}
 use Rattle.bit_blocks.proofs.Codes.{coded-append, coded-stream}
 

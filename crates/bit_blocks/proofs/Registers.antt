@@ -4,8 +4,8 @@ use Rattle.std.specs.Int.RustNames.{count_ones}
 use Rattle.std.proofs.lemmas.Nat.{and_shr, and_mod, and_le_l, mod_below, mod-pow-add, pow_pos, ones_cat, ones-le}
 use Rattle.std.proofs.Math.Nat.{add_comm}
 use Rattle.stream_model.specs.Lists.{numbers_from}
-use Rattle.stream_model.specs.Kinds.Bits.{place_in, places_of, masked}
-use Rattle.kind_laws.specs.Shared.{get_or-map_numbers}
+use Rattle.kind_model.specs.Bits.{place_in, places_of, masked}
+use Rattle.shape_laws.specs.Shaped.{get_or-map_numbers}
 use Rattle.kind_laws.specs.Registers.{sum-more}
 
 -- the sum up to one place more

@@ -6,8 +6,8 @@ use Rattle.stream_model.specs.Lists.{item, numbers_from}
 use Rattle.stream_model.specs.Numbers.{residue}
 use Rattle.stream_model.specs.Settings.{Held}
 use Rattle.stream_model.specs.Meaning.{Meaning, input}
-use Rattle.stream_model.specs.Kinds.Shapes.{sync}
-use Rattle.stream_model.specs.Kinds.Bits.{place_in, masked, places_of, low_bit}
+use Rattle.stream_model.specs.Shapes.{sync}
+use Rattle.kind_model.specs.Bits.{place_in, masked, places_of, low_bit}
 use Rattle.items.specs.declared.stream_items.Items.{Items}
 use Rattle.items.specs.Items.{type_of, numbers_of, spare_of}
 use Rattle.block_kinds.specs.Fill.{IsSingle}

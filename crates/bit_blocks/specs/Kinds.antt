@@ -4,7 +4,7 @@ use Rattle.std.specs.Cmp.{first_so, second_so}
 use Rattle.block_kinds.specs.SameItem.{same_number}
 use Rattle.std.proofs.Common.{arith}
 use Rattle.stream_model.specs.Meaning.{Meaning}
-use Rattle.stream_model.specs.Kinds.Bits.{diff_decoder, diff_encoder}
+use Rattle.kind_model.specs.Bits.{diff_decoder, diff_encoder}
 use Rattle.bit_blocks.specs.declared.k_bits.KBits.{KBits}
 use Rattle.bit_blocks.specs.declared.modulus.Modulus.{Modulus}
 use Rattle.bit_blocks.specs.declared.register.Register.{Register}

@@ -6,12 +6,12 @@ use Rattle.std.proofs.Math.Nat.{mul-add-div, mul-add-mod_self_left, mul-div_canc
 use Rattle.stream_model.specs.declared.vocabulary.ItemType.TheVariants.{Byte}
 use Rattle.stream_model.specs.Lists.{item}
 use Rattle.stream_model.specs.Numbers.{residue, floor_div}
-use Rattle.stream_model.specs.Kernels.{pack_bits, packed, unpack_bits, unpacked}
+use Rattle.kind_model.specs.Kernels.{pack_bits, packed, unpack_bits, unpacked}
 use Rattle.stream_model.specs.Settings.{Held}
 use Rattle.stream_model.specs.Meaning.{Meaning, IsFed, input, given_items}
-use Rattle.stream_model.specs.Kinds.Shapes.{ports, at_rate}
-use Rattle.stream_model.specs.Kinds.Bits.{pack_k_bits, unpack_k_bits}
-use Rattle.kind_laws.specs.Shared.{sum_below-same}
+use Rattle.stream_model.specs.Shapes.{ports, at_rate}
+use Rattle.kind_model.specs.Bits.{pack_k_bits, unpack_k_bits}
+use Rattle.shape_laws.specs.Shaped.{sum_below-same}
 use Rattle.kind_laws.specs.Rates.{item_of_firing}
 use Rattle.block_kinds.specs.Fill.{IsSingle}
 use Rattle.block_kinds.specs.Shape.{IsPaced}

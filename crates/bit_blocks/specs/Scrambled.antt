@@ -4,7 +4,7 @@ use Rattle.std.proofs.Common.{arith, ap, ◌∙◌}
 use Rattle.stream_model.specs.Lists.{item}
 use Rattle.stream_model.specs.Numbers.{residue}
 use Rattle.stream_model.specs.Meaning.{input}
-use Rattle.stream_model.specs.Kinds.Bits.{register_of, scrambled, received, shifted, scrambler, descrambler, additive_scrambler}
+use Rattle.kind_model.specs.Bits.{register_of, scrambled, received, shifted, scrambler, descrambler, additive_scrambler}
 use Rattle.kind_laws.specs.Registers.{register_of-less, AreBits-scrambled, AreBits-received, AreBits-shifted, scrambled-out, scrambled-word, received-out, received-word, shifted-out, shifted-word}
 use Rattle.bit_blocks.specs.Codes.{given_bit, fed_register, IsCode}
 

@@ -22,7 +22,7 @@ impl Feed for OwnFeed {
 }
 
 impl Scrambling for OwnFeed {
-    ghost use Rattle.stream_model.specs.Kinds.Bits.{additive_scrambler};
+    ghost use Rattle.kind_model.specs.Bits.{additive_scrambler};
     ghost use Rattle.kind_laws.specs.Bits.{additive_scrambler-lawful};
     ghost use Rattle.bit_blocks.specs.Scrambled.{additive_scrambler-coded};
 

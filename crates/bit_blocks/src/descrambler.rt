@@ -59,7 +59,7 @@ fn descramble(register: &Register, start: u64, bytes: &[u8], out: &mut Vec<u8>) 
 }
 
 impl Scrambling for InputFeed {
-    ghost use Rattle.stream_model.specs.Kinds.Bits.{descrambler};
+    ghost use Rattle.kind_model.specs.Bits.{descrambler};
     ghost use Rattle.kind_laws.specs.Bits.{descrambler-lawful};
     ghost use Rattle.bit_blocks.specs.Scrambled.{descrambler-coded};
 

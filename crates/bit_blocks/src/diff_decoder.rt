@@ -1,12 +1,13 @@
 //! The block that gives the difference of each byte and the one before it, modulo `modulus`.
 ghost use Rattle.std.specs.Prelude.{◌≡◌, ◌≤◌, ◌↔◌, IsOk, IfOk, IfErr};
-ghost use Rattle.stream_model.specs.Kinds.Bits.{diff_decoder};
+ghost use Rattle.kind_model.specs.Bits.{diff_decoder};
 
 use crate::modulus::Modulus;
-use block_kinds::{Batch, Block, ByPace, Held, ParamFault, Parameter, Shape, Single, work_single};
+use block_kinds::{Batch, Block, ByPace, Held, Shape, Single, work_single};
 use items::{ItemType, Items};
 use lane_filters::diff_decode;
 use lane_work::{ByteWork, make_bytes};
+use parameters::{ParamFault, Parameter};
 
 /// The difference of each byte and the one before it, modulo `modulus`, as GNU Radio's `diff_decoder_bb`.
 #[derive(Debug, Drop, PartialEq, Eq)]
@@ -32,7 +33,7 @@ impl DiffDecoder {
 impl ByteWork for DiffDecoder {
     ghost use Rattle.std.specs.Prelude.{length, drop, ◌+◌};
     ghost use Rattle.stream_model.specs.Lists.{item};
-    ghost use Rattle.stream_model.specs.Kernels as kernels;
+    ghost use Rattle.kind_model.specs.Kernels as kernels;
 
     ghost can_make = { λ b xs count. length xs ≡ 1 + count };
 
@@ -59,7 +60,7 @@ impl Single for DiffDecoder {
 
 impl Block for DiffDecoder {
     ghost use Rattle.std.proofs.Common.{ap};
-    ghost use Rattle.stream_model.specs.Kinds.Bits.{diff_decoder};
+    ghost use Rattle.kind_model.specs.Bits.{diff_decoder};
     ghost use Rattle.kind_laws.specs.Bits.{diff_decoder-lawful};
     ghost use Rattle.block_kinds.specs.SameItem.{same_number};
     ghost use Rattle.bit_blocks.specs.Kinds.{diff_decoder_of, some_modulus};

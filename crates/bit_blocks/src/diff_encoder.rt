@@ -2,12 +2,13 @@
 ghost use Rattle.std.specs.Prelude.{◌≡◌, ◌+◌, ◌≤◌, ◌<◌, ◌↔◌, [], length, IsOk, IfOk, IfErr};
 ghost use Rattle.items.specs.Items.{numbers_of, spare_of};
 ghost use Rattle.bit_blocks.specs.Codes.{summed, CanCode, HasCoded};
-ghost use Rattle.stream_model.specs.Kinds.Bits.{diff_encoder};
+ghost use Rattle.kind_model.specs.Bits.{diff_encoder};
 
 use crate::code::{Coder, code};
 use crate::modulus::Modulus;
-use block_kinds::{Batch, Block, ByPace, Held, ParamFault, Parameter, Shape, Single, work_single};
+use block_kinds::{Batch, Block, ByPace, Held, Shape, Single, work_single};
 use items::{ItemType, Items};
+use parameters::{ParamFault, Parameter};
 
 /// The sum of all bytes so far, modulo `modulus`, as GNU Radio's `diff_encoder_bb`.
 #[derive(Debug, Drop, PartialEq, Eq)]
@@ -83,7 +84,7 @@ impl Single for DiffEncoder {
 
 impl Block for DiffEncoder {
     ghost use Rattle.std.proofs.Common.{ap};
-    ghost use Rattle.stream_model.specs.Kinds.Bits.{diff_encoder};
+    ghost use Rattle.kind_model.specs.Bits.{diff_encoder};
     ghost use Rattle.kind_laws.specs.Bits.{diff_encoder-lawful};
     ghost use Rattle.block_kinds.specs.SameItem.{same_number};
     ghost use Rattle.bit_blocks.specs.Kinds.{diff_encoder_of, some_modulus};

@@ -2,11 +2,10 @@
 ghost use Rattle.std.specs.Prelude.{◌≡◌, ◌≤◌, ◌↔◌, IsOk, IfOk, IfErr};
 
 use crate::packing::Packing;
-use block_kinds::{
-    Batch, Block, ByPace, Held, ParamFault, Parameter, Shape, Single, ports, work_single,
-};
+use block_kinds::{Batch, Block, ByPace, Held, Shape, Single, ports, work_single};
 use items::{ItemType, Items};
 use lane_work::{ByteWork, make_bytes};
+use parameters::{ParamFault, Parameter};
 use std::marker::PhantomData;
 
 /// A block that goes between `k` bits and a byte. `P` says which way.

@@ -12,8 +12,8 @@ pub type PackKBits = KBits<Pack>;
 pub struct Pack;
 
 impl Packing for Pack {
-    ghost use Rattle.stream_model.specs.Kernels as kernels;
-    ghost use Rattle.stream_model.specs.Kinds.Bits.{pack_k_bits};
+    ghost use Rattle.kind_model.specs.Kernels as kernels;
+    ghost use Rattle.kind_model.specs.Bits.{pack_k_bits};
     ghost use Rattle.kind_laws.specs.Bits.{pack_k_bits-lawful};
     ghost use Rattle.bit_blocks.specs.Packed.{pack_k_bits-packed};
 

@@ -1,9 +1,9 @@
 //! Shift registers.
 ghost use Rattle.std.specs.Prelude.{◌≡◌, ◌^◌, ◌<◌, ◌≤◌, ◌+◌, ◌*◌, ◌%◌, ◌↔◌, ◌⊎◌, IsOk, IfOk, IsErrOf};
-ghost use Rattle.stream_model.specs.Kinds.Bits.{masked, places_of};
+ghost use Rattle.kind_model.specs.Bits.{masked, places_of};
 ghost use Rattle.bit_blocks.specs.Registers.{IsRegister};
 
-use block_kinds::{ParamFault, Parameter};
+use parameters::{ParamFault, Parameter};
 
 /// No register has more bits.
 pub(crate) const MOST_BITS: usize = 32;

@@ -22,7 +22,7 @@ impl Feed for OutputFeed {
 }
 
 impl Scrambling for OutputFeed {
-    ghost use Rattle.stream_model.specs.Kinds.Bits.{scrambler};
+    ghost use Rattle.kind_model.specs.Bits.{scrambler};
     ghost use Rattle.kind_laws.specs.Bits.{scrambler-lawful};
     ghost use Rattle.bit_blocks.specs.Scrambled.{scrambler-coded};
 

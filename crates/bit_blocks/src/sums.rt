@@ -1,6 +1,6 @@
 //! Sums of bytes, many at a time.
 ghost use Rattle.std.specs.Prelude.{◌≡◌, ◌≤◌, ◌<◌, ◌+◌, ◌-◌, ◌*◌, ◌/◌, ◌%◌, ◌^◌, ℕ, length, map, take, drop, pos, slice_index_or};
-ghost use Rattle.stream_model.specs.Kinds.Bits.{low_bit};
+ghost use Rattle.kind_model.specs.Bits.{low_bit};
 ghost use Rattle.bit_blocks.specs.Codes.{masked_before};
 ghost use Rattle.bit_blocks.specs.declared.register.TheConstants.{MOST_BITS};
 

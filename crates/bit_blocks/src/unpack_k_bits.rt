@@ -12,8 +12,8 @@ pub type UnpackKBits = KBits<Unpack>;
 pub struct Unpack;
 
 impl Packing for Unpack {
-    ghost use Rattle.stream_model.specs.Kernels as kernels;
-    ghost use Rattle.stream_model.specs.Kinds.Bits.{unpack_k_bits};
+    ghost use Rattle.kind_model.specs.Kernels as kernels;
+    ghost use Rattle.kind_model.specs.Bits.{unpack_k_bits};
     ghost use Rattle.kind_laws.specs.Bits.{unpack_k_bits-lawful};
     ghost use Rattle.bit_blocks.specs.Packed.{unpack_k_bits-packed};
 

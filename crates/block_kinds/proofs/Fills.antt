@@ -1,15 +1,14 @@
 -- What the window of a block with one input has, and what is to be written, item by item.
 use Rattle.std.proofs.Common.{◌≡◌, ℕ, zero, suc, ◌+◌, ◌-◌, ◌*◌, ◌<◌, ◌≤◌, ℤ, pos, List, [], ◌∷◌, Option, length, map, refl, arith, ap, ap₂, sym, ◌∙◌}
 use Rattle.std.proofs.lemmas.Bool.Decides.{nat_tests}
-use Rattle.stream_model.specs.Lists.{item, item_before, window, numbers_from}
+use Rattle.stream_model.specs.Lists.{item, item_before, window, numbers_from, listed}
 use Rattle.stream_model.specs.Settings.{Held, Value}
-use Rattle.stream_model.specs.Kernels.{listed}
 use Rattle.stream_model.specs.Meaning.{Meaning, IsFed, input, windows_of, given_items}
 use Rattle.stream_model.specs.declared.vocabulary.Signature.{Signature}
 use Rattle.stream_model.specs.declared.vocabulary.Wanted.{Wanted}
 use Rattle.std.proofs.lemmas.List.{ext_get_or}
-use Rattle.kind_laws.specs.Shared.{shaped, item-listed, length-listed}
-use Rattle.kind_laws.specs.Windows.{item-window, length-window, past-window}
+use Rattle.shape_laws.specs.Shaped.{shaped, item-listed, length-listed}
+use Rattle.shape_laws.specs.Windows.{item-window, length-window, past-window}
 use Rattle.block_kinds.specs.Shape.{IsPaced}
 
 -- items that are given one by one, and those that firings give

@@ -3,7 +3,7 @@ use Rattle.std.proofs.Common.{◌≡◌, ℕ, zero, suc, ◌+◌, ◌-◌, ◌*�
 use Rattle.stream_model.specs.Lists.{item, item_before, window}
 use Rattle.stream_model.specs.Settings.{Held}
 use Rattle.stream_model.specs.Meaning.{Meaning, IsFed, input, windows_from}
-use Rattle.kind_laws.specs.Windows.{item-window, length-window}
+use Rattle.shape_laws.specs.Windows.{item-window, length-window}
 use Rattle.block_kinds.proofs.Fills.{before-none}
 
 -- there is a window for each input

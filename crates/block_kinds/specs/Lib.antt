@@ -1,4 +1,3 @@
-pub mod Fault
 pub mod Fill
 pub mod InForce
 pub mod SameItem

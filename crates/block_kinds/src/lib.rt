@@ -2,13 +2,11 @@
 #![tactic(auto)]
 
 pub mod block;
-pub mod fault;
 pub mod placing;
 pub mod shape;
 pub mod single;
 
 pub use block::Block;
-pub use fault::{ParamFault, Parameter};
 pub use placing::{ByPace, Placing};
 pub use settings::{Held, Taps, Value};
 pub use shape::{Pace, Setting, Shape, any_ports, ports};

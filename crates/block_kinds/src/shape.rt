@@ -1,6 +1,6 @@
 //! What the ports, counts and setting of a block are, as plain data.
 ghost use Rattle.std.specs.Prelude.{◌≡◌};
-ghost use Rattle.stream_model.specs.Kinds.Shapes.{ports, any_ports};
+ghost use Rattle.stream_model.specs.Shapes.{ports, any_ports};
 
 use stream_model::{ItemType, Role, Signature};
 

@@ -1,12 +1,12 @@
 //! What may stand in a table of a graph file.
 
 use crate::document::Document;
-use block_kinds::Parameter;
 use graph_file::FilePlace;
 use items::ItemType;
 use kind_keys::table::{small_at, type_at};
 use kind_keys::{Key, ValueForm, keys_of};
 use kinds::KindName;
+use parameters::Parameter;
 use std::alloc::{AllocError, Global};
 
 const ANY_TYPE: &str = "\"byte\", \"short\" or \"int\"";

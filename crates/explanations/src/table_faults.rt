@@ -8,12 +8,12 @@ use crate::frame::Finding;
 use crate::looks::shown;
 use crate::near::near_name;
 use crate::tokens::part;
-use block_kinds::Parameter;
 use graph_file::FilePlace;
 use items::TagKey;
 use kind_keys::table::{has_only, keys_fault, text_at, value_at, values_at};
 use kind_keys::{Key, KeyFault, ValueForm};
 use kinds::KindName;
+use parameters::Parameter;
 use std::alloc::AllocError;
 use toml::{Table, Value};
 

@@ -4,13 +4,12 @@ use Rattle.std.proofs.lemmas.Nat.{div_below}
 use Rattle.std.proofs.Math.Nat.{mul-add-div, mul-add-mod_self_left}
 use Rattle.stream_model.specs.declared.vocabulary.ItemType.{ItemType}
 use Rattle.stream_model.specs.Numbers.{sat, rnd}
-use Rattle.stream_model.specs.Lists.{item, item_before}
-use Rattle.stream_model.specs.Kernels.{listed}
+use Rattle.stream_model.specs.Lists.{item, item_before, listed}
 use Rattle.stream_model.specs.Settings.{Held, Taps, between}
 use Rattle.stream_model.specs.Meaning.{Meaning, IsFed, input, held_of, given_items}
-use Rattle.stream_model.specs.Kinds.Shapes.{taps_at, taps_set}
-use Rattle.stream_model.specs.Kinds.Filters.{tapped, fir, interp_fir, branch_taps}
-use Rattle.kind_laws.specs.Shared.{sum_below-same}
+use Rattle.stream_model.specs.Shapes.{taps_at, taps_set}
+use Rattle.kind_model.specs.Filters.{tapped, fir, interp_fir, branch_taps}
+use Rattle.shape_laws.specs.Shaped.{sum_below-same}
 use Rattle.kind_laws.specs.Rates.{item_of_firing}
 use Rattle.block_kinds.specs.Shape.{IsPaced}
 use Rattle.block_kinds.proofs.Fills.{paced, past-paced, given-paced}

@@ -6,9 +6,8 @@ use borrow.Rule.Slice.PartMut.{put_mid}
 use Rattle.std.proofs.Math.Nat.{mul-add-div, mul-add-mod_self_left}
 use Rattle.stream_model.specs.declared.vocabulary.ItemType.{ItemType}
 use Rattle.stream_model.specs.Numbers.{sat, rnd}
-use Rattle.stream_model.specs.Lists.{item}
-use Rattle.stream_model.specs.Kernels.{listed}
-use Rattle.kind_laws.specs.Shared.{sum_below-same, item-listed, length-listed}
+use Rattle.stream_model.specs.Lists.{item, listed}
+use Rattle.shape_laws.specs.Shaped.{sum_below-same, item-listed, length-listed}
 use Rattle.kind_laws.specs.Rates.{item_of_firing}
 use Rattle.fir_blocks.specs.declared.polyphase.Polyphase.{Polyphase}
 use Rattle.fir_blocks.specs.Polyphase.{phased}

@@ -3,9 +3,9 @@ use Rattle.std.proofs.Common.{◌≡◌, ℕ, ◌+◌, ◌-◌, ◌*◌, ◌/◌
 use Rattle.std.proofs.lemmas.List.{get_or-take}
 use Rattle.stream_model.specs.declared.vocabulary.ItemType.{ItemType}
 use Rattle.stream_model.specs.Numbers.{sat, rnd}
-use Rattle.stream_model.specs.Lists.{item}
-use Rattle.stream_model.specs.Kernels.{sum_below, fir_row}
-use Rattle.kind_laws.specs.Shared.{item-listed, sum_below-same}
+use Rattle.stream_model.specs.Lists.{item, sum_below}
+use Rattle.kind_model.specs.Kernels.{fir_row}
+use Rattle.shape_laws.specs.Shaped.{item-listed, sum_below-same}
 use Rattle.fir_blocks.specs.declared.polyphase.Polyphase.{Polyphase}
 use Rattle.fir_blocks.specs.Polyphase.{phased}
 use Rattle.fir_blocks.proofs.Products.{sum_reversed}

@@ -7,9 +7,9 @@ use Rattle.std.proofs.Math.Nat.{mul-le-mul}
 use Rattle.stream_model.specs.declared.vocabulary.ItemType.{ItemType}
 use Rattle.stream_model.specs.declared.vocabulary.ItemType.TheVariants.{Byte, Short, Int}
 use Rattle.stream_model.specs.Numbers.{IsItem, AreItems, total}
-use Rattle.stream_model.specs.Lists.{item, numbers_from}
-use Rattle.stream_model.specs.Kernels.{sum_below, dot}
-use Rattle.kind_laws.specs.Shared.{IsItem-item, sum_below-same}
+use Rattle.stream_model.specs.Lists.{item, numbers_from, sum_below}
+use Rattle.kind_model.specs.Kernels.{dot}
+use Rattle.shape_laws.specs.Shaped.{IsItem-item, sum_below-same}
 
 abs_add : (x y : ℤ) → unsigned_abs (x +ℤ y) ≤ unsigned_abs x + unsigned_abs y
 abs_add x y = omega (arith, ints)

@@ -5,7 +5,7 @@ use Rattle.std.proofs.lemmas.Bool.{cases_lt}
 use Rattle.std.proofs.lemmas.Grind.{div_ceil_times}
 use Rattle.std.proofs.lemmas.List.{drop-map, length-map, drop_all}
 use Rattle.stream_model.specs.Settings.{Held}
-use Rattle.stream_model.specs.Kinds.Shapes.{taps_set}
+use Rattle.stream_model.specs.Shapes.{taps_set}
 use Rattle.block_kinds.specs.InForce.{AreOver}
 use Rattle.block_kinds.proofs.InForce.{latest-taken, latest-later, latest-rising}
 use Rattle.fir_blocks.specs.Polyphase.{taps_among, end_before, AreOverFirings}

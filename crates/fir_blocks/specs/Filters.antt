@@ -4,8 +4,8 @@ use Rattle.stream_model.specs.declared.vocabulary.ItemType.{ItemType}
 use Rattle.stream_model.specs.declared.vocabulary.Wanted.TheVariants as wanted
 use Rattle.stream_model.specs.Settings.{Held, Taps}
 use Rattle.stream_model.specs.Meaning.{Meaning, input}
-use Rattle.stream_model.specs.Kinds.Shapes.{ports, at_rate, taps_at}
-use Rattle.stream_model.specs.Kinds.Filters.{tapped}
+use Rattle.stream_model.specs.Shapes.{ports, at_rate, taps_at}
+use Rattle.kind_model.specs.Filters.{tapped}
 use Rattle.fir_blocks.specs.declared.polyphase.Polyphase.{Polyphase}
 
 -- a block with these taps, of which each item is what the filter gives under the taps in force

@@ -3,10 +3,9 @@ use Rattle.std.specs.Prelude.{◌≡◌, ◌≤◌, ℕ, ◌+◌, ◌-◌, ◌*�
 use Rattle.std.specs.Int.{div_ceil}
 use Rattle.stream_model.specs.declared.vocabulary.ItemType.{ItemType}
 use Rattle.stream_model.specs.Numbers.{sat, rnd}
-use Rattle.stream_model.specs.Lists.{item}
-use Rattle.stream_model.specs.Kernels.{sum_below}
+use Rattle.stream_model.specs.Lists.{item, sum_below}
 use Rattle.stream_model.specs.Settings.{Held, latest}
-use Rattle.stream_model.specs.Kinds.Shapes.{taps_set}
+use Rattle.stream_model.specs.Shapes.{taps_set}
 use Rattle.block_kinds.specs.InForce.{AreRising}
 use Rattle.fir_blocks.specs.declared.polyphase.Polyphase.{Polyphase}
 

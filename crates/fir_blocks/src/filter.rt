@@ -3,14 +3,13 @@ ghost use Rattle.std.specs.Prelude.{◌≡◌, ◌≢◌, ◌≤◌, length, IfO
 ghost use Rattle.stream_model.specs.declared.vocabulary.ItemType.TheVariants as types;
 
 use crate::filter_rate::FilterRate;
-use crate::parameters::first_bad;
+use crate::first_bad::first_bad;
 use crate::polyphase::Polyphase;
 use crate::stretch::filter_items;
-use block_kinds::{
-    Batch, Block, ByPace, Held, ParamFault, Setting, Shape, Single, ports, work_single,
-};
+use block_kinds::{Batch, Block, ByPace, Held, Setting, Shape, Single, ports, work_single};
 use items::{ItemType, Items};
 use numbers::vectors::narrowed;
+use parameters::ParamFault;
 use std::alloc::Global;
 use std::marker::PhantomData;
 

@@ -4,8 +4,8 @@
 pub mod filter;
 mod filter_rate;
 pub mod fir;
+mod first_bad;
 pub mod interp_fir;
-mod parameters;
 mod polyphase;
 mod stretch;
 mod tap_lane;

@@ -1,7 +1,6 @@
 //! Polyphase filters: each output of a firing has a branch of the taps of its own.
 ghost use Rattle.std.specs.Prelude.{◌≡◌, ◌≢◌, ◌+◌, ◌-◌, ◌*◌, ◌%◌, ◌<◌, ◌≤◌, ◌*ℤ◌, ℕ, length, map};
-ghost use Rattle.stream_model.specs.Lists.{item};
-ghost use Rattle.stream_model.specs.Kernels.{sum_below};
+ghost use Rattle.stream_model.specs.Lists.{item, sum_below};
 ghost use Rattle.stream_model.specs.Numbers.{sat, rnd};
 
 use crate::tap_lane::{TapLane, output};

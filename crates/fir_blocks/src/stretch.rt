@@ -1,9 +1,8 @@
 //! Stretches of firings between two settings of taps.
 ghost use Rattle.std.specs.Prelude.{◌≡◌, ◌≢◌, ◌+◌, ◌-◌, ◌*◌, ◌/◌, ◌^◌, ◌<◌, ◌≤◌, ℕ, [], length, map, drop, vec_len, vec_capacity};
 ghost use Rattle.stream_model.specs.declared.vocabulary.ItemType.TheVariants.{Byte};
-ghost use Rattle.stream_model.specs.Lists.{item};
-ghost use Rattle.stream_model.specs.Kernels.{listed};
-ghost use Rattle.stream_model.specs.Kinds.Shapes.{taps_set};
+ghost use Rattle.stream_model.specs.Lists.{item, listed};
+ghost use Rattle.stream_model.specs.Shapes.{taps_set};
 ghost use Rattle.items.specs.Items.{type_of, numbers_of, spare_of};
 ghost use Rattle.settings.specs.Values.{value_of, held_of};
 ghost use Rattle.fir_blocks.specs.Polyphase.{phased, IsSized, taps_among, end_before, AreOverFirings};

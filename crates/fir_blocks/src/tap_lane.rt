@@ -2,7 +2,7 @@
 ghost use Rattle.std.specs.Prelude.{◌≡◌, ◌≤◌, ◌^◌, pos, length, map};
 ghost use Rattle.std.specs.Int.RustNames.{unsigned_abs};
 ghost use Rattle.stream_model.specs.Numbers.{sat, rnd};
-ghost use Rattle.stream_model.specs.Kernels as kernels;
+ghost use Rattle.kind_model.specs.Kernels as kernels;
 
 use lane_filters::{FilterLane, dot_i16, dot_i32};
 use numbers::vectors::are_in_range;

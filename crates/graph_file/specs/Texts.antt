@@ -8,7 +8,7 @@ use Rattle.flowgraph.specs.declared.fault.Side.{Side}
 use Rattle.flowgraph.specs.Fault.{side_text, limit_text, option_text}
 use Rattle.kind_keys.specs.declared.fault.KeyFault.{KeyFault}
 use Rattle.kind_keys.specs.declared.fault.KeyFault.TheVariants as key
-use Rattle.block_kinds.specs.Fault.{parameter_text}
+use Rattle.parameters.specs.Fault.{parameter_text}
 use Rattle.kind_keys.specs.Keys.{text_of}
 use Rattle.graph_file.specs.declared.fault.FilePlace.{FilePlace}
 use Rattle.graph_file.specs.declared.fault.FilePlace.TheVariants.{Top, Block, Connect, Feed}

@@ -6,10 +6,10 @@ use Rattle.std.proofs.lemmas.List.{take_all, length-take-le}
 use Rattle.stream_model.specs.declared.vocabulary.ItemType.{ItemType}
 use Rattle.stream_model.specs.declared.vocabulary.ItemType.TheVariants.{Byte, Short, Int}
 use Rattle.stream_model.specs.Meaning.{Meaning}
-use Rattle.block_kinds.specs.declared.fault.Parameter.{Parameter}
-use Rattle.block_kinds.specs.declared.fault.Parameter.TheVariants as parameters
-use Rattle.block_kinds.specs.declared.fault.ParamFault.{ParamFault}
-use Rattle.block_kinds.specs.declared.fault.ParamFault.TheVariants.{BadParameter, Memory}
+use Rattle.parameters.specs.declared.fault.Parameter.{Parameter}
+use Rattle.parameters.specs.declared.fault.Parameter.TheVariants as parameters
+use Rattle.parameters.specs.declared.fault.ParamFault.{ParamFault}
+use Rattle.parameters.specs.declared.fault.ParamFault.TheVariants.{BadParameter, Memory}
 use Rattle.math_blocks.specs.Kinds.{IsTable}
 use Rattle.rate_blocks.specs.Lengths.{AreLengths}
 use Rattle.fir_blocks.specs.Parameters.{AreParameters, IsRefusal, IsFirstBad}

@@ -1,8 +1,8 @@
 -- The keys of graph files: their texts, what may stand at them, and what stands for a missing one.
 use Rattle.std.specs.Prelude.{ℕ, ℤ, pos, List, Bool, true, false, codes}
-use Rattle.block_kinds.specs.declared.fault.Parameter.{Parameter}
-use Rattle.block_kinds.specs.declared.fault.Parameter.TheVariants as parameters
-use Rattle.block_kinds.specs.Fault.{parameter_text}
+use Rattle.parameters.specs.declared.fault.Parameter.{Parameter}
+use Rattle.parameters.specs.declared.fault.Parameter.TheVariants as parameters
+use Rattle.parameters.specs.Fault.{parameter_text}
 use Rattle.kind_keys.specs.declared.key.Key.{Key}
 use Rattle.kind_keys.specs.declared.key.Key.TheVariants as keys
 use Rattle.kind_keys.specs.declared.key.ValueForm.{ValueForm}

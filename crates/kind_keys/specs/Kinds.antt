@@ -6,14 +6,14 @@ use Rattle.stream_model.specs.declared.vocabulary.ItemType.{ItemType}
 use Rattle.stream_model.specs.declared.vocabulary.ItemType.TheVariants.{Byte, Short, Int}
 use Rattle.stream_model.specs.Numbers.{least_of, greatest_of}
 use Rattle.stream_model.specs.Meaning.{Meaning}
-use Rattle.stream_model.specs.Kinds.Ends.{vector_source, vector_sink, null_sink}
-use Rattle.stream_model.specs.Kinds.Math.{add_const, multiply_const, scale, add, and_of, or_of, xor_of, not_of, convert, map_bb, moving_sum}
-use Rattle.stream_model.specs.Kinds.Filters.{fir, interp_fir}
-use Rattle.stream_model.specs.Kinds.Rates.{keep_one_in_n, integrate, repeat, interleave, deinterleave, stream_mux, head, skiphead, delay}
-use Rattle.stream_model.specs.Kinds.Bits.{pack_k_bits, unpack_k_bits, diff_decoder, diff_encoder, scrambler, descrambler, additive_scrambler}
+use Rattle.kind_model.specs.Ends.{vector_source, vector_sink, null_sink}
+use Rattle.kind_model.specs.Math.{add_const, multiply_const, scale, add, and_of, or_of, xor_of, not_of, convert, map_bb, moving_sum}
+use Rattle.kind_model.specs.Filters.{fir, interp_fir}
+use Rattle.kind_model.specs.Rates.{keep_one_in_n, integrate, repeat, interleave, deinterleave, stream_mux, head, skiphead, delay}
+use Rattle.kind_model.specs.Bits.{pack_k_bits, unpack_k_bits, diff_decoder, diff_encoder, scrambler, descrambler, additive_scrambler}
 use Rattle.rate_blocks.specs.Lengths.{unsigned}
-use Rattle.block_kinds.specs.declared.fault.Parameter.{Parameter}
-use Rattle.block_kinds.specs.declared.fault.Parameter.TheVariants as parameters
+use Rattle.parameters.specs.declared.fault.Parameter.{Parameter}
+use Rattle.parameters.specs.declared.fault.Parameter.TheVariants as parameters
 use Rattle.kind_keys.specs.declared.key.Key.{Key}
 use Rattle.kind_keys.specs.declared.key.Key.TheVariants as keys
 use Rattle.kinds.specs.declared.kind_name.KindName.{KindName}

@@ -2,11 +2,11 @@
 use Rattle.std.specs.Prelude.{◌≡◌, ℕ, Option, Some, None, Result, Ok, Err, is_ok, Bool, true, false, ◌&&◌}
 use Rattle.toml.specs.Data.{Members}
 use Rattle.stream_model.specs.Meaning.{Meaning}
-use Rattle.block_kinds.specs.declared.fault.Parameter.{Parameter}
+use Rattle.parameters.specs.declared.fault.Parameter.{Parameter}
 use Rattle.bit_blocks.specs.declared.register.Register.{Register}
-use Rattle.block_kinds.specs.declared.fault.Parameter.TheVariants as parameters
-use Rattle.block_kinds.specs.declared.fault.ParamFault.{ParamFault}
-use Rattle.block_kinds.specs.declared.fault.ParamFault.TheVariants as param
+use Rattle.parameters.specs.declared.fault.Parameter.TheVariants as parameters
+use Rattle.parameters.specs.declared.fault.ParamFault.{ParamFault}
+use Rattle.parameters.specs.declared.fault.ParamFault.TheVariants as param
 use Rattle.kind_keys.specs.declared.key.Key.TheVariants.{Name, Kind}
 use Rattle.kinds.specs.declared.kind_name.KindName.{KindName}
 use Rattle.kind_keys.specs.declared.fault.KeyFault.{KeyFault}

@@ -2,7 +2,7 @@
 ghost use Rattle.std.specs.Prelude.{◌≡◌};
 ghost use Rattle.kind_keys.specs.Keys.{text_of, form_of, parameter_form, is_needed, is_needed_parameter, missing, missing_parameter};
 
-use block_kinds::Parameter;
+use parameters::Parameter;
 
 /// A key of a table.
 #[derive(Clone, Copy, Debug, PartialEq, Eq)]

@@ -3,8 +3,8 @@ ghost use Rattle.std.specs.Prelude.{◌≡◌};
 ghost use Rattle.kind_keys.specs.Kinds.{keys_of};
 
 use crate::key::Key;
-use block_kinds::Parameter;
 use kinds::KindName;
+use parameters::Parameter;
 
 const ITEM_TYPE: Key = Key::Parameter(Parameter::ItemType);
 

@@ -16,13 +16,13 @@ use bit_blocks::{
     AdditiveScrambler, Descrambler, DiffDecoder, DiffEncoder, PackKBits, Register, Scrambler,
     UnpackKBits,
 };
-use block_kinds::{ParamFault, Parameter};
 use fir_blocks::{Fir, InterpFir};
 use items::ItemType;
 use kinds::{Kind, KindName, NullSink, VectorSink, VectorSource};
 use math_blocks::{
     Add, AddConst, And, Convert, MapBb, MovingSum, MultiplyConst, Not, Or, Scale, Xor,
 };
+use parameters::{ParamFault, Parameter};
 use rate_blocks::{
     Deinterleave, Delay, Head, Integrate, Interleave, KeepOneInN, Repeat, SkipHead, StreamMux,
 };

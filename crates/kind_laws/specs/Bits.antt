@@ -1,22 +1,30 @@
 -- The kinds of bits are lawful.
-use Rattle.std.specs.Prelude.{ℕ, zero, suc, ◌+◌, ◌-◌, ◌*◌, ◌/◌, ◌%◌, ◌^◌, ◌<◌, ◌≤◌, ◌≡◌, ℤ, pos, ◌+ℤ◌, ◌-ℤ◌, List, ◌∷◌, map, take, sum, refl}
+use Rattle.std.specs.Prelude.{ℕ, zero, suc, ◌+◌, ◌-◌, ◌*◌, ◌/◌, ◌%◌, ◌^◌, ◌<◌, ◌≤◌, ◌≡◌, ℤ, pos, ◌+ℤ◌, ◌-ℤ◌, List, ◌∷◌, map, take, length, sum, refl}
 use Rattle.std.proofs.Common.{ap, ap₂, subst, sym, ◌∙◌, arith}
 use Rattle.std.proofs.Math.Nat.{pow-suc, mod-one, mod-eq_of_lt, one-le-pow, pow-le-pow_right, div-one, div-div-eq-div-mul}
 use Rattle.std.proofs.lemmas.Int.{ints}
-use Rattle.std.proofs.lemmas.List.{take-take}
+use Rattle.std.proofs.lemmas.List.{take-take, take_more}
 use Rattle.std.proofs.lemmas.Nat.{mod-mul-add, div_below}
 use Rattle.stream_model.specs.declared.vocabulary.ItemType.TheVariants.{Byte}
 use Rattle.stream_model.specs.Numbers.{IsItem, residue, floor_div, total}
 use Rattle.stream_model.specs.Lists.{numbers_from, item, item_before}
-use Rattle.stream_model.specs.Kernels.{packed}
+use Rattle.kind_model.specs.Kernels.{packed}
 use Rattle.stream_model.specs.Meaning.{input, IsLawful}
-use Rattle.stream_model.specs.Kinds.Bits.{pack_k_bits, unpack_k_bits, running_sum, diff_encoder, diff_decoder, place_in, places_of, register_of, masked, scrambled, received, shifted, newest, scrambler, descrambler, additive_scrambler}
-use Rattle.kind_laws.specs.Shared.{residue-less, item-same, past-same, sum_below-same, map-same, get_or-map_numbers, sum-cons, IsRate, one_for_one, shaped-lawful}
+use Rattle.kind_model.specs.Bits.{pack_k_bits, unpack_k_bits, running_sum, diff_encoder, diff_decoder, place_in, places_of, register_of, masked, scrambled, received, shifted, newest, scrambler, descrambler, additive_scrambler}
+use Rattle.shape_laws.specs.Shaped.{residue-less, item-same, past-same, sum_below-same, map-same, get_or-map_numbers, sum-cons, IsRate, one_for_one, shaped-lawful}
+use Rattle.shape_laws.specs.Windows.{residue-add, total-push}
 use Rattle.kind_laws.specs.Rates.{item_of_firing}
 
 -- a number below 256 is a byte
 pub IsItem-byte : (n : ℕ) → n < 256 → IsItem Byte (pos n)
 IsItem-byte n h = record { above = omega (arith, ints); below = omega (arith, ints) }
+
+-- one item more: the last output plus the item
+pub running_sum-more : (m : ℕ) (x : List ℤ) (n : ℕ) → 0 < m → n < length x → running_sum m x (n + 1) ≡ residue (pos (running_sum m x n) +ℤ item x n) m
+running_sum-more m x n h there =
+    ap (λ (z : List ℤ). residue (total z) m) (take_more x n (pos 0) there)
+    ∙ ap (λ z. residue z m) (total-push (take n x) (item x n))
+    ∙ sym (residue-add (total (take n x)) (item x n) m h)
 
 -- the first items of lists that agree in more
 pub take-same : (x y : List ℤ) (k n : ℕ) → take k x ≡ take k y → n ≤ k → take n x ≡ take n y

@@ -3,8 +3,8 @@ use Rattle.std.specs.Prelude.{◌*◌, refl}
 use Rattle.std.proofs.Common.{arith}
 use Rattle.stream_model.specs.declared.vocabulary.ItemType.{ItemType}
 use Rattle.stream_model.specs.Meaning.{input, IsLawful}
-use Rattle.stream_model.specs.Kinds.Ends.{vector_source, vector_sink, null_sink}
-use Rattle.kind_laws.specs.Shared.{IsItem-zero, IsItem-item, AreItems-input, item-same, IsAtRate-at_rate}
+use Rattle.kind_model.specs.Ends.{vector_source, vector_sink, null_sink}
+use Rattle.shape_laws.specs.Shaped.{IsItem-zero, IsItem-item, AreItems-input, item-same, IsAtRate-at_rate}
 
 pub vector_source-lawful : (t : ItemType) → IsLawful (vector_source t)
 vector_source-lawful t =

@@ -6,9 +6,9 @@ use Rattle.stream_model.specs.declared.vocabulary.ItemType.{ItemType}
 use Rattle.stream_model.specs.Numbers.{sat, rnd}
 use Rattle.stream_model.specs.Lists.{item}
 use Rattle.stream_model.specs.Meaning.{input, IsLawful}
-use Rattle.stream_model.specs.Kinds.Shapes.{taps_set}
-use Rattle.stream_model.specs.Kinds.Filters.{tapped, fir, branch_taps, interp_fir}
-use Rattle.kind_laws.specs.Shared.{IsItem-sat, past-same, sum_below-same, IsRate, shaped-lawful}
+use Rattle.stream_model.specs.Shapes.{taps_set}
+use Rattle.kind_model.specs.Filters.{tapped, fir, branch_taps, interp_fir}
+use Rattle.shape_laws.specs.Shaped.{IsItem-sat, past-same, sum_below-same, IsRate, shaped-lawful}
 
 -- the same taps over items that agree
 pub tapped-same :

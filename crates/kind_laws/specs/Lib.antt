@@ -1,5 +1,3 @@
-pub mod Shared
-pub mod Windows
 pub mod Ends
 pub mod Math
 pub mod Filters

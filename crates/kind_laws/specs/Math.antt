@@ -1,5 +1,5 @@
 -- The kinds of arithmetic, logic, tables and conversion are lawful.
-use Rattle.std.specs.Prelude.{ℕ, ◌-◌, ◌*◌, ◌≤◌, ℤ, pos, negsuc, ◌+ℤ◌, ◌*ℤ◌, List, length, bit_and, bit_or, bit_xor, refl}
+use Rattle.std.specs.Prelude.{ℕ, ◌-◌, ◌*◌, ◌≤◌, ◌≡◌, suc, ℤ, pos, negsuc, ◌+ℤ◌, ◌*ℤ◌, List, [], ◌∷◌, length, bit_and, bit_or, bit_xor, refl}
 use Rattle.std.proofs.Common.{ap, ap₂, subst, sym, arith, inl, inr}
 use Rattle.std.proofs.lemmas.Bool.{cases_lt}
 use Rattle.std.proofs.lemmas.List.{get_or_past}
@@ -7,11 +7,18 @@ use Rattle.stream_model.specs.declared.vocabulary.ItemType.{ItemType}
 use Rattle.stream_model.specs.declared.vocabulary.ItemType.TheVariants.{Byte, Short}
 use Rattle.stream_model.specs.Numbers.{IsItem, AreItems, numbers_in, wrap, total}
 use Rattle.stream_model.specs.Lists.{item}
-use Rattle.stream_model.specs.Kernels.{scaled, turned}
+use Rattle.kind_model.specs.Kernels.{scaled, turned}
 use Rattle.stream_model.specs.Meaning.{input, IsLawful}
-use Rattle.stream_model.specs.Kinds.Shapes.{number_set, number_at}
-use Rattle.stream_model.specs.Kinds.Math.{add_const, multiply_const, scale, items_at, add, all_bits, bitwise, and_of, or_of, xor_of, not_of, looked_up, map_bb, convert, moving_sum}
-use Rattle.kind_laws.specs.Shared.{IsItem-wrap, IsItem-sat, IsItem-item, AreItems-input, item-same, past-same, items_at-same, sum_below-same, one_for_one, shaped-lawful}
+use Rattle.stream_model.specs.Shapes.{number_set, number_at}
+use Rattle.kind_model.specs.Math.{add_const, multiply_const, scale, items_at, add, all_bits, bitwise, and_of, or_of, xor_of, not_of, looked_up, map_bb, convert, moving_sum}
+use Rattle.shape_laws.specs.Shaped.{IsItem-wrap, IsItem-sat, IsItem-item, AreItems-input, item-same, past-same, sum_below-same, one_for_one, shaped-lawful}
+
+-- items n of inputs that agree there
+items_at-same : (xs ys : List (List ℤ)) (n : ℕ) → length xs ≡ length ys → ((p : ℕ) → item (input xs p) n ≡ item (input ys p) n) → items_at xs n ≡ items_at ys n
+items_at-same [] [] n e same = refl
+items_at-same [] (y ∷ ys) n e same = (cc)
+items_at-same (x ∷ xs) [] n e same = (cc)
+items_at-same (x ∷ xs) (y ∷ ys) n e same = ap₂ ◌∷◌ (same 0) (items_at-same xs ys n (omega (arith, e)) (λ p. same (suc p)))
 
 pub add_const-lawful : (t : ItemType) (v : ℤ) → IsItem t v → IsLawful (add_const t v)
 add_const-lawful t v fits =

@@ -9,8 +9,8 @@ use Rattle.stream_model.specs.declared.vocabulary.ItemType.{ItemType}
 use Rattle.stream_model.specs.Numbers.{IsItem, AreItems, wrap}
 use Rattle.stream_model.specs.Lists.{item, item_before}
 use Rattle.stream_model.specs.Meaning.{input, IsLawful}
-use Rattle.stream_model.specs.Kinds.Rates.{keep_one_in_n, integrate, repeat, interleave, deinterleave, head, skiphead, delay, turn_of, round_item, IsMux, stream_mux}
-use Rattle.kind_laws.specs.Shared.{IsItem-zero, IsItem-wrap, IsItem-item, AreItems-input, item-same, sum_below-same, IsRate, IsAtRate-at_rate, sum-cons, shaped-lawful}
+use Rattle.kind_model.specs.Rates.{keep_one_in_n, integrate, repeat, interleave, deinterleave, head, skiphead, delay, turn_of, round_item, IsMux, stream_mux}
+use Rattle.shape_laws.specs.Shaped.{IsItem-zero, IsItem-wrap, IsItem-item, AreItems-input, item-same, sum_below-same, IsRate, IsAtRate-at_rate, sum-cons, shaped-lawful}
 
 -- d items for one, and one for i
 down : (d : ℕ) → 1 ≤ d → d ≤ 1024 → IsRate d 1

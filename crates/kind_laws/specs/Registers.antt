@@ -4,8 +4,8 @@ use Rattle.std.proofs.Common.{ap, sym, ◌∙◌, arith, get_or, mul_comm}
 use Rattle.std.proofs.Math.Nat.{pow-suc, div-one, div-div-eq-div-mul}
 use Rattle.std.proofs.lemmas.Nat.{mod-mul-add}
 use Rattle.stream_model.specs.Lists.{numbers_from}
-use Rattle.stream_model.specs.Kinds.Bits.{place_in, places_of, register_of, masked, low_bit, scrambled, received, shifted, newest}
-use Rattle.kind_laws.specs.Shared.{sum-cons, map-same, get_or-map_numbers, length-map_numbers, residue-less}
+use Rattle.kind_model.specs.Bits.{place_in, places_of, register_of, masked, low_bit, scrambled, received, shifted, newest}
+use Rattle.shape_laws.specs.Shaped.{sum-cons, map-same, get_or-map_numbers, length-map_numbers, residue-less}
 
 -- a run of numbers, each double the one before it in another run
 doubled : (f g : ℕ → ℕ) (a count : ℕ) → ((j : ℕ) → a ≤ j → g (j + 1) ≡ 2 * f j) → sum (map g (numbers_from (a + 1) count)) ≡ 2 * sum (map f (numbers_from a count))

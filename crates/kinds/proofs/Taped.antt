@@ -3,7 +3,7 @@ use Rattle.std.proofs.Common.{◌≡◌, ℕ, ◌+◌, ◌-◌, ◌*◌, ℤ, Li
 use Rattle.stream_model.specs.declared.vocabulary.ItemType.{ItemType}
 use Rattle.stream_model.specs.Settings.{Held}
 use Rattle.stream_model.specs.Meaning.{IsFed, input, given_items}
-use Rattle.stream_model.specs.Kinds.Ends.{vector_source}
+use Rattle.kind_model.specs.Ends.{vector_source}
 use Rattle.block_kinds.proofs.Fills.{length-fill, item-fill, before-none, whole-given}
 
 pub tape-given :

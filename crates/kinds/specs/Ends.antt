@@ -2,7 +2,7 @@
 use Rattle.std.specs.Prelude.{Bool, true, false}
 use Rattle.stream_model.specs.declared.vocabulary.ItemType.{ItemType}
 use Rattle.stream_model.specs.Meaning.{Meaning, IsLawful}
-use Rattle.stream_model.specs.Kinds.Ends.{vector_source, vector_sink, null_sink}
+use Rattle.kind_model.specs.Ends.{vector_source, vector_sink, null_sink}
 use Rattle.kind_laws.specs.Ends.{vector_sink-lawful, null_sink-lawful}
 use Rattle.kinds.specs.declared.source.VectorSource.{VectorSource}
 

@@ -16,11 +16,11 @@ use Rattle.kind_laws.specs.Math.{add_const-lawful, multiply_const-lawful, scale-
 use Rattle.kind_laws.specs.Filters.{fir-lawful, interp_fir-lawful}
 use Rattle.kind_laws.specs.Rates.{keep_one_in_n-lawful, integrate-lawful, repeat-lawful, head-lawful, skiphead-lawful, delay-lawful}
 use Rattle.kind_laws.specs.Bits.{pack_k_bits-lawful, unpack_k_bits-lawful, diff_decoder-lawful, diff_encoder-lawful, scrambler-lawful, descrambler-lawful, additive_scrambler-lawful}
-use Rattle.stream_model.specs.Kinds.Ends.{vector_source, vector_sink, null_sink}
-use Rattle.stream_model.specs.Kinds.Math.{add_const, multiply_const, add, and_of, or_of, xor_of, not_of, moving_sum}
-use Rattle.stream_model.specs.Kinds.Filters.{fir, interp_fir}
-use Rattle.stream_model.specs.Kinds.Rates.{keep_one_in_n, integrate, repeat, interleave, deinterleave, head, skiphead, delay}
-use Rattle.stream_model.specs.Kinds.Bits.{pack_k_bits, unpack_k_bits, diff_decoder, diff_encoder, scrambler, descrambler, additive_scrambler}
+use Rattle.kind_model.specs.Ends.{vector_source, vector_sink, null_sink}
+use Rattle.kind_model.specs.Math.{add_const, multiply_const, add, and_of, or_of, xor_of, not_of, moving_sum}
+use Rattle.kind_model.specs.Filters.{fir, interp_fir}
+use Rattle.kind_model.specs.Rates.{keep_one_in_n, integrate, repeat, interleave, deinterleave, head, skiphead, delay}
+use Rattle.kind_model.specs.Bits.{pack_k_bits, unpack_k_bits, diff_decoder, diff_encoder, scrambler, descrambler, additive_scrambler}
 use Rattle.block_kinds.specs.SameItem.{same_item, same_number, same_sized}
 use Rattle.std.proofs.Common.{ap}
 use Rattle.std.proofs.lemmas.Bool.{false≢true}

@@ -1,6 +1,6 @@
 //! The source of a tape.
 ghost use Rattle.std.specs.Prelude.{◌≡◌};
-ghost use Rattle.stream_model.specs.Kinds.Ends.{vector_source};
+ghost use Rattle.kind_model.specs.Ends.{vector_source};
 
 use block_kinds::{Batch, Block, ByPace, Held, Role, Shape, Single, ports, work_single};
 use items::{ItemType, Items};
@@ -37,7 +37,7 @@ impl Single for VectorSource {
 }
 
 impl Block for VectorSource {
-    ghost use Rattle.stream_model.specs.Kinds.Ends.{vector_source};
+    ghost use Rattle.kind_model.specs.Ends.{vector_source};
     ghost use Rattle.kind_laws.specs.Ends.{vector_source-lawful};
     ghost use Rattle.block_kinds.specs.SameItem.{same_item};
     ghost use Rattle.kinds.specs.Ends.{source_meaning};

@@ -6,7 +6,7 @@ use Rattle.std.specs.List.{range_with_len}
 use Rattle.std.proofs.lemmas.List.Elements.{All-take, All-drop}
 use Rattle.std.proofs.lemmas.List.{length-map, take_rest}
 use Rattle.std.proofs.lemmas.Simd.{take_more_put_chunk, length-zip2}
-use Rattle.stream_model.specs.Kernels.{sum_below, listed}
+use Rattle.stream_model.specs.Lists.{sum_below, listed}
 use Rattle.stream_model.specs.Numbers.{IsItem, AreItems, total, sat, rnd}
 use Rattle.stream_model.specs.declared.vocabulary.ItemType.{ItemType}
 use Rattle.stream_model.specs.declared.vocabulary.ItemType.TheVariants.{Short}

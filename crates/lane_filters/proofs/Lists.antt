@@ -6,7 +6,7 @@ use Rattle.std.specs.List.{range_with_len}
 use Rattle.std.proofs.Math.Seq.{drop-cons}
 use Rattle.std.proofs.lemmas.Int.{ints}
 use Rattle.std.proofs.lemmas.List.{map-append}
-use Rattle.stream_model.specs.Kernels.{sum_below, listed}
+use Rattle.stream_model.specs.Lists.{sum_below, listed}
 use Rattle.stream_model.specs.Numbers.{total}
 use Rattle.stream_model.proofs.Maps.{map-agree}
 use Rattle.lane_filters.proofs.Signed.{abs_add}

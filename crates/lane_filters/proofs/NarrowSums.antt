@@ -13,8 +13,7 @@ use Rattle.std.proofs.lemmas.List.Sums.{sum_by-cons}
 use Rattle.std.proofs.lemmas.List.Elements.{All-take, All-drop}
 use Rattle.std.proofs.lemmas.Simd.{Each1-weaker}
 use Rattle.std.proofs.Math.Nat.{mul-le-mul_left}
-use Rattle.stream_model.specs.Kernels.{sum_below}
-use Rattle.stream_model.specs.Lists.{item}
+use Rattle.stream_model.specs.Lists.{sum_below, item}
 use Rattle.stream_model.specs.Numbers.{IsItem, AreItems}
 use Rattle.stream_model.specs.declared.vocabulary.ItemType.TheVariants.{Short}
 use Rattle.numbers.proofs.Widths.{short_near, short_fits, cast_asks}

@@ -5,7 +5,7 @@ use Rattle.std.specs.List.{range_with_len}
 use Rattle.std.proofs.Math.Seq.{drop-cons}
 use Rattle.std.proofs.lemmas.List.{length-map, take_rest, map-set, take_more_set}
 use Rattle.std.proofs.lemmas.Simd.{take_more_put_chunk}
-use Rattle.stream_model.specs.Kernels.{listed}
+use Rattle.stream_model.specs.Lists.{listed}
 use Rattle.lane_filters.specs.Words.{byte_difference, decoded}
 use Rattle.lane_filters.proofs.Lists.{listed_split, listed_more}
 

@@ -16,8 +16,8 @@ use Rattle.std.proofs.lemmas.Simd.{take_more_put_chunk}
 use Rattle.std.proofs.Math.Nat.{mul-add-mod_self_left, mod-eq_of_lt}
 use Rattle.std.proofs.lemmas.Nat.{pow-add, mod-pow-add, div-mul-add}
 use Rattle.std.proofs.lemmas.Nat.Bits.{and_pow}
-use Rattle.stream_model.specs.Kernels.{sum_below, listed, packed, unpacked}
-use Rattle.stream_model.specs.Lists.{below}
+use Rattle.stream_model.specs.Lists.{sum_below, listed, below}
+use Rattle.kind_model.specs.Kernels.{packed, unpacked}
 use Rattle.stream_model.specs.Numbers.{residue, floor_div}
 use Rattle.lane_filters.specs.Words.{first_bits, bit_of}
 use Rattle.lane_filters.proofs.Lists.{sum_more, listed_split, range_split}

@@ -2,8 +2,8 @@
 use Rattle.std.specs.Prelude.{ℕ, zero, suc, [], ◌∷◌, sum_by, ◌+◌, ◌-◌, ◌*◌, ◌/◌, ◌%◌, ◌^◌, slice_index, ◌≤◌, ℤ, pos, ◌*ℤ◌, ◌+ℤ◌, ◌-ℤ◌, List, length, map}
 use Rattle.std.specs.Int.RustNames.{unsigned_abs}
 use Rattle.std.specs.Simd.Lanes.{Each1}
-use Rattle.stream_model.specs.Kernels.{sum_below, previous}
-use Rattle.stream_model.specs.Lists.{item, numbers_from}
+use Rattle.stream_model.specs.Lists.{sum_below, item, numbers_from}
+use Rattle.kind_model.specs.Kernels.{previous}
 use Rattle.stream_model.specs.Numbers.{sat, rnd, residue}
 use Rattle.stream_model.specs.declared.vocabulary.ItemType.{ItemType}
 

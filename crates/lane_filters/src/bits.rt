@@ -1,6 +1,6 @@
 //! Bits, packed into bytes and unpacked, the highest first.
 ghost use Rattle.std.specs.Prelude.{◌≡◌, ◌+◌, ◌*◌, ◌≤◌, ◌++◌, length, map, take, pos};
-ghost use Rattle.stream_model.specs.Kernels.{pack_bits, unpack_bits};
+ghost use Rattle.kind_model.specs.Kernels.{pack_bits, unpack_bits};
 ghost use Rattle.stream_model.specs.Lists.{below};
 ghost use Rattle.lane_filters.specs.Words.{first_bits, bit_of};
 

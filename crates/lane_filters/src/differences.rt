@@ -1,7 +1,7 @@
 //! Differences of neighbouring bytes.
 ghost use Rattle.std.specs.Prelude.{◌≡◌, ◌+◌, ◌-◌, ◌*◌, ◌/◌, ◌<◌, ◌≤◌, ◌^◌, length, map, take, pos};
 ghost use Rattle.std.specs.Simd.Lanes.{zip2};
-ghost use Rattle.stream_model.specs.Kernels.{diff_decode};
+ghost use Rattle.kind_model.specs.Kernels.{diff_decode};
 ghost use Rattle.lane_filters.specs.Words.{byte_difference};
 
 use std::simd::prelude::*;

@@ -1,7 +1,8 @@
 //! Dot products of taps and items.
 ghost use Rattle.std.specs.Prelude.{◌≡◌, ◌+◌, ◌*◌, ◌/◌, ◌≤◌, ◌^◌, length, map, All};
 ghost use Rattle.std.specs.Int.RustNames.{unsigned_abs};
-ghost use Rattle.stream_model.specs.Kernels.{dot, sum_below};
+ghost use Rattle.stream_model.specs.Lists.{sum_below};
+ghost use Rattle.kind_model.specs.Kernels.{dot};
 ghost use Rattle.stream_model.specs.Numbers.{IsItem, AreItems, total};
 ghost use Rattle.stream_model.specs.declared.vocabulary.ItemType.TheVariants.{Short};
 ghost use Rattle.lane_filters.specs.Words.{AreWithin, tap_product};

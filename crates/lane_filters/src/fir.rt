@@ -1,7 +1,8 @@
 //! Rows of outputs of a finite impulse response.
 ghost use Rattle.std.specs.Prelude.{◌≡◌, ◌+◌, ◌-◌, ◌*◌, ◌/◌, ◌<◌, ◌≤◌, ◌^◌, ◌↔◌, length, map, take, All, IsTrue};
 ghost use Rattle.std.specs.Int.RustNames.{unsigned_abs};
-ghost use Rattle.stream_model.specs.Kernels.{fir_row, listed};
+ghost use Rattle.stream_model.specs.Lists.{listed};
+ghost use Rattle.kind_model.specs.Kernels.{fir_row};
 ghost use Rattle.stream_model.specs.Numbers.{IsItem, AreItems, sat, rnd};
 ghost use Rattle.stream_model.specs.declared.vocabulary.ItemType.TheVariants.{Short};
 ghost use Rattle.lane_filters.specs.Words.{AreWithin, tap_sum, tap_sums, output, weight};

@@ -5,8 +5,7 @@ use Rattle.std.proofs.lemmas.List.{append_assoc, map-append, map_more, get_or-ma
 use Rattle.std.proofs.lemmas.List.FromFn.{map-range_with_len_more, length-map-range_with_len, get_or-map-range_with_len}
 use Rattle.std.proofs.lemmas.Simd.{map-map}
 use Rattle.std.proofs.lemmas.Nat.{mod-mul-add, div-mul-add}
-use Rattle.stream_model.specs.Lists.{item}
-use Rattle.stream_model.specs.Kernels.{listed}
+use Rattle.stream_model.specs.Lists.{item, listed}
 use Rattle.stream_model.specs.Meaning.{input}
 use Rattle.lane_kernels.specs.Streams.{interleaved}
 

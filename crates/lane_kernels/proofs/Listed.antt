@@ -4,8 +4,7 @@ use Rattle.std.specs.Simd.Lanes.{zip2}
 use Rattle.std.proofs.lemmas.List.{length-map, ext_get_or, get_or-map}
 use Rattle.std.proofs.lemmas.List.FromFn.{length-map-range_with_len, get_or-map-range_with_len}
 use Rattle.std.proofs.lemmas.Simd.{length-zip2, get_or-zip2}
-use Rattle.stream_model.specs.Lists.{item}
-use Rattle.stream_model.specs.Kernels.{listed}
+use Rattle.stream_model.specs.Lists.{item, listed}
 
 pub mapped_is_listed : (f : ℤ → ℤ) (xs : List ℤ) → map f xs ≡ listed (length xs) (λ n. f (item xs n))
 mapped_is_listed f xs =

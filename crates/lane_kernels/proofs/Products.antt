@@ -11,7 +11,7 @@ use Rattle.std.specs.Int.Signed.{mag, non_neg}
 use Rattle.std.proofs.lemmas.Simd.{put_chunk_whole, map-map, Each1-from_get_or}
 use mir.Val.{bits, hbits}
 use Rattle.stream_model.specs.Numbers.{IsItem, sat, rnd, least_of, greatest_of}
-use Rattle.stream_model.specs.Kernels.{scaled}
+use Rattle.kind_model.specs.Kernels.{scaled}
 use Rattle.stream_model.specs.declared.vocabulary.ItemType.{ItemType}
 use Rattle.stream_model.specs.declared.vocabulary.ItemType.TheVariants.{Byte, Short, Int}
 use Rattle.lane_kernels.specs.Blocks.{IsBlock, IsWithin, clamped}

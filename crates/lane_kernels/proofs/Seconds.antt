@@ -3,8 +3,7 @@ use Rattle.std.proofs.Common.{◌≡◌, ℕ, ◌+◌, ◌*◌, ◌<◌, ◌≤�
 use Rattle.std.proofs.lemmas.List.{map-append, get_or-map, ext_get_or, length-take-le, length-drop, take_all, take_more, take_more_set}
 use Rattle.std.proofs.lemmas.List.FromFn.{length-map-range_with_len, get_or-map-range_with_len}
 use Rattle.std.proofs.lemmas.Simd.{map-map, get_or-chunk}
-use Rattle.stream_model.specs.Lists.{item, below}
-use Rattle.stream_model.specs.Kernels.{listed}
+use Rattle.stream_model.specs.Lists.{item, below, listed}
 use Rattle.lane_kernels.specs.Streams.{deinterleaved}
 use Rattle.lane_kernels.proofs.Appended.{step_within}
 use Rattle.lane_kernels.proofs.Parts.{take_two}

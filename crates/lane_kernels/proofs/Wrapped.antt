@@ -6,7 +6,7 @@ use Rattle.std.specs.Prelude.{bit_xor}
 use Rattle.std.proofs.lemmas.Int.{wrapping_add_is, wrapping_mul_is}
 use Rattle.std.proofs.lemmas.Nat.{and_le_l, or_lt, xor_lt}
 use Rattle.stream_model.specs.Numbers.{IsItem, wrap, centred, numbers_in}
-use Rattle.stream_model.specs.Kernels.{bits_in, turned}
+use Rattle.kind_model.specs.Kernels.{bits_in, turned}
 use Rattle.stream_model.specs.declared.vocabulary.ItemType.{ItemType}
 use Rattle.stream_model.specs.declared.vocabulary.ItemType.TheVariants.{Byte, Short, Int}
 use Rattle.numbers.proofs.Widths.{byte_below, short_fits, int_fits}

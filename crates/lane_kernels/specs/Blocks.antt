@@ -1,7 +1,7 @@
 -- Blocks of items, and what logic makes of two numbers.
 use Rattle.std.specs.Prelude.{◌≡◌, ℕ, ◌≤◌, ℤ, pos, List, length, All, unsigned_abs, int_lt, if◌then◌else◌}
 use Rattle.stream_model.specs.Numbers.{IsItem, wrap}
-use Rattle.stream_model.specs.Kernels.{bits_in}
+use Rattle.kind_model.specs.Kernels.{bits_in}
 use Rattle.stream_model.specs.declared.vocabulary.ItemType.{ItemType}
 
 -- so many items of the type

@@ -1,7 +1,6 @@
 -- Streams whose items take turns.
 use Rattle.std.specs.Prelude.{ℕ, ◌+◌, ◌*◌, ◌/◌, ◌%◌, ℤ, List, length}
-use Rattle.stream_model.specs.Lists.{item}
-use Rattle.stream_model.specs.Kernels.{listed}
+use Rattle.stream_model.specs.Lists.{item, listed}
 use Rattle.stream_model.specs.Meaning.{input}
 
 -- so many items of each of n streams, one of each in turn: item k is item k / n of stream k % n

@@ -1,6 +1,6 @@
 //! Sums and products of items.
 ghost use Rattle.std.specs.Prelude.{◌≡◌, ◌≤◌, ◌+◌, ◌++◌, length, map, ◌+ℤ◌, ◌*ℤ◌, vec_len, vec_capacity};
-ghost use Rattle.stream_model.specs.Kernels;
+ghost use Rattle.kind_model.specs.Kernels;
 ghost use Rattle.stream_model.specs.Numbers.{wrap};
 
 use crate::SimdLane;

@@ -1,6 +1,6 @@
 //! Items of one type as items of another.
 ghost use Rattle.std.specs.Prelude.{◌≡◌, length, map};
-ghost use Rattle.stream_model.specs.Kernels.{convert};
+ghost use Rattle.kind_model.specs.Kernels.{convert};
 ghost use Rattle.stream_model.specs.Numbers.{wrap};
 ghost use Rattle.lane_kernels.specs.Blocks.{IsBlock};
 

@@ -1,6 +1,6 @@
 //! Logic on the bits of items.
 ghost use Rattle.std.specs.Prelude.{◌≡◌, ◌≤◌, ◌+◌, ◌++◌, length, map, bit_and, bit_or, bit_xor, vec_len, vec_capacity};
-ghost use Rattle.stream_model.specs.Kernels.{and_bits, or_bits, xor_bits, not_bits, turned};
+ghost use Rattle.kind_model.specs.Kernels.{and_bits, or_bits, xor_bits, not_bits, turned};
 ghost use Rattle.lane_kernels.specs.Blocks.{joined};
 
 use crate::SimdLane;

@@ -3,7 +3,7 @@ ghost use Rattle.std.specs.Prelude.{◌≡◌, ℕ, ◌+◌, ◌/◌, ◌<◌, �
 ghost use Rattle.std.specs.Simd.Lanes.{zip2};
 ghost use Rattle.std.specs.Mem.{type_size};
 ghost use Rattle.stream_model.specs.Numbers.{wrap};
-ghost use Rattle.stream_model.specs.Kernels.{scaled, turned};
+ghost use Rattle.kind_model.specs.Kernels.{scaled, turned};
 ghost use Rattle.lane_kernels.specs.Blocks.{IsBlock, joined};
 ghost use Rattle.lane_kernels.specs.Streams.{deinterleaved};
 ghost use Rattle.lane_kernels.specs.declared.simd_lane.TheConstants.{MOST_LANES};

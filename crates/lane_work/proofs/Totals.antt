@@ -5,10 +5,9 @@ use Rattle.std.proofs.lemmas.Int.{ints, fits_signed_from_abs, to_z-of_z}
 use Rattle.stream_model.specs.declared.vocabulary.ItemType.{ItemType}
 use Rattle.stream_model.specs.declared.vocabulary.ItemType.TheVariants.{Byte, Short, Int}
 use Rattle.stream_model.specs.Numbers.{IsItem, AreItems, total}
-use Rattle.stream_model.specs.Lists.{item}
-use Rattle.stream_model.specs.Kernels.{listed, sum_below}
-use Rattle.kind_laws.specs.Shared.{item-listed, length-listed}
-use Rattle.kind_laws.specs.Windows.{total-push}
+use Rattle.stream_model.specs.Lists.{item, listed, sum_below}
+use Rattle.shape_laws.specs.Shaped.{item-listed, length-listed}
+use Rattle.shape_laws.specs.Windows.{total-push}
 use Rattle.numbers.proofs.Widths.{short_near, int_near}
 use Rattle.std.proofs.lemmas.List.{take_more, get_or-drop, get_or-take, length-drop, length-take-le, ext_get_or}
 use Rattle.std.proofs.lemmas.List.Elements.{All-take, All-drop}

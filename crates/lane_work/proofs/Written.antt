@@ -3,9 +3,8 @@ use Rattle.std.proofs.Common.{◌≡◌, ℕ, ◌+◌, ◌<◌, ℤ, pos, List, 
 use Rattle.std.proofs.lemmas.List.{get_or-map, length-map, ext_get_or, get_or-set_other, map-set}
 use Rattle.std.proofs.lemmas.Grind.{get_or-set_at}
 use Rattle.std.proofs.lemmas.Bool.{cases_lt}
-use Rattle.stream_model.specs.Lists.{item}
-use Rattle.stream_model.specs.Kernels.{listed}
-use Rattle.kind_laws.specs.Shared.{item-listed, length-listed}
+use Rattle.stream_model.specs.Lists.{item, listed}
+use Rattle.shape_laws.specs.Shaped.{item-listed, length-listed}
 
 -- item k is written behind the first k
 pub write_next :

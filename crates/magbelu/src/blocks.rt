@@ -4,12 +4,13 @@ pub use bit_blocks::{
     AdditiveScrambler, Descrambler, DiffDecoder, DiffEncoder, PackKBits, Register, Scrambler,
     UnpackKBits,
 };
-pub use block_kinds::{ParamFault, Parameter, Taps, Value};
+pub use block_kinds::{Taps, Value};
 pub use fir_blocks::{Fir, InterpFir};
 pub use kinds::{Kind, KindName, NullSink, VectorSink, VectorSource};
 pub use math_blocks::{
     Add, AddConst, And, Convert, MapBb, MovingSum, MultiplyConst, Not, Or, Scale, Xor,
 };
+pub use parameters::{ParamFault, Parameter};
 pub use rate_blocks::{
     Deinterleave, Delay, Head, Integrate, Interleave, KeepOneInN, Repeat, SkipHead, StreamMux,
 };

@@ -2,10 +2,10 @@
 
 ghost use Rattle.magbelu.specs.Errors.{row_of, text_of};
 
-use block_kinds::ParamFault;
 use flowgraph::GraphFault;
 use graph_file::FileFault;
 use items::{ItemFault, Refusal};
+use parameters::ParamFault;
 use pipeline::PipelineFault;
 use plant::PlantFault;
 use std::fmt;

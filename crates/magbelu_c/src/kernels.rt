@@ -1,7 +1,7 @@
 //! Kernels over slices. Each answers 0; or 57, and writes nothing, where the slices have not all the same length.
 
 ghost use Rattle.std.specs.Prelude.{◌≡◌, ◌↔◌, length, map, pos, IsTrue};
-ghost use Rattle.stream_model.specs.Kernels.{add_wrap, add_const_wrap, mul_wrap, and_bits, or_bits, xor_bits};
+ghost use Rattle.kind_model.specs.Kernels.{add_wrap, add_const_wrap, mul_wrap, and_bits, or_bits, xor_bits};
 ghost use Rattle.stream_model.specs.declared.vocabulary.ItemType.TheVariants.{Byte, Short, Int};
 ghost use Rattle.magbelu_c.specs.Kernels.{AreAlike, IsAlike, Makes};
 

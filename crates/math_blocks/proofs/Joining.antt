@@ -5,10 +5,9 @@ use Rattle.stream_model.specs.declared.vocabulary.ItemType.{ItemType}
 use Rattle.stream_model.specs.Numbers.{AreItems}
 use Rattle.stream_model.specs.Settings.{Held}
 use Rattle.stream_model.specs.Meaning.{IsFed, given_items}
-use Rattle.stream_model.specs.Kinds.Math.{items_at}
-use Rattle.stream_model.specs.Lists.{item}
-use Rattle.stream_model.specs.Kernels.{listed}
-use Rattle.kind_laws.specs.Shared.{item-listed, length-listed}
+use Rattle.kind_model.specs.Math.{items_at}
+use Rattle.stream_model.specs.Lists.{item, listed}
+use Rattle.shape_laws.specs.Shaped.{item-listed, length-listed}
 use Rattle.block_kinds.proofs.Fills.{listed-given}
 use Rattle.block_kinds.proofs.Inputs.{length-inputs, length-port, item-port}
 use Rattle.math_blocks.specs.Joined.{AreJoined, joined_of}

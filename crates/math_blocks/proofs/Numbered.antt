@@ -2,11 +2,10 @@
 use Rattle.std.proofs.Common.{◌≡◌, ℕ, ◌+◌, ◌*◌, ℤ, List, [], ◌∷◌, length, get_or, refl, arith, ap, subst, sym, ◌∙◌}
 use Rattle.stream_model.specs.declared.vocabulary.ItemType.{ItemType}
 use Rattle.stream_model.specs.Numbers.{IsItem}
-use Rattle.stream_model.specs.Lists.{item}
-use Rattle.stream_model.specs.Kernels.{listed}
+use Rattle.stream_model.specs.Lists.{item, listed}
 use Rattle.stream_model.specs.Settings.{Value, Held, Number, Taps, between}
 use Rattle.stream_model.specs.Meaning.{IsWanted, AreWanted, IsFed, input, given_items}
-use Rattle.stream_model.specs.Kinds.Shapes.{any_number, number_set, number_at}
+use Rattle.stream_model.specs.Shapes.{any_number, number_set, number_at}
 use Rattle.block_kinds.proofs.Fills.{paced, length-paced, each-given}
 use Rattle.block_kinds.specs.InForce.{AreOver}
 use Rattle.math_blocks.specs.Stretch.{SetItems, each_of, number_among}

@@ -1,7 +1,7 @@
 -- The number in force over the items of a window.
 use Rattle.std.proofs.Common.{◌≡◌, ℕ, ◌<◌, ◌≤◌, List}
 use Rattle.stream_model.specs.Settings.{Value, Held, in_force, between}
-use Rattle.stream_model.specs.Kinds.Shapes.{number_set}
+use Rattle.stream_model.specs.Shapes.{number_set}
 use Rattle.block_kinds.proofs.InForce.{latest-between}
 use Rattle.math_blocks.specs.Stretch.{number_among}
 

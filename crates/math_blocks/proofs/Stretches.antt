@@ -3,11 +3,10 @@ use Rattle.std.proofs.Common.{◌≡◌, ℕ, suc, ◌+◌, ◌-◌, ◌<◌, �
 use Rattle.std.proofs.lemmas.List.{get_or-map, drop-map, length-map, get_or-take, get_or-drop, length-take-le, length-drop, ext_get_or, drop_all, take-map}
 use Rattle.stream_model.specs.declared.vocabulary.ItemType.{ItemType}
 use Rattle.stream_model.specs.Numbers.{IsItem}
-use Rattle.stream_model.specs.Lists.{item}
-use Rattle.stream_model.specs.Kernels.{listed}
+use Rattle.stream_model.specs.Lists.{item, listed}
 use Rattle.stream_model.specs.Settings.{Held, latest}
-use Rattle.stream_model.specs.Kinds.Shapes.{number_set}
-use Rattle.kind_laws.specs.Shared.{item-listed, length-listed}
+use Rattle.stream_model.specs.Shapes.{number_set}
+use Rattle.shape_laws.specs.Shaped.{item-listed, length-listed}
 use Rattle.block_kinds.specs.InForce.{AreOver}
 use Rattle.math_blocks.specs.Stretch.{SetItems, number_among, end_before}
 use Rattle.block_kinds.proofs.InForce.{latest-taken, latest-later, latest-rising}

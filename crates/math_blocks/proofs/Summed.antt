@@ -5,12 +5,11 @@ use Rattle.std.proofs.lemmas.List.{length-map}
 use Rattle.std.proofs.lemmas.List.Elements.{All-map}
 use Rattle.stream_model.specs.declared.vocabulary.ItemType.{ItemType}
 use Rattle.stream_model.specs.Numbers.{IsItem, wrap, total}
-use Rattle.stream_model.specs.Lists.{item, item_before, numbers_from}
-use Rattle.stream_model.specs.Kernels.{listed, sum_below}
+use Rattle.stream_model.specs.Lists.{item, item_before, numbers_from, listed, sum_below}
 use Rattle.stream_model.specs.Settings.{Held}
 use Rattle.stream_model.specs.Meaning.{IsFed, input, given_items}
-use Rattle.stream_model.specs.Kinds.Math.{moving_sum}
-use Rattle.kind_laws.specs.Shared.{sum_below-same}
+use Rattle.kind_model.specs.Math.{moving_sum}
+use Rattle.shape_laws.specs.Shaped.{sum_below-same}
 use Rattle.lane_work.proofs.Written.{read_item}
 use Rattle.lane_work.proofs.Totals.{total_part, comes_fits, comes_sum, goes_fits, goes_sum}
 use Rattle.block_kinds.specs.Shape.{IsPaced}

@@ -10,10 +10,10 @@ use Rattle.std.specs.Int.Bits.{and_lt, or_zero_l, xor_assoc, xor_zero_l}
 use Rattle.stream_model.specs.declared.vocabulary.ItemType.{ItemType}
 use Rattle.stream_model.specs.declared.vocabulary.ItemType.TheVariants.{Byte, Short, Int}
 use Rattle.stream_model.specs.Numbers.{residue, numbers_in, bits_of, centred, wrap, total}
-use Rattle.stream_model.specs.Kernels.{bits_in}
-use Rattle.stream_model.specs.Kinds.Math.{all_bits}
-use Rattle.kind_laws.specs.Shared.{residue-less}
-use Rattle.kind_laws.specs.Windows.{total-push}
+use Rattle.kind_model.specs.Kernels.{bits_in}
+use Rattle.kind_model.specs.Math.{all_bits}
+use Rattle.shape_laws.specs.Shaped.{residue-less}
+use Rattle.shape_laws.specs.Windows.{total-push}
 use Rattle.math_blocks.specs.Joined.{AreJoined, sum_of, sum_of_two, bits_of_all, bits_of_two, all_set, none_set}
 use Rattle.math_blocks.specs.Wrapping.{wrap-add_right, wrap_own}
 

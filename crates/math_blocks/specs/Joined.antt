@@ -6,10 +6,10 @@ use Rattle.std.proofs.Common.{ap}
 use Rattle.stream_model.specs.contracts.vocabulary.ItemType.{the_type}
 use Rattle.stream_model.specs.declared.vocabulary.ItemType.{ItemType}
 use Rattle.stream_model.specs.Numbers.{IsItem, numbers_in, wrap, total}
-use Rattle.stream_model.specs.Kernels.{bits_in}
+use Rattle.kind_model.specs.Kernels.{bits_in}
 use Rattle.stream_model.specs.Meaning.{Meaning}
-use Rattle.stream_model.specs.Kinds.Shapes.{ports, any_ports, at_rate}
-use Rattle.stream_model.specs.Kinds.Math.{items_at, all_bits}
+use Rattle.stream_model.specs.Shapes.{ports, any_ports, at_rate}
+use Rattle.kind_model.specs.Math.{items_at, all_bits}
 use Rattle.items.specs.declared.stream_items.Items.{Items}
 use Rattle.items.specs.Items.{type_of, numbers_of, spare_of}
 use Rattle.block_kinds.specs.SameItem.{same_item}

@@ -11,7 +11,7 @@ use Rattle.stream_model.specs.declared.vocabulary.ItemType.{ItemType}
 use Rattle.stream_model.specs.declared.vocabulary.ItemType.TheVariants.{Byte}
 use Rattle.stream_model.specs.Numbers.{AreItems}
 use Rattle.stream_model.specs.Meaning.{Meaning, IsLawful}
-use Rattle.stream_model.specs.Kinds.Math.{scale, not_of, convert, map_bb, moving_sum}
+use Rattle.kind_model.specs.Math.{scale, not_of, convert, map_bb, moving_sum}
 use Rattle.block_kinds.specs.SameItem.{same_item, same_number}
 use Rattle.math_blocks.specs.declared.constant.Constant.{Constant}
 use Rattle.math_blocks.specs.declared.convert.Convert.{Convert}

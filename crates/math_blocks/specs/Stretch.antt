@@ -6,7 +6,7 @@ use Rattle.stream_model.specs.Numbers.{IsItem}
 use Rattle.stream_model.specs.Lists.{item}
 use Rattle.stream_model.specs.Meaning.{Meaning, input}
 use Rattle.stream_model.specs.Settings.{Held, Number, latest}
-use Rattle.stream_model.specs.Kinds.Shapes.{sync, any_number, number_set, number_at}
+use Rattle.stream_model.specs.Shapes.{sync, any_number, number_set, number_at}
 use Rattle.block_kinds.specs.Fill.{IsSingle}
 
 -- each item made of the one at its place and the number in force there, which is of type u, and v where none is set

@@ -11,7 +11,7 @@ pub struct Sum;
 
 impl Joins for Sum {
     ghost use Rattle.std.specs.Prelude.{refl};
-    ghost use Rattle.stream_model.specs.Kinds.Math.{add};
+    ghost use Rattle.kind_model.specs.Math.{add};
     ghost use Rattle.kind_laws.specs.Math.{add-lawful};
     ghost use Rattle.math_blocks.specs.Joined.{sum_of, sum_of_two};
     ghost use Rattle.math_blocks.specs.Bitwise.{sums_joined};

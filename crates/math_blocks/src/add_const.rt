@@ -13,7 +13,7 @@ pub struct Plus;
 impl Applies for Plus {
     ghost use Rattle.std.specs.Prelude.{refl, ◌+ℤ◌};
     ghost use Rattle.stream_model.specs.Numbers.{wrap};
-    ghost use Rattle.stream_model.specs.Kinds.Math.{add_const};
+    ghost use Rattle.kind_model.specs.Math.{add_const};
     ghost use Rattle.kind_laws.specs.Math.{add_const-lawful};
 
     ghost gives = { λ t value z. wrap t (z +ℤ value) };

@@ -2,19 +2,17 @@
 ghost use Rattle.std.specs.Prelude.{◌≡◌, ◌≤◌, ◌+◌, ◌++◌, ◌↔◌, ℤ, length, map, vec_len, vec_capacity, IsOk, IfOk, IfErr};
 ghost use Rattle.stream_model.specs.declared.vocabulary.ItemType.{ItemType};
 ghost use Rattle.stream_model.specs.Numbers.{IsItem};
-ghost use Rattle.stream_model.specs.Lists.{item};
-ghost use Rattle.stream_model.specs.Kernels.{listed};
+ghost use Rattle.stream_model.specs.Lists.{item, listed};
 ghost use Rattle.stream_model.specs.Meaning.{Meaning, IsLawful};
 ghost use Rattle.math_blocks.specs.Stretch.{each_of};
 
 use crate::stretch::{EachItem, fill_each};
-use block_kinds::{
-    Batch, Block, ByPace, Held, ParamFault, Parameter, Setting, Shape, Single, work_single,
-};
+use block_kinds::{Batch, Block, ByPace, Held, Setting, Shape, Single, work_single};
 use items::{ItemType, Items};
 use lane_kernels::SimdLane;
 use numbers::Number;
 use numbers::range::{greatest, is_item, least};
+use parameters::{ParamFault, Parameter};
 use std::marker::PhantomData;
 
 /// How a constant is applied to items.

@@ -1,7 +1,7 @@
 //! The block that gives items another type.
 ghost use Rattle.std.specs.Prelude.{◌≡◌, ◌≤◌, ◌+◌, ◌-◌, [], map, length, vec_len, vec_capacity};
-ghost use Rattle.stream_model.specs.Kinds.Math.{convert};
-ghost use Rattle.stream_model.specs.Kernels as kernels;
+ghost use Rattle.kind_model.specs.Math.{convert};
+ghost use Rattle.kind_model.specs.Kernels as kernels;
 ghost use Rattle.items.specs.Items.{type_of, numbers_of, spare_of};
 
 use block_kinds::{Batch, Block, ByPace, Held, Shape, Single, work_single};

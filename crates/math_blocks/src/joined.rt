@@ -1,10 +1,9 @@
 //! Blocks that make each item of one item of each input.
 ghost use Rattle.std.specs.Prelude.{◌≡◌, ◌≤◌, ◌+◌, ◌-◌, ◌++◌, ℤ, List, [], length, map, take, vec_len, vec_capacity};
 ghost use Rattle.stream_model.specs.declared.vocabulary.ItemType.{ItemType};
-ghost use Rattle.stream_model.specs.Lists.{item};
-ghost use Rattle.stream_model.specs.Kernels.{listed};
+ghost use Rattle.stream_model.specs.Lists.{item, listed};
 ghost use Rattle.stream_model.specs.Meaning.{Meaning, IsLawful};
-ghost use Rattle.stream_model.specs.Kinds.Math.{items_at};
+ghost use Rattle.kind_model.specs.Math.{items_at};
 ghost use Rattle.items.specs.Items.{type_of, numbers_of, spare_of};
 ghost use Rattle.math_blocks.specs.Joined.{AreJoined, CanJoin, joined_of};
 

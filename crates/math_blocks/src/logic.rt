@@ -11,7 +11,7 @@ pub struct BitwiseAnd;
 
 impl Joins for BitwiseAnd {
     ghost use Rattle.std.specs.Prelude.{refl, bit_and};
-    ghost use Rattle.stream_model.specs.Kinds.Math.{and_of};
+    ghost use Rattle.kind_model.specs.Math.{and_of};
     ghost use Rattle.kind_laws.specs.Math.{and_of-lawful};
     ghost use Rattle.math_blocks.specs.Joined.{bits_of_all, bits_of_two, all_set};
     ghost use Rattle.math_blocks.specs.Bitwise.{ands_joined};
@@ -46,7 +46,7 @@ pub struct BitwiseOr;
 
 impl Joins for BitwiseOr {
     ghost use Rattle.std.specs.Prelude.{refl, bit_or};
-    ghost use Rattle.stream_model.specs.Kinds.Math.{or_of};
+    ghost use Rattle.kind_model.specs.Math.{or_of};
     ghost use Rattle.kind_laws.specs.Math.{or_of-lawful};
     ghost use Rattle.math_blocks.specs.Joined.{bits_of_all, bits_of_two, none_set};
     ghost use Rattle.math_blocks.specs.Bitwise.{ors_joined};
@@ -81,7 +81,7 @@ pub struct BitwiseXor;
 
 impl Joins for BitwiseXor {
     ghost use Rattle.std.specs.Prelude.{refl, bit_xor};
-    ghost use Rattle.stream_model.specs.Kinds.Math.{xor_of};
+    ghost use Rattle.kind_model.specs.Math.{xor_of};
     ghost use Rattle.kind_laws.specs.Math.{xor_of-lawful};
     ghost use Rattle.math_blocks.specs.Joined.{bits_of_all, bits_of_two, none_set};
     ghost use Rattle.math_blocks.specs.Bitwise.{xors_joined};

@@ -2,14 +2,14 @@
 ghost use Rattle.std.specs.Prelude.{◌≡◌, ℤ, [], length, map, pos, IsOk, IfOk, IfErr, IsErrOf, OnOk, ◌↔◌, ◌⊎◌};
 ghost use Rattle.stream_model.specs.Numbers.{AreItems};
 ghost use Rattle.stream_model.specs.declared.vocabulary.ItemType.TheVariants as types;
-ghost use Rattle.stream_model.specs.Lists.{item};
-ghost use Rattle.stream_model.specs.Kernels.{listed};
-ghost use Rattle.stream_model.specs.Kinds.Math.{looked_up, map_bb};
+ghost use Rattle.stream_model.specs.Lists.{item, listed};
+ghost use Rattle.kind_model.specs.Math.{looked_up, map_bb};
 
-use block_kinds::{Batch, Block, ByPace, Held, ParamFault, Parameter, Shape, Single, work_single};
+use block_kinds::{Batch, Block, ByPace, Held, Shape, Single, work_single};
 use items::{ItemType, Items};
 use lane_work::{ByteWork, make_bytes};
 use numbers::vectors::narrowed;
+use parameters::{ParamFault, Parameter};
 use std::alloc::Global;
 
 /// For each byte the table's number at it, and bytes past the table's end as they are; as GNU Radio's `map_bb`.

@@ -1,12 +1,13 @@
 //! The block that sums up the last items.
 ghost use Rattle.std.specs.Prelude.{◌≡◌, ◌≤◌, ◌↔◌, IsOk, IfOk, IfErr};
-ghost use Rattle.stream_model.specs.Kinds.Math.{moving_sum};
+ghost use Rattle.kind_model.specs.Math.{moving_sum};
 
-use block_kinds::{Batch, Block, ByPace, Held, ParamFault, Parameter, Shape, Single, work_single};
+use block_kinds::{Batch, Block, ByPace, Held, Shape, Single, work_single};
 use items::{ItemType, Items};
 use lane_kernels::SimdLane;
 use lane_work::{LaneWork, make_items, sum_of};
 use numbers::vectors::are_in_range;
+use parameters::{ParamFault, Parameter};
 
 /// For each item the sum of it and those before it, `length` in all, wrapped to the items' type. As GNU Radio's `moving_average_xx` without its
 /// scale.
@@ -37,8 +38,7 @@ impl MovingSum {
 impl LaneWork for MovingSum {
     ghost use Rattle.std.specs.Prelude.{◌+◌, ◌-◌, length};
     ghost use Rattle.stream_model.specs.Numbers.{wrap};
-    ghost use Rattle.stream_model.specs.Lists.{item};
-    ghost use Rattle.stream_model.specs.Kernels.{listed, sum_below};
+    ghost use Rattle.stream_model.specs.Lists.{item, listed, sum_below};
 
     ghost can_make = { λ b t xs count. length xs ≡ b.length - 1 + count };
 
@@ -72,7 +72,7 @@ impl Single for MovingSum {
 }
 
 impl Block for MovingSum {
-    ghost use Rattle.stream_model.specs.Kinds.Math.{moving_sum};
+    ghost use Rattle.kind_model.specs.Math.{moving_sum};
     ghost use Rattle.kind_laws.specs.Math.{moving_sum-lawful};
     ghost use Rattle.block_kinds.specs.SameItem.{same_sized};
     ghost use Rattle.math_blocks.specs.Kinds.{moving_sum_of};

@@ -1,6 +1,6 @@
 //! The block that inverts all bits.
 ghost use Rattle.std.specs.Prelude.{◌≡◌};
-ghost use Rattle.stream_model.specs.Kinds.Math.{not_of};
+ghost use Rattle.kind_model.specs.Math.{not_of};
 
 use block_kinds::{Batch, Block, ByPace, Held, Shape, Single, work_single};
 use items::{ItemType, Items};
@@ -26,7 +26,7 @@ impl Not {
 
 impl AppendWork for Not {
     ghost use Rattle.std.specs.Prelude.{length};
-    ghost use Rattle.stream_model.specs.Kernels.{not_bits};
+    ghost use Rattle.kind_model.specs.Kernels.{not_bits};
 
     ghost can_make = { λ b t xs count. count ≡ length xs };
 
@@ -52,7 +52,7 @@ impl Single for Not {
 }
 
 impl Block for Not {
-    ghost use Rattle.stream_model.specs.Kinds.Math.{not_of};
+    ghost use Rattle.kind_model.specs.Math.{not_of};
     ghost use Rattle.kind_laws.specs.Math.{not_of-lawful};
     ghost use Rattle.block_kinds.specs.SameItem.{same_item};
     ghost use Rattle.math_blocks.specs.Kinds.{not_block_of};

@@ -2,9 +2,8 @@
 ghost use Rattle.std.specs.Prelude.{◌≡◌, ◌+◌, ◌-◌, ◌^◌, ◌<◌, ◌≤◌, ◌++◌, ℤ, [], length, map, drop, vec_len, vec_capacity};
 ghost use Rattle.stream_model.specs.declared.vocabulary.ItemType.{ItemType};
 ghost use Rattle.stream_model.specs.Numbers.{IsItem};
-ghost use Rattle.stream_model.specs.Lists.{item};
-ghost use Rattle.stream_model.specs.Kernels.{listed};
-ghost use Rattle.stream_model.specs.Kinds.Shapes.{number_set};
+ghost use Rattle.stream_model.specs.Lists.{item, listed};
+ghost use Rattle.stream_model.specs.Shapes.{number_set};
 ghost use Rattle.items.specs.Items.{type_of, numbers_of, spare_of};
 ghost use Rattle.settings.specs.Values.{value_of, held_of};
 ghost use Rattle.block_kinds.specs.Fill.{CanFill, HasFilled};

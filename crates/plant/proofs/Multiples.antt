@@ -1,7 +1,7 @@
 -- How many base firings a firing is shows in the windows: what a block made of windows that are those of a claim is the claim's work.
 use Rattle.std.proofs.Common.{◌≡◌, ℕ, ℤ, ◌+◌, ◌-◌, ◌*◌, ◌/◌, ◌<◌, ◌≤◌, List, length, Option, Some, None, refl, arith, ap, sym, ◌∙◌, subst}
 use Rattle.std.proofs.Math.Nat.{mul-add, mul-div_cancel, mul-div_cancel_left}
-use Rattle.kind_laws.specs.Windows.{length-window}
+use Rattle.shape_laws.specs.Windows.{length-window}
 use Rattle.stream_model.specs.declared.vocabulary.Role.{Role}
 use Rattle.stream_model.specs.declared.vocabulary.Role.TheVariants.{Source, Work, Keep, Discard}
 use Rattle.stream_model.specs.Settings.{Held}

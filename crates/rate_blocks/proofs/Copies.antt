@@ -3,9 +3,8 @@ use Rattle.std.proofs.Common.{◌≡◌, ℕ, ◌+◌, ◌-◌, ◌*◌, ◌/◌
 use Rattle.std.proofs.lemmas.Bool.{cases_lt}
 use Rattle.std.proofs.lemmas.List.{append_assoc, map-append, ext_get_or, get_or_append_left, get_or-append_right, get_or-replicate, length-replicate}
 use Rattle.std.proofs.lemmas.Nat.{div-mul-add}
-use Rattle.stream_model.specs.Lists.{item}
-use Rattle.stream_model.specs.Kernels.{listed}
-use Rattle.kind_laws.specs.Shared.{item-listed, length-listed}
+use Rattle.stream_model.specs.Lists.{item, listed}
+use Rattle.shape_laws.specs.Shaped.{item-listed, length-listed}
 use Rattle.numbers.proofs.Mapped.{map_replicate}
 use Rattle.rate_blocks.specs.Repeats.{repeated}
 

@@ -7,7 +7,7 @@ use Rattle.stream_model.specs.declared.vocabulary.ItemType.{ItemType}
 use Rattle.stream_model.specs.Lists.{item, item_before}
 use Rattle.stream_model.specs.Settings.{Held}
 use Rattle.stream_model.specs.Meaning.{IsFed, input, given_items}
-use Rattle.stream_model.specs.Kinds.Rates.{head, skiphead, delay}
+use Rattle.kind_model.specs.Rates.{head, skiphead, delay}
 use Rattle.block_kinds.proofs.Fills.{length-fill, item-fill, before-none, whole-given}
 
 module _ (t : ItemType) (n : ℕ) (ts : List Held) (xs : List (List ℤ)) (first count state : ℕ) (w : List ℤ) (hs : List Held) where

@@ -6,11 +6,10 @@ use Rattle.std.proofs.lemmas.Bool.Decides.{nat_tests}
 use Rattle.std.proofs.lemmas.List.{get_or-map, length-map}
 use Rattle.std.proofs.lemmas.Nat.{div_below}
 use Rattle.stream_model.specs.declared.vocabulary.ItemType.{ItemType}
-use Rattle.stream_model.specs.Lists.{item}
-use Rattle.stream_model.specs.Kernels.{listed}
+use Rattle.stream_model.specs.Lists.{item, listed}
 use Rattle.stream_model.specs.Settings.{Held}
 use Rattle.stream_model.specs.Meaning.{IsFed, input, given_items}
-use Rattle.stream_model.specs.Kinds.Rates.{IsMux, turn_of, round_item, stream_mux}
+use Rattle.kind_model.specs.Rates.{IsMux, turn_of, round_item, stream_mux}
 use Rattle.kind_laws.specs.Rates.{item_of_firing, round_some}
 use Rattle.block_kinds.proofs.Fills.{listed-given}
 use Rattle.block_kinds.proofs.Inputs.{length-port, item-port}

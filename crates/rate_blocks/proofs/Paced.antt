@@ -4,12 +4,11 @@ use Rattle.std.proofs.lemmas.Nat.{div_below}
 use Rattle.std.proofs.Math.Nat.{mul-add-div}
 use Rattle.stream_model.specs.declared.vocabulary.ItemType.{ItemType}
 use Rattle.stream_model.specs.Numbers.{wrap}
-use Rattle.stream_model.specs.Lists.{item}
-use Rattle.stream_model.specs.Kernels.{listed, sum_below}
+use Rattle.stream_model.specs.Lists.{item, listed, sum_below}
 use Rattle.stream_model.specs.Settings.{Held}
 use Rattle.stream_model.specs.Meaning.{IsFed, input, given_items}
-use Rattle.stream_model.specs.Kinds.Rates.{keep_one_in_n, integrate, repeat}
-use Rattle.kind_laws.specs.Shared.{sum_below-same}
+use Rattle.kind_model.specs.Rates.{keep_one_in_n, integrate, repeat}
+use Rattle.shape_laws.specs.Shaped.{sum_below-same}
 use Rattle.kind_laws.specs.Rates.{item_of_firing}
 use Rattle.block_kinds.specs.Shape.{IsPaced}
 use Rattle.block_kinds.proofs.Fills.{paced, item-paced, given-paced}

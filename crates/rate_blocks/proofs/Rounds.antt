@@ -7,11 +7,10 @@ use borrow.Rule.Slice.PartMut.{put_mid}
 use Rattle.std.proofs.lemmas.List.{get_or-take, get_or-drop, get_or_append_left, get_or-append_right, length-take-le, length-drop, length-map, map-append, take-map, drop-map, map-set, get_or-set_other, take_all, ext_get_or}
 use Rattle.std.proofs.lemmas.Grind.{get_or-set_at}
 use Rattle.std.proofs.lemmas.Nat.{div_below}
-use Rattle.stream_model.specs.Lists.{item}
-use Rattle.stream_model.specs.Kernels.{listed}
+use Rattle.stream_model.specs.Lists.{item, listed}
 use Rattle.stream_model.specs.Meaning.{input}
-use Rattle.stream_model.specs.Kinds.Rates.{turn_of, round_item}
-use Rattle.kind_laws.specs.Shared.{sum-cons, item-listed, length-listed}
+use Rattle.kind_model.specs.Rates.{turn_of, round_item}
+use Rattle.shape_laws.specs.Shaped.{sum-cons, item-listed, length-listed}
 use Rattle.rate_blocks.specs.declared.turns.Turn.{Turn}
 use Rattle.rate_blocks.specs.Turns.{HasTurned, IsTurnOf}
 

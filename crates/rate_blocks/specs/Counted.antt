@@ -3,7 +3,7 @@ use Rattle.std.specs.Prelude.{◌≡◌, refl}
 use Rattle.std.proofs.Common.{subst, sym}
 use Rattle.stream_model.specs.declared.vocabulary.ItemType.{ItemType}
 use Rattle.stream_model.specs.Meaning.{Meaning}
-use Rattle.stream_model.specs.Kinds.Shapes.{sync}
+use Rattle.stream_model.specs.Shapes.{sync}
 use Rattle.block_kinds.specs.Fill.{IsSingle}
 
 -- as `sync` in its ports, and in that it has no past, no setting and no state; its counts, limit, places of tags and items are its own

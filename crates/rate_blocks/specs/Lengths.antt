@@ -1,6 +1,6 @@
 -- The lengths of a mux as they are given.
 use Rattle.std.specs.Prelude.{◌≤◌, ℕ, ℤ, pos, ◌≤ℤ◌, List, All, length, map, unsigned_abs}
-use Rattle.stream_model.specs.Kinds.Rates.{IsMux}
+use Rattle.kind_model.specs.Rates.{IsMux}
 
 -- whole numbers without their signs
 abbrev pub unsigned : List ℤ → List ℕ

@@ -9,7 +9,7 @@ use Rattle.std.proofs.Common.{arith, nat_eq, sym}
 use Rattle.block_kinds.specs.SameItem.{same_item, same_number}
 use Rattle.stream_model.specs.Meaning.{Meaning, IsLawful}
 use Rattle.kind_laws.specs.Rates.{interleave-lawful, deinterleave-lawful, stream_mux-lawful}
-use Rattle.stream_model.specs.Kinds.Rates.{interleave, deinterleave, stream_mux}
+use Rattle.kind_model.specs.Rates.{interleave, deinterleave, stream_mux}
 use Rattle.rate_blocks.specs.declared.interleave.Interleave.{Interleave}
 use Rattle.rate_blocks.specs.declared.deinterleave.Deinterleave.{Deinterleave}
 use Rattle.rate_blocks.specs.declared.stream_mux.StreamMux.{StreamMux}

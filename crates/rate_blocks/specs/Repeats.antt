@@ -1,7 +1,6 @@
 -- Items that are given several times.
 use Rattle.std.specs.Prelude.{ℕ, ◌*◌, ◌/◌, ℤ, List}
-use Rattle.stream_model.specs.Lists.{item}
-use Rattle.stream_model.specs.Kernels.{listed}
+use Rattle.stream_model.specs.Lists.{item, listed}
 
 -- each of the first `count` items n times
 abbrev pub repeated : ℕ → List ℤ → ℕ → List ℤ

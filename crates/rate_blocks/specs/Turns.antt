@@ -1,7 +1,7 @@
 -- Inputs that take turns on one output, round after round.
 use Rattle.std.specs.Prelude.{◌≡◌, ◌≤◌, ◌<◌, ◌⊎◌, ℕ, ◌+◌, ◌*◌, ℤ, List, length, take, sum}
 use Rattle.stream_model.specs.Lists.{item}
-use Rattle.stream_model.specs.Kinds.Rates.{turn_of}
+use Rattle.kind_model.specs.Rates.{turn_of}
 use Rattle.rate_blocks.specs.declared.turns.Turn.{Turn}
 
 -- so many rounds of the turns of an input: this input's items, and a place for what all inputs give

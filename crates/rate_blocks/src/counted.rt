@@ -2,8 +2,9 @@
 ghost use Rattle.std.specs.Prelude.{◌≡◌, ◌≤◌, ◌↔◌, IsOk, IfOk, IfErr};
 
 use crate::counting::Counting;
-use block_kinds::{Batch, Block, ByPace, Held, ParamFault, Parameter, Shape, Single, work_single};
+use block_kinds::{Batch, Block, ByPace, Held, Shape, Single, work_single};
 use items::{ItemType, Items};
+use parameters::{ParamFault, Parameter};
 use std::marker::PhantomData;
 
 /// A block of one stream with a number `n`. `C` says what it is for.

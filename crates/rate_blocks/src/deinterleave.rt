@@ -1,12 +1,13 @@
 //! The block that gives an item to each output in turn.
 ghost use Rattle.std.specs.Prelude.{◌≡◌, ◌≤◌, ◌<◌, ◌^◌, ◌↔◌, All, [], length, map, IsOk, IfOk, IfErr};
-ghost use Rattle.stream_model.specs.Kinds.Rates.{deinterleave};
+ghost use Rattle.kind_model.specs.Rates.{deinterleave};
 
 use crate::port_count::PortCount;
-use block_kinds::{Block, ByPace, Held, ParamFault, Parameter, Shape, ports};
+use block_kinds::{Block, ByPace, Held, Shape, ports};
 use items::{ItemType, Items};
 use lane_kernels::SimdLane;
 use lane_work::{AppendWork, append_items};
+use parameters::{ParamFault, Parameter};
 
 /// An item to each output in turn, as GNU Radio's `deinterleave` with a block size of 1.
 #[derive(Debug, Drop, PartialEq, Eq)]
@@ -54,7 +55,7 @@ impl AppendWork for EachOf {
 impl Block for Deinterleave {
     ghost use Rattle.block_kinds.specs.SameItem.{same_sized};
     ghost use Rattle.rate_blocks.specs.Mux.{deinterleave_of, deinterleave_of-lawful};
-    ghost use Rattle.stream_model.specs.Kinds.Rates.{deinterleave};
+    ghost use Rattle.kind_model.specs.Rates.{deinterleave};
 
     ghost meaning = { deinterleave_of };
 

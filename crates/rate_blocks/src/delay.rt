@@ -15,7 +15,7 @@ pub struct Late;
 impl Counting for Late {
     ghost use Rattle.std.specs.Prelude.{refl};
     ghost use Rattle.kind_laws.specs.Rates.{delay-lawful};
-    ghost use Rattle.stream_model.specs.Kinds.Rates.{delay};
+    ghost use Rattle.kind_model.specs.Rates.{delay};
 
     ghost equation = { delay };
 

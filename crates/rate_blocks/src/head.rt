@@ -15,7 +15,7 @@ pub struct First;
 impl Counting for First {
     ghost use Rattle.std.specs.Prelude.{refl};
     ghost use Rattle.kind_laws.specs.Rates.{head-lawful};
-    ghost use Rattle.stream_model.specs.Kinds.Rates.{head};
+    ghost use Rattle.kind_model.specs.Rates.{head};
 
     ghost equation = { head };
 

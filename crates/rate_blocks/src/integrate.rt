@@ -21,8 +21,7 @@ pub struct Sums {
 impl LaneWork for Sums {
     ghost use Rattle.std.specs.Prelude.{◌≡◌, ◌+◌, ◌*◌, length};
     ghost use Rattle.stream_model.specs.Numbers.{wrap};
-    ghost use Rattle.stream_model.specs.Lists.{item};
-    ghost use Rattle.stream_model.specs.Kernels.{listed, sum_below};
+    ghost use Rattle.stream_model.specs.Lists.{item, listed, sum_below};
 
     ghost can_make = { λ b t xs count. length xs ≡ b.n * count };
 
@@ -40,7 +39,7 @@ impl LaneWork for Sums {
 impl Counting for Sums {
     ghost use Rattle.std.specs.Prelude.{refl};
     ghost use Rattle.kind_laws.specs.Rates.{integrate-lawful};
-    ghost use Rattle.stream_model.specs.Kinds.Rates.{integrate};
+    ghost use Rattle.kind_model.specs.Rates.{integrate};
 
     ghost equation = { integrate };
 

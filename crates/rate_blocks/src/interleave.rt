@@ -1,12 +1,13 @@
 //! The block that gives an item of each input in turn.
 ghost use Rattle.std.specs.Prelude.{◌≡◌, ◌≤◌, ◌^◌, ◌↔◌, IsOk, IfOk, IfErr};
-ghost use Rattle.stream_model.specs.Kinds.Rates.{interleave};
+ghost use Rattle.kind_model.specs.Rates.{interleave};
 
 use crate::port_count::PortCount;
-use block_kinds::{Block, ByPace, Held, ParamFault, Parameter, Shape, ports};
+use block_kinds::{Block, ByPace, Held, Shape, ports};
 use items::{ItemType, Items};
 use lane_kernels::SimdLane;
 use lane_work::{InputWork, append_inputs};
+use parameters::{ParamFault, Parameter};
 
 /// An item of each input in turn, as GNU Radio's `interleave` with a block size of 1.
 #[derive(Debug, Drop, PartialEq, Eq)]
@@ -53,7 +54,7 @@ impl InputWork for Rounds {
 impl Block for Interleave {
     ghost use Rattle.block_kinds.specs.SameItem.{same_sized};
     ghost use Rattle.rate_blocks.specs.Mux.{interleave_of, interleave_of-lawful};
-    ghost use Rattle.stream_model.specs.Kinds.Rates.{interleave};
+    ghost use Rattle.kind_model.specs.Rates.{interleave};
 
     ghost meaning = { interleave_of };
 

@@ -20,8 +20,7 @@ pub struct Lasts {
 
 impl LaneWork for Lasts {
     ghost use Rattle.std.specs.Prelude.{◌≡◌, ◌+◌, ◌-◌, ◌*◌, length};
-    ghost use Rattle.stream_model.specs.Lists.{item};
-    ghost use Rattle.stream_model.specs.Kernels.{listed};
+    ghost use Rattle.stream_model.specs.Lists.{item, listed};
 
     ghost can_make = { λ b t xs count. length xs ≡ b.n * count };
 
@@ -38,7 +37,7 @@ impl LaneWork for Lasts {
 impl Counting for Lasts {
     ghost use Rattle.std.specs.Prelude.{refl};
     ghost use Rattle.kind_laws.specs.Rates.{keep_one_in_n-lawful};
-    ghost use Rattle.stream_model.specs.Kinds.Rates.{keep_one_in_n};
+    ghost use Rattle.kind_model.specs.Rates.{keep_one_in_n};
 
     ghost equation = { keep_one_in_n };
 

@@ -22,8 +22,7 @@ pub struct Copies {
 
 impl AppendWork for Copies {
     ghost use Rattle.std.specs.Prelude.{◌*◌, ◌/◌, length};
-    ghost use Rattle.stream_model.specs.Lists.{item};
-    ghost use Rattle.stream_model.specs.Kernels.{listed};
+    ghost use Rattle.stream_model.specs.Lists.{item, listed};
 
     ghost can_make = { λ b t xs count. count ≡ b.n * length xs };
 
@@ -87,7 +86,7 @@ fn push_copies<T: SimdLane>(item: T, n: usize, made: &mut Vec<T>)
 impl Counting for Copies {
     ghost use Rattle.std.specs.Prelude.{refl};
     ghost use Rattle.kind_laws.specs.Rates.{repeat-lawful};
-    ghost use Rattle.stream_model.specs.Kinds.Rates.{repeat};
+    ghost use Rattle.kind_model.specs.Rates.{repeat};
 
     ghost equation = { repeat };
 

@@ -15,7 +15,7 @@ pub struct Rest;
 impl Counting for Rest {
     ghost use Rattle.std.specs.Prelude.{refl};
     ghost use Rattle.kind_laws.specs.Rates.{skiphead-lawful};
-    ghost use Rattle.stream_model.specs.Kinds.Rates.{skiphead};
+    ghost use Rattle.kind_model.specs.Rates.{skiphead};
 
     ghost equation = { skiphead };
 

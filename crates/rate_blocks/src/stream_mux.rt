@@ -1,11 +1,12 @@
 //! The block whose inputs take turns of several items.
 ghost use Rattle.std.specs.Prelude.{◌≡◌, ◌≤◌, ◌<◌, ◌↔◌, ◌*◌, All, pos, ◌≤ℤ◌, IsTrue, IsOk, IfOk, IfErr, length, take, sum};
-ghost use Rattle.stream_model.specs.Kinds.Rates.{IsMux, stream_mux};
+ghost use Rattle.kind_model.specs.Rates.{IsMux, stream_mux};
 ghost use Rattle.rate_blocks.specs.Lengths.{AreLengths, unsigned};
 
 use crate::turns::{TakesTurns, Turn, merge_turns};
-use block_kinds::{Block, ByPace, Held, Pace, ParamFault, Parameter, Shape, ports};
+use block_kinds::{Block, ByPace, Held, Pace, Shape, ports};
 use items::{ItemType, Items};
+use parameters::{ParamFault, Parameter};
 
 /// The most inputs.
 const MOST: usize = 16;

@@ -1,8 +1,8 @@
 //! Inputs that take turns on one output.
 ghost use Rattle.std.specs.Prelude.{◌≡◌, ◌≤◌, ◌<◌, ◌+◌, ◌*◌, ◌/◌, ◌%◌, ℕ, List, [], All, length, map, sum};
-ghost use Rattle.stream_model.specs.Kernels.{listed};
+ghost use Rattle.stream_model.specs.Lists.{listed};
 ghost use Rattle.stream_model.specs.Meaning.{input};
-ghost use Rattle.stream_model.specs.Kinds.Rates.{turn_of, round_item};
+ghost use Rattle.kind_model.specs.Rates.{turn_of, round_item};
 ghost use Rattle.items.specs.Items.{type_of, numbers_of, spare_of};
 ghost use Rattle.rate_blocks.specs.Turns.{CanTurn, HasTurned, IsTurnOf};
 

@@ -67,7 +67,7 @@ impl Taps {
 /// What a setting sets: one number, or the taps of a filter.
 #[derive(Debug, Drop)]
 pub enum Value {
-    /// A number, as of `add_const`, `multiply_const` and `scale`. Its range is that of the block.
+    /// A number. The block that is set says its range.
     Number(i64),
     /// The taps of a filter.
     Taps(Taps),

@@ -7,5 +7,4 @@ pub mod Network
 pub mod Firings
 pub mod Claims
 pub mod Machine
-pub mod Kernels
-pub mod Kinds
+pub mod Shapes

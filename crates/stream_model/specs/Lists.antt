@@ -1,6 +1,7 @@
 -- Words on lists that the definitions share.
 use Rattle.std.specs.List.{range_with_len}
-use Rattle.std.specs.Prelude.{◌≡◌, ℕ, zero, suc, ◌+◌, ◌-◌, ℤ, pos, List, ◌++◌, Bool, true, false, slice_index_or, nat_le, if◌then◌else◌, take, drop, replicate}
+use Rattle.std.specs.Prelude.{◌≡◌, ℕ, zero, suc, ◌+◌, ◌-◌, ℤ, pos, List, ◌++◌, map, Bool, true, false, slice_index_or, nat_le, if◌then◌else◌, take, drop, replicate}
+use Rattle.stream_model.specs.Numbers.{total}
 
 -- n, n + 1 and so on: count numbers
 abbrev pub numbers_from : ℕ → ℕ → List ℕ
@@ -9,6 +10,14 @@ numbers_from n count = range_with_len n count
 -- 0 to n - 1
 abbrev pub below : ℕ → List ℕ
 below n = numbers_from 0 n
+
+-- the list of so many items whose item n is f n
+abbrev pub listed : ℕ → (ℕ → ℤ) → List ℤ
+listed count f = map f (below count)
+
+-- the sum of f j over the j below count
+abbrev pub sum_below : ℕ → (ℕ → ℤ) → ℤ
+sum_below count f = total (map f (below count))
 
 -- item n of a list, 0 past its end
 abbrev pub item : List ℤ → ℕ → ℤ

@@ -5,7 +5,7 @@ use Rattle.std.specs.Prelude.{fold}
 use Rattle.stream_model.specs.declared.vocabulary.ItemType.TheVariants.{Byte}
 use Rattle.stream_model.specs.Lists.{numbers_from, greatest}
 use Rattle.stream_model.specs.Network.{Connection, Network}
-use Rattle.stream_model.specs.Kinds.Rates.{skiphead}
+use Rattle.kind_model.specs.Rates.{skiphead}
 use Rattle.graph_model.specs.Rates.{Balanced, TooLarge, balance_of, count_limit, ahead, needed_on, past_skips, is_past_skips, fits_limit}
 use Rattle.worked_rows.specs.Rates.{around, link}
 

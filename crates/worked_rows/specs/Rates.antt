@@ -6,9 +6,9 @@ use Rattle.stream_model.specs.Lists.{below}
 use Rattle.stream_model.specs.Meaning.{Meaning}
 use Rattle.stream_model.specs.Network.{Node, Connection, Network, State, opening}
 use Rattle.stream_model.specs.Machine.{Capacities, Feed, Close, Read, Reply, next, run_of, step_of}
-use Rattle.stream_model.specs.Kinds.Ends.{vector_source, vector_sink}
-use Rattle.stream_model.specs.Kinds.Math.{add}
-use Rattle.stream_model.specs.Kinds.Rates.{keep_one_in_n}
+use Rattle.kind_model.specs.Ends.{vector_source, vector_sink}
+use Rattle.kind_model.specs.Math.{add}
+use Rattle.kind_model.specs.Rates.{keep_one_in_n}
 
 -- a block whose outputs have this configured capacity
 abbrev pub sized : ℕ → Meaning → Node

@@ -11,10 +11,10 @@ use Rattle.stream_model.specs.Network.{Node, Connection, Network, State, node_at
 use Rattle.stream_model.specs.Machine.{Job, Reply, Claimed, Did, Capacities, next, step_of, counts_in, job_of, claim_of, commit_of, abandon_of, feed_of, close_of, set_of, read_of}
 use Rattle.stream_model.specs.Machine as machine
 use Rattle.stream_model.specs.Claims.{most, decide}
-use Rattle.stream_model.specs.Kinds.Shapes.{ports, at_rate}
-use Rattle.stream_model.specs.Kinds.Ends.{vector_source, vector_sink}
-use Rattle.stream_model.specs.Kinds.Math.{add_const, add}
-use Rattle.stream_model.specs.Kinds.Rates.{keep_one_in_n}
+use Rattle.stream_model.specs.Shapes.{ports, at_rate}
+use Rattle.kind_model.specs.Ends.{vector_source, vector_sink}
+use Rattle.kind_model.specs.Math.{add_const, add}
+use Rattle.kind_model.specs.Rates.{keep_one_in_n}
 use Rattle.worked_rows.specs.Kinds.{numbers, alone, set_at}
 
 -- the block, with the options that a graph has by default and this capacity

@@ -4,9 +4,9 @@
 ghost use Rattle.std.specs.Prelude.{◌≡◌, [], ◌∷◌, Some, None, replicate};
 ghost use Rattle.stream_model.specs.declared.vocabulary.ItemType.TheVariants.{Byte, Short};
 ghost use Rattle.stream_model.specs.declared.vocabulary.Policy.TheVariants.{One, All};
-ghost use Rattle.stream_model.specs.Kinds.Ends.{vector_sink};
-ghost use Rattle.stream_model.specs.Kinds.Math.{add, not_of};
-ghost use Rattle.stream_model.specs.Kinds.Rates.{repeat, head};
+ghost use Rattle.kind_model.specs.Ends.{vector_sink};
+ghost use Rattle.kind_model.specs.Math.{add, not_of};
+ghost use Rattle.kind_model.specs.Rates.{repeat, head};
 ghost use Rattle.graph_model.specs.Gains.{longest_within_gain};
 ghost use Rattle.graph_model.specs.Graphs.{In, Out, BadName, BadMultiple, BadCapacity, DuplicateName, InputTaken, PortGap, TypeMismatch, Loop, TooFewPorts, OneToOne, Gain, PortRange, UnknownBlock, TooLarge, add_fault, connect_fault, graph_fault};
 ghost use Rattle.worked_rows.specs.Runs.{two_through};

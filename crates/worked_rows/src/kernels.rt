@@ -2,7 +2,7 @@
 
 ghost use Rattle.std.specs.Prelude.{◌≡◌, pos, negsuc, [], ◌∷◌, replicate};
 ghost use Rattle.stream_model.specs.declared.vocabulary.ItemType.TheVariants.{Int};
-ghost use Rattle.stream_model.specs.Kernels.{dot, fir_row, scale_sat, diff_decode};
+ghost use Rattle.kind_model.specs.Kernels.{dot, fir_row, scale_sat, diff_decode};
 
 /// The rows, each with what it is about above its clauses.
 pub fn rows()

@@ -3,10 +3,10 @@
 
 ghost use Rattle.std.specs.Prelude.{◌≡◌, ◌≤◌, ℕ, [], ◌∷◌, true, false};
 ghost use Rattle.stream_model.specs.declared.vocabulary.ItemType.TheVariants.{Byte};
-ghost use Rattle.stream_model.specs.Kinds.Ends.{vector_source};
+ghost use Rattle.kind_model.specs.Ends.{vector_source};
 ghost use Rattle.worked_rows.specs.Kinds.{numbers};
-ghost use Rattle.stream_model.specs.Kinds.Math.{add, not_of};
-ghost use Rattle.stream_model.specs.Kinds.Rates.{keep_one_in_n, repeat, head, skiphead, delay, stream_mux};
+ghost use Rattle.kind_model.specs.Math.{add, not_of};
+ghost use Rattle.kind_model.specs.Rates.{keep_one_in_n, repeat, head, skiphead, delay, stream_mux};
 ghost use Rattle.stream_model.specs.Machine.{Piece};
 ghost use Rattle.graph_model.specs.Rates.{Balanced, Uneven, TooLarge, balance_of, capacities_of};
 ghost use Rattle.worked_rows.specs.Rates.{sized, plain, source, sink, into, link, chain, around, joined, uneven_beside, beside, shown};

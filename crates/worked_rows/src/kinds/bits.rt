@@ -2,7 +2,7 @@
 
 ghost use Rattle.std.specs.Prelude.{◌≡◌, [], ◌∷◌};
 ghost use Rattle.worked_rows.specs.Kinds.{numbers, output_of, output_in_cuts};
-ghost use Rattle.stream_model.specs.Kinds.Bits.{pack_k_bits, unpack_k_bits, diff_encoder, diff_decoder, scrambler, descrambler, additive_scrambler};
+ghost use Rattle.kind_model.specs.Bits.{pack_k_bits, unpack_k_bits, diff_encoder, diff_decoder, scrambler, descrambler, additive_scrambler};
 
 /// The rows, each with what it is about above its clauses.
 pub fn rows()

@@ -4,7 +4,7 @@ ghost use Rattle.std.specs.Prelude.{◌≡◌, pos, negsuc, [], ◌∷◌};
 ghost use Rattle.stream_model.specs.declared.vocabulary.ItemType.TheVariants.{Short};
 ghost use Rattle.stream_model.specs.Settings.{Taps};
 ghost use Rattle.worked_rows.specs.Kinds.{numbers, set_at, output_of, output_under, output_in_cuts};
-ghost use Rattle.stream_model.specs.Kinds.Filters.{fir, interp_fir};
+ghost use Rattle.kind_model.specs.Filters.{fir, interp_fir};
 
 /// The rows, each with what it is about above its clauses.
 pub fn rows()

@@ -5,7 +5,7 @@ ghost use Rattle.stream_model.specs.declared.vocabulary.ItemType.TheVariants.{By
 ghost use Rattle.stream_model.specs.Settings.{Number};
 ghost use Rattle.stream_model.specs.Network.{fires, stream_from};
 ghost use Rattle.worked_rows.specs.Kinds.{numbers, set_at, alone, output_of, output_under, output_in_cuts};
-ghost use Rattle.stream_model.specs.Kinds.Math.{add_const, multiply_const, scale, add, and_of, or_of, xor_of, not_of, map_bb, convert, moving_sum};
+ghost use Rattle.kind_model.specs.Math.{add_const, multiply_const, scale, add, and_of, or_of, xor_of, not_of, map_bb, convert, moving_sum};
 
 /// The rows, each with what it is about above its clauses.
 pub fn rows()

@@ -4,7 +4,7 @@ ghost use Rattle.std.specs.Prelude.{◌≡◌, pos, [], ◌∷◌, map};
 ghost use Rattle.stream_model.specs.declared.vocabulary.ItemType.TheVariants.{Byte};
 ghost use Rattle.stream_model.specs.Lists.{numbers_from};
 ghost use Rattle.worked_rows.specs.Kinds.{numbers, output_of, output_in_cuts, firings_of};
-ghost use Rattle.stream_model.specs.Kinds.Rates.{keep_one_in_n, integrate, repeat, interleave, deinterleave, head, skiphead, delay, stream_mux};
+ghost use Rattle.kind_model.specs.Rates.{keep_one_in_n, integrate, repeat, interleave, deinterleave, head, skiphead, delay, stream_mux};
 
 /// The rows, each with what it is about above its clauses.
 pub fn rows()

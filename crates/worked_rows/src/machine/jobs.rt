@@ -10,8 +10,8 @@ ghost use Rattle.stream_model.specs.Network.{State};
 ghost use Rattle.stream_model.specs.Machine.{Job, Busy, is_quiet, Fed, Taken, WaitingItems, Did, Abandoned, Piece, Refused, foreign, commit_of, abandon_of};
 ghost use Rattle.worked_rows.specs.Runs.{through, plus_ten, own_capacities, two_readers, sum_of_two, SetAt, Claim, Commit, Abandon, Step, Read, byte_feed, claim_reply, plain_claim, job_at, replies_of, state_after};
 ghost use Rattle.worked_rows.specs.Kinds.{numbers, alone, set_at};
-ghost use Rattle.stream_model.specs.Kinds.Math.{add_const, moving_sum};
-ghost use Rattle.stream_model.specs.Kinds.Bits.{diff_encoder};
+ghost use Rattle.kind_model.specs.Math.{add_const, moving_sum};
+ghost use Rattle.kind_model.specs.Bits.{diff_encoder};
 
 /// The rows, each with what it is about above its clauses.
 pub fn rows()

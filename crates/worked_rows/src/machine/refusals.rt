@@ -8,8 +8,8 @@ ghost use Rattle.stream_model.specs.Network.{opening_within};
 ghost use Rattle.stream_model.specs.Machine.{Fed, Closed, Taken, Done, WaitingItems, Did, Refused, Late, feed_of};
 ghost use Rattle.worked_rows.specs.Runs.{byte_source, chain, through, plus_ten, with_first_tape, Feed, Close, SetAt, SetNow, Claim, Commit, Abandon, Step, Read, byte_feed, marked_feed, mark, own_capacities, replies_of, replies_to};
 ghost use Rattle.worked_rows.specs.Kinds.{numbers, alone};
-ghost use Rattle.stream_model.specs.Kinds.Ends.{null_sink};
-ghost use Rattle.stream_model.specs.Kinds.Filters.{fir};
+ghost use Rattle.kind_model.specs.Ends.{null_sink};
+ghost use Rattle.kind_model.specs.Filters.{fir};
 
 /// The rows, each with what it is about above its clauses.
 pub fn rows()

@@ -8,9 +8,9 @@ ghost use Rattle.stream_model.specs.Lists.{numbers_from};
 ghost use Rattle.stream_model.specs.Machine.{Fed, Closed, Done, WaitingItems, WaitingRoom, Did, Piece, is_quiet, is_all_done};
 ghost use Rattle.worked_rows.specs.Runs.{node, sum_of_two, byte_source, byte_sink, chain, arrow, network, plus_ten, two_readers, sum_with, through, times, own_capacities, Close, Step, Read, byte_feed, replies_of, state_after, firings_in};
 ghost use Rattle.worked_rows.specs.Kinds.{numbers, alone};
-ghost use Rattle.stream_model.specs.Kinds.Ends.{vector_source};
-ghost use Rattle.stream_model.specs.Kinds.Math.{add_const, add, not_of};
-ghost use Rattle.stream_model.specs.Kinds.Rates.{head, keep_one_in_n, repeat, deinterleave, skiphead, delay};
+ghost use Rattle.kind_model.specs.Ends.{vector_source};
+ghost use Rattle.kind_model.specs.Math.{add_const, add, not_of};
+ghost use Rattle.kind_model.specs.Rates.{head, keep_one_in_n, repeat, deinterleave, skiphead, delay};
 
 /// The rows, each with what it is about above its clauses.
 pub fn rows()

@@ -7,7 +7,7 @@ ghost use Rattle.stream_model.specs.Settings.{Number, Taps};
 ghost use Rattle.stream_model.specs.Machine.{Fed, Closed, Taken, Abandoned, Done, Busy, Did, Piece, Late};
 ghost use Rattle.worked_rows.specs.Runs.{through, plus_ten, Feed, Close, SetAt, SetNow, Claim, Commit, Abandon, Step, Read, byte_feed, claim_reply, plain_claim, replies_of};
 ghost use Rattle.worked_rows.specs.Kinds.{numbers, alone, set_at};
-ghost use Rattle.stream_model.specs.Kinds.Filters.{fir};
+ghost use Rattle.kind_model.specs.Filters.{fir};
 
 /// The rows, each with what it is about above its clauses.
 pub fn rows()

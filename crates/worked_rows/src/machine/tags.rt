@@ -7,8 +7,8 @@ ghost use Rattle.stream_model.specs.declared.vocabulary.ItemType.TheVariants.{By
 ghost use Rattle.stream_model.specs.Machine.{Reply, Fed, Did, Piece};
 ghost use Rattle.worked_rows.specs.Runs.{byte_source, byte_sink, chain, two_beside, arrow, network, through, sum_of_two, thinned_sum, plus_ten, Step, Read, byte_feed, marked_feed, mark, tag, steps, full_replies, replies_of};
 ghost use Rattle.worked_rows.specs.Kinds.{numbers, alone};
-ghost use Rattle.stream_model.specs.Kinds.Math.{add};
-ghost use Rattle.stream_model.specs.Kinds.Rates.{stream_mux, keep_one_in_n, skiphead, delay, repeat};
+ghost use Rattle.kind_model.specs.Math.{add};
+ghost use Rattle.kind_model.specs.Rates.{stream_mux, keep_one_in_n, skiphead, delay, repeat};
 
 /// The rows, each with what it is about above its clauses.
 pub fn rows()

@@ -1,5 +1,5 @@
 use Rattle.std.proofs.Common.{◌≡◌, ℕ, ◌+◌, ◌%◌, ◌<◌, pos, length, map, get_or}
-use Rattle.stream_model.specs.Kinds.Bits.{low_bit}
+use Rattle.kind_model.specs.Bits.{low_bit}
 use Rattle.bit_blocks.specs.Codes.{masked_before}
 use Rattle.bit_blocks.proofs.sums.masked_sums.Given as goal
 

@@ -1,5 +1,5 @@
 use Rattle.std.proofs.Common.{Ok, ap, sym, ◌∙◌}
-use Rattle.stream_model.specs.Kinds.Bits.{descrambler}
+use Rattle.kind_model.specs.Bits.{descrambler}
 use Rattle.kind_keys.proofs.make.make_descrambler.Goals as goal
 
 pub returns-in-Ok : goal.returns-in-Ok

@@ -1,6 +1,6 @@
 use Rattle.std.proofs.Common.{◌≡◌, true, Ok, ap, sym, ◌∙◌, subst}
-use Rattle.stream_model.specs.Kinds.Filters.{fir}
-use Rattle.block_kinds.specs.declared.fault.Parameter.TheVariants.{Decimation, Shift, Taps}
+use Rattle.kind_model.specs.Filters.{fir}
+use Rattle.parameters.specs.declared.fault.Parameter.TheVariants.{Decimation, Shift, Taps}
 use Rattle.kind_keys.specs.Kinds.{filtered, parameter}
 use Rattle.kind_keys.specs.Reading.{IsBad}
 use Rattle.kind_keys.specs.Tables.{count_at, numbers_at, small_at}

@@ -1,6 +1,6 @@
 use Rattle.std.proofs.Common.{◌≡◌, true, Ok, Err, ap, sym, ◌∙◌, subst}
-use Rattle.stream_model.specs.Kinds.Math.{map_bb}
-use Rattle.block_kinds.specs.declared.fault.Parameter.TheVariants.{Map}
+use Rattle.kind_model.specs.Math.{map_bb}
+use Rattle.parameters.specs.declared.fault.Parameter.TheVariants.{Map}
 use Rattle.kind_keys.specs.Kinds.{needs, are_bytes, parameter}
 use Rattle.kind_keys.specs.Reading.{IsBad}
 use Rattle.kind_keys.specs.Tables.{numbers_at}

@@ -1,6 +1,6 @@
 use Rattle.std.proofs.Common.{◌≡◌, false, refl, Ok, ap, sym, ◌∙◌, subst}
-use Rattle.stream_model.specs.Kinds.Rates.{stream_mux}
-use Rattle.block_kinds.specs.declared.fault.Parameter.TheVariants.{Lengths}
+use Rattle.kind_model.specs.Rates.{stream_mux}
+use Rattle.parameters.specs.declared.fault.Parameter.TheVariants.{Lengths}
 use Rattle.rate_blocks.specs.Lengths.{unsigned}
 use Rattle.kind_keys.specs.Kinds.{needs, are_lengths, parameter}
 use Rattle.kind_keys.specs.Reading.{IsBad}

@@ -1,5 +1,5 @@
 use Rattle.std.proofs.Common.{◌≡◌, ◌<◌, ◌∙◌, map, length, arith, pos}
-use Rattle.stream_model.specs.Kernels.{packed}
+use Rattle.kind_model.specs.Kernels.{packed}
 use Rattle.lane_filters.proofs.PackedBits.{packed_from}
 use Rattle.lane_filters.proofs.Neighbours.{one_more}
 use Rattle.lane_filters.proofs.bits.pack_bits.Goals as goal

@@ -1,5 +1,6 @@
 use Rattle.std.proofs.Common.{◌≡◌, map, take, pos}
-use Rattle.stream_model.specs.Kernels.{listed, packed}
+use Rattle.stream_model.specs.Lists.{listed}
+use Rattle.kind_model.specs.Kernels.{packed}
 use Rattle.lane_filters.proofs.bits.pack_bits.Given as goal
 
 abbrev pub invariant-loop-n : goal.invariant-loop-n

@@ -1,5 +1,6 @@
 use Rattle.std.proofs.Common.{◌≡◌, ◌*◌, map, take, pos}
-use Rattle.stream_model.specs.Kernels.{listed, unpacked}
+use Rattle.stream_model.specs.Lists.{listed}
+use Rattle.kind_model.specs.Kernels.{unpacked}
 use Rattle.lane_filters.proofs.bits.unpack_bits.Given as goal
 
 abbrev pub invariant-loop-n : goal.invariant-loop-n

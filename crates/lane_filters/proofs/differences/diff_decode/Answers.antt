@@ -1,7 +1,7 @@
 use Rattle.std.proofs.Common.{◌≡◌, ◌+◌, ◌*◌, ◌-◌, ◌<◌, ◌∙◌, ap, sym, map, take, length, arith, refl, pos}
 use lib.Lanes.{put_chunk}
 use Rattle.std.proofs.lemmas.List.{length-set}
-use Rattle.stream_model.specs.Kernels.{listed}
+use Rattle.stream_model.specs.Lists.{listed}
 use Rattle.lane_filters.specs.Words.{decoded}
 use Rattle.lane_filters.proofs.Neighbours.{decoded_first, decoded_is, differences_more, one_more}
 use Rattle.lane_filters.proofs.differences.diff_decode.Goals as goal

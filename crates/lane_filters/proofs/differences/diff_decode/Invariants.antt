@@ -1,5 +1,5 @@
 use Rattle.std.proofs.Common.{◌≡◌, ◌+◌, ◌*◌, map, take, pos}
-use Rattle.stream_model.specs.Kernels.{listed}
+use Rattle.stream_model.specs.Lists.{listed}
 use Rattle.lane_filters.specs.Words.{decoded}
 use Rattle.lane_filters.proofs.differences.diff_decode.Given as goal
 

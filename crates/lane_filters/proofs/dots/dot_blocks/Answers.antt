@@ -3,7 +3,7 @@ use mir.Val.{to_z}
 use Rattle.std.specs.Int.RustNames.{unsigned_abs}
 use Rattle.std.proofs.lemmas.Int.{to_z-of_z}
 use Rattle.std.proofs.lemmas.Simd.{Each1-replicate}
-use Rattle.stream_model.specs.Kernels.{sum_below}
+use Rattle.stream_model.specs.Lists.{sum_below}
 use Rattle.stream_model.specs.Numbers.{total}
 use Rattle.lane_filters.specs.Words.{tap_product}
 use Rattle.lane_filters.proofs.Signed.{back, lanes_fit, nearer, total_near}

@@ -1,6 +1,6 @@
 use Rattle.std.proofs.Common.{◌≡◌, ◌*◌, ◌^◌, map, length, w64}
 use mir.Val.{to_z}
-use Rattle.stream_model.specs.Kernels.{sum_below}
+use Rattle.stream_model.specs.Lists.{sum_below}
 use Rattle.stream_model.specs.Numbers.{total}
 use Rattle.lane_filters.specs.Words.{AreWithin, tap_product}
 use Rattle.lane_filters.proofs.dots.dot_blocks.Given as goal

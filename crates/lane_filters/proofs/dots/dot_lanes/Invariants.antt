@@ -1,6 +1,6 @@
 use Rattle.std.proofs.Common.{◌≡◌, ◌≤◌, ◌*◌, ◌^◌, map}
 use Rattle.std.specs.Int.RustNames.{unsigned_abs}
-use Rattle.stream_model.specs.Kernels.{sum_below}
+use Rattle.stream_model.specs.Lists.{sum_below}
 use Rattle.lane_filters.specs.Words.{tap_product}
 use Rattle.lane_filters.proofs.dots.dot_lanes.Given as goal
 

@@ -1,6 +1,6 @@
 use Rattle.std.proofs.Common.{◌≡◌, ◌+◌, ◌*◌, ◌/◌, ◌≤◌, ◌^◌, ◌∙◌, ap, sym, map, take, length, arith}
 use Rattle.std.proofs.lemmas.List.{length-map}
-use Rattle.stream_model.specs.Kernels.{listed}
+use Rattle.stream_model.specs.Lists.{listed}
 use Rattle.lane_filters.specs.Words.{output}
 use Rattle.lane_filters.proofs.Signed.{near_again}
 use Rattle.lane_filters.proofs.Blocks.{outputs_more}

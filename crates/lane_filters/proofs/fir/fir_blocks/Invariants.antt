@@ -1,5 +1,5 @@
 use Rattle.std.proofs.Common.{◌≡◌, ◌*◌, map, take}
-use Rattle.stream_model.specs.Kernels.{listed}
+use Rattle.stream_model.specs.Lists.{listed}
 use Rattle.lane_filters.specs.Words.{output}
 use Rattle.lane_filters.proofs.fir.fir_blocks.Given as goal
 

@@ -2,7 +2,7 @@ use Rattle.std.proofs.Common.{◌≡◌, ◌+◌, ◌<◌, ◌∙◌, ◌++◌, 
 use mir.Val.{to_z, of_z}
 use Rattle.std.proofs.lemmas.Int.{to_z-of_z}
 use Rattle.std.proofs.lemmas.List.{length-map, map-set, take_more_set}
-use Rattle.stream_model.specs.Kernels.{listed}
+use Rattle.stream_model.specs.Lists.{listed}
 use Rattle.stream_model.specs.Numbers.{sat, rnd}
 use Rattle.lane_filters.specs.Words.{output}
 use Rattle.lane_filters.proofs.Lists.{listed_more}

@@ -1,6 +1,6 @@
 use Rattle.std.proofs.Common.{◌∙◌, map, w16}
 use Rattle.std.proofs.lemmas.Int.{to_z-of_z}
-use Rattle.stream_model.specs.Kernels.{scaled}
+use Rattle.kind_model.specs.Kernels.{scaled}
 use Rattle.lane_kernels.proofs.Listed.{mapped_is_listed}
 use Rattle.lane_kernels.proofs.arithmetic.scale_sat.Goals as goal
 

@@ -3,8 +3,8 @@ use Rattle.std.proofs.lemmas.List.{ext_get_or}
 use Rattle.stream_model.specs.declared.vocabulary.ItemType.{ItemType}
 use Rattle.stream_model.specs.Numbers.{AreItems, wrap}
 use Rattle.stream_model.specs.Lists.{item}
-use Rattle.stream_model.specs.Kernels as kernels
-use Rattle.kind_laws.specs.Shared.{item-listed, length-listed}
+use Rattle.kind_model.specs.Kernels as kernels
+use Rattle.shape_laws.specs.Shaped.{item-listed, length-listed}
 use Rattle.items.specs.Items.{type_of, numbers_of}
 use Rattle.block_kinds.specs.SameItem.{same_item}
 use Rattle.math_blocks.specs.Wrapping.{wrap_own}

@@ -1,5 +1,5 @@
 use Rattle.std.proofs.Common.{◌≡◌, length, ap, sym, ◌∙◌, arith}
-use Rattle.kind_laws.specs.Shared.{length-listed}
+use Rattle.shape_laws.specs.Shaped.{length-listed}
 use Rattle.items.specs.Items.{type_of, numbers_of}
 use Rattle.math_blocks.proofs.Joining.{next_joined, All-at}
 use Rattle.math_blocks.proofs.joined.join_windows.Goals as goal

@@ -1,6 +1,6 @@
 use Rattle.std.proofs.Common.{◌≡◌, ◌+◌, ◌≤◌, length, map, take}
-use Rattle.stream_model.specs.Kernels.{listed}
-use Rattle.stream_model.specs.Kinds.Math.{items_at}
+use Rattle.stream_model.specs.Lists.{listed}
+use Rattle.kind_model.specs.Math.{items_at}
 use Rattle.items.specs.Items.{type_of, numbers_of, spare_of}
 use Rattle.math_blocks.proofs.joined.join_windows.Given as goal
 

@@ -1,6 +1,6 @@
 use Rattle.std.proofs.Common.{◌≡◌, ℕ, ◌<◌, pos, map}
 use Rattle.stream_model.specs.Lists.{item}
-use Rattle.stream_model.specs.Kinds.Math.{looked_up}
+use Rattle.kind_model.specs.Math.{looked_up}
 use Rattle.math_blocks.proofs.map_bb.look_up_all.Given as goal
 
 abbrev pub invariant-loop-k : goal.invariant-loop-k

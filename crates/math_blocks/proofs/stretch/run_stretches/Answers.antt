@@ -1,11 +1,10 @@
 use Rattle.std.proofs.Common.{◌≡◌, ℕ, ◌+◌, ◌-◌, ◌++◌, ◌∙◌, length, map, take, drop, refl, ap, sym, arith, rules, FitsSigned, w64}
 use Rattle.std.proofs.lemmas.Int.{to_z-of_z}
 use Rattle.std.proofs.lemmas.List.{take_all, length-take-le, length-drop}
-use Rattle.stream_model.specs.Lists.{item}
-use Rattle.stream_model.specs.Kernels.{listed}
+use Rattle.stream_model.specs.Lists.{item, listed}
 use Rattle.settings.specs.Values.{held_of}
 use Rattle.lane_kernels.proofs.Parts.{take_two}
-use Rattle.kind_laws.specs.Shared.{length-listed}
+use Rattle.shape_laws.specs.Shaped.{length-listed}
 use Rattle.math_blocks.specs.Stretch.{number_among}
 use Rattle.math_blocks.proofs.Stretches.{next_stretch, stretch_written, set_item, over_none}
 use Rattle.math_blocks.proofs.stretch.run_stretches.Goals as goal

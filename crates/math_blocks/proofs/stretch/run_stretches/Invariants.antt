@@ -1,6 +1,5 @@
 use Rattle.std.proofs.Common.{◌≡◌, ℕ, ◌+◌, ◌-◌, ◌<◌, ◌≤◌, map, take, drop, length, vec_len, vec_capacity}
-use Rattle.stream_model.specs.Lists.{item}
-use Rattle.stream_model.specs.Kernels.{listed}
+use Rattle.stream_model.specs.Lists.{item, listed}
 use Rattle.settings.specs.Values.{held_of}
 use Rattle.block_kinds.specs.InForce.{AreOver}
 use Rattle.math_blocks.specs.Stretch.{number_among}

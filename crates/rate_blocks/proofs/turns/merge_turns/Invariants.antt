@@ -1,6 +1,6 @@
 use Rattle.std.proofs.Common.{◌≡◌, ◌*◌, ◌+◌, ◌<◌, ℕ, map, take, sum, length}
 use Rattle.stream_model.specs.Lists.{item}
-use Rattle.stream_model.specs.Kinds.Rates.{round_item}
+use Rattle.kind_model.specs.Rates.{round_item}
 use Rattle.items.specs.Items.{type_of, numbers_of, spare_of}
 use Rattle.rate_blocks.proofs.turns.merge_turns.Given as goal
 

@@ -1,7 +1,7 @@
 use Rattle.std.proofs.Common.{◌+◌, ◌*◌, ◌/◌, map, ap, ◌∙◌}
 use Rattle.items.specs.Items.{numbers_of}
 use Rattle.settings.specs.Values.{held_of}
-use Rattle.stream_model.specs.Kernels.{listed}
+use Rattle.stream_model.specs.Lists.{listed}
 use Rattle.stream_model.specs.Meaning.{Meaning}
 use Rattle.fir_blocks.specs.Polyphase.{phased, taps_among}
 use Rattle.fir_blocks.proofs.Filtered.{are_over, filtered-given}

@@ -1,7 +1,6 @@
 use Rattle.std.proofs.Common.{◌+◌, ◌*◌, ◌*ℤ◌, ◌<◌, map, length, arith, rules, ap, ◌∙◌}
 use Rattle.stream_model.specs.Numbers.{sat, rnd}
-use Rattle.stream_model.specs.Lists.{item}
-use Rattle.stream_model.specs.Kernels.{sum_below}
+use Rattle.stream_model.specs.Lists.{item, sum_below}
 use Rattle.kind_laws.specs.Rates.{item_of_firing}
 use Rattle.fir_blocks.proofs.Products.{dot_part}
 use Rattle.fir_blocks.proofs.Branches.{branch_more, branch_alone}

@@ -1,6 +1,5 @@
 use Rattle.std.proofs.Common.{◌≡◌, ◌≢◌, ℕ, ◌+◌, ◌*◌, ◌%◌, ◌<◌, ◌*ℤ◌, map}
-use Rattle.stream_model.specs.Lists.{item}
-use Rattle.stream_model.specs.Kernels.{sum_below}
+use Rattle.stream_model.specs.Lists.{item, sum_below}
 use Rattle.stream_model.specs.Numbers.{sat, rnd}
 use Rattle.fir_blocks.proofs.polyphase.Polyphase.write_branch.Given as goal
 

@@ -1,5 +1,5 @@
 use Rattle.std.proofs.Common.{◌-◌}
-use Rattle.stream_model.specs.Kernels.{turned}
+use Rattle.kind_model.specs.Kernels.{turned}
 use Rattle.stream_model.specs.declared.vocabulary.ItemType.TheVariants.{Byte}
 use Rattle.lane_kernels.proofs.ByteLanes.{byte_map}
 use Rattle.lane_kernels.proofs.Wrapped.{turned_byte}

@@ -1,5 +1,5 @@
 use Rattle.std.proofs.Common.{◌-◌, ◌^◌, w32}
-use Rattle.stream_model.specs.Kernels.{turned}
+use Rattle.kind_model.specs.Kernels.{turned}
 use Rattle.stream_model.specs.declared.vocabulary.ItemType.TheVariants.{Int}
 use Rattle.lane_kernels.proofs.SignedLanes.{signed_map}
 use Rattle.lane_kernels.proofs.Wrapped.{int_lanes, turned_bits}

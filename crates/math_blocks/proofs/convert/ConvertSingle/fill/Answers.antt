@@ -1,7 +1,7 @@
 use Rattle.std.proofs.Common.{◌∙◌, map, refl, arith, ap}
 use Rattle.stream_model.specs.Numbers.{wrap}
-use Rattle.stream_model.specs.Kernels as kernels
-use Rattle.stream_model.specs.Kinds.Math.{convert}
+use Rattle.kind_model.specs.Kernels as kernels
+use Rattle.kind_model.specs.Math.{convert}
 use Rattle.items.specs.Items.{numbers_of}
 use Rattle.settings.specs.Values.{held_of}
 use Rattle.block_kinds.proofs.Fills.{paced, plain-given}

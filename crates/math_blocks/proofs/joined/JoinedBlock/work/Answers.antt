@@ -1,6 +1,6 @@
 use Rattle.std.proofs.Common.{rules, ◌≡◌, ◌∙◌, length, map, set, arith, ap, sym, subst}
-use Rattle.stream_model.specs.Kernels.{listed}
-use Rattle.stream_model.specs.Kinds.Math.{items_at}
+use Rattle.stream_model.specs.Lists.{listed}
+use Rattle.kind_model.specs.Math.{items_at}
 use Rattle.items.specs.Items.{numbers_of}
 use Rattle.settings.specs.Values.{held_of}
 use Rattle.block_kinds.specs.Work.{CanWork, HasWorked}

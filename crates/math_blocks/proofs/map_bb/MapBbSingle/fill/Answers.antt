@@ -1,5 +1,5 @@
 use Rattle.std.proofs.Common.{◌∙◌, map, pos, refl, arith}
-use Rattle.stream_model.specs.Kinds.Math.{looked_up, map_bb}
+use Rattle.kind_model.specs.Math.{looked_up, map_bb}
 use Rattle.items.specs.Items.{numbers_of}
 use Rattle.settings.specs.Values.{held_of}
 use Rattle.block_kinds.proofs.Fills.{paced, each-given}

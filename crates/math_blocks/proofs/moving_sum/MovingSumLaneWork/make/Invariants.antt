@@ -1,7 +1,6 @@
 use Rattle.std.proofs.Common.{◌≡◌, ℕ, ◌+◌, ◌<◌, map, take, drop}
 use Rattle.stream_model.specs.Numbers.{wrap, total}
-use Rattle.stream_model.specs.Lists.{item}
-use Rattle.stream_model.specs.Kernels.{sum_below}
+use Rattle.stream_model.specs.Lists.{item, sum_below}
 use Rattle.math_blocks.proofs.moving_sum.MovingSumLaneWork.make.Given as goal
 
 abbrev pub invariant-loop-k : goal.invariant-loop-k

@@ -1,6 +1,6 @@
 use Rattle.std.proofs.Common.{◌∙◌, map, refl, arith}
-use Rattle.stream_model.specs.Kernels.{turned}
-use Rattle.stream_model.specs.Kinds.Math.{not_of}
+use Rattle.kind_model.specs.Kernels.{turned}
+use Rattle.kind_model.specs.Math.{not_of}
 use Rattle.items.specs.Items.{numbers_of}
 use Rattle.settings.specs.Values.{held_of}
 use Rattle.block_kinds.proofs.Fills.{paced, plain-given}

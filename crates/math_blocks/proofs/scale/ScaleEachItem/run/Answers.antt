@@ -1,8 +1,8 @@
 use Rattle.std.proofs.Common.{◌∙◌, ◌++◌, map, ap, sym, w16, w64, FitsSigned, rules}
 use Rattle.std.proofs.lemmas.Int.{to_z-of_z}
 use Rattle.std.proofs.lemmas.List.{length-map}
-use Rattle.stream_model.specs.Lists.{item}
-use Rattle.stream_model.specs.Kernels.{listed, scaled, scale_sat}
+use Rattle.stream_model.specs.Lists.{item, listed}
+use Rattle.kind_model.specs.Kernels.{scaled, scale_sat}
 use Rattle.math_blocks.proofs.scale.ScaleEachItem.run.Goals as goal
 
 pub returns-clause-items : goal.returns-clause-items

@@ -2,7 +2,7 @@ use Rattle.std.proofs.Common.{◌≡◌, ◌+◌, ◌<◌, [], length, map, arit
 use Rattle.std.proofs.lemmas.List.{get_or-map, length-map}
 use Rattle.stream_model.specs.declared.vocabulary.ItemType.TheVariants.{Byte}
 use Rattle.stream_model.specs.Meaning.{given_items, given_outputs}
-use Rattle.kind_laws.specs.Shared.{get_or-map_numbers, length-map_numbers}
+use Rattle.shape_laws.specs.Shaped.{get_or-map_numbers, length-map_numbers}
 use Rattle.items.specs.Items.{type_of, numbers_of}
 use Rattle.settings.specs.Values.{held_of}
 use Rattle.rate_blocks.specs.Mux.{deinterleave_of}

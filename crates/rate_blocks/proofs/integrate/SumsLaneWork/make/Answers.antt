@@ -1,8 +1,7 @@
 use Rattle.std.proofs.Common.{◌≡◌, ℕ, ◌+◌, ◌-◌, ◌*◌, ◌≤◌, length, map, take, drop, arith, ap, ◌∙◌, w64, FitsSigned, rules}
 use Rattle.std.proofs.lemmas.Int.{to_z-of_z}
 use Rattle.stream_model.specs.Numbers.{wrap, total}
-use Rattle.stream_model.specs.Lists.{item}
-use Rattle.stream_model.specs.Kernels.{sum_below}
+use Rattle.stream_model.specs.Lists.{item, sum_below}
 use Rattle.numbers.proofs.Mapped.{map_part}
 use Rattle.lane_work.proofs.Written.{write_next, written_all}
 use Rattle.lane_work.proofs.Totals.{total_part}

@@ -1,7 +1,6 @@
 use Rattle.std.proofs.Common.{◌≡◌, ℕ, ◌+◌, ◌*◌, ◌<◌, map}
 use Rattle.stream_model.specs.Numbers.{wrap}
-use Rattle.stream_model.specs.Lists.{item}
-use Rattle.stream_model.specs.Kernels.{sum_below}
+use Rattle.stream_model.specs.Lists.{item, sum_below}
 use Rattle.rate_blocks.proofs.integrate.SumsLaneWork.make.Given as goal
 
 abbrev pub invariant-loop-k : goal.invariant-loop-k

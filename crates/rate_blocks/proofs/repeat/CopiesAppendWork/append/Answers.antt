@@ -1,7 +1,6 @@
 use Rattle.std.proofs.Common.{◌≡◌, ℕ, ◌*◌, ◌/◌, ◌++◌, ◌∙◌, length, map, ap, sym}
 use Rattle.std.proofs.lemmas.List.{length-map}
-use Rattle.stream_model.specs.Lists.{item}
-use Rattle.stream_model.specs.Kernels.{listed}
+use Rattle.stream_model.specs.Lists.{item, listed}
 use Rattle.rate_blocks.proofs.repeat.CopiesAppendWork.append.Goals as goal
 
 pub returns-clause-items : goal.returns-clause-items

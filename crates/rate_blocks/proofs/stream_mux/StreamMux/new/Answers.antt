@@ -1,5 +1,5 @@
 use Rattle.std.proofs.Common.{refl, sym, ap, subst, arith, sum, List, ℕ}
-use Rattle.stream_model.specs.Kinds.Rates.{IsMux}
+use Rattle.kind_model.specs.Rates.{IsMux}
 use Rattle.rate_blocks.proofs.Muxed.{lengths-in_range, few-each, mux-in_range}
 use Rattle.rate_blocks.proofs.stream_mux.StreamMux.new.Goals as goal
 

@@ -6,7 +6,6 @@ use Rattle.std.proofs.lemmas.Int.{ints, int_rem_euclid_is}
 use Rattle.std.proofs.lemmas.List.{get_or-take, get_or-drop, get_or_append_left, get_or-append_right, get_or-replicate, length-replicate, take_more}
 use Rattle.std.proofs.Math.Nat.{mod-add-mod}
 use Rattle.std.specs.Int.{int_rem_euclid}
-use Rattle.stream_model.specs.Kinds.Bits.{running_sum}
 use Rattle.stream_model.specs.Numbers.{residue, total}
 use Rattle.stream_model.specs.Lists.{item, item_before, window}
 
@@ -82,10 +81,3 @@ residue-add a b m h = reduced (lift a m h) (lift b m h)
 pub total-push : (xs : List ℤ) (z : ℤ) → total (xs ++ z ∷ []) ≡ total xs +ℤ z
 total-push [] z = omega (arith, ints)
 total-push (x ∷ xs) z = omega (arith, ints, total-push xs z)
-
--- one item more: the last output plus the item
-pub running_sum-more : (m : ℕ) (x : List ℤ) (n : ℕ) → 0 < m → n < length x → running_sum m x (n + 1) ≡ residue (pos (running_sum m x n) +ℤ item x n) m
-running_sum-more m x n h there =
-    ap (λ (z : List ℤ). residue (total z) m) (take_more x n (pos 0) there)
-    ∙ ap (λ z. residue z m) (total-push (take n x) (item x n))
-    ∙ sym (residue-add (total (take n x)) (item x n) m h)

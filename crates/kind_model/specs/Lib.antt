@@ -1,4 +1,4 @@
-pub mod Shapes
+pub mod Kernels
 pub mod Ends
 pub mod Math
 pub mod Filters

@@ -4,10 +4,10 @@ use Rattle.stream_model.specs.declared.vocabulary.ItemType.{ItemType}
 use Rattle.stream_model.specs.declared.vocabulary.ItemType.TheVariants.{Byte, Short}
 use Rattle.stream_model.specs.Numbers.{numbers_in, wrap, total}
 use Rattle.stream_model.specs.Settings.{Number}
-use Rattle.stream_model.specs.Lists.{item, item_before}
-use Rattle.stream_model.specs.Kernels.{sum_below, scaled, bits_in, turned}
+use Rattle.stream_model.specs.Lists.{item, item_before, sum_below}
+use Rattle.kind_model.specs.Kernels.{scaled, bits_in, turned}
 use Rattle.stream_model.specs.Meaning.{Meaning, input}
-use Rattle.stream_model.specs.Kinds.Shapes.{ports, any_ports, at_rate, sync, any_number, number_at}
+use Rattle.stream_model.specs.Shapes.{ports, any_ports, at_rate, sync, any_number, number_at}
 
 -- each item plus the number in force, wrapped (GNU Radio manual)
 abbrev pub add_const : ItemType → ℤ → Meaning

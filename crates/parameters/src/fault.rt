@@ -1,7 +1,7 @@
 //! Why a block could not be made.
 ghost use Rattle.std.specs.Prelude.{◌≡◌, Some};
-ghost use Rattle.block_kinds.specs.Fault.{row_of, parameter_text, text_of};
-ghost use Rattle.block_kinds.specs.declared.fault.ParamFault.TheVariants.{Memory};
+ghost use Rattle.parameters.specs.Fault.{row_of, parameter_text, text_of};
+ghost use Rattle.parameters.specs.declared.fault.ParamFault.TheVariants.{Memory};
 
 use items::Refusal;
 use std::alloc::AllocError;

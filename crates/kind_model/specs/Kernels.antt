@@ -2,15 +2,7 @@
 use Rattle.std.specs.Prelude.{ℕ, zero, suc, ◌+◌, ◌-◌, ◌*◌, ◌/◌, ◌%◌, ◌^◌, ℤ, pos, ◌+ℤ◌, ◌-ℤ◌, ◌*ℤ◌, List, length, map, bit_and, bit_or, bit_xor}
 use Rattle.stream_model.specs.declared.vocabulary.ItemType.{ItemType}
 use Rattle.stream_model.specs.Numbers.{numbers_in, residue, floor_div, wrap, sat, rnd, total}
-use Rattle.stream_model.specs.Lists.{below, item}
-
--- the list of so many items whose item n is f n
-abbrev pub listed : ℕ → (ℕ → ℤ) → List ℤ
-listed count f = map f (below count)
-
--- the sum of f j over the j below count
-abbrev pub sum_below : ℕ → (ℕ → ℤ) → ℤ
-sum_below count f = total (map f (below count))
+use Rattle.stream_model.specs.Lists.{below, listed, sum_below, item}
 
 -- item n of the output is a[n] + b[n], wrapped (own)
 abbrev pub add_wrap : ItemType → List ℤ → List ℤ → List ℤ

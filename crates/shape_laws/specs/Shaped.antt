@@ -10,13 +10,11 @@ use Rattle.std.proofs.lemmas.Nat.{le-div, div_below}
 use Rattle.stream_model.specs.declared.vocabulary.ItemType.{ItemType}
 use Rattle.stream_model.specs.declared.vocabulary.ItemType.TheVariants.{Byte, Short, Int}
 use Rattle.stream_model.specs.Numbers.{IsItem, AreItems, residue, centred, wrap, sat, total}
-use Rattle.stream_model.specs.Lists.{numbers_from, item, item_before}
+use Rattle.stream_model.specs.Lists.{numbers_from, item, item_before, listed, sum_below}
 use Rattle.stream_model.specs.Tags.{place_at_rate}
 use Rattle.stream_model.specs.Settings.{Value, Held}
-use Rattle.stream_model.specs.Kernels.{listed, sum_below}
 use Rattle.stream_model.specs.Meaning.{Meaning, input, IsAtRate, IsLawful, IsWanted, given_items, SameInputs, SameSettings}
-use Rattle.stream_model.specs.Kinds.Shapes.{at_rate}
-use Rattle.stream_model.specs.Kinds.Math.{items_at}
+use Rattle.stream_model.specs.Shapes.{at_rate}
 use Rattle.stream_model.specs.declared.vocabulary.Signature.{Signature}
 use Rattle.stream_model.specs.declared.vocabulary.Wanted.{Wanted}
 
@@ -155,13 +153,6 @@ map-same f g a (suc count) same = ap₂ ◌∷◌ (same a (omega arith) (omega a
 
 pub sum_below-same : (count : ℕ) (f g : ℕ → ℤ) → ((j : ℕ) → j < count → f j ≡ g j) → sum_below count f ≡ sum_below count g
 sum_below-same count f g same = ap total (map-same f g 0 count (λ j from to. same j (omega arith)))
-
--- items n of inputs that agree there
-pub items_at-same : (xs ys : List (List ℤ)) (n : ℕ) → length xs ≡ length ys → ((p : ℕ) → item (input xs p) n ≡ item (input ys p) n) → items_at xs n ≡ items_at ys n
-items_at-same [] [] n e same = refl
-items_at-same [] (y ∷ ys) n e same = (cc)
-items_at-same (x ∷ xs) [] n e same = (cc)
-items_at-same (x ∷ xs) (y ∷ ys) n e same = ap₂ ◌∷◌ (same 0) (items_at-same xs ys n (omega (arith, e)) (λ p. same (suc p)))
 
 -- the past of an item that is among those that agree
 pub past-same : (x y : List ℤ) (k n back : ℕ) → take k x ≡ take k y → n < k → item_before x n back ≡ item_before y n back

@@ -1,9 +1,9 @@
 -- The numbers, the names and the texts of refusals.
 use Rattle.std.specs.Prelude.{ℕ, List, ◌++◌, codes}
-use Rattle.block_kinds.specs.declared.fault.Parameter.{Parameter}
-use Rattle.block_kinds.specs.declared.fault.Parameter.TheVariants.{ItemType, Value, Factor, Shift, Map, To, Length, Taps, Decimation, Interpolation, K, Modulus, Bits, Mask, Init, N, Ports, Lengths}
-use Rattle.block_kinds.specs.declared.fault.ParamFault.{ParamFault}
-use Rattle.block_kinds.specs.declared.fault.ParamFault.TheVariants.{BadParameter, Memory}
+use Rattle.parameters.specs.declared.fault.Parameter.{Parameter}
+use Rattle.parameters.specs.declared.fault.Parameter.TheVariants.{ItemType, Value, Factor, Shift, Map, To, Length, Taps, Decimation, Interpolation, K, Modulus, Bits, Mask, Init, N, Ports, Lengths}
+use Rattle.parameters.specs.declared.fault.ParamFault.{ParamFault}
+use Rattle.parameters.specs.declared.fault.ParamFault.TheVariants.{BadParameter, Memory}
 
 -- the number by which a refusal is reported, and the name beside it
 abbrev pub row_of : ParamFault → ℕ × List ℕ

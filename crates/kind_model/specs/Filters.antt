@@ -4,10 +4,9 @@ use Rattle.stream_model.specs.declared.vocabulary.ItemType.{ItemType}
 use Rattle.stream_model.specs.declared.vocabulary.Wanted.TheVariants as wanted
 use Rattle.stream_model.specs.Numbers.{sat, rnd}
 use Rattle.stream_model.specs.Settings.{Taps}
-use Rattle.stream_model.specs.Lists.{item, item_before}
-use Rattle.stream_model.specs.Kernels.{sum_below}
+use Rattle.stream_model.specs.Lists.{item, item_before, sum_below}
 use Rattle.stream_model.specs.Meaning.{Meaning, input}
-use Rattle.stream_model.specs.Kinds.Shapes.{ports, at_rate, taps_at}
+use Rattle.stream_model.specs.Shapes.{ports, at_rate, taps_at}
 
 -- the sum over j < count of h[first + j * step] * x[at - j], over 2 ^ shift, rounded and saturated, where a tap past the end counts
 -- as 0 (textbook FIR; the rounding is own)

@@ -3,9 +3,9 @@ use Rattle.std.specs.Prelude.{ℕ, zero, suc, ◌+◌, ◌-◌, ◌*◌, ◌/◌
 use Rattle.stream_model.specs.declared.vocabulary.ItemType.TheVariants.{Byte}
 use Rattle.stream_model.specs.Numbers.{residue, total}
 use Rattle.stream_model.specs.Lists.{numbers_from, item, item_before}
-use Rattle.stream_model.specs.Kernels.{packed, unpacked}
+use Rattle.kind_model.specs.Kernels.{packed, unpacked}
 use Rattle.stream_model.specs.Meaning.{Meaning, input}
-use Rattle.stream_model.specs.Kinds.Shapes.{ports, at_rate, sync}
+use Rattle.stream_model.specs.Shapes.{ports, at_rate, sync}
 
 -- the lowest bits of k bytes in one byte, the first the highest (GNU Radio manual)
 abbrev pub pack_k_bits : ℕ → Meaning

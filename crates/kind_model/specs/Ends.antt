@@ -3,7 +3,7 @@ use Rattle.stream_model.specs.declared.vocabulary.ItemType.{ItemType}
 use Rattle.stream_model.specs.declared.vocabulary.Role.TheVariants as roles
 use Rattle.stream_model.specs.Lists.{item}
 use Rattle.stream_model.specs.Meaning.{Meaning, input}
-use Rattle.stream_model.specs.Kinds.Shapes.{ports, at_rate}
+use Rattle.stream_model.specs.Shapes.{ports, at_rate}
 
 -- gives the tape that it is fed, item for item (GNU Radio manual; the tape is fed and not a parameter, which is own)
 abbrev pub vector_source : ItemType → Meaning

@@ -3,10 +3,9 @@ use Rattle.std.specs.Prelude.{◌≤◌, All, ℕ, suc, ◌+◌, ◌-◌, ◌*�
 use Rattle.stream_model.specs.declared.vocabulary.ItemType.{ItemType}
 use Rattle.stream_model.specs.declared.vocabulary.Shift.TheVariants as shifts
 use Rattle.stream_model.specs.Numbers.{wrap}
-use Rattle.stream_model.specs.Lists.{item, item_before}
-use Rattle.stream_model.specs.Kernels.{sum_below}
+use Rattle.stream_model.specs.Lists.{item, item_before, sum_below}
 use Rattle.stream_model.specs.Meaning.{Meaning, input}
-use Rattle.stream_model.specs.Kinds.Shapes.{ports, at_rate, sync}
+use Rattle.stream_model.specs.Shapes.{ports, at_rate, sync}
 
 -- the last of each n items (GNU Radio manual)
 abbrev pub keep_one_in_n : ItemType → ℕ → Meaning
