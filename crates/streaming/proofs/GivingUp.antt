@@ -1,5 +1,5 @@
 -- A claim in flight that is given up, and a plant of which each was.
-use Rattle.std.proofs.Common.{◌≡◌, ℕ, ◌<◌, true, List, length, refl, ap, sym, ◌∙◌, subst, arith, get_or, get_or-set_same, get_or-set_other}
+use Rattle.std.proofs.Common.{◌≡◌, ℕ, ◌<◌, true, List, length, refl, ap, sym, ◌∙◌}
 use Rattle.std.proofs.lemmas.Bool.{eq-eqb}
 use Rattle.std.proofs.lemmas.List.Elements.{All-from_get_or}
 use Rattle.std.proofs.lemmas.List.Sums.{list_all-from_AllPass}
@@ -16,7 +16,7 @@ use Rattle.plant.specs.declared.parts.Parts.{Parts}
 use Rattle.plant.specs.Plant.{PlantState, IsRight, plant_of}
 use Rattle.plant.proofs.Givings.{right_given_up}
 use Rattle.plant.proofs.GivingBack.{gives_up}
-use Rattle.streaming.specs.Working.{HasWorked}
+use Rattle.streaming.specs.Working.{IsLedOn}
 use Rattle.streaming.proofs.Working.{worked_by}
 
 module _ {B P : Type 0} (meaning : B → Meaning) (old : Parts B P) (b : ℕ) (right : IsRight meaning old) (runs : CanRun (net_of meaning (arc_value old.graph)))
@@ -30,22 +30,16 @@ module _ {B P : Type 0} (meaning : B → Meaning) (old : Parts B P) (b : ℕ) (r
   abbrev with_it : List Progress → Parts B P
   with_it ps = record old { firings = ps }
 
-  pub right_after : IsRight meaning (with_it progress)
-  right_after =
-      right_given_up meaning old old b (progress_at old.firings b).firings (progress_at old.firings b).claimed (arc_value old.graph) refl runs refl
-      (record { keeps = record { sound = right.keeps.sound; gain = right.keeps.gain; stored = right.keeps.stored; room = λ a in1 other claimed. right.keeps.room a in1 claimed }; built = right.built })
-      (record { inside = in'; some = some; first_is = refl; count_is = refl }) progress is
-
-  pub worked_after : HasWorked meaning (plant_of old) (plant_of (with_it progress))
-  worked_after = worked_by meaning (plant_of old) (plant_of (with_it progress)) (Abandon true (in_flight net st b)) refl
-      (ap (λ ps. plant_of (with_it ps)) is ∙ ap (λ (r : Reply × State). (let y : PlantState B = record (plant_of old) { state = r.1 } in y)) (sym (gives_up net st b in' some)))
-
-  pub none_claimed : (progress_at progress b).claimed ≡ 0
-  none_claimed = ap (λ ps. (progress_at ps b).claimed) is
-      ∙ ap (λ (p : Progress). p.claimed) (get_or-set_same old.firings b (record (progress_at old.firings b) { claimed = 0 }) no_progress (rw right.keeps.sound.progress_count in'))
-
-  pub others_same : (a : ℕ) → (a ≡ b → ⊥) → progress_at progress a ≡ progress_at old.firings a
-  others_same a other = ap (λ ps. progress_at ps a) is ∙ get_or-set_other old.firings b a (record (progress_at old.firings b) { claimed = 0 }) no_progress other
+  pub led_after : (most : ℕ) → IsLedOn meaning most old (with_it progress)
+  led_after most = record {
+    right =
+        right_given_up meaning old old b (progress_at old.firings b).firings (progress_at old.firings b).claimed (arc_value old.graph) refl runs refl
+        (record { keeps = record { sound = right.keeps.sound; gain = right.keeps.gain; stored = right.keeps.stored; room = λ a in1 other claimed. right.keeps.room a in1 claimed }; built = right.built })
+        (record { inside = in'; some = some; first_is = refl; count_is = refl }) progress is;
+    spans = refl;
+    worked = worked_by meaning most (plant_of old) (plant_of (with_it progress)) (Abandon true (in_flight net st b)) refl
+        (ap (λ ps. plant_of (with_it ps)) is ∙ ap (λ (r : Reply × State). (let y : PlantState B = record (plant_of old) { state = r.1 } in y)) (sym (gives_up net st b in' some)));
+  }
 
 -- once no block has a claim in flight
 pub idle_from : (st : State) → ((b : ℕ) → b < length st.progress → (progress_at st.progress b).claimed ≡ 0) → is_idle st ≡ true

@@ -5,9 +5,9 @@ ghost use Rattle.std.specs.Arc.{arc_value};
 ghost use Rattle.stream_model.specs.Machine.{is_idle};
 ghost use Rattle.stream_model.specs.Network.{progress_at};
 ghost use Rattle.flowgraph.specs.Flowgraph.{net_of};
-ghost use Rattle.plant.specs.Plant.{IsRight, plant_of, spans_in};
+ghost use Rattle.plant.specs.Plant.{IsRight, plant_of};
 ghost use Rattle.plant.specs.Settling.{HasMoved};
-ghost use Rattle.streaming.specs.Working.{HasWorked};
+ghost use Rattle.streaming.specs.Working.{IsLedOn};
 
 use crate::helpers::Helpers;
 use flowgraph::{Block, BlockId};
@@ -28,9 +28,7 @@ pub(crate) fn helped_round<B: Block, H: Helpers<Job<B>, Worked<B>>>(
     requires right { IsRight B.meaning parts.old }
     requires idle { is_idle (plant_of parts.old).state ≡ true }
     requires some { 1 ≤ max }
-    ensures right { IsRight B.meaning parts.new }
-    ensures spans { spans_in parts.new ≡ spans_in parts.old }
-    ensures worked { HasWorked B.meaning (plant_of parts.old) (plant_of parts.new) }
+    ensures led { IsLedOn B.meaning max parts.old parts.new }
     ensures idle { is_idle (plant_of parts.new).state ≡ true }
     ensures moved { let old = plant_of parts.old in IfOk result (HasMoved (net_of B.meaning old.graph) old.capacities old.state (plant_of parts.new).state) }
 {
@@ -53,9 +51,7 @@ fn help<B: Block, H: Helpers<Job<B>, Worked<B>>>(
 ) -> Result<(), AllocError>
     requires right { IsRight B.meaning parts.old }
     requires some { 1 ≤ max }
-    ensures right { IsRight B.meaning parts.new }
-    ensures spans { spans_in parts.new ≡ spans_in parts.old }
-    ensures worked { HasWorked B.meaning (plant_of parts.old) (plant_of parts.new) }
+    ensures led { IsLedOn B.meaning max parts.old parts.new }
     ensures idle { is_idle (plant_of parts.new).state ≡ true }
 {
     let looked = look_again(parts, alloc, max, helpers);
@@ -73,9 +69,7 @@ fn look_again<B: Block, H: Helpers<Job<B>, Worked<B>>>(
 ) -> Result<(), AllocError>
     requires right { IsRight B.meaning parts.old }
     requires some { 1 ≤ max }
-    ensures right { IsRight B.meaning parts.new }
-    ensures spans { spans_in parts.new ≡ spans_in parts.old }
-    ensures worked { HasWorked B.meaning (plant_of parts.old) (plant_of parts.new) }
+    ensures { IsLedOn B.meaning max parts.old parts.new }
 {
     for _looks in 0..LOOKS {
         if !look(parts, alloc, max, helpers)? && !take_next(parts, helpers) {
@@ -94,9 +88,7 @@ fn look<B: Block, H: Helpers<Job<B>, Worked<B>>>(
 ) -> Result<bool, AllocError>
     requires right { IsRight B.meaning parts.old }
     requires some { 1 ≤ max }
-    ensures right { IsRight B.meaning parts.new }
-    ensures spans { spans_in parts.new ≡ spans_in parts.old }
-    ensures worked { HasWorked B.meaning (plant_of parts.old) (plant_of parts.new) }
+    ensures { IsLedOn B.meaning max parts.old parts.new }
 {
     let mut acted = false;
     for block in 0..parts.graph.len() {
@@ -117,9 +109,7 @@ fn act<B: Block, H: Helpers<Job<B>, Worked<B>>>(
 ) -> Result<bool, AllocError>
     requires right { IsRight B.meaning parts.old }
     requires some { 1 ≤ max }
-    ensures right { IsRight B.meaning parts.new }
-    ensures spans { spans_in parts.new ≡ spans_in parts.old }
-    ensures worked { HasWorked B.meaning (plant_of parts.old) (plant_of parts.new) }
+    ensures { IsLedOn B.meaning max parts.old parts.new }
 {
     match helpers.share(block) {
         Some(share) => give_away(parts, alloc, block, max.min(share.max(1)), helpers),
@@ -136,9 +126,7 @@ fn step<B: Block>(
 ) -> Result<bool, AllocError>
     requires right { IsRight B.meaning parts.old }
     requires some { 1 ≤ max }
-    ensures right { IsRight B.meaning parts.new }
-    ensures spans { spans_in parts.new ≡ spans_in parts.old }
-    ensures worked { HasWorked B.meaning (plant_of parts.old) (plant_of parts.new) }
+    ensures { IsLedOn B.meaning max parts.old parts.new }
 {
     match parts.step(alloc, block, max) {
         Ok(Step::Did(_)) => Ok(true),
@@ -157,9 +145,7 @@ fn give_away<B: Block, H: Helpers<Job<B>, Worked<B>>>(
 ) -> Result<bool, AllocError>
     requires right { IsRight B.meaning parts.old }
     requires some { 1 ≤ max }
-    ensures right { IsRight B.meaning parts.new }
-    ensures spans { spans_in parts.new ≡ spans_in parts.old }
-    ensures worked { HasWorked B.meaning (plant_of parts.old) (plant_of parts.new) }
+    ensures { IsLedOn B.meaning max parts.old parts.new }
 {
     match parts.claim(alloc, block, max) {
         Ok(Claim::Claimed(job)) => {
@@ -176,9 +162,7 @@ fn give_away<B: Block, H: Helpers<Job<B>, Worked<B>>>(
 // Commits work, and returns whether it was of a claim in flight. Other work is dropped.
 fn take_back<B: Block>(parts: &mut Parts<B>, work: Worked<B>) -> bool
     requires right { IsRight B.meaning parts.old }
-    ensures right { IsRight B.meaning parts.new }
-    ensures spans { spans_in parts.new ≡ spans_in parts.old }
-    ensures worked { HasWorked B.meaning (plant_of parts.old) (plant_of parts.new) }
+    ensures { (most : ℕ) → IsLedOn B.meaning most parts.old parts.new }
 {
     parts.commit(work).is_ok()
 }
@@ -186,9 +170,7 @@ fn take_back<B: Block>(parts: &mut Parts<B>, work: Worked<B>) -> bool
 // Commits work that is done, if there is some, and returns whether it was of a claim in flight.
 fn take_done<B: Block, H: Helpers<Job<B>, Worked<B>>>(parts: &mut Parts<B>, helpers: &mut H) -> bool
     requires right { IsRight B.meaning parts.old }
-    ensures right { IsRight B.meaning parts.new }
-    ensures spans { spans_in parts.new ≡ spans_in parts.old }
-    ensures worked { HasWorked B.meaning (plant_of parts.old) (plant_of parts.new) }
+    ensures { (most : ℕ) → IsLedOn B.meaning most parts.old parts.new }
 {
     match helpers.done() {
         Some(work) => take_back(parts, work),
@@ -199,9 +181,7 @@ fn take_done<B: Block, H: Helpers<Job<B>, Worked<B>>>(parts: &mut Parts<B>, help
 // Waits for work and commits it, and returns whether some came.
 fn take_next<B: Block, H: Helpers<Job<B>, Worked<B>>>(parts: &mut Parts<B>, helpers: &mut H) -> bool
     requires right { IsRight B.meaning parts.old }
-    ensures right { IsRight B.meaning parts.new }
-    ensures spans { spans_in parts.new ≡ spans_in parts.old }
-    ensures worked { HasWorked B.meaning (plant_of parts.old) (plant_of parts.new) }
+    ensures { (most : ℕ) → IsLedOn B.meaning most parts.old parts.new }
 {
     match helpers.wait() {
         Some(work) => {
@@ -215,9 +195,7 @@ fn take_next<B: Block, H: Helpers<Job<B>, Worked<B>>>(parts: &mut Parts<B>, help
 // Commits all work that is still to come.
 fn take_all_back<B: Block, H: Helpers<Job<B>, Worked<B>>>(parts: &mut Parts<B>, helpers: &mut H)
     requires right { IsRight B.meaning parts.old }
-    ensures right { IsRight B.meaning parts.new }
-    ensures spans { spans_in parts.new ≡ spans_in parts.old }
-    ensures worked { HasWorked B.meaning (plant_of parts.old) (plant_of parts.new) }
+    ensures { (most : ℕ) → IsLedOn B.meaning most parts.old parts.new }
 {
     for _works in 0..u64::MAX {
         if !take_next(parts, helpers) {
@@ -229,9 +207,7 @@ fn take_all_back<B: Block, H: Helpers<Job<B>, Worked<B>>>(parts: &mut Parts<B>, 
 // Gives up each claim in flight.
 fn give_all_up<B: Block>(parts: &mut Parts<B>)
     requires right { IsRight B.meaning parts.old }
-    ensures right { IsRight B.meaning parts.new }
-    ensures spans { spans_in parts.new ≡ spans_in parts.old }
-    ensures worked { HasWorked B.meaning (plant_of parts.old) (plant_of parts.new) }
+    ensures led { (most : ℕ) → IsLedOn B.meaning most parts.old parts.new }
     ensures idle { is_idle (plant_of parts.new).state ≡ true }
 {
     parts.graph.recall();
@@ -244,9 +220,7 @@ fn give_all_up<B: Block>(parts: &mut Parts<B>)
 fn give_up<B: Block>(parts: &mut Parts<B>, block: BlockId)
     requires right { IsRight B.meaning parts.old }
     requires block { block.0 < length (arc_value parts.old.graph).blocks }
-    ensures right { IsRight B.meaning parts.new }
-    ensures spans { spans_in parts.new ≡ spans_in parts.old }
-    ensures worked { HasWorked B.meaning (plant_of parts.old) (plant_of parts.new) }
+    ensures led { (most : ℕ) → IsLedOn B.meaning most parts.old parts.new }
     ensures own { (progress_at (plant_of parts.new).state.progress block.0).claimed ≡ 0 }
     ensures others { (b : ℕ) → (b ≡ block.0 → ⊥) → progress_at (plant_of parts.new).state.progress b ≡ progress_at (plant_of parts.old).state.progress b }
 {

@@ -231,7 +231,7 @@ impl<B: Block> StreamingPlant<B> {
         helpers: &mut H,
     ) -> Result<bool, AllocError>
         requires { 1 ≤ max }
-        ensures worked { HasWorked B.meaning self.old.plant self.new.plant }
+        ensures worked { HasWorked B.meaning max self.old.plant self.new.plant }
         ensures moved { IfOk result (HasMoved (net_of B.meaning self.new.plant.graph) self.new.plant.capacities self.old.plant.state self.new.plant.state) }
         ensures sinks { self.new.kept.sinks ≡ self.old.kept.sinks }
         ensures taken { IfOk result (λ _. KeepsNoTaken (net_of B.meaning self.new.plant.graph) self.new) }

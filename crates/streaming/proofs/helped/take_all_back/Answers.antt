@@ -1,15 +1,17 @@
-use Rattle.std.proofs.Common.{◌∙◌}
-use Rattle.plant.specs.Plant.{plant_of}
-use Rattle.streaming.proofs.Working.{worked_then}
+use Rattle.std.proofs.Common.{refl}
+use Rattle.streaming.proofs.Working.{led_none, led_then}
 use Rattle.streaming.proofs.helped.take_all_back.Goals as goal
 
-pub returns-then-not-take_next-clause-worked : goal.returns-then-not-take_next-clause-worked
-returns-then-not-take_next-clause-worked g c =
-    worked_then g.B.Block.meaning (plant_of c.args.parts.now) (plant_of c.loop-works.parts) (plant_of c.take_next.new.parts) c.loop-works.invariant.worked c.take_next.ensures.worked
+pub loop-works-init : goal.loop-works-init
+loop-works-init g c = λ most. led_none g.B.Block.meaning most c.args.parts.now c.args.parts.now c.requires.right refl
+
+pub returns-then-not-take_next : goal.returns-then-not-take_next
+returns-then-not-take_next g c =
+    λ most. led_then g.B.Block.meaning most c.args.parts.now c.loop-works.parts c.take_next.new.parts (c.loop-works.invariant most) (c.take_next.ensures most)
 
 pub loop-works-preserved : goal.loop-works-preserved
-loop-works-preserved g c = record {
-  right = c.take_next.ensures.right;
-  spans = c.take_next.ensures.spans ∙ c.loop-works.invariant.spans;
-  worked = worked_then g.B.Block.meaning (plant_of c.args.parts.now) (plant_of c.loop-works.parts) (plant_of c.take_next.new.parts) c.loop-works.invariant.worked c.take_next.ensures.worked;
-}
+loop-works-preserved g c =
+    λ most. led_then g.B.Block.meaning most c.args.parts.now c.loop-works.parts c.take_next.new.parts (c.loop-works.invariant most) (c.take_next.ensures most)
+
+pub take_next-requires : goal.take_next-requires
+take_next-requires g c = record { right = (c.loop-works.invariant 0).right }

@@ -1,11 +1,6 @@
-use Rattle.std.proofs.Common.{◌≡◌}
-use Rattle.plant.specs.Plant.{IsRight, plant_of, spans_in}
-use Rattle.streaming.specs.Working.{HasWorked}
+use Rattle.std.proofs.Common.{ℕ}
+use Rattle.streaming.specs.Working.{IsLedOn}
 use Rattle.streaming.proofs.helped.take_all_back.Given as goal
 
 abbrev pub invariant-loop-works : goal.invariant-loop-works
-invariant-loop-works g l = record {
-  right : IsRight g.B.Block.meaning l.parts;
-  spans : spans_in l.parts ≡ spans_in l.initial.parts;
-  worked : HasWorked g.B.Block.meaning (plant_of l.initial.parts) (plant_of l.parts);
-}
+invariant-loop-works g l = (most : ℕ) → IsLedOn g.B.Block.meaning most l.initial.parts l.parts

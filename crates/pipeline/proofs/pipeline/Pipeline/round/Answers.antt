@@ -8,11 +8,11 @@ returns-in_err-round_with-clause-goes g c =
     let p = c.args.self.now.plant in
     let net = net_of g.B.Block.meaning p.plant.graph in
     goes_by_round g.R.Read.remaining g.W.Write.contents net p c.round_with.new.self c.args.self.now.ends.items c.round_with.ensures.worked.same
-    (work_hands_nothing net p.plant.capacities p.plant.state c.round_with.new.self.plant.state c.round_with.ensures.worked.work) c.round_with.ensures.sinks
+    (work_hands_nothing net p.plant.capacities 65536 p.plant.state c.round_with.new.self.plant.state c.round_with.ensures.worked.work) c.round_with.ensures.sinks
 
 pub returns-clause-goes : goal.returns-clause-goes
 returns-clause-goes g c =
     let p = c.args.self.now.plant in
     let net = net_of g.B.Block.meaning p.plant.graph in
     goes_by_round g.R.Read.remaining g.W.Write.contents net p c.round_with.new.self c.args.self.now.ends.items c.round_with.ensures.worked.same
-    (work_hands_nothing net p.plant.capacities p.plant.state c.round_with.new.self.plant.state c.round_with.ensures.worked.work) c.round_with.ensures.sinks
+    (work_hands_nothing net p.plant.capacities 65536 p.plant.state c.round_with.new.self.plant.state c.round_with.ensures.worked.work) c.round_with.ensures.sinks
