@@ -18,9 +18,9 @@ use Rattle.graph_file.specs.Refusals.{Refusal}
 use Rattle.graph_file.specs.Blocks.{drafted}
 use Rattle.graph_file.specs.Opening.{Opened, opened_of}
 use Rattle.flowgraph.specs.Agreeing.{graphs_agree}
-use Rattle.threads.specs.Outcomes.{CameBack, handed_of}
+use Rattle.threads.specs.Outcomes.{HasReturned, handed_of}
 use Rattle.threads.specs.History.{Noted, IsRunOf}
-use Rattle.threads.specs.Live.{EndsLive, opening_of}
+use Rattle.threads.specs.Live.{LiveRunEndsIn, opening_of}
 use Rattle.threads.specs.declared.outcome.Outcome.{Outcome}
 use Rattle.threads.specs.declared.outcome.Outcome.TheVariants as outcome
 use Rattle.plant.specs.Handed.{OpeningState}
@@ -193,7 +193,7 @@ module _ (p r : PlantState Kind) (eq : Kind → Kind → Bool) (agree : graphs_a
       λ i. record { draft = graph i; capacities = capacities i; state = r.state }
 
 module _ (file text : List ℕ) (p r : PlantState Kind) (eq : Kind → Kind → Bool) where
-  pub ran_in_threads : (settled : Settled) (done : Bool) (status : ℕ) (stalled : Option Opened) → CameBack meaning_of eq (handed_of (with_all_closed meaning_of p)) r → plant_in file ≡ Ok (opened_of p) →
+  pub ran_in_threads : (settled : Settled) (done : Bool) (status : ℕ) (stalled : Option Opened) → HasReturned meaning_of eq (handed_of (with_all_closed meaning_of p)) r → plant_in file ≡ Ok (opened_of p) →
       p.capacities ≡ capacities_of (net_of meaning_of p.graph) (balance_of (net_of meaning_of p.graph)) → Sound (net_of meaning_of r.graph) r.capacities r.state →
       HasSettled (net_of meaning_of r.graph) r.capacities r.state settled → done ≡ is_all_done r.state → (done ≡ true → IsWhole (net_of meaning_of r.graph) r.state) →
       text ≡ run_text (drafted r.graph) r.state → status ≡ (if done then 0 else 3) → stalled ≡ (if done then None else Some (opened_of r)) → IsRunTo file stalled text status
@@ -235,11 +235,11 @@ module _ (file text : List ℕ) (p r : PlantState Kind) (eq : Kind → Kind → 
 
 -- how a live run ended that came to rest
 module _ (eq : Kind → Kind → Bool) (o : OpeningState Kind) (history : List Noted) {P : Type 0} (out : Outcome Kind P) (p : PlantState Kind) where
-  pub ended_done : out ≡ outcome.Done p → EndsLive meaning_of eq o history out → HasCome meaning_of eq o p × HasSettled (net_of meaning_of p.graph) p.capacities p.state Done
-  ended_done e h = let k = subst (EndsLive meaning_of eq o history) e h in ((history, k.0), k.1.done)
+  pub ended_done : out ≡ outcome.Done p → LiveRunEndsIn meaning_of eq o history out → HasCome meaning_of eq o p × HasSettled (net_of meaning_of p.graph) p.capacities p.state Done
+  ended_done e h = let k = subst (LiveRunEndsIn meaning_of eq o history) e h in ((history, k.0), k.1.done)
 
-  pub ended_stalled : out ≡ outcome.Stalled p → EndsLive meaning_of eq o history out → HasCome meaning_of eq o p × HasSettled (net_of meaning_of p.graph) p.capacities p.state Quiet
-  ended_stalled e h = let k = subst (EndsLive meaning_of eq o history) e h in ((history, k.0), (k.1.undone, k.1.quiet))
+  pub ended_stalled : out ≡ outcome.Stalled p → LiveRunEndsIn meaning_of eq o history out → HasCome meaning_of eq o p × HasSettled (net_of meaning_of p.graph) p.capacities p.state Quiet
+  ended_stalled e h = let k = subst (LiveRunEndsIn meaning_of eq o history) e h in ((history, k.0), (k.1.undone, k.1.quiet))
 
 -- what came of a live run of a file that is good
 pub live_failed : (file : List ℕ) (i i' o o' : Option (List ℕ)) (fault : Fault) (p : Opened) → plant_in file ≡ Ok p → IsNoFile fault → StopsLive file i i' o o' fault

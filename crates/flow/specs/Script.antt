@@ -112,7 +112,7 @@ pub record Ends {S : Type 0} (A : Answering S) (st last : S) (input input' out o
   pub answered : Answered A st last out out' (script_after given [])
 
 -- a script ends in this state of the machine, whatever claims are kept then
-pub record EndsIn (g : Graph) (st : Standing) (state : State) (input input' out out' : Option (List ℕ)) : Type 0 where
+pub record RunEndsIn (g : Graph) (st : Standing) (state : State) (input input' out out' : Option (List ℕ)) : Type 0 where
   pub kept : List Bool
   pub ends : Ends (Answers g) st (record { state = state; kept = kept }) input input' out out'
 

@@ -24,7 +24,7 @@ use Rattle.script_text.specs.Ends.{AppendsBeginning}
 use Rattle.script_text.specs.declared.ends.Broken.{Broken}
 use Rattle.top_block.specs.Closing.{closed}
 use Rattle.flow.specs.Session.{Answers, graph_of, standing_of, none_kept, turn}
-use Rattle.flow.specs.Script.{EndsIn, Breaks, failed_reads, failed_writes}
+use Rattle.flow.specs.Script.{RunEndsIn, Breaks, failed_reads, failed_writes}
 use Rattle.flow.specs.Faults.{fault_line, status_of}
 use Rattle.flow.specs.Reports.{check_text, run_text}
 use Rattle.flow.specs.Stalls.{stall_text, uneven_line}
@@ -172,7 +172,7 @@ pub record IsScript (file : List ℕ) (input input' out out' : Option (List ℕ)
   pub plant : PlantState Kind
   pub opens : plant_in file ≡ Ok (opened_of plant)
   pub last : State
-  pub ends : EndsIn (graph_of meaning_of plant) (standing_of plant (none_kept plant)) last input input' out out'
+  pub ends : RunEndsIn (graph_of meaning_of plant) (standing_of plant (none_kept plant)) last input input' out out'
 
 -- it did not: the file was refused, before anything was read or written, or the script stopped
 abbrev pub StopsScript : List ℕ → Option (List ℕ) → Option (List ℕ) → Option (List ℕ) → Option (List ℕ) → Fault → Type 0

@@ -7,7 +7,7 @@ use Rattle.flow.specs.Faults.{fault_line, status_of}
 use Rattle.flow.specs.declared.fault.Fault.TheVariants.{Script}
 use Rattle.flow.specs.declared.script.ScriptFault.TheVariants as script
 use Rattle.flow.specs.declared.start.StartFault.{StartFault}
-use Rattle.flow.specs.declared.start.StartFault.TheVariants.{NoText, BadWords, NoFile, NoTrace, Memory}
+use Rattle.flow.specs.declared.start.StartFault.TheVariants.{NoText, BadWords, NoFile, NoTrace, NoOutput, Memory}
 
 -- a word that is no UTF-8 is reported; otherwise only memory can run out
 abbrev pub words_fault : ErrorKind → StartFault
@@ -29,12 +29,13 @@ abbrev pub trace_fault : ErrorKind → StartFault
 trace_fault kind.OutOfMemory = Memory
 trace_fault _ = NoTrace
 
--- memory and a file are reported as they are of a command; the text of bad words comes from what reads them
+-- memory, a file and standard output are reported as they are of a command; the text of bad words comes from what reads them
 abbrev pub start_text : StartFault → List ℕ
 start_text NoText = line_text (codes "error: a word is no UTF-8")
 start_text BadWords = []
 start_text NoFile = fault_line (Script script.Read)
 start_text NoTrace = line_text (codes "flow: refused 52 Write trace")
+start_text NoOutput = fault_line (Script script.Write)
 start_text Memory = fault_line (Script script.Memory)
 
 -- the exit status: 2 for words
@@ -43,4 +44,5 @@ start_status NoText = 2
 start_status BadWords = 2
 start_status NoFile = status_of (Script script.Read)
 start_status NoTrace = status_of (Script script.Write)
+start_status NoOutput = status_of (Script script.Write)
 start_status Memory = status_of (Script script.Memory)

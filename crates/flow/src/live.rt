@@ -8,7 +8,7 @@ ghost use Rattle.kinds.specs.declared.kind.Kind.{Kind};
 ghost use Rattle.plant.specs.Handed.{OpeningState};
 ghost use Rattle.plant.specs.Settling.{HasSettled};
 ghost use Rattle.threads.specs.History.{Noted, noted_by};
-ghost use Rattle.threads.specs.Live.{EndsLive, opening_of};
+ghost use Rattle.threads.specs.Live.{LiveRunEndsIn, opening_of};
 ghost use Rattle.flow.specs.Serve.{IsNoFile};
 ghost use Rattle.flow.specs.Threads.{HasCome};
 
@@ -89,7 +89,7 @@ fn one_caller<'a, I: ByteIn, O: ByteOut>(
 fn came_to_rest<I: ByteIn, O: ByteOut>(
     finished: Finished<Kind, LineCaller<'_, I, O>>,
 ) -> Result<(Plant<Kind>, Settled), Fault>
-    ensures came { IfOk result (λ r. (o : OpeningState Kind) → EndsLive meaning_of ⟦<Kind as PartialEq>⟧.eq o (map noted_by finished.entry.history.items) finished.entry.outcome →
+    ensures came { IfOk result (λ r. (o : OpeningState Kind) → LiveRunEndsIn meaning_of ⟦<Kind as PartialEq>⟧.eq o (map noted_by finished.entry.history.items) finished.entry.outcome →
         HasCome meaning_of ⟦<Kind as PartialEq>⟧.eq o r.0 × HasSettled (net_of meaning_of r.0.graph) r.0.capacities r.0.state r.1) }
     ensures no_file { IfErr result IsNoFile }
 {
@@ -127,7 +127,7 @@ fn stopped_by(fault: ScriptFault, outcome: &Outcome<Kind>) -> Fault
 
 // The plant of a run that nobody asked to end.
 fn rested(outcome: Outcome<Kind>) -> Result<(Plant<Kind>, Settled), Fault>
-    ensures came { IfOk result (λ r. (o : OpeningState Kind) (history : List Noted) → EndsLive meaning_of ⟦<Kind as PartialEq>⟧.eq o history outcome →
+    ensures came { IfOk result (λ r. (o : OpeningState Kind) (history : List Noted) → LiveRunEndsIn meaning_of ⟦<Kind as PartialEq>⟧.eq o history outcome →
         HasCome meaning_of ⟦<Kind as PartialEq>⟧.eq o r.0 × HasSettled (net_of meaning_of r.0.graph) r.0.capacities r.0.state r.1) }
     ensures no_file { IfErr result IsNoFile }
 {

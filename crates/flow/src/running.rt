@@ -5,7 +5,7 @@ ghost use Rattle.stream_model.specs.Machine.{is_idle};
 ghost use Rattle.flowgraph.specs.Flowgraph.{net_of};
 ghost use Rattle.kinds.specs.Kind.{meaning_of};
 ghost use Rattle.plant.specs.Settling.{HasSettled};
-ghost use Rattle.threads.specs.Outcomes.{CameBack, EndsIn, GivesBack, handed_of};
+ghost use Rattle.threads.specs.Outcomes.{HasReturned, RunEndsIn, GivesBack, handed_of};
 ghost use Rattle.top_block.specs.Closing.{with_all_closed};
 
 use kinds::Kind;
@@ -41,7 +41,7 @@ pub(crate) fn run_plant<R: Threads + Wait + Clock + Copy + Send + Sync + 'static
     watch: &mut W,
 ) -> Result<(Plant<Kind>, Settled), RunFault<Kind>>
     requires { is_idle plant.state ≡ true }
-    ensures came_back { IfOk result (λ r. CameBack meaning_of ⟦<Kind as PartialEq>⟧.eq (handed_of (with_all_closed meaning_of plant)) r.0) }
+    ensures came_back { IfOk result (λ r. HasReturned meaning_of ⟦<Kind as PartialEq>⟧.eq (handed_of (with_all_closed meaning_of plant)) r.0) }
     ensures settled { IfOk result (λ r. HasSettled (net_of meaning_of r.0.graph) r.0.capacities r.0.state r.1) }
     ensures fails { IfErr result (GivesBack meaning_of ⟦<Kind as PartialEq>⟧.eq (handed_of (with_all_closed meaning_of plant))) }
 {
@@ -64,7 +64,7 @@ fn ended_in<R: Threads + Wait + Clock + Copy + Send + Sync + 'static, W: Watch>(
     watch: &mut W,
 ) -> Result<Outcome<Kind>, RunFault<Kind>>
     requires { is_idle plant.state ≡ true }
-    ensures ok { IfOk result (EndsIn meaning_of ⟦<Kind as PartialEq>⟧.eq (handed_of (with_all_closed meaning_of plant)) false) }
+    ensures ok { IfOk result (RunEndsIn meaning_of ⟦<Kind as PartialEq>⟧.eq (handed_of (with_all_closed meaning_of plant)) false) }
     ensures err { IfErr result (GivesBack meaning_of ⟦<Kind as PartialEq>⟧.eq (handed_of (with_all_closed meaning_of plant))) }
 {
     let top = TopBlock::from_plant(plant);

@@ -7,7 +7,7 @@ ghost use Rattle.script_text.specs.Scripts.{said_of};
 ghost use Rattle.script_text.specs.Grammar.{Says, IsAskable};
 ghost use Rattle.script_text.specs.Commands.{command_seen};
 ghost use Rattle.flow.specs.Session.{Answers, graph_of, standing_of, in_state, none_kept};
-ghost use Rattle.flow.specs.Script.{Answered, Stops, Unwritten, Proceeds, Went, Ends, EndsIn, Breaks, failed_reads, failed_writes};
+ghost use Rattle.flow.specs.Script.{Answered, Stops, Unwritten, Proceeds, Went, Ends, RunEndsIn, Breaks, failed_reads, failed_writes};
 ghost use Rattle.flow.specs.declared.script.ScriptFault.TheVariants.{Memory};
 
 use crate::answerer::Answerer;
@@ -102,7 +102,7 @@ pub fn script<B: Block, I: ByteIn, O: ByteOut>(
 ) -> Result<Plant<B>, ScriptFault>
     requires reads { I.failed input.old < 2 ^ 64 - 1 }
     requires writes { O.failed output.old < 2 ^ 64 - 1 }
-    ensures ends { IfOk result (λ p. EndsIn (graph_of B.meaning plant) (standing_of plant (none_kept plant)) p.state (I.remaining input.old) (I.remaining input.new) (O.contents output.old) (O.contents output.new)) }
+    ensures ends { IfOk result (λ p. RunEndsIn (graph_of B.meaning plant) (standing_of plant (none_kept plant)) p.state (I.remaining input.old) (I.remaining input.new) (O.contents output.old) (O.contents output.new)) }
     ensures same { IfOk result (λ p. p ≡ in_state plant p.state) }
     ensures breaks { IfErr result (λ fault. Breaks (Answers (graph_of B.meaning plant)) (standing_of plant (none_kept plant)) (I.remaining input.old) (I.remaining input.new) (O.contents output.old) (O.contents output.new) fault) }
     ensures failed_reads { I.failed input.new ≡ I.failed input.old + failed_reads result }

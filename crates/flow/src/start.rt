@@ -16,6 +16,8 @@ pub enum StartFault {
     NoFile,
     /// The file of a trace could not be made, or a write to it failed once the run was over.
     NoTrace,
+    /// Standard output did not take what a command without a graph file prints.
+    NoOutput,
     /// Memory ran out.
     Memory,
 }
@@ -71,6 +73,7 @@ impl StartFault {
             StartFault::BadWords => "",
             StartFault::NoFile => "flow: refused 51 Read\n",
             StartFault::NoTrace => "flow: refused 52 Write trace\n",
+            StartFault::NoOutput => "flow: refused 52 Write\n",
             StartFault::Memory => "flow: refused 32 Memory\n",
         }
     }
@@ -81,7 +84,8 @@ impl StartFault {
     {
         match self {
             StartFault::NoText | StartFault::BadWords => 2,
-            StartFault::NoFile | StartFault::NoTrace | StartFault::Memory => 4,
+            StartFault::NoFile | StartFault::NoTrace | StartFault::NoOutput | StartFault::Memory =>
+                4,
         }
     }
 }

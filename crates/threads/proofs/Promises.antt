@@ -5,7 +5,7 @@ use Rattle.threads.specs.declared.desks.DeskPromise.{DeskPromise}
 use Rattle.flowgraph.specs.Flowgraph.{Flowgraph}
 use Rattle.threads.specs.Desk.{DeskState, opened_at}
 use Rattle.threads.specs.History.{Noted}
-use Rattle.threads.specs.Live.{CameFrom}
+use Rattle.threads.specs.Live.{HaveReturned}
 use Rattle.threads.specs.Desks.{AreSeated, HaveKept, HasKept, IsAt}
 
 some_of : {X : Type 0} (xs : List X) (n : ℕ) → n < length xs → X
@@ -17,9 +17,9 @@ kept_at : {B C P : Type 0} (ran : C → C → DeskState B → List Noted → Typ
 kept_at ran g n c d p log at kept =
     subst (λ a. ran a d (opened_at g n) log) at.caller (subst (λ k. ran p.caller.value d (opened_at g k) log) at.number (subst (λ h. ran p.caller.value d (opened_at h p.number) log) at.graph kept))
 
-pub came_from : {B C P A : Type 0} (ran : C → C → DeskState B → List Noted → Type 0) (g : Flowgraph B) (callers after : List C) (logs : List (List Noted)) (desks : List (PromisedHandle A (DeskPromise B C P))) →
-    length desks ≡ length callers → AreSeated g callers desks → HaveKept ran desks after logs → CameFrom ran g callers after logs
-came_from ran g callers after logs desks many seated kept n c below =
+pub have_returned : {B C P A : Type 0} (ran : C → C → DeskState B → List Noted → Type 0) (g : Flowgraph B) (callers after : List C) (logs : List (List Noted)) (desks : List (PromisedHandle A (DeskPromise B C P))) →
+    length desks ≡ length callers → AreSeated g callers desks → HaveKept ran desks after logs → HaveReturned ran g callers after logs
+have_returned ran g callers after logs desks many seated kept n c below =
     let here = subst (λ m. n < m) (sym many) below in
     let d = some_of desks n here in
     kept_at ran g n (get_or callers n c) (get_or after n c) (get_or desks n d).promise (get_or logs n []) (seated n c d below) (kept n c d here)

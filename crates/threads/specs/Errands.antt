@@ -12,9 +12,9 @@ use Rattle.plant.specs.declared.fault.PlantFault.{PlantFault}
 use Rattle.threads.specs.declared.engine.Engine.{Engine}
 use Rattle.threads.specs.declared.errands.Errand.{Errand}
 use Rattle.threads.specs.declared.errands.Errand.TheVariants as errand
-use Rattle.threads.specs.declared.hall.Hall.{Hall}
+use Rattle.threads.specs.declared.locked.Locked.{Locked}
 use Rattle.threads.specs.Engine.{plant_in, HasClaimed, HasStepped}
-use Rattle.threads.specs.Hall.{HasBrought}
+use Rattle.threads.specs.Locked.{HasBrought}
 
 -- a block was stepped as by the machine, whatever the answer was
 abbrev pub IsStepped : {B P : Type 0} → (B → Meaning) → (block most : ℕ) → Engine B P → Engine B P → Type 0
@@ -54,7 +54,7 @@ abbrev pub HasErrand : {B P : Type 0} → (B → Meaning) → Engine B P → Eng
 HasErrand {B} {P} meaning old new ends errand = (count : ℕ) × (mid : Engine B P) × ActsLead meaning count old mid × HasStep meaning mid new ends (Some errand)
 
 -- a turn commits what its thread brought, and goes on from there
-pub record HasRun {B P : Type 0} (meaning : B → Meaning) (eq : B → B → Bool) (brought : Option (WorkedState B)) (old new : Hall B P) (errand : Errand B P) : Type 0 where
+pub record HasRun {B P : Type 0} (meaning : B → Meaning) (eq : B → B → Bool) (brought : Option (WorkedState B)) (old new : Locked B P) (errand : Errand B P) : Type 0 where
   pub between : Engine B P
   pub committed : HasBrought meaning eq brought old.engine between
   pub did : HasErrand meaning between new.engine new.ends errand

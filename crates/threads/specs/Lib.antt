@@ -3,7 +3,7 @@ pub mod Desks
 pub mod Engine
 pub mod Errands
 pub mod Fault
-pub mod Hall
+pub mod Locked
 pub mod History
 pub mod Live
 pub mod Outcomes

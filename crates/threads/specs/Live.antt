@@ -23,7 +23,7 @@ abbrev pub opening_of : {B : Type 0} → PlantState B → OpeningState B
 opening_of p = record { graph = p.graph; state = p.state }
 
 -- a plant came where a history leads from the opening: an equal graph, buffers as large as its rates ask, and no claim in flight
-pub record CameTo {B : Type 0} (meaning : B → Meaning) (eq : B → B → Bool) (o : OpeningState B) (history : List Noted) (p : PlantState B) : Type 0 where
+pub record HasReached {B : Type 0} (meaning : B → Meaning) (eq : B → B → Bool) (o : OpeningState B) (history : List Noted) (p : PlantState B) : Type 0 where
   pub graph : graphs_agree eq p.graph o.graph ≡ true
   pub net : net_of meaning p.graph ≡ net_of meaning o.graph
   pub capacities : p.capacities ≡ capacities_of (net_of meaning p.graph) (balance_of (net_of meaning p.graph))
@@ -37,15 +37,15 @@ pub record IsStuck {B : Type 0} (meaning : B → Meaning) (p : PlantState B) : T
   pub unbalanced : (q : List ℕ) → balance_of (net_of meaning p.graph) ≡ Balanced q → AreClosed (net_of meaning p.graph) p.state → ⊥
 
 -- the run ended so
-abbrev pub EndsLive : {B P : Type 0} → (B → Meaning) → (B → B → Bool) → OpeningState B → List Noted → Outcome B P → Type 0
-EndsLive meaning eq o history (Done p) = CameTo meaning eq o history p × IsDone meaning p
-EndsLive meaning eq o history (Stopped p) = CameTo meaning eq o history p × (is_all_done p.state ≡ false)
-EndsLive meaning eq o history (Stalled p) = CameTo meaning eq o history p × IsStuck meaning p
+abbrev pub LiveRunEndsIn : {B P : Type 0} → (B → Meaning) → (B → B → Bool) → OpeningState B → List Noted → Outcome B P → Type 0
+LiveRunEndsIn meaning eq o history (Done p) = HasReached meaning eq o history p × IsDone meaning p
+LiveRunEndsIn meaning eq o history (Stopped p) = HasReached meaning eq o history p × (is_all_done p.state ≡ false)
+LiveRunEndsIn meaning eq o history (Stalled p) = HasReached meaning eq o history p × IsStuck meaning p
 
 -- a run that failed gives the plant back, where some history leads
 abbrev pub GivesBackLive : {B P : Type 0} → (B → Meaning) → (B → B → Bool) → OpeningState B → RunFault B P → Type 0
-GivesBackLive meaning eq o (Memory p) = (history : List Noted) × CameTo meaning eq o history p
-GivesBackLive meaning eq o (Thread p) = (history : List Noted) × CameTo meaning eq o history p
+GivesBackLive meaning eq o (Memory p) = (history : List Noted) × HasReached meaning eq o history p
+GivesBackLive meaning eq o (Thread p) = (history : List Noted) × HasReached meaning eq o history p
 GivesBackLive meaning eq o Foreign = ⊤
 
 -- what was recorded of the caller at a desk
@@ -61,5 +61,5 @@ abbrev pub AreLogs : List (List Noted) → List Noted → Type 0
 AreLogs logs history = (n : ℕ) → get_or logs n [] ≡ noted_at n history
 
 -- each caller that came back, with its log, is what a run at a desk of its own may make of the caller that was handed in at its place
-abbrev pub CameFrom : {B C : Type 0} → (C → C → DeskState B → List Noted → Type 0) → Flowgraph B → List C → List C → List (List Noted) → Type 0
-CameFrom {B} {C} ran graph callers after logs = (n : ℕ) (c : C) → n < length callers → ran (get_or callers n c) (get_or after n c) (opened_at graph n) (get_or logs n [])
+abbrev pub HaveReturned : {B C : Type 0} → (C → C → DeskState B → List Noted → Type 0) → Flowgraph B → List C → List C → List (List Noted) → Type 0
+HaveReturned {B} {C} ran graph callers after logs = (n : ℕ) (c : C) → n < length callers → ran (get_or callers n c) (get_or after n c) (opened_at graph n) (get_or logs n [])

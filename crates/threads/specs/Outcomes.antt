@@ -19,7 +19,7 @@ handed_of p = record { graph = p.graph; handed = p.state.handed }
 
 -- a plant has what was handed in: an equal graph, and the same tapes, closed marks and settings. Its buffers are as large as its rates ask, and no
 -- claim is in flight
-pub record CameBack {B : Type 0} (meaning : B → Meaning) (eq : B → B → Bool) (h : HandedState B) (p : PlantState B) : Type 0 where
+pub record HasReturned {B : Type 0} (meaning : B → Meaning) (eq : B → B → Bool) (h : HandedState B) (p : PlantState B) : Type 0 where
   pub graph : graphs_agree eq p.graph h.graph ≡ true
   pub net : net_of meaning p.graph ≡ net_of meaning h.graph
   pub capacities : p.capacities ≡ capacities_of (net_of meaning p.graph) (balance_of (net_of meaning p.graph))
@@ -44,15 +44,15 @@ pub record IsStalled {B : Type 0} (meaning : B → Meaning) (asked : Bool) (p : 
   pub unbalanced : (q : List ℕ) → balance_of (net_of meaning p.graph) ≡ Balanced q → AreClosed (net_of meaning p.graph) p.state → ⊥
 
 -- a run of what was handed in ended so, where a stop was asked for or not
-abbrev pub EndsIn : {B P : Type 0} → (B → Meaning) → (B → B → Bool) → HandedState B → Bool → Outcome B P → Type 0
-EndsIn meaning eq h asked (Done p) = CameBack meaning eq h p × IsDone meaning p
-EndsIn meaning eq h asked (Stopped p) = CameBack meaning eq h p × IsStopped asked p
-EndsIn meaning eq h asked (Stalled p) = CameBack meaning eq h p × IsStalled meaning asked p
+abbrev pub RunEndsIn : {B P : Type 0} → (B → Meaning) → (B → B → Bool) → HandedState B → Bool → Outcome B P → Type 0
+RunEndsIn meaning eq h asked (Done p) = HasReturned meaning eq h p × IsDone meaning p
+RunEndsIn meaning eq h asked (Stopped p) = HasReturned meaning eq h p × IsStopped asked p
+RunEndsIn meaning eq h asked (Stalled p) = HasReturned meaning eq h p × IsStalled meaning asked p
 
 -- a run that failed gives the plant back, with what was handed in
 abbrev pub GivesBack : {B P : Type 0} → (B → Meaning) → (B → B → Bool) → HandedState B → RunFault B P → Type 0
-GivesBack meaning eq h (Memory p) = CameBack meaning eq h p
-GivesBack meaning eq h (Thread p) = CameBack meaning eq h p
+GivesBack meaning eq h (Memory p) = HasReturned meaning eq h p
+GivesBack meaning eq h (Thread p) = HasReturned meaning eq h p
 GivesBack meaning eq h Foreign = ⊤
 
 -- a fault tells of memory and of a thread only where that was lacking

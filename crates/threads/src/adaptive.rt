@@ -2,22 +2,22 @@
 
 ghost use Rattle.std.specs.Prelude.{◌≡◌, true, false, IfOk, IfErr};
 ghost use Rattle.stream_model.specs.Machine.{is_idle};
-ghost use Rattle.threads.specs.Outcomes.{CameBack, EndsIn, GivesBack, IsSo, handed_of};
+ghost use Rattle.threads.specs.Outcomes.{HasReturned, RunEndsIn, GivesBack, IsSo, handed_of};
 
 use crate::alone::{Ended, settle_alone};
 use crate::engine::Engine;
 use crate::fault::RunFault;
 use crate::gate::Gate;
-use crate::hall::Hall;
-use crate::launching::{called_back, lacked, make_beds, out_of_memory, with_open_gate};
+use crate::launching::{called_back, lacked, make_parkers, out_of_memory, with_open_gate};
+use crate::locked::Locked;
 use crate::number_set::NumberSet;
 use crate::outcome::Outcome;
 use crate::pool::Pool;
 use crate::pool_threads::lead;
 use crate::running::{Running, came_back};
-use crate::seats::Seats;
 use crate::shared::Shared;
 use crate::turns::Turns;
+use crate::waiting::Waiting;
 use flowgraph::Block;
 use plant::{Handed, Plant, Unwatched, Watch};
 use std::alloc::{AllocError, Global};
@@ -45,7 +45,7 @@ pub fn run_adaptive<
 where
     B::Places: Send + Sync + 'static,
     requires { is_idle plant.state ≡ true }
-    ensures ok { IfOk result (EndsIn B.meaning B.eq (handed_of plant) false) }
+    ensures ok { IfOk result (RunEndsIn B.meaning B.eq (handed_of plant) false) }
     ensures err { IfErr result (GivesBack B.meaning B.eq (handed_of plant)) }
     ensures told { IfErr result (IsSo true false) }
 {
@@ -67,7 +67,7 @@ pub fn run_adaptive_open<
 where
     B::Places: Send + Sync + 'static,
     requires { is_idle plant.state ≡ true }
-    ensures ok { IfOk result (EndsIn B.meaning B.eq (handed_of plant) false) }
+    ensures ok { IfOk result (RunEndsIn B.meaning B.eq (handed_of plant) false) }
     ensures err { IfErr result (GivesBack B.meaning B.eq (handed_of plant)) }
     ensures told { IfErr result (IsSo true false) }
 {
@@ -98,7 +98,7 @@ pub fn run_adaptive_watched<
 where
     B::Places: Send + Sync + 'static,
     requires { is_idle plant.state ≡ true }
-    ensures ok { IfOk result (EndsIn B.meaning B.eq (handed_of plant) false) }
+    ensures ok { IfOk result (RunEndsIn B.meaning B.eq (handed_of plant) false) }
     ensures err { IfErr result (GivesBack B.meaning B.eq (handed_of plant)) }
     ensures told { IfErr result (IsSo true false) }
 {
@@ -126,7 +126,7 @@ fn went_on<
 ) -> Result<Outcome<B>, RunFault<B>>
 where
     B::Places: Send + Sync + 'static,
-    ensures ok { IfOk result (EndsIn B.meaning B.eq (handed_of plant) false) }
+    ensures ok { IfOk result (RunEndsIn B.meaning B.eq (handed_of plant) false) }
     ensures err { IfErr result (GivesBack B.meaning B.eq (handed_of plant)) }
     ensures told { IfErr result (IsSo true false) }
 {
@@ -158,7 +158,7 @@ fn in_pool<
 where
     B::Places: Send + Sync + 'static,
     requires { is_idle plant.state ≡ true }
-    ensures ok { IfOk result (EndsIn B.meaning B.eq (handed_of plant) false) }
+    ensures ok { IfOk result (RunEndsIn B.meaning B.eq (handed_of plant) false) }
     ensures err { IfErr result (GivesBack B.meaning B.eq (handed_of plant)) }
     ensures told { IfErr result (IsSo true false) }
 {
@@ -227,7 +227,7 @@ where
 // How a plant came to rest that nobody else had.
 fn settled<B: Block>(plant: Plant<B>) -> Result<Outcome<B>, RunFault<B>>
     requires { is_idle plant.state ≡ true }
-    ensures ok { IfOk result (EndsIn B.meaning B.eq (handed_of plant) false) }
+    ensures ok { IfOk result (RunEndsIn B.meaning B.eq (handed_of plant) false) }
     ensures err { IfErr result (GivesBack B.meaning B.eq (handed_of plant)) }
     ensures told { IfErr result (IsSo true false) }
 {
@@ -244,7 +244,7 @@ fn settled<B: Block>(plant: Plant<B>) -> Result<Outcome<B>, RunFault<B>>
 // A plant has what it was handed.
 fn is_itself<B: Block>(plant: &Plant<B>)
     requires { is_idle plant.now.state ≡ true }
-    ensures { CameBack B.meaning B.eq (handed_of plant.now) plant.now }
+    ensures { HasReturned B.meaning B.eq (handed_of plant.now) plant.now }
 {
     plant.recall();
 }
@@ -263,12 +263,12 @@ fn mustered<B: Block, G: Gate + Drop>(
     ensures told { IfErr result (IsSo true false) }
 {
     let Rooms {
-        hall,
+        locked,
         handed,
-        beds,
+        parkers,
         workers,
     } = prepared(alloc, plant, turns, heavy)?;
-    let shared = Shared::new(hall, beds, gate, turns);
+    let shared = Shared::new(locked, parkers, gate, turns);
     match Arc::new(alloc, shared) {
         Ok(shared) => Ok(Running {
             shared,
@@ -283,9 +283,9 @@ fn mustered<B: Block, G: Gate + Drop>(
 // What a pool needs.
 #[derive(Drop)]
 struct Rooms<B: Block> {
-    hall: Hall<B>,
+    locked: Locked<B>,
     handed: Handed<B>,
-    beds: Vec<Parker>,
+    parkers: Vec<Parker>,
     workers: Vec<JoinHandle<()>>,
 }
 
@@ -302,12 +302,12 @@ fn prepared<B: Block>(
     ensures memory { IfErr result (IsSo true false) }
 {
     match rooms_of(alloc, &plant, turns, heavy) {
-        Ok((handed, pool, beds, workers)) => {
-            let hall = Hall::new(Engine::Plain(plant), Seats::none(alloc), pool, 0);
+        Ok((handed, pool, parkers, workers)) => {
+            let locked = Locked::new(Engine::Plain(plant), Waiting::none(alloc), pool, 0);
             Ok(Rooms {
-                hall,
+                locked,
                 handed,
-                beds,
+                parkers,
                 workers,
             })
         }
@@ -328,7 +328,7 @@ fn rooms_of<B: Block>(
     Ok((
         plant.handed(alloc)?,
         Pool::new(alloc, graph, turns, heavy)?,
-        make_beds(alloc, graph.len())?,
+        make_parkers(alloc, graph.len())?,
         Vec::with_capacity(alloc, 1)?,
     ))
 }

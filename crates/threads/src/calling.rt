@@ -6,25 +6,25 @@ ghost use Rattle.std.specs.Option.{is_some};
 ghost use Rattle.stream_model.specs.Machine.{is_idle};
 ghost use Rattle.threads.specs.Desks.{IsEmpty};
 ghost use Rattle.threads.specs.History.{noted_by};
-ghost use Rattle.threads.specs.Live.{AreLogs, CameFrom, EndsLive, GivesBackLive, opening_of};
+ghost use Rattle.threads.specs.Live.{AreLogs, HaveReturned, LiveRunEndsIn, GivesBackLive, opening_of};
 ghost use Rattle.threads.specs.Outcomes.{IsSo};
 
 use crate::desk::Caller;
-use crate::desks::{Came, Room, at_desks};
+use crate::desks::{Returned, Room, at_desks};
 use crate::engine::Engine;
 use crate::entry::Entry;
 use crate::fault::RunFault;
 use crate::gate::Gate;
-use crate::hall::Hall;
-use crate::launching::make_beds;
+use crate::launching::make_parkers;
+use crate::locked::Locked;
 use crate::logs::are_logs;
 use crate::number_set::NumberSet;
 use crate::outcome::Outcome;
 use crate::pool::Pool;
 use crate::recorded::Recorded;
-use crate::seats::Seats;
 use crate::shared::Shared;
 use crate::turns::Turns;
+use crate::waiting::Waiting;
 use crate::worker::work;
 use flowgraph::{Block, BlockId, Valid};
 use plant::{Opening, Plant, Unwatched, Watch};
@@ -68,11 +68,11 @@ where
     B::Places: Send + Sync,
     requires idle { is_idle plant.state ≡ true }
     requires few { vec_len callers ≤ 16 }
-    ensures ends { IfOk result (λ f. EndsLive B.meaning B.eq (opening_of plant) (map noted_by f.history.items) f.outcome) }
+    ensures ends { IfOk result (λ f. LiveRunEndsIn B.meaning B.eq (opening_of plant) (map noted_by f.history.items) f.outcome) }
     ensures logs { IfOk result (λ f. AreLogs (map (λ l. map noted_by l.items) f.logs.items) (map noted_by f.history.items)) }
     ensures callers { IfOk result (λ f. vec_len f.callers ≡ vec_len callers) }
     ensures logged { IfOk result (λ f. vec_len f.logs ≡ vec_len callers) }
-    ensures ran { IfOk result (λ f. CameFrom C.ran plant.graph callers.items f.callers.items (map (λ l. map noted_by l.items) f.logs.items)) }
+    ensures ran { IfOk result (λ f. HaveReturned C.ran plant.graph callers.items f.callers.items (map (λ l. map noted_by l.items) f.logs.items)) }
     ensures turns { IfOk result (λ f. f.turns ≡ turns) }
     ensures err { IfErr result (GivesBackLive B.meaning B.eq (opening_of plant)) }
 {
@@ -99,25 +99,25 @@ where
     B::Places: Send + Sync,
     requires idle { is_idle plant.state ≡ true }
     requires few { vec_len callers ≤ 16 }
-    ensures ends { IfOk result (λ f. EndsLive B.meaning B.eq (opening_of plant) (map noted_by f.history.items) f.outcome) }
+    ensures ends { IfOk result (λ f. LiveRunEndsIn B.meaning B.eq (opening_of plant) (map noted_by f.history.items) f.outcome) }
     ensures logs { IfOk result (λ f. AreLogs (map (λ l. map noted_by l.items) f.logs.items) (map noted_by f.history.items)) }
     ensures callers { IfOk result (λ f. vec_len f.callers ≡ vec_len callers) }
     ensures logged { IfOk result (λ f. vec_len f.logs ≡ vec_len callers) }
-    ensures ran { IfOk result (λ f. CameFrom C.ran plant.graph callers.items f.callers.items (map (λ l. map noted_by l.items) f.logs.items)) }
+    ensures ran { IfOk result (λ f. HaveReturned C.ran plant.graph callers.items f.callers.items (map (λ l. map noted_by l.items) f.logs.items)) }
     ensures turns { IfOk result (λ f. f.turns ≡ turns) }
     ensures err { IfErr result (GivesBackLive B.meaning B.eq (opening_of plant)) }
 {
-    let (hall, rooms) = prepare(alloc, plant, callers.len(), Crew::Workers)?;
+    let (locked, rooms) = prepare(alloc, plant, callers.len(), Crew::Workers)?;
     let Rooms {
         opening,
         graph,
-        beds,
+        parkers,
         room,
     } = rooms;
-    let shared = Shared::new(hall, beds, gate, turns);
+    let shared = Shared::new(locked, parkers, gate, turns);
     let came = in_scope(rt, alloc, &shared, &graph, callers, room, watch);
-    let Shared { hall, turns, .. } = shared;
-    ended(hall.into_inner(), &opening, came, turns)
+    let Shared { locked, turns, .. } = shared;
+    ended(locked.into_inner(), &opening, came, turns)
 }
 
 /// Who acts for the blocks of a run.
@@ -134,7 +134,7 @@ pub(crate) enum Crew {
 pub(crate) struct Rooms<B: Block, C: Caller<B> + Drop> {
     pub opening: Opening<B>,
     pub graph: Arc<Valid<B>, Global>,
-    pub beds: Vec<Parker>,
+    pub parkers: Vec<Parker>,
     pub room: Room<B, C>,
 }
 
@@ -144,7 +144,7 @@ pub(crate) fn prepare<B: Block, C: Caller<B> + Drop + Send>(
     plant: Plant<B>,
     callers: usize,
     crew: Crew,
-) -> Result<(Hall<B>, Rooms<B, C>), RunFault<B>>
+) -> Result<(Locked<B>, Rooms<B, C>), RunFault<B>>
     requires idle { is_idle plant.state ≡ true }
     ensures opening { IfOk result (λ p. p.1.opening ≡ opening_of plant) }
     ensures graph { IfOk result (λ p. arc_value p.1.graph ≡ plant.graph) }
@@ -156,10 +156,10 @@ pub(crate) fn prepare<B: Block, C: Caller<B> + Drop + Send>(
         rooms_of(alloc, &plant, callers),
         locked_rooms_of(alloc, &plant, crew),
     ) {
-        (Ok(rooms), Ok((opening, seats, pool))) => Ok((
-            Hall::new(
+        (Ok(rooms), Ok((opening, waiting, pool))) => Ok((
+            Locked::new(
                 Engine::Noted(Recorded::new(alloc, plant, opening)),
-                seats,
+                waiting,
                 pool,
                 callers,
             ),
@@ -192,7 +192,7 @@ fn rooms_of<B: Block, C: Caller<B> + Drop + Send>(
     Ok(Rooms {
         opening: plant.opening(alloc)?,
         graph: plant.share_graph()?,
-        beds: make_beds(alloc, plant.graph().len())?,
+        parkers: make_parkers(alloc, plant.graph().len())?,
         room: Room::with_capacity(alloc, callers)?,
     })
 }
@@ -202,19 +202,19 @@ fn locked_rooms_of<B: Block>(
     alloc: Global,
     plant: &Plant<B>,
     crew: Crew,
-) -> Result<(Opening<B>, Seats, Pool), AllocError>
+) -> Result<(Opening<B>, Waiting, Pool), AllocError>
     ensures { IfOk result (λ r. r.0 ≡ opening_of plant.now) }
 {
     let opening = plant.opening(alloc)?;
     let graph = plant.graph();
-    let (seats, pool) = match crew {
-        Crew::Workers => (Seats::new(alloc, graph.len())?, Pool::none(alloc)),
+    let (waiting, pool) = match crew {
+        Crew::Workers => (Waiting::new(alloc, graph.len())?, Pool::none(alloc)),
         Crew::Pool(turns) => (
-            Seats::none(alloc),
+            Waiting::none(alloc),
             Pool::new(alloc, graph, turns, NumberSet::new())?,
         ),
     };
-    Ok((opening, seats, pool))
+    Ok((opening, waiting, pool))
 }
 
 // Runs workers and callers, and returns once all their threads have ended: with what the callers left, where each thread could be started.
@@ -232,21 +232,21 @@ fn in_scope<
     callers: Vec<C>,
     room: Room<B, C>,
     watch: &mut W,
-) -> Option<Came<C>>
+) -> Option<Returned<C>>
 where
     B::Places: Send + Sync,
     requires few { vec_len callers ≤ 16 }
     requires empty { IsEmpty room }
-    ensures ran { IfSome result (λ came. CameFrom C.ran graph.now callers.items came.callers.items (map (λ l. map noted_by l.items) came.logs.items)) }
+    ensures ran { IfSome result (λ came. HaveReturned C.ran graph.now callers.items came.callers.items (map (λ l. map noted_by l.items) came.logs.items)) }
     ensures callers { IfSome result (λ came. vec_len came.callers ≡ vec_len callers) }
     ensures logs { IfSome result (λ came. vec_len came.logs ≡ vec_len callers) }
 {
     thread::scope(
         thread::scope_env(),
         rt,
-        move |scope| -> Option<Came<C>>
+        move |scope| -> Option<Returned<C>>
             requires { (vec_len callers ≤ 16) × IsEmpty room }
-            ensures ran { IfSome result (λ came. CameFrom C.ran graph.entry.now callers.items came.callers.items (map (λ l. map noted_by l.items) came.logs.items)) }
+            ensures ran { IfSome result (λ came. HaveReturned C.ran graph.entry.now callers.items came.callers.items (map (λ l. map noted_by l.items) came.logs.items)) }
             ensures many { IfSome result (λ came. (vec_len came.callers ≡ vec_len callers) × (vec_len came.logs ≡ vec_len callers)) }
         {
             let came = run_all(rt, alloc, scope, shared, graph, callers, room);
@@ -274,16 +274,16 @@ fn run_all<
     graph: &'h Valid<B>,
     callers: Vec<C>,
     room: Room<B, C>,
-) -> Option<Came<C>>
+) -> Option<Returned<C>>
 where
     B::Places: Send + Sync,
     requires few { vec_len callers ≤ 16 }
     requires empty { IsEmpty room }
-    ensures ran { IfSome result (λ came. CameFrom C.ran graph.now callers.items came.callers.items (map (λ l. map noted_by l.items) came.logs.items)) }
+    ensures ran { IfSome result (λ came. HaveReturned C.ran graph.now callers.items came.callers.items (map (λ l. map noted_by l.items) came.logs.items)) }
     ensures callers { IfSome result (λ came. vec_len came.callers ≡ vec_len callers) }
     ensures logs { IfSome result (λ came. vec_len came.logs ≡ vec_len callers) }
 {
-    for (block, _bed) in (0..u32::MAX).zip(&shared.beds) {
+    for (block, _parker) in (0..u32::MAX).zip(&shared.parkers) {
         let block = BlockId(block);
         if scope.spawn(move || work(rt, alloc, shared, block)).is_err() {
             shared.end(rt);
@@ -299,31 +299,31 @@ where
 
 /// How a run ended that left this.
 pub(crate) fn ended<B: Block, C: Drop>(
-    hall: Hall<B>,
+    locked: Locked<B>,
     opening: &Opening<B>,
-    came: Option<Came<C>>,
+    came: Option<Returned<C>>,
     turns: Turns,
 ) -> Result<Finished<B, C>, RunFault<B>>
-    ensures ends { IfOk result (λ f. EndsLive B.meaning B.eq opening.now (map noted_by f.history.items) f.outcome) }
+    ensures ends { IfOk result (λ f. LiveRunEndsIn B.meaning B.eq opening.now (map noted_by f.history.items) f.outcome) }
     ensures logs { IfOk result (λ f. AreLogs (map (λ l. map noted_by l.items) f.logs.items) (map noted_by f.history.items)) }
     ensures callers { IfOk result (λ f. came ≡ Some (record { callers = f.callers; logs = f.logs })) }
     ensures turns { IfOk result (λ f. f.turns ≡ turns) }
     ensures err { IfErr result (GivesBackLive B.meaning B.eq opening.now) }
-    ensures told { IfErr result (IsSo hall.starved (not (is_some came))) }
+    ensures told { IfErr result (IsSo locked.starved (not (is_some came))) }
 {
-    let Hall {
+    let Locked {
         engine,
         asked,
         starved,
         ..
-    } = hall;
+    } = locked;
     let Engine::Noted(recorded) = engine else {
         return Err(RunFault::Foreign);
     };
-    let Some((plant, history)) = recorded.came_from(opening) else {
+    let Some((plant, history)) = recorded.have_returned(opening) else {
         return Err(RunFault::Foreign);
     };
-    let Some(Came { callers, logs }) = came else {
+    let Some(Returned { callers, logs }) = came else {
         return Err(RunFault::Thread(plant));
     };
     if !are_logs(&logs, &history) {

@@ -4,7 +4,7 @@ ghost use Rattle.std.specs.Prelude.{◌≡◌, ◌≤◌, map, vec_len, IfOk, If
 ghost use Rattle.threads.specs.Desk.{opened_at};
 ghost use Rattle.threads.specs.Desks.{AreSeated, HaveKept, IsEmpty};
 ghost use Rattle.threads.specs.History.{noted_by};
-ghost use Rattle.threads.specs.Live.{CameFrom};
+ghost use Rattle.threads.specs.Live.{HaveReturned};
 
 use crate::desk::{Caller, Desk};
 use crate::entry::Entry;
@@ -18,7 +18,7 @@ use std::thread::{Promise, PromisedHandle, Scope, Threads};
 
 /// What callers left.
 #[derive(Drop)]
-pub struct Came<C: Drop> {
+pub struct Returned<C: Drop> {
     /// The callers.
     pub callers: Vec<C>,
     /// For each of them the log of its desk.
@@ -79,12 +79,12 @@ pub fn at_desks<
     graph: &'h Valid<B>,
     callers: Vec<C>,
     room: Room<B, C>,
-) -> Option<Came<C>>
+) -> Option<Returned<C>>
 where
     B::Places: Send + Sync,
     requires few { vec_len callers ≤ 16 }
     requires empty { IsEmpty room }
-    ensures ran { IfSome result (λ came. CameFrom C.ran graph.now callers.items came.callers.items (map (λ l. map noted_by l.items) came.logs.items)) }
+    ensures ran { IfSome result (λ came. HaveReturned C.ran graph.now callers.items came.callers.items (map (λ l. map noted_by l.items) came.logs.items)) }
     ensures callers { IfSome result (λ came. vec_len came.callers ≡ vec_len callers) }
     ensures logs { IfSome result (λ came. vec_len came.logs ≡ vec_len callers) }
 {
@@ -94,7 +94,7 @@ where
         desks,
     } = room;
     let desks = seated(rt, alloc, scope, shared, graph, callers, desks)?;
-    come_back(rt, desks, back, logs)
+    return_callers(rt, desks, back, logs)
 }
 
 /// Starts a thread for each caller.
@@ -140,12 +140,12 @@ where
 }
 
 /// Waits for the threads of callers, and has what they return.
-pub fn come_back<B: Block, C: Caller<B> + Drop, R: Threads>(
+pub fn return_callers<B: Block, C: Caller<B> + Drop, R: Threads>(
     rt: &R,
     desks: Vec<Handle<B, C>>,
     mut callers: Vec<C>,
     mut logs: Vec<Vec<Entry>>,
-) -> Option<Came<C>>
+) -> Option<Returned<C>>
     requires callers { vec_len callers ≡ 0 }
     requires logs { vec_len logs ≡ 0 }
     ensures kept { IfSome result (λ came. HaveKept C.ran desks.items came.callers.items (map (λ l. map noted_by l.items) came.logs.items)) }
@@ -157,7 +157,7 @@ pub fn come_back<B: Block, C: Caller<B> + Drop, R: Threads>(
         callers.push(caller).ok()?;
         logs.push(log).ok()?;
     }
-    Some(Came { callers, logs })
+    Some(Returned { callers, logs })
 }
 
 // A caller's run at its desk: the caller, and the log of the desk.

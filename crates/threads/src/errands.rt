@@ -3,10 +3,10 @@
 ghost use Rattle.std.specs.Prelude.{Some};
 ghost use Rattle.std.specs.Option.{option_map};
 ghost use Rattle.threads.specs.Errands.{HasErrand, HasRun, HasStep, IsStepped};
-ghost use Rattle.threads.specs.Hall.{HasBrought};
+ghost use Rattle.threads.specs.Locked.{HasBrought};
 
 use crate::gate::Gate;
-use crate::hall::Hall;
+use crate::locked::Locked;
 use crate::policy::{NextStep, STEPS};
 use crate::stopwatch::{nanos_since, now};
 use crate::woken::Woken;
@@ -67,7 +67,7 @@ impl Waiting {
     }
 }
 
-impl<B: Block> Hall<B> {
+impl<B: Block> Locked<B> {
     /// The next turn of a thread of the pool.
     pub fn errand<R: Clock, G: Gate>(
         &mut self,

@@ -3,17 +3,17 @@
 ghost use Rattle.std.specs.Prelude.{◌≡◌, ◌≤◌, true, false, IfOk, IfErr, IfSome};
 ghost use Rattle.std.specs.Arc.{arc_value};
 ghost use Rattle.stream_model.specs.Machine.{is_idle};
-ghost use Rattle.threads.specs.Outcomes.{CameBack, GivesBack, IsSo, handed_of};
+ghost use Rattle.threads.specs.Outcomes.{HasReturned, GivesBack, IsSo, handed_of};
 
 use crate::engine::Engine;
 use crate::fault::RunFault;
 use crate::gate::{Gate, Open};
-use crate::hall::Hall;
+use crate::locked::Locked;
 use crate::pool::Pool;
 use crate::running::{Running, came_back};
-use crate::seats::Seats;
 use crate::shared::Shared;
 use crate::turns::Turns;
+use crate::waiting::Waiting;
 use crate::worker::work;
 use flowgraph::{Block, BlockId};
 use plant::{Handed, Plant};
@@ -68,9 +68,9 @@ pub(crate) fn out_of_memory<B: Block>(plant: Plant<B>) -> RunFault<B>
 // A plant with what its run needs.
 #[derive(Drop)]
 struct Prepared<B: Block> {
-    hall: Hall<B>,
+    locked: Locked<B>,
     handed: Handed<B>,
-    beds: Vec<Parker>,
+    parkers: Vec<Parker>,
     workers: Vec<JoinHandle<()>>,
 }
 
@@ -110,12 +110,12 @@ where
     ensures err { IfErr result (GivesBack B.meaning B.eq (handed_of plant)) }
 {
     let Prepared {
-        hall,
+        locked,
         handed,
-        beds,
+        parkers,
         workers,
     } = prepare(alloc, plant)?;
-    let shared = Shared::new(hall, beds, gate, turns);
+    let shared = Shared::new(locked, parkers, gate, turns);
     match Arc::new(alloc, shared) {
         Ok(shared) => start_all(rt, alloc, shared, workers, handed),
         Err(refused) => Err(lacked(refused, &handed)),
@@ -130,10 +130,10 @@ fn prepare<B: Block>(alloc: Global, plant: Plant<B>) -> Result<Prepared<B>, RunF
     ensures memory { IfErr result (IsSo true false) }
 {
     match rooms_of(alloc, &plant) {
-        Ok((handed, seats, beds, workers)) => Ok(Prepared {
-            hall: Hall::new(Engine::Plain(plant), seats, Pool::none(alloc), 0),
+        Ok((handed, waiting, parkers, workers)) => Ok(Prepared {
+            locked: Locked::new(Engine::Plain(plant), waiting, Pool::none(alloc), 0),
             handed,
-            beds,
+            parkers,
             workers,
         }),
         Err(_) => Err(out_of_memory(plant)),
@@ -144,25 +144,25 @@ fn prepare<B: Block>(alloc: Global, plant: Plant<B>) -> Result<Prepared<B>, RunF
 fn rooms_of<B: Block>(
     alloc: Global,
     plant: &Plant<B>,
-) -> Result<(Handed<B>, Seats, Vec<Parker>, Vec<JoinHandle<()>>), AllocError>
+) -> Result<(Handed<B>, Waiting, Vec<Parker>, Vec<JoinHandle<()>>), AllocError>
     ensures { IfOk result (λ r. r.0 ≡ handed_of plant.now) }
 {
     let blocks = plant.graph().len();
     Ok((
         plant.handed(alloc)?,
-        Seats::new(alloc, blocks)?,
-        make_beds(alloc, blocks)?,
+        Waiting::new(alloc, blocks)?,
+        make_parkers(alloc, blocks)?,
         Vec::with_capacity(alloc, blocks)?,
     ))
 }
 
-pub(crate) fn make_beds(alloc: Global, count: usize) -> Result<Vec<Parker>, AllocError> {
-    let mut beds = Vec::with_capacity(alloc, count)?;
-    for bed in 0..count {
-        let _ = bed;
-        beds.push_reserved(Parker::new());
+pub(crate) fn make_parkers(alloc: Global, count: usize) -> Result<Vec<Parker>, AllocError> {
+    let mut parkers = Vec::with_capacity(alloc, count)?;
+    for parker in 0..count {
+        let _ = parker;
+        parkers.push_reserved(Parker::new());
     }
-    Ok(beds)
+    Ok(parkers)
 }
 
 // Starts a worker for each block. Where one cannot be started, those that are there leave again.
@@ -183,7 +183,7 @@ where
     ensures err { IfErr result (GivesBack B.meaning B.eq handed) }
     ensures thread { IfErr result (IsSo false true) }
 {
-    for (block, _bed) in (0..u32::MAX).zip(&shared.beds) {
+    for (block, _parker) in (0..u32::MAX).zip(&shared.parkers) {
         match start(rt, alloc, &shared, BlockId(block)) {
             Some(worker) => {
                 if workers.push(worker).is_err() {
@@ -261,9 +261,9 @@ fn given_back<B: Block, G: Gate + Drop>(
     shared: Shared<B, G>,
     handed: &Handed<B>,
 ) -> Option<Plant<B>>
-    ensures { IfSome result (CameBack B.meaning B.eq handed.now) }
+    ensures { IfSome result (HasReturned B.meaning B.eq handed.now) }
 {
-    let Hall { engine, .. } = shared.hall.into_inner();
+    let Locked { engine, .. } = shared.locked.into_inner();
     let Engine::Plain(plant) = engine else {
         return None;
     };

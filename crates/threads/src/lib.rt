@@ -9,12 +9,12 @@
 //! }
 //! ```
 //!
-//! - [`launch`] and [`run`] have a worker for each block. Whose progress wakes whom is decided in `seats`.
+//! - [`launch`] and [`run`] have a worker for each block. Whose progress wakes whom is decided in `waiting`.
 //! - [`run_adaptive`] and [`launch_adaptive`] take as many threads as the work is worth. All that is decided there stands in `policy`, a page to read.
 //! - [`live`] has callers at desks make calls while a thread for each block works, and returns the history of all calls; [`live_adaptive`] does so in
 //!   as many threads as the work is worth.
 //!
-//! The plant lies under one lock, and each call that is made of it there is one call of `Hall`, whose contract is exact. What a worker does between two looks at the
+//! The plant lies under one lock, and each call that is made of it there is one call of `Locked`, whose contract is exact. What a worker does between two looks at the
 //! lock is a turn: it commits, claims, and leaves to work. What comes out of the lock is compared with what was handed in, since a lock tells nothing but a
 //! type of what it holds. So the contracts say what a plant holds at the end, for every schedule.
 #![tactic(auto)]
@@ -29,11 +29,11 @@ pub mod entry;
 mod errands;
 pub mod fault;
 pub mod gate;
-mod hall;
-mod hall_calls;
 mod launching;
 mod lent_calls;
 mod live_pool;
+mod locked;
+mod locked_calls;
 mod logs;
 mod number_set;
 pub mod outcome;
@@ -42,10 +42,10 @@ mod pool;
 mod pool_threads;
 mod recorded;
 pub mod running;
-mod seats;
 mod shared;
 mod stopwatch;
 pub mod turns;
+mod waiting;
 mod woken;
 mod worker;
 
@@ -59,5 +59,5 @@ pub use launching::{launch, launch_open, launch_with};
 pub use live_pool::live_adaptive;
 pub use outcome::Outcome;
 pub use running::{Running, run, run_with};
-pub use seats::share_of;
 pub use turns::Turns;
+pub use waiting::share_of;

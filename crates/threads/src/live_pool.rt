@@ -4,11 +4,11 @@ ghost use Rattle.std.specs.Prelude.{◌≡◌, ◌≤◌, map, true, IfOk, IfErr
 ghost use Rattle.stream_model.specs.Machine.{is_idle};
 ghost use Rattle.threads.specs.Desks.{IsEmpty};
 ghost use Rattle.threads.specs.History.{noted_by};
-ghost use Rattle.threads.specs.Live.{AreLogs, CameFrom, EndsLive, GivesBackLive, opening_of};
+ghost use Rattle.threads.specs.Live.{AreLogs, HaveReturned, LiveRunEndsIn, GivesBackLive, opening_of};
 
 use crate::calling::{Crew, Finished, Rooms, ended, prepare};
 use crate::desk::Caller;
-use crate::desks::{Came, Room, come_back, seated};
+use crate::desks::{Returned, Room, return_callers, seated};
 use crate::fault::RunFault;
 use crate::gate::Gate;
 use crate::pool_threads::lead_in_scope;
@@ -46,26 +46,26 @@ where
     B::Places: Send + Sync,
     requires idle { is_idle plant.state ≡ true }
     requires few { vec_len callers ≤ 16 }
-    ensures ends { IfOk result (λ f. EndsLive B.meaning B.eq (opening_of plant) (map noted_by f.history.items) f.outcome) }
+    ensures ends { IfOk result (λ f. LiveRunEndsIn B.meaning B.eq (opening_of plant) (map noted_by f.history.items) f.outcome) }
     ensures logs { IfOk result (λ f. AreLogs (map (λ l. map noted_by l.items) f.logs.items) (map noted_by f.history.items)) }
     ensures callers { IfOk result (λ f. vec_len f.callers ≡ vec_len callers) }
     ensures logged { IfOk result (λ f. vec_len f.logs ≡ vec_len callers) }
-    ensures ran { IfOk result (λ f. CameFrom C.ran plant.graph callers.items f.callers.items (map (λ l. map noted_by l.items) f.logs.items)) }
+    ensures ran { IfOk result (λ f. HaveReturned C.ran plant.graph callers.items f.callers.items (map (λ l. map noted_by l.items) f.logs.items)) }
     ensures turns { IfOk result (λ f. f.turns ≡ turns) }
     ensures err { IfErr result (GivesBackLive B.meaning B.eq (opening_of plant)) }
 {
-    let (hall, rooms) = prepare(alloc, plant, callers.len(), Crew::Pool(turns))?;
+    let (locked, rooms) = prepare(alloc, plant, callers.len(), Crew::Pool(turns))?;
     let Rooms {
         opening,
         graph,
-        beds,
+        parkers,
         room,
     } = rooms;
-    let shared = Shared::new(hall, beds, gate, turns);
+    let shared = Shared::new(locked, parkers, gate, turns);
     let came = in_scope(rt, alloc, &shared, &graph, callers, room, watch);
     watch.end();
-    let Shared { hall, turns, .. } = shared;
-    ended(hall.into_inner(), &opening, came, turns)
+    let Shared { locked, turns, .. } = shared;
+    ended(locked.into_inner(), &opening, came, turns)
 }
 
 // Runs the pool and the callers, and returns once all their threads have ended: with what the callers left, where each thread could be started.
@@ -83,21 +83,21 @@ fn in_scope<
     callers: Vec<C>,
     room: Room<B, C>,
     watch: &mut W,
-) -> Option<Came<C>>
+) -> Option<Returned<C>>
 where
     B::Places: Send + Sync,
     requires few { vec_len callers ≤ 16 }
     requires empty { IsEmpty room }
-    ensures ran { IfSome result (λ came. CameFrom C.ran graph.now callers.items came.callers.items (map (λ l. map noted_by l.items) came.logs.items)) }
+    ensures ran { IfSome result (λ came. HaveReturned C.ran graph.now callers.items came.callers.items (map (λ l. map noted_by l.items) came.logs.items)) }
     ensures callers { IfSome result (λ came. vec_len came.callers ≡ vec_len callers) }
     ensures logs { IfSome result (λ came. vec_len came.logs ≡ vec_len callers) }
 {
     thread::scope(
         thread::scope_env(),
         rt,
-        move |scope| -> Option<Came<C>>
+        move |scope| -> Option<Returned<C>>
             requires { (vec_len callers ≤ 16) × IsEmpty room }
-            ensures ran { IfSome result (λ came. CameFrom C.ran graph.entry.now callers.items came.callers.items (map (λ l. map noted_by l.items) came.logs.items)) }
+            ensures ran { IfSome result (λ came. HaveReturned C.ran graph.entry.now callers.items came.callers.items (map (λ l. map noted_by l.items) came.logs.items)) }
             ensures many { IfSome result (λ came. (vec_len came.callers ≡ vec_len callers) × (vec_len came.logs ≡ vec_len callers)) }
         { run_all(rt, alloc, scope, shared, graph, callers, room, watch) },
     )
@@ -123,12 +123,12 @@ fn run_all<
     callers: Vec<C>,
     room: Room<B, C>,
     watch: &mut W,
-) -> Option<Came<C>>
+) -> Option<Returned<C>>
 where
     B::Places: Send + Sync,
     requires few { vec_len callers ≤ 16 }
     requires empty { IsEmpty room }
-    ensures ran { IfSome result (λ came. CameFrom C.ran graph.now callers.items came.callers.items (map (λ l. map noted_by l.items) came.logs.items)) }
+    ensures ran { IfSome result (λ came. HaveReturned C.ran graph.now callers.items came.callers.items (map (λ l. map noted_by l.items) came.logs.items)) }
     ensures callers { IfSome result (λ came. vec_len came.callers ≡ vec_len callers) }
     ensures logs { IfSome result (λ came. vec_len came.logs ≡ vec_len callers) }
 {
@@ -139,5 +139,5 @@ where
     } = room;
     let desks = seated(rt, alloc, scope, shared, graph, callers, desks)?;
     lead_in_scope(rt, alloc, scope, shared, watch);
-    come_back(rt, desks, back, logs)
+    return_callers(rt, desks, back, logs)
 }

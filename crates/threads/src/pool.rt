@@ -4,8 +4,8 @@ ghost use Rattle.std.specs.Prelude.{◌≤◌};
 
 use crate::number_set::{NUMBERS, NumberSet};
 use crate::policy::{Habit, NextStep, Sort};
-use crate::seats::share_of;
 use crate::turns::Turns;
+use crate::waiting::share_of;
 use crate::woken::Woken;
 use flowgraph::{Block, BlockId, Valid};
 use std::alloc::{AllocError, Global};

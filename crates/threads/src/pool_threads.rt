@@ -73,7 +73,7 @@ where
             return;
         }
         if turned.wants {
-            if let Some(number) = places.next(rt, shared.beds.len()) {
+            if let Some(number) = places.next(rt, shared.parkers.len()) {
                 let mate = scope.spawn(move || follow(rt, alloc, shared, number));
                 places.came(number, mate.is_ok());
             }
@@ -150,7 +150,7 @@ impl Mates {
     where
         B::Places: Send + Sync + 'static,
     {
-        let Some(number) = self.places.next(&rt, shared.beds.len()) else {
+        let Some(number) = self.places.next(&rt, shared.parkers.len()) else {
             return;
         };
         if self.handles.reserve(1).is_err() {
@@ -263,10 +263,10 @@ impl<B: Block, G: Gate + Drop> Shared<B, G> {
 
     // Sleeps until it is called, or so long.
     fn doze<R: Wait>(&self, rt: &R, thread: usize, longest: Option<Duration>) {
-        if let Some(bed) = self.beds.get(thread) {
+        if let Some(parker) = self.parkers.get(thread) {
             match longest {
-                Some(length) => bed.park_timeout(rt, length),
-                None => bed.park(rt),
+                Some(length) => parker.park_timeout(rt, length),
+                None => parker.park(rt),
             }
         }
     }

@@ -11,7 +11,7 @@ ghost use Rattle.plant.specs.Answers.{IsOf, claim_reply, piece_reply, reply_of, 
 ghost use Rattle.threads.specs.declared.entry.CallerId.TheVariants as caller;
 ghost use Rattle.threads.specs.declared.entry.Call.TheVariants as call;
 ghost use Rattle.threads.specs.History.{Asks, Brings, asked_by, noted_by};
-ghost use Rattle.threads.specs.Live.{CameTo};
+ghost use Rattle.threads.specs.Live.{HasReached};
 ghost use Rattle.threads.specs.Recorded.{IsNoted, IsClaimNoted, IsStepNoted, IsBack};
 
 use crate::entry::{Answer, Call, CallerId, Entry, Feed, Setting, shared};
@@ -236,8 +236,8 @@ impl<B: Block> Recorded<B> {
     }
 
     /// The plant with what was recorded of it, where it has no claim in flight and began there.
-    pub fn came_from(self, opening: &Opening<B>) -> Option<(Plant<B>, Vec<Entry>)>
-        ensures { IfSome result (λ r. CameTo B.meaning B.eq opening.now (map noted_by r.1.items) r.0) }
+    pub fn have_returned(self, opening: &Opening<B>) -> Option<(Plant<B>, Vec<Entry>)>
+        ensures { IfSome result (λ r. HasReached B.meaning B.eq opening.now (map noted_by r.1.items) r.0) }
     {
         self.plant.recall();
         if !self.plant.idle() || !self.opening.agrees(opening) {

@@ -2,14 +2,14 @@
 
 ghost use Rattle.std.specs.Prelude.{◌≡◌, true, false, IfOk, IfErr};
 ghost use Rattle.stream_model.specs.Machine.{is_idle};
-ghost use Rattle.threads.specs.Outcomes.{EndsIn, GivesBack, CameBack, IsSo, handed_of};
+ghost use Rattle.threads.specs.Outcomes.{RunEndsIn, GivesBack, HasReturned, IsSo, handed_of};
 ghost use Rattle.threads.specs.Running.{RunState};
 
 use crate::engine::Engine;
 use crate::fault::RunFault;
 use crate::gate::Gate;
-use crate::hall::Hall;
 use crate::launching::launch_with;
+use crate::locked::Locked;
 use crate::outcome::Outcome;
 use crate::shared::Shared;
 use crate::turns::Turns;
@@ -75,7 +75,7 @@ impl<B: Block, G: Gate + Drop> Running<B, G> {
         rt: &R,
         watch: &mut W,
     ) -> Result<Outcome<B>, RunFault<B>>
-        ensures ok { IfOk result (EndsIn B.meaning B.eq self.handed self.asked) }
+        ensures ok { IfOk result (RunEndsIn B.meaning B.eq self.handed self.asked) }
         ensures err { IfErr result (GivesBack B.meaning B.eq self.handed) }
         ensures told { IfErr result (IsSo true false) }
     {
@@ -86,7 +86,7 @@ impl<B: Block, G: Gate + Drop> Running<B, G> {
     /// Waits until all workers have left, and returns how the run ended. Sinks hold what they have taken. A claim that runs out of memory ends the
     /// run with `RunFault::Memory`, and the plant may be run again.
     pub fn wait<R: Threads + Wait>(self, rt: &R) -> Result<Outcome<B>, RunFault<B>>
-        ensures ok { IfOk result (EndsIn B.meaning B.eq self.handed self.asked) }
+        ensures ok { IfOk result (RunEndsIn B.meaning B.eq self.handed self.asked) }
         ensures err { IfErr result (GivesBack B.meaning B.eq self.handed) }
         ensures told { IfErr result (IsSo true false) }
     {
@@ -100,7 +100,7 @@ impl<B: Block, G: Gate + Drop> Running<B, G> {
             worker.join(rt);
         }
         match Arc::try_unwrap(shared) {
-            Ok(shared) => ended(shared.hall.into_inner(), &handed, asked),
+            Ok(shared) => ended(shared.locked.into_inner(), &handed, asked),
             Err(_) => Err(RunFault::Foreign),
         }
     }
@@ -108,19 +108,19 @@ impl<B: Block, G: Gate + Drop> Running<B, G> {
 
 // How a run ended of which this came back.
 fn ended<B: Block>(
-    hall: Hall<B>,
+    locked: Locked<B>,
     handed: &Handed<B>,
     asked: bool,
 ) -> Result<Outcome<B>, RunFault<B>>
-    ensures ok { IfOk result (EndsIn B.meaning B.eq handed.now asked) }
+    ensures ok { IfOk result (RunEndsIn B.meaning B.eq handed.now asked) }
     ensures err { IfErr result (GivesBack B.meaning B.eq handed.now) }
-    ensures told { IfErr result (IsSo hall.starved false) }
+    ensures told { IfErr result (IsSo locked.starved false) }
 {
-    let Hall {
+    let Locked {
         engine,
         starved,
         ..
-    } = hall;
+    } = locked;
     let Engine::Plain(plant) = engine else {
         return Err(RunFault::Foreign);
     };
@@ -144,7 +144,7 @@ fn ended<B: Block>(
 
 /// Whether a plant has what was handed in, with no claim in flight.
 pub(crate) fn came_back<B: Block>(plant: &Plant<B>, handed: &Handed<B>) -> bool
-    ensures { result ≡ true → CameBack B.meaning B.eq handed.now plant.now }
+    ensures { result ≡ true → HasReturned B.meaning B.eq handed.now plant.now }
 {
     plant.recall();
     plant.idle() && plant.agrees(handed)
@@ -159,7 +159,7 @@ pub fn run<
 where
     B::Places: Send + Sync + 'static,
     requires { is_idle plant.state ≡ true }
-    ensures ok { IfOk result (EndsIn B.meaning B.eq (handed_of plant) false) }
+    ensures ok { IfOk result (RunEndsIn B.meaning B.eq (handed_of plant) false) }
     ensures err { IfErr result (GivesBack B.meaning B.eq (handed_of plant)) }
 {
     run_with(rt, alloc, plant, gate, Turns::default())
@@ -180,7 +180,7 @@ pub fn run_with<
 where
     B::Places: Send + Sync + 'static,
     requires { is_idle plant.state ≡ true }
-    ensures ok { IfOk result (EndsIn B.meaning B.eq (handed_of plant) false) }
+    ensures ok { IfOk result (RunEndsIn B.meaning B.eq (handed_of plant) false) }
     ensures err { IfErr result (GivesBack B.meaning B.eq (handed_of plant)) }
 {
     match launch_with(rt, alloc, plant, gate, turns) {

@@ -1,15 +1,15 @@
-//! What workers and callers share, and the calls that they make under its lock. Each takes the lock for one call of `Hall`, whose clauses say what
+//! What workers and callers share, and the calls that they make under its lock. Each takes the lock for one call of `Locked`, whose clauses say what
 //! it does; of what lies under a lock no clause of these can speak.
 
 ghost use Rattle.std.specs.Prelude.{◌≡◌, ◌≤◌, None, IfOk};
 ghost use Rattle.std.specs.Arc.{arc_value};
 ghost use Rattle.settings.specs.Values.{value_of};
-ghost use Rattle.threads.specs.Hall.{IsOwn};
+ghost use Rattle.threads.specs.Locked.{IsOwn};
 
 use crate::entry::{Feed, Setting};
 use crate::errands::{Brought, Errand, Waiting};
 use crate::gate::Gate;
-use crate::hall::{Hall, Next};
+use crate::locked::{Locked, Next};
 use crate::turns::Turns;
 use crate::woken::{BITS, Woken};
 use crate::worker::Worker;
@@ -29,13 +29,13 @@ const LOOKS: u32 = 500;
 /// What all workers and callers share.
 #[derive(Drop)]
 pub struct Shared<B: Block, G: Gate + Drop> {
-    pub hall: Mutex<Hall<B>>,
+    pub locked: Mutex<Locked<B>>,
     /// Who waits for it, in a run whose threads act for all blocks: they hold it long.
     pub waiting: Waiting,
     /// For each block where its worker sleeps, or for each thread of a pool.
-    pub beds: Vec<Parker>,
+    pub parkers: Vec<Parker>,
     /// Where who looks on sleeps between two looks.
-    pub lookout: Parker,
+    pub watcher: Parker,
     pub gate: Arc<G, Global>,
     /// How much a worker does in one turn.
     pub turns: Turns,
@@ -43,14 +43,19 @@ pub struct Shared<B: Block, G: Gate + Drop> {
 
 impl<B: Block, G: Gate + Drop> Shared<B, G> {
     /// What is shared as a run begins: nobody has the lock or waits for it.
-    pub fn new(hall: Hall<B>, beds: Vec<Parker>, gate: Arc<G, Global>, turns: Turns) -> Shared<B, G>
+    pub fn new(
+        locked: Locked<B>,
+        parkers: Vec<Parker>,
+        gate: Arc<G, Global>,
+        turns: Turns,
+    ) -> Shared<B, G>
         ensures { result.turns ≡ turns }
     {
         Shared {
-            hall: Mutex::new(hall),
+            locked: Mutex::new(locked),
             waiting: Waiting::new(),
-            beds,
-            lookout: Parker::new(),
+            parkers,
+            watcher: Parker::new(),
             gate,
             turns,
         }
@@ -58,17 +63,17 @@ impl<B: Block, G: Gate + Drop> Shared<B, G> {
 
     /// Wakes workers. The lock is not held.
     pub fn wake(&self, woken: &Woken) {
-        for (beds, word) in self.beds.chunks(BITS).zip(woken.words()) {
+        for (parkers, word) in self.parkers.chunks(BITS).zip(woken.words()) {
             let mut bits = *word;
             for _ in 0..bits.count_ones() {
-                if let Some(bed) = beds.get(bits.trailing_zeros() as usize) {
-                    bed.unpark();
+                if let Some(parker) = parkers.get(bits.trailing_zeros() as usize) {
+                    parker.unpark();
                 }
                 bits &= bits.wrapping_sub(1);
             }
         }
         if woken.ends {
-            self.lookout.unpark();
+            self.watcher.unpark();
         }
         if woken.missed {
             self.gate.missed();
@@ -82,11 +87,11 @@ impl<B: Block, G: Gate + Drop> Shared<B, G> {
 
     /// The same once no caller is left.
     pub fn headway_alone<R: Wait>(&self, rt: &R) -> Option<Headway> {
-        let hall = self.as_guest(rt);
-        if 0 < hall.callers {
+        let locked = self.as_guest(rt);
+        if 0 < locked.callers {
             return None;
         }
-        Some(hall.engine.plant().headway())
+        Some(locked.engine.plant().headway())
     }
 
     /// Shows `watch` how far the plant is until the run is over, each time that its pause is over.
@@ -96,7 +101,7 @@ impl<B: Block, G: Gate + Drop> Shared<B, G> {
                 if self.as_guest(rt).is_over() {
                     break;
                 }
-                self.lookout.park_timeout(rt, pause);
+                self.watcher.park_timeout(rt, pause);
                 watch.show(self.headway(rt));
             }
         }
@@ -115,7 +120,7 @@ impl<B: Block, G: Gate + Drop> Shared<B, G> {
         ensures some { 1 ≤ result }
         ensures few { result ≤ self.now.turns.most }
     {
-        self.hall.lock(rt).share(block, self.turns)
+        self.locked.lock(rt).share(block, self.turns)
     }
 
     /// The next turn of a worker.
@@ -143,12 +148,12 @@ impl<B: Block, G: Gate + Drop> Shared<B, G> {
         brought: Option<Brought<B>>,
         woken: &mut Woken,
     ) -> Errand<B> {
-        let mut hall = if brought.is_some() {
+        let mut locked = if brought.is_some() {
             self.as_mate(rt)
         } else {
             self.locked(rt)
         };
-        hall.errand(
+        locked.errand(
             rt,
             alloc,
             thread,
@@ -160,36 +165,36 @@ impl<B: Block, G: Gate + Drop> Shared<B, G> {
     }
 
     // The lock for a thread of a pool that is counted while it waits.
-    fn as_mate<R: Wait>(&self, rt: &R) -> MutexGuard<'_, Hall<B>> {
+    fn as_mate<R: Wait>(&self, rt: &R) -> MutexGuard<'_, Locked<B>> {
         self.waiting.mates.fetch_add(1, Ordering::SeqCst);
-        let hall = self.locked(rt);
+        let locked = self.locked(rt);
         self.waiting.mates.fetch_sub(1, Ordering::SeqCst);
-        hall
+        locked
     }
 
     // The lock for a guest, who is let go first.
-    fn as_guest<R: Wait>(&self, rt: &R) -> MutexGuard<'_, Hall<B>> {
+    fn as_guest<R: Wait>(&self, rt: &R) -> MutexGuard<'_, Locked<B>> {
         self.waiting.guests.fetch_add(1, Ordering::SeqCst);
-        let hall = self.hall.lock(rt);
+        let locked = self.locked.lock(rt);
         self.waiting.guests.fetch_sub(1, Ordering::SeqCst);
-        hall
+        locked
     }
 
     // The lock, for which it sleeps only once it was looked for some time.
-    fn locked<R: Wait>(&self, rt: &R) -> MutexGuard<'_, Hall<B>> {
+    fn locked<R: Wait>(&self, rt: &R) -> MutexGuard<'_, Locked<B>> {
         for _ in 0..LOOKS {
-            if let Some(hall) = self.hall.try_lock() {
-                return hall;
+            if let Some(locked) = self.locked.try_lock() {
+                return locked;
             }
             spin_loop();
         }
-        self.hall.lock(rt)
+        self.locked.lock(rt)
     }
 
     /// The worker of a block sleeps until it is woken.
     pub fn sleep<R: Wait>(&self, rt: &R, block: BlockId) {
-        if let Some(bed) = self.beds.get(block.0 as usize) {
-            bed.park(rt);
+        if let Some(parker) = self.parkers.get(block.0 as usize) {
+            parker.park(rt);
         }
     }
 

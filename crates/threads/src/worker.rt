@@ -4,7 +4,7 @@ ghost use Rattle.std.specs.Prelude.{◌≡◌, ◌≤◌, None};
 ghost use Rattle.threads.specs.Worker.{BringsJob};
 
 use crate::gate::Gate;
-use crate::hall::Next;
+use crate::locked::Next;
 use crate::shared::Shared;
 use crate::woken::Woken;
 use flowgraph::{Block, BlockId};

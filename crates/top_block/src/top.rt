@@ -13,8 +13,8 @@ ghost use Rattle.settings.specs.Values.{value_of};
 ghost use Rattle.plant.specs.Opening.{opening_plant};
 ghost use Rattle.plant.specs.Plant.{PlantState};
 ghost use Rattle.threads.specs.History.{noted_by};
-ghost use Rattle.threads.specs.Live.{AreLogs, CameFrom, EndsLive, GivesBackLive, opening_of};
-ghost use Rattle.threads.specs.Outcomes.{EndsIn, GivesBack, IsSo, handed_of};
+ghost use Rattle.threads.specs.Live.{AreLogs, HaveReturned, LiveRunEndsIn, GivesBackLive, opening_of};
+ghost use Rattle.threads.specs.Outcomes.{RunEndsIn, GivesBack, IsSo, handed_of};
 ghost use Rattle.top_block.specs.Closing.{with_all_closed};
 
 use crate::closing::close_all;
@@ -166,7 +166,7 @@ impl TopBlock {
         rt: R,
         alloc: Global,
     ) -> Result<Outcome<Kind>, RunFault<Kind>>
-        ensures ok { IfOk result (EndsIn meaning_of ⟦<Kind as PartialEq>⟧.eq (handed_of (with_all_closed meaning_of self)) false) }
+        ensures ok { IfOk result (RunEndsIn meaning_of ⟦<Kind as PartialEq>⟧.eq (handed_of (with_all_closed meaning_of self)) false) }
         ensures err { IfErr result (GivesBack meaning_of ⟦<Kind as PartialEq>⟧.eq (handed_of (with_all_closed meaning_of self))) }
     {
         match self.start(rt, alloc) {
@@ -189,7 +189,7 @@ impl TopBlock {
         gate: Arc<G, Global>,
         turns: Turns,
     ) -> Result<Outcome<Kind>, RunFault<Kind>>
-        ensures ok { IfOk result (EndsIn meaning_of ⟦<Kind as PartialEq>⟧.eq (handed_of (with_all_closed meaning_of self)) false) }
+        ensures ok { IfOk result (RunEndsIn meaning_of ⟦<Kind as PartialEq>⟧.eq (handed_of (with_all_closed meaning_of self)) false) }
         ensures err { IfErr result (GivesBack meaning_of ⟦<Kind as PartialEq>⟧.eq (handed_of (with_all_closed meaning_of self))) }
     {
         let TopBlock { mut plant } = self;
@@ -207,7 +207,7 @@ impl TopBlock {
         alloc: Global,
         turns: Turns,
     ) -> Result<Outcome<Kind>, RunFault<Kind>>
-        ensures ok { IfOk result (EndsIn meaning_of ⟦<Kind as PartialEq>⟧.eq (handed_of (with_all_closed meaning_of self)) false) }
+        ensures ok { IfOk result (RunEndsIn meaning_of ⟦<Kind as PartialEq>⟧.eq (handed_of (with_all_closed meaning_of self)) false) }
         ensures err { IfErr result (GivesBack meaning_of ⟦<Kind as PartialEq>⟧.eq (handed_of (with_all_closed meaning_of self))) }
         ensures told { IfErr result (IsSo true false) }
     {
@@ -222,7 +222,7 @@ impl TopBlock {
         turns: Turns,
         watch: &mut W,
     ) -> Result<Outcome<Kind>, RunFault<Kind>>
-        ensures ok { IfOk result (EndsIn meaning_of ⟦<Kind as PartialEq>⟧.eq (handed_of (with_all_closed meaning_of self)) false) }
+        ensures ok { IfOk result (RunEndsIn meaning_of ⟦<Kind as PartialEq>⟧.eq (handed_of (with_all_closed meaning_of self)) false) }
         ensures err { IfErr result (GivesBack meaning_of ⟦<Kind as PartialEq>⟧.eq (handed_of (with_all_closed meaning_of self))) }
         ensures told { IfErr result (IsSo true false) }
     {
@@ -244,7 +244,7 @@ impl TopBlock {
         turns: Turns,
         watch: &mut W,
     ) -> Result<Outcome<Kind>, RunFault<Kind>>
-        ensures ok { IfOk result (EndsIn meaning_of ⟦<Kind as PartialEq>⟧.eq (handed_of (with_all_closed meaning_of self)) false) }
+        ensures ok { IfOk result (RunEndsIn meaning_of ⟦<Kind as PartialEq>⟧.eq (handed_of (with_all_closed meaning_of self)) false) }
         ensures err { IfErr result (GivesBack meaning_of ⟦<Kind as PartialEq>⟧.eq (handed_of (with_all_closed meaning_of self))) }
         ensures told { IfErr result (IsSo true false) }
     {
@@ -270,11 +270,11 @@ impl TopBlock {
         callers: Vec<C>,
     ) -> Result<Finished<Kind, C>, RunFault<Kind>>
         requires { vec_len callers ≤ 16 }
-        ensures ends { IfOk result (λ f. EndsLive meaning_of ⟦<Kind as PartialEq>⟧.eq (opening_of self) (map noted_by f.history.items) f.outcome) }
+        ensures ends { IfOk result (λ f. LiveRunEndsIn meaning_of ⟦<Kind as PartialEq>⟧.eq (opening_of self) (map noted_by f.history.items) f.outcome) }
         ensures logs { IfOk result (λ f. AreLogs (map (λ l. map noted_by l.items) f.logs.items) (map noted_by f.history.items)) }
         ensures callers { IfOk result (λ f. vec_len f.callers ≡ vec_len callers) }
         ensures logged { IfOk result (λ f. vec_len f.logs ≡ vec_len callers) }
-        ensures ran { IfOk result (λ f. CameFrom C.ran self.graph callers.items f.callers.items (map (λ l. map noted_by l.items) f.logs.items)) }
+        ensures ran { IfOk result (λ f. HaveReturned C.ran self.graph callers.items f.callers.items (map (λ l. map noted_by l.items) f.logs.items)) }
         ensures turns { IfOk result (λ f. f.turns.most ≡ 1024) }
         ensures err { IfErr result (GivesBackLive meaning_of ⟦<Kind as PartialEq>⟧.eq (opening_of self)) }
     {
@@ -297,11 +297,11 @@ impl TopBlock {
         watch: &mut W,
     ) -> Result<Finished<Kind, C>, RunFault<Kind>>
         requires { vec_len callers ≤ 16 }
-        ensures ends { IfOk result (λ f. EndsLive meaning_of ⟦<Kind as PartialEq>⟧.eq (opening_of self) (map noted_by f.history.items) f.outcome) }
+        ensures ends { IfOk result (λ f. LiveRunEndsIn meaning_of ⟦<Kind as PartialEq>⟧.eq (opening_of self) (map noted_by f.history.items) f.outcome) }
         ensures logs { IfOk result (λ f. AreLogs (map (λ l. map noted_by l.items) f.logs.items) (map noted_by f.history.items)) }
         ensures callers { IfOk result (λ f. vec_len f.callers ≡ vec_len callers) }
         ensures logged { IfOk result (λ f. vec_len f.logs ≡ vec_len callers) }
-        ensures ran { IfOk result (λ f. CameFrom C.ran self.graph callers.items f.callers.items (map (λ l. map noted_by l.items) f.logs.items)) }
+        ensures ran { IfOk result (λ f. HaveReturned C.ran self.graph callers.items f.callers.items (map (λ l. map noted_by l.items) f.logs.items)) }
         ensures turns { IfOk result (λ f. f.turns ≡ turns) }
         ensures err { IfErr result (GivesBackLive meaning_of ⟦<Kind as PartialEq>⟧.eq (opening_of self)) }
     {
@@ -326,11 +326,11 @@ impl TopBlock {
         watch: &mut W,
     ) -> Result<Finished<Kind, C>, RunFault<Kind>>
         requires { vec_len callers ≤ 16 }
-        ensures ends { IfOk result (λ f. EndsLive meaning_of ⟦<Kind as PartialEq>⟧.eq (opening_of self) (map noted_by f.history.items) f.outcome) }
+        ensures ends { IfOk result (λ f. LiveRunEndsIn meaning_of ⟦<Kind as PartialEq>⟧.eq (opening_of self) (map noted_by f.history.items) f.outcome) }
         ensures logs { IfOk result (λ f. AreLogs (map (λ l. map noted_by l.items) f.logs.items) (map noted_by f.history.items)) }
         ensures callers { IfOk result (λ f. vec_len f.callers ≡ vec_len callers) }
         ensures logged { IfOk result (λ f. vec_len f.logs ≡ vec_len callers) }
-        ensures ran { IfOk result (λ f. CameFrom C.ran self.graph callers.items f.callers.items (map (λ l. map noted_by l.items) f.logs.items)) }
+        ensures ran { IfOk result (λ f. HaveReturned C.ran self.graph callers.items f.callers.items (map (λ l. map noted_by l.items) f.logs.items)) }
         ensures turns { IfOk result (λ f. f.turns ≡ turns) }
         ensures err { IfErr result (GivesBackLive meaning_of ⟦<Kind as PartialEq>⟧.eq (opening_of self)) }
     {

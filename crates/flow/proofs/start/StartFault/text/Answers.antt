@@ -11,3 +11,7 @@ returns-in-NoFile c = ap start_text (sym c.in-NoFile.is)
 pub returns-in-Memory : goal.returns-in-Memory
 unfolding digits
 returns-in-Memory c = ap start_text (sym c.in-Memory.is)
+
+pub returns-in-NoOutput : goal.returns-in-NoOutput
+unfolding digits
+returns-in-NoOutput c = ap start_text (sym c.in-NoOutput.is)

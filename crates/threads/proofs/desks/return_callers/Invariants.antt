@@ -2,7 +2,7 @@ use Rattle.std.proofs.Common.{◌≡◌, ◌+◌, ◌<◌, ℕ, [], map, get_or,
 use Rattle.std.specs.Vec.Iter.{into_iter_items, into_iter_len}
 use Rattle.threads.specs.History.{noted_by}
 use Rattle.threads.specs.Desks.{HasKept}
-use Rattle.threads.proofs.desks.come_back.Given as goal
+use Rattle.threads.proofs.desks.return_callers.Given as goal
 
 abbrev pub invariant-loop-desk : goal.invariant-loop-desk
 invariant-loop-desk g l = record {

@@ -5,7 +5,7 @@ use Rattle.threads.specs.declared.entry.Entry.{Entry}
 use Rattle.threads.specs.History.{noted_by}
 use Rattle.threads.specs.Desks.{HasKept}
 use Rattle.threads.proofs.Places.{both_more}
-use Rattle.threads.proofs.desks.come_back.Goals as goal
+use Rattle.threads.proofs.desks.return_callers.Goals as goal
 
 pub loop-desk-preserved : goal.loop-desk-preserved
 loop-desk-preserved g c =

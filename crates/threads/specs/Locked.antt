@@ -7,9 +7,9 @@ use Rattle.plant.specs.Answers.{refusal_of, waiting_reply}
 use Rattle.plant.specs.declared.answers.Did.{Did}
 use Rattle.plant.specs.declared.fault.PlantFault.{PlantFault}
 use Rattle.threads.specs.declared.engine.Engine.{Engine}
-use Rattle.threads.specs.declared.hall.Hall.{Hall}
-use Rattle.threads.specs.declared.hall.Next.{Next}
-use Rattle.threads.specs.declared.hall.Next.TheVariants as next
+use Rattle.threads.specs.declared.locked.Locked.{Locked}
+use Rattle.threads.specs.declared.locked.Next.{Next}
+use Rattle.threads.specs.declared.locked.Next.TheVariants as next
 use Rattle.threads.specs.Engine.{plant_in, HasClaimed, HasCommitted}
 
 -- what a worker brought was committed
@@ -18,7 +18,7 @@ HasBrought meaning eq None old new = new ≡ old
 HasBrought {B} meaning eq (Some work) old new = (r : Result Did (WorkedState B)) × HasCommitted meaning eq work old new r
 
 -- a worker leaves since its block is done, or since the run ends: before it claims, or as its claim is busy or refused
-abbrev pub HasLeft : {B P : Type 0} → (B → Meaning) → (block most : ℕ) → Hall B P → Hall B P → Type 0
+abbrev pub HasLeft : {B P : Type 0} → (B → Meaning) → (block most : ℕ) → Locked B P → Locked B P → Type 0
 HasLeft meaning b most old new =
     HasClaimed meaning b most old.engine new.engine (Some machine.Done)
     ⊎ ((new.ends ≡ true)
@@ -27,14 +27,14 @@ HasLeft meaning b most old new =
     ⊎ ((new.starved ≡ true) × ((fault : PlantFault) × HasClaimed meaning b most old.engine new.engine (refusal_of fault))))))
 
 -- what a worker has to do next is what its claim was answered
-abbrev pub HasNext : {B P : Type 0} → (B → Meaning) → (block most : ℕ) → Hall B P → Hall B P → Next B P → Type 0
+abbrev pub HasNext : {B P : Type 0} → (B → Meaning) → (block most : ℕ) → Locked B P → Locked B P → Next B P → Type 0
 HasNext meaning b most old new (next.Work job) = (job.graph ≡ (plant_in old.engine).graph) × HasClaimed meaning b most old.engine new.engine (Some (machine.Claimed job.job))
 HasNext meaning b most old new (next.Sleep need) = HasClaimed meaning b most old.engine new.engine (Some (waiting_reply need))
 HasNext meaning b most old new next.Leave = HasLeft meaning b most old new
 
 -- a turn commits what its worker brought, and then claims for its block
-pub record HasTurned {B P : Type 0} (meaning : B → Meaning) (eq : B → B → Bool) (block most : ℕ) (brought : Option (WorkedState B)) (old new : Hall B P) (next : Next B P) : Type 0 where
-  pub between : Hall B P
+pub record HasTurned {B P : Type 0} (meaning : B → Meaning) (eq : B → B → Bool) (block most : ℕ) (brought : Option (WorkedState B)) (old new : Locked B P) (next : Next B P) : Type 0 where
+  pub between : Locked B P
   pub committed : HasBrought meaning eq brought old.engine between.engine
   pub claimed : HasNext meaning block most between new next
 

@@ -1,13 +1,13 @@
 //! What lies under the lock: the plant, and what its workers do.
 
 ghost use Rattle.std.specs.Prelude.{◌≡◌, ◌≤◌, ◌-◌, true, None};
-ghost use Rattle.threads.specs.declared.hall.Next.TheVariants as next;
-ghost use Rattle.threads.specs.Hall.{HasBrought, HasNext, HasTurned, IsOwn};
+ghost use Rattle.threads.specs.declared.locked.Next.TheVariants as next;
+ghost use Rattle.threads.specs.Locked.{HasBrought, HasNext, HasTurned, IsOwn};
 
 use crate::engine::Engine;
 use crate::pool::Pool;
-use crate::seats::{Seats, share_of};
 use crate::turns::Turns;
+use crate::waiting::{Waiting, share_of};
 use crate::woken::Woken;
 use crate::worker::Worker;
 use flowgraph::{Block, BlockId};
@@ -28,10 +28,10 @@ pub enum Next<B: Block> {
 
 /// The plant, and what its workers do.
 #[derive(Drop)]
-pub struct Hall<B: Block> {
+pub struct Locked<B: Block> {
     pub engine: Engine<B>,
     /// What the worker of each block does, where each has one.
-    pub seats: Seats,
+    pub waiting: Waiting,
     /// What a pool of threads does, where it acts for all blocks.
     pub pool: Pool,
     /// How many callers have not returned.
@@ -44,14 +44,14 @@ pub struct Hall<B: Block> {
     pub starved: bool,
 }
 
-impl<B: Block> Hall<B> {
+impl<B: Block> Locked<B> {
     /// All workers work, and so many callers have not returned.
-    pub fn new(engine: Engine<B>, seats: Seats, pool: Pool, callers: usize) -> Hall<B>
+    pub fn new(engine: Engine<B>, waiting: Waiting, pool: Pool, callers: usize) -> Locked<B>
         ensures { result.engine ≡ engine }
     {
-        Hall {
+        Locked {
             engine,
-            seats,
+            waiting,
             pool,
             callers,
             asked: false,
@@ -80,21 +80,21 @@ impl<B: Block> Hall<B> {
         ensures brought { worker.new.brought ≡ None }
         ensures block { worker.new.block ≡ worker.old.block }
         ensures most { worker.new.most ≡ worker.old.most }
-        ensures others { self.new ≡ record self.old { engine = self.new.engine; seats = self.new.seats; pool = self.new.pool; ends = self.new.ends; starved = self.new.starved } }
+        ensures others { self.new ≡ record self.old { engine = self.new.engine; waiting = self.new.waiting; pool = self.new.pool; ends = self.new.ends; starved = self.new.starved } }
     {
-        self.seats.works(worker.block);
+        self.waiting.works(worker.block);
         self.take_back(worker.brought.take(), woken);
         self.claim(alloc, worker.block, worker.most, woken)
     }
 
     /// Whether nobody works any more, or is to.
     pub fn is_over(&self) -> bool {
-        self.ends || (self.callers == 0 && self.seats.all_rest())
+        self.ends || (self.callers == 0 && self.waiting.all_rest())
     }
 
     /// A caller has returned. Once none is left the run ends as all rest, which a thread of a pool finds.
     pub fn caller_leaves(&mut self, woken: &mut Woken)
-        ensures { self.new ≡ record self.old { callers = self.old.callers - 1; seats = self.new.seats; pool = self.new.pool; ends = self.new.ends } }
+        ensures { self.new ≡ record self.old { callers = self.old.callers - 1; waiting = self.new.waiting; pool = self.new.pool; ends = self.new.ends } }
     {
         self.callers = self.callers.saturating_sub(1);
         if self.callers == 0 {
@@ -105,12 +105,12 @@ impl<B: Block> Hall<B> {
 
     /// The workers are to leave, each once it has committed what it works on.
     pub fn end(&mut self, woken: &mut Woken) -> Next<B>
-        ensures others { self.new ≡ record self.old { seats = self.new.seats; pool = self.new.pool; ends = true } }
+        ensures others { self.new ≡ record self.old { waiting = self.new.waiting; pool = self.new.pool; ends = true } }
         ensures leaves { result ≡ next.Leave }
     {
         self.ends = true;
         woken.ends = true;
-        self.seats.wake_all(woken);
+        self.waiting.wake_all(woken);
         self.pool.wake_all(woken);
         Next::Leave
     }
@@ -118,7 +118,7 @@ impl<B: Block> Hall<B> {
     // What comes back is none of the plant's: then the run ends, and what is held is looked at.
     fn take_back(&mut self, brought: Option<Worked<B>>, woken: &mut Woken)
         ensures committed { HasBrought B.meaning B.eq brought self.old.engine self.new.engine }
-        ensures others { self.new ≡ record self.old { engine = self.new.engine; seats = self.new.seats; pool = self.new.pool; ends = self.new.ends } }
+        ensures others { self.new ≡ record self.old { engine = self.new.engine; waiting = self.new.waiting; pool = self.new.pool; ends = self.new.ends } }
     {
         let Some(worked) = brought else {
             return;
@@ -128,7 +128,7 @@ impl<B: Block> Hall<B> {
             Ok(did) => {
                 let graph = self.engine.plant().graph();
                 if (block.0 as usize) < graph.len() {
-                    self.seats.commits(graph, block, did.0, woken);
+                    self.waiting.commits(graph, block, did.0, woken);
                 }
             }
             Err(_) => {
@@ -141,7 +141,7 @@ impl<B: Block> Hall<B> {
     fn claim(&mut self, alloc: Global, block: BlockId, most: u32, woken: &mut Woken) -> Next<B>
         requires { 1 ≤ most }
         ensures claimed { HasNext B.meaning block.0 most self.old self.new result }
-        ensures others { self.new ≡ record self.old { engine = self.new.engine; seats = self.new.seats; pool = self.new.pool; ends = self.new.ends; starved = self.new.starved } }
+        ensures others { self.new ≡ record self.old { engine = self.new.engine; waiting = self.new.waiting; pool = self.new.pool; ends = self.new.ends; starved = self.new.starved } }
     {
         if self.ends {
             return Next::Leave;
@@ -160,24 +160,24 @@ impl<B: Block> Hall<B> {
     }
 
     fn sleep(&mut self, block: BlockId, need: Need, woken: &mut Woken) -> Next<B>
-        ensures others { self.new ≡ record self.old { seats = self.new.seats; pool = self.new.pool; ends = self.new.ends } }
+        ensures others { self.new ≡ record self.old { waiting = self.new.waiting; pool = self.new.pool; ends = self.new.ends } }
         ensures sleeps { result ≡ next.Sleep need }
     {
         let graph = self.engine.plant().graph();
         if (block.0 as usize) < graph.len() {
-            self.seats.waits(graph, block, need, woken);
+            self.waiting.waits(graph, block, need, woken);
         }
         self.look(woken);
         Next::Sleep(need)
     }
 
     fn leave(&mut self, block: BlockId, woken: &mut Woken) -> Next<B>
-        ensures others { self.new ≡ record self.old { seats = self.new.seats; pool = self.new.pool; ends = self.new.ends } }
+        ensures others { self.new ≡ record self.old { waiting = self.new.waiting; pool = self.new.pool; ends = self.new.ends } }
         ensures leaves { result ≡ next.Leave }
     {
         let graph = self.engine.plant().graph();
         if (block.0 as usize) < graph.len() {
-            self.seats.leaves(graph, block, woken);
+            self.waiting.leaves(graph, block, woken);
         }
         self.look(woken);
         Next::Leave
@@ -185,9 +185,9 @@ impl<B: Block> Hall<B> {
 
     // Once all rest and no caller is left the run is over, or a worker slept though it could act: then all look again.
     fn look(&mut self, woken: &mut Woken)
-        ensures { self.new ≡ record self.old { seats = self.new.seats; pool = self.new.pool; ends = self.new.ends } }
+        ensures { self.new ≡ record self.old { waiting = self.new.waiting; pool = self.new.pool; ends = self.new.ends } }
     {
-        if 0 < self.callers || !self.seats.all_rest() {
+        if 0 < self.callers || !self.waiting.all_rest() {
             return;
         }
         let plant = self.engine.plant();
@@ -195,7 +195,7 @@ impl<B: Block> Hall<B> {
             let _ = self.end(woken);
         } else {
             woken.missed = true;
-            self.seats.wake_all(woken);
+            self.waiting.wake_all(woken);
         }
     }
 }

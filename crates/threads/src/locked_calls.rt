@@ -10,7 +10,7 @@ ghost use Rattle.threads.specs.Engine.{HasCalled};
 ghost use Rattle.threads.specs.History.{asked_by};
 
 use crate::entry::{Feed, Setting};
-use crate::hall::Hall;
+use crate::locked::Locked;
 use crate::woken::Woken;
 use flowgraph::{Block, BlockId};
 use plant::{Closed, Fed, Piece, PlantFault, Taken};
@@ -18,7 +18,7 @@ use settings::Value;
 use std::alloc::Global;
 use std::sync::Arc;
 
-impl<B: Block> Hall<B> {
+impl<B: Block> Locked<B> {
     /// Feeds a source, and has its worker look, or a thread of the pool.
     pub fn feed(
         &mut self,
@@ -27,12 +27,12 @@ impl<B: Block> Hall<B> {
         woken: &mut Woken,
     ) -> Result<Fed, PlantFault>
         ensures called { HasCalled B.meaning desk (asked_by (call.Feed feed)) self.old.engine self.new.engine (reply_of (λ f. machine.Fed f.0) result) }
-        ensures others { self.new ≡ record self.old { engine = self.new.engine; seats = self.new.seats; pool = self.new.pool } }
+        ensures others { self.new ≡ record self.old { engine = self.new.engine; waiting = self.new.waiting; pool = self.new.pool } }
     {
         let source = feed.source;
         let answer = self.engine.feed(desk, feed);
         if answer.is_ok() {
-            self.seats.wake(source, woken);
+            self.waiting.wake(source, woken);
             self.pool.wake(source, woken);
         }
         answer
@@ -46,11 +46,11 @@ impl<B: Block> Hall<B> {
         woken: &mut Woken,
     ) -> Result<Closed, PlantFault>
         ensures called { HasCalled B.meaning desk (asked_by (call.Close source)) self.old.engine self.new.engine (reply_of (λ c. machine.Closed c.0) result) }
-        ensures others { self.new ≡ record self.old { engine = self.new.engine; seats = self.new.seats; pool = self.new.pool } }
+        ensures others { self.new ≡ record self.old { engine = self.new.engine; waiting = self.new.waiting; pool = self.new.pool } }
     {
         let answer = self.engine.close(desk, source);
         if answer.is_ok() {
-            self.seats.wake(source, woken);
+            self.waiting.wake(source, woken);
             self.pool.wake(source, woken);
         }
         answer
@@ -88,7 +88,7 @@ impl<B: Block> Hall<B> {
 
     /// A caller asks for the end of the run.
     pub fn stop(&mut self, woken: &mut Woken)
-        ensures { self.new ≡ record self.old { seats = self.new.seats; pool = self.new.pool; asked = true; ends = true } }
+        ensures { self.new ≡ record self.old { waiting = self.new.waiting; pool = self.new.pool; asked = true; ends = true } }
     {
         self.asked = true;
         let _ = self.end(woken);

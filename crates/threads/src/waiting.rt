@@ -1,4 +1,4 @@
-//! Which workers work, which wait and for what, and whom the progress of a block concerns. It is the runtime's policy: nothing that a sink shows
+//! Which workers work, which wait and for what, and whom the headway of a block concerns. It is the runtime's policy: nothing that a sink shows
 //! depends on it, and a wake-up that is lost costs time, since the last worker to rest looks at the whole graph.
 
 ghost use Rattle.std.specs.Prelude.{◌<◌, ◌≤◌, length};
@@ -18,7 +18,7 @@ const HALVES: u32 = 2;
 
 // What a worker does.
 #[derive(Clone, Copy, Debug)]
-enum Seat {
+enum WorkerState {
     Works,
     // It waits for items or room, of which so many have come since.
     Waits(Need, u64),
@@ -27,31 +27,31 @@ enum Seat {
 
 // How far a block went on: by so many firings, and whether its worker rests then.
 #[derive(Clone, Copy, Debug)]
-struct Progress {
+struct Headway {
     firings: u32,
     rests: bool,
 }
 
 /// What the worker of each block does.
 #[derive(Drop)]
-pub struct Seats {
-    seats: Vec<Seat>,
+pub struct Waiting {
+    states: Vec<WorkerState>,
     working: usize,
 }
 
-impl Seats {
+impl Waiting {
     /// All work.
-    pub fn new(alloc: Global, blocks: usize) -> Result<Seats, AllocError> {
-        Ok(Seats {
-            seats: Vec::from_elem(alloc, Seat::Works, blocks)?,
+    pub fn new(alloc: Global, blocks: usize) -> Result<Waiting, AllocError> {
+        Ok(Waiting {
+            states: Vec::from_elem(alloc, WorkerState::Works, blocks)?,
             working: blocks,
         })
     }
 
-    /// No seats: whoever acts has no block of its own.
-    pub fn none(alloc: Global) -> Seats {
-        Seats {
-            seats: Vec::new(alloc),
+    /// No worker: whoever acts has no block of its own.
+    pub fn none(alloc: Global) -> Waiting {
+        Waiting {
+            states: Vec::new(alloc),
             working: 1,
         }
     }
@@ -63,9 +63,9 @@ impl Seats {
 
     /// The worker of a block works.
     pub fn works(&mut self, block: BlockId) {
-        if let Some(seat) = self.seats.get_mut(block.0 as usize) {
-            if let Seat::Waits(..) = *seat {
-                *seat = Seat::Works;
+        if let Some(state) = self.states.get_mut(block.0 as usize) {
+            if let WorkerState::Waits(..) = *state {
+                *state = WorkerState::Works;
                 self.working = self.working.saturating_add(1);
             }
         }
@@ -81,11 +81,11 @@ impl Seats {
     )
         requires { block.0 < length graph.now.blocks }
     {
-        let progress = Progress {
+        let headway = Headway {
             firings,
             rests: false,
         };
-        self.tell(graph, block, progress, woken);
+        self.tell(graph, block, headway, woken);
     }
 
     /// The worker of a block sleeps. Those that wait at it are woken for whatever came for them.
@@ -98,19 +98,19 @@ impl Seats {
     )
         requires { block.0 < length graph.now.blocks }
     {
-        self.rests(block, Seat::Waits(need, 0));
-        let progress = Progress {
+        self.rests(block, WorkerState::Waits(need, 0));
+        let headway = Headway {
             firings: 0,
             rests: true,
         };
-        self.tell(graph, block, progress, woken);
+        self.tell(graph, block, headway, woken);
     }
 
     /// The worker of a block leaves, since its block is done. Its neighbours are woken, whatever they wait for: a writer may end now too.
     pub fn leaves<B: Block>(&mut self, graph: &Valid<B>, block: BlockId, woken: &mut Woken)
         requires { block.0 < length graph.now.blocks }
     {
-        self.rests(block, Seat::Left);
+        self.rests(block, WorkerState::Left);
         for port in 0..graph.outputs(block) {
             for connection in graph.readers(block, port) {
                 self.wake(connection.to, woken);
@@ -123,9 +123,9 @@ impl Seats {
 
     /// All that sleep are woken.
     pub fn wake_all(&mut self, woken: &mut Woken) {
-        for (block, seat) in self.seats.iter_mut().enumerate() {
-            if let Seat::Waits(..) = *seat {
-                *seat = Seat::Works;
+        for (block, state) in self.states.iter_mut().enumerate() {
+            if let WorkerState::Waits(..) = *state {
+                *state = WorkerState::Works;
                 self.working = self.working.saturating_add(1);
                 woken.add(block);
             }
@@ -133,10 +133,10 @@ impl Seats {
     }
 
     // A worker that worked does so no longer.
-    fn rests(&mut self, block: BlockId, next: Seat) {
-        if let Some(seat) = self.seats.get_mut(block.0 as usize) {
-            if let Seat::Works = *seat {
-                *seat = next;
+    fn rests(&mut self, block: BlockId, next: WorkerState) {
+        if let Some(state) = self.states.get_mut(block.0 as usize) {
+            if let WorkerState::Works = *state {
+                *state = next;
                 self.working = self.working.saturating_sub(1);
             }
         }
@@ -144,9 +144,9 @@ impl Seats {
 
     /// A worker that sleeps is woken.
     pub fn wake(&mut self, block: BlockId, woken: &mut Woken) {
-        if let Some(seat) = self.seats.get_mut(block.0 as usize) {
-            if let Seat::Waits(..) = *seat {
-                *seat = Seat::Works;
+        if let Some(state) = self.states.get_mut(block.0 as usize) {
+            if let WorkerState::Waits(..) = *state {
+                *state = WorkerState::Works;
                 self.working = self.working.saturating_add(1);
                 woken.add(block.0 as usize);
             }
@@ -158,18 +158,18 @@ impl Seats {
         &mut self,
         graph: &Valid<B>,
         block: BlockId,
-        progress: Progress,
+        headway: Headway,
         woken: &mut Woken,
     )
         requires { block.0 < length graph.now.blocks }
     {
         let part = part_of(graph, block);
-        let firings = base_firings(graph, block, progress.firings);
+        let firings = base_firings(graph, block, headway.firings);
         let given = firings.saturating_mul(given_in(graph.pace(block, 0)));
         for port in 0..graph.outputs(block) {
             for connection in graph.readers(block, port) {
                 let need = Need::Items(connection.in_port);
-                self.comes(connection.to, need, given, part, progress.rests, woken);
+                self.comes(connection.to, need, given, part, headway.rests, woken);
             }
         }
         for (port, input) in graph.inputs(block).iter().enumerate() {
@@ -181,7 +181,7 @@ impl Seats {
                 need,
                 taken,
                 part_of(graph, writer),
-                progress.rests,
+                headway.rests,
                 woken,
             );
         }
@@ -197,17 +197,17 @@ impl Seats {
         is_all: bool,
         woken: &mut Woken,
     ) {
-        let Some(seat) = self.seats.get_mut(block.0 as usize) else {
+        let Some(state) = self.states.get_mut(block.0 as usize) else {
             return;
         };
-        let Seat::Waits(own, came) = *seat else {
+        let WorkerState::Waits(own, came) = *state else {
             return;
         };
         if own != need {
             return;
         }
         let came = came.saturating_add(items);
-        *seat = Seat::Waits(own, came);
+        *state = WorkerState::Waits(own, came);
         // (for nothing nobody is woken: two that wait for one another would go on waking each other)
         if 0 < came && (is_all || part <= came) {
             self.wake(block, woken);

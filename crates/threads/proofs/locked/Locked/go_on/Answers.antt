@@ -1,5 +1,5 @@
 use Rattle.threads.proofs.Acts.{one_more}
-use Rattle.threads.proofs.hall.Hall.go_on.Goals as goal
+use Rattle.threads.proofs.locked.Locked.go_on.Goals as goal
 
 pub steps-preserved : goal.steps-preserved
 steps-preserved g c =

@@ -1,7 +1,7 @@
 use Rattle.std.proofs.Common.{subst}
-use Rattle.threads.specs.Hall.{HasBrought}
+use Rattle.threads.specs.Locked.{HasBrought}
 use Rattle.threads.proofs.Owns.{own_next}
-use Rattle.threads.proofs.hall.Hall.turn.Goals as goal
+use Rattle.threads.proofs.locked.Locked.turn.Goals as goal
 
 pub returns-clause-turned : goal.returns-clause-turned
 returns-clause-turned g c = record {
