@@ -23,9 +23,18 @@ def ports(side: str, ends: list[int]) -> list[str]:
     return ["{%s}" % "|".join("<%s%d> %d" % (side, port, port) for port in range(max(ends) + 1))] if ends else []
 
 
+def note(block: dict[str, Any]) -> list[str]:
+    """What a setting of the block replaces, or by how much it moves its stream."""
+    if "taps" in block:
+        return ["%d taps" % len(block["taps"])]
+    if block["kind"] in ("delay", "head", "skiphead"):
+        return ["n %d" % block["n"]]
+    return ["value %d" % block[key] for key in ("value", "factor", "on") if key in block]
+
+
 def record(block: dict[str, Any], connects: list[dict[str, Any]], firings: dict[str, str]) -> str:
     name = block["name"]
-    lines = [name, block["kind"]] + ["q " + firings[name] for _ in range(name in firings)]
+    lines = [name, block["kind"]] + note(block) + ["q " + firings[name] for _ in range(name in firings)]
     inputs = ports("i", [it.get("to_port", 0) for it in connects if it["to"] == name])
     outputs = ports("o", [it.get("from_port", 0) for it in connects if it["from"] == name])
     return '  "%s" [label="{%s}"];\n' % (name, "|".join(inputs + ["\\n".join(lines)] + outputs))

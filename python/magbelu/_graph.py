@@ -75,7 +75,7 @@ class Graph(Held):
           rankdir=LR;
           node [shape=record];
           "src" [label="{src\\nvector_source\\nq 1|{<o0> 0}}"];
-          "add" [label="{{<i0> 0}|add\\nadd_const\\nq 1|{<o0> 0}}"];
+          "add" [label="{{<i0> 0}|add\\nadd_const\\nvalue 10\\nq 1|{<o0> 0}}"];
           "out" [label="{{<i0> 0}|out\\nvector_sink\\nq 1}"];
           "src":o0:e -> "add":i0:w [label="byte", color="#9C27B0"];
           "add":o0:e -> "out":i0:w [label="byte", color="#9C27B0"];

@@ -34,7 +34,7 @@ ECHO_DOT = r"""digraph {
   rankdir=LR;
   node [shape=record];
   "src" [label="{src\nvector_source\nq 1|{<o0> 0}}"];
-  "late" [label="{{<i0> 0}|late\ndelay\nq 1|{<o0> 0}}"];
+  "late" [label="{{<i0> 0}|late\ndelay\nn 2\nq 1|{<o0> 0}}"];
   "sum" [label="{{<i0> 0|<i1> 1}|sum\nadd\nq 1|{<o0> 0}}"];
   "out" [label="{{<i0> 0}|out\nvector_sink\nq 1}"];
   "dry" [label="{{<i0> 0}|dry\nvector_sink\nq 1}"];
@@ -103,7 +103,7 @@ MIXED_DOT = r"""digraph {
   "f" [label="{f\nunpack_k_bits|{<o0> 0}}"];
   "a" [label="{{<i0> 0}|a\nconvert|{<o0> 0}}"];
   "_" [label="{{<i0> 0}|_\ndeinterleave|{<o0> 0|<o1> 1}}"];
-  "s.1-2" [label="{{<i0> 0}|s.1-2\nfir|{<o0> 0}}"];
+  "s.1-2" [label="{{<i0> 0}|s.1-2\nfir\n2 taps|{<o0> 0}}"];
   "end" [label="{{<i0> 0}|end\nnull_sink}"];
   "f":o0:e -> "a":i0:w [label="byte", color="#9C27B0"];
   "a":o0:e -> "_":i0:w [label="short", color="#C8A000"];

@@ -26,7 +26,7 @@ const ECHO_DOT: &str = "digraph {
   rankdir=LR;
   node [shape=record];
   \"src\" [label=\"{src\\nvector_source\\nq 1|{<o0> 0}}\"];
-  \"late\" [label=\"{{<i0> 0}|late\\ndelay\\nq 1|{<o0> 0}}\"];
+  \"late\" [label=\"{{<i0> 0}|late\\ndelay\\nn 2\\nq 1|{<o0> 0}}\"];
   \"sum\" [label=\"{{<i0> 0|<i1> 1}|sum\\nadd\\nq 1|{<o0> 0}}\"];
   \"out\" [label=\"{{<i0> 0}|out\\nvector_sink\\nq 1}\"];
   \"dry\" [label=\"{{<i0> 0}|dry\\nvector_sink\\nq 1}\"];
@@ -40,7 +40,7 @@ const ECHO_DOT: &str = "digraph {
 
 const ECHO_MERMAID: &str = "flowchart LR
   b0[\"src<br/>vector_source<br/>q 1\"]
-  b1[\"late<br/>delay<br/>q 1\"]
+  b1[\"late<br/>delay<br/>n 2<br/>q 1\"]
   b2[\"sum<br/>add<br/>q 1\"]
   b3[\"out<br/>vector_sink<br/>q 1\"]
   b4[\"dry<br/>vector_sink<br/>q 1\"]
@@ -141,45 +141,47 @@ const UNEVEN_DOT: &str = "digraph {
 ";
 
 // Each kind that may stand between a source and a sink, with its keys and the types of both.
-const KINDS: [(&str, &str, &str, &str); 29] = [
-    ("add_const", "type = \"int\"\nvalue = 1", "int", "int"),
-    ("multiply_const", "type = \"int\"\nvalue = 1", "int", "int"),
-    ("scale", "type = \"int\"\nfactor = 1", "int", "int"),
-    ("add", "type = \"int\"", "int", "int"),
-    ("and", "type = \"int\"", "int", "int"),
-    ("or", "type = \"int\"", "int", "int"),
-    ("xor", "type = \"int\"", "int", "int"),
-    ("not", "type = \"int\"", "int", "int"),
-    ("map_bb", "map = [1]", "byte", "byte"),
-    ("convert", "type = \"int\"\nto = \"short\"", "int", "short"),
-    ("moving_sum", "type = \"int\"\nlength = 1", "int", "int"),
-    ("fir", "type = \"int\"\ntaps = [1]", "int", "int"),
-    ("interp_fir", "type = \"int\"\ntaps = [1]", "int", "int"),
-    ("keep_one_in_n", "type = \"int\"\nn = 1", "int", "int"),
-    ("integrate", "type = \"int\"\nn = 1", "int", "int"),
-    ("repeat", "type = \"int\"\nn = 1", "int", "int"),
-    ("interleave", "type = \"int\"\nports = 1", "int", "int"),
-    ("deinterleave", "type = \"int\"\nports = 1", "int", "int"),
-    ("stream_mux", "type = \"int\"\nlengths = [1]", "int", "int"),
-    ("head", "type = \"int\"\nn = 1", "int", "int"),
-    ("skiphead", "type = \"int\"\nn = 1", "int", "int"),
-    ("delay", "type = \"int\"\nn = 1", "int", "int"),
-    ("pack_k_bits", "k = 1", "byte", "byte"),
-    ("unpack_k_bits", "k = 1", "byte", "byte"),
-    ("diff_encoder", "modulus = 2", "byte", "byte"),
-    ("diff_decoder", "modulus = 2", "byte", "byte"),
-    ("scrambler", "bits = 2\nmask = 1\ninit = 1", "byte", "byte"),
+const KINDS: [(&str, &str, &str, &str, &str); 29] = [
+    ("add_const", "type = \"int\"\nvalue = 1", "int", "int", "value 1<br/>"),
+    ("multiply_const", "type = \"int\"\nvalue = 1", "int", "int", "value 1<br/>"),
+    ("scale", "type = \"int\"\nfactor = 1", "int", "int", "value 1<br/>"),
+    ("not", "type = \"int\"", "int", "int", ""),
+    ("add", "type = \"int\"", "int", "int", ""),
+    ("and", "type = \"int\"", "int", "int", ""),
+    ("or", "type = \"int\"", "int", "int", ""),
+    ("xor", "type = \"int\"", "int", "int", ""),
+    ("map_bb", "map = [1]", "byte", "byte", ""),
+    ("convert", "type = \"int\"\nto = \"short\"", "int", "short", ""),
+    ("moving_sum", "type = \"int\"\nlength = 1", "int", "int", ""),
+    ("fir", "type = \"int\"\ntaps = [1]", "int", "int", "1 taps<br/>"),
+    ("interp_fir", "type = \"int\"\ntaps = [1]", "int", "int", "1 taps<br/>"),
+    ("keep_one_in_n", "type = \"int\"\nn = 1", "int", "int", ""),
+    ("integrate", "type = \"int\"\nn = 1", "int", "int", ""),
+    ("repeat", "type = \"int\"\nn = 1", "int", "int", ""),
+    ("interleave", "type = \"int\"\nports = 1", "int", "int", ""),
+    ("deinterleave", "type = \"int\"\nports = 1", "int", "int", ""),
+    ("stream_mux", "type = \"int\"\nlengths = [1]", "int", "int", ""),
+    ("head", "type = \"int\"\nn = 1", "int", "int", "n 1<br/>"),
+    ("skiphead", "type = \"int\"\nn = 1", "int", "int", "n 1<br/>"),
+    ("delay", "type = \"int\"\nn = 1", "int", "int", "n 1<br/>"),
+    ("pack_k_bits", "k = 1", "byte", "byte", ""),
+    ("unpack_k_bits", "k = 1", "byte", "byte", ""),
+    ("diff_encoder", "modulus = 2", "byte", "byte", ""),
+    ("diff_decoder", "modulus = 2", "byte", "byte", ""),
+    ("scrambler", "bits = 2\nmask = 1\ninit = 1", "byte", "byte", ""),
     (
         "descrambler",
         "bits = 2\nmask = 1\ninit = 1",
         "byte",
         "byte",
+        "",
     ),
     (
         "additive_scrambler",
         "bits = 2\nmask = 1\ninit = 1",
         "byte",
         "byte",
+        "",
     ),
 ];
 
@@ -227,7 +229,7 @@ fn graphs_for_mermaid(rt: HostRuntime) -> Result<(), Fail> {
 
 #[test]
 fn each_kind_goes_by_its_name(rt: HostRuntime) -> Result<(), Fail> {
-    for (kind, keys, from, to) in KINDS {
+    for (kind, keys, from, to, note) in KINDS {
         let file = format!(in rt.alloc();
             "[[block]]\nname = \"x\"\nkind = \"{kind}\"\n{keys}\n\
 [[block]]\nname = \"in\"\nkind = \"vector_source\"\ntype = \"{from}\"\n\
@@ -236,7 +238,7 @@ fn each_kind_goes_by_its_name(rt: HostRuntime) -> Result<(), Fail> {
 [[connect]]\nfrom = \"x\"\nto = \"out\"\n"
         )?;
         let text = drawing(rt.alloc(), file.as_str(), Format::Mermaid)?;
-        let first = format!(in rt.alloc(); "flowchart LR\n  b0[\"x<br/>{kind}<br/>q ")?;
+        let first = format!(in rt.alloc(); "flowchart LR\n  b0[\"x<br/>{kind}<br/>{note}q ")?;
         assert!(rt; text.as_str().starts_with(first.as_str()), "{kind}: {text}");
     }
     Ok(())

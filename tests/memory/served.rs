@@ -99,7 +99,7 @@ const DRAWN: &str = r##"digraph {
   rankdir=LR;
   node [shape=record];
   "s" [label="{s\nvector_source\nq 1|{<o0> 0}}"];
-  "f" [label="{{<i0> 0}|f\nfir\nq 1|{<o0> 0}}"];
+  "f" [label="{{<i0> 0}|f\nfir\n2 taps\nq 1|{<o0> 0}}"];
   "o" [label="{{<i0> 0}|o\nvector_sink\nq 1}"];
   "s":o0:e -> "f":i0:w [label="short 4096", color="#C8A000"];
   "f":o0:e -> "o":i0:w [label="short 8", color="#C8A000"];

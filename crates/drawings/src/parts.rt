@@ -4,13 +4,25 @@ ghost use Rattle.stream_model.specs.Machine.{capacity_at};
 ghost use Rattle.flowgraph.specs.Flowgraph.{net_of, connection_of};
 ghost use Rattle.kinds.specs.Kind.{meaning_of};
 ghost use Rattle.rates.specs.Answer.{answer_of, sizes_of};
-ghost use Rattle.drawings.specs.Parts.{box_seen, end_seen, arrow_seen, box_at, end_at, arrow_of, firings_at};
+ghost use Rattle.drawings.specs.Parts.{box_seen, end_seen, arrow_seen, box_at, end_at, arrow_of, firings_at, note_of, moved_note, shift_by};
 
-use block_kinds::Block;
+use block_kinds::{Block, Pace, Setting};
 use flowgraph::{BlockId, Connection, Valid};
 use kinds::Kind;
 use rates::{BufferCapacities, Rates};
 use stream_model::ItemType;
+
+/// What a block's own value or number is, where a short one says it.
+#[derive(Clone, Copy, Debug, PartialEq, Eq)]
+pub(crate) enum Note {
+    Nothing,
+    /// The number that a setting replaces.
+    Value(i64),
+    /// So many taps, which a setting replaces.
+    Taps(usize),
+    /// So many zeros that come before the stream, or items that are left out, or firings behind which it ends.
+    Count(u64),
+}
 
 /// What is drawn of a block.
 #[derive(Clone, Copy)]
@@ -18,6 +30,7 @@ pub(crate) struct DrawnBlock<'a> {
     pub(crate) name: &'a [u8],
     /// The name of its kind.
     pub(crate) kind: &'a [u8],
+    pub(crate) note: Note,
     /// How often it fires in an iteration, where the rates are balanced.
     pub(crate) firings: Option<u32>,
     /// How many inputs are connected.
@@ -56,9 +69,31 @@ pub(crate) fn drawn_block<'a>(
     DrawnBlock {
         name: graph.name(block),
         kind: graph.block(block).name().text().as_bytes(),
+        note: note_of(graph.block(block)),
         firings: firings_of(rates, block),
         inputs: graph.inputs(block).len(),
         outputs: graph.outputs(block),
+    }
+}
+
+// What is noted of a block: its own value of what may be set, else how it moves its stream, else where it ends.
+fn note_of(block: &Kind) -> Note
+    ensures { result ≡ note_of (meaning_of block.now) }
+{
+    let shape = block.shape(0);
+    match shape.setting {
+        Setting::Number(_, _, own) => Note::Value(own),
+        Setting::Taps(taps) => Note::Taps(taps.len()),
+        Setting::Fixed => moved_note(shape.pace, shape.limit),
+    }
+}
+
+fn moved_note(pace: Pace, limit: Option<u64>) -> Note
+    ensures { result ≡ moved_note (shift_by pace) limit }
+{
+    match (pace, limit) {
+        (Pace::Delay(count) | Pace::Skip(count), _) | (_, Some(count)) => Note::Count(count),
+        _ => Note::Nothing,
     }
 }
 

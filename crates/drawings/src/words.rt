@@ -2,14 +2,14 @@
 ghost use Rattle.std.specs.Prelude.{◌≡◌, ◌++◌, OnOk};
 ghost use Rattle.drawings.specs.Parts.{box_seen};
 ghost use Rattle.drawings.specs.Words as words;
-ghost use Rattle.drawings.specs.Words.{lines_text, firings_text, type_text};
+ghost use Rattle.drawings.specs.Words.{lines_text, note_text, firings_text, type_text};
 
-use crate::parts::DrawnBlock;
+use crate::parts::{DrawnBlock, Note};
 use crate::pieces::{Piece, push_pieces};
 use std::alloc::AllocError;
 use stream_model::ItemType;
 
-/// Writes the name of a block, its kind and how often it fires, each on a line.
+/// Writes the name of a block, its kind, what is noted of it and how often it fires, each on a line.
 pub(crate) fn push_lines(
     out: &mut Vec<u8>,
     line_end: &[u8],
@@ -25,7 +25,33 @@ pub(crate) fn push_lines(
             Piece::Text(block.kind),
         ],
     )?;
+    push_note(out, line_end, block.note)?;
     push_firings(out, line_end, block.firings)
+}
+
+// What is noted of a block, behind the end of a line.
+fn push_note(out: &mut Vec<u8>, line_end: &[u8], note: Note) -> Result<(), AllocError>
+    ensures { OnOk result (out.new.items ≡ out.old.items ++ note_text line_end.now note) }
+{
+    let (word, number, unit) = match note {
+        Note::Nothing => return Ok(()),
+        Note::Value(value) => (b"value ".as_slice(), Piece::Signed(value), b"".as_slice()),
+        Note::Taps(count) => (
+            b"".as_slice(),
+            Piece::Number(count as u64),
+            b" taps".as_slice(),
+        ),
+        Note::Count(count) => (b"n ".as_slice(), Piece::Number(count), b"".as_slice()),
+    };
+    push_pieces(
+        out,
+        &[
+            Piece::Text(line_end),
+            Piece::Text(word),
+            number,
+            Piece::Text(unit),
+        ],
+    )
 }
 
 // How often a block fires in an iteration, where that is known, behind the end of a line.
