@@ -141,23 +141,37 @@ const UNEVEN_DOT: &str = "digraph {
 ";
 
 // Each kind that may stand between a source and a sink, with its keys and the types of both.
-const KINDS: [(&str, &str, &str, &str, &str); 29] = [
+const KINDS: [(&str, &str, &str, &str, &str); 47] = [
     ("add_const", "type = \"int\"\nvalue = 1", "int", "int", "value 1<br/>"),
     ("multiply_const", "type = \"int\"\nvalue = 1", "int", "int", "value 1<br/>"),
+    ("and_const", "type = \"int\"\nvalue = 1", "int", "int", "value 1<br/>"),
+    ("or_const", "type = \"int\"\nvalue = 1", "int", "int", "value 1<br/>"),
+    ("xor_const", "type = \"int\"\nvalue = 1", "int", "int", "value 1<br/>"),
     ("scale", "type = \"int\"\nfactor = 1", "int", "int", "value 1<br/>"),
+    ("clip", "type = \"int\"\nlow = 0\nhigh = 1", "int", "int", ""),
+    ("abs", "type = \"int\"", "int", "int", ""),
     ("not", "type = \"int\"", "int", "int", ""),
+    ("mute", "type = \"int\"\non = 1", "int", "int", "value 1<br/>"),
     ("add", "type = \"int\"", "int", "int", ""),
+    ("sub", "type = \"int\"", "int", "int", ""),
+    ("multiply", "type = \"int\"", "int", "int", ""),
+    ("minimum", "type = \"int\"", "int", "int", ""),
+    ("maximum", "type = \"int\"", "int", "int", ""),
     ("and", "type = \"int\"", "int", "int", ""),
     ("or", "type = \"int\"", "int", "int", ""),
     ("xor", "type = \"int\"", "int", "int", ""),
     ("map_bb", "map = [1]", "byte", "byte", ""),
+    ("table", "to = \"short\"\nvalues = [1]", "byte", "short", ""),
     ("convert", "type = \"int\"\nto = \"short\"", "int", "short", ""),
     ("moving_sum", "type = \"int\"\nlength = 1", "int", "int", ""),
     ("fir", "type = \"int\"\ntaps = [1]", "int", "int", "1 taps<br/>"),
     ("interp_fir", "type = \"int\"\ntaps = [1]", "int", "int", "1 taps<br/>"),
     ("keep_one_in_n", "type = \"int\"\nn = 1", "int", "int", ""),
+    ("keep_m_in_n", "type = \"int\"\nm = 1\nn = 1", "int", "int", ""),
     ("integrate", "type = \"int\"\nn = 1", "int", "int", ""),
     ("repeat", "type = \"int\"\nn = 1", "int", "int", ""),
+    ("insert", "type = \"int\"\nvalues = [1]\nperiod = 2", "int", "int", ""),
+    ("permute", "type = \"int\"\norder = [0]", "int", "int", ""),
     ("interleave", "type = \"int\"\nports = 1", "int", "int", ""),
     ("deinterleave", "type = \"int\"\nports = 1", "int", "int", ""),
     ("stream_mux", "type = \"int\"\nlengths = [1]", "int", "int", ""),
@@ -166,6 +180,9 @@ const KINDS: [(&str, &str, &str, &str, &str); 29] = [
     ("delay", "type = \"int\"\nn = 1", "int", "int", "n 1<br/>"),
     ("pack_k_bits", "k = 1", "byte", "byte", ""),
     ("unpack_k_bits", "k = 1", "byte", "byte", ""),
+    ("repack_bits", "k = 1\nl = 1", "byte", "byte", ""),
+    ("packed_to_unpacked", "type = \"int\"\nbits = 1", "int", "int", ""),
+    ("unpacked_to_packed", "type = \"int\"\nbits = 1", "int", "int", ""),
     ("diff_encoder", "modulus = 2", "byte", "byte", ""),
     ("diff_decoder", "modulus = 2", "byte", "byte", ""),
     ("scrambler", "bits = 2\nmask = 1\ninit = 1", "byte", "byte", ""),
@@ -183,6 +200,7 @@ const KINDS: [(&str, &str, &str, &str, &str); 29] = [
         "byte",
         "",
     ),
+    ("correlate_access_code", "code = \"1\"\nthreshold = 0", "byte", "byte", ""),
 ];
 
 // The text from which the graph of a file is drawn.

@@ -3,12 +3,68 @@ use graph_file::read_graph;
 use std::test::Fail;
 
 // Each kind with all its keys.
-const KINDS: [(&str, &str); 32] = [
+const KINDS: [(&str, &str); 50] = [
     ("vector_source", "type = \"short\"\ncapacity = 8\n"),
     ("vector_sink", "type = \"short\"\n"),
     ("null_sink", "type = \"short\"\n"),
     (
+        "add_const",
+        "type = \"short\"\nvalue = -300\ntags = \"one\"\nmultiple = 2\ncapacity = 8\n",
+    ),
+    (
+        "multiply_const",
+        "type = \"short\"\nvalue = -300\ntags = \"one\"\nmultiple = 2\ncapacity = 8\n",
+    ),
+    (
+        "and_const",
+        "type = \"short\"\nvalue = -300\ntags = \"one\"\nmultiple = 2\ncapacity = 8\n",
+    ),
+    (
+        "or_const",
+        "type = \"short\"\nvalue = -300\ntags = \"one\"\nmultiple = 2\ncapacity = 8\n",
+    ),
+    (
+        "xor_const",
+        "type = \"short\"\nvalue = -300\ntags = \"one\"\nmultiple = 2\ncapacity = 8\n",
+    ),
+    (
+        "scale",
+        "type = \"short\"\nfactor = -32768\nshift = 31\ntags = \"one\"\nmultiple = 2\ncapacity = 8\n",
+    ),
+    (
+        "clip",
+        "type = \"short\"\nlow = -300\nhigh = 300\ntags = \"one\"\nmultiple = 2\ncapacity = 8\n",
+    ),
+    (
+        "abs",
+        "type = \"short\"\ntags = \"one\"\nmultiple = 2\ncapacity = 8\n",
+    ),
+    (
+        "not",
+        "type = \"short\"\ntags = \"one\"\nmultiple = 2\ncapacity = 8\n",
+    ),
+    (
+        "mute",
+        "type = \"short\"\non = 1\ntags = \"one\"\nmultiple = 2\ncapacity = 8\n",
+    ),
+    (
         "add",
+        "type = \"short\"\ntags = \"one\"\nmultiple = 2\ncapacity = 8\n",
+    ),
+    (
+        "sub",
+        "type = \"short\"\ntags = \"one\"\nmultiple = 2\ncapacity = 8\n",
+    ),
+    (
+        "multiply",
+        "type = \"short\"\ntags = \"one\"\nmultiple = 2\ncapacity = 8\n",
+    ),
+    (
+        "minimum",
+        "type = \"short\"\ntags = \"one\"\nmultiple = 2\ncapacity = 8\n",
+    ),
+    (
+        "maximum",
         "type = \"short\"\ntags = \"one\"\nmultiple = 2\ncapacity = 8\n",
     ),
     (
@@ -24,24 +80,12 @@ const KINDS: [(&str, &str); 32] = [
         "type = \"short\"\ntags = \"one\"\nmultiple = 2\ncapacity = 8\n",
     ),
     (
-        "not",
-        "type = \"short\"\ntags = \"one\"\nmultiple = 2\ncapacity = 8\n",
-    ),
-    (
-        "add_const",
-        "type = \"short\"\nvalue = -300\ntags = \"one\"\nmultiple = 2\ncapacity = 8\n",
-    ),
-    (
-        "multiply_const",
-        "type = \"short\"\nvalue = -300\ntags = \"one\"\nmultiple = 2\ncapacity = 8\n",
-    ),
-    (
-        "scale",
-        "type = \"short\"\nfactor = -32768\nshift = 31\ntags = \"one\"\nmultiple = 2\ncapacity = 8\n",
-    ),
-    (
         "map_bb",
         "map = [0, 255]\ntags = \"one\"\nmultiple = 2\ncapacity = 8\n",
+    ),
+    (
+        "table",
+        "to = \"short\"\nvalues = [-32768, 32767]\ntags = \"one\"\nmultiple = 2\ncapacity = 8\n",
     ),
     (
         "convert",
@@ -60,36 +104,12 @@ const KINDS: [(&str, &str); 32] = [
         "type = \"short\"\ntaps = [1, -2]\ninterpolation = 2\nshift = 3\ntags = \"one\"\nmultiple = 2\ncapacity = 8\n",
     ),
     (
-        "pack_k_bits",
-        "k = 8\ntags = \"one\"\nmultiple = 2\ncapacity = 8\n",
-    ),
-    (
-        "unpack_k_bits",
-        "k = 8\ntags = \"one\"\nmultiple = 2\ncapacity = 8\n",
-    ),
-    (
-        "diff_encoder",
-        "modulus = 256\ntags = \"one\"\nmultiple = 2\ncapacity = 8\n",
-    ),
-    (
-        "diff_decoder",
-        "modulus = 256\ntags = \"one\"\nmultiple = 2\ncapacity = 8\n",
-    ),
-    (
-        "scrambler",
-        "bits = 3\nmask = 5\ninit = 1\ntags = \"one\"\nmultiple = 2\ncapacity = 8\n",
-    ),
-    (
-        "descrambler",
-        "bits = 3\nmask = 5\ninit = 1\ntags = \"one\"\nmultiple = 2\ncapacity = 8\n",
-    ),
-    (
-        "additive_scrambler",
-        "bits = 3\nmask = 5\ninit = 1\ntags = \"one\"\nmultiple = 2\ncapacity = 8\n",
-    ),
-    (
         "keep_one_in_n",
         "type = \"short\"\nn = 1024\ntags = \"one\"\nmultiple = 2\ncapacity = 8\n",
+    ),
+    (
+        "keep_m_in_n",
+        "type = \"short\"\nm = 1023\nn = 1024\noffset = 1\ntags = \"one\"\nmultiple = 2\ncapacity = 8\n",
     ),
     (
         "integrate",
@@ -98,6 +118,14 @@ const KINDS: [(&str, &str); 32] = [
     (
         "repeat",
         "type = \"short\"\nn = 1024\ntags = \"one\"\nmultiple = 2\ncapacity = 8\n",
+    ),
+    (
+        "insert",
+        "type = \"short\"\nvalues = [-32768, 32767]\nperiod = 1024\noffset = 1022\ntags = \"one\"\nmultiple = 2\ncapacity = 8\n",
+    ),
+    (
+        "permute",
+        "type = \"short\"\norder = [1, 2, 0]\ntags = \"one\"\nmultiple = 2\ncapacity = 8\n",
     ),
     (
         "interleave",
@@ -122,6 +150,50 @@ const KINDS: [(&str, &str); 32] = [
     (
         "delay",
         "type = \"short\"\nn = 65536\ntags = \"none\"\nmultiple = 1\ncapacity = 8\n",
+    ),
+    (
+        "pack_k_bits",
+        "k = 8\ntags = \"one\"\nmultiple = 2\ncapacity = 8\n",
+    ),
+    (
+        "unpack_k_bits",
+        "k = 8\ntags = \"one\"\nmultiple = 2\ncapacity = 8\n",
+    ),
+    (
+        "repack_bits",
+        "k = 1\nl = 8\norder = \"lsb_first\"\ntags = \"one\"\nmultiple = 2\ncapacity = 8\n",
+    ),
+    (
+        "packed_to_unpacked",
+        "type = \"short\"\nbits = 16\norder = \"msb_first\"\ntags = \"one\"\nmultiple = 2\ncapacity = 8\n",
+    ),
+    (
+        "unpacked_to_packed",
+        "type = \"short\"\nbits = 1\norder = \"lsb_first\"\ntags = \"one\"\nmultiple = 2\ncapacity = 8\n",
+    ),
+    (
+        "diff_encoder",
+        "modulus = 256\ntags = \"one\"\nmultiple = 2\ncapacity = 8\n",
+    ),
+    (
+        "diff_decoder",
+        "modulus = 256\ntags = \"one\"\nmultiple = 2\ncapacity = 8\n",
+    ),
+    (
+        "scrambler",
+        "bits = 3\nmask = 5\ninit = 1\ntags = \"one\"\nmultiple = 2\ncapacity = 8\n",
+    ),
+    (
+        "descrambler",
+        "bits = 3\nmask = 5\ninit = 1\ntags = \"one\"\nmultiple = 2\ncapacity = 8\n",
+    ),
+    (
+        "additive_scrambler",
+        "bits = 3\nmask = 5\ninit = 1\ntags = \"one\"\nmultiple = 2\ncapacity = 8\n",
+    ),
+    (
+        "correlate_access_code",
+        "code = \"1011\"\nthreshold = 4\ntags = \"one\"\nmultiple = 2\ncapacity = 8\n",
     ),
 ];
 

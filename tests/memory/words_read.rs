@@ -1,5 +1,5 @@
 //! The words of the program and its file, as they are read before anything is done, of which one allocation may fail.
-use crate::words::call_of;
+use crate::words::{Asked, asked_by};
 use clap::error::ErrorKind;
 use flow::serve::Action;
 use flow::start::StartFault;
@@ -34,8 +34,9 @@ pub fn are_read(rt: &HostRuntime, alloc: Global, count: usize) -> bool {
 
 /// Whether the words are taken for the call that they ask for, or there is no memory for that.
 pub fn are_understood(alloc: Global, words: &[String]) -> bool {
-    match call_of(alloc, words) {
-        Ok(call) => {
+    match asked_by(alloc, words) {
+        Ok(Asked::Kinds) => false,
+        Ok(Asked::Call(call)) => {
             call.action == Action::RunAlone
                 && call.path == "graph.toml"
                 && call.is_quiet

@@ -7,13 +7,23 @@ source "$(dirname -- "$(readlink -f -- "${BASH_SOURCE[0]}")")/../part.sh"
 
 crates() { find "$top/crates" -mindepth 1 -maxdepth 1 -type d -printf '%f\n' | LC_ALL=C sort; }
 
-list() { crates | sed 's|^|layout/|'; }
+list() {
+    crates | sed 's|^|layout/|'
+    echo layout/lists_of_kinds
+}
 
 # sources CRATE: prints the files that are laid out, each ended by a zero byte
 sources() { find -L "$top/crates/$1" -path '*/out' -prune -o -type f \( -name '*.rt' -o -name '*.antt' \) -print0; }
 
 run() {
     local crate files kit
+    if is_wanted layout/lists_of_kinds; then
+        if python3 "$top/tests/kinds_in_order.py" "$top" >"$room/said" 2>&1; then
+            passed layout/lists_of_kinds
+        else
+            failed layout/lists_of_kinds <"$room/said"
+        fi
+    fi
     kit=$(dirname -- "$(rt doc)")
     for crate in $(crates); do
         if ! is_wanted "layout/$crate"; then

@@ -4,7 +4,7 @@
 set -euo pipefail
 # shellcheck source=tests/part.sh
 source "$(dirname -- "$(readlink -f -- "${BASH_SOURCE[0]}")")/../part.sh"
-commands=(check draw run live script)
+commands=(check draw kinds run live script)
 share=$top/share
 
 # options TEXT: prints the options that stand in a text, each once

@@ -1,6 +1,6 @@
 //! What a whole run shows, and what the words say of it.
 use super::terminal::Terminal;
-use super::words::call_of;
+use super::words::{Asked, asked_by};
 use clap::error::ErrorKind;
 use flow::running::Threading;
 use flow::serve::{Action, serve};
@@ -134,8 +134,8 @@ fn words_ask_for_calls(rt: HostRuntime) -> Result<(), Fail> {
         for word in words {
             owned.push(String::from_str(alloc, word)?)?;
         }
-        match call_of(alloc, &owned) {
-            Ok(call) => {
+        match asked_by(alloc, &owned) {
+            Ok(Asked::Call(call)) => {
                 assert_eq!(rt;
                     (call.action, call.path, call.is_quiet),
                     (command, "a.toml", is_quiet)
@@ -144,12 +144,12 @@ fn words_ask_for_calls(rt: HostRuntime) -> Result<(), Fail> {
                 assert_eq!(rt; call.notes() == Notes::Shown, !is_quiet);
                 assert!(rt; !call.may_show(false), "no terminal");
             }
-            Err(_) => assert!(rt; false, "{words:?}"),
+            Ok(Asked::Kinds) | Err(_) => assert!(rt; false, "{words:?}"),
         }
     }
     let mut owned = Vec::new(alloc);
     owned.push(String::from_str(alloc, "flow")?)?;
-    match call_of(alloc, &owned) {
+    match asked_by(alloc, &owned) {
         Ok(_) => assert!(rt; false, "no words"),
         Err(error) => assert!(rt; error.kind() != ErrorKind::OutOfMemory, "no words"),
     }

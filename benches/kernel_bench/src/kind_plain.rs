@@ -1,20 +1,33 @@
 //! Each kind of block as a plain loop over slices: the measuring stick. Where a block reads the past, the input begins with it.
 
+use crate::bit_streams::{correlate, recut, recut_turned};
 use crate::item::Item;
 use crate::kind_contest::PlainLoop;
 use crate::plain::{self, Operation, rounded};
+use crate::plain_arithmetic::{
+    abs, add_const, and_const, clip, maximum, minimum, multiply, multiply_const, not, or_const,
+    sub, xor_const,
+};
 
 /// The loops from bytes to bytes, by kind, with their parameters.
 #[derive(Drop)]
 pub enum Bytes<'a> {
     AddConst(u8),
     MultiplyConst(u8),
+    AndConst(u8),
+    OrConst(u8),
+    XorConst(u8),
     Scale(i16, u32),
     Add,
+    Multiply,
+    Sub,
+    Minimum,
+    Maximum,
     And,
     Or,
     Xor,
     Not,
+    Clip(u8, u8),
     MapBb(&'a [u8]),
     MovingSum(usize),
     KeepOneInN(usize),
@@ -27,6 +40,8 @@ pub enum Bytes<'a> {
     Delay(usize),
     PackKBits(u32),
     UnpackKBits(u32),
+    RepackBits(usize, usize),
+    CorrelateAccessCode(u64, u32),
     DiffEncoder(u32),
     DiffDecoder(u32),
     Scrambler(Bits),
@@ -40,12 +55,20 @@ impl PlainLoop<u8, u8> for Bytes<'_> {
         match self {
             Bytes::AddConst(c) => add_const(*c, a, out),
             Bytes::MultiplyConst(c) => multiply_const(*c, a, out),
+            Bytes::AndConst(c) => and_const(*c, a, out),
+            Bytes::OrConst(c) => or_const(*c, a, out),
+            Bytes::XorConst(c) => xor_const(*c, a, out),
             Bytes::Scale(factor, shift) => scale(*factor, *shift, a, out),
             Bytes::Add => zip(Operation::Sum, a, b, out),
+            Bytes::Multiply => multiply(a, b, out),
+            Bytes::Sub => sub(a, b, out),
+            Bytes::Minimum => minimum(a, b, out),
+            Bytes::Maximum => maximum(a, b, out),
             Bytes::And => zip(Operation::And, a, b, out),
             Bytes::Or => zip(Operation::Or, a, b, out),
             Bytes::Xor => zip(Operation::Xor, a, b, out),
             Bytes::Not => not(a, out),
+            Bytes::Clip(low, high) => clip(*low, *high, a, out),
             Bytes::MapBb(table) => map_bb(table, a, out),
             Bytes::MovingSum(length) => moving_sum(*length, a, out),
             Bytes::KeepOneInN(n) => keep_one_in_n(*n, a, out),
@@ -58,6 +81,8 @@ impl PlainLoop<u8, u8> for Bytes<'_> {
             Bytes::Delay(n) => delay(*n, a, out),
             Bytes::PackKBits(k) => pack_k_bits(*k, a, out),
             Bytes::UnpackKBits(k) => unpack_k_bits(*k, a, out),
+            Bytes::RepackBits(from, to) => recut(*from, *to, a, out),
+            Bytes::CorrelateAccessCode(code, wrong) => correlate(*code, *wrong, a, out),
             Bytes::DiffEncoder(modulus) => diff_encoder(*modulus, a, out),
             Bytes::DiffDecoder(modulus) => diff_decoder(*modulus, a, out),
             Bytes::Scrambler(bits) => scrambler(*bits, a, out),
@@ -80,11 +105,13 @@ impl PlainLoop<i16, u8> for Narrowed {
     }
 }
 
-/// The loops over shorts, with taps.
+/// The loops over shorts.
 #[derive(Drop)]
 pub enum Shorts<'a> {
     Fir(&'a [i16]),
     InterpFir(&'a [i16]),
+    Recut(usize, usize),
+    RecutTurned(usize),
 }
 
 impl PlainLoop<i16, i16> for Shorts<'_> {
@@ -93,6 +120,8 @@ impl PlainLoop<i16, i16> for Shorts<'_> {
         match self {
             Shorts::Fir(h) => fir(h, a, out),
             Shorts::InterpFir(h) => interp_fir(h, a, out),
+            Shorts::Recut(from, to) => recut(*from, *to, a, out),
+            Shorts::RecutTurned(to) => recut_turned(*to, a, out),
         }
     }
 }
@@ -102,35 +131,21 @@ impl PlainLoop<i16, i16> for Shorts<'_> {
 pub enum Ints<'a> {
     MultiplyConst(i32),
     Scale(i16, u32),
+    Multiply,
+    Abs,
     Fir(&'a [i16]),
 }
 
 impl PlainLoop<i32, i32> for Ints<'_> {
     #[inline(never)]
-    fn run(&self, a: &[i32], _b: &[i32], out: &mut [i32], _other: &mut [i32]) {
+    fn run(&self, a: &[i32], b: &[i32], out: &mut [i32], _other: &mut [i32]) {
         match self {
             Ints::MultiplyConst(c) => multiply_const(*c, a, out),
             Ints::Scale(factor, shift) => scale(*factor, *shift, a, out),
+            Ints::Multiply => multiply(a, b, out),
+            Ints::Abs => abs(a, out),
             Ints::Fir(h) => fir(h, a, out),
         }
-    }
-}
-
-fn add_const(c: u8, x: &[u8], out: &mut [u8]) {
-    for (y, x) in out.iter_mut().zip(x) {
-        *y = x.wrapping_add(c);
-    }
-}
-
-fn multiply_const<T: Item>(c: T, x: &[T], out: &mut [T]) {
-    for (y, x) in out.iter_mut().zip(x) {
-        *y = T::wrapped(x.widen().wrapping_mul(c.widen()));
-    }
-}
-
-fn not(x: &[u8], out: &mut [u8]) {
-    for (y, x) in out.iter_mut().zip(x) {
-        *y = !*x;
     }
 }
 

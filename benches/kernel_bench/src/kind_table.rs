@@ -1,35 +1,28 @@
 //! The table of kinds: a row for each kind of block, and a second one where another type says more.
 ghost use Rattle.std.specs.Prelude.{◌≡◌};
 
+use crate::bit_streams::print_bit_streams;
 use crate::contest::{Row, noise};
 use crate::item::Item;
+use crate::kind_arithmetic::print_arithmetic;
 use crate::kind_contest::{Call, ITEMS, print_kind, unfit};
-use crate::kind_plain::{Bits, Bytes, Ints, Narrowed, Shorts};
+use crate::kind_plain::{Bits, Bytes, Ints, Shorts};
 use bit_blocks::{
     AdditiveScrambler, Descrambler, DiffDecoder, DiffEncoder, PackKBits, Register, Scrambler,
     UnpackKBits,
 };
 use fir_blocks::{Fir, InterpFir};
 use items::ItemType::{Byte, Int, Short};
-use math_blocks::{
-    Add, AddConst, And, Convert, MapBb, MovingSum, MultiplyConst, Not, Or, Scale, Xor,
-};
+use math_blocks::{MapBb, MovingSum, Table};
 use rate_blocks::{
     Deinterleave, Delay, Head, Integrate, Interleave, KeepOneInN, Repeat, SkipHead, StreamMux,
 };
 use std::alloc::Global;
 use std::io;
 
-// An item taken and one given in a firing.
-const EACH: Call = Call {
+/// An item taken and one given in a firing.
+pub const EACH: Call = Call {
     inputs: 1,
-    outputs: 1,
-    firings: 4096,
-};
-
-// The same with two inputs.
-const PAIRS: Call = Call {
-    inputs: 2,
     outputs: 1,
     firings: 4096,
 };
@@ -38,9 +31,7 @@ const PAIRS: Call = Call {
 pub fn print_kinds(rt: &HostRuntime) -> io::Result<()> {
     println!(rt; "")?;
     println!(rt; "kind               type              items   M items/s  plain loop   ratio")?;
-    print_constants(rt)?;
-    print_joins(rt)?;
-    print_changes(rt)?;
+    print_arithmetic(rt)?;
     print_sums(rt)?;
     print_filters(rt)?;
     print_rates(rt)?;
@@ -48,11 +39,12 @@ pub fn print_kinds(rt: &HostRuntime) -> io::Result<()> {
     print_parameters(rt)?;
     print_moves(rt)?;
     print_codes(rt)?;
+    print_bit_streams(rt)?;
     print_registers(rt)
 }
 
-// So many ports and firings.
-fn calls(inputs: usize, outputs: usize, firings: u64) -> Call
+/// So many ports and firings.
+pub fn calls(inputs: usize, outputs: usize, firings: u64) -> Call
     ensures { result ≡ record { inputs = inputs; outputs = outputs; firings = firings } }
 {
     Call {
@@ -62,8 +54,8 @@ fn calls(inputs: usize, outputs: usize, firings: u64) -> Call
     }
 }
 
-// What a row says of its kind.
-fn row<'a>(kernel: &'a str, item: &'a str) -> Row<'a> {
+/// What a row says of its kind.
+pub fn row<'a>(kernel: &'a str, item: &'a str) -> Row<'a> {
     Row {
         kernel,
         item,
@@ -71,94 +63,21 @@ fn row<'a>(kernel: &'a str, item: &'a str) -> Row<'a> {
     }
 }
 
-fn print_constants(rt: &HostRuntime) -> io::Result<()> {
-    print_kind(
-        rt,
-        row("add_const", "byte"),
-        AddConst::new(Byte, 10),
-        EACH,
-        &Bytes::AddConst(10),
-    )?;
-    print_kind(
-        rt,
-        row("multiply_const", "byte"),
-        MultiplyConst::new(Byte, 3),
-        EACH,
-        &Bytes::MultiplyConst(3),
-    )?;
-    print_kind(
-        rt,
-        row("multiply_const", "int"),
-        MultiplyConst::new(Int, 3),
-        EACH,
-        &Ints::MultiplyConst(3),
-    )?;
-    print_kind(
-        rt,
-        row("scale", "byte"),
-        Scale::new(Byte, 181, 7),
-        EACH,
-        &Bytes::Scale(181, 7),
-    )?;
-    print_kind(
-        rt,
-        row("scale", "int"),
-        Scale::new(Int, -181, 7),
-        EACH,
-        &Ints::Scale(-181, 7),
-    )
-}
-
-fn print_joins(rt: &HostRuntime) -> io::Result<()> {
-    print_kind(
-        rt,
-        row("add", "byte"),
-        Ok(Add::new(Byte)),
-        PAIRS,
-        &Bytes::Add,
-    )?;
-    print_kind(
-        rt,
-        row("and", "byte"),
-        Ok(And::new(Byte)),
-        PAIRS,
-        &Bytes::And,
-    )?;
-    print_kind(rt, row("or", "byte"), Ok(Or::new(Byte)), PAIRS, &Bytes::Or)?;
-    print_kind(
-        rt,
-        row("xor", "byte"),
-        Ok(Xor::new(Byte)),
-        PAIRS,
-        &Bytes::Xor,
-    )
-}
-
-fn print_changes(rt: &HostRuntime) -> io::Result<()> {
-    print_kind(
-        rt,
-        row("not", "byte"),
-        Ok(Not::new(Byte)),
-        EACH,
-        &Bytes::Not,
-    )?;
-    print_kind(
-        rt,
-        row("convert", "short byte"),
-        Ok(Convert::new(Short, Byte)),
-        EACH,
-        &Narrowed,
-    )
-}
-
 fn print_sums(rt: &HostRuntime) -> io::Result<()> {
     let alloc = rt.alloc();
     let table = noise::<u8>(alloc, 256)?;
-    let block = MapBb::new(alloc, &numbers_of(alloc, &table)?);
+    let numbers = numbers_of(alloc, &table)?;
     print_kind(
         rt,
         row("map_bb", "byte"),
-        block,
+        MapBb::new(alloc, &numbers),
+        EACH,
+        &Bytes::MapBb(&table),
+    )?;
+    print_kind(
+        rt,
+        row("table", "byte"),
+        Table::new(alloc, Byte, &numbers),
         EACH,
         &Bytes::MapBb(&table),
     )?;

@@ -1,13 +1,17 @@
 //! The program `kernel_bench`: times each kernel against the plain loop that its definition suggests.
 #![tactic(auto)]
 
+mod bit_streams;
 mod contest;
 mod contests;
 mod item;
+mod kind_arithmetic;
 mod kind_contest;
+mod kind_frames;
 mod kind_plain;
 mod kind_table;
 mod plain;
+mod plain_arithmetic;
 mod small;
 mod table;
 
@@ -25,6 +29,7 @@ fn main(rt: HostRuntime) -> io::Result<ExitCode> {
         [_, word] if word.as_str() == "measure" => {
             table::print_table(&rt)?;
             kind_table::print_kinds(&rt)?;
+            kind_frames::print_frames(&rt)?;
         }
         _ => {
             eprintln!(rt; "usage: kernel_bench [measure]")?;

@@ -4,3 +4,7 @@ pub mod Encoded
 pub mod Packings
 pub mod Received
 pub mod Registers
+pub mod Repackings
+pub mod Divisors
+pub mod Marks
+pub mod Correlated

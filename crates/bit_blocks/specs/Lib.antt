@@ -1,5 +1,6 @@
 pub mod Codes
 pub mod Kinds
+pub mod Marked
 pub mod Packed
 pub mod Registers
 pub mod Scrambled

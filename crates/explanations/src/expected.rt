@@ -4,12 +4,15 @@ use crate::document::Document;
 use graph_file::FilePlace;
 use items::ItemType;
 use kind_keys::table::{small_at, type_at};
-use kind_keys::{Key, ValueForm, keys_of};
+use kind_keys::{ItemTypes, Key, Keys, Range, ValueForm, keys_of, parameters_of, types_of};
 use kinds::KindName;
 use parameters::Parameter;
 use std::alloc::{AllocError, Global};
 
-const ANY_TYPE: &str = "\"byte\", \"short\" or \"int\"";
+/// What names a type of items, and one of more than a byte.
+pub(crate) const ANY_TYPE: &str = "\"byte\", \"short\" or \"int\"";
+
+pub(crate) const WIDE_TYPE: &str = "\"short\" or \"int\"";
 
 /// What a table is, with its kind where that is known.
 pub(crate) fn owner(document: &Document<'_>, place: FilePlace) -> Result<String, AllocError> {
@@ -29,16 +32,24 @@ pub(crate) fn owner(document: &Document<'_>, place: FilePlace) -> Result<String,
 }
 
 /// The keys of a table.
-pub(crate) fn known_keys(document: &Document<'_>, place: FilePlace) -> &'static [Key] {
+pub(crate) fn known_keys(document: &Document<'_>, place: FilePlace) -> Keys {
     match place {
-        FilePlace::Top => &[Key::Block, Key::Connect, Key::Feed],
+        FilePlace::Top => keys(&[Key::Block, Key::Connect, Key::Feed]),
         FilePlace::Block(_) => match document.kind_at(place) {
             Some(kind) => keys_of(kind),
-            None => &[Key::Name, Key::Kind],
+            None => keys(&[Key::Name, Key::Kind]),
         },
-        FilePlace::Connect(_) => &[Key::From, Key::To, Key::FromPort, Key::ToPort],
-        FilePlace::Feed(_) => &[Key::Source, Key::Items, Key::Marks],
+        FilePlace::Connect(_) => keys(&[Key::From, Key::To, Key::FromPort, Key::ToPort]),
+        FilePlace::Feed(_) => keys(&[Key::Source, Key::Items, Key::Marks]),
     }
+}
+
+fn keys(list: &[Key]) -> Keys {
+    let mut keys = Keys::new();
+    for key in list {
+        let _ = keys.try_push(*key);
+    }
+    keys
 }
 
 /// Keys, one behind the other.
@@ -118,38 +129,77 @@ pub(crate) fn range_text(
     place: FilePlace,
     parameter: Parameter,
 ) -> Result<String, AllocError> {
-    match parameter {
-        Parameter::Mask => register_range(document, place, 1),
-        Parameter::Init => register_range(document, place, 0),
-        _ => String::from_str(document.alloc, fixed_range(document, place, parameter)),
+    let alloc = document.alloc;
+    let Some(kind) = document.kind_at(place) else {
+        return Ok(String::new(alloc));
+    };
+    if parameter == Parameter::ItemType {
+        return match types_of(kind) {
+            ItemTypes::Wide => String::from_str(alloc, WIDE_TYPE),
+            ItemTypes::Bytes | ItemTypes::Any => String::from_str(alloc, ANY_TYPE),
+        };
+    }
+    for (name, range) in parameters_of(kind) {
+        if *name == parameter {
+            return range_at(document, place, *range);
+        }
+    }
+    Ok(String::new(alloc))
+}
+
+// What lies in a range, where some ranges depend on what else the table has.
+fn range_at(document: &Document<'_>, place: FilePlace, range: Range) -> Result<String, AllocError> {
+    match range {
+        Range::Item => String::from_str(document.alloc, item_range(item_of(document, place))),
+        Range::Register(least) => register_range(document, place, least),
+        _ => range_words(document.alloc, range),
     }
 }
 
-// The same of a parameter whose range does not depend on another; of the registers of scramblers, nothing.
-fn fixed_range(document: &Document<'_>, place: FilePlace, parameter: Parameter) -> &'static str {
-    match parameter {
-        Parameter::ItemType => match document.kind_at(place) {
-            Some(KindName::Fir | KindName::InterpFir) => "\"short\" or \"int\"",
-            _ => ANY_TYPE,
-        },
-        Parameter::To => ANY_TYPE,
-        Parameter::Value => item_range(item_of(document, place)),
-        Parameter::Factor => item_range(ItemType::Short),
-        Parameter::Shift => "0 to 31",
-        Parameter::Map => "at most 256 numbers, each 0 to 255",
-        Parameter::Taps => "1 to 256 numbers, each -32768 to 32767",
-        Parameter::Lengths => "1 to 16 numbers, each 1 to 1024, at most 1024 together",
-        Parameter::Length | Parameter::Decimation | Parameter::Interpolation => "1 to 1024",
-        Parameter::K => "1 to 8",
-        Parameter::Modulus => "2 to 256",
-        Parameter::Bits => "2 to 32",
-        Parameter::Ports => "1 to 16",
-        Parameter::N => match document.kind_at(place) {
-            Some(KindName::Head | KindName::SkipHead) => "0 to 4294967296",
-            Some(KindName::Delay) => "0 to 65536",
-            _ => "1 to 1024",
-        },
-        Parameter::Mask | Parameter::Init => "",
+/// What lies in a range, whatever else a table has.
+pub(crate) fn range_words(alloc: Global, range: Range) -> Result<String, AllocError> {
+    match range {
+        Range::Number(least, most) => format!(in alloc; "{least} to {most}"),
+        Range::Long(most) => format!(in alloc; "0 to {most}"),
+        Range::AtLeast(parameter, most) => format!(in alloc; "{parameter} to {most}"),
+        Range::Register(least) => format!(in alloc; "{least} to 2^bits - 1"),
+        _ => String::from_str(alloc, fixed_words(range)),
+    }
+}
+
+// The same of a range without numbers of its own; of others, nothing.
+fn fixed_words(range: Range) -> &'static str {
+    match range {
+        Range::Type => ANY_TYPE,
+        Range::Item => "a number of the type",
+        Range::Short => item_range(ItemType::Short),
+        Range::Switch => "0 or 1",
+        Range::High => "a number of the type, at least `low`",
+        Range::KeptOffset => "0 to n - m",
+        Range::Period => "more than there are values, and at most 1024",
+        Range::ValuesOffset => "0 to as much as `period` is more than there are values",
+        Range::ItemBits => "1 to the bits of an item: 8, 16 or 32",
+        Range::BitOrder => "\"msb_first\" or \"lsb_first\"",
+        Range::Code => "a text of 1 to 64 digits 0 and 1",
+        Range::Threshold => "0 to as many as `code` has digits",
+        Range::Items => "1 to 256 numbers of the type",
+        Range::TargetItems => "1 to 256 numbers of the type `to`",
+        Range::Places => "the numbers 0 to n - 1 in any order, n from 1 to 256",
+        Range::Taps => "1 to 256 numbers, each -32768 to 32767",
+        Range::Bytes => "at most 256 numbers, each 0 to 255",
+        Range::Lengths => "1 to 16 numbers, each 1 to 1024, at most 1024 together",
+        Range::Number(..) | Range::Long(_) | Range::AtLeast(..) | Range::Register(_) => "",
+    }
+}
+
+/// What stands for a parameter that is missing, behind its range; nothing where it has to be there.
+pub(crate) fn default_text(parameter: Parameter) -> &'static str {
+    let key = Key::Parameter(parameter);
+    match key.missing() {
+        _ if key.is_needed() => "",
+        _ if parameter == Parameter::Order => ", \"msb_first\" where it is missing",
+        0 => ", 0 where it is missing",
+        _ => ", 1 where it is missing",
     }
 }
 

@@ -10,9 +10,10 @@
 //!
 //! [`explain`] reads the file again, with the places of its tables and keys (`document`, `entries`, `tokens`), and finds what the fault is about: `table_faults`,
 //! `graph_faults` and `feed_faults` have a function for each. `expected` says what may stand at a key, `near` which name was meant, `frame` prints the place.
-//! [`KeptLines`] keep the lines of a script for the same, and [`Noted`] a device with the reason why it failed. No contract says what it prints; that is tested.
+//! [`page_of_kinds`] prints what may stand at the parameters of all kinds, with a line on each kind (`about`). [`KeptLines`] keep the lines of a script for the same, and [`Noted`] a device with the reason why it failed. No contract says what it prints; that is tested.
 #![tactic(auto)]
 
+mod about;
 mod commands;
 mod document;
 mod entries;
@@ -21,6 +22,7 @@ pub mod explained;
 mod feed_faults;
 mod frame;
 mod graph_faults;
+pub mod kinds_page;
 pub mod lines;
 pub mod looks;
 mod near;
@@ -30,6 +32,7 @@ mod table_faults;
 mod tokens;
 
 pub use explained::explain;
+pub use kinds_page::page_of_kinds;
 pub use lines::KeptLines;
 pub use looks::shown;
 pub use noted::{Noted, at_device};

@@ -41,13 +41,13 @@ fn unknown_key(document: &Document<'_>, place: FilePlace) -> Result<Finding, All
     let alloc = document.alloc;
     let keys = known_keys(document, place);
     let owner = owner(document, place)?;
-    let list = listed_keys(alloc, keys)?;
+    let list = listed_keys(alloc, &keys)?;
     for entry in &document.entries {
         let Some(span) = entry.key else {
             continue;
         };
         let word = part(document.text, span);
-        if entry.table == place && !is_known(keys, word) {
+        if entry.table == place && !is_known(&keys, word) {
             let word = shown(alloc, word)?;
             return Ok(Finding {
                 place: entry.start,

@@ -5,6 +5,7 @@ mod devices;
 mod ends;
 mod explaining;
 mod joins;
+mod listing;
 mod measuring;
 mod raw;
 mod refusing;
@@ -14,12 +15,13 @@ mod tracing;
 mod words;
 
 use crate::explaining::{REFUSED, explain_device, explain_file, explain_line};
+use crate::listing::print_kinds;
 use crate::measuring::{measured_for, tell_times};
 use crate::raw::run_raw;
 use crate::refusing::{begins_none, buffered};
 use crate::terminal::Terminal;
 use crate::tracing::{tell_trace, trace_file_for};
-use crate::words::{Call, call_of};
+use crate::words::{Asked, Call, asked_by};
 use clap::error::ErrorKind;
 use explanations::{KeptLines, Noted};
 use flow::serve::serve;
@@ -49,8 +51,9 @@ fn status<R: Threads + Wait + Clock + Copy + Send + Sync + 'static>(
     let Ok(words) = arguments.collect::<Vec<String>>(rt.alloc()) else {
         return begins_none(rt, StartFault::Memory);
     };
-    match call_of(rt.alloc(), &words) {
-        Ok(call) => run(threads, rt, call),
+    match asked_by(rt.alloc(), &words) {
+        Ok(Asked::Kinds) => print_kinds(rt),
+        Ok(Asked::Call(call)) => run(threads, rt, call),
         Err(error) => {
             let fault = StartFault::of_call(error.kind() == ErrorKind::OutOfMemory);
             if fault == StartFault::BadWords {

@@ -23,6 +23,15 @@ const LONGEST_TRACE: u64 = 10_000_000;
 
 /// What the words ask for.
 #[derive(Drop)]
+pub enum Asked<'a> {
+    /// The page of all kinds.
+    Kinds,
+    /// Something of a graph file.
+    Call(Call<'a>),
+}
+
+/// What is asked for of a graph file.
+#[derive(Drop)]
 pub struct Call<'a> {
     pub action: Action,
     pub path: &'a str,
@@ -63,24 +72,33 @@ impl Call<'_> {
     }
 }
 
-/// The call that the words ask for; the first word is none of them.
-pub fn call_of<'a>(alloc: Global, words: &'a [String]) -> Result<Call<'a>, clap::Error> {
+/// What the words ask for; the first word is none of them.
+pub fn asked_by<'a>(alloc: Global, words: &'a [String]) -> Result<Asked<'a>, clap::Error> {
     let mut flow = commands(alloc)?;
     match flow.try_get_matches_from_mut(words) {
-        Ok(matches) => match call_in(alloc, &matches) {
-            Ok(call) => Ok(call),
+        Ok(matches) => match asked_in(alloc, &matches) {
+            Ok(asked) => Ok(asked),
             Err(fault) => Err(error_of(&mut flow, fault)),
         },
         Err(error) => Err(error),
     }
 }
 
-// The call of words that `clap` took.
-fn call_in<'a>(alloc: Global, matches: &ArgMatches<'a>) -> Result<Call<'a>, EndsFault> {
-    // (that a command and its file are there is known of words that were taken)
-    let Some((name, inner)) = matches.subcommand() else {
-        return Err(EndsFault::Memory);
-    };
+// What is asked for by words that `clap` took.
+fn asked_in<'a>(alloc: Global, matches: &ArgMatches<'a>) -> Result<Asked<'a>, EndsFault> {
+    // (that a command is there, and its file, is known of words that were taken)
+    match matches.subcommand() {
+        Some(("kinds", _)) => Ok(Asked::Kinds),
+        Some((name, inner)) => match call_in(alloc, name, inner) {
+            Ok(call) => Ok(Asked::Call(call)),
+            Err(fault) => Err(fault),
+        },
+        None => Err(EndsFault::Memory),
+    }
+}
+
+// A call of a command on a graph file.
+fn call_in<'a>(alloc: Global, name: &str, inner: &ArgMatches<'a>) -> Result<Call<'a>, EndsFault> {
     let Some(path) = inner.get_str("FILE") else {
         return Err(EndsFault::Memory);
     };
@@ -181,7 +199,10 @@ fn with_reports<'a>(
     flow: clap::Command<'a>,
 ) -> Result<clap::Command<'a>, clap::Error> {
     let flow = with_command(flow, check_command(alloc))?;
-    with_command(flow, draw_command(alloc))
+    let flow = with_command(flow, draw_command(alloc))?;
+    Ok(flow.subcommand(clap::Command::new(alloc, "kinds").about(
+        "Prints all kinds of blocks, with their parameters",
+    ))?)
 }
 
 // And those that do.

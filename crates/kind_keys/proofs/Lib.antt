@@ -1,4 +1,6 @@
 pub mod Values
 pub mod Tests
 pub mod Makers
+pub mod Lists
+pub mod Clips
 pub mod Faults

@@ -1,6 +1,6 @@
 -- What the makers answer, by the tests of parameters.
 use Rattle.std.proofs.Common.{◌≡◌, ◌≢◌, ◌⊎◌, inl, inr, ℕ, ◌<◌, ℤ, Bool, true, false, List, length, take, Result, Ok, Err, Decides, arith, refl, ap, sym, ◌∙◌, subst}
-use Rattle.std.specs.Prelude.{nat_le, is_ok}
+use Rattle.std.specs.Prelude.{is_ok}
 use Rattle.std.proofs.lemmas.Bool.{false≢true, cases_lt}
 use Rattle.std.proofs.lemmas.List.{take_all, length-take-le}
 use Rattle.stream_model.specs.declared.vocabulary.ItemType.{ItemType}
@@ -13,9 +13,10 @@ use Rattle.parameters.specs.declared.fault.ParamFault.TheVariants.{BadParameter,
 use Rattle.math_blocks.specs.Kinds.{IsTable}
 use Rattle.rate_blocks.specs.Lengths.{AreLengths}
 use Rattle.fir_blocks.specs.Parameters.{AreParameters, IsRefusal, IsFirstBad}
-use Rattle.kind_keys.specs.Kinds.{needs, filtered, is_filter_type, are_taps, are_bytes, are_lengths, is_within}
+use Rattle.kind_keys.specs.Ranges.{is_wide, are_taps, are_bytes, are_lengths, is_within}
+use Rattle.kind_keys.specs.Kinds.{needs}
 use Rattle.kind_keys.specs.Reading.{IsBad}
-use Rattle.kind_keys.proofs.Tests.{le-decides, within-decides, taps-decides, table-decides, lengths-decides}
+use Rattle.kind_keys.proofs.Tests.{within-decides, taps-decides, table-decides, lengths-decides}
 
 -- a test that decides P: what follows where P holds, and the fault where it does not
 pub goes : {P : Type 0} (test : Bool) (p : Parameter) (rest : Result Meaning Parameter) → Decides test P → P → needs test p rest ≡ rest
@@ -28,26 +29,31 @@ is_false false d bad = refl
 pub stops : {P : Type 0} (test : Bool) (p : Parameter) (rest : Result Meaning Parameter) → Decides test P → (P → ⊥) → needs test p rest ≡ Err p
 stops test p rest d bad = ap (λ b. needs b p rest) (is_false test d bad)
 
-filter_type-decides : (t : ItemType) → Decides (is_filter_type t) (t ≢ Byte)
-filter_type-decides Byte = (λ e. absurd (false≢true e), λ other. absurd (other refl))
-filter_type-decides Short = (λ _. λ e. cc, λ _. refl)
-filter_type-decides Int = (λ _. λ e. cc, λ _. refl)
+wide-decides : (t : ItemType) → Decides (is_wide t) (t ≢ Byte)
+wide-decides Byte = (λ e. absurd (false≢true e), λ other. absurd (other refl))
+wide-decides Short = (λ _. λ e. cc, λ _. refl)
+wide-decides Int = (λ _. λ e. cc, λ _. refl)
+
+-- what a filter means, or the first of its parameters that is bad, where its rate goes by the name `named`
+abbrev pub filtered : (ItemType → List ℤ → ℕ → ℕ → Meaning) → Parameter → ItemType → List ℤ → ℕ → ℕ → Result Meaning Parameter
+filtered meant named t taps rate shift =
+    needs (is_wide t) parameters.ItemType (needs (are_taps taps) parameters.Taps (needs (is_within 1 1024 rate) named (needs (is_within 0 31 shift) parameters.Shift (Ok (meant t taps rate shift)))))
 
 module _ (meant : ItemType → List ℤ → ℕ → ℕ → Meaning) (named : Parameter) (t : ItemType) (taps : List ℤ) (rate shift : ℕ) where
   pub filter_good : AreParameters t taps rate shift → filtered meant named t taps rate shift ≡ Ok (meant t taps rate shift)
   filter_good h =
-      goes (is_filter_type t) parameters.ItemType _ (filter_type-decides t) h.item_type ∙ goes (are_taps taps) parameters.Taps _ (taps-decides taps) h.taps_are
-      ∙ goes (is_within 1 1024 rate) named _ (within-decides 1 1024 rate) h.rate_is ∙ goes (nat_le shift 31) parameters.Shift _ (le-decides shift 31) h.shift_is
+      goes (is_wide t) parameters.ItemType _ (wide-decides t) h.item_type ∙ goes (are_taps taps) parameters.Taps _ (taps-decides taps) h.taps_are
+      ∙ goes (is_within 1 1024 rate) named _ (within-decides 1 1024 rate) h.rate_is ∙ goes (is_within 0 31 shift) parameters.Shift _ (within-decides 0 31 shift) (omega arith, h.shift_is)
 
   first_bad : (bad : Parameter) → IsFirstBad named t taps rate shift bad → filtered meant named t taps rate shift ≡ Err bad
-  first_bad bad (inl h) = stops (is_filter_type t) parameters.ItemType _ (filter_type-decides t) (λ other. other h.1) ∙ ap Err (sym h.0)
-  first_bad bad (inr (inl h)) = goes (is_filter_type t) parameters.ItemType _ (filter_type-decides t) h.1 ∙ stops (are_taps taps) parameters.Taps _ (taps-decides taps) h.2 ∙ ap Err (sym h.0)
+  first_bad bad (inl h) = stops (is_wide t) parameters.ItemType _ (wide-decides t) (λ other. other h.1) ∙ ap Err (sym h.0)
+  first_bad bad (inr (inl h)) = goes (is_wide t) parameters.ItemType _ (wide-decides t) h.1 ∙ stops (are_taps taps) parameters.Taps _ (taps-decides taps) h.2 ∙ ap Err (sym h.0)
   first_bad bad (inr (inr (inl h))) =
-      goes (is_filter_type t) parameters.ItemType _ (filter_type-decides t) h.1 ∙ goes (are_taps taps) parameters.Taps _ (taps-decides taps) h.2
+      goes (is_wide t) parameters.ItemType _ (wide-decides t) h.1 ∙ goes (are_taps taps) parameters.Taps _ (taps-decides taps) h.2
       ∙ stops (is_within 1 1024 rate) named _ (within-decides 1 1024 rate) h.3 ∙ ap Err (sym h.0)
   first_bad bad (inr (inr (inr h))) =
-      goes (is_filter_type t) parameters.ItemType _ (filter_type-decides t) h.1 ∙ goes (are_taps taps) parameters.Taps _ (taps-decides taps) h.2
-      ∙ goes (is_within 1 1024 rate) named _ (within-decides 1 1024 rate) h.3 ∙ stops (nat_le shift 31) parameters.Shift _ (le-decides shift 31) h.4 ∙ ap Err (sym h.0)
+      goes (is_wide t) parameters.ItemType _ (wide-decides t) h.1 ∙ goes (are_taps taps) parameters.Taps _ (taps-decides taps) h.2
+      ∙ goes (is_within 1 1024 rate) named _ (within-decides 1 1024 rate) h.3 ∙ stops (is_within 0 31 shift) parameters.Shift _ (within-decides 0 31 shift) (λ p. h.4 p.1) ∙ ap Err (sym h.0)
 
   pub filter_bad : (fault : ParamFault) → IsRefusal named t taps rate shift fault → IsBad true (filtered meant named t taps rate shift) fault
   filter_bad (BadParameter bad) h = first_bad bad h
@@ -71,13 +77,13 @@ long_lengths zs h = is_false (are_lengths zs) (lengths-decides zs) (λ are. let 
 
 -- so a kind makes the same of it
 no_taps : (t : ItemType) (zs : List ℤ) (rest : Result Meaning Parameter) → 256 < length zs →
-    needs (is_filter_type t) parameters.ItemType (needs (are_taps zs) parameters.Taps rest) ≡ needs (is_filter_type t) parameters.ItemType (Err parameters.Taps)
-no_taps t zs rest long = ap (λ b. needs (is_filter_type t) parameters.ItemType (needs b parameters.Taps rest)) (long_taps zs long)
+    needs (is_wide t) parameters.ItemType (needs (are_taps zs) parameters.Taps rest) ≡ needs (is_wide t) parameters.ItemType (Err parameters.Taps)
+no_taps t zs rest long = ap (λ b. needs (is_wide t) parameters.ItemType (needs b parameters.Taps rest)) (long_taps zs long)
 
 pub cut_filter :
     (meant : ItemType → List ℤ → ℕ → ℕ → Meaning) (named : Parameter) (t : ItemType) (zs : List ℤ) (rate shift : ℕ) → filtered meant named t (take 257 zs) rate shift ≡ filtered meant named t zs rate shift
 cut_filter meant named t zs rate shift =
-    let rest : List ℤ → Result Meaning Parameter = λ ts. needs (is_within 1 1024 rate) named (needs (nat_le shift 31) parameters.Shift (Ok (meant t ts rate shift))) in
+    let rest : List ℤ → Result Meaning Parameter = λ ts. needs (is_within 1 1024 rate) named (needs (is_within 0 31 shift) parameters.Shift (Ok (meant t ts rate shift))) in
     elim (cut zs) [
       | inl whole ↦ ap (λ ts. filtered meant named t ts rate shift) whole
       | inr long ↦ no_taps t (take 257 zs) (rest (take 257 zs)) (long_cut zs long) ∙ sym (no_taps t zs (rest zs) long)

@@ -8,19 +8,19 @@ use Rattle.std.proofs.lemmas.Bool.Decides.{Decides-and, Decides-by_and, Decides-
 use Rattle.stream_model.specs.declared.vocabulary.ItemType.{ItemType}
 use Rattle.stream_model.specs.declared.vocabulary.ItemType.TheVariants.{Byte, Short}
 use Rattle.stream_model.specs.Numbers.{IsItem, AreItems, least_of, greatest_of}
-use Rattle.math_blocks.specs.Kinds.{IsTable}
+use Rattle.math_blocks.specs.Kinds.{IsTable, AreValues}
 use Rattle.fir_blocks.specs.Parameters.{AreTaps}
 use Rattle.rate_blocks.specs.Lengths.{unsigned, AreLengths}
-use Rattle.kind_keys.specs.Kinds.{is_in, is_within, are_taps, are_bytes, are_lengths}
+use Rattle.kind_keys.specs.Ranges.{is_in, is_within, are_items, are_taps, are_bytes, are_lengths}
 
 pub le-decides : (m n : ℕ) → Decides (nat_le m n) (m ≤ n)
 le-decides m n = (λ h. grind arith, λ h. grind arith)
 
-passed : (b : Bool) → T b → b ≡ true
+pub passed : (b : Bool) → T b → b ≡ true
 passed true h = refl
 passed false h = absurd h
 
-int-decides : (y z : ℤ) → Decides (int_le y z) (y ≤ℤ z)
+pub int-decides : (y z : ℤ) → Decides (int_le y z) (y ≤ℤ z)
 int-decides y z = (λ e. le_z_yes (subst T (sym e) tt), λ h. passed (int_le y z) h.le)
 
 pub in-decides : (t : ItemType) (z : ℤ) → Decides (is_in t z) (IsItem t z)
@@ -34,10 +34,14 @@ all_in-decides t zs = Decides-by_and (is_in t) (IsItem t) (list_all (is_in t)) (
 pub within-decides : (least most n : ℕ) → Decides (is_within least most n) ((least ≤ n) × (n ≤ most))
 within-decides least most n = Decides-and (nat_le least n) (nat_le n most) (le-decides least n) (le-decides n most)
 
+pub items-decides : (t : ItemType) (zs : List ℤ) → Decides (are_items t zs) (AreValues t zs)
+items-decides t zs =
+    Decides-like (are_items t zs) (λ (p : ((1 ≤ length zs) × (length zs ≤ 256)) × AreItems t zs). (p.0.0, p.0.1, p.1)) (λ (p : AreValues t zs). ((p.0, p.1), p.2))
+    (Decides-and (is_within 1 256 (length zs)) (list_all (is_in t) zs) (within-decides 1 256 (length zs)) (all_in-decides t zs))
+
 pub taps-decides : (zs : List ℤ) → Decides (are_taps zs) (AreTaps zs)
 taps-decides zs =
-    Decides-like (are_taps zs) (λ (p : ((1 ≤ length zs) × (length zs ≤ 256)) × AreItems Short zs). record { some = p.0.0; few = p.0.1; short = p.1 }) (λ (p : AreTaps zs). ((p.some, p.few), p.short))
-    (Decides-and (is_within 1 256 (length zs)) (list_all (is_in Short) zs) (within-decides 1 256 (length zs)) (all_in-decides Short zs))
+    Decides-like (are_taps zs) (λ (p : AreValues Short zs). record { some = p.0; few = p.1; short = p.2 }) (λ (p : AreTaps zs). (p.some, p.few, p.short)) (items-decides Short zs)
 
 pub table-decides : (zs : List ℤ) → Decides (are_bytes zs) (IsTable zs)
 table-decides zs = Decides-and (nat_le (length zs) 256) (list_all (is_in Byte) zs) (le-decides (length zs) 256) (all_in-decides Byte zs)

@@ -37,6 +37,10 @@ parameter_form parameters.To = Text
 parameter_form parameters.Map = Numbers
 parameter_form parameters.Taps = Numbers
 parameter_form parameters.Lengths = Numbers
+parameter_form parameters.Values = Numbers
+parameter_form parameters.Places = Numbers
+parameter_form parameters.Order = Text
+parameter_form parameters.Code = Text
 parameter_form _ = Number
 
 -- what may stand at a key
@@ -66,6 +70,8 @@ abbrev pub is_needed_parameter : Parameter → Bool
 is_needed_parameter parameters.Shift = false
 is_needed_parameter parameters.Decimation = false
 is_needed_parameter parameters.Interpolation = false
+is_needed_parameter parameters.Order = false
+is_needed_parameter parameters.Offset = false
 is_needed_parameter _ = true
 
 -- whether a table must have the key

@@ -13,7 +13,8 @@ use Rattle.kind_keys.specs.declared.fault.KeyFault.{KeyFault}
 use Rattle.kind_keys.specs.declared.fault.KeyFault.TheVariants.{UnknownKey, MissingKey, WrongType, UnknownKind, BadParameter, Memory}
 use Rattle.kind_keys.specs.Tables.{text_at, small_at, count_at, key_fault, keys_fault, has_only}
 use Rattle.kinds.specs.KindNames.{kind_named}
-use Rattle.kind_keys.specs.Kinds.{keys_of, keeps_list, made, registered, parameter}
+use Rattle.kind_keys.specs.Ranges.{parameter, is_within, has_bits}
+use Rattle.kind_keys.specs.Kinds.{keys_of, keeps_list, needs, made}
 
 -- a fault of a maker as one of a table
 abbrev pub carried : ParamFault → KeyFault
@@ -33,6 +34,11 @@ IsRefused takes r (WrongType k) = r ≡ Err (WrongType k)
 IsRefused takes r UnknownKind = r ≡ Err UnknownKind
 IsRefused takes r (BadParameter p) = r ≡ Err (BadParameter p)
 IsRefused takes r Memory = takes ≡ true
+
+-- what a register of these bits, this mask and this first word is for, or the first of the three that is bad
+abbrev pub registered : (ℕ → ℕ → ℕ → Meaning) → ℕ → ℕ → ℕ → Result Meaning Parameter
+registered meant bits mask init =
+    needs (is_within 2 32 bits) parameters.Bits (needs (has_bits 1 bits mask) parameters.Mask (needs (has_bits 0 bits init) parameters.Init (Ok (meant bits mask init))))
 
 -- the registers of a table's parameters, and what is wrong with them
 abbrev pub bits_at : Members → ℕ

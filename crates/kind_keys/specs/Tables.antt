@@ -1,9 +1,11 @@
 -- What stands in a table of a graph file, and the tests of its keys.
-use Rattle.std.specs.Prelude.{ℕ, ◌-◌, ◌^◌, min, ℤ, pos, negsuc, List, [], ◌∷◌, Bool, true, false, ◌&&◌, if◌then◌else◌, Option, Some, None, is_some, bytes_eq, codes}
+use Rattle.std.specs.Prelude.{ℕ, ◌+◌, ◌-◌, ◌*◌, ◌^◌, min, ℤ, pos, negsuc, List, [], ◌∷◌, Bool, true, false, ◌&&◌, if◌then◌else◌, Option, Some, None, is_some, bytes_eq, codes}
 use Rattle.std.specs.List.{list_any}
 use Rattle.toml.specs.Data.{Data, Items, no_items, item, Members, no_members, member, get_member, as_str, as_integer, as_array, as_table}
 use Rattle.stream_model.specs.declared.vocabulary.ItemType.{ItemType}
 use Rattle.stream_model.specs.declared.vocabulary.ItemType.TheVariants.{Byte, Short, Int}
+use Rattle.kind_model.specs.declared.vocabulary.BitOrder.{BitOrder}
+use Rattle.kind_model.specs.declared.vocabulary.BitOrder.TheVariants.{MsbFirst, LsbFirst}
 use Rattle.stream_model.specs.declared.vocabulary.Policy.{Policy}
 use Rattle.stream_model.specs.declared.vocabulary.Policy.TheVariants as policy
 use Rattle.kind_keys.specs.declared.key.Key.{Key}
@@ -84,6 +86,34 @@ type_in (Some text) = type_named text
 
 abbrev pub type_at : Members → Key → Option ItemType
 type_at ms key = type_in (string_in (at_key key ms))
+
+-- the type that a name is of, that of bytes where it is of none
+abbrev pub type_or_byte : Option ItemType → ItemType
+type_or_byte None = Byte
+type_or_byte (Some t) = t
+
+-- the order of bits of a text, none where it is the text of no order. Where there is no text the highest comes first
+abbrev pub order_named : List ℕ → Option BitOrder
+order_named text = if bytes_eq text (codes "msb_first") then Some MsbFirst else if bytes_eq text (codes "lsb_first") then Some LsbFirst else None
+
+abbrev pub order_in : Option (List ℕ) → Option BitOrder
+order_in None = Some MsbFirst
+order_in (Some text) = order_named text
+
+abbrev pub order_at : Members → Key → Option BitOrder
+order_at ms key = order_in (string_in (at_key key ms))
+
+abbrev pub order_or_msb : Option BitOrder → BitOrder
+order_or_msb None = MsbFirst
+order_or_msb (Some order) = order
+
+-- the number whose binary digits a text has, the highest first
+abbrev pub code_from : ℕ → List ℕ → ℕ
+code_from n [] = n
+code_from n (c ∷ text) = code_from (2 * n + (c - 48)) text
+
+abbrev pub code_at : Members → Key → ℕ
+code_at ms key = code_from 0 (text_at ms key)
 
 -- which tags pass, by a text, none where it is the text of no choice. Where there is no text all do
 abbrev pub policy_named : List ℕ → Option Policy

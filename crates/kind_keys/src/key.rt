@@ -47,6 +47,13 @@ pub enum Key {
     MarkValue,
 }
 
+impl Default for Key {
+    /// The name of a block, for the places of a list of keys that are not in use.
+    fn default() -> Key {
+        Key::Name
+    }
+}
+
 /// What may stand at a key.
 #[derive(Clone, Copy, Debug, PartialEq, Eq)]
 pub enum ValueForm {
@@ -151,8 +158,12 @@ fn parameter_form(parameter: Parameter) -> ValueForm
     ensures { result ≡ parameter_form parameter }
 {
     match parameter {
-        Parameter::ItemType | Parameter::To => ValueForm::Text,
-        Parameter::Map | Parameter::Taps | Parameter::Lengths => ValueForm::Numbers,
+        Parameter::ItemType | Parameter::To | Parameter::Order | Parameter::Code => ValueForm::Text,
+        Parameter::Map
+        | Parameter::Taps
+        | Parameter::Lengths
+        | Parameter::Values
+        | Parameter::Places => ValueForm::Numbers,
         _ => ValueForm::Number,
     }
 }
@@ -162,6 +173,10 @@ fn is_needed_parameter(parameter: Parameter) -> bool
 {
     !matches!(
         parameter,
-        Parameter::Shift | Parameter::Decimation | Parameter::Interpolation
+        Parameter::Shift
+            | Parameter::Decimation
+            | Parameter::Interpolation
+            | Parameter::Order
+            | Parameter::Offset
     )
 }

@@ -1,30 +1,32 @@
 //! The block that a kind makes of the parameters of a table.
-ghost use Rattle.std.specs.Prelude.{◌≡◌, Ok, Some, None, IfOk, IfErr, true, false, take};
+ghost use Rattle.std.specs.Prelude.{◌≡◌, Ok, IfOk, IfErr, false};
 ghost use Rattle.toml.specs.View.{table_view};
 ghost use Rattle.kinds.specs.Kind.{meaning_of};
 ghost use Rattle.kind_keys.specs.Kinds.{keeps_list, made, made_of};
 ghost use Rattle.kind_keys.specs.Reading.{IsBad, IsRegisterOf, IsBadRegister};
-ghost use Rattle.kind_keys.specs.Tables as tables;
-ghost use Rattle.kind_keys.specs.declared.key.Key.TheVariants as key;
 ghost use Rattle.stream_model.specs.declared.vocabulary.ItemType.TheVariants as types;
 ghost use Rattle.kinds.specs.declared.kind_name.KindName.TheVariants as kinds;
 
+use crate::code::{code_of, is_code};
 use crate::key::Key;
-use crate::table::{count_at, first_numbers_at, number_at, small_at, type_at};
-use arrayvec::ArrayVec;
-use bit_blocks::{
-    AdditiveScrambler, Descrambler, DiffDecoder, DiffEncoder, PackKBits, Register, Scrambler,
-    UnpackKBits,
+use crate::make_lists::{
+    make_fir, make_insert, make_interp_fir, make_map_bb, make_permute, make_stream_mux, make_table,
 };
-use fir_blocks::{Fir, InterpFir};
+use crate::parameter_values::{bit_order, count, number, small, target, wide};
+use crate::table::{text_at, type_at};
+use bit_blocks::{
+    AdditiveScrambler, CorrelateAccessCode, Descrambler, DiffDecoder, DiffEncoder, PackKBits,
+    PackedToUnpacked, Register, RepackBits, Scrambler, UnpackKBits, UnpackedToPacked,
+};
 use items::ItemType;
 use kinds::{Kind, KindName, NullSink, VectorSink, VectorSource};
 use math_blocks::{
-    Add, AddConst, And, Convert, MapBb, MovingSum, MultiplyConst, Not, Or, Scale, Xor,
+    Abs, Add, AddConst, And, AndConst, Clip, Convert, Maximum, Minimum, MovingSum, Multiply,
+    MultiplyConst, Mute, Not, Or, OrConst, Scale, Sub, Xor, XorConst,
 };
 use parameters::{ParamFault, Parameter};
 use rate_blocks::{
-    Deinterleave, Delay, Head, Integrate, Interleave, KeepOneInN, Repeat, SkipHead, StreamMux,
+    Deinterleave, Delay, Head, Integrate, Interleave, KeepMInN, KeepOneInN, Repeat, SkipHead,
 };
 use std::alloc::Global;
 use toml::Table;
@@ -62,12 +64,32 @@ fn make_of(alloc: Global, kind: KindName, item: ItemType, table: &Table) -> Resu
             number(table, Parameter::Factor),
             small(table, Parameter::Shift),
         )?)),
+        KindName::AndConst => Ok(Kind::AndConst(AndConst::new(
+            item,
+            number(table, Parameter::Value),
+        )?)),
+        KindName::OrConst => Ok(Kind::OrConst(OrConst::new(
+            item,
+            number(table, Parameter::Value),
+        )?)),
+        KindName::XorConst => Ok(Kind::XorConst(XorConst::new(
+            item,
+            number(table, Parameter::Value),
+        )?)),
+        KindName::Clip => make_clip(item, table),
+        KindName::Abs => Ok(Kind::Abs(Abs::new(item))),
+        KindName::Mute => Ok(Kind::Mute(Mute::new(item, number(table, Parameter::On))?)),
+        KindName::Sub => Ok(Kind::Sub(Sub::new(item))),
+        KindName::Multiply => Ok(Kind::Multiply(Multiply::new(item))),
+        KindName::Minimum => Ok(Kind::Minimum(Minimum::new(item))),
+        KindName::Maximum => Ok(Kind::Maximum(Maximum::new(item))),
         KindName::Add => Ok(Kind::Add(Add::new(item))),
         KindName::And => Ok(Kind::And(And::new(item))),
         KindName::Or => Ok(Kind::Or(Or::new(item))),
         KindName::Xor => Ok(Kind::Xor(Xor::new(item))),
         KindName::Not => Ok(Kind::Not(Not::new(item))),
         KindName::MapBb => make_map_bb(alloc, table),
+        KindName::Table => make_table(alloc, table),
         KindName::Convert => Ok(Kind::Convert(Convert::new(item, target(table)?))),
         KindName::MovingSum => Ok(Kind::MovingSum(MovingSum::new(
             item,
@@ -80,6 +102,9 @@ fn make_of(alloc: Global, kind: KindName, item: ItemType, table: &Table) -> Resu
             table,
             Parameter::K,
         ))?)),
+        KindName::RepackBits => make_repack_bits(table),
+        KindName::PackedToUnpacked => make_packed_to_unpacked(item, table),
+        KindName::UnpackedToPacked => make_unpacked_to_packed(item, table),
         KindName::DiffEncoder => Ok(Kind::DiffEncoder(DiffEncoder::new(small(
             table,
             Parameter::Modulus,
@@ -91,82 +116,105 @@ fn make_of(alloc: Global, kind: KindName, item: ItemType, table: &Table) -> Resu
         KindName::Scrambler => make_scrambler(table),
         KindName::Descrambler => make_descrambler(table),
         KindName::AdditiveScrambler => make_additive_scrambler(table),
+        KindName::CorrelateAccessCode => make_correlate_access_code(table),
         KindName::KeepOneInN => Ok(Kind::KeepOneInN(KeepOneInN::new(
             item,
-            count(table, Parameter::N),
+            wide(table, Parameter::N),
         )?)),
+        KindName::KeepMInN => make_keep_m_in_n(item, table),
         KindName::Integrate => Ok(Kind::Integrate(Integrate::new(
             item,
-            count(table, Parameter::N),
+            wide(table, Parameter::N),
         )?)),
-        KindName::Repeat => Ok(Kind::Repeat(Repeat::new(item, count(table, Parameter::N))?)),
+        KindName::Repeat => Ok(Kind::Repeat(Repeat::new(item, wide(table, Parameter::N))?)),
+        KindName::Insert => make_insert(alloc, item, table),
+        KindName::Permute => make_permute(alloc, item, table),
         KindName::Interleave => Ok(Kind::Interleave(Interleave::new(
             item,
-            count(table, Parameter::Ports),
+            wide(table, Parameter::Ports),
         )?)),
         KindName::Deinterleave => Ok(Kind::Deinterleave(Deinterleave::new(
             item,
-            count(table, Parameter::Ports),
+            wide(table, Parameter::Ports),
         )?)),
         KindName::StreamMux => make_stream_mux(item, table),
         KindName::Head => Ok(Kind::Head(Head::new(item, count(table, Parameter::N))?)),
         KindName::SkipHead => Ok(Kind::SkipHead(SkipHead::new(item, count(table, Parameter::N))?)),
-        KindName::Delay => Ok(Kind::Delay(Delay::new(item, count(table, Parameter::N))?)),
+        KindName::Delay => Ok(Kind::Delay(Delay::new(item, wide(table, Parameter::N))?)),
     }
 }
 
-fn make_map_bb(alloc: Global, table: &Table) -> Result<Kind, ParamFault>
-    ensures ok { IfOk result (λ block. made_of kinds.MapBb types.Byte (table_view table.now) ≡ Ok (meaning_of block)) }
-    ensures bad { IfErr result (IsBad true (made_of kinds.MapBb types.Byte (table_view table.now))) }
+fn make_clip(item: ItemType, table: &Table) -> Result<Kind, ParamFault>
+    ensures ok { IfOk result (λ block. made_of kinds.Clip item (table_view table.now) ≡ Ok (meaning_of block)) }
+    ensures bad { IfErr result (IsBad false (made_of kinds.Clip item (table_view table.now))) }
 {
-    let map = numbers(table, Parameter::Map);
-    match MapBb::new(alloc, &map) {
-        Ok(block) => Ok(Kind::MapBb(block)),
+    let low = number(table, Parameter::Low);
+    let high = number(table, Parameter::High);
+    match Clip::new(item, low, high) {
+        Ok(block) => Ok(Kind::Clip(block)),
         Err(fault) => Err(fault),
     }
 }
 
-fn make_fir(alloc: Global, item: ItemType, table: &Table) -> Result<Kind, ParamFault>
-    ensures ok { IfOk result (λ block. made_of kinds.Fir item (table_view table.now) ≡ Ok (meaning_of block)) }
-    ensures bad { IfErr result (IsBad true (made_of kinds.Fir item (table_view table.now))) }
+fn make_keep_m_in_n(item: ItemType, table: &Table) -> Result<Kind, ParamFault>
+    ensures ok { IfOk result (λ block. made_of kinds.KeepMInN item (table_view table.now) ≡ Ok (meaning_of block)) }
+    ensures bad { IfErr result (IsBad false (made_of kinds.KeepMInN item (table_view table.now))) }
 {
-    let taps = numbers(table, Parameter::Taps);
-    match Fir::new(
-        alloc,
-        item,
-        &taps,
-        count(table, Parameter::Decimation),
-        small(table, Parameter::Shift),
+    let (m, n) = (wide(table, Parameter::M), wide(table, Parameter::N));
+    match KeepMInN::new(item, m, n, wide(table, Parameter::Offset)) {
+        Ok(block) => Ok(Kind::KeepMInN(block)),
+        Err(fault) => Err(fault),
+    }
+}
+
+fn make_repack_bits(table: &Table) -> Result<Kind, ParamFault>
+    ensures ok { IfOk result (λ block. made_of kinds.RepackBits types.Byte (table_view table.now) ≡ Ok (meaning_of block)) }
+    ensures bad { IfErr result (IsBad false (made_of kinds.RepackBits types.Byte (table_view table.now))) }
+{
+    let order = bit_order(table)?;
+    match RepackBits::new(
+        small(table, Parameter::K),
+        small(table, Parameter::L),
+        order,
     ) {
-        Ok(block) => Ok(Kind::Fir(block)),
+        Ok(block) => Ok(Kind::RepackBits(block)),
         Err(fault) => Err(fault),
     }
 }
 
-fn make_interp_fir(alloc: Global, item: ItemType, table: &Table) -> Result<Kind, ParamFault>
-    ensures ok { IfOk result (λ block. made_of kinds.InterpFir item (table_view table.now) ≡ Ok (meaning_of block)) }
-    ensures bad { IfErr result (IsBad true (made_of kinds.InterpFir item (table_view table.now))) }
+fn make_packed_to_unpacked(item: ItemType, table: &Table) -> Result<Kind, ParamFault>
+    ensures ok { IfOk result (λ block. made_of kinds.PackedToUnpacked item (table_view table.now) ≡ Ok (meaning_of block)) }
+    ensures bad { IfErr result (IsBad false (made_of kinds.PackedToUnpacked item (table_view table.now))) }
 {
-    let taps = numbers(table, Parameter::Taps);
-    match InterpFir::new(
-        alloc,
-        item,
-        &taps,
-        count(table, Parameter::Interpolation),
-        small(table, Parameter::Shift),
-    ) {
-        Ok(block) => Ok(Kind::InterpFir(block)),
+    let order = bit_order(table)?;
+    match PackedToUnpacked::new(item, small(table, Parameter::Bits), order) {
+        Ok(block) => Ok(Kind::PackedToUnpacked(block)),
         Err(fault) => Err(fault),
     }
 }
 
-fn make_stream_mux(item: ItemType, table: &Table) -> Result<Kind, ParamFault>
-    ensures ok { IfOk result (λ block. made_of kinds.StreamMux item (table_view table.now) ≡ Ok (meaning_of block)) }
-    ensures bad { IfErr result (IsBad false (made_of kinds.StreamMux item (table_view table.now))) }
+fn make_unpacked_to_packed(item: ItemType, table: &Table) -> Result<Kind, ParamFault>
+    ensures ok { IfOk result (λ block. made_of kinds.UnpackedToPacked item (table_view table.now) ≡ Ok (meaning_of block)) }
+    ensures bad { IfErr result (IsBad false (made_of kinds.UnpackedToPacked item (table_view table.now))) }
 {
-    let lengths = numbers(table, Parameter::Lengths);
-    match StreamMux::new(item, &lengths) {
-        Ok(block) => Ok(Kind::StreamMux(block)),
+    let order = bit_order(table)?;
+    match UnpackedToPacked::new(item, small(table, Parameter::Bits), order) {
+        Ok(block) => Ok(Kind::UnpackedToPacked(block)),
+        Err(fault) => Err(fault),
+    }
+}
+
+fn make_correlate_access_code(table: &Table) -> Result<Kind, ParamFault>
+    ensures ok { IfOk result (λ block. made_of kinds.CorrelateAccessCode types.Byte (table_view table.now) ≡ Ok (meaning_of block)) }
+    ensures bad { IfErr result (IsBad false (made_of kinds.CorrelateAccessCode types.Byte (table_view table.now))) }
+{
+    let text = text_at(table, Key::Parameter(Parameter::Code)).as_bytes();
+    if !is_code(text) {
+        return Err(ParamFault::BadParameter(Parameter::Code));
+    }
+    let (code, length) = (code_of(text), text.len() as u32);
+    match CorrelateAccessCode::new(code, length, small(table, Parameter::Threshold)) {
+        Ok(block) => Ok(Kind::CorrelateAccessCode(block)),
         Err(fault) => Err(fault),
     }
 }
@@ -211,40 +259,4 @@ fn register(table: &Table) -> Result<Register, ParamFault>
         count(table, Parameter::Mask),
         count(table, Parameter::Init),
     )
-}
-
-// The type that a converter gives.
-fn target(table: &Table) -> Result<ItemType, ParamFault>
-    ensures ok { IfOk result (λ to. tables.type_at (table_view table.now) (key.Parameter Parameter.To) ≡ Some to) }
-    ensures err { IfErr result (λ fault. (fault ≡ ParamFault.BadParameter Parameter.To) × (tables.type_at (table_view table.now) (key.Parameter Parameter.To) ≡ None)) }
-{
-    match type_at(table, Key::Parameter(Parameter::To)) {
-        Some(to) => Ok(to),
-        None => Err(ParamFault::BadParameter(Parameter::To)),
-    }
-}
-
-fn number(table: &Table, parameter: Parameter) -> i64
-    ensures { result ≡ tables.number_at (table_view table.now) (key.Parameter parameter) }
-{
-    number_at(table, Key::Parameter(parameter))
-}
-
-fn count(table: &Table, parameter: Parameter) -> u64
-    ensures { result ≡ tables.count_at (table_view table.now) (key.Parameter parameter) }
-{
-    count_at(table, Key::Parameter(parameter))
-}
-
-fn small(table: &Table, parameter: Parameter) -> u32
-    ensures { result ≡ tables.small_at (table_view table.now) (key.Parameter parameter) }
-{
-    small_at(table, Key::Parameter(parameter))
-}
-
-// The list at a parameter, cut behind what is too long for every kind.
-fn numbers(table: &Table, parameter: Parameter) -> ArrayVec<i64, 257>
-    ensures { result.items ≡ take 257 (tables.numbers_at (table_view table.now) (key.Parameter parameter)) }
-{
-    first_numbers_at(table, Key::Parameter(parameter))
 }

@@ -43,10 +43,10 @@ fn tested(table: &Table) -> Result<KindName, KeyFault>
         return Err(KeyFault::UnknownKind);
     };
     let keys = keys_of(kind);
-    if !has_only(table, keys) {
+    if !has_only(table, &keys) {
         return Err(KeyFault::UnknownKey);
     }
-    match keys_fault(table, keys) {
+    match keys_fault(table, &keys) {
         Some(fault) => Err(fault),
         None => Ok(kind),
     }

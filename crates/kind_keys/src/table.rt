@@ -12,6 +12,7 @@ use crate::fault::KeyFault;
 use crate::key::{Key, ValueForm};
 use arrayvec::ArrayVec;
 use items::ItemType;
+use kind_model::BitOrder;
 use std::alloc::{AllocError, Global};
 use stream_model::Policy;
 use toml::{Table, Value};
@@ -150,6 +151,26 @@ fn type_named(text: &str) -> Option<ItemType>
         "byte" => Some(ItemType::Byte),
         "short" => Some(ItemType::Short),
         "int" => Some(ItemType::Int),
+        _ => None,
+    }
+}
+
+/// The order of bits that the text at a key names, or `None` where it names none.
+pub fn order_at(table: &Table, key: Key) -> Option<BitOrder>
+    ensures { result ≡ tables.order_at (table_view table.now) key }
+{
+    match string_at(table, key) {
+        Some(text) => order_named(text),
+        None => Some(BitOrder::MsbFirst),
+    }
+}
+
+fn order_named(text: &str) -> Option<BitOrder>
+    ensures { result ≡ tables.order_named text.now }
+{
+    match text {
+        "msb_first" => Some(BitOrder::MsbFirst),
+        "lsb_first" => Some(BitOrder::LsbFirst),
         _ => None,
     }
 }

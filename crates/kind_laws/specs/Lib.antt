@@ -4,3 +4,4 @@ pub mod Filters
 pub mod Rates
 pub mod Bits
 pub mod Registers
+pub mod BitStreams

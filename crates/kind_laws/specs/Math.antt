@@ -1,17 +1,19 @@
 -- The kinds of arithmetic, logic, tables and conversion are lawful.
-use Rattle.std.specs.Prelude.{ℕ, ◌-◌, ◌*◌, ◌≤◌, ◌≡◌, suc, ℤ, pos, negsuc, ◌+ℤ◌, ◌*ℤ◌, List, [], ◌∷◌, length, bit_and, bit_or, bit_xor, refl}
+use Rattle.std.specs.Prelude.{ℕ, ◌-◌, ◌*◌, ◌≤◌, ◌≡◌, suc, ℤ, pos, negsuc, ◌≤ℤ◌, ◌+ℤ◌, ◌*ℤ◌, List, [], ◌∷◌, length, All, int_lt, cond, true, false, bit_and, bit_or, bit_xor, refl}
 use Rattle.std.proofs.Common.{ap, ap₂, subst, sym, arith, inl, inr}
 use Rattle.std.proofs.lemmas.Bool.{cases_lt}
+use Rattle.std.proofs.lemmas.Int.{ints}
 use Rattle.std.proofs.lemmas.List.{get_or_past}
+use Rattle.std.proofs.lemmas.List.Elements.{All-head, All-tail, All-cons}
 use Rattle.stream_model.specs.declared.vocabulary.ItemType.{ItemType}
-use Rattle.stream_model.specs.declared.vocabulary.ItemType.TheVariants.{Byte, Short}
-use Rattle.stream_model.specs.Numbers.{IsItem, AreItems, numbers_in, wrap, total}
+use Rattle.stream_model.specs.declared.vocabulary.ItemType.TheVariants.{Byte, Short, Int}
+use Rattle.stream_model.specs.Numbers.{IsItem, AreItems, least_of, greatest_of, numbers_in, wrap, total}
 use Rattle.stream_model.specs.Lists.{item}
-use Rattle.kind_model.specs.Kernels.{scaled, turned}
+use Rattle.kind_model.specs.Kernels.{scaled, bits_joined, turned, lesser, greater, absolute, clipped}
 use Rattle.stream_model.specs.Meaning.{input, IsLawful}
 use Rattle.stream_model.specs.Shapes.{number_set, number_at}
-use Rattle.kind_model.specs.Math.{add_const, multiply_const, scale, items_at, add, all_bits, bitwise, and_of, or_of, xor_of, not_of, looked_up, map_bb, convert, moving_sum}
-use Rattle.shape_laws.specs.Shaped.{IsItem-wrap, IsItem-sat, IsItem-item, AreItems-input, item-same, past-same, sum_below-same, one_for_one, shaped-lawful}
+use Rattle.kind_model.specs.Math.{add_const, multiply_const, bitwise_const, and_const, or_const, xor_const, scale, items_at, add, product, multiply, difference, sub, least_up_to, minimum, greatest_down_to, maximum, all_bits, bitwise, and_of, or_of, xor_of, not_of, abs, clip, muted, mute, looked_up, map_bb, number_for, table, convert, moving_sum}
+use Rattle.shape_laws.specs.Shaped.{IsItem-zero, IsItem-wrap, IsItem-sat, IsItem-item, AreItems-input, item-same, past-same, sum_below-same, one_for_one, shaped-lawful}
 
 -- items n of inputs that agree there
 items_at-same : (xs ys : List (List ℤ)) (n : ℕ) → length xs ≡ length ys → ((p : ℕ) → item (input xs p) n ≡ item (input ys p) n) → items_at xs n ≡ items_at ys n
@@ -36,6 +38,23 @@ multiply_const-lawful t v fits =
     ap₂ (λ a b. wrap t (a *ℤ b)) (item-same (input xs 0) (input ys 0) (1 * k) n (inputs.items 0) h) (ap number_set (settings n h)))
     (λ ts us xs ys k settings inputs. refl)
 
+pub bitwise_const-lawful : (op : ℕ → ℕ → ℕ) (t : ItemType) (v : ℤ) → IsItem t v → IsLawful (bitwise_const op t v)
+bitwise_const-lawful op t v fits =
+    shaped-lawful _ _ _ _ _ _ _ _ _ _ one_for_one (omega arith) (omega arith) (fits.above, fits.below) (λ ts xs. refl)
+    (λ ts xs p n h. IsItem-wrap t _)
+    (λ ts us xs ys k p n settings inputs h.
+    ap₂ (bits_joined op t) (item-same (input xs 0) (input ys 0) (1 * k) n (inputs.items 0) h) (ap number_set (settings n h)))
+    (λ ts us xs ys k settings inputs. refl)
+
+pub and_const-lawful : (t : ItemType) (v : ℤ) → IsItem t v → IsLawful (and_const t v)
+and_const-lawful t v = bitwise_const-lawful bit_and t v
+
+pub or_const-lawful : (t : ItemType) (v : ℤ) → IsItem t v → IsLawful (or_const t v)
+or_const-lawful t v = bitwise_const-lawful bit_or t v
+
+pub xor_const-lawful : (t : ItemType) (v : ℤ) → IsItem t v → IsLawful (xor_const t v)
+xor_const-lawful t v = bitwise_const-lawful bit_xor t v
+
 pub scale-lawful : (t : ItemType) (factor : ℤ) (shift : ℕ) → IsItem Short factor → IsLawful (scale t factor shift)
 scale-lawful t factor shift fits =
     shaped-lawful _ _ _ _ _ _ _ _ _ _ one_for_one (omega arith) (omega arith) (fits.above, fits.below) (λ ts xs. refl)
@@ -50,6 +69,72 @@ add-lawful t =
     (λ ts xs p n h. IsItem-wrap t (total (items_at xs n)))
     (λ ts us xs ys k p n settings inputs h.
     ap (λ zs. wrap t (total zs)) (items_at-same xs ys n inputs.ports (λ q. item-same (input xs q) (input ys q) (1 * k) n (inputs.items q) h)))
+    (λ ts us xs ys k settings inputs. refl)
+
+pub multiply-lawful : (t : ItemType) → IsLawful (multiply t)
+multiply-lawful t =
+    shaped-lawful _ _ _ _ _ _ _ _ _ _ one_for_one (omega arith) (omega arith) refl (λ ts xs. refl)
+    (λ ts xs p n h. IsItem-wrap t (product (items_at xs n)))
+    (λ ts us xs ys k p n settings inputs h.
+    ap (λ zs. wrap t (product zs)) (items_at-same xs ys n inputs.ports (λ q. item-same (input xs q) (input ys q) (1 * k) n (inputs.items q) h)))
+    (λ ts us xs ys k settings inputs. refl)
+
+pub sub-lawful : (t : ItemType) → IsLawful (sub t)
+sub-lawful t =
+    shaped-lawful _ _ _ _ _ _ _ _ _ _ one_for_one (omega arith) (omega arith) refl (λ ts xs. refl)
+    (λ ts xs p n h. IsItem-wrap t (difference (items_at xs n)))
+    (λ ts us xs ys k p n settings inputs h.
+    ap (λ zs. wrap t (difference zs)) (items_at-same xs ys n inputs.ports (λ q. item-same (input xs q) (input ys q) (1 * k) n (inputs.items q) h)))
+    (λ ts us xs ys k settings inputs. refl)
+
+-- one of two items is an item
+IsItem-lesser : (t : ItemType) (y z : ℤ) → IsItem t y → IsItem t z → IsItem t (lesser y z)
+IsItem-lesser t y z one other = elim (int_lt z y) as (λ b. IsItem t (cond b z y)) [ true ↦ other | false ↦ one ]
+
+IsItem-greater : (t : ItemType) (y z : ℤ) → IsItem t y → IsItem t z → IsItem t (greater y z)
+IsItem-greater t y z one other = elim (int_lt y z) as (λ b. IsItem t (cond b z y)) [ true ↦ other | false ↦ one ]
+
+-- the ends of a type's range lie in it
+IsItem-greatest : (t : ItemType) → IsItem t (greatest_of t)
+IsItem-greatest Byte = record { above = omega (arith, ints); below = omega (arith, ints) }
+IsItem-greatest Short = record { above = omega (arith, ints); below = omega (arith, ints) }
+IsItem-greatest Int = record { above = omega (arith, ints); below = omega (arith, ints) }
+
+IsItem-least : (t : ItemType) → IsItem t (least_of t)
+IsItem-least Byte = record { above = omega (arith, ints); below = omega (arith, ints) }
+IsItem-least Short = record { above = omega (arith, ints); below = omega (arith, ints) }
+IsItem-least Int = record { above = omega (arith, ints); below = omega (arith, ints) }
+
+-- items n of inputs of the type are such numbers
+AreItems-items_at : (t : ItemType) (xs : List (List ℤ)) (n : ℕ) → All (AreItems t) xs → AreItems t (items_at xs n)
+AreItems-items_at t [] n are = λ k d l. absurd (omega arith)
+AreItems-items_at t (x ∷ xs) n are =
+    All-cons (IsItem t) (item x n) (items_at xs n) (IsItem-item t x n (All-head (AreItems t) x xs are)) (AreItems-items_at t xs n (All-tail (AreItems t) x xs are))
+
+IsItem-least_up_to : (t : ItemType) (most : ℤ) (zs : List ℤ) → IsItem t most → AreItems t zs → IsItem t (least_up_to most zs)
+IsItem-least_up_to t most [] fits are = fits
+IsItem-least_up_to t most (z ∷ zs) fits are =
+    IsItem-lesser t z (least_up_to most zs) (All-head (IsItem t) z zs are) (IsItem-least_up_to t most zs fits (All-tail (IsItem t) z zs are))
+
+IsItem-greatest_down_to : (t : ItemType) (least : ℤ) (zs : List ℤ) → IsItem t least → AreItems t zs → IsItem t (greatest_down_to least zs)
+IsItem-greatest_down_to t least [] fits are = fits
+IsItem-greatest_down_to t least (z ∷ zs) fits are =
+    IsItem-greater t z (greatest_down_to least zs) (All-head (IsItem t) z zs are) (IsItem-greatest_down_to t least zs fits (All-tail (IsItem t) z zs are))
+
+pub minimum-lawful : (t : ItemType) → IsLawful (minimum t)
+minimum-lawful t =
+    shaped-lawful _ _ _ _ _ _ _ _ _ _ one_for_one (omega arith) (omega arith) refl (λ ts xs. refl)
+    (λ ts xs p n h. IsItem-least_up_to t (greatest_of t) (items_at xs n) (IsItem-greatest t) (AreItems-items_at t xs n h))
+    (λ ts us xs ys k p n settings inputs h.
+    ap (least_up_to (greatest_of t)) (items_at-same xs ys n inputs.ports (λ q. item-same (input xs q) (input ys q) (1 * k) n (inputs.items q) h)))
+    (λ ts us xs ys k settings inputs. refl)
+
+pub maximum-lawful : (t : ItemType) → IsLawful (maximum t)
+maximum-lawful t =
+    shaped-lawful _ _ _ _ _ _ _ _ _ _ one_for_one (omega arith) (omega arith) refl (λ ts xs. refl)
+    (λ ts xs p n h. IsItem-greatest_down_to t (least_of t) (items_at xs n) (IsItem-least t) (AreItems-items_at t xs n h))
+    (λ ts us xs ys k p n settings inputs h.
+    ap (greatest_down_to (least_of t)) (items_at-same xs ys n inputs.ports (λ q. item-same (input xs q) (input ys q) (1 * k) n (inputs.items q) h)))
     (λ ts us xs ys k settings inputs. refl)
 
 pub bitwise-lawful : (op : ℕ → ℕ → ℕ) (none : ℕ) (t : ItemType) → IsLawful (bitwise op none t)
@@ -77,6 +162,39 @@ not_of-lawful t =
     (λ ts us xs ys k p n settings inputs h. ap (turned t) (item-same (input xs 0) (input ys 0) (1 * k) n (inputs.items 0) h))
     (λ ts us xs ys k settings inputs. refl)
 
+pub abs-lawful : (t : ItemType) → IsLawful (abs t)
+abs-lawful t =
+    shaped-lawful _ _ _ _ _ _ _ _ _ _ one_for_one (omega arith) (omega arith) refl (λ ts xs. refl)
+    (λ ts xs p n h. IsItem-wrap t _)
+    (λ ts us xs ys k p n settings inputs h. ap (absolute t) (item-same (input xs 0) (input ys 0) (1 * k) n (inputs.items 0) h))
+    (λ ts us xs ys k settings inputs. refl)
+
+-- the ends and what lies between them are items
+IsItem-clipped : (t : ItemType) (low high z : ℤ) → IsItem t low → IsItem t high → IsItem t z → IsItem t (clipped low high z)
+IsItem-clipped t low high z at_low at_high at_z =
+    elim (int_lt z low) as (λ b. IsItem t (cond b low (cond (int_lt high z) high z))) [
+      | true ↦ at_low
+      | false ↦ elim (int_lt high z) as (λ b. IsItem t (cond b high z)) [ true ↦ at_high | false ↦ at_z ]
+    ]
+
+pub clip-lawful : (t : ItemType) (low high : ℤ) → IsItem t low → IsItem t high → IsLawful (clip t low high)
+clip-lawful t low high at_low at_high =
+    shaped-lawful _ _ _ _ _ _ _ _ _ _ one_for_one (omega arith) (omega arith) refl (λ ts xs. refl)
+    (λ ts xs p n h. IsItem-clipped t low high (item (input xs 0) n) at_low at_high (IsItem-item t (input xs 0) n (AreItems-input t xs 0 h)))
+    (λ ts us xs ys k p n settings inputs h. ap (clipped low high) (item-same (input xs 0) (input ys 0) (1 * k) n (inputs.items 0) h))
+    (λ ts us xs ys k settings inputs. refl)
+
+IsItem-muted : (t : ItemType) (on z : ℤ) → IsItem t z → IsItem t (muted on z)
+IsItem-muted t on z fits = elim (int_lt (pos 0) on) as (λ b. IsItem t (cond b (pos 0) z)) [ true ↦ IsItem-zero t | false ↦ fits ]
+
+pub mute-lawful : (t : ItemType) (on : ℤ) → pos 0 ≤ℤ on → on ≤ℤ pos 1 → IsLawful (mute t on)
+mute-lawful t on above below =
+    shaped-lawful _ _ _ _ _ _ _ _ _ _ one_for_one (omega arith) (omega arith) (above, below) (λ ts xs. refl)
+    (λ ts xs p n h. IsItem-muted t (number_at on ts n) (item (input xs 0) n) (IsItem-item t (input xs 0) n (AreItems-input t xs 0 h)))
+    (λ ts us xs ys k p n settings inputs h.
+    ap₂ muted (ap number_set (settings n h)) (item-same (input xs 0) (input ys 0) (1 * k) n (inputs.items 0) h))
+    (λ ts us xs ys k settings inputs. refl)
+
 -- a table of bytes takes bytes to bytes
 pub IsItem-looked_up : (table : List ℤ) (z : ℤ) → AreItems Byte table → IsItem Byte z → IsItem Byte (looked_up table z)
 IsItem-looked_up table (pos n) bytes h =
@@ -91,6 +209,13 @@ map_bb-lawful table bytes =
     shaped-lawful _ _ _ _ _ _ _ _ _ _ one_for_one (omega arith) (omega arith) refl (λ ts xs. refl)
     (λ ts xs p n h. IsItem-looked_up table (item (input xs 0) n) bytes (IsItem-item Byte (input xs 0) n (AreItems-input Byte xs 0 h)))
     (λ ts us xs ys k p n settings inputs h. ap (looked_up table) (item-same (input xs 0) (input ys 0) (1 * k) n (inputs.items 0) h))
+    (λ ts us xs ys k settings inputs. refl)
+
+pub table-lawful : (to : ItemType) (values : List ℤ) → AreItems to values → IsLawful (table to values)
+table-lawful to values are =
+    shaped-lawful _ _ _ _ _ _ _ _ _ _ one_for_one (omega arith) (omega arith) refl (λ ts xs. refl)
+    (λ ts xs p n h. IsItem-item to values _ are)
+    (λ ts us xs ys k p n settings inputs h. ap (number_for values) (item-same (input xs 0) (input ys 0) (1 * k) n (inputs.items 0) h))
     (λ ts us xs ys k settings inputs. refl)
 
 pub convert-lawful : (from to : ItemType) → IsLawful (convert from to)

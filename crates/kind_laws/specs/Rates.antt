@@ -9,7 +9,7 @@ use Rattle.stream_model.specs.declared.vocabulary.ItemType.{ItemType}
 use Rattle.stream_model.specs.Numbers.{IsItem, AreItems, wrap}
 use Rattle.stream_model.specs.Lists.{item, item_before}
 use Rattle.stream_model.specs.Meaning.{input, IsLawful}
-use Rattle.kind_model.specs.Rates.{keep_one_in_n, integrate, repeat, interleave, deinterleave, head, skiphead, delay, turn_of, round_item, IsMux, stream_mux}
+use Rattle.kind_model.specs.Rates.{keep_one_in_n, keep_m_in_n, IsKept, inserted, insert, IsInsert, from_place, permute, IsOrder, integrate, repeat, interleave, deinterleave, head, skiphead, delay, turn_of, round_item, IsMux, stream_mux}
 use Rattle.shape_laws.specs.Shaped.{IsItem-zero, IsItem-wrap, IsItem-item, AreItems-input, item-same, sum_below-same, IsRate, IsAtRate-at_rate, sum-cons, shaped-lawful}
 
 -- d items for one, and one for i
@@ -30,6 +30,24 @@ keep_one_in_n-lawful t n low high =
     (λ ts us xs ys k p m settings inputs h.
     let there : m * n + (n - 1) < n * k = item_of_firing n k m (n - 1) (omega arith) (omega arith) in
     item-same (input xs 0) (input ys 0) (n * k) (m * n + n - 1) (inputs.items 0) (omega arith))
+    (λ ts us xs ys k settings inputs. refl)
+
+-- item m of the output is kept from firing m / give, and there it is among those that the firing takes
+pub kept_item : (take_ give from k n : ℕ) → 1 ≤ give → from + give ≤ take_ → n < give * k → n / give * take_ + from + n % give < take_ * k
+kept_item take_ give from k n some within h =
+    let rest : n % give < give = omega (arith, some) in
+    let firing : n / give < k = div_below n give k (omega arith) (omega arith) in
+    let there : n / give * take_ + (from + n % give) < take_ * k = item_of_firing take_ k (n / give) (from + n % give) (omega (arith, rest)) firing in
+    omega (arith, there)
+
+pub keep_m_in_n-lawful : (t : ItemType) (m n offset : ℕ) → IsKept m n offset → IsLawful (keep_m_in_n t m n offset)
+keep_m_in_n-lawful t m n offset is =
+    shaped-lawful _ _ _ _ _ _ _ _ _ _
+    (record { takes_some = omega (arith, is.some, is.within); takes_few = is.few; gives_some = is.some; gives_few = omega (arith, is.within, is.few) })
+    (omega arith) (omega arith) refl (λ ts xs. refl)
+    (λ ts xs p k h. IsItem-item t (input xs 0) (k / m * n + offset + k % m) (AreItems-input t xs 0 h))
+    (λ ts us xs ys k p j settings inputs h.
+    item-same (input xs 0) (input ys 0) (n * k) (j / m * n + offset + j % m) (inputs.items 0) (kept_item n m offset k j is.some is.within h))
     (λ ts us xs ys k settings inputs. refl)
 
 pub integrate-lawful : (t : ItemType) (n : ℕ) → 1 ≤ n → n ≤ 1024 → IsLawful (integrate t n)
@@ -69,6 +87,66 @@ deinterleave-lawful t n low high =
     (λ ts xs p m h. IsItem-if t (nat_lt p n) _ (IsItem-item t (input xs 0) (m * n + p) (AreItems-input t xs 0 h)))
     (λ ts us xs ys k p m settings inputs h.
     if-same p n _ _ (λ l. item-same (input xs 0) (input ys 0) (n * k) (m * n + p) (inputs.items 0) (item_of_firing n k m p l (omega arith))))
+    (λ ts us xs ys k settings inputs. refl)
+
+-- a number of two, chosen by a test
+IsItem-choice : (t : ItemType) (b : Bool) (y z : ℤ) → IsItem t y → IsItem t z → IsItem t (if b then y else z)
+IsItem-choice t true y z h g = h
+IsItem-choice t false y z h g = g
+
+-- an item of one of three
+IsItem-inserted : (t : ItemType) (values : List ℤ) (offset : ℕ) (xs : List ℤ) (a r : ℕ) → AreItems t values → AreItems t xs → IsItem t (inserted values offset xs a r)
+IsItem-inserted t values offset xs a r mine h =
+    IsItem-choice t (nat_lt r offset) _ _ (IsItem-item t xs (a + r) h)
+    (IsItem-choice t (nat_lt r (offset + length values)) _ _ (IsItem-item t values (r - offset) mine) (IsItem-item t xs (a + (r - length values)) h))
+
+-- a period of streams that agree in its items
+pub inserted-same :
+    (values : List ℤ) (offset rest : ℕ) (xs ys : List ℤ) (a b r : ℕ) → offset ≤ rest → r < rest + length values →
+    ((j : ℕ) → j < rest → item xs (a + j) ≡ item ys (b + j)) → inserted values offset xs a r ≡ inserted values offset ys b r
+inserted-same values offset rest xs ys a b r whole h same =
+    choices (nat_lt r offset) (nat_lt r (offset + length values)) refl refl
+  where
+    choices : (c d : Bool) → nat_lt r offset ≡ c → nat_lt r (offset + length values) ≡ d →
+        (if c then item xs (a + r) else if d then item values (r - offset) else item xs (a + (r - length values)))
+        ≡ (if c then item ys (b + r) else if d then item values (r - offset) else item ys (b + (r - length values)))
+    choices true d e f = same r (grind (arith, nat_tests))
+    choices false true e f = refl
+    choices false false e f = same (r - length values) (grind (arith, nat_tests))
+
+pub insert-lawful : (t : ItemType) (values : List ℤ) (period offset : ℕ) → IsInsert t values period offset → IsLawful (insert t values period offset)
+insert-lawful t values period offset is =
+    shaped-lawful _ _ _ _ _ _ _ _ _ _
+    (record { takes_some = omega (arith, is.above); takes_few = omega (arith, is.most); gives_some = omega (arith, is.above); gives_few = is.most })
+    (omega arith) (omega arith) refl (λ ts xs. refl)
+    (λ ts xs p k h. IsItem-inserted t values offset (input xs 0) (k / period * rest) (k % period) is.items (AreItems-input t xs 0 h))
+    (λ ts us xs ys k p j settings inputs h.
+    inserted-same values offset rest (input xs 0) (input ys 0) (j / period * rest) (j / period * rest) (j % period) is.whole (within j) (λ i l.
+    item-same (input xs 0) (input ys 0) (rest * k) (j / period * rest + i) (inputs.items 0)
+    (item_of_firing rest k (j / period) i l (div_below j period k (omega (arith, is.above)) (omega arith)))))
+    (λ ts us xs ys k settings inputs. refl)
+  where
+    rest : ℕ
+    rest = period - length values
+
+    within : (j : ℕ) → j % period < period - length values + length values
+    within j = let less : j % period < period = omega (arith, is.above) in omega (arith, is.above, less)
+
+-- each number of an order is a place of it
+pub from_place-within : (order : List ℕ) (j : ℕ) → IsOrder order → j < length order → from_place order j < length order
+from_place-within order j is h = is.within j 0 h
+
+pub permute-lawful : (t : ItemType) (order : List ℕ) → IsOrder order → IsLawful (permute t order)
+permute-lawful t order is =
+    shaped-lawful _ _ _ _ _ _ _ _ _ _
+    (record { takes_some = is.some; takes_few = omega (arith, is.few); gives_some = is.some; gives_few = omega (arith, is.few) })
+    (omega arith) (omega arith) refl (λ ts xs. refl)
+    (λ ts xs p k h. IsItem-item t (input xs 0) (k / length order * length order + from_place order (k % length order)) (AreItems-input t xs 0 h))
+    (λ ts us xs ys k p j settings inputs h.
+    let n = length order in
+    let less : j % n < n = omega (arith, is.some) in
+    item-same (input xs 0) (input ys 0) (n * k) (j / n * n + from_place order (j % n)) (inputs.items 0)
+    (item_of_firing n k (j / n) (from_place order (j % n)) (from_place-within order (j % n) is less) (div_below j n k (omega (arith, is.some)) (omega arith))))
     (λ ts us xs ys k settings inputs. refl)
 
 pub head-lawful : (t : ItemType) (n : ℕ) → IsLawful (head t n)
@@ -147,11 +225,6 @@ turn_few lengths p mux =
 pub round_some : (lengths : List ℕ) → 1 ≤ length lengths → All (λ l. (1 ≤ l) × (l ≤ 1024)) lengths → 1 ≤ sum lengths
 round_some [] some each = absurd (omega arith)
 round_some (l ∷ ls) some each = omega (arith, sum-cons l ls, (each 0 0 (omega arith)).0)
-
--- a number of two, chosen by a test
-IsItem-choice : (t : ItemType) (b : Bool) (y z : ℤ) → IsItem t y → IsItem t z → IsItem t (if b then y else z)
-IsItem-choice t true y z h g = h
-IsItem-choice t false y z h g = g
 
 IsItem-round_item : (t : ItemType) (ls : List ℕ) (p : ℕ) (xs : List (List ℤ)) (g r : ℕ) → All (AreItems t) xs → IsItem t (round_item ls p xs g r)
 IsItem-round_item t [] p xs g r h = IsItem-zero t

@@ -1,8 +1,8 @@
 -- The list definitions of the kernels: what is computed from whole lists, item for item, for every length.
-use Rattle.std.specs.Prelude.{ℕ, zero, suc, ◌+◌, ◌-◌, ◌*◌, ◌/◌, ◌%◌, ◌^◌, ℤ, pos, ◌+ℤ◌, ◌-ℤ◌, ◌*ℤ◌, List, length, map, bit_and, bit_or, bit_xor}
+use Rattle.std.specs.Prelude.{ℕ, zero, suc, ◌+◌, ◌-◌, ◌*◌, ◌/◌, ◌%◌, ◌^◌, ℤ, pos, ◌+ℤ◌, ◌-ℤ◌, ◌*ℤ◌, List, length, unsigned_abs, int_lt, if◌then◌else◌, bit_and, bit_or, bit_xor}
 use Rattle.stream_model.specs.declared.vocabulary.ItemType.{ItemType}
-use Rattle.stream_model.specs.Numbers.{numbers_in, residue, floor_div, wrap, sat, rnd, total}
-use Rattle.stream_model.specs.Lists.{below, listed, sum_below, item}
+use Rattle.stream_model.specs.Numbers.{numbers_in, residue, floor_div, wrap, sat, rnd}
+use Rattle.stream_model.specs.Lists.{listed, sum_below, item}
 
 -- item n of the output is a[n] + b[n], wrapped (own)
 abbrev pub add_wrap : ItemType → List ℤ → List ℤ → List ℤ
@@ -15,6 +15,45 @@ add_const_wrap t a c = listed (length a) (λ n. wrap t (item a n +ℤ c))
 -- item n of the output is a[n] * c, wrapped (own)
 abbrev pub mul_wrap : ItemType → List ℤ → ℤ → List ℤ
 mul_wrap t a c = listed (length a) (λ n. wrap t (item a n *ℤ c))
+
+-- item n of the output is a[n] * b[n], wrapped (own)
+abbrev pub multiply_wrap : ItemType → List ℤ → List ℤ → List ℤ
+multiply_wrap t a b = listed (length a) (λ n. wrap t (item a n *ℤ item b n))
+
+-- item n of the output is a[n] - b[n], wrapped (own)
+abbrev pub sub_wrap : ItemType → List ℤ → List ℤ → List ℤ
+sub_wrap t a b = listed (length a) (λ n. wrap t (item a n -ℤ item b n))
+
+-- the lesser of two numbers, and the greater
+abbrev pub lesser : ℤ → ℤ → ℤ
+lesser y z = if int_lt z y then z else y
+
+abbrev pub greater : ℤ → ℤ → ℤ
+greater y z = if int_lt y z then z else y
+
+-- item n of the output is the lesser of a[n] and b[n]
+abbrev pub minimum : List ℤ → List ℤ → List ℤ
+minimum a b = listed (length a) (λ n. lesser (item a n) (item b n))
+
+-- item n of the output is the greater of a[n] and b[n]
+abbrev pub maximum : List ℤ → List ℤ → List ℤ
+maximum a b = listed (length a) (λ n. greater (item a n) (item b n))
+
+-- z without its sign, wrapped
+abbrev pub absolute : ItemType → ℤ → ℤ
+absolute t z = wrap t (pos (unsigned_abs z))
+
+-- item n of the output is a[n] without its sign, wrapped (own)
+abbrev pub abs_wrap : ItemType → List ℤ → List ℤ
+abs_wrap t a = listed (length a) (λ n. absolute t (item a n))
+
+-- z, or the nearer of two ends
+abbrev pub clipped : ℤ → ℤ → ℤ → ℤ
+clipped low high z = if int_lt z low then low else if int_lt high z then high else z
+
+-- item n of the output is a[n], or the nearer of two ends
+abbrev pub clip : List ℤ → ℤ → ℤ → List ℤ
+clip a low high = listed (length a) (λ n. clipped low high (item a n))
 
 -- z * factor / 2 ^ shift, rounded (ties round up) and saturated (textbook fixed-point arithmetic)
 abbrev pub scaled : ItemType → ℤ → ℕ → ℤ → ℤ
@@ -43,6 +82,14 @@ or_bits t a b = joined_bits bit_or t a b
 -- bitwise exclusive or
 abbrev pub xor_bits : ItemType → List ℤ → List ℤ → List ℤ
 xor_bits t a b = joined_bits bit_xor t a b
+
+-- the number whose bits are those of y and z, joined bit for bit by op (two's complement)
+abbrev pub bits_joined : (ℕ → ℕ → ℕ) → ItemType → ℤ → ℤ → ℤ
+bits_joined op t y z = wrap t (pos (op (bits_in t y) (bits_in t z)))
+
+-- item n of the output has the bits of a[n] and c, joined bit for bit by op
+abbrev pub joined_bits_const : (ℕ → ℕ → ℕ) → ItemType → List ℤ → ℤ → List ℤ
+joined_bits_const op t a c = listed (length a) (λ n. bits_joined op t (item a n) c)
 
 -- the number whose bits are those of z, all turned (two's complement)
 abbrev pub turned : ItemType → ℤ → ℤ

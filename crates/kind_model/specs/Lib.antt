@@ -3,4 +3,5 @@ pub mod Ends
 pub mod Math
 pub mod Filters
 pub mod Bits
+pub mod BitStreams
 pub mod Rates

@@ -1,8 +1,9 @@
 -- The kinds that change a rate, take turns between streams, or move a stream.
-use Rattle.std.specs.Prelude.{◌≤◌, All, ℕ, suc, ◌+◌, ◌-◌, ◌*◌, ◌/◌, ◌%◌, ℤ, pos, List, [], ◌∷◌, length, take, sum, Some, None, slice_index_or, nat_lt, if◌then◌else◌}
+use Rattle.std.specs.Prelude.{◌≤◌, ◌<◌, ◌≢◌, All, ℕ, suc, ◌+◌, ◌-◌, ◌*◌, ◌/◌, ◌%◌, ℤ, pos, List, [], ◌∷◌, length, take, sum, Some, None, slice_index_or, nat_lt, if◌then◌else◌}
+use Rattle.std.specs.List.{AllPairs}
 use Rattle.stream_model.specs.declared.vocabulary.ItemType.{ItemType}
 use Rattle.stream_model.specs.declared.vocabulary.Shift.TheVariants as shifts
-use Rattle.stream_model.specs.Numbers.{wrap}
+use Rattle.stream_model.specs.Numbers.{AreItems, wrap}
 use Rattle.stream_model.specs.Lists.{item, item_before, sum_below}
 use Rattle.stream_model.specs.Meaning.{Meaning, input}
 use Rattle.stream_model.specs.Shapes.{ports, at_rate, sync}
@@ -10,6 +11,16 @@ use Rattle.stream_model.specs.Shapes.{ports, at_rate, sync}
 -- the last of each n items (GNU Radio manual)
 abbrev pub keep_one_in_n : ItemType → ℕ → Meaning
 keep_one_in_n t n = record (at_rate (ports 1 t) (ports 1 t) n 1) { out = λ ts xs p k. item (input xs 0) (k * n + n - 1) }
+
+-- of each n items the m from item `offset` on (GNU Radio manual)
+abbrev pub keep_m_in_n : ItemType → ℕ → ℕ → ℕ → Meaning
+keep_m_in_n t m n offset = record (at_rate (ports 1 t) (ports 1 t) n m) { out = λ ts xs p k. item (input xs 0) (k / m * n + offset + k % m) }
+
+-- which items may be kept (GNU Radio manual; the limit of n and that the items end before the next n are own)
+pub record IsKept (m n offset : ℕ) : Type 0 where
+  pub some : 1 ≤ m
+  pub within : offset + m ≤ n
+  pub few : n ≤ 1024
 
 -- the sum of each n items, wrapped (GNU Radio manual)
 abbrev pub integrate : ItemType → ℕ → Meaning
@@ -26,6 +37,43 @@ interleave t n = record (at_rate (ports n t) (ports 1 t) 1 n) { out = λ ts xs p
 -- an item for each output in turn: item m of output p is item m * n + p (GNU Radio manual); there is no output n
 abbrev pub deinterleave : ItemType → ℕ → Meaning
 deinterleave t n = record (at_rate (ports 1 t) (ports n t) n 1) { out = λ ts xs p m. if nat_lt p n then item (input xs 0) (m * n + p) else pos 0 }
+
+-- item r of a period that has `values` from its item `offset` on, and else the stream's items, in turn from item a on
+abbrev pub inserted : List ℤ → ℕ → List ℤ → ℕ → ℕ → ℤ
+inserted values offset xs a r =
+    if nat_lt r offset then item xs (a + r) else if nat_lt r (offset + length values) then item values (r - offset) else item xs (a + (r - length values))
+
+-- `values` once in each `period` output items, from item `offset` of these on, and the input in all other places (GNU Radio manual; what `offset` counts is own)
+abbrev pub insert : ItemType → List ℤ → ℕ → ℕ → Meaning
+insert t values period offset =
+    let rest = period - length values in
+    record (at_rate (ports 1 t) (ports 1 t) rest period) { out = λ ts xs p k. inserted values offset (input xs 0) (k / period * rest) (k % period) }
+
+-- what may be put into a stream: 1 to 256 items of its type, which leave room for others and lie whole in a period (GNU Radio manual; the limits are own)
+pub record IsInsert (t : ItemType) (values : List ℤ) (period offset : ℕ) : Type 0 where
+  pub some : 1 ≤ length values
+  pub few : length values ≤ 256
+  pub items : AreItems t values
+  pub above : length values < period
+  pub most : period ≤ 1024
+  pub whole : offset ≤ period - length values
+
+-- the number at place j of an order, 0 where there is none
+abbrev pub from_place : List ℕ → ℕ → ℕ
+from_place order j = slice_index_or order j 0
+
+-- of each n items, where the order has n places, item order[j] goes to place j (own)
+abbrev pub permute : ItemType → List ℕ → Meaning
+permute t order =
+    let n = length order in
+    record (at_rate (ports 1 t) (ports 1 t) n n) { out = λ ts xs p k. item (input xs 0) (k / n * n + from_place order (k % n)) }
+
+-- an order of 1 to 256 places: each of its numbers is below its length, and no two are equal
+pub record IsOrder (order : List ℕ) : Type 0 where
+  pub some : 1 ≤ length order
+  pub few : length order ≤ 256
+  pub within : All (λ a. a < length order) order
+  pub once : AllPairs (λ a b. a ≢ b) order
 
 -- the first n items (GNU Radio manual)
 abbrev pub head : ItemType → ℕ → Meaning

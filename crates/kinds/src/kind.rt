@@ -1,16 +1,19 @@
 //! Blocks of any kind.
 use crate::{NullSink, VectorSink, VectorSource};
 use bit_blocks::{
-    AdditiveScrambler, Descrambler, DiffDecoder, DiffEncoder, PackKBits, Scrambler, UnpackKBits,
+    AdditiveScrambler, CorrelateAccessCode, Descrambler, DiffDecoder, DiffEncoder, PackKBits,
+    PackedToUnpacked, RepackBits, Scrambler, UnpackKBits, UnpackedToPacked,
 };
 use block_kinds::{Block, ByPace, Held, Shape};
 use fir_blocks::{Fir, InterpFir};
 use items::Items;
 use math_blocks::{
-    Add, AddConst, And, Convert, MapBb, MovingSum, MultiplyConst, Not, Or, Scale, Xor,
+    Abs, Add, AddConst, And, AndConst, Clip, Convert, MapBb, Maximum, Minimum, MovingSum, Multiply,
+    MultiplyConst, Mute, Not, Or, OrConst, Scale, Sub, Table, Xor, XorConst,
 };
 use rate_blocks::{
-    Deinterleave, Delay, Head, Integrate, Interleave, KeepOneInN, Repeat, SkipHead, StreamMux,
+    Deinterleave, Delay, Head, Insert, Integrate, Interleave, KeepMInN, KeepOneInN, Permute,
+    Repeat, SkipHead, StreamMux,
 };
 
 /// A block of any kind. It means what the block inside means.
@@ -26,22 +29,44 @@ pub enum Kind {
     AddConst(AddConst),
     /// Multiplies each item by a number.
     MultiplyConst(MultiplyConst),
+    /// Gives the bitwise and of each item and a number.
+    AndConst(AndConst),
+    /// Gives the bitwise or of each item and a number.
+    OrConst(OrConst),
+    /// Gives the bitwise exclusive or of each item and a number.
+    XorConst(XorConst),
     /// Multiplies each item by a number and divides it by a power of two.
     Scale(Scale),
+    /// Gives the nearest number of a range.
+    Clip(Clip),
+    /// Gives each item without its sign.
+    Abs(Abs),
+    /// Inverts all bits of each item.
+    Not(Not),
+    /// Gives zeros while it is on.
+    Mute(Mute),
     /// Adds the items of its inputs.
     Add(Add),
+    /// Subtracts the items of its other inputs from those of the first.
+    Sub(Sub),
+    /// Multiplies the items of its inputs.
+    Multiply(Multiply),
+    /// Gives the least of the items of its inputs.
+    Minimum(Minimum),
+    /// Gives the greatest of the items of its inputs.
+    Maximum(Maximum),
     /// Gives the bitwise and of its inputs.
     And(And),
     /// Gives the bitwise or of its inputs.
     Or(Or),
     /// Gives the bitwise exclusive or of its inputs.
     Xor(Xor),
-    /// Inverts all bits of each item.
-    Not(Not),
-    /// Converts items to another type.
-    Convert(Convert),
     /// Looks bytes up in a table.
     MapBb(MapBb),
+    /// Gives a number for each byte.
+    Table(Table),
+    /// Converts items to another type.
+    Convert(Convert),
     /// Gives the sum of the last `length` items.
     MovingSum(MovingSum),
     /// Filters items by taps, and keeps one in so many.
@@ -50,10 +75,16 @@ pub enum Kind {
     InterpFir(InterpFir),
     /// Keeps the last of each `n` items.
     KeepOneInN(KeepOneInN),
+    /// Keeps `m` of each `n` items.
+    KeepMInN(KeepMInN),
     /// Gives the sum of each `n` items.
     Integrate(Integrate),
     /// Gives each item `n` times.
     Repeat(Repeat),
+    /// Puts a list into its input, again and again.
+    Insert(Insert),
+    /// Puts the items of each frame into another order.
+    Permute(Permute),
     /// Takes an item of each input in turn.
     Interleave(Interleave),
     /// Gives an item to each output in turn.
@@ -70,16 +101,24 @@ pub enum Kind {
     PackKBits(PackKBits),
     /// Unpacks bits from bytes.
     UnpackKBits(UnpackKBits),
-    /// Gives the differences of bytes.
-    DiffDecoder(DiffDecoder),
+    /// Goes from `k` bits in a byte to `l`.
+    RepackBits(RepackBits),
+    /// Cuts items into items of fewer bits.
+    PackedToUnpacked(PackedToUnpacked),
+    /// Puts the lowest bits of items together.
+    UnpackedToPacked(UnpackedToPacked),
     /// Gives the sums of bytes.
     DiffEncoder(DiffEncoder),
+    /// Gives the differences of bytes.
+    DiffDecoder(DiffDecoder),
     /// Scrambles bits.
     Scrambler(Scrambler),
     /// Undoes a scrambler.
     Descrambler(Descrambler),
     /// Adds the bits of a shift register with feedback.
     AdditiveScrambler(AdditiveScrambler),
+    /// Marks what follows an access code.
+    CorrelateAccessCode(CorrelateAccessCode),
 }
 
 // A match on a block, where each arm does the same with the block inside.
@@ -91,20 +130,34 @@ macro_rules! on_block {
             Kind::NullSink($block) => $body,
             Kind::AddConst($block) => $body,
             Kind::MultiplyConst($block) => $body,
+            Kind::AndConst($block) => $body,
+            Kind::OrConst($block) => $body,
+            Kind::XorConst($block) => $body,
             Kind::Scale($block) => $body,
+            Kind::Clip($block) => $body,
+            Kind::Abs($block) => $body,
+            Kind::Not($block) => $body,
+            Kind::Mute($block) => $body,
             Kind::Add($block) => $body,
+            Kind::Sub($block) => $body,
+            Kind::Multiply($block) => $body,
+            Kind::Minimum($block) => $body,
+            Kind::Maximum($block) => $body,
             Kind::And($block) => $body,
             Kind::Or($block) => $body,
             Kind::Xor($block) => $body,
-            Kind::Not($block) => $body,
-            Kind::Convert($block) => $body,
             Kind::MapBb($block) => $body,
+            Kind::Table($block) => $body,
+            Kind::Convert($block) => $body,
             Kind::MovingSum($block) => $body,
             Kind::Fir($block) => $body,
             Kind::InterpFir($block) => $body,
             Kind::KeepOneInN($block) => $body,
+            Kind::KeepMInN($block) => $body,
             Kind::Integrate($block) => $body,
             Kind::Repeat($block) => $body,
+            Kind::Insert($block) => $body,
+            Kind::Permute($block) => $body,
             Kind::Interleave($block) => $body,
             Kind::Deinterleave($block) => $body,
             Kind::StreamMux($block) => $body,
@@ -113,11 +166,15 @@ macro_rules! on_block {
             Kind::Delay($block) => $body,
             Kind::PackKBits($block) => $body,
             Kind::UnpackKBits($block) => $body,
-            Kind::DiffDecoder($block) => $body,
+            Kind::RepackBits($block) => $body,
+            Kind::PackedToUnpacked($block) => $body,
+            Kind::UnpackedToPacked($block) => $body,
             Kind::DiffEncoder($block) => $body,
+            Kind::DiffDecoder($block) => $body,
             Kind::Scrambler($block) => $body,
             Kind::Descrambler($block) => $body,
             Kind::AdditiveScrambler($block) => $body,
+            Kind::CorrelateAccessCode($block) => $body,
         }
     };
 }

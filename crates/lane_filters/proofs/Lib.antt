@@ -9,3 +9,4 @@ pub mod Products
 pub mod Rounded
 pub mod Signed
 pub mod Taps
+pub mod Streams

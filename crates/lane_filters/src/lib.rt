@@ -7,6 +7,7 @@ pub mod dots;
 pub mod filter_lane;
 pub mod fir;
 mod pairs;
+pub mod repacked;
 mod sums;
 
 pub use bits::{pack_bits, unpack_bits};
@@ -14,3 +15,4 @@ pub use differences::diff_decode;
 pub use dots::{dot_i16, dot_i32};
 pub use filter_lane::{FilterLane, ProductLane};
 pub use fir::fir_row;
+pub use repacked::{append_repacked, repack_items};

@@ -1,6 +1,7 @@
 pub mod Appended
 pub mod ByteLanes
 pub mod Converted
+pub mod Fixed
 pub mod Lanes
 pub mod Listed
 pub mod Parts

@@ -1,5 +1,5 @@
 //! Sums and products of items.
-ghost use Rattle.std.specs.Prelude.{◌≡◌, ◌≤◌, ◌+◌, ◌++◌, length, map, ◌+ℤ◌, ◌*ℤ◌, vec_len, vec_capacity};
+ghost use Rattle.std.specs.Prelude.{◌≡◌, ◌≤◌, ◌+◌, ◌++◌, length, map, ◌+ℤ◌, ◌-ℤ◌, ◌*ℤ◌, vec_len, vec_capacity};
 ghost use Rattle.kind_model.specs.Kernels;
 ghost use Rattle.stream_model.specs.Numbers.{wrap};
 
@@ -7,6 +7,7 @@ use crate::SimdLane;
 use crate::appending::{append_map, append_zip};
 use crate::blocks::{MapBlock, ZipBlock, map_blocks, zip_blocks};
 use crate::joining::zip_into;
+use crate::plain::{EachTwo, OfTwo};
 
 struct Sum;
 
@@ -58,6 +59,27 @@ impl<T: SimdLane> MapBlock<T, T> for Multiple<T> {
     ghost has_lane = { T.has_lane };
 
     ghost has_few_lanes = { T.has_few_lanes };
+}
+
+struct Product;
+
+impl<T: SimdLane> ZipBlock<T> for Product {
+    ghost means = { λ x y. wrap T.kind (x *ℤ y) };
+
+    fn block(a: &[T], b: &[T], out: &mut [T]) {
+        T::mul_items_block(a, b, out);
+    }
+}
+
+struct Difference;
+
+impl<T: SimdLane> OfTwo<T> for Difference {
+    ghost means = { λ x y. wrap T.kind (x -ℤ y) };
+
+    #[inline(always)]
+    fn of(x: T, y: T) -> T {
+        T::wrap(x.widen() - y.widen())
+    }
 }
 
 #[derive(Drop)]
@@ -180,4 +202,48 @@ pub fn append_scale_sat<T: SimdLane>(a: &[T], factor: i16, shift: u32, out: &mut
     ensures capacity { vec_capacity out.old ≤ vec_capacity out.new }
 {
     append_map(&Scaling { factor, shift }, a, out);
+}
+
+/// Multiplies each item of `out` by the item of `items` at its place, wrapping where a product leaves the type's range.
+#[tactic(auto, using(crate::proofs::Listed::zipped_is_listed))]
+#[inline(always)]
+pub fn multiply_wrap_into<T: SimdLane>(items: &[T], out: &mut [T])
+    requires { length items.now ≡ length out.old }
+    ensures { map T.number out.new ≡ Kernels.multiply_wrap T.kind (map T.number out.old) (map T.number items.now) }
+{
+    zip_into::<T, Product>(items, out);
+}
+
+/// Appends the products of the items of `a` and `b`, wrapped, where the capacity has room.
+#[inline(always)]
+pub fn append_multiply_wrap<T: SimdLane>(a: &[T], b: &[T], out: &mut Vec<T>)
+    requires same_length { length a.now ≡ length b.now }
+    requires room { vec_len out.old + length a.now ≤ vec_capacity out.old }
+    ensures items { map T.number out.new.items ≡ map T.number out.old.items ++ Kernels.multiply_wrap T.kind (map T.number a.now) (map T.number b.now) }
+    ensures len { vec_len out.new ≡ vec_len out.old + length a.now }
+    ensures capacity { vec_capacity out.old ≤ vec_capacity out.new }
+{
+    append_zip::<T, Product>(a, b, out);
+}
+
+/// Takes from each item of `out` the item of `items` at its place, wrapping where a difference leaves the type's range.
+#[tactic(auto, using(crate::proofs::Listed::zipped_is_listed))]
+#[inline(always)]
+pub fn sub_wrap_into<T: SimdLane>(items: &[T], out: &mut [T])
+    requires { length items.now ≡ length out.old }
+    ensures { map T.number out.new ≡ Kernels.sub_wrap T.kind (map T.number out.old) (map T.number items.now) }
+{
+    zip_into::<T, EachTwo<Difference>>(items, out);
+}
+
+/// Appends the items of `a` less those of `b`, wrapped, where the capacity has room.
+#[inline(always)]
+pub fn append_sub_wrap<T: SimdLane>(a: &[T], b: &[T], out: &mut Vec<T>)
+    requires same_length { length a.now ≡ length b.now }
+    requires room { vec_len out.old + length a.now ≤ vec_capacity out.old }
+    ensures items { map T.number out.new.items ≡ map T.number out.old.items ++ Kernels.sub_wrap T.kind (map T.number a.now) (map T.number b.now) }
+    ensures len { vec_len out.new ≡ vec_len out.old + length a.now }
+    ensures capacity { vec_capacity out.old ≤ vec_capacity out.new }
+{
+    append_zip::<T, EachTwo<Difference>>(a, b, out);
 }

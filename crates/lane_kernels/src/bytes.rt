@@ -29,6 +29,10 @@ impl SimdLane for u8 {
         (Block::from_slice(a) * Block::splat(c)).copy_to_slice(out);
     }
 
+    fn mul_items_block(a: &[u8], b: &[u8], out: &mut [u8]) {
+        (Block::from_slice(a) * Block::from_slice(b)).copy_to_slice(out);
+    }
+
     fn and_block(a: &[u8], b: &[u8], out: &mut [u8]) {
         (Block::from_slice(a) & Block::from_slice(b)).copy_to_slice(out);
     }

@@ -29,6 +29,10 @@ impl SimdLane for i32 {
         (Block::from_slice(a) * Block::splat(c)).copy_to_slice(out);
     }
 
+    fn mul_items_block(a: &[i32], b: &[i32], out: &mut [i32]) {
+        (Block::from_slice(a) * Block::from_slice(b)).copy_to_slice(out);
+    }
+
     fn and_block(a: &[i32], b: &[i32], out: &mut [i32]) {
         (Block::from_slice(a) & Block::from_slice(b)).copy_to_slice(out);
     }

@@ -5,11 +5,13 @@ mod appending;
 pub mod arithmetic;
 mod blocks;
 mod bytes;
+pub mod comparing;
 pub mod conversion;
 mod ints;
 mod joining;
 pub mod logic;
 mod picking;
+mod plain;
 mod scaling;
 mod shorts;
 pub mod simd_lane;
@@ -18,11 +20,16 @@ mod turns;
 
 pub use arithmetic::{
     add_const_wrap, add_wrap, add_wrap_into, append_add_const_wrap, append_add_wrap,
-    append_mul_wrap, append_scale_sat, mul_wrap, scale_sat,
+    append_mul_wrap, append_multiply_wrap, append_scale_sat, append_sub_wrap, mul_wrap,
+    multiply_wrap_into, scale_sat, sub_wrap_into,
+};
+pub use comparing::{
+    append_abs_wrap, append_clip, append_maximum, append_minimum, maximum_into, minimum_into,
 };
 pub use conversion::{NarrowsTo, WidensTo, narrow, widen};
 pub use logic::{
-    and, and_into, append_and, append_not, append_or, append_xor, not, or, or_into, xor, xor_into,
+    and, and_into, append_and, append_and_const, append_not, append_or, append_or_const,
+    append_xor, append_xor_const, not, or, or_into, xor, xor_into,
 };
 pub use simd_lane::{MOST_LANES, SimdLane};
 pub use streams::{deinterleave, interleave};

@@ -1,13 +1,15 @@
 //! Logic on the bits of items.
 ghost use Rattle.std.specs.Prelude.{◌≡◌, ◌≤◌, ◌+◌, ◌++◌, length, map, bit_and, bit_or, bit_xor, vec_len, vec_capacity};
-ghost use Rattle.kind_model.specs.Kernels.{and_bits, or_bits, xor_bits, not_bits, turned};
+ghost use Rattle.kind_model.specs.Kernels.{and_bits, or_bits, xor_bits, joined_bits_const, not_bits, turned};
 ghost use Rattle.lane_kernels.specs.Blocks.{joined};
 
 use crate::SimdLane;
 use crate::appending::{append_map, append_zip};
 use crate::blocks::{MapBlock, ZipBlock, map_blocks, zip_blocks};
 use crate::joining::zip_into;
+use crate::plain::with;
 
+#[derive(Drop)]
 struct Both;
 
 impl<T: SimdLane> ZipBlock<T> for Both {
@@ -18,6 +20,7 @@ impl<T: SimdLane> ZipBlock<T> for Both {
     }
 }
 
+#[derive(Drop)]
 struct Either;
 
 impl<T: SimdLane> ZipBlock<T> for Either {
@@ -28,6 +31,7 @@ impl<T: SimdLane> ZipBlock<T> for Either {
     }
 }
 
+#[derive(Drop)]
 struct OneAlone;
 
 impl<T: SimdLane> ZipBlock<T> for OneAlone {
@@ -164,6 +168,39 @@ pub fn append_xor<T: SimdLane>(a: &[T], b: &[T], out: &mut Vec<T>)
     ensures capacity { vec_capacity out.old ≤ vec_capacity out.new }
 {
     append_zip::<T, OneAlone>(a, b, out);
+}
+
+/// Appends the bits that each item and `c` both have, where the capacity has room.
+#[inline(always)]
+pub fn append_and_const<T: SimdLane>(a: &[T], c: T, out: &mut Vec<T>)
+    requires room { vec_len out.old + length a.now ≤ vec_capacity out.old }
+    ensures items { map T.number out.new.items ≡ map T.number out.old.items ++ joined_bits_const bit_and T.kind (map T.number a.now) (T.number c) }
+    ensures len { vec_len out.new ≡ vec_len out.old + length a.now }
+    ensures capacity { vec_capacity out.old ≤ vec_capacity out.new }
+{
+    append_map(&with::<T, Both>(c), a, out);
+}
+
+/// Appends the bits that each item or `c` has, where the capacity has room.
+#[inline(always)]
+pub fn append_or_const<T: SimdLane>(a: &[T], c: T, out: &mut Vec<T>)
+    requires room { vec_len out.old + length a.now ≤ vec_capacity out.old }
+    ensures items { map T.number out.new.items ≡ map T.number out.old.items ++ joined_bits_const bit_or T.kind (map T.number a.now) (T.number c) }
+    ensures len { vec_len out.new ≡ vec_len out.old + length a.now }
+    ensures capacity { vec_capacity out.old ≤ vec_capacity out.new }
+{
+    append_map(&with::<T, Either>(c), a, out);
+}
+
+/// Appends the bits that each item or `c` has alone, where the capacity has room.
+#[inline(always)]
+pub fn append_xor_const<T: SimdLane>(a: &[T], c: T, out: &mut Vec<T>)
+    requires room { vec_len out.old + length a.now ≤ vec_capacity out.old }
+    ensures items { map T.number out.new.items ≡ map T.number out.old.items ++ joined_bits_const bit_xor T.kind (map T.number a.now) (T.number c) }
+    ensures len { vec_len out.new ≡ vec_len out.old + length a.now }
+    ensures capacity { vec_capacity out.old ≤ vec_capacity out.new }
+{
+    append_map(&with::<T, OneAlone>(c), a, out);
 }
 
 /// Appends the bits that each item lacks, where the capacity has room.

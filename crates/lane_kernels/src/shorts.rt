@@ -29,6 +29,10 @@ impl SimdLane for i16 {
         (Block::from_slice(a) * Block::splat(c)).copy_to_slice(out);
     }
 
+    fn mul_items_block(a: &[i16], b: &[i16], out: &mut [i16]) {
+        (Block::from_slice(a) * Block::from_slice(b)).copy_to_slice(out);
+    }
+
     fn and_block(a: &[i16], b: &[i16], out: &mut [i16]) {
         (Block::from_slice(a) & Block::from_slice(b)).copy_to_slice(out);
     }

@@ -47,6 +47,14 @@ pub trait SimdLane: Number {
         ensures { map Self.number out.new ≡
             map (λ x. wrap Self.kind (x *ℤ Self.number c)) (map Self.number a.now) };
 
+    /// The products, wrapped.
+    fn mul_items_block(a: &[Self], b: &[Self], out: &mut [Self])
+        requires a_block { IsBlock Self.LANES Self.kind Self.number a.now }
+        requires b_block { IsBlock Self.LANES Self.kind Self.number b.now }
+        requires out_block { length out.old ≡ Self.LANES }
+        ensures { map Self.number out.new ≡
+            zip2 (λ x y. wrap Self.kind (x *ℤ y)) (map Self.number a.now) (map Self.number b.now) };
+
     /// The bits that both have.
     fn and_block(a: &[Self], b: &[Self], out: &mut [Self])
         requires a_block { IsBlock Self.LANES Self.kind Self.number a.now }

@@ -1,16 +1,18 @@
 //! The kinds of blocks, and the values of their settings. A graph holds each block as a [`Kind`].
 
 pub use bit_blocks::{
-    AdditiveScrambler, Descrambler, DiffDecoder, DiffEncoder, PackKBits, Register, Scrambler,
-    UnpackKBits,
+    AdditiveScrambler, CorrelateAccessCode, Descrambler, DiffDecoder, DiffEncoder, PackKBits,
+    PackedToUnpacked, Register, RepackBits, Scrambler, UnpackKBits, UnpackedToPacked,
 };
 pub use block_kinds::{Taps, Value};
 pub use fir_blocks::{Fir, InterpFir};
 pub use kinds::{Kind, KindName, NullSink, VectorSink, VectorSource};
 pub use math_blocks::{
-    Add, AddConst, And, Convert, MapBb, MovingSum, MultiplyConst, Not, Or, Scale, Xor,
+    Abs, Add, AddConst, And, AndConst, Clip, Convert, MapBb, Maximum, Minimum, MovingSum, Multiply,
+    MultiplyConst, Mute, Not, Or, OrConst, Scale, Sub, Table, Xor, XorConst,
 };
 pub use parameters::{ParamFault, Parameter};
 pub use rate_blocks::{
-    Deinterleave, Delay, Head, Integrate, Interleave, KeepOneInN, Repeat, SkipHead, StreamMux,
+    Deinterleave, Delay, Head, Insert, Integrate, Interleave, KeepMInN, KeepOneInN, Permute,
+    Repeat, SkipHead, StreamMux,
 };

@@ -1,4 +1,5 @@
 pub mod Joining
+pub mod Muted
 pub mod Numbered
 pub mod Settings
 pub mod Stretches

@@ -1,14 +1,12 @@
 -- Lemmas on the stretches between settings.
 use Rattle.std.proofs.Common.{◌≡◌, ℕ, suc, ◌+◌, ◌-◌, ◌<◌, ◌≤◌, ℤ, pos, List, [], ◌∷◌, length, map, take, drop, get_or, refl, arith, ap, sym, ◌∙◌, subst, drop-cons}
 use Rattle.std.proofs.lemmas.List.{get_or-map, drop-map, length-map, get_or-take, get_or-drop, length-take-le, length-drop, ext_get_or, drop_all, take-map}
-use Rattle.stream_model.specs.declared.vocabulary.ItemType.{ItemType}
-use Rattle.stream_model.specs.Numbers.{IsItem}
 use Rattle.stream_model.specs.Lists.{item, listed}
 use Rattle.stream_model.specs.Settings.{Held, latest}
 use Rattle.stream_model.specs.Shapes.{number_set}
 use Rattle.shape_laws.specs.Shaped.{item-listed, length-listed}
 use Rattle.block_kinds.specs.InForce.{AreOver}
-use Rattle.math_blocks.specs.Stretch.{SetItems, number_among, end_before}
+use Rattle.math_blocks.specs.Stretch.{IsBetween, SetBetween, number_among, end_before}
 use Rattle.block_kinds.proofs.InForce.{latest-taken, latest-later, latest-rising}
 
 -- the setting at place k of a list, with those behind it
@@ -98,11 +96,13 @@ stretch_written f held i h number items gives from at to end v value new within 
           among a (omega arith) below ∙ ap (λ hs. number_among hs a) cons ∙ among-next (f h) rest a at to (omega (arith, ends)) below over',
     )
 
--- what each of the settings sets is a number of the type, and so what one of them does
-pub set_item : {H : Type 0} (f : H → Held) (held : List H) (i : ℕ) (h : H) (t : ItemType) → i < length held → h ≡ get_or held i h → SetItems t (map f held) → IsItem t (number_set (f h).value)
-set_item f held i h t within is each =
+-- what each of the settings sets is a number from low to high, and so what one of them does
+pub set_item :
+    {H : Type 0} (f : H → Held) (held : List H) (i : ℕ) (h : H) (low high : ℤ) → i < length held → h ≡ get_or held i h → SetBetween low high (map f held) →
+    IsBetween low high (number_set (f h).value)
+set_item f held i h low high within is each =
     let same : get_or (map f held) i (f h) ≡ f h = get_or-map f held i h (f h) within ∙ ap f (sym is) in
-    subst (λ (g : Held). IsItem t (number_set g.value)) same (each i (f h) (omega (arith, within, length-map held f)))
+    subst (λ (g : Held). IsBetween low high (number_set g.value)) same (each i (f h) (omega (arith, within, length-map held f)))
 
 -- behind the last setting no item is left
 pub over_none : {H : Type 0} (f : H → Held) (held : List H) (i at to : ℕ) → i ≡ length held → AreOver at to (drop i (map f held)) → at ≡ to

@@ -14,14 +14,15 @@ use Rattle.kind_model.specs.Kernels.{bits_in}
 use Rattle.kind_model.specs.Math.{all_bits}
 use Rattle.shape_laws.specs.Shaped.{residue-less}
 use Rattle.shape_laws.specs.Windows.{total-push}
-use Rattle.math_blocks.specs.Joined.{AreJoined, sum_of, sum_of_two, bits_of_all, bits_of_two, all_set, none_set}
+use Rattle.math_blocks.specs.Joined.{AreJoined, itself, fold_joined, sum_of, sum_of_two, bits_of_all, bits_of_two, all_set, none_set}
 use Rattle.math_blocks.specs.Wrapping.{wrap-add_right, wrap_own}
 
 swap : (y z : ℤ) → y +ℤ z ≡ z +ℤ y
 swap y z = omega (arith, ints)
 
-pub sums_joined : AreJoined sum_of sum_of_two
+pub sums_joined : AreJoined sum_of itself sum_of_two
 sums_joined =
+    fold_joined sum_of sum_of_two
     record {
       alone = λ t z are. ap (wrap t) (with_none z) ∙ wrap_own t z are;
       one_more = λ t zs z. ap (wrap t) (total-push zs z ∙ swap (total zs) z) ∙ sym (wrap-add_right t z (total zs)) ∙ ap (wrap t) (swap z (wrap t (total zs)));
@@ -68,8 +69,9 @@ module _ (op : ℕ → ℕ → ℕ) (none : ItemType → ℕ) (is : IsBitwise op
   all_bits-push t [] z = is.comm (bits_in t z) (none t)
   all_bits-push t (y ∷ zs) z = ap (op (bits_in t y)) (all_bits-push t zs z) ∙ sym (is.assoc (bits_in t y) (all_bits op (none t) t zs) (bits_in t z))
 
-  bits_joined : AreJoined (bits_of_all op none) (bits_of_two op)
+  bits_joined : AreJoined (bits_of_all op none) itself (bits_of_two op)
   bits_joined =
+      fold_joined (bits_of_all op none) (bits_of_two op)
       record {
         alone = λ t z are. ap (λ b. wrap t (pos b)) (is.comm (bits_in t z) (none t) ∙ is.unit t (bits_in t z) (bits-less t z)) ∙ wrap-bits t z ∙ wrap_own t z are;
         one_more = λ t zs z.
@@ -84,7 +86,7 @@ or_assoc a b c = same_from_bits _ _ (λ i.
     bit_at_or (bit_or a b) c i ∙ ap (λ x. max x (bit_at c i)) (bit_at_or a b i) ∙ max_assoc (bit_at a i) (bit_at b i) (bit_at c i)
     ∙ sym (bit_at_or a (bit_or b c) i ∙ ap (max (bit_at a i)) (bit_at_or b c i)))
 
-pub ands_joined : AreJoined (bits_of_all bit_and all_set) (bits_of_two bit_and)
+pub ands_joined : AreJoined (bits_of_all bit_and all_set) itself (bits_of_two bit_and)
 ands_joined =
     bits_joined bit_and all_set
     record {
@@ -98,8 +100,8 @@ ands_joined =
     ones_less : (k : ℕ) → 2 ^ k - 1 < 2 ^ k
     ones_less k = omega (arith, pow_pos k)
 
-pub ors_joined : AreJoined (bits_of_all bit_or none_set) (bits_of_two bit_or)
+pub ors_joined : AreJoined (bits_of_all bit_or none_set) itself (bits_of_two bit_or)
 ors_joined = bits_joined bit_or none_set record { assoc = or_assoc; comm = or_comm; keeps = or_lt; none_less = λ t. pow_pos (bits_of t); unit = λ t b less. or_zero_l b }
 
-pub xors_joined : AreJoined (bits_of_all bit_xor none_set) (bits_of_two bit_xor)
+pub xors_joined : AreJoined (bits_of_all bit_xor none_set) itself (bits_of_two bit_xor)
 xors_joined = bits_joined bit_xor none_set record { assoc = xor_assoc; comm = xor_comm; keeps = xor_lt; none_less = λ t. pow_pos (bits_of t); unit = λ t b less. xor_zero_l b }

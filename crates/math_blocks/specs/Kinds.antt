@@ -1,5 +1,5 @@
 -- What the blocks of arithmetic mean.
-use Rattle.std.specs.Prelude.{◌≡◌, ◌≤◌, ℤ, pos, List, length, map, Bool, true, ◌&&◌}
+use Rattle.std.specs.Prelude.{◌≡◌, ◌≤◌, ℤ, pos, List, length, map, Bool, true, ◌&&◌, refl}
 use Rattle.std.specs.Ordering.{int_eq}
 use Rattle.std.specs.Cmp.{first_so, second_so, signed_Decides}
 use denote.Enum.Bare.{sameb}
@@ -11,15 +11,20 @@ use Rattle.stream_model.specs.declared.vocabulary.ItemType.{ItemType}
 use Rattle.stream_model.specs.declared.vocabulary.ItemType.TheVariants.{Byte}
 use Rattle.stream_model.specs.Numbers.{AreItems}
 use Rattle.stream_model.specs.Meaning.{Meaning, IsLawful}
-use Rattle.kind_model.specs.Math.{scale, not_of, convert, map_bb, moving_sum}
+use Rattle.kind_model.specs.Math.{scale, clip, mute, convert, map_bb, table, moving_sum}
+use Rattle.items.specs.Equality.{items_eq}
+use Rattle.items.proofs.Same.{items_eq_decides}
+use Rattle.items.specs.Items.{type_of, numbers_of}
 use Rattle.block_kinds.specs.SameItem.{same_item, same_number}
 use Rattle.math_blocks.specs.declared.constant.Constant.{Constant}
 use Rattle.math_blocks.specs.declared.convert.Convert.{Convert}
-use Rattle.kind_laws.specs.Math.{map_bb-lawful}
+use Rattle.kind_laws.specs.Math.{map_bb-lawful, table-lawful}
 use Rattle.math_blocks.specs.declared.map_bb.MapBb.{MapBb}
 use Rattle.math_blocks.specs.declared.moving_sum.MovingSum.{MovingSum}
-use Rattle.math_blocks.specs.declared.not.Not.{Not}
+use Rattle.math_blocks.specs.declared.clip.Nearest.{Nearest}
+use Rattle.math_blocks.specs.declared.mute.Mute.{Mute}
 use Rattle.math_blocks.specs.declared.scale.Scale.{Scale}
+use Rattle.math_blocks.specs.declared.table.Table.{Table}
 
 abbrev pub scale_of : Scale → Meaning
 scale_of b = scale b.item b.factor b.shift
@@ -27,8 +32,11 @@ scale_of b = scale b.item b.factor b.shift
 abbrev pub moving_sum_of : MovingSum → Meaning
 moving_sum_of b = moving_sum b.item b.length
 
-abbrev pub not_block_of : Not → Meaning
-not_block_of b = not_of b.item
+abbrev pub clip_of : Nearest → Meaning
+clip_of m = clip m.item m.low m.high
+
+abbrev pub mute_of : Mute → Meaning
+mute_of b = mute b.item b.on
 
 abbrev pub convert_of : Convert → Meaning
 convert_of b = convert b.item b.to
@@ -43,6 +51,19 @@ pub constant-same :
     {A : Type 0} (equation : ItemType → ℤ → Meaning) (a b : Constant A) → (sameb the_type a.item b.item && (int_eq a.value b.value && true)) ≡ true →
     equation a.item a.value ≡ equation b.item b.value
 constant-same equation a b e = let same = same_numbers a.item b.item a.value b.value true e in ap₂ equation same.0 same.1
+
+pub clip-same : (m n : Nearest) → (sameb the_type m.item n.item && (int_eq m.low n.low && int_eq m.high n.high)) ≡ true → clip_of m ≡ clip_of n
+clip-same m n e =
+    let same = same_numbers m.item n.item m.low n.low (int_eq m.high n.high) e in
+    let item_same = same.0 in
+    let low_same = same.1 in
+    let high_same = (signed_Decides m.high n.high).0 same.2 in
+    λ i. clip (item_same i) (low_same i) (high_same i)
+
+pub mute-same : (a b : Mute) → (sameb the_type a.item b.item && int_eq a.on b.on) ≡ true → mute_of a ≡ mute_of b
+mute-same a b e =
+    ap₂ mute (same_item a.item b.item (first_so (sameb the_type a.item b.item) (int_eq a.on b.on) e))
+    ((signed_Decides a.on b.on).0 (second_so (sameb the_type a.item b.item) (int_eq a.on b.on) e))
 
 pub scale-same : (a b : Scale) → (sameb the_type a.item b.item && (int_eq a.factor b.factor && nat_eq a.shift b.shift)) ≡ true → scale_of a ≡ scale_of b
 scale-same a b e =
@@ -69,3 +90,16 @@ map_bb_of-lawful b = map_bb-lawful (map pos b.table.items) b.bytes
 
 pub map_bb-same : (a b : MapBb) → pointwise nat_eq a.table.items b.table.items ≡ true → map_bb_of a ≡ map_bb_of b
 map_bb-same a b e = ap (λ t. map_bb (map pos t)) (same_text a.table.items b.table.items (sym e))
+
+-- 1 to 256 numbers of the type
+abbrev pub AreValues : ItemType → List ℤ → Type 0
+AreValues to values = (1 ≤ length values) × (length values ≤ 256) × AreItems to values
+
+abbrev pub table_of : Table → Meaning
+table_of b = table (type_of b.values) (numbers_of b.values)
+
+pub table_of-lawful : (b : Table) → IsLawful (table_of b)
+table_of-lawful b = table-lawful (type_of b.values) (numbers_of b.values) b.in_range
+
+pub table-same : (a b : Table) → items_eq a.values b.values ≡ true → table_of a ≡ table_of b
+table-same a b e = let same = (items_eq_decides a.values b.values (items_eq a.values b.values) refl).0 e in ap₂ table same.0 same.1

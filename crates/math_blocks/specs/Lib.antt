@@ -1,5 +1,9 @@
 pub mod Bitwise
+pub mod Differences
+pub mod Extremes
 pub mod Joined
 pub mod Kinds
+pub mod PerItem
+pub mod Products
 pub mod Stretch
 pub mod Wrapping

@@ -1,7 +1,7 @@
 //! Blocks that make each item of one item and a constant.
 ghost use Rattle.std.specs.Prelude.{◌≡◌, ◌≤◌, ◌+◌, ◌++◌, ◌↔◌, ℤ, length, map, vec_len, vec_capacity, IsOk, IfOk, IfErr};
 ghost use Rattle.stream_model.specs.declared.vocabulary.ItemType.{ItemType};
-ghost use Rattle.stream_model.specs.Numbers.{IsItem};
+ghost use Rattle.stream_model.specs.Numbers.{IsItem, least_of, greatest_of};
 ghost use Rattle.stream_model.specs.Lists.{item, listed};
 ghost use Rattle.stream_model.specs.Meaning.{Meaning, IsLawful};
 ghost use Rattle.math_blocks.specs.Stretch.{each_of};
@@ -32,7 +32,7 @@ pub trait Applies: Eq + Drop {
         ensures capacity { vec_capacity out.old ≤ vec_capacity out.new };
 
     /// The equation says what is made of each item.
-    ghost is_applied: { (t : ItemType) (v : ℤ) → each_of t t v (gives t) ≡ equation t v };
+    ghost is_applied: { (t : ItemType) (v : ℤ) → each_of t (least_of t) (greatest_of t) v (gives t) ≡ equation t v };
 
     /// The equation keeps the laws.
     ghost lawful: { (t : ItemType) (v : ℤ) → IsItem t v → IsLawful (equation t v) };
@@ -68,7 +68,9 @@ impl<A: Applies> Constant<A> {
 impl<A: Applies> EachItem for Constant<A> {
     ghost takes = { λ b. b.item };
 
-    ghost number_type = { λ b. b.item };
+    ghost low = { λ b. least_of b.item };
+
+    ghost high = { λ b. greatest_of b.item };
 
     ghost own = { λ b. b.value };
 
@@ -78,7 +80,7 @@ impl<A: Applies> EachItem for Constant<A> {
         A::append(items, T::narrow(number), out);
     }
 
-    ghost in_range = { λ b. b.in_range };
+    ghost in_range = { λ b. record { above = b.in_range.above; below = b.in_range.below } };
 }
 
 impl<A: Applies> Single for Constant<A> {
@@ -91,7 +93,7 @@ impl<A: Applies> Single for Constant<A> {
         0
     }
 
-    ghost single = { λ b. each-single b.item b.item b.value (A.gives b.item) (A.is_applied b.item b.value) };
+    ghost single = { λ b. each-single b.item (least_of b.item) (greatest_of b.item) b.value (A.gives b.item) (A.is_applied b.item b.value) };
 }
 
 impl<A: Applies> Block for Constant<A> {

@@ -1,5 +1,5 @@
 //! Blocks that make each item of one item of each input.
-ghost use Rattle.std.specs.Prelude.{◌≡◌, ◌≤◌, ◌+◌, ◌-◌, ◌++◌, ℤ, List, [], length, map, take, vec_len, vec_capacity};
+ghost use Rattle.std.specs.Prelude.{◌≡◌, ◌<◌, ◌≤◌, ◌+◌, ◌-◌, ◌++◌, ℤ, List, [], length, map, take, vec_len, vec_capacity};
 ghost use Rattle.stream_model.specs.declared.vocabulary.ItemType.{ItemType};
 ghost use Rattle.stream_model.specs.Lists.{item, listed};
 ghost use Rattle.stream_model.specs.Meaning.{Meaning, IsLawful};
@@ -10,12 +10,16 @@ ghost use Rattle.math_blocks.specs.Joined.{AreJoined, CanJoin, joined_of};
 use block_kinds::{Block, ByPace, Held, Shape, any_ports, ports};
 use items::{ItemType, Items};
 use lane_kernels::SimdLane;
+use numbers::vectors::append;
 use std::marker::PhantomData;
 
 /// How items are joined in one.
 pub trait Joins: Eq + Drop {
     /// What is made of one item of each input.
     ghost joins: { ItemType → List ℤ → ℤ };
+
+    /// What is made of the item of a single input.
+    ghost alone: { ItemType → ℤ → ℤ };
 
     /// What is made of two items.
     ghost pair: { ItemType → ℤ → ℤ → ℤ };
@@ -29,6 +33,13 @@ pub trait Joins: Eq + Drop {
         ensures { map T.number out.new ≡ listed (length items.now)
             (λ k. pair T.kind (item (map T.number out.old) k) (item (map T.number items.now) k)) };
 
+    /// Appends what is made of each item of a single input, where the capacity has room.
+    fn append_alone<T: SimdLane>(items: &[T], out: &mut Vec<T>)
+        requires room { vec_len out.old + length items.now ≤ vec_capacity out.old }
+        ensures items { map T.number out.new.items ≡ map T.number out.old.items ++ listed (length items.now)
+            (λ k. alone T.kind (item (map T.number items.now) k)) }
+        ensures capacity { vec_capacity out.old ≤ vec_capacity out.new };
+
     /// Appends what is made of each two items at one place, where the capacity has room.
     fn append<T: SimdLane>(a: &[T], b: &[T], out: &mut Vec<T>)
         requires same_length { length a.now ≡ length b.now }
@@ -38,7 +49,7 @@ pub trait Joins: Eq + Drop {
         ensures capacity { vec_capacity out.old ≤ vec_capacity out.new };
 
     /// Items may be joined one after the other.
-    ghost one_by_one: { AreJoined joins pair };
+    ghost one_by_one: { AreJoined joins alone pair };
 
     /// The equation says what is made of one item of each input.
     ghost is_joined: { (t : ItemType) → joined_of joins t ≡ equation t };
@@ -144,11 +155,49 @@ fn append_pair<T: SimdLane, J: Joins>(a: &[T], b: &[T], out: &mut Vec<T>)
     J::append(a, b, out);
 }
 
+/// Writes what is made of each item of the only window into an empty `out` with room for it.
+fn join_alone<J: Joins>(items: &Items, out: &mut Items)
+    requires same_type { type_of items.now ≡ type_of out.old }
+    requires empty { numbers_of out.old ≡ [] }
+    requires room { length (numbers_of items.now) ≤ spare_of out.old }
+    ensures item_type { type_of out.new ≡ type_of out.old }
+    ensures numbers { numbers_of out.new ≡ listed (length (numbers_of items.now))
+        (λ k. J.alone (type_of items.now) (item (numbers_of items.now) k)) }
+    ensures room { spare_of out.old ≤ spare_of out.new + length (numbers_of out.new) }
+{
+    match (items, out) {
+        (Items::Byte(items), Items::Byte(out)) => append_only::<u8, J>(items, out),
+        (Items::Short(items), Items::Short(out)) => append_only::<i16, J>(items, out),
+        (Items::Int(items), Items::Int(out)) => append_only::<i32, J>(items, out),
+        _ => unreachable!(),
+    }
+}
+
+fn append_only<T: SimdLane, J: Joins>(items: &[T], out: &mut Vec<T>)
+    requires empty { map T.number out.old.items ≡ [] }
+    requires room { length (map T.number items.now) ≤ vec_capacity out.old - vec_len out.old }
+    ensures items { map T.number out.new.items ≡ listed (length (map T.number items.now))
+        (λ k. J.alone T.kind (item (map T.number items.now) k)) }
+    ensures capacity { vec_capacity out.old ≤ vec_capacity out.new }
+{
+    J::append_alone(items, out);
+}
+
+/// Appends the items as they are, where the capacity has room.
+pub(crate) fn append_same<T: SimdLane>(items: &[T], out: &mut Vec<T>)
+    requires { vec_len out.old + length items.now ≤ vec_capacity out.old }
+    ensures items { map T.number out.new.items ≡ map T.number out.old.items ++ listed (length items.now) (λ k. item (map T.number items.now) k) }
+    ensures capacity { vec_capacity out.old ≤ vec_capacity out.new }
+{
+    append(out, items);
+}
+
 /// Writes what is made of the items of the first windows, two where there are two, into an empty `out` with room for it, and answers how
 /// many windows these are.
 fn join_first<J: Joins>(windows: &[Items], count: usize, out: &mut Items) -> usize
     requires { CanJoin count windows.now out.old }
     ensures there { result ≤ length windows.now }
+    ensures several { result < length windows.now → 2 ≤ result }
     ensures item_type { type_of out.new ≡ type_of out.old }
     ensures numbers { numbers_of out.new ≡ listed count (λ k. J.joins (type_of out.old) (items_at (map numbers_of (take result windows.now)) k)) }
     ensures room { spare_of out.old ≤ spare_of out.new + length (numbers_of out.new) }
@@ -156,7 +205,7 @@ fn join_first<J: Joins>(windows: &[Items], count: usize, out: &mut Items) -> usi
     let first = &windows[0];
     first.in_range();
     if windows.len() < 2 {
-        out.push_slice(first);
+        join_alone::<J>(first, out);
         return 1;
     }
     join_pair::<J>(first, &windows[1], out);

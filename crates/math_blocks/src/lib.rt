@@ -1,25 +1,42 @@
 //! Blocks of arithmetic, logic, tables and conversion.
 #![tactic(auto)]
 
+pub mod abs;
 pub mod add;
 pub mod add_const;
+pub mod clip;
 pub mod constant;
 pub mod convert;
+pub mod extremes;
 pub mod joined;
 pub mod logic;
+pub mod logic_const;
 pub mod map_bb;
 pub mod moving_sum;
+pub mod multiply;
 pub mod multiply_const;
+pub mod mute;
 pub mod not;
+pub mod per_item;
 pub mod scale;
 mod stretch;
+pub mod sub;
+pub mod table;
 
+pub use abs::Abs;
 pub use add::Add;
 pub use add_const::AddConst;
+pub use clip::Clip;
 pub use convert::Convert;
+pub use extremes::{Maximum, Minimum};
 pub use logic::{And, Or, Xor};
+pub use logic_const::{AndConst, OrConst, XorConst};
 pub use map_bb::MapBb;
 pub use moving_sum::MovingSum;
+pub use multiply::Multiply;
 pub use multiply_const::MultiplyConst;
+pub use mute::Mute;
 pub use not::Not;
 pub use scale::Scale;
+pub use sub::Sub;
+pub use table::Table;

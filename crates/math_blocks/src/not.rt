@@ -2,82 +2,54 @@
 ghost use Rattle.std.specs.Prelude.{◌≡◌};
 ghost use Rattle.kind_model.specs.Math.{not_of};
 
-use block_kinds::{Batch, Block, ByPace, Held, Shape, Single, work_single};
-use items::{ItemType, Items};
+use crate::per_item::{Makes, PerItem};
+use items::ItemType;
 use lane_kernels::{SimdLane, append_not};
-use lane_work::{AppendWork, append_items};
 
 /// Each item with all bits inverted, as GNU Radio's `not_xx`.
+pub type Not = PerItem<Inverse>;
+
+/// The inverted bits of an item.
 #[derive(Debug, Drop, PartialEq, Eq)]
-pub struct Not {
+pub struct Inverse {
     item: ItemType,
 }
 
 impl Not {
-    ghost use Rattle.math_blocks.specs.Kinds.{not_block_of};
-
     /// The block for items of this type.
     pub fn new(item: ItemType) -> Not
-        ensures { not_block_of result ≡ not_of item }
+        ensures { not_of result.makes.item ≡ not_of item }
     {
-        Not { item }
+        PerItem {
+            makes: Inverse { item },
+        }
     }
 }
 
-impl AppendWork for Not {
-    ghost use Rattle.std.specs.Prelude.{length};
-    ghost use Rattle.kind_model.specs.Kernels.{not_bits};
-
-    ghost can_make = { λ b t xs count. count ≡ length xs };
-
-    ghost makes = { λ b t xs count. not_bits t xs };
-
-    fn append<T: SimdLane>(&self, items: &[T], _count: usize, out: &mut Vec<T>) {
-        append_not(items, out);
-    }
-}
-
-impl Single for Not {
+impl Makes for Inverse {
     ghost use Rattle.std.specs.Prelude.{refl};
-    ghost use Rattle.math_blocks.specs.Kinds.{not_block_of};
-
-    ghost equation = { not_block_of };
-
-    fn fill(&self, batch: &Batch<'_>, out: &mut Items) -> u64 {
-        append_items(self, batch.window, batch.count as usize, out);
-        0
-    }
-
-    ghost single = { λ b. record { in_least = refl; in_most = refl; out_least = refl; out_most = refl } };
-}
-
-impl Block for Not {
+    ghost use Rattle.kind_model.specs.Kernels.{turned};
     ghost use Rattle.kind_model.specs.Math.{not_of};
     ghost use Rattle.kind_laws.specs.Math.{not_of-lawful};
     ghost use Rattle.block_kinds.specs.SameItem.{same_item};
-    ghost use Rattle.math_blocks.specs.Kinds.{not_block_of};
 
-    ghost meaning = { not_block_of };
+    ghost takes = { λ m. m.item };
 
-    type Places = ByPace;
+    ghost gives = { λ m. turned m.item };
 
-    fn shape(&self, _input: usize) -> Shape<'_> {
-        Shape::sync(self.item, self.item)
+    ghost equation = { λ m. not_of m.item };
+
+    fn item(&self) -> ItemType {
+        self.item
     }
 
-    fn work(
-        &self,
-        state: u64,
-        first: u64,
-        count: u64,
-        windows: &[Items],
-        held: &[Held],
-        out: &mut [Items],
-    ) -> u64 {
-        work_single(self, state, first, count, windows, held, out)
+    fn append<T: SimdLane>(&self, items: &[T], out: &mut Vec<T>) {
+        append_not(items, out);
     }
 
-    ghost lawful = { λ b. not_of-lawful b.item };
+    ghost is_made = { λ m. refl };
 
-    ghost same = { λ a b e i. not_of (same_item a.item b.item e i) };
+    ghost lawful = { λ m. not_of-lawful m.item };
+
+    ghost same = { λ m n e i. not_of (same_item m.item n.item e i) };
 }

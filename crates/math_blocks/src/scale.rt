@@ -1,7 +1,7 @@
 //! The block that scales each item.
 ghost use Rattle.std.specs.Prelude.{◌≡◌, ◌<◌, ◌≤◌, ◌↔◌, IsOk, IfOk, IsErrOf};
 ghost use Rattle.stream_model.specs.declared.vocabulary.ItemType.TheVariants as types;
-ghost use Rattle.stream_model.specs.Numbers.{IsItem};
+ghost use Rattle.stream_model.specs.Numbers.{IsItem, least_of, greatest_of};
 ghost use Rattle.kind_model.specs.Math.{scale};
 
 use crate::stretch::{EachItem, fill_each};
@@ -52,7 +52,9 @@ impl EachItem for Scale {
 
     ghost takes = { λ b. b.item };
 
-    ghost number_type = { λ b. types.Short };
+    ghost low = { λ b. least_of types.Short };
+
+    ghost high = { λ b. greatest_of types.Short };
 
     ghost own = { λ b. b.factor };
 
@@ -62,7 +64,7 @@ impl EachItem for Scale {
         append_scale_sat(items, i16::narrow(number), self.shift, out);
     }
 
-    ghost in_range = { λ b. b.in_range };
+    ghost in_range = { λ b. record { above = b.in_range.above; below = b.in_range.below } };
 }
 
 impl Single for Scale {

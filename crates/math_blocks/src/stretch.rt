@@ -1,14 +1,13 @@
 //! Stretches of items between two settings.
 ghost use Rattle.std.specs.Prelude.{◌≡◌, ◌+◌, ◌-◌, ◌^◌, ◌<◌, ◌≤◌, ◌++◌, ℤ, [], length, map, drop, vec_len, vec_capacity};
 ghost use Rattle.stream_model.specs.declared.vocabulary.ItemType.{ItemType};
-ghost use Rattle.stream_model.specs.Numbers.{IsItem};
 ghost use Rattle.stream_model.specs.Lists.{item, listed};
 ghost use Rattle.stream_model.specs.Shapes.{number_set};
 ghost use Rattle.items.specs.Items.{type_of, numbers_of, spare_of};
 ghost use Rattle.settings.specs.Values.{value_of, held_of};
 ghost use Rattle.block_kinds.specs.Fill.{CanFill, HasFilled};
 ghost use Rattle.block_kinds.specs.InForce.{AreOver};
-ghost use Rattle.math_blocks.specs.Stretch.{SetItems, each_of, number_among, end_before};
+ghost use Rattle.math_blocks.specs.Stretch.{IsBetween, SetBetween, each_of, number_among, end_before};
 
 use block_kinds::{Batch, Held, Value};
 use items::Items;
@@ -19,8 +18,11 @@ pub(crate) trait EachItem {
     /// The type of the items.
     ghost takes: { Self → ItemType };
 
-    /// The type in whose range the number lies.
-    ghost number_type: { Self → ItemType };
+    /// The least that the number may be.
+    ghost low: { Self → ℤ };
+
+    /// The greatest that the number may be.
+    ghost high: { Self → ℤ };
 
     /// The number that is in force until a setting replaces it.
     ghost own: { Self → ℤ };
@@ -31,7 +33,7 @@ pub(crate) trait EachItem {
     /// Appends what is made of each item, where `number` is in force at all of them and the capacity has room.
     fn run<T: SimdLane>(&self, number: i64, items: &[T], out: &mut Vec<T>)
         requires same_type { takes self.now ≡ T.kind }
-        requires in_range { IsItem (number_type self.now) number }
+        requires in_range { IsBetween (low self.now) (high self.now) number }
         requires room { vec_len out.old + length items.now ≤ vec_capacity out.old }
         ensures items { map T.number out.new.items
             ≡ map T.number out.old.items ++ listed (length items.now) (λ k. gives self.now number (item (map T.number items.now) k)) }
@@ -39,7 +41,7 @@ pub(crate) trait EachItem {
         ensures capacity { vec_capacity out.old ≤ vec_capacity out.new };
 
     /// The number of its own is in range.
-    ghost in_range: { (b : Self) → IsItem (number_type b) (own b) };
+    ghost in_range: { (b : Self) → IsBetween (low b) (high b) (own b) };
 }
 
 // The number that a value sets. Taps set none, which counts as 0.
@@ -74,7 +76,7 @@ fn run_stretches<T: SimdLane, B: EachItem>(
 )
     requires same_type { B.takes block.now ≡ T.kind }
     requires over { AreOver from (from + length items.now) (map held_of held.now) }
-    requires in_range { SetItems (B.number_type block.now) (map held_of held.now) }
+    requires in_range { SetBetween (B.low block.now) (B.high block.now) (map held_of held.now) }
     requires small { from + length items.now < 2 ^ 63 }
     requires empty { map T.number out.old.items ≡ [] }
     requires room { length items.now ≤ vec_capacity out.old - vec_len out.old }
@@ -100,7 +102,7 @@ fn run_items<B: EachItem>(block: &B, items: &Items, held: &[Held], from: u64, ou
     requires kind { B.takes block.now ≡ type_of items.now }
     requires same_type { type_of items.now ≡ type_of out.old }
     requires over { AreOver from (from + length (numbers_of items.now)) (map held_of held.now) }
-    requires in_range { SetItems (B.number_type block.now) (map held_of held.now) }
+    requires in_range { SetBetween (B.low block.now) (B.high block.now) (map held_of held.now) }
     requires small { from + length (numbers_of items.now) < 2 ^ 63 }
     requires empty { numbers_of out.old ≡ [] }
     requires room { length (numbers_of items.now) ≤ spare_of out.old }
@@ -119,8 +121,8 @@ fn run_items<B: EachItem>(block: &B, items: &Items, held: &[Held], from: u64, ou
 
 /// What `fill` writes, of a block that makes each item of one item, by a number that may be set.
 pub(crate) fn fill_each<B: EachItem>(block: &B, batch: &Batch<'_>, out: &mut Items)
-    requires { CanFill (each_of (B.takes block.now) (B.number_type block.now) (B.own block.now) (B.gives block.now)) batch.now out.old }
-    ensures items { HasFilled (each_of (B.takes block.now) (B.number_type block.now) (B.own block.now) (B.gives block.now)) batch.now out.new }
+    requires { CanFill (each_of (B.takes block.now) (B.low block.now) (B.high block.now) (B.own block.now) (B.gives block.now)) batch.now out.old }
+    ensures items { HasFilled (each_of (B.takes block.now) (B.low block.now) (B.high block.now) (B.own block.now) (B.gives block.now)) batch.now out.new }
     ensures item_type { type_of out.new ≡ type_of out.old }
     ensures room { spare_of out.old ≤ spare_of out.new + length (numbers_of out.new) }
 {

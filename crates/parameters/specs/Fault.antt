@@ -1,7 +1,7 @@
 -- The numbers, the names and the texts of refusals.
 use Rattle.std.specs.Prelude.{ℕ, List, ◌++◌, codes}
 use Rattle.parameters.specs.declared.fault.Parameter.{Parameter}
-use Rattle.parameters.specs.declared.fault.Parameter.TheVariants.{ItemType, Value, Factor, Shift, Map, To, Length, Taps, Decimation, Interpolation, K, Modulus, Bits, Mask, Init, N, Ports, Lengths}
+use Rattle.parameters.specs.declared.fault.Parameter.TheVariants.{ItemType, Value, Factor, Shift, Map, To, Length, Taps, Decimation, Interpolation, K, Modulus, Bits, Mask, Init, N, Ports, Lengths, Low, High, On, Values, Code, Threshold, Order, Places, L, M, Offset, Period}
 use Rattle.parameters.specs.declared.fault.ParamFault.{ParamFault}
 use Rattle.parameters.specs.declared.fault.ParamFault.TheVariants.{BadParameter, Memory}
 
@@ -30,6 +30,18 @@ parameter_text Init = codes "init"
 parameter_text N = codes "n"
 parameter_text Ports = codes "ports"
 parameter_text Lengths = codes "lengths"
+parameter_text Low = codes "low"
+parameter_text High = codes "high"
+parameter_text On = codes "on"
+parameter_text Values = codes "values"
+parameter_text Code = codes "code"
+parameter_text Threshold = codes "threshold"
+parameter_text Order = codes "order"
+parameter_text Places = codes "order"
+parameter_text L = codes "l"
+parameter_text M = codes "m"
+parameter_text Offset = codes "offset"
+parameter_text Period = codes "period"
 
 -- what is printed of a refusal
 abbrev pub text_of : ParamFault → List ℕ

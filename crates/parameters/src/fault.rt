@@ -47,6 +47,30 @@ pub enum Parameter {
     Ports,
     /// `lengths`
     Lengths,
+    /// `low`
+    Low,
+    /// `high`
+    High,
+    /// `on`
+    On,
+    /// `values`
+    Values,
+    /// `code`
+    Code,
+    /// `threshold`
+    Threshold,
+    /// `order`: of bits
+    Order,
+    /// `order`: of items
+    Places,
+    /// `l`
+    L,
+    /// `m`
+    M,
+    /// `offset`
+    Offset,
+    /// `period`
+    Period,
 }
 
 impl Parameter {
@@ -73,6 +97,17 @@ impl Parameter {
             Parameter::N => "n",
             Parameter::Ports => "ports",
             Parameter::Lengths => "lengths",
+            Parameter::Low => "low",
+            Parameter::High => "high",
+            Parameter::On => "on",
+            Parameter::Values => "values",
+            Parameter::Code => "code",
+            Parameter::Threshold => "threshold",
+            Parameter::L => "l",
+            Parameter::M => "m",
+            Parameter::Offset => "offset",
+            Parameter::Period => "period",
+            Parameter::Order | Parameter::Places => "order",
         }
     }
 }
@@ -91,7 +126,7 @@ pub enum ParamFault {
     /// The parameter has a value that a block of this kind may not have. Of several such, it is the first in the
     /// order in which the kind lists its parameters.
     BadParameter(Parameter),
-    /// Out of memory for a table or for taps.
+    /// Out of memory for a list.
     Memory,
 }
 

@@ -1,6 +1,9 @@
 pub mod Copies
+pub mod Frames
 pub mod Interleaved
 pub mod Moved
 pub mod Muxed
 pub mod Paced
+pub mod Periods
+pub mod Reordered
 pub mod Rounds

@@ -88,20 +88,20 @@ module _ (a n : ℕ) (xs ys : List ℤ) (there : a + n ≤ length xs) (long : le
   front : length (take a xs) ≡ a
   front = length-take-le a xs (omega arith)
 
-  item-inside : (r : ℕ) → r < n → item (put_mid a n xs ys) (a + r) ≡ item ys r
+  pub item-inside : (r : ℕ) → r < n → item (put_mid a n xs ys) (a + r) ≡ item ys r
   item-inside r h =
       get_or-append_right (take a xs) (ys ++ drop n (drop a xs)) a (a + r) (pos 0) front (omega arith)
       ∙ ap (item (ys ++ drop n (drop a xs))) (omega arith)
       ∙ get_or_append_left ys (drop n (drop a xs)) (pos 0) r (omega (arith, long))
 
-  item-outside : (i : ℕ) → ((i < a) ⊎ (a + n ≤ i)) → item (put_mid a n xs ys) i ≡ item xs i
+  pub item-outside : (i : ℕ) → ((i < a) ⊎ (a + n ≤ i)) → item (put_mid a n xs ys) i ≡ item xs i
   item-outside i (inl left) = get_or_append_left (take a xs) (ys ++ drop n (drop a xs)) (pos 0) i (omega (arith, front)) ∙ get_or-take a xs i (pos 0) left
   item-outside i (inr right) =
       get_or-append_right (take a xs) (ys ++ drop n (drop a xs)) a i (pos 0) front (omega arith)
       ∙ get_or-append_right ys (drop n (drop a xs)) n (i - a) (pos 0) long (omega arith)
       ∙ get_or-drop n (drop a xs) (i - a - n) (pos 0) ∙ get_or-drop a xs (n + (i - a - n)) (pos 0) ∙ ap (item xs) (omega arith)
 
-map-put_mid : {X : Type 0} (number : X → ℤ) (a n : ℕ) (xs ys : List X) → map number (put_mid a n xs ys) ≡ put_mid a n (map number xs) (map number ys)
+pub map-put_mid : {X : Type 0} (number : X → ℤ) (a n : ℕ) (xs ys : List X) → map number (put_mid a n xs ys) ≡ put_mid a n (map number xs) (map number ys)
 map-put_mid number a n xs ys =
     map-append number (take a xs) (ys ++ drop n (drop a xs))
     ∙ (λ i. sym (take-map number a xs) i ++ map-append number ys (drop n (drop a xs)) i)

@@ -1,6 +1,9 @@
 pub mod Counted
+pub mod Framed
+pub mod Inserts
 pub mod Kinds
 pub mod Lengths
 pub mod Mux
+pub mod Orders
 pub mod Repeats
 pub mod Turns

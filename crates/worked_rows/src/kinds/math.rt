@@ -5,7 +5,7 @@ ghost use Rattle.stream_model.specs.declared.vocabulary.ItemType.TheVariants.{By
 ghost use Rattle.stream_model.specs.Settings.{Number};
 ghost use Rattle.stream_model.specs.Network.{fires, stream_from};
 ghost use Rattle.worked_rows.specs.Kinds.{numbers, set_at, alone, output_of, output_under, output_in_cuts};
-ghost use Rattle.kind_model.specs.Math.{add_const, multiply_const, scale, add, and_of, or_of, xor_of, not_of, map_bb, convert, moving_sum};
+ghost use Rattle.kind_model.specs.Math.{add_const, multiply_const, and_const, or_const, xor_const, scale, add, multiply, sub, minimum, maximum, and_of, or_of, xor_of, not_of, abs, clip, mute, map_bb, table, convert, moving_sum};
 
 /// The rows, each with what it is about above its clauses.
 pub fn rows()
@@ -39,6 +39,19 @@ pub fn rows()
     ensures multiplies_cut { output_in_cuts (multiply_const Byte (pos 3)) [] (numbers (100 ∷ []) ∷ []) 0
         ≡ numbers (44 ∷ []) }
 
+    // The bits of 12 and 10 as numbers of one, and of -1 and 5.
+    ensures joins_constant_bits_and { output_of (and_const Byte (pos 10)) (numbers (12 ∷ 255 ∷ []) ∷ []) 0
+        ≡ numbers (8 ∷ 10 ∷ []) }
+    ensures joins_constant_bits_or { output_of (or_const Byte (pos 10)) (numbers (12 ∷ 0 ∷ []) ∷ []) 0
+        ≡ numbers (14 ∷ 10 ∷ []) }
+    ensures joins_constant_bits_xor { output_in_cuts (xor_const Byte (pos 10)) [] (numbers (12 ∷ 255 ∷ []) ∷ []) 0
+        ≡ numbers (6 ∷ 245 ∷ []) }
+    ensures joins_constant_bits_signed { output_of (xor_const Short (negsuc 0)) ((pos 5 ∷ negsuc 32767 ∷ []) ∷ []) 0
+        ≡ negsuc 5 ∷ pos 32767 ∷ [] }
+    ensures joins_constant_bits_set { output_under (and_const Byte (pos 15))
+        (set_at 1 (Number (pos 240)) ∷ []) (numbers (170 ∷ 170 ∷ []) ∷ []) 0
+        ≡ numbers (10 ∷ 160 ∷ []) }
+
     // Times 3, halved: a half is rounded upwards, and a number past the range is saturated.
     ensures scales_whole { output_of (scale Short (pos 3) 1) ((pos 1 ∷ negsuc 0 ∷ pos 30000 ∷ []) ∷ []) 0
         ≡ pos 2 ∷ negsuc 0 ∷ pos 32767 ∷ [] }
@@ -56,6 +69,36 @@ pub fn rows()
         [] (numbers (1 ∷ 2 ∷ 3 ∷ []) ∷ numbers (1 ∷ 2 ∷ 3 ∷ 4 ∷ 5 ∷ []) ∷ []) 0
         ≡ numbers (2 ∷ 4 ∷ 6 ∷ []) }
 
+    // Products wrap; of one input they are its items.
+    ensures multiplies_inputs_whole { output_of (multiply Byte)
+        (numbers (2 ∷ 16 ∷ []) ∷ numbers (3 ∷ 16 ∷ []) ∷ numbers (5 ∷ 1 ∷ []) ∷ []) 0
+        ≡ numbers (30 ∷ 0 ∷ []) }
+    ensures multiplies_inputs_signed { output_of (multiply Short)
+        ((negsuc 32767 ∷ pos 200 ∷ []) ∷ (negsuc 0 ∷ pos 200 ∷ []) ∷ []) 0
+        ≡ negsuc 32767 ∷ negsuc 25535 ∷ [] }
+    ensures multiplies_inputs_one { output_of (multiply Byte) (numbers (7 ∷ []) ∷ []) 0 ≡ numbers (7 ∷ []) }
+    ensures multiplies_inputs_cut { output_in_cuts (multiply Byte)
+        [] (numbers (2 ∷ 3 ∷ []) ∷ numbers (4 ∷ 5 ∷ []) ∷ []) 0 ≡ numbers (8 ∷ 15 ∷ []) }
+
+    // The first input less the others; of one input its negative.
+    ensures subtracts_inputs_whole { output_of (sub Byte)
+        (numbers (10 ∷ 3 ∷ []) ∷ numbers (3 ∷ 10 ∷ []) ∷ numbers (1 ∷ 0 ∷ []) ∷ []) 0
+        ≡ numbers (6 ∷ 249 ∷ []) }
+    ensures subtracts_inputs_one { output_of (sub Short) ((pos 5 ∷ negsuc 32767 ∷ []) ∷ []) 0
+        ≡ negsuc 4 ∷ negsuc 32767 ∷ [] }
+    ensures subtracts_inputs_cut { output_in_cuts (sub Byte)
+        [] (numbers (10 ∷ 3 ∷ []) ∷ numbers (3 ∷ 10 ∷ []) ∷ []) 0 ≡ numbers (7 ∷ 249 ∷ []) }
+
+    // Item by item, below 0 too.
+    ensures chooses_the_least { output_of (minimum Short)
+        ((pos 3 ∷ negsuc 6 ∷ []) ∷ (negsuc 1 ∷ negsuc 5 ∷ []) ∷ (pos 0 ∷ pos 9 ∷ []) ∷ []) 0
+        ≡ negsuc 1 ∷ negsuc 6 ∷ [] }
+    ensures chooses_the_greatest { output_of (maximum Short)
+        ((pos 3 ∷ negsuc 6 ∷ []) ∷ (negsuc 1 ∷ negsuc 5 ∷ []) ∷ (pos 0 ∷ negsuc 8 ∷ []) ∷ []) 0
+        ≡ pos 3 ∷ negsuc 5 ∷ [] }
+    ensures chooses_in_cuts { output_in_cuts (minimum Byte)
+        [] (numbers (1 ∷ 9 ∷ []) ∷ numbers (2 ∷ 8 ∷ []) ∷ []) 0 ≡ numbers (1 ∷ 8 ∷ []) }
+
     // The bits of 12 and 10, and all bits of a number turned.
     ensures joins_bits_and { output_of (and_of Byte) (numbers (12 ∷ []) ∷ numbers (10 ∷ []) ∷ []) 0
         ≡ numbers (8 ∷ []) }
@@ -70,6 +113,34 @@ pub fn rows()
     ensures joins_bits_and_signed { output_of (and_of Short)
         ((negsuc 0 ∷ negsuc 1 ∷ []) ∷ (negsuc 32767 ∷ pos 7 ∷ []) ∷ []) 0
         ≡ negsuc 32767 ∷ pos 6 ∷ [] }
+
+    // The least short has no positive that is a short.
+    ensures drops_the_sign { output_of (abs Short) ((pos 5 ∷ negsuc 4 ∷ negsuc 32767 ∷ []) ∷ []) 0
+        ≡ pos 5 ∷ pos 5 ∷ negsuc 32767 ∷ [] }
+    ensures drops_the_sign_cut { output_in_cuts (abs Byte) [] (numbers (0 ∷ 255 ∷ []) ∷ []) 0
+        ≡ numbers (0 ∷ 255 ∷ []) }
+
+    // From -2 to 3.
+    ensures clips_whole { output_of (clip Short (negsuc 1) (pos 3))
+        ((negsuc 2 ∷ negsuc 1 ∷ pos 0 ∷ pos 3 ∷ pos 4 ∷ []) ∷ []) 0
+        ≡ negsuc 1 ∷ negsuc 1 ∷ pos 0 ∷ pos 3 ∷ pos 3 ∷ [] }
+    ensures clips_cut { output_in_cuts (clip Byte (pos 2) (pos 3)) [] (numbers (1 ∷ 9 ∷ []) ∷ []) 0
+        ≡ numbers (2 ∷ 3 ∷ []) }
+
+    // Zeros from the item at which it is set to 1, until it is set to 0.
+    ensures mutes_whole { output_of (mute Byte (pos 1)) (numbers (7 ∷ 8 ∷ []) ∷ []) 0 ≡ numbers (0 ∷ 0 ∷ []) }
+    ensures mutes_under_settings { output_under (mute Byte (pos 0))
+        (set_at 1 (Number (pos 1)) ∷ set_at 3 (Number (pos 0)) ∷ []) (numbers (5 ∷ 6 ∷ 7 ∷ 8 ∷ []) ∷ []) 0
+        ≡ numbers (5 ∷ 0 ∷ 0 ∷ 8 ∷ []) }
+    ensures mutes_in_cuts { output_in_cuts (mute Byte (pos 0))
+        (set_at 1 (Number (pos 1)) ∷ set_at 3 (Number (pos 0)) ∷ []) (numbers (5 ∷ 6 ∷ 7 ∷ 8 ∷ []) ∷ []) 0
+        ≡ numbers (5 ∷ 0 ∷ 0 ∷ 8 ∷ []) }
+
+    // Bytes past the end get the last number.
+    ensures gives_numbers_whole { output_of (table Short (negsuc 2 ∷ pos 300 ∷ [])) (numbers (0 ∷ 1 ∷ 2 ∷ 255 ∷ []) ∷ []) 0
+        ≡ negsuc 2 ∷ pos 300 ∷ pos 300 ∷ pos 300 ∷ [] }
+    ensures gives_numbers_cut { output_in_cuts (table Int (pos 70000 ∷ negsuc 0 ∷ [])) [] (numbers (1 ∷ 0 ∷ []) ∷ []) 0
+        ≡ negsuc 0 ∷ pos 70000 ∷ [] }
 
     // Bytes past the end of the table stay.
     ensures looks_up_whole { output_of (map_bb (numbers (5 ∷ 6 ∷ [])))

@@ -4,7 +4,7 @@ ghost use Rattle.std.specs.Prelude.{◌≡◌, pos, [], ◌∷◌, map};
 ghost use Rattle.stream_model.specs.declared.vocabulary.ItemType.TheVariants.{Byte};
 ghost use Rattle.stream_model.specs.Lists.{numbers_from};
 ghost use Rattle.worked_rows.specs.Kinds.{numbers, output_of, output_in_cuts, firings_of};
-ghost use Rattle.kind_model.specs.Rates.{keep_one_in_n, integrate, repeat, interleave, deinterleave, head, skiphead, delay, stream_mux};
+ghost use Rattle.kind_model.specs.Rates.{keep_one_in_n, keep_m_in_n, insert, permute, integrate, repeat, interleave, deinterleave, head, skiphead, delay, stream_mux};
 
 /// The rows, each with what it is about above its clauses.
 pub fn rows()
@@ -16,16 +16,49 @@ pub fn rows()
     ensures keeps_one_firings { firings_of (keep_one_in_n Byte 3) (numbers (1 ∷ 2 ∷ 3 ∷ 4 ∷ 5 ∷ 6 ∷ 7 ∷ []) ∷ [])
         ≡ 2 }
 
-    // A tag goes to the nearest item (ties round up): at one item for four, and at two for one.
+    // Two of four, after one that is left out; the last firing has not its items.
+    ensures keeps_some_whole { output_of (keep_m_in_n Byte 2 4 1)
+        (numbers (1 ∷ 2 ∷ 3 ∷ 4 ∷ 5 ∷ 6 ∷ 7 ∷ 8 ∷ 9 ∷ 10 ∷ []) ∷ []) 0 ≡ numbers (2 ∷ 3 ∷ 6 ∷ 7 ∷ []) }
+    ensures keeps_some_cut { output_in_cuts (keep_m_in_n Byte 2 4 1)
+        [] (numbers (1 ∷ 2 ∷ 3 ∷ 4 ∷ 5 ∷ 6 ∷ 7 ∷ 8 ∷ 9 ∷ 10 ∷ []) ∷ []) 0 ≡ numbers (2 ∷ 3 ∷ 6 ∷ 7 ∷ []) }
+
+    // All of three, and the last of three.
+    ensures keeps_all { output_of (keep_m_in_n Byte 3 3 0) (numbers (1 ∷ 2 ∷ 3 ∷ 4 ∷ []) ∷ []) 0
+        ≡ numbers (1 ∷ 2 ∷ 3 ∷ []) }
+    ensures keeps_the_last { output_of (keep_m_in_n Byte 1 3 2) (numbers (1 ∷ 2 ∷ 3 ∷ 4 ∷ []) ∷ []) 0
+        ≡ numbers (3 ∷ []) }
+
+    // A tag goes to the nearest item (ties round up): at one item for four, at two for one, at two for four, at five for three, and at three for three.
     ensures places_by_rate_down { (keep_one_in_n Byte 4).place 0 1 ≡ 0 }
     ensures places_by_rate_up { (keep_one_in_n Byte 4).place 0 2 ≡ 1 }
     ensures places_by_rate_repeated { (repeat Byte 2).place 0 1 ≡ 2 }
+    ensures places_by_rate_kept { (keep_m_in_n Byte 2 4 1).place 0 3 ≡ 2 }
+    ensures places_by_rate_inserted { (insert Byte (numbers (9 ∷ 8 ∷ [])) 5 1).place 0 1 ≡ 2 }
+    ensures places_by_rate_permuted { (permute Byte (2 ∷ 0 ∷ 1 ∷ [])).place 0 1 ≡ 1 }
 
     // Sums of two; a rest is left.
     ensures integrates_whole { output_of (integrate Byte 2) (numbers (200 ∷ 100 ∷ 5 ∷ 6 ∷ 7 ∷ []) ∷ []) 0
         ≡ numbers (44 ∷ 11 ∷ []) }
     ensures integrates_cut { output_in_cuts (integrate Byte 2) [] (numbers (200 ∷ 100 ∷ 5 ∷ 6 ∷ 7 ∷ []) ∷ []) 0
         ≡ numbers (44 ∷ 11 ∷ []) }
+
+    // Two values in each five, after the first of them.
+    ensures inserts_whole { output_of (insert Byte (numbers (9 ∷ 8 ∷ [])) 5 1)
+        (numbers (1 ∷ 2 ∷ 3 ∷ 4 ∷ 5 ∷ 6 ∷ 7 ∷ []) ∷ []) 0 ≡ numbers (1 ∷ 9 ∷ 8 ∷ 2 ∷ 3 ∷ 4 ∷ 9 ∷ 8 ∷ 5 ∷ 6 ∷ []) }
+    ensures inserts_cut { output_in_cuts (insert Byte (numbers (9 ∷ 8 ∷ [])) 5 1)
+        [] (numbers (1 ∷ 2 ∷ 3 ∷ 4 ∷ 5 ∷ 6 ∷ 7 ∷ []) ∷ []) 0 ≡ numbers (1 ∷ 9 ∷ 8 ∷ 2 ∷ 3 ∷ 4 ∷ 9 ∷ 8 ∷ 5 ∷ 6 ∷ []) }
+
+    // The values first, and last.
+    ensures inserts_first { output_of (insert Byte (numbers (9 ∷ [])) 3 0) (numbers (1 ∷ 2 ∷ 3 ∷ 4 ∷ []) ∷ []) 0
+        ≡ numbers (9 ∷ 1 ∷ 2 ∷ 9 ∷ 3 ∷ 4 ∷ []) }
+    ensures inserts_last { output_of (insert Byte (numbers (9 ∷ [])) 3 2) (numbers (1 ∷ 2 ∷ 3 ∷ 4 ∷ []) ∷ []) 0
+        ≡ numbers (1 ∷ 2 ∷ 9 ∷ 3 ∷ 4 ∷ 9 ∷ []) }
+
+    // The last of three to the front; a rest is left.
+    ensures permutes_whole { output_of (permute Byte (2 ∷ 0 ∷ 1 ∷ []))
+        (numbers (1 ∷ 2 ∷ 3 ∷ 4 ∷ 5 ∷ 6 ∷ 7 ∷ []) ∷ []) 0 ≡ numbers (3 ∷ 1 ∷ 2 ∷ 6 ∷ 4 ∷ 5 ∷ []) }
+    ensures permutes_cut { output_in_cuts (permute Byte (2 ∷ 0 ∷ 1 ∷ []))
+        [] (numbers (1 ∷ 2 ∷ 3 ∷ 4 ∷ 5 ∷ 6 ∷ 7 ∷ []) ∷ []) 0 ≡ numbers (3 ∷ 1 ∷ 2 ∷ 6 ∷ 4 ∷ 5 ∷ []) }
 
     // Each item twice.
     ensures repeats_whole { output_of (repeat Byte 2) (numbers (7 ∷ 8 ∷ []) ∷ []) 0

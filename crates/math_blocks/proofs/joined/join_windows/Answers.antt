@@ -21,8 +21,9 @@ loop-p-preserved g c =
     let same : type_of w ≡ type_of c.join_first-begun.new.out =
     All-at (λ v. type_of v ≡ type_of c.args.out.now) c.args.windows.now c.loop-p.p w c.index-windows-p.is (omega arith) c.requires.same_type ∙ sym c.join_first-begun.ensures.item_type in
     record {
+      several = λ more. omega (arith, c.loop-p.invariant.several (omega arith));
       item_type = c.join_items_into.ensures.item_type ∙ c.loop-p.invariant.item_type;
       room = omega (arith, c.join_items_into.ensures.room, c.join_items_into.ensures.same_length, c.loop-p.invariant.room);
-      items = next_joined g.J.Joins.joins g.J.Joins.pair g.met.J.Joins.one_by_one (type_of c.join_first-begun.new.out) (type_of w) numbers_of c.args.windows.now c.loop-p.p c.args.count w
-          (numbers_of c.loop-p.out) (numbers_of c.join_items_into.new.out) (omega arith) c.index-windows-p.is long same c.loop-p.invariant.items c.join_items_into.ensures.numbers;
+      items = next_joined g.J.Joins.joins g.J.Joins.alone g.J.Joins.pair g.met.J.Joins.one_by_one (type_of c.join_first-begun.new.out) (type_of w) numbers_of c.args.windows.now c.loop-p.p c.args.count w
+          (numbers_of c.loop-p.out) (numbers_of c.join_items_into.new.out) (c.loop-p.invariant.several (omega arith)) (omega arith) c.index-windows-p.is long same c.loop-p.invariant.items c.join_items_into.ensures.numbers;
     }

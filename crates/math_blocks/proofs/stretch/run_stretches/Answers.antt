@@ -40,9 +40,8 @@ slice_bounds-run-end g c =
 pub run-requires-clause-in_range : goal.run-requires-clause-in_range
 run-requires-clause-in_range g c =
     let fits : FitsSigned w64 c.number_in-number.result = search rules in
-    let t = g.B.EachItem.number_type c.args.block.now in
     rw (to_z-of_z w64 c.number_in-number.result fits, c.number_in-number.ensures)
-    (set_item held_of c.args.held.now c.loop-i.i c.index-held-i.result t c.loop-i-test.true c.index-held-i.is c.requires.in_range)
+    (set_item held_of c.args.held.now c.loop-i.i c.index-held-i.result (g.B.EachItem.low c.args.block.now) (g.B.EachItem.high c.args.block.now) c.loop-i-test.true c.index-held-i.is c.requires.in_range)
 
 pub loop-i-preserved : goal.loop-i-preserved
 loop-i-preserved g c =

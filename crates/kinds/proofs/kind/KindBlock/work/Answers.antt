@@ -12,8 +12,32 @@ returns-in-NullSink-clause-word c = rw c.in-NullSink.is c.work-in-NullSink.ensur
 pub returns-in-Scale-clause-word : goal.returns-in-Scale-clause-word
 returns-in-Scale-clause-word c = rw c.in-Scale.is c.work-in-Scale.ensures.word
 
+pub returns-in-Clip-clause-word : goal.returns-in-Clip-clause-word
+returns-in-Clip-clause-word c = rw c.in-Clip.is c.work-in-Clip.ensures.word
+
+pub returns-in-Abs-clause-word : goal.returns-in-Abs-clause-word
+returns-in-Abs-clause-word c = rw c.in-Abs.is c.work-in-Abs.ensures.word
+
+pub returns-in-Not-clause-word : goal.returns-in-Not-clause-word
+returns-in-Not-clause-word c = rw c.in-Not.is c.work-in-Not.ensures.word
+
+pub returns-in-Mute-clause-word : goal.returns-in-Mute-clause-word
+returns-in-Mute-clause-word c = rw c.in-Mute.is c.work-in-Mute.ensures.word
+
 pub returns-in-Add-clause-word : goal.returns-in-Add-clause-word
 returns-in-Add-clause-word c = rw c.in-Add.is c.work-in-Add.ensures.word
+
+pub returns-in-Sub-clause-word : goal.returns-in-Sub-clause-word
+returns-in-Sub-clause-word c = rw c.in-Sub.is c.work-in-Sub.ensures.word
+
+pub returns-in-Multiply-clause-word : goal.returns-in-Multiply-clause-word
+returns-in-Multiply-clause-word c = rw c.in-Multiply.is c.work-in-Multiply.ensures.word
+
+pub returns-in-Minimum-clause-word : goal.returns-in-Minimum-clause-word
+returns-in-Minimum-clause-word c = rw c.in-Minimum.is c.work-in-Minimum.ensures.word
+
+pub returns-in-Maximum-clause-word : goal.returns-in-Maximum-clause-word
+returns-in-Maximum-clause-word c = rw c.in-Maximum.is c.work-in-Maximum.ensures.word
 
 pub returns-in-And-clause-word : goal.returns-in-And-clause-word
 returns-in-And-clause-word c = rw c.in-And.is c.work-in-And.ensures.word
@@ -24,14 +48,14 @@ returns-in-Or-clause-word c = rw c.in-Or.is c.work-in-Or.ensures.word
 pub returns-in-Xor-clause-word : goal.returns-in-Xor-clause-word
 returns-in-Xor-clause-word c = rw c.in-Xor.is c.work-in-Xor.ensures.word
 
-pub returns-in-Not-clause-word : goal.returns-in-Not-clause-word
-returns-in-Not-clause-word c = rw c.in-Not.is c.work-in-Not.ensures.word
+pub returns-in-MapBb-clause-word : goal.returns-in-MapBb-clause-word
+returns-in-MapBb-clause-word c = rw c.in-MapBb.is c.work-in-MapBb.ensures.word
+
+pub returns-in-Table-clause-word : goal.returns-in-Table-clause-word
+returns-in-Table-clause-word c = rw c.in-Table.is c.work-in-Table.ensures.word
 
 pub returns-in-Convert-clause-word : goal.returns-in-Convert-clause-word
 returns-in-Convert-clause-word c = rw c.in-Convert.is c.work-in-Convert.ensures.word
-
-pub returns-in-MapBb-clause-word : goal.returns-in-MapBb-clause-word
-returns-in-MapBb-clause-word c = rw c.in-MapBb.is c.work-in-MapBb.ensures.word
 
 pub returns-in-MovingSum-clause-word : goal.returns-in-MovingSum-clause-word
 returns-in-MovingSum-clause-word c = rw c.in-MovingSum.is c.work-in-MovingSum.ensures.word
@@ -45,11 +69,20 @@ returns-in-InterpFir-clause-word c = rw c.in-InterpFir.is c.work-in-InterpFir.en
 pub returns-in-KeepOneInN-clause-word : goal.returns-in-KeepOneInN-clause-word
 returns-in-KeepOneInN-clause-word c = rw c.in-KeepOneInN.is c.work-in-KeepOneInN.ensures.word
 
+pub returns-in-KeepMInN-clause-word : goal.returns-in-KeepMInN-clause-word
+returns-in-KeepMInN-clause-word c = rw c.in-KeepMInN.is c.work-in-KeepMInN.ensures.word
+
 pub returns-in-Integrate-clause-word : goal.returns-in-Integrate-clause-word
 returns-in-Integrate-clause-word c = rw c.in-Integrate.is c.work-in-Integrate.ensures.word
 
 pub returns-in-Repeat-clause-word : goal.returns-in-Repeat-clause-word
 returns-in-Repeat-clause-word c = rw c.in-Repeat.is c.work-in-Repeat.ensures.word
+
+pub returns-in-Insert-clause-word : goal.returns-in-Insert-clause-word
+returns-in-Insert-clause-word c = rw c.in-Insert.is c.work-in-Insert.ensures.word
+
+pub returns-in-Permute-clause-word : goal.returns-in-Permute-clause-word
+returns-in-Permute-clause-word c = rw c.in-Permute.is c.work-in-Permute.ensures.word
 
 pub returns-in-Interleave-clause-word : goal.returns-in-Interleave-clause-word
 returns-in-Interleave-clause-word c = rw c.in-Interleave.is c.work-in-Interleave.ensures.word
@@ -75,11 +108,20 @@ returns-in-PackKBits-clause-word c = rw c.in-PackKBits.is c.work-in-PackKBits.en
 pub returns-in-UnpackKBits-clause-word : goal.returns-in-UnpackKBits-clause-word
 returns-in-UnpackKBits-clause-word c = rw c.in-UnpackKBits.is c.work-in-UnpackKBits.ensures.word
 
-pub returns-in-DiffDecoder-clause-word : goal.returns-in-DiffDecoder-clause-word
-returns-in-DiffDecoder-clause-word c = rw c.in-DiffDecoder.is c.work-in-DiffDecoder.ensures.word
+pub returns-in-RepackBits-clause-word : goal.returns-in-RepackBits-clause-word
+returns-in-RepackBits-clause-word c = rw c.in-RepackBits.is c.work-in-RepackBits.ensures.word
+
+pub returns-in-PackedToUnpacked-clause-word : goal.returns-in-PackedToUnpacked-clause-word
+returns-in-PackedToUnpacked-clause-word c = rw c.in-PackedToUnpacked.is c.work-in-PackedToUnpacked.ensures.word
+
+pub returns-in-UnpackedToPacked-clause-word : goal.returns-in-UnpackedToPacked-clause-word
+returns-in-UnpackedToPacked-clause-word c = rw c.in-UnpackedToPacked.is c.work-in-UnpackedToPacked.ensures.word
 
 pub returns-in-DiffEncoder-clause-word : goal.returns-in-DiffEncoder-clause-word
 returns-in-DiffEncoder-clause-word c = rw c.in-DiffEncoder.is c.work-in-DiffEncoder.ensures.word
+
+pub returns-in-DiffDecoder-clause-word : goal.returns-in-DiffDecoder-clause-word
+returns-in-DiffDecoder-clause-word c = rw c.in-DiffDecoder.is c.work-in-DiffDecoder.ensures.word
 
 pub returns-in-Scrambler-clause-word : goal.returns-in-Scrambler-clause-word
 returns-in-Scrambler-clause-word c = rw c.in-Scrambler.is c.work-in-Scrambler.ensures.word
@@ -89,3 +131,6 @@ returns-in-Descrambler-clause-word c = rw c.in-Descrambler.is c.work-in-Descramb
 
 pub returns-in-AdditiveScrambler-clause-word : goal.returns-in-AdditiveScrambler-clause-word
 returns-in-AdditiveScrambler-clause-word c = rw c.in-AdditiveScrambler.is c.work-in-AdditiveScrambler.ensures.word
+
+pub returns-in-CorrelateAccessCode-clause-word : goal.returns-in-CorrelateAccessCode-clause-word
+returns-in-CorrelateAccessCode-clause-word c = rw c.in-CorrelateAccessCode.is c.work-in-CorrelateAccessCode.ensures.word
