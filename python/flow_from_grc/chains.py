@@ -47,6 +47,15 @@ def moving_average(settings: Settings) -> Node:
     return Node(settings.block, [item], [item], parts)
 
 
+def sub(settings: Settings) -> Node:
+    """Of one input the kind gives the negatives, and GNU Radio's block the items: so that one is a wire."""
+    item = settings.item_type(WIDE)
+    settings.ones("vlen")
+    ports = settings.whole("num_inputs", 1, MOST_PORTS)
+    parts = [Part("sub", {"type": str(item)})] if ports > 1 else []
+    return Node(settings.block, [item] * ports, [item], parts)
+
+
 def char_to_short(settings: Settings) -> Node:
     """GNU Radio's block makes the byte the highest of the short, so that it takes it with a sign."""
     settings.ones("vlen")

@@ -58,6 +58,19 @@ class Numbers:
 
 
 @dataclass(frozen=True)
+class Truth:
+    """A parameter that is true or false, for which 1 or 0 is written."""
+
+    key: str
+    key_there: str
+    default: str
+
+    def read(self, settings: Settings, _: ItemType) -> Setting:
+        """The number that stands for what the drawing gives."""
+        return int(settings.truth(self.key_there))
+
+
+@dataclass(frozen=True)
 class Choice:
     """A parameter that has to be this one of its words, and why."""
 
@@ -66,6 +79,8 @@ class Choice:
     why: str
 
 
+Parameter = Union[Number, Numbers, Truth]
+
 # How many ports a block has on a side: so many, or as many as a parameter says.
 Ports = Union[int, str]
 
@@ -73,22 +88,23 @@ Ports = Union[int, str]
 def block(
     kind: str,
     types: Sequence[ItemType],
-    *parameters: Union[Number, Numbers],
+    *parameters: Parameter,
     inputs: Ports = 1,
     outputs: Ports = 1,
     ones: Sequence[str] = ("vlen",),
     ignored: Sequence[str] = (),
     choices: Sequence[Choice] = (),
     first_type: str = "complex",
+    first_count: str = "2",
     note: Callable[[Mapping[str, Setting]], str] = lambda _: "",
 ) -> Entry:
     """A block for which a kind of its own stands, with items of one of these types; where that is bytes alone it has no parameter for it. Its parameters
-    `ones` have to be 1, and `ignored` say nothing of items. `first_type` is Companion's default type, and `note` tells, of the settings, how GNU Radio's
-    block differs."""
+    `ones` have to be 1, and `ignored` say nothing of items. `first_type` is Companion's default type, and `first_count` its
+    default of how many ports; `note` tells, of the settings, how GNU Radio's block differs."""
     is_typed = types is not BYTES
     defaults = {it.key_there: it.default for it in parameters}
     defaults.update({it.key_there: it.wanted for it in choices})
-    defaults.update({it: "2" for it in (inputs, outputs) if isinstance(it, str)})
+    defaults.update({it: first_count for it in (inputs, outputs) if isinstance(it, str)})
     defaults.update({it: "1" for it in ones})
     defaults.update({it: "" for it in ignored})
     if is_typed:

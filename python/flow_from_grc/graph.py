@@ -34,6 +34,11 @@ class ItemType(enum.Enum):
         """The greatest item."""
         return self.value[2]
 
+    @property
+    def bits(self) -> int:
+        """How many bits an item has."""
+        return (self.most - self.least).bit_length()
+
     def __str__(self) -> str:
         return self.value[0]
 

@@ -4,8 +4,8 @@ from __future__ import annotations
 
 from typing import Mapping
 
-from . import chains, endings, filters, scramblers
-from .entries import ANY, BYTES, MOST_PORTS, WIDE, Choice, Entry, Number, Numbers, block, wire
+from . import bits, chains, endings, filters, periods, scramblers
+from .entries import ANY, BYTES, MOST_PORTS, WIDE, Choice, Entry, Number, Numbers, Truth, block, wire
 from .faults import Code
 from .graph import Setting
 from .settings import Settings
@@ -42,6 +42,8 @@ _MODULUS = Number("modulus", "modulus", "", 2, 256)
 _CODING = (Choice("coding", "digital.DIFF_DIFFERENTIAL", "only DIFF_DIFFERENTIAL has a kind"),)
 _PACE = {"samples_per_second": "samp_rate", "ignoretag": "True"}
 _REGISTER = {"mask": "0x8A", "seed": "0x7F", "len": "7"}
+_PACKING = {"type": "int", "bits_per_chunk": "2", "endianness": "gr.GR_MSB_FIRST", "num_ports": "1"}
+_VECTORS = ("vlen", "vlen_out")
 _FILTER = {"type": "ccc", "taps": "", "samp_delay": "0"}
 
 TABLE: Mapping[str, Entry] = {
@@ -57,7 +59,14 @@ TABLE: Mapping[str, Entry] = {
     "blocks_add_const_vxx": block("add_const", ANY, Number("value", "const", "0")),
     "blocks_multiply_const_vxx": block("multiply_const", WIDE, Number("value", "const", "1")),
     "blocks_multiply_const_xx": block("multiply_const", WIDE, Number("value", "const", "0")),
+    "blocks_and_const_xx": block("and_const", ANY, Number("value", "const", "0"), ones=(), first_type="int"),
+    "blocks_abs_xx": block("abs", WIDE, first_type="int"),
+    "blocks_mute_xx": block("mute", WIDE, Truth("on", "mute", "False"), ones=()),
     "blocks_add_xx": block("add", WIDE, inputs="num_inputs"),
+    "blocks_sub_xx": Entry({"type": "complex", "vlen": "1", "num_inputs": "2"}, chains.sub),
+    "blocks_multiply_xx": block("multiply", WIDE, inputs="num_inputs"),
+    "blocks_min_xx": block("minimum", WIDE, inputs="num_inputs", ones=_VECTORS, first_type="float", first_count="1"),
+    "blocks_max_xx": block("maximum", WIDE, inputs="num_inputs", ones=_VECTORS, first_type="float", first_count="1"),
     "blocks_and_xx": block("and", ANY, inputs="num_inputs", ones=(), first_type="int"),
     "blocks_or_xx": block("or", ANY, inputs="num_inputs", ones=(), first_type="int"),
     "blocks_xor_xx": block("xor", ANY, inputs="num_inputs", ones=(), first_type="int"),
@@ -72,6 +81,8 @@ TABLE: Mapping[str, Entry] = {
     "blocks_float_to_short": Entry({"vlen": "1", "scale": "1"}, filters.float_to_short),
     # Changes of rate and place.
     "blocks_keep_one_in_n": block("keep_one_in_n", ANY, Number("n", "n", "1", 1, 1024)),
+    "blocks_keep_m_in_n": Entry({"type": "complex", "m": "1", "n": "2", "offset": "0"}, periods.keep_m_in_n),
+    "blocks_vector_insert_x": Entry({"type": "byte", "vector": "0, 0, 0", "period": "100", "offset": "0"}, periods.vector_insert),
     "blocks_repeat": block("repeat", ANY, Number("n", "interp", "", 1, 1024)),
     "blocks_integrate_xx": block("integrate", WIDE, Number("n", "decim", "", 1, 1024)),
     "blocks_head": block("head", ANY, _ITEMS),
@@ -86,6 +97,11 @@ TABLE: Mapping[str, Entry] = {
     # Bits.
     "blocks_pack_k_bits_bb": block("pack_k_bits", BYTES, _BITS, ones=()),
     "blocks_unpack_k_bits_bb": block("unpack_k_bits", BYTES, _BITS, ones=()),
+    "blocks_repack_bits_bb": Entry(
+        {"k": "1", "l": "8", "len_tag_key": '""', "align_output": "False", "endianness": "gr.GR_LSB_FIRST"}, bits.repack_bits
+    ),
+    "blocks_packed_to_unpacked_xx": Entry(_PACKING, bits.packed_to_unpacked),
+    "blocks_unpacked_to_packed_xx": Entry(_PACKING, bits.unpacked_to_packed),
     "digital_diff_encoder_bb": block("diff_encoder", BYTES, _MODULUS, ones=(), choices=_CODING),
     "digital_diff_decoder_bb": block("diff_decoder", BYTES, _MODULUS, ones=(), choices=_CODING, note=_decoder_note),
     "digital_scrambler_bb": Entry(_REGISTER, scramblers.scrambler),

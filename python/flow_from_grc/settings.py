@@ -58,6 +58,13 @@ class Settings:
         """A parameter that is one of the words of a list, which Companion does not evaluate."""
         return self._text(key).value
 
+    def word(self, key: str, words: Mapping[str, str]) -> str:
+        """What stands here for a choice that is one of these words."""
+        found = self.choice(key)
+        if found not in words:
+            raise self.refused(key, Code.BAD_PARAMETER, "%s is %s; it is %s" % (key, shown(found or "empty"), " or ".join(words)))
+        return words[found]
+
     def needs(self, key: str, wanted: str, why: str) -> None:
         """Refuses a choice that is not the one that has a kind."""
         if self.choice(key) != wanted:
@@ -79,6 +86,13 @@ class Settings:
         if isinstance(value, bool) or not isinstance(value, (int, float)):
             raise self.refused(key, Code.WRONG_TYPE, "%s is %s, and no number" % (key, shown(self._text(key).value)))
         return value
+
+    def truth(self, key: str) -> bool:
+        """A truth value, or a number that stands for one."""
+        value = self.value(key)
+        if not isinstance(value, (int, float)):
+            raise self.refused(key, Code.WRONG_TYPE, "%s is %s, and no truth value" % (key, shown(self._text(key).value)))
+        return bool(value)
 
     def wholes(self, key: str, least: int, most: int, most_count: int) -> List[int]:
         """A list of whole numbers in a range, or of one that stands alone."""

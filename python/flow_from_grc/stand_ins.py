@@ -16,13 +16,8 @@ _INNER = "there are no hierarchical blocks: draw what is in it"
 
 # By the id of the block, or by how it begins where there is a star.
 _STAND_INS: Sequence[Tuple[str, str]] = (
-    ("blocks_sub_xx", "a Multiply Const by -1 and an Add"),
-    ("blocks_and_const_xx", "of bytes, a Map with the 256 values"),
-    ("blocks_abs_xx", "of bytes, a Map with the 256 values"),
     ("blocks_short_to_char", "nothing takes the highest byte: with the kind `convert`, which a graph file may have, the lowest is kept"),
-    ("blocks_packed_to_unpacked_xx", "of bytes, the highest bits first, an Unpack K Bits of 8 and a Pack K Bits"),
-    ("blocks_unpacked_to_packed_xx", "of bytes, the highest bits first, an Unpack K Bits and a Pack K Bits of 8"),
-    ("blocks_repack_bits_bb", "with the highest bits first, an Unpack K Bits and a Pack K Bits"),
+    ("blocks_patterned_interleaver", "of a pattern in which each input stands, the kinds `stream_mux` and `permute`, which a graph file may have"),
     ("blocks_stream_demux", "with equal lengths of 1, a Deinterleave"),
     ("blocks_selector", "connect the input and the output that are chosen"),
     ("blocks_null_source", _MADE),
@@ -37,6 +32,9 @@ _STAND_INS: Sequence[Tuple[str, str]] = (
     ("blocks_wavfile_*", "a File Source or a File Sink of shorts without a header"),
     ("blocks_*_to_float", _FLOATS + "; Short To Float may stand before a filter"),
     ("filter_*", _FLOATS),
+    ("analog_rail_ff", _FLOATS + "; with the kind `clip`, which a graph file may have, whole numbers stay in a range"),
+    ("digital_chunks_to_symbols_xx", _FLOATS + "; with the kind `table`, which a graph file may have, bytes become whole numbers"),
+    ("digital_correlate_access_code_*", "nothing puts tags: with the kind `correlate_access_code`, which a graph file may have, bit 1 marks what is behind it"),
     ("*_pass_filter", _FLOATS + "; a Decimating FIR Filter of whole taps between Short To Float and Float To Short"),
     ("*_reject_filter", _FLOATS + "; a Decimating FIR Filter of whole taps between Short To Float and Float To Short"),
     ("rational_resampler_xxx", _FLOATS + "; an Interpolating FIR Filter and a Keep 1 in N"),

@@ -1,0 +1,242 @@
+#!/usr/bin/python3
+"""Blocks of Magbelu beside GNU Radio's own: random cases of each kind, with the items that both give.
+
+usage: gnu_radio_cases.py [--flow COMMAND] [--cases N] [--write FOLDER] [KIND..]
+
+COMMAND runs a graph file, `./flow` if none is said; N is 100 if none is said. With --write the first two cases of each kind are put into FOLDER as cases of
+tests/cases, with the items that GNU Radio gave. It ends with status 1 where an item differs."""
+
+import argparse
+import random
+import subprocess
+import sys
+import tempfile
+from math import gcd
+from pathlib import Path
+from typing import Any, Callable, Dict, List, NamedTuple, Tuple
+
+from gnuradio import blocks, digital, gr
+
+TOP = Path(__file__).resolve().parent.parent
+RANGES = {"byte": (0, 255), "short": (-32768, 32767), "int": (-(2**31), 2**31 - 1)}
+LETTERS = {"byte": "b", "short": "s", "int": "i"}
+SIZES = {"byte": gr.sizeof_char, "short": gr.sizeof_short, "int": gr.sizeof_int}
+
+
+class Case(NamedTuple):
+    """A block with its inputs, and GNU Radio's block of the same parameters."""
+
+    kind: str
+    item: str
+    keys: str
+    inputs: List[List[int]]
+    make: Callable[[], Any]
+    # The type of the output, of GNU Radio's too.
+    to: str = ""
+    # Whether GNU Radio's block gives floats.
+    is_float: bool = False
+
+
+Draw = random.Random
+
+
+def items(draw: Draw, item: str, most: int = 300) -> List[int]:
+    """Some items, of which the ends of the type's range are as likely as others."""
+    low, high = RANGES[item]
+    return [draw.choice([low, high, 0, 1, draw.randint(low, high), draw.randint(max(low, -9), 9)]) for _ in range(draw.randint(1, most))]
+
+
+def rounds(draw: Draw, item: str, taken: int) -> List[int]:
+    """Items for whole rounds, each of so many: of a round that is not whole GNU Radio's block gives a part, and Magbelu's nothing."""
+    tape: List[int] = []
+    while len(tape) < taken:
+        tape += items(draw, item)
+    return tape[: len(tape) // taken * taken]
+
+
+def typed(name: str, item: str) -> Callable[..., Any]:
+    """The block of GNU Radio for items of this type."""
+    return getattr(blocks, f"{name}_{LETTERS[item] * 2}")
+
+
+def joined(name: str, theirs: str, least: int, *words: int) -> Callable[[Draw, str], Case]:
+    """A block that makes one item of those of its inputs, at least so many."""
+
+    def case(draw: Draw, item: str) -> Case:
+        inputs = [items(draw, item) for _ in range(draw.randint(least, 5))]
+        return Case(name, item, "", inputs, lambda: typed(theirs, item)(*words))
+
+    return case
+
+
+def and_const(draw: Draw, item: str) -> Case:
+    value = draw.randint(*RANGES[item])
+    return Case("and_const", item, f"value = {value}", [items(draw, item)], lambda: typed("and_const", item)(value))
+
+
+def absolute(draw: Draw, item: str) -> Case:
+    return Case("abs", item, "", [items(draw, item)], typed("abs", item))
+
+
+def mute(draw: Draw, item: str) -> Case:
+    on = draw.randint(0, 1)
+    return Case("mute", item, f"on = {on}", [items(draw, item)], lambda: typed("mute", item)(on == 1))
+
+
+def table(draw: Draw, item: str) -> Case:
+    values = [draw.randint(-(2**23), 2**23) for _ in range(draw.randint(1, 256))]
+    tape = [draw.randrange(len(values)) for _ in range(draw.randint(1, 300))]
+    return Case("table", "", f'to = "int"\nvalues = {values}', [tape], lambda: digital.chunks_to_symbols_bf(values, 1), "int", True)
+
+
+def correlate_access_code(draw: Draw, item: str) -> Case:
+    length = draw.randint(1, 64)
+    code = "".join(draw.choice("01") for _ in range(length))
+    threshold = draw.randint(0, max(0, length // 3))
+    tape = []
+    while len(tape) < 300:
+        sent = [int(bit) ^ (draw.random() < 0.05) for bit in code]
+        tape += [draw.randint(0, 255) for _ in range(draw.randint(0, 90))] + [bit | 2 * draw.randint(0, 1) for bit in sent]
+    keys = f'code = "{code}"\nthreshold = {threshold}'
+    return Case("correlate_access_code", "", keys, [tape], lambda: digital.correlate_access_code_bb(code, threshold))
+
+
+ORDERS = {"msb_first": gr.GR_MSB_FIRST, "lsb_first": gr.GR_LSB_FIRST}
+
+
+def repacked(name: str) -> Callable[[Draw, str], Case]:
+    """A block that gives the bits of items in items of another number of bits."""
+
+    def case(draw: Draw, item: str) -> Case:
+        bits = draw.randint(1, {"byte": 8, "short": 16, "int": 32}[item])
+        order = draw.choice(sorted(ORDERS))
+        keys = f'bits = {bits}\norder = "{order}"'
+        width = 8 * SIZES[item]
+        taken = (bits if name == "packed_to_unpacked" else width) // gcd(bits, width)
+        return Case(name, item, keys, [rounds(draw, item, taken)], lambda: typed(name, item)(bits, ORDERS[order]))
+
+    return case
+
+
+def repack_bits(draw: Draw, item: str) -> Case:
+    k, l, order = draw.randint(1, 8), draw.randint(1, 8), draw.choice(sorted(ORDERS))
+    keys = f'k = {k}\nl = {l}\norder = "{order}"'
+    tape = rounds(draw, "byte", l // gcd(k, l))
+    return Case("repack_bits", "", keys, [tape], lambda: blocks.repack_bits_bb(k, l, "", False, ORDERS[order]))
+
+
+def keep_m_in_n(draw: Draw, item: str) -> Case:
+    n = draw.randint(1, 40)
+    m = draw.randint(1, n)
+    offset = draw.randint(0, n - m)
+    return Case("keep_m_in_n", item, f"m = {m}\nn = {n}\noffset = {offset}", [items(draw, item)], lambda: blocks.keep_m_in_n(SIZES[item], m, n, offset))
+
+
+def insert(draw: Draw, item: str) -> Case:
+    values = items(draw, item, 20)
+    period = len(values) + draw.randint(1, 30)
+    # (behind the last item GNU Radio's block gives no values)
+    offset = draw.randint(0, period - len(values) - 1)
+    keys = f"values = {values}\nperiod = {period}\noffset = {offset}"
+    theirs = getattr(blocks, f"vector_insert_{LETTERS[item]}")
+    # (there the offset says where in a period, which has the values first, the output begins)
+    return Case("insert", item, keys, [rounds(draw, item, period - len(values))], lambda: theirs(values, period, (period - offset) % period))
+
+
+ALL = ("byte", "short", "int")
+WIDE = ("short", "int")
+# Of each kind how a case of it is drawn, and the types that GNU Radio's block has, with the same meaning.
+KINDS: Dict[str, Tuple[Callable[[Draw, str], Case], Tuple[str, ...]]] = {
+    "and_const": (and_const, ALL),
+    "abs": (absolute, WIDE),
+    "mute": (mute, WIDE),
+    # (of one input it gives the items themselves, for which there is no case)
+    "sub": (joined("sub", "sub", 2), WIDE),
+    "multiply": (joined("multiply", "multiply", 1), WIDE),
+    "minimum": (joined("minimum", "min", 1, 1), WIDE),
+    "maximum": (joined("maximum", "max", 1, 1), WIDE),
+    "table": (table, ("byte",)),
+    "keep_m_in_n": (keep_m_in_n, ALL),
+    "insert": (insert, ALL),
+    "repack_bits": (repack_bits, ("byte",)),
+    "packed_to_unpacked": (repacked("packed_to_unpacked"), ALL),
+    "unpacked_to_packed": (repacked("unpacked_to_packed"), ALL),
+    "correlate_access_code": (correlate_access_code, ("byte",)),
+}
+
+
+def graph_of(case: Case) -> str:
+    """The graph file of a case, fed."""
+    item = case.item or "byte"
+    kind = f'[[block]]\nname = "f"\nkind = "{case.kind}"\n' + (f'type = "{case.item}"\n' if case.item else "") + (case.keys + "\n" if case.keys else "")
+    text = [kind, f'[[block]]\nname = "out"\nkind = "vector_sink"\ntype = "{case.to or item}"\n']
+    for port, tape in enumerate(case.inputs):
+        text.append(f'[[block]]\nname = "s{port}"\nkind = "vector_source"\ntype = "{item}"\n')
+        text.append(f'[[feed]]\nsource = "s{port}"\nitems = {tape}\n')
+        text.append(f'[[connect]]\nfrom = "s{port}"\nto = "f"\nto_port = {port}\n')
+    text.append('[[connect]]\nfrom = "f"\nto = "out"\n')
+    return "\n".join(text)
+
+
+def theirs_of(case: Case) -> List[int]:
+    """What GNU Radio's block gives."""
+    letter = LETTERS[case.item or "byte"]
+    top, block = gr.top_block(), case.make()
+    sink = blocks.vector_sink_f() if case.is_float else getattr(blocks, f"vector_sink_{LETTERS[case.to or case.item or 'byte']}")()
+    for port, tape in enumerate(case.inputs):
+        top.connect(getattr(blocks, f"vector_source_{letter}")(tape), (block, port))
+    top.connect(block, sink)
+    top.run()
+    return [int(number) for number in sink.data()]
+
+
+def ours_of(case: Case, flow: List[str], room: Path) -> List[int]:
+    """What Magbelu gives."""
+    path = room / "graph.toml"
+    path.write_text(graph_of(case))
+    said = subprocess.run([*flow, "run", "-q", str(path)], capture_output=True, text=True, check=False)
+    words = next((line.split() for line in said.stdout.splitlines() if line.startswith("sink out ")), None)
+    if words is None:
+        raise SystemExit(f"{case.kind}: {said.stdout}{said.stderr}\n{graph_of(case)}")
+    return [int(word) for word in words[3:] if not word.startswith("@")]
+
+
+def write(folder: Path, number: int, case: Case, gives: List[int]) -> None:
+    """Keeps a case, with what GNU Radio gave."""
+    own = folder / f"{case.kind}_{number}"
+    own.mkdir(parents=True, exist_ok=True)
+    (own / "args").write_text("run\n-q\ngraph.toml\n")
+    (own / "graph.toml").write_text(graph_of(case))
+    items_text = "".join(f" {number}" for number in gives)
+    (own / "stdout").write_text(f"sink out {len(gives)}{items_text}\ndone\n")
+
+
+def main() -> int:
+    parser = argparse.ArgumentParser()
+    parser.add_argument("--flow", default=str(TOP / "flow"))
+    parser.add_argument("--cases", type=int, default=100)
+    parser.add_argument("--write", type=Path)
+    parser.add_argument("kinds", nargs="*")
+    words = parser.parse_args()
+    differ = 0
+    with tempfile.TemporaryDirectory() as room:
+        for kind in words.kinds or KINDS:
+            draw_case, types = KINDS[kind]
+            draw = random.Random(kind)
+            equal = 0
+            for number in range(words.cases):
+                case = draw_case(draw, types[number % len(types)])
+                theirs, ours = theirs_of(case), ours_of(case, words.flow.split(), Path(room))
+                if ours == theirs:
+                    equal += 1
+                elif words.cases - equal < 4 or equal == number:
+                    print(f"{kind} {number}: GNU Radio gives {theirs[:20]}.., {len(theirs)} items; Magbelu {ours[:20]}.., {len(ours)}\n{graph_of(case)[:600]}")
+                if words.write and number < 2:
+                    write(words.write, number, case, theirs)
+            differ += words.cases - equal
+            print(f"{kind}: {equal} of {words.cases} equal", flush=True)
+    return 1 if differ else 0
+
+
+if __name__ == "__main__":
+    sys.exit(main())
