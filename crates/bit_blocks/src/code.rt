@@ -42,7 +42,7 @@ pub(crate) fn code_bytes<C: Coder>(coder: C, start: u64, items: &[u8], out: &mut
     word
 }
 
-/// The same to a vector of the caller's own, whose length and place in memory stay in registers.
+/// Codes the items to a vector of the caller's own, whose length and place in memory stay in registers.
 #[inline(always)]
 fn push_code<C: Coder>(coder: C, start: u64, items: &[u8], made: &mut Vec<u8>) -> u64
     requires word { C.is_word coder start }

@@ -14,7 +14,7 @@ pub trait Feed {
     /// The bit for the lowest bit of the byte, and the sum of the bits of the register that the mask has.
     ghost fed: { ℕ → ℕ → ℕ };
 
-    /// The same.
+    /// The bit that goes into the register, for the lowest bit of a byte and the sum.
     fn fed(bit: u64, sum: u64) -> u64
         requires bit { bit < 2 }
         requires sum { sum ≤ 32 }

@@ -55,7 +55,7 @@ fn masked_sums(register: &Register, bytes: &[u8], sums: &mut [u8])
     keep_low_bits(sums);
 }
 
-/// The same from place `MOST_BITS` of `out` on, where the bytes stand.
+/// `masked_sums` from place `MOST_BITS` of `out` on, where the bytes stand.
 pub(crate) fn sum_behind(register: &Register, bytes: &[u8], out: &mut [u8])
     requires same_length { length out.old ≡ length bytes.now }
     requires there { MOST_BITS ≤ length bytes.now }

@@ -167,7 +167,7 @@ pub(crate) fn range_words(alloc: Global, range: Range) -> Result<String, AllocEr
     }
 }
 
-// The same of a range without numbers of its own; of others, nothing.
+// What lies in a range without numbers of its own; of others, nothing.
 fn fixed_words(range: Range) -> &'static str {
     match range {
         Range::Type => ANY_TYPE,

@@ -12,7 +12,7 @@ pub(crate) enum Look {
     Line,
     /// As many spaces as a word would have characters.
     WordBlank,
-    /// The same of a line, and its tabs.
+    /// As many spaces as a line would have characters, and its tabs.
     LineBlank,
 }
 

@@ -169,7 +169,7 @@ fn short_length(bytes: &[u8], quote: u8) -> usize {
     bytes.len()
 }
 
-// The same of a text on several lines, which three quotes end; up to two more before them are part of it.
+// The length of a text on several lines, which three quotes end; up to two more before them are part of it.
 fn long_length(bytes: &[u8], quote: u8) -> usize {
     let mut is_escaped = false;
     let mut quotes = 0u8;

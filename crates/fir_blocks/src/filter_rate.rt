@@ -17,7 +17,7 @@ pub trait FilterRate: Drop {
     /// The parameter that the rate is.
     ghost named: { Parameter };
 
-    /// The same.
+    /// The parameter that the rate is.
     fn name() -> Parameter
         ensures { result ≡ named };
 

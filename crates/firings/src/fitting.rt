@@ -17,7 +17,7 @@ use block_kinds::Block;
 /// How many firings fit on one side of a block.
 #[derive(Clone, Copy)]
 pub(crate) struct Fit {
-    /// As many of those that are asked for as each port allows.
+    /// The number of firings, at most those asked for, that each port allows.
     pub allowed: u64,
     /// The lowest port that lacks what the next firing needs.
     pub lacking: Option<usize>,

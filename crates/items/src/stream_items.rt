@@ -44,7 +44,7 @@ macro_rules! on_same_type {
     };
 }
 
-// The same, where each arm makes items of the same type.
+// A match on two values of one type, where each arm makes items of the same type.
 macro_rules! like_type {
     ($items:expr, $values:ident => $body:expr) => {
         match $items {

@@ -8,7 +8,7 @@ use items::Items;
 use settings::Held;
 use std::alloc::{AllocError, Global};
 
-/// The same windows.
+/// Windows with the same items, in memory of their own.
 pub fn copied_windows(alloc: Global, windows: &[Items]) -> Result<Vec<Items>, AllocError>
     ensures numbers { IfOk result (λ copies. map numbers_of copies.items ≡ map numbers_of windows.now) }
     ensures types { IfOk result (λ copies. map type_of copies.items ≡ map type_of windows.now) }
@@ -20,7 +20,7 @@ pub fn copied_windows(alloc: Global, windows: &[Items]) -> Result<Vec<Items>, Al
     Ok(copies)
 }
 
-// The same items.
+// Items of the same type and numbers, in memory of their own.
 fn copied(alloc: Global, items: &Items) -> Result<Items, AllocError>
     ensures numbers { IfOk result (λ copy. numbers_of copy ≡ numbers_of items.now) }
     ensures item_type { IfOk result (λ copy. type_of copy ≡ type_of items.now) }
@@ -31,7 +31,7 @@ fn copied(alloc: Global, items: &Items) -> Result<Items, AllocError>
     Ok(copy)
 }
 
-/// The same settings.
+/// Settings with the same values, in memory of their own.
 pub fn copied_settings(alloc: Global, held: &[Held]) -> Result<Vec<Held>, AllocError>
     ensures { IfOk result (λ copies. map held_of copies.items ≡ map held_of held.now) }
 {

@@ -42,7 +42,7 @@ pub(crate) fn make(alloc: Global, kind: KindName, table: &Table) -> Result<Kind,
     }
 }
 
-// The same, on items of a type.
+// The block of a kind on items of a type.
 fn make_of(alloc: Global, kind: KindName, item: ItemType, table: &Table) -> Result<Kind, ParamFault>
     ensures ok { IfOk result (λ block. made_of kind item (table_view table.now) ≡ Ok (meaning_of block)) }
     ensures bad { IfErr result (IsBad (keeps_list kind) (made_of kind item (table_view table.now))) }

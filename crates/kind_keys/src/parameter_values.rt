@@ -30,7 +30,7 @@ pub(crate) fn small(table: &Table, parameter: Parameter) -> u32
     small_at(table, Key::Parameter(parameter))
 }
 
-/// The same as a number of 64 bits.
+/// The whole number of a parameter as one of 64 bits.
 pub(crate) fn wide(table: &Table, parameter: Parameter) -> u64
     ensures { result ≡ tables.small_at (table_view table.now) (key.Parameter parameter) }
 {

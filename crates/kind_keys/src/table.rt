@@ -70,7 +70,7 @@ fn count_of(number: i64) -> u64
     if number < 0 { u64::MAX } else { number as u64 }
 }
 
-/// The same in 32 bits.
+/// The whole number at a key as one of 32 bits. For a negative one, or one that does not fit, it is the greatest, which nothing may be.
 pub fn small_at(table: &Table, key: Key) -> u32
     ensures { result ≡ tables.small_at (table_view table.now) key }
 {

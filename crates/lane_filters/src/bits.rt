@@ -41,7 +41,7 @@ fn packed_lanes(k: u32, items: &[u8]) -> u8
     set.select(places, u8x8::splat(0)).reduce_sum() >> (8 - k)
 }
 
-/// The same one by one.
+/// The lowest bits of the first `k` items, one by one.
 fn packed_byte(k: u32, items: &[u8]) -> u8
     requires least { 1 ≤ k }
     requires most { k ≤ 8 }

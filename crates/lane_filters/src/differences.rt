@@ -54,7 +54,7 @@ fn sixteen_differences(m: u32, now: &[u8], past: &[u8]) -> u8x16
     }
 }
 
-/// The same where `m` is `2 ^ power`.
+/// Sixteen differences modulo `m`, which is `2 ^ power`: its low bits are kept.
 #[inline(always)]
 fn masked(m: u32, power: u32, now: &[u8], past: &[u8]) -> u8x16
     requires is_power { m ≡ 2 ^ power }
@@ -66,7 +66,7 @@ fn masked(m: u32, power: u32, now: &[u8], past: &[u8]) -> u8x16
     (u8x16::from_slice(now) - u8x16::from_slice(past)) & u8x16::splat(mask)
 }
 
-/// The same for each `m`.
+/// Sixteen differences modulo any `m`.
 #[inline(always)]
 fn reduced(m: u32, now: &[u8], past: &[u8]) -> u8x16
     requires least { 2 ≤ m }
@@ -79,7 +79,7 @@ fn reduced(m: u32, now: &[u8], past: &[u8]) -> u8x16
     reduced_by(m, whole, inverse, now, past)
 }
 
-/// The same where `whole` is the multiple of `m` that is added, and the division by `m` is a multiplication by `inverse`.
+/// Sixteen differences modulo `m`, where `whole` is the multiple of `m` that is added, and the division by `m` is a multiplication by `inverse`.
 #[inline(always)]
 fn reduced_by(m: u32, whole: u32, inverse: u32, now: &[u8], past: &[u8]) -> u8x16
     requires least { 2 ≤ m }

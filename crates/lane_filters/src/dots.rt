@@ -30,7 +30,7 @@ pub fn dot_i32(h: &[i16], x: &[i32]) -> i64
     dot_lanes::<i32>(h, x)
 }
 
-/// The same of each item type: eight products at a time, then the rest one by one.
+/// The sum of the products over any item type: eight products at a time, then the rest one by one.
 fn dot_lanes<T: ProductLane>(h: &[i16], x: &[T]) -> i64
     requires lengths { length h.now ≡ length x.now }
     requires most { length h.now ≤ 256 }

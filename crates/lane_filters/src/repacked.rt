@@ -67,7 +67,7 @@ pub fn repack_items<T: Number>(
     }
 }
 
-/// The same through a word that holds the bits that are read and not yet written.
+/// Repacks through a word that holds the bits that are read and not yet written.
 #[inline(always)]
 fn repack_by<T: Number>(k: u32, l: u32, read: BitOrder, write: BitOrder, items: &[T], out: &mut [T])
     requires some { 1 ≤ k }

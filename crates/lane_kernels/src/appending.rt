@@ -28,7 +28,7 @@ pub(crate) fn append_map<T: SimdLane, U: SimdLane, M: MapBlock<T, U>>(
     *out = made;
 }
 
-/// The same.
+/// `append_map` to a vector of the caller's own.
 #[inline(always)]
 fn push_map<T: SimdLane, U: SimdLane, M: MapBlock<T, U>>(op: &M, a: &[T], made: &mut Vec<U>)
     requires { vec_len made.old + length a.now ≤ vec_capacity made.old }
@@ -106,7 +106,7 @@ pub(crate) fn append_zip<T: SimdLane, Z: ZipBlock<T>>(a: &[T], b: &[T], out: &mu
     *out = made;
 }
 
-/// The same.
+/// `append_zip` to a vector of the caller's own.
 #[inline(always)]
 fn push_zip<T: SimdLane, Z: ZipBlock<T>>(a: &[T], b: &[T], made: &mut Vec<T>)
     requires b_length { length b.now ≡ length a.now }

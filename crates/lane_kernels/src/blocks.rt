@@ -72,7 +72,7 @@ fn map_last<T: SimdLane, U: SimdLane, M: MapBlock<T, U>>(op: &M, a: &[T], out: &
     map_steps(op, a, out);
 }
 
-/// The same block by block, each stored before the next is loaded, and at the end one that overlaps.
+/// The operation block by block, each stored before the next is loaded, and at the end one that overlaps.
 #[inline(always)]
 pub(crate) fn map_steps<T: SimdLane, U: SimdLane, M: MapBlock<T, U>>(op: &M, a: &[T], out: &mut [U])
     requires { length out.old ≡ length a.now }
@@ -149,7 +149,7 @@ fn zip_last<T: SimdLane, Z: ZipBlock<T>>(a: &[T], b: &[T], out: &mut [T])
     zip_steps::<T, Z>(a, b, out);
 }
 
-/// The same block by block, each stored before the next is loaded, and at the end one that overlaps.
+/// The operation block by block, each stored before the next is loaded, and at the end one that overlaps.
 #[inline(always)]
 pub(crate) fn zip_steps<T: SimdLane, Z: ZipBlock<T>>(a: &[T], b: &[T], out: &mut [T])
     requires b_length { length b.now ≡ length a.now }

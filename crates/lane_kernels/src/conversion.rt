@@ -10,7 +10,7 @@ use std::simd::prelude::*;
 
 /// A number type whose numbers `U` has too.
 pub trait WidensTo<U: SimdLane>: SimdLane {
-    /// The same numbers: a block of `U`.
+    /// A block of `U` with the numbers of a block of `T`.
     fn widen_block(a: &[Self], out: &mut [U])
         requires a_block { IsBlock U.LANES Self.kind Self.number a.now }
         requires out_block { length out.old ≡ U.LANES }
@@ -110,7 +110,7 @@ impl<T: NarrowsTo<U>, U: SimdLane> MapBlock<T, U> for Narrowing {
     ghost has_few_lanes = { U.has_few_lanes };
 }
 
-/// The same numbers in a type with more bits.
+/// Writes the numbers in a type with more bits.
 #[tactic(auto, using(crate::proofs::Listed::mapped_is_listed))]
 #[inline(always)]
 pub fn widen<T: WidensTo<U>, U: SimdLane>(a: &[T], out: &mut [U])

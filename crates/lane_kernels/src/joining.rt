@@ -26,7 +26,7 @@ pub(crate) fn zip_into<T: SimdLane, Z: ZipBlock<T>>(items: &[T], out: &mut [T])
     }
 }
 
-/// The same of a turn, all of it made before it is stored.
+/// Writes over a turn, all of which is made before it is stored.
 #[inline(always)]
 fn zip_turn_into<T: SimdLane, Z: ZipBlock<T>>(items: &[T], out: &mut [T])
     requires same_length { length items.now ≡ length out.old }
@@ -37,7 +37,7 @@ fn zip_turn_into<T: SimdLane, Z: ZipBlock<T>>(items: &[T], out: &mut [T])
     out.copy_from_slice(&made);
 }
 
-/// The same of fewer items than a turn has. Not inlined, so that the code of whole turns stays short.
+/// Writes over fewer items than a turn has. Not inlined, so that the code of whole turns stays short.
 #[inline(never)]
 fn zip_last_into<T: SimdLane, Z: ZipBlock<T>>(items: &[T], out: &mut [T])
     requires same_length { length items.now ≡ length out.old }

@@ -43,7 +43,7 @@ fn pick(items: &[u8], step: usize, port: usize, out: &mut [u8])
     }
 }
 
-/// The same of a turn.
+/// `pick` of a turn.
 #[inline(always)]
 fn pick_turn(items: &[u8], step: usize, port: usize, out: &mut [u8])
     requires even { step % 2 ≡ 0 }

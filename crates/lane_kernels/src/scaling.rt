@@ -30,7 +30,7 @@ pub(crate) fn scaled(
         .simd_min(Simd::splat(greatest))
 }
 
-/// The same of 64 bits, where the half is added at once.
+/// `scaled` of products of 64 bits, where the half is added at once.
 #[inline(always)]
 pub(crate) fn scaled_wide(wide: Simd<i64, 4>, shift: u32, least: i64, greatest: i64) -> Simd<i64, 4>
     requires whole { length wide ≡ 4 }

@@ -101,7 +101,7 @@ pub trait SimdLane: Number {
             ≡ map Self.number made.old.items ++ deinterleaved (length items.now / 2) 2 port (map Self.number items.now) }
         ensures capacity { vec_capacity made.old ≤ vec_capacity made.new };
 
-    /// The same of every fourth item.
+    /// Appends every fourth item, the first of them at place `port`, where the capacity has room.
     fn push_fourths(items: &[Self], port: usize, made: &mut Vec<Self>)
         requires port { port < 4 }
         requires room { vec_len made.old + length items.now / 4 ≤ vec_capacity made.old }

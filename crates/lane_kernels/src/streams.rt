@@ -20,7 +20,7 @@ pub fn interleave<T: Number>(streams: &[&[T]], rounds: usize, out: &mut Vec<T>)
     *out = made;
 }
 
-/// The same to a vector of the caller's own, by code for some numbers of streams.
+/// `interleave` to a vector of the caller's own, by code for some numbers of streams.
 #[inline(always)]
 fn push_streams<T: Number>(streams: &[&[T]], rounds: usize, made: &mut Vec<T>)
     requires same_length { All (λ s. length s.now ≡ rounds) streams.now }
@@ -37,7 +37,7 @@ fn push_streams<T: Number>(streams: &[&[T]], rounds: usize, made: &mut Vec<T>)
     }
 }
 
-/// The same. A caller that has the streams in an array gets code for their number.
+/// `interleave` round by round. A caller that has the streams in an array gets code for their number.
 #[inline(always)]
 fn push_rounds<T: Number>(streams: &[&[T]], rounds: usize, made: &mut Vec<T>)
     requires same_length { All (λ s. length s.now ≡ rounds) streams.now }

@@ -51,7 +51,7 @@ fn entry(table: &[u8], byte: u8) -> u8
     }
 }
 
-// The same of a table for all bytes.
+// A byte through a table that has all bytes.
 fn entry_of_all(table: &[u8], byte: u8) -> u8
     requires { length table.now ≡ 256 }
     ensures { pos result ≡ looked_up (map pos table.now) (pos byte) }
@@ -69,7 +69,7 @@ fn look_up(table: &[u8], items: &[u8], out: &mut [u8])
     }
 }
 
-// The same of a table for all bytes.
+// Each byte through a table that has all bytes.
 fn look_up_all(table: &[u8], items: &[u8], out: &mut [u8])
     requires whole { length table.now ≡ 256 }
     requires same_length { length out.old ≡ length items.now }

@@ -81,7 +81,7 @@ fn append_numbers<T: Number>(values: &[T], items: &[u8], out: &mut Vec<T>)
     write_numbers(values, items, out);
 }
 
-// The same at any type.
+// Gives for each byte its number, at the type of the numbers.
 fn give_numbers(values: &Items, items: &Items, out: &mut Items)
     requires some { 1 ≤ length (numbers_of values.now) }
     requires bytes { type_of items.now ≡ types.Byte }

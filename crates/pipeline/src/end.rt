@@ -98,7 +98,7 @@ pub struct Output<W> {
     /// What was drained last.
     pub items: Items,
     pub tags: Vec<Tag>,
-    /// As bytes.
+    /// What was drained last, as bytes.
     pub bytes: Vec<u8>,
 }
 

@@ -159,7 +159,7 @@ impl<B: Block> Parts<B> {
         headway
     }
 
-    // The same of one block. A firing of a source gives one item, and no other block is fed.
+    // The headway of one block. A firing of a source gives one item, and no other block is fed.
     fn own_headway(&self, block: BlockId) -> Headway
         requires right { IsRight B.meaning self.now }
         requires block { block.0 < length (arc_value self.now.graph).blocks }

@@ -57,7 +57,7 @@ fn repeat_each<T: SimdLane>(items: &[T], n: usize, out: &mut Vec<T>)
     *out = made;
 }
 
-// The same. A caller that names `n` gets code for it.
+// Repeats each item `n` times. A caller that names `n` gets code for it.
 #[inline(always)]
 fn push_each<T: SimdLane>(items: &[T], n: usize, made: &mut Vec<T>)
     requires some { 1 ≤ n }

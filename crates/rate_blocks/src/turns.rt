@@ -57,7 +57,7 @@ fn copy_turns<T: SimdLane>(turn: &Turn, items: &[T], out: &mut [T])
     }
 }
 
-// The same, where the caller may know the length, by a turn of its own, which no write can change.
+// `copy_turns` where the caller may know the length, by a turn of its own, which no write can change.
 #[inline(always)]
 fn copy_lengths<T: SimdLane>(turn: &Turn, length: usize, items: &[T], out: &mut [T])
     requires length { length ≡ turn.now.length }

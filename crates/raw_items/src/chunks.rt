@@ -61,7 +61,7 @@ pub(crate) fn push_number_bytes<const N: usize, T: RawNumber<N>>(
     Ok(())
 }
 
-// The same for bytes.
+// Writes the bytes of the numbers into a slice, which has room for them.
 fn write_bytes<const N: usize, T: RawNumber<N>>(numbers: &[T], order: ByteOrder, out: &mut [u8])
     requires { length out.old ≡ length numbers.now * N }
     ensures bytes { out.new ≡ all_bytes_of T.kind order (map T.number numbers.now) }

@@ -3,7 +3,7 @@ use Rattle.std.specs.Prelude.{ℕ, suc, ◌+◌, ◌-◌, ◌*◌, ◌%◌, ◌<
 use Rattle.std.proofs.Common.{ap, ap₂, sym, ◌∙◌, arith, get_or, length-append, length-take, length-drop}
 use Rattle.std.proofs.lemmas.Bool.Decides.{nat_tests}
 use Rattle.std.proofs.lemmas.Int.{ints, int_rem_euclid_is}
-use Rattle.std.proofs.lemmas.List.{get_or-take, get_or-drop, get_or_append_left, get_or-append_right, get_or-replicate, length-replicate, take_more}
+use Rattle.std.proofs.lemmas.List.{get_or-take, get_or-drop, get_or_append_left, get_or-append_right, get_or-replicate, length-replicate}
 use Rattle.std.proofs.Math.Nat.{mod-add-mod}
 use Rattle.std.specs.Int.{int_rem_euclid}
 use Rattle.stream_model.specs.Numbers.{residue, total}

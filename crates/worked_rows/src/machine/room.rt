@@ -19,7 +19,7 @@ pub fn rows()
         (byte_feed 0 (250 ∷ 1 ∷ []) ∷ Step 0 8 ∷ Step 1 8 ∷ Step 2 8 ∷ Read 2 0 8 ∷ [])
         ≡ Fed 2 ∷ Did 2 ∷ Did 2 ∷ Did 2 ∷ Piece 0 2 (numbers (4 ∷ 11 ∷ [])) [] false ∷ [] }
 
-    // The same, fed in pieces and stepped one item at a time.
+    // The row above, fed in pieces and stepped one item at a time.
     ensures adds_ten_in_pieces { replies_of (plus_ten 4096)
         (byte_feed 0 (250 ∷ []) ∷ Step 0 1 ∷ Step 1 1 ∷ byte_feed 0 (1 ∷ []) ∷ Step 2 1
         ∷ Step 0 1 ∷ Step 1 1 ∷ Step 2 1 ∷ Step 2 1 ∷ Read 2 0 8 ∷ [])
