@@ -1,6 +1,6 @@
 //! A file that is cut, or has another byte somewhere: it is read and opened, or refused.
 use graph_file::read_graph;
-use items::Refusal;
+use reporting::Refusal;
 use std::alloc::{AllocError, Global};
 use std::test::Fail;
 

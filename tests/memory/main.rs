@@ -21,7 +21,7 @@ mod words;
 use crate::launches::Way;
 use crate::piped::Left;
 use crate::served::Case;
-use items::Refusal;
+use reporting::Refusal;
 use std::alloc::Global;
 use std::{env, fs};
 use std::process::{Abort, ExitCode};

@@ -4,9 +4,9 @@ use flow::raw_fault::EndPlace::{Output, Tags};
 use flow::raw_fault::RawFault;
 use flow::raw_output::{write_items, write_tags};
 use flow::raw_run::RawRun;
-use items::Refusal;
 use plant::BlockId;
 use raw_items::ByteOrder;
+use reporting::Refusal;
 use std::alloc::Global;
 
 // A source of shorts, a block that adds one, and a sink. An item with a tag stands on the tape.

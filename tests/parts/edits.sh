@@ -36,7 +36,14 @@ fits() {
         while IFS= read -r line || [[ -n $line ]]; do
             key=${line%%:*} text=${line#*: }
             case $key in
-            file) file=$text whole[$file]=${whole[$file]-$(<"$1/$file")} ;;
+            file)
+                file=$text
+                if [[ ! -e $1/$file ]]; then
+                    echo "$edit: there is no $file"
+                    return 1
+                fi
+                whole[$file]=${whole[$file]-$(<"$1/$file")}
+                ;;
             old) old=$text ;;
             new)
                 if [[ ${whole[$file]} != *"$old"* || ${whole[$file]/"$old"/} == *"$old"* ]]; then

@@ -3,13 +3,14 @@ use super::drawn::{Make, bytes, mark, plant, streaming};
 use super::orders::drawn;
 use super::streamed::{BLOCKS, SINKS, WIRES};
 use flowgraph::BlockId;
-use items::{Items, Mark, Refusal};
+use items::{Items, Mark};
 use kinds::Kind;
 use pipeline::{ByteOrder, End, Pipeline, PipelineFault, PlantFault, Settled};
 use plant::Plant;
+use reporting::Refusal;
 use std::alloc::Global;
-use std::io;
 use std::io::{ErrorKind, Read, Write};
+use std::io;
 use std::process::Abort;
 use std::test::Fail;
 

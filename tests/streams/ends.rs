@@ -1,9 +1,9 @@
 //! Readers and writers as ends of a script: a call that failed is not tried again.
 ghost use Rattle.std.specs.Prelude.{◌≤◌, IfOk};
 
-use script_text::{Broken, ByteIn, ByteOut, ReadEnd, WriteEnd};
-use std::io;
+use reporting::{Broken, ByteIn, ByteOut, ReadEnd, WriteEnd};
 use std::io::{ErrorKind, Read, Write};
+use std::io;
 use std::test::Fail;
 
 // A device that counts its calls. The one of this number is interrupted, or takes nothing, and each other moves two

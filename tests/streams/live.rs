@@ -6,7 +6,7 @@ use super::served::{Ends, GOOD, served};
 use flow::serve::{Action, serve};
 use flow::stalls::Notes;
 use plant::{Headway, Unwatched, Watch};
-use script_text::{Broken, ByteIn, ByteOut};
+use reporting::{Broken, ByteIn, ByteOut};
 use std::alloc::Global;
 use std::sync::Arc;
 use std::sync::atomic::{AtomicU64, Ordering};

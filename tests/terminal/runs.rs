@@ -5,7 +5,7 @@ use clap::error::ErrorKind;
 use flow::running::Threading;
 use flow::serve::{Action, serve};
 use flow::stalls::Notes;
-use script_text::{ReadEnd, WriteEnd};
+use reporting::{ReadEnd, WriteEnd};
 use std::alloc::Global;
 use std::cell::Cell;
 use std::io;

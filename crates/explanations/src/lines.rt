@@ -6,7 +6,8 @@ use crate::frame::{Finding, Source, framed};
 use crate::looks::{Look, put_shown};
 use crate::near::near_name;
 use crate::tokens::part;
-use script_text::{Broken, ByteIn, Command, Line, parse_line};
+use reporting::{Broken, ByteIn};
+use script_text::{Command, Line, parse_line};
 use std::alloc::{AllocError, Global};
 
 const LONGEST_LINE: usize = 65536;

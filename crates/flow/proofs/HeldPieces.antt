@@ -23,7 +23,7 @@ use Rattle.plant.specs.declared.answers.Piece.{Piece}
 use Rattle.plant.specs.Answers.{piece_reply}
 use Rattle.raw_items.specs.declared.byte_order.ByteOrder.{ByteOrder}
 use Rattle.raw_items.specs.Values.{all_bytes_of, bytes_of}
-use Rattle.script_text.specs.Ends.{AppendsBeginning}
+use Rattle.reporting.specs.Ends.{AppendsBeginning}
 use Rattle.flow.specs.RawEnds.{IsPieceOf, held_bytes, held_count, held_type}
 
 module _ (net : Network) (st : State) (b from max : ℕ) where

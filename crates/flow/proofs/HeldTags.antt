@@ -20,7 +20,7 @@ use Rattle.flowgraph.specs.Flowgraph.{net_of}
 use Rattle.kinds.specs.Kind.{meaning_of}
 use Rattle.kinds.specs.declared.kind.Kind.{Kind}
 use Rattle.plant.specs.Plant.{PlantState}
-use Rattle.script_text.specs.Ends.{AppendsBeginning}
+use Rattle.reporting.specs.Ends.{AppendsBeginning}
 use Rattle.flow.specs.RawEnds.{held_count, tag_line}
 use Rattle.flow.proofs.HeldPieces.{beginning_more, beginning_here}
 

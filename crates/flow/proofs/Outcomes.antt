@@ -26,7 +26,7 @@ use Rattle.threads.specs.declared.outcome.Outcome.TheVariants as outcome
 use Rattle.plant.specs.Handed.{OpeningState}
 use Rattle.top_block.specs.Closing.{with_all_closed}
 use Rattle.flow.proofs.Agreeing.{same_names}
-use Rattle.script_text.specs.Ends.{AppendsBeginning}
+use Rattle.reporting.specs.Ends.{AppendsBeginning}
 use Rattle.flow.specs.Session.{in_state, turn}
 use Rattle.flow.specs.Reports.{run_text}
 use Rattle.flow.specs.Threads.{HasCome}

@@ -22,7 +22,7 @@ use Rattle.kinds.specs.declared.kind.Kind.{Kind}
 use Rattle.plant.specs.Plant.{PlantState}
 use Rattle.plant.proofs.Following.{is_live}
 use Rattle.graph_file.specs.Blocks.{drafted}
-use Rattle.script_text.specs.declared.ends.Broken.{Broken}
+use Rattle.reporting.specs.declared.ends.Broken.{Broken}
 use Rattle.flow.specs.Serve.{Stream, Puts}
 use Rattle.flow.specs.Stalls.{ring_from, ring_at, ring_text, lowest_from, full_in, is_for_room, wait_line, waits_text, opener_line, open_line}
 use Rattle.flow.proofs.Stalling.{puts_as, puts_on, puts_not, puts_more, puts_no_more}

@@ -21,8 +21,8 @@ use Rattle.graph_file.specs.Blocks.{Draft}
 use Rattle.graph_file.specs.Feeds.{Fed}
 use Rattle.graph_file.specs.File.{Content, file_of}
 use Rattle.graph_file.specs.Opening.{Opened, opened, opened_in, validated, feed_now, feed_found, after_feed, after_feeds, mark_of}
-use Rattle.script_text.specs.Ends.{AppendsBeginning}
-use Rattle.script_text.specs.declared.ends.Broken.{Broken}
+use Rattle.reporting.specs.Ends.{AppendsBeginning}
+use Rattle.reporting.specs.declared.ends.Broken.{Broken}
 use Rattle.plant.proofs.Idles.{idle-same, opening-idle}
 use Rattle.streaming.proofs.Idles.{feed_numbers-progress}
 use Rattle.flow.specs.Serve.{Stream, Tries, content_in}

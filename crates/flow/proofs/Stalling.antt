@@ -7,8 +7,8 @@ use Rattle.std.proofs.Math.Seq.{take-append-add}
 use Rattle.std.proofs.lemmas.List.{take-append-le, drop_more}
 use Rattle.std.specs.Prelude.{OnOk, OnErr, is_ok, if◌then◌else◌}
 use Rattle.std.specs.Result.{IsErr}
-use Rattle.script_text.specs.Ends.{AppendsBeginning}
-use Rattle.script_text.specs.declared.ends.Broken.{Broken}
+use Rattle.reporting.specs.Ends.{AppendsBeginning}
+use Rattle.reporting.specs.declared.ends.Broken.{Broken}
 use Rattle.flow.specs.Serve.{Stream, Tries, Puts}
 use Rattle.flow.proofs.Flows.{appends_nothing, appends_both}
 

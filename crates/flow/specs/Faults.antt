@@ -3,7 +3,8 @@ use Rattle.std.specs.Prelude.{ℕ, List, [], ◌++◌, ◌==◌, codes, if◌the
 use Rattle.std.specs.Fmt.{decimal}
 use Rattle.graph_file.specs.declared.fault.FileFault.{FileFault}
 use Rattle.graph_file.specs.Refusals as files
-use Rattle.graph_file.specs.Texts.{head, fault_text as file_text}
+use Rattle.reporting.specs.Texts.{head}
+use Rattle.graph_file.specs.Texts.{fault_text as file_text}
 use Rattle.script_text.specs.Replies.{line_text}
 use Rattle.threads.specs.Fault as runs
 use Rattle.flow.specs.declared.fault.Fault.{Fault}

@@ -13,7 +13,7 @@ use Rattle.graph_file.specs.Blocks.{Draft}
 use Rattle.graph_file.specs.Opening.{Opened}
 use Rattle.raw_items.specs.declared.byte_order.ByteOrder.{ByteOrder}
 use Rattle.raw_items.specs.Values.{all_bytes_of}
-use Rattle.script_text.specs.Ends.{AppendsBeginning}
+use Rattle.reporting.specs.Ends.{AppendsBeginning}
 use Rattle.script_text.specs.Replies.{line_text}
 pub use Rattle.script_text.specs.Replies.{tag_line}
 use Rattle.script_text.specs.Reports.{sink_text}

@@ -1,7 +1,7 @@
 -- How a run with raw items says why it stops.
 use Rattle.std.specs.Prelude.{ℕ, List, [], ◌++◌, codes}
 use Rattle.std.specs.Fmt.{decimal}
-use Rattle.graph_file.specs.Texts.{head}
+use Rattle.reporting.specs.Texts.{head}
 use Rattle.script_text.specs.Replies.{line_text}
 use Rattle.plant.specs.declared.fault.PlantFault.TheVariants as plant
 use Rattle.plant.specs.Fault as plants

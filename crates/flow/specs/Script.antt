@@ -6,7 +6,7 @@ use Rattle.script_text.specs.Lines.{lines_of, most_lines}
 use Rattle.script_text.specs.Splits.{Split, IsUnfinished, KeepsBytes}
 use Rattle.script_text.specs.Scripts.{said_of, GoesOn}
 use Rattle.script_text.specs.Grammar.{Command, Parsed, Nothing, Bad, Says, parsed_from}
-use Rattle.script_text.specs.Ends.{AppendsBeginning}
+use Rattle.reporting.specs.Ends.{AppendsBeginning}
 use Rattle.flow.specs.Session.{Graph, Standing, Answers}
 use Rattle.flow.specs.declared.script.ScriptFault.{ScriptFault}
 use Rattle.flow.specs.declared.script.ScriptFault.TheVariants.{BadLine, Read, Write, Memory}

@@ -20,8 +20,8 @@ use Rattle.threads.specs.History.{Noted, IsRunOf}
 use Rattle.drawings.specs.Drawings.{drawn_text}
 use Rattle.drawings.specs.declared.drawing.Format.{Format}
 use Rattle.graph_model.specs.Rates.{balance_of}
-use Rattle.script_text.specs.Ends.{AppendsBeginning}
-use Rattle.script_text.specs.declared.ends.Broken.{Broken}
+use Rattle.reporting.specs.Ends.{AppendsBeginning}
+use Rattle.reporting.specs.declared.ends.Broken.{Broken}
 use Rattle.top_block.specs.Closing.{closed}
 use Rattle.flow.specs.Session.{Answers, graph_of, standing_of, none_kept, turn}
 use Rattle.flow.specs.Script.{RunEndsIn, Breaks, failed_reads, failed_writes}

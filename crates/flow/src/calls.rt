@@ -12,8 +12,9 @@ ghost use Rattle.script_text.specs.Replies.{reply_text};
 ghost use Rattle.flow.specs.Session.{set_numbers, taps_wanted, IsValueFor, Tells, Moves, refusal_line, reply_line};
 
 use block_kinds::Block;
-use items::{ItemFault, ItemType, Items, Mark, Refusal};
+use items::{ItemFault, ItemType, Items, Mark};
 use plant::{BlockId, Closed, Fed, Need, Piece, Plant, PlantFault, Step, Taken};
+use reporting::Refusal;
 use script_text::Reply;
 use settings::{Taps, Value};
 use std::alloc::{AllocError, Global};

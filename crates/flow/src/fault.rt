@@ -6,8 +6,8 @@ ghost use Rattle.flow.specs.declared.script.ScriptFault.TheVariants.{Memory};
 
 use crate::script::ScriptFault;
 use flowgraph::Block;
-use graph_file::{FileFault, Pieces};
-use items::Refusal;
+use graph_file::FileFault;
+use reporting::{Refusal, RefusalText};
 use std::alloc::AllocError;
 use std::fmt;
 use thiserror::Error;
@@ -42,7 +42,7 @@ impl Refusal for Fault {
 }
 
 impl Fault {
-    ghost use Rattle.graph_file.specs.Texts.{joined};
+    ghost use Rattle.reporting.specs.Texts.{refusal_text};
     ghost use Rattle.flow.specs.Faults.{fault_text, status_of};
 
     /// The exit status that the fault brings: 4 for memory, devices and threads, 1 for every other refusal.
@@ -57,14 +57,14 @@ impl Fault {
         }
     }
 
-    /// The text of the fault in pieces, for which no memory is asked.
-    pub fn pieces(&self) -> Pieces<'_>
-        ensures { joined result ≡ fault_text self.now }
+    /// The text of the fault in parts, for which no memory is asked.
+    pub fn refusal_text(&self) -> RefusalText<'_>
+        ensures { refusal_text result ≡ fault_text self.now }
     {
         match self {
-            Fault::File(fault) => fault.pieces(),
-            Fault::Script(fault) => fault.pieces(),
-            Fault::Run(fault) => Pieces::alone(fault.row()),
+            Fault::File(fault) => fault.refusal_text(),
+            Fault::Script(fault) => fault.refusal_text(),
+            Fault::Run(fault) => RefusalText::alone(fault.row()),
         }
     }
 }
@@ -110,7 +110,7 @@ impl fmt::Display for Fault {
     ghost output = { λ fault. Some (fault_text fault) };
 
     fn fmt<W: fmt::Write>(&self, f: &mut fmt::Formatter<W>) -> fmt::Result {
-        let pieces = self.pieces();
-        write!(f, "{pieces}")
+        let text = self.refusal_text();
+        write!(f, "{text}")
     }
 }

@@ -2,7 +2,8 @@
 
 use crate::script::{ScriptFault, answer_all};
 use kinds::Kind;
-use script_text::{ByteIn, ByteOut, LineSplitter};
+use reporting::{ByteIn, ByteOut};
+use script_text::LineSplitter;
 use std::alloc::Global;
 use std::sync::Wait;
 use threads::{Caller, Desk, Gate};

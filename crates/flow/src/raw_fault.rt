@@ -5,14 +5,14 @@ ghost use Rattle.std.specs.Fmt.{decimal};
 ghost use Rattle.flow.specs.declared.fault.Fault.TheVariants.{Script};
 ghost use Rattle.flow.specs.declared.raw_fault.RawFault.TheVariants.{Whole};
 ghost use Rattle.flow.specs.declared.script.ScriptFault.TheVariants.{Memory};
-ghost use Rattle.graph_file.specs.Texts.{head, joined};
+ghost use Rattle.reporting.specs.Texts.{head, refusal_text};
 ghost use Rattle.flow.specs.RawFaults.{end_row, place_word, place_number, place_text};
 
 use crate::fault::Fault;
 use crate::script::ScriptFault;
-use graph_file::{Piece, Pieces};
-use items::Refusal;
 use plant::PlantFault;
+use reporting::text::{EMPTY, SPACE};
+use reporting::{Refusal, RefusalText, TextPart};
 use std::alloc::AllocError;
 use std::fmt;
 use thiserror::Error;
@@ -135,12 +135,12 @@ impl RawFault {
         }
     }
 
-    /// The text of the fault in pieces, for which no memory is asked.
-    pub fn pieces(&self) -> Pieces<'_>
-        ensures { joined result ≡ raw_fault_text self.now }
+    /// The text of the fault in parts, for which no memory is asked.
+    pub fn refusal_text(&self) -> RefusalText<'_>
+        ensures { refusal_text result ≡ raw_fault_text self.now }
     {
         match self {
-            RawFault::Whole(fault) => fault.pieces(),
+            RawFault::Whole(fault) => fault.refusal_text(),
             RawFault::End(place, fault) => match fault {
                 EndFault::BadLine(line) | EndFault::TagPlace(line) => {
                     placed_line(fault.row(), *place, *line)
@@ -152,31 +152,23 @@ impl RawFault {
 }
 
 // The number and the name of a fault, its place, and the number of a line there.
-fn placed_line(row: (u32, &'static str), place: EndPlace, line: u64) -> Pieces<'static>
-    ensures { joined result ≡ head (row.entry.0, row.entry.1.now) ++ place_text place ++ codes " " ++ decimal line }
+fn placed_line(row: (u32, &'static str), place: EndPlace, line: u64) -> RefusalText<'static>
+    ensures { refusal_text result ≡ head (row.entry.0, row.entry.1.now) ++ place_text place ++ codes " " ++ decimal line }
 {
-    let (number, name) = row;
-    Pieces {
-        list: [
-            Piece::Number(u64::from(number)),
-            Piece::Text(" "),
-            Piece::Text(name),
-            Piece::Text(place.word()),
-            Piece::Number(place.number() as u64),
-            Piece::Text(" "),
-            Piece::Number(line),
-            Piece::Text(""),
-            Piece::Text(""),
-        ],
-    }
+    let number = TextPart::Number(place.number() as u64);
+    let word = TextPart::Text(place.word());
+    RefusalText::headed(
+        row,
+        [word, number, SPACE, TextPart::Number(line), EMPTY, EMPTY],
+    )
 }
 
 // The number and the name of a fault, and its place.
-fn placed(row: (u32, &'static str), place: EndPlace) -> Pieces<'static>
-    ensures { joined result ≡ head (row.entry.0, row.entry.1.now) ++ place_text place }
+fn placed(row: (u32, &'static str), place: EndPlace) -> RefusalText<'static>
+    ensures { refusal_text result ≡ head (row.entry.0, row.entry.1.now) ++ place_text place }
 {
-    let number = Piece::Number(place.number() as u64);
-    Pieces::of(row, [Piece::Text(place.word()), number, Piece::Text("")])
+    let number = TextPart::Number(place.number() as u64);
+    RefusalText::of(row, [TextPart::Text(place.word()), number, EMPTY])
 }
 
 impl From<Fault> for RawFault {
@@ -202,6 +194,6 @@ impl fmt::Display for RawFault {
     ghost output = { λ fault. Some (raw_fault_text fault) };
 
     fn fmt<W: fmt::Write>(&self, f: &mut fmt::Formatter<W>) -> fmt::Result {
-        write!(f, "{}", self.pieces())
+        write!(f, "{}", self.refusal_text())
     }
 }

@@ -4,7 +4,7 @@ ghost use Rattle.std.specs.Prelude.{◌≡◌, ◌+◌, ◌-◌, ◌^◌, ◌<�
 ghost use Rattle.std.specs.Io.KnownBytes.{Appends};
 ghost use Rattle.flowgraph.specs.Flowgraph.{net_of};
 ghost use Rattle.kinds.specs.Kind.{meaning_of};
-ghost use Rattle.script_text.specs.Ends.{AppendsBeginning};
+ghost use Rattle.reporting.specs.Ends.{AppendsBeginning};
 ghost use Rattle.flow.specs.declared.raw_fault.EndFault.TheVariants.{Write};
 ghost use Rattle.flow.specs.declared.raw_fault.RawFault.TheVariants.{End};
 ghost use Rattle.flow.specs.RawEnds.{held_bytes, held_lines, IsNoSink, IsPieceOf, StopsWriting};
@@ -16,7 +16,7 @@ use flowgraph::BlockId;
 use kinds::Kind;
 use plant::{Piece, Plant};
 use raw_items::{ByteOrder, push_item_bytes};
-use script_text::ByteOut;
+use reporting::ByteOut;
 use std::alloc::{AllocError, Global};
 
 // How many items are taken from a sink at once, at most.

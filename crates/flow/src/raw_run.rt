@@ -29,7 +29,7 @@ use items::{ItemType, Items};
 use kinds::Kind;
 use plant::{Plant, PlantFault};
 use raw_items::{ByteOrder, Decoder};
-use script_text::ByteIn;
+use reporting::ByteIn;
 use std::alloc::{AllocError, Global};
 use std::fmt;
 use std::marker::Model;

@@ -13,10 +13,9 @@ ghost use Rattle.flow.specs.declared.script.ScriptFault.TheVariants.{Memory};
 use crate::answerer::Answerer;
 use crate::session::Session;
 use block_kinds::Block;
-use graph_file::{Piece, Pieces};
-use items::Refusal;
 use plant::Plant;
-use script_text::{ByteIn, ByteOut, Command, Line, LineSplitter, last_line, next_line};
+use reporting::{ByteIn, ByteOut, Refusal, RefusalText, TextPart};
+use script_text::{Command, Line, LineSplitter, last_line, next_line};
 use std::alloc::{AllocError, Global};
 use std::fmt;
 use thiserror::Error;
@@ -52,20 +51,24 @@ impl Refusal for ScriptFault {
 }
 
 impl ScriptFault {
-    ghost use Rattle.graph_file.specs.Texts.{joined};
+    ghost use Rattle.reporting.specs.Texts.{refusal_text};
     ghost use Rattle.flow.specs.Faults.{script_fault_text};
 
-    /// The text of the fault in pieces, for which no memory is asked.
-    pub fn pieces(&self) -> Pieces<'static>
-        ensures { joined result ≡ script_fault_text self.now }
+    /// The text of the fault in parts, for which no memory is asked.
+    pub fn refusal_text(&self) -> RefusalText<'static>
+        ensures { refusal_text result ≡ script_fault_text self.now }
     {
         match self {
-            ScriptFault::BadLine(number) => Pieces::of(
+            ScriptFault::BadLine(number) => RefusalText::of(
                 self.row(),
-                [Piece::Text(" "), Piece::Number(*number), Piece::Text("")],
+                [
+                    TextPart::Text(" "),
+                    TextPart::Number(*number),
+                    TextPart::Text(""),
+                ],
             ),
             ScriptFault::Read | ScriptFault::Write | ScriptFault::Memory => {
-                Pieces::alone(self.row())
+                RefusalText::alone(self.row())
             }
         }
     }
@@ -78,8 +81,8 @@ impl fmt::Display for ScriptFault {
     ghost output = { λ fault. Some (script_fault_text fault) };
 
     fn fmt<W: fmt::Write>(&self, f: &mut fmt::Formatter<W>) -> fmt::Result {
-        let pieces = self.pieces();
-        write!(f, "{pieces}")
+        let text = self.refusal_text();
+        write!(f, "{text}")
     }
 }
 

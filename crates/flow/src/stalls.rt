@@ -18,7 +18,7 @@ use itoa::Buffer;
 use kinds::Kind;
 use plant::{BlockId, BlockNeed, Plant};
 use rates::{Rates, balance};
-use script_text::{Broken, ByteOut};
+use reporting::{Broken, ByteOut};
 use std::alloc::Global;
 
 /// Whether it is explained why a run stalled.

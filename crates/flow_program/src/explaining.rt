@@ -4,7 +4,7 @@ use crate::words::Call;
 use explanations::{KeptLines, at_device, explain};
 use flow::serve::Action;
 use graph_file::Depth;
-use script_text::ByteIn;
+use reporting::ByteIn;
 use std::io::Error;
 
 /// The exit status of what is refused.

@@ -27,7 +27,7 @@ use explanations::{KeptLines, Noted};
 use flow::serve::serve;
 use flow::start::StartFault;
 use plant::Watch;
-use script_text::{ReadEnd, WriteEnd};
+use reporting::{ReadEnd, WriteEnd};
 use std::io::{IsTerminal, Write};
 use std::process::ExitCode;
 use std::sync::Wait;

@@ -5,7 +5,7 @@ ghost use Rattle.std.specs.Io.Buffered.{writer_inner, writer_buffer};
 
 use explanations::shown;
 use flow::start::StartFault;
-use script_text::WriteEnd;
+use reporting::WriteEnd;
 use std::alloc::Global;
 use std::env::{Env, FillError};
 use std::io::{BufWriter, Write};

@@ -1,6 +1,5 @@
--- How refusals print: their number, their name, and what the name alone does not say.
+-- How the refusals of a graph file print: their number, their name, and what the name alone does not say.
 use Rattle.std.specs.Prelude.{ℕ, ℤ, List, [], ◌++◌, codes}
-use Rattle.std.specs.List.{flat_map}
 use Rattle.std.specs.Fmt.{decimal, signed_decimal}
 use Rattle.flowgraph.specs.declared.fault.GraphFault.{GraphFault}
 use Rattle.flowgraph.specs.declared.fault.GraphFault.TheVariants as graph
@@ -14,9 +13,7 @@ use Rattle.graph_file.specs.declared.fault.FilePlace.{FilePlace}
 use Rattle.graph_file.specs.declared.fault.FilePlace.TheVariants.{Top, Block, Connect, Feed}
 use Rattle.graph_file.specs.declared.fault.FileFault.{FileFault}
 use Rattle.graph_file.specs.declared.fault.FileFault.TheVariants as file
-use Rattle.graph_file.specs.declared.pieces.Piece.{Piece}
-use Rattle.graph_file.specs.declared.pieces.Piece.TheVariants as pieces
-use Rattle.graph_file.specs.declared.pieces.Pieces.{Pieces}
+use Rattle.reporting.specs.Texts.{head}
 use Rattle.graph_file.specs.Refusals.{row_of, end_text}
 
 -- the words for places
@@ -25,10 +22,6 @@ place_text Top = codes "top"
 place_text (Block n) = codes "block " ++ decimal n
 place_text (Connect n) = codes "connect " ++ decimal n
 place_text (Feed n) = codes "feed " ++ decimal n
-
--- the number of a refusal, and its name
-abbrev pub head : ℕ × List ℕ → List ℕ
-head row = decimal row.0 ++ codes " " ++ row.1
 
 -- what is said behind the name: of what is wrong with the table of a place
 abbrev pub table_rest : FilePlace → KeyFault → List ℕ
@@ -71,12 +64,3 @@ rest_of file.Memory = []
 -- what a fault prints
 abbrev pub fault_text : FileFault → List ℕ
 fault_text fault = head (row_of fault) ++ rest_of fault
-
--- the text of a piece, and of all pieces one behind the other
-abbrev pub piece_text : Piece → List ℕ
-piece_text (pieces.Text text) = text.now
-piece_text (pieces.Number n) = decimal n
-piece_text (pieces.Signed x) = signed_decimal x
-
-abbrev pub joined : Pieces → List ℕ
-joined p = flat_map piece_text p.list

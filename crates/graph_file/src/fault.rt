@@ -2,14 +2,15 @@
 ghost use Rattle.std.specs.Prelude.{◌≡◌, ◌↔◌, ◌⊎◌, ◌<◌, length, None, Some};
 ghost use Rattle.graph_file.specs.declared.fault.FileFault.TheVariants.{Memory};
 ghost use Rattle.graph_file.specs.Refusals.{told, told_table, told_feed, of_graph, negative_port, short, end_text, row_of};
+ghost use Rattle.reporting.specs.Texts.{refusal_text};
 ghost use Rattle.graph_file.specs.Texts as texts;
 
-use crate::pieces::{Pieces, feed_pieces, graph_pieces, negative_pieces, table_pieces};
+use crate::texts::{feed_text, graph_text, negative_text, table_text};
 use arrayvec::ArrayString;
 use flowgraph::{GraphFault, Side};
-use items::Refusal;
 use kind_keys::KeyFault;
 use plant::PlantFault;
+use reporting::{Refusal, RefusalText};
 use std::alloc::{AllocError, AllocFailed, Global};
 use std::fmt;
 use thiserror::Error;
@@ -94,22 +95,22 @@ impl Refusal for FileFault {
 }
 
 impl FileFault {
-    /// The text of the fault in pieces. It takes no memory.
-    pub fn pieces(&self) -> Pieces<'_>
-        ensures { texts.joined result ≡ texts.fault_text self.now }
+    /// The text of the fault in parts. It takes no memory.
+    pub fn refusal_text(&self) -> RefusalText<'_>
+        ensures { refusal_text result ≡ texts.fault_text self.now }
     {
         let row = self.row();
         match self {
-            FileFault::Syntax | FileFault::Memory => Pieces::alone(row),
-            FileFault::Table { place, fault } => table_pieces(*place, *fault),
-            FileFault::Graph { place, fault, name } => graph_pieces(*place, *fault, name.as_str()),
-            FileFault::NegativePort { name, side, port } => negative_pieces(
+            FileFault::Syntax | FileFault::Memory => RefusalText::alone(row),
+            FileFault::Table { place, fault } => table_text(*place, *fault),
+            FileFault::Graph { place, fault, name } => graph_text(*place, *fault, name.as_str()),
+            FileFault::NegativePort { name, side, port } => negative_text(
                 row,
                 name.text(),
                 *side,
                 *port,
             ),
-            FileFault::Feed { feed, fault } => feed_pieces(*feed, *fault),
+            FileFault::Feed { feed, fault } => feed_text(*feed, *fault),
         }
     }
 }
@@ -190,7 +191,7 @@ impl fmt::Display for FileFault {
     ghost output = { λ fault. Some (texts.fault_text fault) };
 
     fn fmt<W: fmt::Write>(&self, f: &mut fmt::Formatter<W>) -> fmt::Result {
-        let pieces = self.pieces();
-        write!(f, "{pieces}")
+        let text = self.refusal_text();
+        write!(f, "{text}")
     }
 }

@@ -8,7 +8,7 @@
 //! `validate` gives the graph and the feeds alone, and `stream` a plant that streams. A file that is refused is a [`FileFault`]: a number, a name and the place.
 //! Which cause is reported, where there are several, and that all else is accepted, says the contract of [`read_graph`]. `blocks`, `connections` and `feeds` read
 //! the tables, [`kind_keys`] makes a block of a table, and `only` refuses keys that a table may not have. A fault is made without memory, and its text comes in
-//! [`Pieces`] for the same reason.
+//! [`RefusalText`](reporting::RefusalText) for the same reason.
 #![tactic(auto)]
 
 pub mod accepted;
@@ -20,11 +20,10 @@ mod feeds;
 pub mod file;
 mod only;
 mod opening;
-pub mod pieces;
 mod taking;
+mod texts;
 
 pub use accepted::{Depth, fault_of};
 pub use fault::{EndName, FileFault, FilePlace};
 pub use feed::{Feed, FileMark};
 pub use file::{File, read_graph};
-pub use pieces::{Piece, Pieces};

@@ -5,7 +5,6 @@ pub mod block_name;
 pub mod fault;
 pub mod marks;
 pub mod name;
-pub mod refusal;
 pub mod stream_items;
 pub mod tag_key;
 
@@ -13,7 +12,6 @@ pub use block_name::BlockName;
 pub use fault::ItemFault;
 pub use marks::{Mark, Tag};
 pub use name::is_name;
-pub use refusal::Refusal;
 pub use stream_items::Items;
 pub use stream_model::{ItemType, Signature};
 pub use tag_key::TagKey;

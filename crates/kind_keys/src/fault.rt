@@ -4,8 +4,8 @@ ghost use Rattle.kind_keys.specs.Fault.{row_of};
 ghost use Rattle.kind_keys.specs.declared.fault.KeyFault.TheVariants.{BadParameter, Memory};
 
 use crate::key::Key;
-use items::Refusal;
 use parameters::{ParamFault, Parameter};
+use reporting::Refusal;
 use std::alloc::{AllocError, AllocFailed};
 
 /// What is wrong with a table.

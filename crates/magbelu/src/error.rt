@@ -4,10 +4,11 @@ ghost use Rattle.magbelu.specs.Errors.{row_of, text_of};
 
 use flowgraph::GraphFault;
 use graph_file::FileFault;
-use items::{ItemFault, Refusal};
+use items::ItemFault;
 use parameters::ParamFault;
 use pipeline::PipelineFault;
 use plant::PlantFault;
+use reporting::Refusal;
 use std::fmt;
 use threads::RunError;
 

@@ -24,5 +24,5 @@ pub mod runs;
 pub mod streams;
 
 pub use error::Error;
-pub use items::Refusal;
+pub use reporting::Refusal;
 pub use runs::RunError;

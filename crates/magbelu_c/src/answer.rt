@@ -7,8 +7,7 @@ use crate::shows::show;
 use flow::fault::Fault;
 use flow::raw_fault::RawFault;
 use flow::telling::{report, report_raw};
-use items::Refusal;
-use script_text::WriteEnd;
+use reporting::{Refusal, WriteEnd};
 use std::alloc::Global;
 
 /// What came of a call. A text that does not fit its buffer is not written there, and its length is given all the same.

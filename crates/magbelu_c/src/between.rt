@@ -18,7 +18,7 @@ use flowgraph::{BlockId, Valid};
 use kinds::Kind;
 use plant::Plant;
 use raw_items::ByteOrder;
-use script_text::{ReadEnd, WriteEnd};
+use reporting::{ReadEnd, WriteEnd};
 use std::alloc::{AllocError, Global};
 
 /// What a run gives: the bytes of all outputs, one behind the other, and how many each has.

@@ -7,7 +7,7 @@ ghost use Rattle.magbelu_c.specs.Answers.{Answers, WasNot, IsScripted, WasNotScr
 use crate::answer::{Answer, badly, well};
 use flow::serve::{check, run_alone, run_script};
 use plant::Unwatched;
-use script_text::{ReadEnd, WriteEnd};
+use reporting::{ReadEnd, WriteEnd};
 use std::alloc::Global;
 
 const VERSION: u32 = 1;

@@ -6,8 +6,8 @@ ghost use Rattle.firings.specs.Waits.{wait_seen};
 ghost use Rattle.magbelu_c.specs.Replies.{at_rest, done, no_memory, not_open, refused, told_maybe, told_of};
 ghost use Rattle.magbelu_c.specs.Waiting.{waiting};
 
-use items::Refusal;
 use plant::{BlockNeed, Need, PlantFault, Step};
+use reporting::Refusal;
 
 /// What came of a call of a held plant.
 #[repr(C)]

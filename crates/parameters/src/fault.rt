@@ -3,7 +3,7 @@ ghost use Rattle.std.specs.Prelude.{◌≡◌, Some};
 ghost use Rattle.parameters.specs.Fault.{row_of, parameter_text, text_of};
 ghost use Rattle.parameters.specs.declared.fault.ParamFault.TheVariants.{Memory};
 
-use items::Refusal;
+use reporting::Refusal;
 use std::alloc::AllocError;
 use std::error::Error;
 use std::fmt;

@@ -9,7 +9,7 @@ use Rattle.machine_laws.specs.Waits.{ForFeed, wait_of}
 use Rattle.items.specs.Items.{type_of}
 use Rattle.raw_items.specs.Values.{items_of, all_bytes_of}
 use Rattle.raw_items.specs.Decoding.{HasDecoded}
-use Rattle.script_text.specs.Ends.{AppendsBeginning}
+use Rattle.reporting.specs.Ends.{AppendsBeginning}
 use Rattle.script_text.specs.Replies.{tag_line}
 use Rattle.streaming.specs.Streaming.{StreamingState, drained, stream_into, tags_into}
 use Rattle.pipeline.specs.declared.end.End.{End}

@@ -8,7 +8,7 @@ ghost use Rattle.machine_laws.specs.Sound.{fired};
 ghost use Rattle.items.specs.Items.{numbers_of, type_of};
 ghost use Rattle.flowgraph.specs.Flowgraph.{net_of};
 ghost use Rattle.raw_items.specs.Values.{all_bytes_of};
-ghost use Rattle.script_text.specs.Ends.{AppendsBeginning};
+ghost use Rattle.reporting.specs.Ends.{AppendsBeginning};
 ghost use Rattle.script_text.specs.Printed.{tags_seen};
 ghost use Rattle.script_text.specs.Replies.{tag_line};
 ghost use Rattle.streaming.specs.Streaming.{drained};
@@ -20,7 +20,8 @@ use crate::end::Output;
 use crate::fault::PipelineFault;
 use flowgraph::{Block, BlockId};
 use raw_items::push_item_bytes;
-use script_text::{push_tag_lines, write_whole};
+use reporting::write_whole;
+use script_text::push_tag_lines;
 use std::io::Write;
 use streaming::StreamingPlant;
 

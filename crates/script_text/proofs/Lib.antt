@@ -1,5 +1,4 @@
 pub mod LineLemmas
-pub mod EndLemmas
 pub mod FieldLemmas
 pub mod NumberLemmas
 pub mod ScriptLemmas

@@ -1,6 +1,5 @@
 pub mod Lines
 pub mod Splits
-pub mod Ends
 pub mod Numbers
 pub mod Fields
 pub mod Grammar

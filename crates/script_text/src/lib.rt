@@ -3,7 +3,6 @@
 
 mod bytes;
 pub mod command;
-pub mod ends;
 mod mark_line;
 mod name;
 mod numerals;
@@ -15,7 +14,6 @@ pub mod script;
 pub mod splitter;
 
 pub use command::{Command, Line};
-pub use ends::{Broken, ByteIn, ByteOut, ReadEnd, WriteEnd, write_whole};
 pub use mark_line::parse_mark_line;
 pub use parse::parse_line;
 pub use print::push_tag_lines;

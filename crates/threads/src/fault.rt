@@ -4,8 +4,8 @@ ghost use Rattle.std.specs.Prelude.{◌≡◌, Some};
 ghost use Rattle.threads.specs.Fault.{error_of, row_of, text_of};
 
 use flowgraph::Block;
-use items::Refusal;
 use plant::Plant;
+use reporting::Refusal;
 use std::fmt;
 
 /// Why a run did not come to its end. A plant that is returned has what was handed to it, after `live` by its callers too, with no claim in flight,

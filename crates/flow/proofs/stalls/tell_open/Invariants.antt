@@ -1,7 +1,7 @@
 use Rattle.std.proofs.Common.{◌≡◌, length}
 use Rattle.std.specs.Prelude.{Result}
 use Rattle.std.specs.List.{flat_map}
-use Rattle.script_text.specs.declared.ends.Broken.{Broken}
+use Rattle.reporting.specs.declared.ends.Broken.{Broken}
 use Rattle.graph_file.specs.Blocks.{drafted}
 use Rattle.flow.specs.Serve.{Stream, Puts, stream}
 use Rattle.flow.specs.Stalls.{open_line, open_text}

@@ -2,7 +2,7 @@ use Rattle.std.proofs.Common.{◌≡◌, ◌<◌, ◌-◌, length}
 use Rattle.std.specs.Prelude.{Result}
 use Rattle.flowgraph.specs.Flowgraph.{net_of}
 use Rattle.kinds.specs.Kind.{meaning_of}
-use Rattle.script_text.specs.declared.ends.Broken.{Broken}
+use Rattle.reporting.specs.declared.ends.Broken.{Broken}
 use Rattle.graph_file.specs.Blocks.{drafted}
 use Rattle.flow.specs.Serve.{Stream, Puts, stream}
 use Rattle.flow.specs.Stalls.{ring_from, waits_text}

@@ -9,4 +9,4 @@ returns g c =
     subst
     (λ (text : List ℕ). Tries (stream (g.E.ByteOut.contents c.args.errors.now) (g.E.ByteOut.failed c.args.errors.now))
     (stream (g.E.ByteOut.contents c.report_pieces.new.errors) (g.E.ByteOut.failed c.report_pieces.new.errors)) (line_text (codes "flow: refused " ++ text)))
-    c.pieces.ensures c.report_pieces.ensures
+    c.refusal_text.ensures c.report_pieces.ensures

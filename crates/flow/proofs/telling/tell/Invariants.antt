@@ -1,6 +1,6 @@
 use Rattle.std.proofs.Common.{◌≡◌, drop, ◌++◌, [], ◌∷◌}
 use Rattle.std.specs.List.{flat_map}
-use Rattle.graph_file.specs.Texts.{piece_text}
+use Rattle.reporting.specs.Texts.{part_text}
 use Rattle.flow.specs.Serve.{Stream, Tries, stream}
 use Rattle.flow.proofs.telling.tell.Given as goal
 
@@ -8,5 +8,5 @@ use Rattle.flow.proofs.telling.tell.Given as goal
 abbrev pub invariant-loop-piece : goal.invariant-loop-piece
 invariant-loop-piece g l =
     (g.E.ByteOut.failed l.errors ≡ g.E.ByteOut.failed l.initial.errors)
-    × ((last : Stream) → Tries (stream (g.E.ByteOut.contents l.errors) (g.E.ByteOut.failed l.errors)) last (flat_map piece_text (drop l.piece-index l.pieces) ++ 10 ∷ []) →
-    Tries (stream (g.E.ByteOut.contents l.initial.errors) (g.E.ByteOut.failed l.initial.errors)) last (flat_map piece_text l.pieces ++ 10 ∷ []))
+    × ((last : Stream) → Tries (stream (g.E.ByteOut.contents l.errors) (g.E.ByteOut.failed l.errors)) last (flat_map part_text (drop l.piece-index l.pieces) ++ 10 ∷ []) →
+    Tries (stream (g.E.ByteOut.contents l.initial.errors) (g.E.ByteOut.failed l.initial.errors)) last (flat_map part_text l.pieces ++ 10 ∷ []))

@@ -5,7 +5,7 @@ use Rattle.std.specs.Io.KnownBytes.{Appends}
 use Rattle.flowgraph.specs.Flowgraph.{net_of}
 use Rattle.items.specs.Items.{type_of, numbers_of}
 use Rattle.items.specs.Tags.{tag_of}
-use Rattle.script_text.specs.Ends.{AppendsBeginning}
+use Rattle.reporting.specs.Ends.{AppendsBeginning}
 use Rattle.script_text.specs.Printed.{tags_seen}
 use Rattle.script_text.specs.Replies.{tag_line}
 use Rattle.streaming.specs.Draining.{items_taken, tags_taken}

@@ -1,7 +1,7 @@
 //! Where bytes come from and where they go. A failed call is counted, so that a caller can tell that one failed.
 ghost use Rattle.std.specs.Prelude.{◌≡◌, ℕ, ◌+◌, ◌-◌, ◌^◌, ◌<◌, ◌≤◌, List, Option, length, is_ok, if◌then◌else◌, OnOk, OnErr, IfOk};
 ghost use Rattle.std.specs.Io.KnownBytes.{Appends, Keeps, ReadConsumes};
-ghost use Rattle.script_text.specs.Ends.{AppendsBeginning};
+ghost use Rattle.reporting.specs.Ends.{AppendsBeginning};
 
 use std::io;
 use std::io::{ErrorKind, Read, Write};

@@ -1,6 +1,6 @@
 use Rattle.std.proofs.Common.{length, ◌-◌, ◌≤◌, take}
 use Rattle.std.specs.Io.KnownBytes.{Appends}
-use Rattle.script_text.proofs.ends.write_whole.Given as goal
+use Rattle.reporting.proofs.ends.write_whole.Given as goal
 
 -- what was written so far is the beginning of the piece
 abbrev pub invariant-loop-done : goal.invariant-loop-done

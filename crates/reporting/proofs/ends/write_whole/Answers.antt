@@ -1,7 +1,7 @@
 use Rattle.std.proofs.Common.{◌-◌, length, drop, arith}
 use Rattle.std.proofs.lemmas.List.{length-take, length-drop, take_rest}
-use Rattle.script_text.proofs.EndLemmas.{appends_more}
-use Rattle.script_text.proofs.ends.write_whole.Goals as goal
+use Rattle.reporting.proofs.EndLemmas.{appends_more}
+use Rattle.reporting.proofs.ends.write_whole.Goals as goal
 
 pub loop-done-preserved : goal.loop-done-preserved
 loop-done-preserved g c =
