@@ -59,10 +59,3 @@ put_bench() {
     fi
 }
 
-# put_memory_tests: the program of tests/memory, in the checkout $room/tree
-put_memory_tests() {
-    put_apart tree memory_tests flow pipeline helper_threads clap
-    put_sources "$top/tests/memory" "$room/tree/crates/memory_tests/src"
-    # (these read the words of the program)
-    cp -- "$top/crates/$program_crate/src/"{ends,words}.rt "$room/tree/crates/memory_tests/src"
-}

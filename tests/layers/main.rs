@@ -1,10 +1,13 @@
-//! The tests of some folders, of which the first word names one. Where it is `copy`, the program copies the file `program`, which lies where it runs, to
-//! where the second word says.
+//! The tests of some folders, of which the first word names one; tasks in which an allocation fails, where the program has them; and what the programs of
+//! `benches/` and that of `examples/embed` print. Where the first word is `copy`, the program copies the file `program`, which lies where it runs, to where the
+//! second word says.
 #![tactic(auto)]
 
 mod called;
 
-use std::io::Eprint;
+use std::env::Env;
+use std::fs::Files;
+use std::io::{Eprint, Print};
 use std::process::{Abort, ExitCode};
 use std::sync::Wait;
 use std::thread::Threads;
@@ -13,16 +16,44 @@ use std::{env, fs, io};
 
 /// What a test may do.
 pub trait Host:
-    Abort + Threads + Wait + Clock + AllocGlobal + Eprint + Copy + Send + Sync + 'static
+    Abort
+    + Threads
+    + Wait
+    + Clock
+    + AllocGlobal
+    + Env
+    + Files
+    + Print
+    + Eprint
+    + Copy
+    + Send
+    + Sync
+    + 'static
 {
 }
 
-impl<R: Abort + Threads + Wait + Clock + AllocGlobal + Eprint + Copy + Send + Sync + 'static> Host
-    for R
+impl<
+    R: Abort
+        + Threads
+        + Wait
+        + Clock
+        + AllocGlobal
+        + Env
+        + Files
+        + Print
+        + Eprint
+        + Copy
+        + Send
+        + Sync
+        + 'static,
+> Host for R
 {
 }
 
 fn main(rt: HostRuntime) -> io::Result<ExitCode> {
+    if let Some(status) = called::task(rt) {
+        return Ok(status);
+    }
     // The first word is the program's name.
     let words = env::args(&rt)?.collect::<Vec<String>>(rt.alloc())?;
     match words.as_slice() {

@@ -1,5 +1,5 @@
 //! A graph file that streams between readers and writers in memory, one of marks among them, alone and with threads that help, of which one allocation may fail.
-use crate::streams::Page;
+use super::streams::Page;
 use flow::streams::open_stream;
 use graph_file::FileFault;
 use helper_threads::HelperThreads;

@@ -1,5 +1,5 @@
 //! A run between raw input and raw outputs in memory, of which one allocation may fail.
-use crate::streams::{Page, Text};
+use super::streams::{Page, Text};
 use flow::raw_fault::EndPlace::{Output, Tags};
 use flow::raw_fault::RawFault;
 use flow::raw_output::{write_items, write_tags};

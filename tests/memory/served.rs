@@ -1,6 +1,6 @@
 //! What the program answers for a graph file where an allocation fails.
-use crate::chains;
-use crate::streams::{Page, Text};
+use super::chains;
+use super::streams::{Page, Text};
 use drawings::Format;
 use flow::running::Threading;
 use flow::serve::{Action, serve};

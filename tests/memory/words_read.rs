@@ -1,5 +1,6 @@
 //! The words of the program and its file, as they are read before anything is done, of which one allocation may fail.
-use crate::words::{Asked, asked_by};
+use super::words::{Asked, asked_by};
+use crate::Host;
 use clap::error::ErrorKind;
 use flow::serve::Action;
 use flow::start::StartFault;
@@ -21,7 +22,7 @@ pub fn make_words(alloc: Global) -> Option<Vec<String>> {
 }
 
 /// Whether the words of this process are read, or there is no memory for them.
-pub fn are_read(rt: &HostRuntime, alloc: Global, count: usize) -> bool {
+pub fn are_read(rt: &impl Host, alloc: Global, count: usize) -> bool {
     let arguments = match env::args(rt) {
         Ok(arguments) => arguments,
         Err(error) => return is_memory(StartFault::of_words(error.kind())),
@@ -48,7 +49,7 @@ pub fn are_understood(alloc: Global, words: &[String]) -> bool {
 }
 
 /// Whether a file of this many bytes is read whole, or there is no memory for it.
-pub fn is_read(rt: &HostRuntime, path: &str, bytes: usize) -> bool {
+pub fn is_read(rt: &impl Host, path: &str, bytes: usize) -> bool {
     match fs::read(rt, path) {
         Ok(file) => file.len() == bytes,
         Err(error) => is_memory(StartFault::of_file(error.kind())),

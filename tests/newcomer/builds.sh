@@ -76,7 +76,7 @@ edit_proves_what_stands_on_it() {
     with_those_above "$middle"
     calls 0 ./build_by_link
     proved "${above[@]}"
-    cp "$top/crates.txt" "$tree/crates.txt"
+    cp "$room/crates.txt" "$tree/crates.txt"
     begin_anew
     calls 0 ./build_by_link
     proved "$program_crate"

@@ -27,6 +27,20 @@ try() {
     fi
 }
 
+# thin_tree: leaves a few crates of the checkout, so that a build is short: the program, the library for C, and some below them, of which two stand on the lowest alone
+thin_tree() {
+    local it
+    printf '%s\n' stream_model: "numbers: stream_model" "settings: stream_model" "items: stream_model numbers" "flow: items settings" \
+        "$program_crate: numbers flow" "$c_crate staticlib: items flow" >"$tree/crates.txt"
+    cp "$tree/crates.txt" "$room/crates.txt"
+    line_of=() uses=() order=()
+    top=$tree read_crates
+    put_in_order "$program_crate"
+    for it in "$tree"/crates/*; do
+        [[ -v uses[${it##*/}] ]] || rm -r "$it"
+    done
+}
+
 # copy_tree: the checkout as git would bring it
 copy_tree() {
     mkdir -p "$tree" "$elsewhere" "$room/bin" "$room/tools"

@@ -1,11 +1,13 @@
 #!/usr/bin/env bash
-# Tests of libraries through their public calls: of those up to the plant.
+# Tests of libraries through their public calls: of those up to the plant; and what the programs of benches/ and that of examples/embed print.
 set -euo pipefail
 # shellcheck source=tests/layers.sh
 source "$(dirname -- "$(readlink -f -- "${BASH_SOURCE[0]}")")/../layers.sh"
+# shellcheck source=tests/programs.sh
+source "$top/tests/programs.sh"
 
 # (The tests of plants take longest, so they are called first.)
 # shellcheck disable=SC2034  # They are for the script that is sourced.
-folders=(plants flowgraphs blocks kernels leaves) libraries=(pipeline rates firings kinds)
+folders=(plants flowgraphs blocks kernels leaves) libraries=(pipeline rates firings kinds) others=(programs)
 
 "$1"

@@ -41,6 +41,7 @@ run() {
         source "$top/tests/newcomer/$it.sh"
     done
     copy_tree
+    thin_tree
     link_tools
     last=$(tail -n 1 "$room/wanted")
     for it in "${cases[@]}"; do

@@ -132,7 +132,7 @@ make_calls_of() {
 make_shown() {
     local folder page shown=$1
     for folder in "$top"/examples/*/; do
-        # (a folder without one has a program, which tests/parts/programs.sh runs)
+        # (a folder without one has a program, which tests/programs.sh runs)
         if [[ -e ${folder}graph.toml ]]; then
             make_example "${folder%/}"
         fi

@@ -73,7 +73,7 @@ fn marks_in_pieces_are_those_of_one_feed(rt: HostRuntime) -> Result<(), Fail> {
     let alloc = rt.alloc();
     let whole = whole(&rt, alloc)?;
     assert!(rt; 20 < whole.marks.len(), "many");
-    for seed in 0..30 {
+    for seed in 0..12 {
         let lines = lines_of(&rt, alloc, &whole.marks, seed)?;
         let mut run = marked(&rt, alloc, &whole, lines, seed, u64::MAX)?;
         assert!(rt; matches!(run.run(alloc), Ok(Settled::Done)), "done, seed {seed}");

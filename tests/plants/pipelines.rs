@@ -171,7 +171,7 @@ pub fn texts(rt: &impl Abort, alloc: Global, plant: &Plant<Kind>, sink: BlockId)
 fn pieces_of_any_lengths_are_written_whole(rt: HostRuntime) -> Result<(), Fail> {
     let alloc = rt.alloc();
     let whole = whole(&rt, alloc)?;
-    for seed in 0..20 {
+    for seed in 0..10 {
         let mut run = joined(&rt, alloc, &whole, seed, u64::MAX, u64::MAX)?;
         assert!(rt; matches!(run.run(alloc), Ok(Settled::Done)), "done, seed {seed}");
         for sink in SINKS {

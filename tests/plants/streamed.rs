@@ -292,7 +292,7 @@ fn pieces_of_any_lengths_are_the_whole_stream(rt: HostRuntime) -> Result<(), Fai
     assert!(rt; whole.feed(SOURCE, bytes(&rt, alloc, &numbers), &marks).is_ok(), "fed");
     assert!(rt; whole.close(SOURCE).is_ok(), "closed");
     assert!(rt; whole.settle(alloc, 64).is_ok(), "settled");
-    for seed in 0..30 {
+    for seed in 0..12 {
         let all = in_pieces(&rt, alloc, &numbers, &marks, seed)?;
         for (at, sink) in SINKS.iter().enumerate() {
             let Ok(piece) = whole.read(alloc, *sink, 0, 1_000_000) else {

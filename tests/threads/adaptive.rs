@@ -406,7 +406,7 @@ fn a_run_shows_what_one_thread_shows(rt: HostRuntime) -> Result<(), Fail> {
     let alloc = rt.alloc();
     let settled = settled(&rt, alloc, &TWO_CHAINS);
     for way in [Way::Adaptive, Way::Erratic, Way::ErraticPool] {
-        for _ in 0..20 {
+        for _ in 0..10 {
             let plant = fed(&rt, alloc, &TWO_CHAINS);
             let plant = ran_by_to(rt, alloc, way, plant, End::Done, "two chains");
             same_sinks(&rt, alloc, &TWO_CHAINS, &plant, &settled, "an adaptive run");

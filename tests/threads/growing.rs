@@ -15,7 +15,7 @@ use std::thread;
 use threads::{Answer, Call, CallerId, Entry, Gate};
 
 // How many single bytes one caller feeds.
-const BYTES: u64 = 100_000;
+const BYTES: u64 = 10_000;
 
 // A source and a sink.
 const WIDE: Drawing<'static> = Drawing {
@@ -91,7 +91,7 @@ fn is_call(entry: &Entry, number: u64) -> bool {
 }
 
 #[test]
-fn a_caller_feeds_100_000_single_bytes(rt: HostRuntime) -> Result<(), Fail> {
+fn a_caller_feeds_10_000_single_bytes(rt: HostRuntime) -> Result<(), Fail> {
     let alloc = rt.alloc();
     for way in LIVE_WAYS {
     let callers = doing(&rt, alloc, vec![in alloc; FeedsBytes]?);

@@ -17,7 +17,7 @@ use std::test::Fail;
 use threads::{Answer, Call, CallerId, Entry, Finished, Turns};
 
 // How many runs a test is of.
-const RUNS: u64 = 100;
+const RUNS: u64 = 60;
 
 // Between its sources and its sinks a graph has no more blocks.
 const MOST_BLOCKS: u64 = 3;

@@ -11,7 +11,7 @@ use std::test::Fail;
 use threads::Turns;
 
 // Runs of each graph with each capacity in each way.
-const RUNS: u32 = 12;
+const RUNS: u32 = 8;
 
 const CHAIN: Drawing<'static> = Drawing {
     makes: &[Source, Not, AddConst(3), Not, Sink],

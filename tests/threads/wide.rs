@@ -13,7 +13,7 @@ use std::sync::Wait;
 use std::test::Fail;
 use threads::{Gate, Turns};
 
-const ITEMS: u32 = 40;
+const ITEMS: u32 = 24;
 
 // A graph of at most 256 blocks.
 #[derive(Drop)]

@@ -35,7 +35,7 @@ const SHAPES: [Shape; 3] = [
 ];
 
 /// Runs each small graph and prints what its first sink holds.
-pub fn print_small(rt: &HostRuntime) -> io::Result<()> {
+pub fn print_small(rt: &(impl Print + AllocGlobal)) -> io::Result<()> {
     for shape in SHAPES {
         let mut plant = fed_plant(rt.alloc(), shape)?;
         if !plant.idle() {

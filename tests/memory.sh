@@ -1,11 +1,8 @@
-#!/usr/bin/env bash
-# Calls of a plant, runs in threads with a caller and without, commands of the program on graph files with lines, runs between raw streams, a pipeline, and the reading of the
-# program's words and file, in each of which one allocation fails: a case for each allocation. The program of tests/memory ends with status 0 each time. And
-# rounds of a plant in which no allocation is made, so that none of them comes to fail. Tried are each eighth allocation, beginning with that of MEMORY_EIGHTH, 0
-# to 7, or of the day of the month, or with MEMORY_EIGHTH=all each one.
-set -euo pipefail
-# shellcheck source=tests/part.sh
-source "$(dirname -- "$(readlink -f -- "${BASH_SOURCE[0]}")")/../part.sh"
+# shellcheck shell=bash disable=SC2154
+# For the scripts of tests/parts to source that try tests of libraries: calls of a plant, runs in threads with a caller and without, commands of the program on
+# graph files with lines, runs between raw streams, a pipeline, and the reading of the program's words and file, in each of which one allocation fails: a case for
+# each allocation. The program ends with status 0 each time. And rounds of a plant in which no allocation is made, so that none of them comes to fail. Tried are each
+# eighth allocation, beginning with that of MEMORY_EIGHTH, 0 to 7, or of the day of the month, or with MEMORY_EIGHTH=all each one.
 
 eighth=${MEMORY_EIGHTH:-$(($(date +%-d) % 8))}
 # The allocation that is refused. The program makes so many others before its own that each of its own comes to be this one.
@@ -19,8 +16,8 @@ declare -A most=([calls]=165 [live]=165 [live_adaptive]=165 [launch]=330 [whole_
 declare -A left_out=([calls]=0 [live]=96 [live_adaptive]=96 [launch]=240 [whole_run]=240 [start]=240 [launch_nothing]=0 [adaptive]=240 [pool]=240 [check]=0 [feeds]=$file [draw]=$file [run]=$file [per_block]=$file [alone]=$file
     [chain]=0 [script]=$file [lines]=$file [tags]=$file [settings]=$file [fork]=$file [raw]=$file [piped]=$file [helped]=$file [stall]=$file [words]=0 [call]=0 [file]=0 [steady]=163)
 
-# list: each case has the number of the allocation of its task that is refused
-list() {
+# list_memory: each case has the number of the allocation of its task that is refused
+list_memory() {
     local task at
     for task in $(printf '%s\n' "${!most[@]}" | LC_ALL=C sort); do
         for ((at = left_out[$task] + 1; at <= most[$task]; at++)); do
@@ -78,8 +75,8 @@ sum() {
     fi
 }
 
-# judge TASK AT: whether a case ended well, and said what it has to
-judge() {
+# judge_allocation TASK AT: whether a case ended well, and said what it has to
+judge_allocation() {
     local name=memory/$1/$2 said wanted status
     said=$(said_of "$name")
     wanted=$(wanted_of "$1" "$2")
@@ -94,52 +91,38 @@ judge() {
     fi
 }
 
-# build: the program, in which the allocation of that number fails, as rt compiles it
-build() {
-    put_memory_tests
-    build_copy "$room/tree/crates/memory_tests" --fail-alloc "$refused" -- copy 0 "$room/program"
+# put_memory: its tasks as a module of the program, with those of the program's own files that read its words, and the file that they read
+put_memory() {
+    if grep -q '^memory/' "$room/wanted"; then
+        echo "memory: MEMORY_EIGHTH=$eighth"
+        put_folder memory
+        cp -- "$top/crates/$program_crate/src/"{ends,words}.rt "$own/src/memory"
+        printf '%3000s' '' >"$room/file"
+    fi
 }
 
-# call TASK AT: calls the program so that this allocation of the task fails, and keeps what it writes, and its status
-call() {
-    local came=$room/came/memory/$1/$2 words=("$1" $((refused - $2))) status=0
-    if [[ $1 == @(words|call|file) ]]; then
+# call_memory CASE: calls the program so that this allocation of the task fails, and keeps what it writes, and its status
+call_memory() {
+    local task at came=$room/came/$1 words status=0
+    IFS=/ read -r _ task at <<<"$1"
+    if [[ $at == sum ]]; then
+        return
+    fi
+    mkdir -p "$came"
+    words=("$task" $((refused - at)))
+    if [[ $task == @(words|call|file) ]]; then
         words+=("$room/file")
     fi
     env -i timeout 60 "${start[@]}" "${words[@]}" </dev/null >"$came.stdout" 2>"$came.errors" || status=$?
     echo "$status" >"$came.status"
 }
 
-# call_all: as many side by side as there are processors
-call_all() {
-    local task at _ lanes
-    lanes=$(nproc)
-    while IFS=/ read -r _ task at; do
-        if [[ $at != sum ]]; then
-            mkdir -p "$room/came/memory/$task"
-            while (($(jobs -rp | wc -l) >= lanes)); do
-                wait -n || true
-            done
-            call "$task" "$at" &
-        fi
-    done <"$room/wanted"
-    wait
+judge_memory() {
+    local task at
+    IFS=/ read -r _ task at <<<"$1"
+    if [[ $at == sum ]]; then
+        sum "$task"
+    else
+        judge_allocation "$task" "$at"
+    fi
 }
-
-run() {
-    local task at _
-    echo "memory: MEMORY_EIGHTH=$eighth"
-    build || return
-    # (what a task reads that takes a file)
-    printf '%3000s' '' >"$room/file"
-    call_all
-    while IFS=/ read -r _ task at; do
-        if [[ $at == sum ]]; then
-            sum "$task"
-        else
-            judge "$task" "$at"
-        fi
-    done <"$room/wanted"
-}
-
-"$1"

@@ -2,7 +2,6 @@
 //! says which; the second how many allocations are made before, so that the failure of a fixed one comes to each in turn; the third, where a file is read, names it. It writes
 //! whether one of them came to fail; of `steady`, in whose rounds none is made, also whether the one that failed came before them. Where a run in
 //! threads was refused, which is told 60 and never 61, a second line has the fault's number.
-#![tactic(auto)]
 
 mod calls;
 mod chains;
@@ -18,16 +17,14 @@ mod words_read;
 mod ends;
 mod words;
 
-use crate::launches::Way;
-use crate::piped::Left;
-use crate::served::Case;
+use launches::Way;
+use piped::Left;
+use served::Case;
+use crate::Host;
 use reporting::Refusal;
 use std::alloc::Global;
-use std::{env, fs};
+use std::env;
 use std::process::{Abort, ExitCode};
-use std::sync::Wait;
-use std::thread::Threads;
-use std::time::Clock;
 
 // More allocations than are made in between.
 const MANY: u32 = 2000;
@@ -53,18 +50,11 @@ enum Task {
     File,
     Steady,
     NoThreads,
-    Copy,
 }
 
-// What runs in threads may be handed on.
-trait Host: Abort + Threads + Wait + Clock + Copy + Send + Sync + 'static {}
-
-impl<R: Abort + Threads + Wait + Clock + Copy + Send + Sync + 'static> Host for R {}
-
-fn main(rt: HostRuntime) -> ExitCode {
-    let Some((task, before, path)) = asked(&rt) else {
-        return ExitCode::from(2);
-    };
+/// Does the task that the words of the process ask for, and says in which status it ends; `None` where they ask for none.
+pub fn answer<R: Host>(rt: R) -> Option<ExitCode> {
+    let (task, before, path) = asked(&rt)?;
     let alloc = rt.alloc();
     let (came, fault) = match task {
         Task::Calls => (calls_task(&rt, alloc, before), None),
@@ -76,17 +66,21 @@ fn main(rt: HostRuntime) -> ExitCode {
         Task::Helped => (piped_task(rt, alloc, before, |alloc| piped::helped(rt, alloc)), None),
         Task::Stall => (stall_task(rt, alloc, before), None),
         Task::Words | Task::Call | Task::File => {
-            (words_task(&rt, &rt, alloc, before, task, &path), None)
+            (words_task(&rt, alloc, before, task, &path), None)
         },
         Task::Steady => (go_on(&rt, alloc, before), None),
         Task::NoThreads => (no_threads_task(rt, alloc), None),
-        Task::Copy => (copy_task(&rt, &path), None),
     };
     let _ = println!(rt; "{came}");
     if let Some(number) = fault {
         let _ = println!(rt; "{number}");
     }
-    ExitCode::from(0)
+    Some(ExitCode::SUCCESS)
+}
+
+/// Makes all allocations up to the one that is refused, so that none is refused later.
+pub fn use_up(alloc: Global) {
+    let _ = waste(alloc, MANY);
 }
 
 // Where the failing allocation came: before or behind what was done, or in it.
@@ -207,15 +201,14 @@ fn stall_task(rt: impl Host, alloc: Global, before: u32) -> &'static str {
 }
 
 fn words_task(
-    rt: &HostRuntime,
-    host: &impl Abort,
+    rt: &impl Host,
     alloc: Global,
     before: u32,
     task: Task,
     path: &str,
 ) -> &'static str {
     let Some(call) = words_read::make_words(alloc) else {
-        panic!(host; "no words");
+        panic!(rt; "no words");
     };
     let is_early = waste(alloc, before);
     let is_right = match task {
@@ -224,7 +217,7 @@ fn words_task(
         _ => words_read::is_read(rt, path, FILE_BYTES),
     };
     let is_late = waste(alloc, MANY);
-    assert!(host; is_right, "words or a file went wrong");
+    assert!(rt; is_right, "words or a file went wrong");
     place(is_early, is_late)
 }
 
@@ -262,17 +255,6 @@ fn no_threads_task(rt: impl Host, alloc: Global) -> &'static str {
     "refused"
 }
 
-// The program, which lies where it runs, is copied to this place: there it runs without what makes it slow.
-fn copy_task(rt: &HostRuntime, to: &str) -> &'static str {
-    let Ok(program) = fs::read(rt, "program") else {
-        return "unread";
-    };
-    match fs::write(rt, to, &program) {
-        Ok(()) => "copied",
-        Err(_) => "unwritten",
-    }
-}
-
 // Where the failing allocation came in a run with steady rounds: before them, in them, or behind them.
 fn go_on(rt: &impl Abort, alloc: Global, before: u32) -> &'static str {
     let ready = steady::make_ready(alloc);
@@ -292,7 +274,7 @@ fn go_on(rt: &impl Abort, alloc: Global, before: u32) -> &'static str {
     }
 }
 
-fn asked(rt: &HostRuntime) -> Option<(Task, u32, String)> {
+fn asked(rt: &impl Host) -> Option<(Task, u32, String)> {
     let Ok(mut words) = env::args(rt) else {
         return None;
     };
@@ -337,7 +319,6 @@ fn task_of(name: &str) -> Option<Task> {
         "file" => Task::File,
         "steady" => Task::Steady,
         "no_threads" => Task::NoThreads,
-        "copy" => Task::Copy,
         _ => return None,
     })
 }
