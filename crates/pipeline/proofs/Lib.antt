@@ -1,5 +1,6 @@
 pub mod Growing
 pub mod Telling
+pub mod Refusing
 pub mod Parting
 pub mod Reading
 pub mod TakingIn

@@ -1,5 +1,5 @@
 -- Readers that give on marks.
-use Rattle.std.proofs.Common.{◌≡◌, ℕ, ◌+◌, ◌≤◌, arith, length, List, [], ◌∷◌, ◌++◌, true, false, map, refl, ap, sym, ◌∙◌, subst, append_assoc}
+use Rattle.std.proofs.Common.{◌≡◌, ℕ, suc, ◌+◌, ◌≤◌, arith, length, List, [], ◌∷◌, ◌++◌, true, false, map, refl, ap, sym, ◌∙◌, subst, append_assoc}
 use Rattle.std.proofs.lemmas.List.{append-nil, map-append}
 use Rattle.std.specs.Prelude.{Option, Some, None, IsSome}
 use Rattle.std.specs.Option.{option_map, option_to_list}
@@ -27,9 +27,23 @@ rise-held marks held None n k none follows rise = subst (λ h. RiseTo k (marks +
 rise-held marks held (Some mark) n k none follows rise =
     let before : RiseTo n marks = subst (RiseTo n) (append-nil marks) (subst (λ h. RiseTo n (marks ++ option_to_list h)) none rise) in
     let first : n ≤ mark.offset = follows.0 in
-    let last : last_item 0 (marks ++ mark ∷ []) ≡ mark.offset = last-more 0 marks mark in
-    let is : k ≡ mark.offset = follows.1 in
-    (rise-more 0 marks mark before.0 (omega (arith, before.1, first)), omega (arith, last, is))
+    let item : n ≡ last_item 0 marks = before.1 in
+    (rise-more 0 marks mark before.0 (omega (arith, item, first)), follows.1 ∙ sym (last-more 0 marks mark))
+
+pub append-one : {A : Type 0} (xs : List A) (x : A) → length (xs ++ x ∷ []) ≡ suc (length xs)
+append-one [] x = refl
+append-one (y ∷ xs) x = ap suc (append-one xs x)
+
+-- the line of a mark that is held now is the next of those that were taken
+number-held : (given : List Mark) (held held' : Option Mark) (taken line : ℕ) → held ≡ None → taken ≡ length (given ++ option_to_list held) → line ≡ suc taken → IsSome held' → line ≡ length (given ++ option_to_list held')
+number-held given held None taken line none counted next some = absurd (cc some)
+number-held given held (Some mark) taken line none counted next some =
+    let before : taken ≡ length given = counted ∙ ap (λ h. length (given ++ option_to_list h)) none ∙ ap length (append-nil given) in
+    next ∙ ap suc before ∙ sym (append-one given mark)
+
+not-none : {A : Type 0} (x : Option A) → x ≡ None → IsSome x → ⊥
+not-none None e some = cc some
+not-none (Some a) e some = cc e
 
 module _ {R : Type 0} (remaining : R → Option (List ℕ)) where
   told_as : (m : Marking R) (bs cs : List ℕ) (xs ys : List Mark) → bs ≡ cs → xs ≡ ys → HasTold remaining m bs xs → HasTold remaining m cs ys
@@ -72,12 +86,15 @@ module _ {R : Type 0} (remaining : R → Option (List ℕ)) where
   )
 
   -- a line was taken that says a mark, which is held
-  pub line-gives : (m m' : Marking R) (line : List ℕ) (mark : Mark) → m.is_over ≡ false → m.held ≡ None → m' ≡ record m { rest = m'.rest; held = Some mark; least = m'.least } → Follows m.least (Some mark) m'.least →
+  pub line-gives : (m m' : Marking R) (line : List ℕ) (mark : Mark) → m.is_over ≡ false → m.held ≡ None →
+      m' ≡ record m { rest = m'.rest; taken = suc m.taken; held = Some mark; line = suc m.taken; least = m'.least } → Follows m.least (Some mark) m'.least →
       ((more : List ℕ) → lines_of (m.rest ++ more) ≡ line ∷ lines_of (m'.rest ++ more)) → line_mark line ≡ Some mark → Gives remaining m m' []
   line-gives m m' line mark goes_on none is follows taken says =
       let reader : m'.reader ≡ m.reader = ap Marking.reader is in
       let held : m'.held ≡ Some mark = ap Marking.held is in
       let still : m'.is_over ≡ false = ap Marking.is_over is ∙ goes_on in
+      let count : m'.taken ≡ suc m.taken = ap Marking.taken is in
+      let number : m'.line ≡ suc m.taken = ap Marking.line is in
       record {
         bytes = [];
         read = rw reader (consumes_none (remaining m.reader));
@@ -91,6 +108,8 @@ module _ {R : Type 0} (remaining : R → Option (List ℕ)) where
               ∙ ap (λ zs. zs ++ marks_said (m'.rest ++ more)) (sym (map-append Some given (mark ∷ []))));
           at_end = λ e. absurd (cc (e, still));
           rise = rw (append-nil given, held) (rise-held given m.held (Some mark) m.least m'.least none follows told.rise);
+          counted = λ e. rw (append-nil given, held, count) (number-held given m.held (Some mark) m.taken (suc m.taken) none (told.counted goes_on) refl refl);
+          numbered = λ some. rw (append-nil given, held, number) (number-held given m.held (Some mark) m.taken (suc m.taken) none (told.counted goes_on) refl refl);
         };
         over = λ e. refl;
         stays_over = λ e. absurd (cc (e, goes_on));
@@ -102,6 +121,8 @@ module _ {R : Type 0} (remaining : R → Option (List ℕ)) where
       let held : m'.held ≡ m.held = ap Marking.held is in
       let rest : m'.rest ≡ m.rest ++ piece = ap Marking.rest is in
       let least : m'.least ≡ m.least = ap Marking.least is in
+      let taken : m'.taken ≡ m.taken = ap Marking.taken is in
+      let number : m'.line ≡ m.line = ap Marking.line is in
       let still : m'.is_over ≡ false = ap Marking.is_over is ∙ goes_on in
       record {
         bytes = piece;
@@ -112,6 +133,8 @@ module _ {R : Type 0} (remaining : R → Option (List ℕ)) where
               rw (append-nil given, held, rest, append_assoc before piece more, append_assoc m.rest piece more) was;
           at_end = λ e. absurd (cc (e, still));
           rise = rw (append-nil given, held, least) told.rise;
+          counted = λ e. rw (append-nil given, held, taken) (told.counted goes_on);
+          numbered = λ some. rw (append-nil given, held, number) (told.numbered (subst IsSome held some));
         };
         over = λ e. absurd (cc (e, goes_on));
         stays_over = λ e. absurd (cc (e, goes_on));
@@ -119,8 +142,8 @@ module _ {R : Type 0} (remaining : R → Option (List ℕ)) where
 
   -- the reader was at its end, and the line that it ends, where there is one, says the mark that is held
   pub end-gives : (m m' : Marking R) → m.is_over ≡ false → m.held ≡ None → Consumes (remaining m.reader) (remaining m'.reader) [] → IsAtEnd (remaining m'.reader) → m'.is_over ≡ true → m'.rest ≡ [] →
-      marks_said m.rest ≡ map Some (option_to_list m'.held) → Follows m.least m'.held m'.least → Gives remaining m m' []
-  end-gives m m' goes_on none read at over rest says follows = record {
+      marks_said m.rest ≡ map Some (option_to_list m'.held) → Follows m.least m'.held m'.least → (IsSome m'.held → m'.line ≡ suc m.taken) → Gives remaining m m' []
+  end-gives m m' goes_on none read at over rest says follows number = record {
     bytes = [];
     read = read;
     told = λ before given told. record {
@@ -132,6 +155,8 @@ module _ {R : Type 0} (remaining : R → Option (List ℕ)) where
           ∙ ap (λ zs. map Some given ++ marks_said zs) (append-nil m.rest) ∙ ap (λ ws. map Some given ++ ws) says ∙ sym (map-append Some given (option_to_list m'.held)));
       at_end = λ e. at;
       rise = rw (append-nil given) (rise-held given m.held m'.held m.least m'.least none follows told.rise);
+      counted = λ e. absurd (cc (e, over));
+      numbered = λ some. rw (append-nil given) (number-held given m.held m'.held m.taken m'.line none (told.counted goes_on) (number some) some);
     };
     over = λ e. refl;
     stays_over = λ e. over;
@@ -145,6 +170,7 @@ module _ {R : Type 0} (remaining : R → Option (List ℕ)) where
       let rest : m'.rest ≡ m.rest = ap Marking.rest is in
       let same : m'.is_over ≡ m.is_over = ap Marking.is_over is in
       let least : m'.least ≡ m.least = ap Marking.least is in
+      let taken : m'.taken ≡ m.taken = ap Marking.taken is in
       record {
         bytes = [];
         read = rw reader (consumes_none (remaining m.reader));
@@ -155,27 +181,8 @@ module _ {R : Type 0} (remaining : R → Option (List ℕ)) where
               (was ∙ ap (λ h. map Some (given ++ option_to_list h) ++ marks_said (m.rest ++ more)) held);
           at_end = λ e. rw reader (told.at_end (sym same ∙ e));
           rise = rw (none, least, append-nil (given ++ mark ∷ [])) (subst (λ h. RiseTo m.least (given ++ option_to_list h)) held told.rise);
-        };
-        over = λ e. refl;
-        stays_over = λ e. same ∙ e;
-      }
-
-  -- the next mark may not be on some more items
-  pub raised-gives : (m m' : Marking R) → m' ≡ record m { least = m'.least } → m.least ≤ m'.least → Gives remaining m m' []
-  raised-gives m m' is low =
-      let reader : m'.reader ≡ m.reader = ap Marking.reader is in
-      let held : m'.held ≡ m.held = ap Marking.held is in
-      let rest : m'.rest ≡ m.rest = ap Marking.rest is in
-      let same : m'.is_over ≡ m.is_over = ap Marking.is_over is in
-      record {
-        bytes = [];
-        read = rw reader (consumes_none (remaining m.reader));
-        told = λ before given told. record {
-          lines = λ more nothing. rw (append-nil before, append-nil given, held, rest) (told.lines more (λ e. nothing (same ∙ e)));
-          at_end = λ e. rw reader (told.at_end (sym same ∙ e));
-          rise =
-              let last : last_item 0 (given ++ option_to_list m.held) ≤ m.least = told.rise.1 in
-              rw (append-nil given, held) (told.rise.0, omega (arith, last, low));
+          counted = λ e. rw (none, taken, append-nil (given ++ mark ∷ [])) (subst (λ h. m.taken ≡ length (given ++ option_to_list h)) held (told.counted (sym same ∙ e)));
+          numbered = λ some. absurd (not-none m'.held none some);
         };
         over = λ e. refl;
         stays_over = λ e. same ∙ e;
@@ -258,23 +265,25 @@ module _ {R : Type 0} (remaining : R → Option (List ℕ)) where
   begins-before b (Some k) (Some l) xs bytes start tags read begins = begins
 
   -- the same where a line may say no mark, and where a read gave nothing
-  pub said-gives : (m m' : Marking R) (line : List ℕ) (said : Option Mark) → m.is_over ≡ false → m.held ≡ None → m' ≡ record m { rest = m'.rest; held = said; least = m'.least } → Follows m.least said m'.least →
+  pub said-gives : (m m' : Marking R) (line : List ℕ) (said : Option Mark) → m.is_over ≡ false → m.held ≡ None →
+      m' ≡ record m { rest = m'.rest; taken = suc m.taken; held = said; line = suc m.taken; least = m'.least } → Follows m.least said m'.least →
       ((more : List ℕ) → lines_of (m.rest ++ more) ≡ line ∷ lines_of (m'.rest ++ more)) → said ≡ line_mark line → IsSome said → Gives remaining m m' []
   said-gives m m' line None goes_on none is follows taken says some = absurd (cc some)
   said-gives m m' line (Some mark) goes_on none is follows taken says some = line-gives m m' line mark goes_on none is follows taken (sym says)
 
   pub last-gives : (m m' : Marking R) (line : List ℕ) (said : Option Mark) → m.is_over ≡ false → m.held ≡ None → m'.reader ≡ m.reader → IsAtEnd (remaining m.reader) → m'.is_over ≡ true → m'.rest ≡ [] → m'.held ≡ said →
-      line ∷ [] ≡ lines_of m.rest → said ≡ line_mark line → IsSome said → Follows m.least said m'.least → Gives remaining m m' []
-  last-gives m m' line None goes_on none reader at over rest held lines says some follows = absurd (cc some)
-  last-gives m m' line (Some mark) goes_on none reader at over rest held lines says some follows =
+      line ∷ [] ≡ lines_of m.rest → said ≡ line_mark line → IsSome said → Follows m.least said m'.least → m'.line ≡ suc m.taken → Gives remaining m m' []
+  last-gives m m' line None goes_on none reader at over rest held lines says some follows number = absurd (cc some)
+  last-gives m m' line (Some mark) goes_on none reader at over rest held lines says some follows number =
       end-gives m m' goes_on none (rw reader (consumes_none (remaining m.reader))) (rw reader at) over rest
-      (rw held (ap (map line_mark) (sym lines) ∙ ap (λ x. x ∷ []) (sym says))) (rw held follows)
+      (rw held (ap (map line_mark) (sym lines) ∙ ap (λ x. x ∷ []) (sym says))) (rw held follows) (λ _. number)
 
   pub none-gives : (m m' : Marking R) → m.is_over ≡ false → m.held ≡ None → m' ≡ record m { rest = []; is_over = true } → IsAtEnd (remaining m.reader) → [] ≡ lines_of m.rest → Gives remaining m m' []
   none-gives m m' goes_on none is at lines =
       let reader : m'.reader ≡ m.reader = ap Marking.reader is in
       let held : m'.held ≡ None = ap Marking.held is ∙ none in
       end-gives m m' goes_on none (rw reader (consumes_none (remaining m.reader))) (rw reader at) (ap Marking.is_over is) (ap Marking.rest is) (rw held (ap (map line_mark) (sym lines))) (rw held (ap Marking.least is))
+      (λ some. absurd (not-none m'.held held some))
 
   pub nothing-gives : (m m' : Marking R) → m.is_over ≡ false → m' ≡ record m { reader = m'.reader } → Consumes (remaining m.reader) (remaining m'.reader) [] → Gives remaining m m' []
   nothing-gives m m' goes_on is read = piece-gives m m' [] goes_on (is ∙ ap (λ (xs : List ℕ). record m { reader = m'.reader; rest = xs }) (sym (append-nil m.rest))) read

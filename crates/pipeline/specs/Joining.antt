@@ -10,6 +10,7 @@ use Rattle.pipeline.specs.declared.end.End.{End}
 use Rattle.pipeline.specs.declared.end.End.TheVariants as ends
 use Rattle.pipeline.specs.declared.end.Output.{Output}
 use Rattle.pipeline.specs.Ends.{InputState}
+use Rattle.pipeline.specs.Marks.{unread}
 use Rattle.pipeline.specs.Pipeline.{end_at}
 
 -- the type of the items that a sink takes, where the block is one
@@ -29,7 +30,7 @@ pub record JoinsMarks {R W : Type 0} (b : ℕ) (reader : R) (es es' : List (End 
   pub input : InputState R
   pub was : end_at es b ≡ ends.Input input
   pub unmarked : input.marks ≡ None
-  pub joined : es' ≡ slice_set es b (ends.Input (record input { marks = Some (record { reader = reader; rest = []; held = None; is_over = false; least = 0 }) }))
+  pub joined : es' ≡ slice_set es b (ends.Input (record input { marks = Some (unread reader) }))
 
 -- a block has a reader of items, and none of marks
 abbrev pub IsUnmarked : {R W : Type 0} → End R W → Type 0

@@ -1,4 +1,5 @@
 pub mod Marks
+pub mod MarkFaults
 pub mod Ends
 pub mod Pipeline
 pub mod Steps

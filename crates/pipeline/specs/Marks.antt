@@ -1,19 +1,25 @@
 -- Marks that come as the lines of a reader.
-use Rattle.std.specs.Prelude.{ℕ, ◌≡◌, ◌≤◌, List, [], ◌∷◌, ◌++◌, Bool, true, map, ⊤, Option, Some, None}
+use Rattle.std.specs.Prelude.{ℕ, ◌≡◌, ◌≤◌, List, [], ◌∷◌, ◌++◌, length, Bool, true, false, map, ⊤, Option, Some, None, IsSome}
 use Rattle.std.specs.Option.{option_to_list}
 use Rattle.std.specs.Io.KnownBytes.{Consumes, IsAtEnd}
 use Rattle.stream_model.specs.Tags.{Mark, Tag}
 use Rattle.stream_model.specs.Machine.{tag_of}
 use Rattle.script_text.specs.MarkLines.{marks_said}
 
--- a reader of marks: what was read of which no line was taken, the mark that was read and not given yet, whether the reader has no more, and the first item that
--- the next mark may be on
+-- a reader of marks: what was read of which no line was taken, how many lines with a line feed were taken, the mark that was read and not given yet, whether the
+-- reader has no more, the number of the line of the mark that was read last, and its item
 pub record Marking (R : Type 0) : Type 0 where
   pub reader : R
   pub rest : List ℕ
+  pub taken : ℕ
   pub held : Option Mark
   pub is_over : Bool
+  pub line : ℕ
   pub least : ℕ
+
+-- a reader of which nothing was read
+abbrev pub unread : {R : Type 0} → R → Marking R
+unread reader = record { reader = reader; rest = []; taken = 0; held = None; is_over = false; line = 0; least = 0 }
 
 -- marks in the order of their items, of which the first is not before item n
 abbrev pub Rise : ℕ → List Mark → Type 0
@@ -25,9 +31,9 @@ abbrev pub last_item : ℕ → List Mark → ℕ
 last_item n [] = n
 last_item n (mark ∷ marks) = last_item mark.offset marks
 
--- marks in the order of their items, of which none is behind item n
+-- marks in the order of their items, of which the last is on item n, which is 0 where there is none
 abbrev pub RiseTo : ℕ → List Mark → Type 0
-RiseTo n marks = Rise 0 marks × (last_item 0 marks ≤ n)
+RiseTo n marks = Rise 0 marks × (n ≡ last_item 0 marks)
 
 -- a mark, where there is one, is not before item n, and its item is k
 abbrev pub Follows : ℕ → Option Mark → ℕ → Type 0
@@ -35,11 +41,13 @@ Follows n None k = k ≡ n
 Follows n (Some mark) k = (n ≤ mark.offset) × (k ≡ mark.offset)
 
 -- of these bytes, all that the reader gave, the lines say the marks that were given on and then the one that is held, and the rest is behind them:
--- whatever bytes follow, of which there are none where the reader has no more. They are in the order of their items
+-- whatever bytes follow, of which there are none where the reader has no more. They are in the order of their items, and their lines are counted
 pub record HasTold {R : Type 0} (remaining : R → Option (List ℕ)) (m : Marking R) (bytes : List ℕ) (given : List Mark) : Type 0 where
   pub lines : (more : List ℕ) → (m.is_over ≡ true → more ≡ []) → marks_said (bytes ++ more) ≡ map Some (given ++ option_to_list m.held) ++ marks_said (m.rest ++ more)
   pub at_end : m.is_over ≡ true → IsAtEnd (remaining m.reader)
   pub rise : RiseTo m.least (given ++ option_to_list m.held)
+  pub counted : m.is_over ≡ false → m.taken ≡ length (given ++ option_to_list m.held)
+  pub numbered : IsSome m.held → m.line ≡ length (given ++ option_to_list m.held)
 
 -- the reader was read, and gave on these marks
 pub record Gives {R : Type 0} (remaining : R → Option (List ℕ)) (old new : Marking R) (marks : List Mark) : Type 0 where

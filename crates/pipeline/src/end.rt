@@ -3,6 +3,7 @@
 ghost use Rattle.std.specs.Prelude.{◌≡◌, [], false, None, Some, Err, IfErr, IsOk, OnErr, OnOk};
 ghost use Rattle.pipeline.specs.declared.fault.PipelineFault.TheVariants.{Joined, Memory};
 ghost use Rattle.items.specs.Items.{type_of};
+ghost use Rattle.pipeline.specs.Marks.{unread};
 ghost use Rattle.pipeline.specs.Pipeline.{has_more};
 
 use crate::fault::PipelineFault;
@@ -74,7 +75,7 @@ impl<R: Drop> Input<R> {
     ) -> Result<(), PipelineFault>
         ensures joined { (self.old.marks ≡ None → ⊥) → result ≡ Err (Joined source) }
         ensures free { self.old.marks ≡ None → IfErr result (λ fault. fault ≡ Memory) }
-        ensures ok { OnOk result (self.new ≡ record self.old { marks = Some (record { reader = reader; rest = []; held = None; is_over = false; least = 0 }) }) }
+        ensures ok { OnOk result (self.new ≡ record self.old { marks = Some (unread reader) }) }
         ensures unmarked { OnOk result (self.old.marks ≡ None) }
         ensures err { OnErr result (self.new ≡ self.old) }
     {

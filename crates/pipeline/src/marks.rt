@@ -1,12 +1,14 @@
 //! The marks of a source, which come as lines.
 
-ghost use Rattle.std.specs.Prelude.{◌≡◌, ◌+◌, ◌-◌, ◌^◌, ◌<◌, ◌≤◌, true, false, [], ◌++◌, map, length, None, IsSome, IfErr, IfOk, OnOk, OnErr};
+ghost use Rattle.std.specs.Prelude.{◌≡◌, ℕ, suc, ◌+◌, ◌-◌, ◌^◌, ◌<◌, ◌≤◌, true, false, [], ◌++◌, map, length, None, IsSome, IfErr, IfOk, OnOk, OnErr};
+ghost use Rattle.std.specs.List.{All};
 ghost use Rattle.std.specs.Option.{option_map};
 ghost use Rattle.std.specs.Io.KnownBytes.{IsAtEnd};
 ghost use Rattle.script_text.specs.Commands.{mark_seen, marks_seen};
 ghost use Rattle.script_text.specs.Splits.{IsUnfinished};
 ghost use Rattle.pipeline.specs.Faults.{IsOfMarks};
-ghost use Rattle.pipeline.specs.Marks.{AreOver, AreRead, FindsMarks, Follows, Gives, GivesTo, IsOver, IsRead};
+ghost use Rattle.pipeline.specs.MarkFaults.{AreBehind, AreGivenTo, IsBefore, IsBehind, IsGivenTo, IsWithin, NameFirst, NamesFirst, Never, Refuses};
+ghost use Rattle.pipeline.specs.Marks.{AreOver, AreRead, FindsMarks, Follows, Gives, GivesTo, IsOver, IsRead, unread};
 
 use crate::fault::PipelineFault;
 use crate::intake::PIECE;
@@ -31,7 +33,7 @@ pub struct MarkReader<R> {
     is_over: bool,
     // The number of the line of the mark that was read last, from 1.
     line: u64,
-    // The first item that the next mark may be on.
+    // Its item, which the next mark may not be before.
     least: u64,
 }
 
@@ -48,8 +50,10 @@ impl<R> Model for MarkReader<R> {
     ghost view = { λ m. record {
       reader = m.reader;
       rest = (if m.is_over then [] else m.lines.rest);
+      taken = m.lines.taken;
       held = option_map mark_seen m.held;
       is_over = m.is_over;
+      line = m.line;
       least = m.least;
     } };
 }
@@ -57,7 +61,7 @@ impl<R> Model for MarkReader<R> {
 impl<R: Drop> MarkReader<R> {
     /// A reader of which nothing was read.
     pub(crate) fn new(alloc: Global, reader: R) -> Result<MarkReader<R>, AllocError>
-        ensures { IfOk result (λ marks. marks ≡ record { reader = reader; rest = []; held = None; is_over = false; least = 0 }) }
+        ensures { IfOk result (λ marks. marks ≡ unread reader) }
     {
         let piece = Box::new(alloc, [0; PIECE])?;
         let lines = LineSplitter::new(alloc)?;
@@ -83,12 +87,14 @@ impl<R: Read> MarkReader<R> {
         marks: &mut Vec<Mark>,
     ) -> Result<(), PipelineFault>
         ensures ok { OnOk result (GivesTo R.remaining self.old self.new (marks_seen marks.old.items) (marks_seen marks.new.items)) }
+        ensures given_to { OnOk result (IsGivenTo end self.new) }
+        ensures within { OnOk result (All (IsWithin start end) (marks_seen marks.old.items) → All (IsWithin start end) (marks_seen marks.new.items)) }
         ensures err { OnErr result (IsRead R.remaining self.old self.new) }
         ensures fault { IfErr result (IsOfMarks source) }
+        ensures first { IfErr result (NamesFirst R.remaining (IsBefore start) self.old self.new) }
     {
-        self.raise(start);
         for _marks in 0..u64::MAX {
-            if !self.take_one(source, end, marks)? {
+            if !self.take_one(source, start, end, marks)? {
                 return Ok(());
             }
         }
@@ -96,29 +102,28 @@ impl<R: Read> MarkReader<R> {
         Err(PipelineFault::Memory)
     }
 
-    // Has the next mark be on no item below `start`.
-    fn raise(&mut self, start: u64)
-        ensures rest { self.new ≡ record self.old { least = self.new.least } }
-        ensures low { self.old.least ≤ self.new.least }
-    {
-        self.least = self.least.max(start);
-    }
-
-    // Appends the next mark where it is on an item below `end`, and tells whether it is.
+    // Appends the next mark where it is on an item below `end`, and tells whether it is. One below `start` is refused.
     fn take_one(
         &mut self,
         source: BlockId,
+        start: u64,
         end: u64,
         marks: &mut Vec<Mark>,
     ) -> Result<bool, PipelineFault>
         ensures ok { OnOk result (GivesTo R.remaining self.old self.new (marks_seen marks.old.items) (marks_seen marks.new.items)) }
+        ensures given_to { IfOk result (λ more. more ≡ false → IsGivenTo end self.new) }
+        ensures within { OnOk result (All (IsWithin start end) (marks_seen marks.old.items) → All (IsWithin start end) (marks_seen marks.new.items)) }
         ensures err { OnErr result (IsRead R.remaining self.old self.new) }
         ensures fault { IfErr result (IsOfMarks source) }
+        ensures first { IfErr result (NamesFirst R.remaining (IsBefore start) self.old self.new) }
     {
         self.find(source)?;
         let Some(mark) = self.held else {
             return Ok(false);
         };
+        if mark.offset < start {
+            return Err(PipelineFault::MarkPlace(source, self.line));
+        }
         if end <= mark.offset {
             return Ok(false);
         }
@@ -134,6 +139,7 @@ impl<R: Read> MarkReader<R> {
         ensures over { OnOk result (IsOver self.new) }
         ensures err { OnErr result (IsRead R.remaining self.old self.new) }
         ensures fault { IfErr result (IsOfMarks source) }
+        ensures first { IfErr result (NamesFirst R.remaining (IsBehind self.old) self.old self.new) }
     {
         self.find(source)?;
         if self.held.is_some() {
@@ -146,8 +152,10 @@ impl<R: Read> MarkReader<R> {
     fn find(&mut self, source: BlockId) -> Result<(), PipelineFault>
         ensures ok { OnOk result (Gives R.remaining self.old self.new []) }
         ensures over { OnOk result (self.new.held ≡ None → IsOver self.new) }
+        ensures same { (n : ℕ) → IsGivenTo n self.old → self.new ≡ self.old }
         ensures err { OnErr result (IsRead R.remaining self.old self.new) }
         ensures fault { IfErr result (IsOfMarks source) }
+        ensures first { IfErr result (NamesFirst R.remaining Never self.old self.new) }
     {
         for _pieces in 0..u64::MAX {
             if self.held.is_some() || self.is_over {
@@ -166,32 +174,33 @@ impl<R: Read> MarkReader<R> {
         ensures ok { OnOk result (Gives R.remaining self.old self.new []) }
         ensures err { OnErr result (IsRead R.remaining self.old self.new) }
         ensures fault { IfErr result (IsOfMarks source) }
+        ensures first { IfErr result (NamesFirst R.remaining Never self.old self.new) }
     {
-        if self.lines.taken() == u64::MAX {
+        let taken = self.lines.taken();
+        if taken == u64::MAX {
             return Err(PipelineFault::Memory);
         }
+        let number = taken + 1;
         match self.lines.take_line() {
             FirstLine::Whole => {
                 let mark = parse_mark_line(self.lines.line());
-                let number = self.lines.taken();
                 self.hold(source, number, mark)
             }
-            FirstLine::TooLong => {
-                let number = self.lines.taken().saturating_add(1);
-                Err(PipelineFault::BadMark(source, number))
-            }
-            FirstLine::Unfinished => self.read_piece(source),
+            FirstLine::TooLong => Err(PipelineFault::BadMark(source, number)),
+            FirstLine::Unfinished => self.read_piece(source, number),
         }
     }
 
-    // Reads once.
-    fn read_piece(&mut self, source: BlockId) -> Result<(), PipelineFault>
+    // Reads once, for the line of this number.
+    fn read_piece(&mut self, source: BlockId, number: u64) -> Result<(), PipelineFault>
         requires goes_on { self.old.is_over ≡ false }
         requires none { self.old.held ≡ None }
         requires unfinished { IsUnfinished self.old.rest }
+        requires next { number ≡ suc self.old.taken }
         ensures ok { OnOk result (Gives R.remaining self.old self.new []) }
         ensures err { OnErr result (IsRead R.remaining self.old self.new) }
         ensures fault { IfErr result (IsOfMarks source) }
+        ensures first { IfErr result (NamesFirst R.remaining Never self.old self.new) }
     {
         let piece: &mut [u8; PIECE] = &mut self.piece;
         let count = match self.reader.read(piece) {
@@ -199,27 +208,28 @@ impl<R: Read> MarkReader<R> {
             Err(error) => return Err(PipelineFault::ReadMarks(source, error)),
         };
         if count == 0 {
-            return self.end_lines(source);
+            return self.end_lines(source, number);
         }
         self.lines.push(&piece[..count]);
         Ok(())
     }
 
-    // Takes the line that the end of the bytes ends, since the reader is at its end.
-    fn end_lines(&mut self, source: BlockId) -> Result<(), PipelineFault>
+    // Takes the line of this number, which the end of the bytes ends, since the reader is at its end.
+    fn end_lines(&mut self, source: BlockId, number: u64) -> Result<(), PipelineFault>
         requires goes_on { self.old.is_over ≡ false }
         requires none { self.old.held ≡ None }
         requires unfinished { IsUnfinished self.old.rest }
         requires at_end { IsAtEnd (R.remaining self.old.reader) }
+        requires next { number ≡ suc self.old.taken }
         ensures ok { OnOk result (Gives R.remaining self.old self.new []) }
         ensures err { OnErr result (IsRead R.remaining self.old self.new) }
         ensures fault { IfErr result (IsOfMarks source) }
+        ensures first { IfErr result (NamesFirst R.remaining Never self.old self.new) }
     {
         self.is_over = true;
         match self.lines.last_line() {
             Some(line) => {
                 let mark = parse_mark_line(line);
-                let number = self.lines.taken().saturating_add(1);
                 self.hold(source, number, mark)
             }
             None => Ok(()),
@@ -229,10 +239,11 @@ impl<R: Read> MarkReader<R> {
     // Holds the mark of a line.
     fn hold(&mut self, source: BlockId, line: u64, mark: Option<Mark>) -> Result<(), PipelineFault>
         ensures some { OnOk result (IsSome mark) }
-        ensures ok { OnOk result (self.new ≡ record self.old { held = option_map mark_seen mark; least = self.new.least }) }
+        ensures ok { OnOk result (self.new ≡ record self.old { held = option_map mark_seen mark; line = line; least = self.new.least }) }
         ensures follows { OnOk result (Follows self.old.least (option_map mark_seen mark) self.new.least) }
         ensures err { OnErr result (self.new ≡ self.old) }
         ensures fault { IfErr result (IsOfMarks source) }
+        ensures refused { IfErr result (Refuses self.old.least line (option_map mark_seen mark)) }
     {
         let Some(mark) = mark else {
             return Err(PipelineFault::BadMark(source, line));
@@ -257,9 +268,12 @@ pub(crate) fn find_marks<R: Read>(
 ) -> Result<(), PipelineFault>
     requires none { found.old.items ≡ [] }
     ensures ok { OnOk result (FindsMarks R.remaining marks.old marks.new (marks_seen found.new.items)) }
+    ensures given_to { OnOk result (AreGivenTo end marks.new) }
+    ensures within { OnOk result (All (IsWithin start end) (marks_seen found.new.items)) }
     ensures err { OnErr result (AreRead R.remaining marks.old marks.new) }
     ensures some { OnErr result (IsSome marks.new) }
     ensures fault { IfErr result (IsOfMarks source) }
+    ensures first { IfErr result (NameFirst R.remaining (IsBefore start) marks.old marks.new) }
 {
     match marks {
         Some(reader) => reader.take_below(source, start, end, found),
@@ -277,6 +291,7 @@ pub(crate) fn end_marks<R: Read>(
     ensures err { OnErr result (AreRead R.remaining marks.old marks.new) }
     ensures some { OnErr result (IsSome marks.new) }
     ensures fault { IfErr result (IsOfMarks source) }
+    ensures first { IfErr result (NameFirst R.remaining (AreBehind marks.old) marks.old marks.new) }
 {
     match marks {
         Some(reader) => reader.end(source),

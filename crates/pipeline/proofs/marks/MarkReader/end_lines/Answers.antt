@@ -1,8 +1,14 @@
-use Rattle.std.proofs.Common.{◌≡◌, ◌∙◌, [], false, true, cond, refl, ap, sym, None}
+use Rattle.std.proofs.Common.{◌≡◌, ◌∙◌, suc, [], ◌∷◌, ◌++◌, false, true, cond, refl, ap, sym, subst, None}
+use Rattle.std.proofs.lemmas.List.{append-nil}
 use Rattle.std.specs.Option.{option_map}
 use Rattle.script_text.specs.Commands.{mark_seen}
+use Rattle.script_text.specs.Lines.{lines_of}
+use Rattle.script_text.specs.MarkLines.{marks_said}
+use Rattle.pipeline.specs.MarkFaults.{NamesFirst, Never}
 use Rattle.pipeline.specs.Marks.{Marking}
 use Rattle.pipeline.proofs.Delivering.{on_ok_three}
+use Rattle.pipeline.proofs.Growing.{consumes_none}
+use Rattle.pipeline.proofs.Refusing.{Says, if_err_with, line-says, refused-names}
 use Rattle.pipeline.proofs.Telling.{last-gives, none-gives, some_seen}
 use Rattle.pipeline.proofs.marks.MarkReader.end_lines.Goals as goal
 
@@ -13,14 +19,32 @@ returns-in-Some-clause-ok g c =
     on_ok_three _ _ _ _ c.hold.result c.hold.ensures.some c.hold.ensures.ok c.hold.ensures.follows
     (λ some held follows. last-gives g.R.Read.remaining c.args.self.now c.hold.new.self c.in-Some.line.now (option_map mark_seen c.parse_mark_line-mark.result) c.requires.goes_on c.requires.none
     (ap Marking.reader held ∙ ap Marking.reader c.self.view_is) c.requires.at_end (ap Marking.is_over held) (ap Marking.rest held) (ap Marking.held held)
-    (rw rest c.in-Some.ensures) c.parse_mark_line-mark.ensures (some_seen mark_seen _ some) (rw (← ap Marking.least c.self.view_is) follows))
+    (rw rest c.in-Some.ensures) c.parse_mark_line-mark.ensures (some_seen mark_seen _ some) (rw (← ap Marking.least c.self.view_is) follows)
+    (ap Marking.line held ∙ c.requires.next))
 
 pub returns-in-None-clause-ok : goal.returns-in-None-clause-ok
 returns-in-None-clause-ok g c =
     let s = c.self.inside in
     let open0 : s.is_over ≡ false = ap Marking.is_over c.self.view_is ∙ c.requires.goes_on in
-    let m : Marking _ = record { reader = s.reader; rest = cond s.is_over [] s.lines.rest; held = option_map mark_seen s.held; is_over = s.is_over; least = s.least } in
+    let m : Marking _ = record { reader = s.reader; rest = cond s.is_over [] s.lines.rest; taken = s.lines.taken; held = option_map mark_seen s.held; is_over = s.is_over; line = s.line; least = s.least } in
     let m' : Marking _ = record m { rest = []; is_over = true } in
     let none : m.held ≡ None = ap Marking.held c.self.view_is ∙ c.requires.none in
     rw (← c.self.view_is)
     (none-gives g.R.Read.remaining m m' open0 none refl (rw (ap Marking.reader c.self.view_is) c.requires.at_end) (rw open0 c.in-None.ensures))
+
+pub returns-in-Some-clause-first : goal.returns-in-Some-clause-first
+returns-in-Some-clause-first g c =
+    let remaining = g.R.Read.remaining in
+    let s = c.self.inside in
+    let open0 : s.is_over ≡ false = ap Marking.is_over c.self.view_is ∙ c.requires.goes_on in
+    let m : Marking _ = record { reader = s.reader; rest = cond s.is_over [] s.lines.rest; taken = s.lines.taken; held = option_map mark_seen s.held; is_over = s.is_over; line = s.line; least = s.least } in
+    let m' : Marking _ = record m { rest = []; is_over = true } in
+    let said = option_map mark_seen c.parse_mark_line-mark.result in
+    let lines : c.in-Some.line.now ∷ [] ≡ lines_of m.rest = rw open0 c.in-Some.ensures in
+    rw (← c.self.view_is)
+    (if_err_with c.hold.result _ _ c.hold.ensures.err c.hold.ensures.refused
+    (λ same fault refused. subst (λ (x : Marking _). NamesFirst remaining Never m x fault) (sym same)
+    (refused-names remaining m m' c.args.number open0 (ap Marking.held c.self.view_is ∙ c.requires.none) (λ _. rw (ap Marking.reader c.self.view_is) c.requires.at_end) (consumes_none (remaining s.reader))
+    (c.requires.next ∙ ap suc (sym (ap Marking.taken c.self.view_is))) said
+    (λ more nothing. subst (λ bytes. Says said (marks_said (m.rest ++ bytes))) (sym (nothing refl))
+    (rw (append-nil m.rest) (line-says m.rest c.in-Some.line.now [] said (sym lines) c.parse_mark_line-mark.ensures))) fault refused)))

@@ -1,13 +1,34 @@
-use Rattle.std.proofs.Common.{[]}
+use Rattle.std.proofs.Common.{rules, ◌≡◌, [], true, ap, refl, sym, ◌∙◌}
+use Rattle.std.proofs.lemmas.Result.{IfErr-weaker}
+use Rattle.std.specs.Prelude.{IfErr, None}
+use Rattle.std.specs.Option.{option_map}
+use Rattle.script_text.specs.Commands.{mark_seen}
+use Rattle.pipeline.specs.MarkFaults.{NamesFirst, Never}
+use Rattle.pipeline.specs.Marks.{Marking}
 use Rattle.pipeline.proofs.Delivering.{on_err}
+use Rattle.pipeline.proofs.Refusing.{names-then}
 use Rattle.pipeline.proofs.Telling.{gives-none, gives-read-then, gives-then}
 use Rattle.pipeline.proofs.marks.MarkReader.find.Goals as goal
 
 pub loop-pieces-init : goal.loop-pieces-init
-loop-pieces-init g c = gives-none g.R.Read.remaining _
+loop-pieces-init g c = record { gives = gives-none g.R.Read.remaining _; same = λ n up. refl }
 
 pub loop-pieces-preserved : goal.loop-pieces-preserved
-loop-pieces-preserved g c = gives-then g.R.Read.remaining c.args.self.now c.loop-pieces.self c.read_on.new.self [] c.loop-pieces.invariant [] c.in_ok-read_on.ensures.ok
+loop-pieces-preserved g c = record {
+  gives = gives-then g.R.Read.remaining c.args.self.now c.loop-pieces.self c.read_on.new.self [] c.loop-pieces.invariant.gives [] c.in_ok-read_on.ensures.ok;
+  same = λ n up.
+      let is = c.loop-pieces.invariant.same n up in
+      let empty : option_map mark_seen c.self.inside.held ≡ None = search rules in
+      let over : c.args.self.now.is_over ≡ true = up.none (sym (ap Marking.held is) ∙ sym (ap Marking.held c.self.view_is) ∙ empty) in
+      let same = ap Marking.is_over c.self.view_is ∙ ap Marking.is_over is in
+      absurd (cc (over, same, c.if-self.false));
+}
 
 pub returns-in_err-read_on-clause-err : goal.returns-in_err-read_on-clause-err
-returns-in_err-read_on-clause-err g c = on_err c.from_residual.result (gives-read-then g.R.Read.remaining c.args.self.now c.loop-pieces.self c.read_on.new.self [] c.loop-pieces.invariant c.in_err-read_on.ensures.err)
+returns-in_err-read_on-clause-err g c = on_err c.from_residual.result (gives-read-then g.R.Read.remaining c.args.self.now c.loop-pieces.self c.read_on.new.self [] c.loop-pieces.invariant.gives c.in_err-read_on.ensures.err)
+
+pub returns-in_err-read_on-clause-first : goal.returns-in_err-read_on-clause-first
+returns-in_err-read_on-clause-first g c =
+    let told : IfErr c.from_residual.result (NamesFirst g.R.Read.remaining Never c.loop-pieces.self c.read_on.new.self) = search rules in
+    IfErr-weaker c.from_residual.result _ _
+    (names-then g.R.Read.remaining Never Never (λ _ never. never) c.args.self.now c.loop-pieces.self c.read_on.new.self [] c.loop-pieces.invariant.gives) told

@@ -1,0 +1,80 @@
+-- Which line of marks is refused, and why.
+use Rattle.std.specs.Prelude.{ℕ, suc, ◌≡◌, ◌<◌, ◌≤◌, ◌⊎◌, ⊤, List, [], ◌∷◌, ◌++◌, true, map, length, Option, Some, None}
+use Rattle.std.specs.Io.KnownBytes.{Consumes, IsAtEnd}
+use Rattle.stream_model.specs.Tags.{Mark}
+use Rattle.script_text.specs.MarkLines.{marks_said}
+use Rattle.pipeline.specs.declared.fault.PipelineFault.{PipelineFault}
+use Rattle.pipeline.specs.declared.fault.PipelineFault.TheVariants.{BadMark, MarkPlace}
+use Rattle.pipeline.specs.Marks.{HasTold, Marking, Rise, last_item}
+
+-- of these bytes, all that the reader gave, the first lines say these marks, in the order of their items, and the line below them says this, where it is a mark:
+-- whatever bytes follow, of which there are none where the reader has no more
+pub record Stands {R : Type 0} (remaining : R → Option (List ℕ)) (m : Marking R) (bytes : List ℕ) (above : List Mark) (said : Option Mark) : Type 0 where
+  pub lines : (more : List ℕ) → (m.is_over ≡ true → more ≡ []) → (below : List (Option Mark)) × (marks_said (bytes ++ more) ≡ map Some above ++ said ∷ below)
+  pub at_end : m.is_over ≡ true → IsAtEnd (remaining m.reader)
+  pub rise : Rise 0 above
+
+-- what is wrong with a line, by the marks above it and what it says
+abbrev pub Wrong : Type 1
+Wrong = List Mark → Option Mark → Type 0
+
+-- the reader was read, and of all that it gave line n, from 1, is the first that is wrong
+pub record IsFirst {R : Type 0} (remaining : R → Option (List ℕ)) (old new : Marking R) (wrong : Wrong) (n : ℕ) : Type 0 where
+  pub bytes : List ℕ
+  pub read : Consumes (remaining old.reader) (remaining new.reader) bytes
+  pub line : (before : List ℕ) (given : List Mark) → HasTold remaining old before given →
+      (above : List Mark) × (said : Option Mark) × Stands remaining new (before ++ bytes) above said × (n ≡ suc (length above)) × wrong above said
+
+-- it is no mark
+abbrev pub IsNone : Wrong
+IsNone above said = said ≡ None
+
+-- its mark is on an item before that of the last mark above it, or on one on which none may be
+abbrev pub IsOut : (Mark → Type 0) → Wrong
+IsOut Barred above None = ⊥
+IsOut Barred above (Some mark) = (mark.offset < last_item 0 above) ⊎ Barred mark
+
+-- a refusal names the first line that is wrong
+abbrev pub NamesFirst : {R : Type 0} → (R → Option (List ℕ)) → (Mark → Type 0) → (old new : Marking R) → PipelineFault → Type 0
+NamesFirst remaining Barred old new (BadMark b n) = IsFirst remaining old new IsNone n
+NamesFirst remaining Barred old new (MarkPlace b n) = IsFirst remaining old new (IsOut Barred) n
+NamesFirst remaining Barred old new _ = ⊤
+
+-- its item is before item n
+abbrev pub IsBefore : ℕ → Mark → Type 0
+IsBefore n mark = mark.offset < n
+
+-- its item is one from `start` to below `end`
+abbrev pub IsWithin : (start end : ℕ) → Mark → Type 0
+IsWithin start end mark = (start ≤ mark.offset) × (mark.offset < end)
+
+-- each mark on an item below n was given on: the one that is held is on none of these, and where none is held, none comes any more
+pub record IsGivenTo {R : Type 0} (n : ℕ) (m : Marking R) : Type 0 where
+  pub held : (mark : Mark) → m.held ≡ Some mark → n ≤ mark.offset
+  pub none : m.held ≡ None → m.is_over ≡ true
+
+-- its item is none of those up to which all marks were given on
+abbrev pub IsBehind : {R : Type 0} → Marking R → Mark → Type 0
+IsBehind m mark = (n : ℕ) → IsGivenTo n m → n ≤ mark.offset
+
+-- no item
+abbrev pub Never : Mark → Type 0
+Never mark = ⊥
+
+-- why the mark that line n says is not held
+abbrev pub Refuses : ℕ → ℕ → Option Mark → PipelineFault → Type 0
+Refuses least n None (BadMark b k) = k ≡ n
+Refuses least n (Some mark) (MarkPlace b k) = (k ≡ n) × (mark.offset < least)
+Refuses least n said _ = ⊥
+
+-- the same of a reader of marks where there is one
+abbrev pub NameFirst : {R : Type 0} → (R → Option (List ℕ)) → (Mark → Type 0) → (old new : Option (Marking R)) → PipelineFault → Type 0
+NameFirst remaining Barred (Some m) (Some m') fault = NamesFirst remaining Barred m m' fault
+NameFirst remaining Barred _ _ fault = ⊤
+
+abbrev pub AreGivenTo : {R : Type 0} → ℕ → Option (Marking R) → Type 0
+AreGivenTo n None = ⊤
+AreGivenTo n (Some m) = IsGivenTo n m
+
+abbrev pub AreBehind : {R : Type 0} → Option (Marking R) → Mark → Type 0
+AreBehind m mark = (n : ℕ) → AreGivenTo n m → n ≤ mark.offset
