@@ -8,6 +8,7 @@ mod Owns
 mod Places
 mod Promises
 mod Records
+mod Requests
 mod Sames
 mod Stepping
 mod Weighing

@@ -1,5 +1,5 @@
 -- A record stays one as a call is noted.
-use Rattle.std.proofs.Common.{◌≡◌, ℕ, ◌+◌, List, [], ◌∷◌, ◌++◌, map, Option, Some, None, refl, ap, sym, ◌∙◌, subst, arith, Bool, false}
+use Rattle.std.proofs.Common.{◌≡◌, ℕ, ◌+◌, List, [], ◌∷◌, ◌++◌, map, Option, Some, None, refl, ap, sym, ◌∙◌, subst, arith, false}
 use mathlib.Core.List.{map-append}
 use Rattle.std.specs.Option.{option_map}
 use Rattle.stream_model.specs.Meaning.{Meaning}
@@ -20,6 +20,7 @@ use Rattle.threads.specs.declared.entry.CallerId.{CallerId}
 use Rattle.threads.specs.declared.entry.Entry.{Entry}
 use Rattle.threads.specs.History.{Asked, Said, Noted, call_in, noted_by, said_of}
 use Rattle.threads.specs.Recorded.{RecordedState, IsRecord, IsNoted, flights_in, now_in}
+use Rattle.threads.specs.Request.{tells}
 use Rattle.threads.proofs.Flights.{read_rests}
 use Rattle.threads.proofs.Histories.{run_more}
 
@@ -78,11 +79,6 @@ pub begun : {B : Type 0} (meaning : B → Meaning) (p : PlantState B) (o : Openi
     IsRecord meaning (record { plant = p; opening = o; history = map noted_by es })
 begun meaning p o es graph state none =
     subst (λ l. IsRecord meaning (record { plant = p; opening = o; history = map noted_by l })) (sym none) (record { graph = sym graph; run = record { replies = refl; left = sym state } })
-
--- an answer that reports no change, or none
-abbrev tells : Option Reply → Bool
-tells None = false
-tells (Some reply) = tells_change reply
 
 pub unmoved : {B : Type 0} (net : Network) (old new : PlantState B) (call : machine.Call) (r : Option Reply) → tells r ≡ false → Answered (next net old.capacities old.state call) old new r → new ≡ old
 unmoved net old new call None still a = a.1

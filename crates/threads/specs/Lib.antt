@@ -8,5 +8,6 @@ pub mod History
 pub mod Live
 pub mod Outcomes
 pub mod Recorded
+pub mod Request
 pub mod Running
 pub mod Worker

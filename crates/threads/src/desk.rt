@@ -1,6 +1,6 @@
 //! Callers, and the desks at which they make calls of a plant at work.
 
-ghost use Rattle.std.specs.Prelude.{◌≡◌, List, [], map, ⊤};
+ghost use Rattle.std.specs.Prelude.{◌≡◌, List, [], map, true, IfOk, ⊤};
 ghost use Rattle.std.specs.Arc.{arc_value};
 ghost use Rattle.stream_model.specs.Machine as machine;
 ghost use Rattle.items.specs.Items.{type_of, numbers_of};
@@ -9,15 +9,17 @@ ghost use Rattle.stores.specs.Stores.{mark_of};
 ghost use Rattle.plant.specs.Answers.{piece_reply, reply_of};
 ghost use Rattle.threads.specs.History.{Asks, Noted, noted_by};
 ghost use Rattle.threads.specs.Desk.{DeskState, IsLogged};
+ghost use Rattle.threads.specs.Request.{IsReady, asked_of, fits, replied, response_reply};
 
-use crate::entry::{Answer, Call, CallerId, Entry, Feed, Setting, shared};
+use crate::entry::{CallerId, Entry, Feed, Setting, shared};
 use crate::gate::Gate;
+use crate::request::{Request, Response};
 use crate::shared::Shared;
 use flowgraph::{Block, BlockId, Valid};
 use items::{Items, Mark};
 use plant::{Closed, Fed, Piece, PlantFault, Taken};
 use settings::Value;
-use std::alloc::Global;
+use std::alloc::{AllocError, Global};
 use std::fmt;
 use std::marker::Model;
 use std::sync::{Arc, Wait};
@@ -111,7 +113,6 @@ impl<'a, B: Block, G: Gate + Drop> Desk<'a, B, G> {
     ) -> Result<Fed, PlantFault>
         ensures { IsLogged (Asks (machine.Feed source.0 (type_of items) (numbers_of items) (map mark_of marks.now))) self.old self.new (reply_of (λ f. machine.Fed f.0) result) }
     {
-        self.log.reserve(1)?;
         let marks = Vec::from_slice(alloc, marks)?;
         let feed = shared(
             alloc,
@@ -121,32 +122,23 @@ impl<'a, B: Block, G: Gate + Drop> Desk<'a, B, G> {
                 marks,
             },
         )?;
-        let call = Call::Feed(Arc::try_clone(&feed)?);
-        let answer = self.shared.feed(rt, self.number, feed);
-        if let Some(reply) = Answer::of_feed(answer) {
-            self.log.push_reserved(Entry {
-                caller: CallerId::Desk(self.number),
-                call,
-                reply,
-            });
+        match self.call(rt, alloc, Request::Feed(feed))? {
+            Response::Fed(fed) => Ok(fed),
+            Response::Refused(fault) => Err(fault),
+            _ => unreachable!(),
         }
-        answer
     }
 
     /// Closes a source's tape, as `Plant::close` does, but with memory for the log, so that it may be refused `Memory`.
     pub fn close<R: Wait>(&mut self, rt: &R, source: BlockId) -> Result<Closed, PlantFault>
         ensures { IsLogged (Asks (machine.Close source.0)) self.old self.new (reply_of (λ c. machine.Closed c.0) result) }
     {
-        self.log.reserve(1)?;
-        let answer = self.shared.close(rt, self.number, source);
-        if let Some(reply) = Answer::of_close(answer) {
-            self.log.push_reserved(Entry {
-                caller: CallerId::Desk(self.number),
-                call: Call::Close(source),
-                reply,
-            });
+        let alloc = *self.log.allocator();
+        match self.call(rt, alloc, Request::Close(source))? {
+            Response::Closed(closed) => Ok(closed),
+            Response::Refused(fault) => Err(fault),
+            _ => unreachable!(),
         }
-        answer
     }
 
     /// Sets the value of a block's setting from item `at` of its first input on, or from the first that is neither taken nor claimed, as `Plant::set`
@@ -161,19 +153,13 @@ impl<'a, B: Block, G: Gate + Drop> Desk<'a, B, G> {
     ) -> Result<Taken, PlantFault>
         ensures { IsLogged (Asks (machine.Set block.0 at (value_of value))) self.old self.new (reply_of (λ t. machine.Taken t.0) result) }
     {
-        self.log.reserve(1)?;
         let copy = value.copy(alloc)?;
         let setting = shared(alloc, Setting { block, at, value })?;
-        let call = Call::Set(Arc::try_clone(&setting)?);
-        let answer = self.shared.set(rt, self.number, setting, copy);
-        if let Some(reply) = Answer::of_set(answer) {
-            self.log.push_reserved(Entry {
-                caller: CallerId::Desk(self.number),
-                call,
-                reply,
-            });
+        match self.call(rt, alloc, Request::Set(setting, copy))? {
+            Response::Taken(taken) => Ok(taken),
+            Response::Refused(fault) => Err(fault),
+            _ => unreachable!(),
         }
-        answer
     }
 
     /// A copy of what a sink holds from item `from` on, at most `max` items, with the tags on them, as `Plant::read` returns it. The log shares it.
@@ -187,30 +173,33 @@ impl<'a, B: Block, G: Gate + Drop> Desk<'a, B, G> {
     ) -> Result<Arc<Piece, Global>, PlantFault>
         ensures { IsLogged (Asks (machine.Read sink.0 from max)) self.old self.new (reply_of (λ p. piece_reply (arc_value p)) result) }
     {
-        self.log.reserve(1)?;
-        let call = Call::Read(sink, from, max);
-        let caller = CallerId::Desk(self.number);
-        match self.shared.read(rt, alloc, self.number, sink, from, max) {
-            Ok((piece, noted)) => {
-                self.log.push_reserved(Entry {
-                    caller,
-                    call,
-                    reply: Answer::Piece(noted),
-                });
-                Ok(piece)
-            }
-            Err(fault) => match Answer::of_fault(fault) {
-                Some(reply) => {
-                    self.log.push_reserved(Entry {
-                        caller,
-                        call,
-                        reply,
-                    });
-                    Err(fault)
-                }
-                None => Err(fault),
-            },
+        match self.call(rt, alloc, Request::Read(sink, from, max))? {
+            Response::Piece(piece) => Ok(piece),
+            Response::Refused(fault) => Err(fault),
+            _ => unreachable!(),
         }
+    }
+
+    // Makes a call. It is logged with the response, unless memory lacks for one of them; then nothing changes.
+    fn call<R: Wait>(
+        &mut self,
+        rt: &R,
+        alloc: Global,
+        request: Request,
+    ) -> Result<Response, AllocError>
+        requires { IsReady request }
+        ensures logged { IsLogged (asked_of request) self.old self.new (replied response_reply result) }
+        ensures fits { IfOk result (λ r. fits request r ≡ true) }
+    {
+        self.log.reserve(1)?;
+        let call = request.to_call()?;
+        let (response, reply) = self.shared.call(rt, alloc, self.number, request)?;
+        self.log.push_reserved(Entry {
+            caller: CallerId::Desk(self.number),
+            call,
+            reply,
+        });
+        Ok(response)
     }
 
     /// Asks for the end of the run: each worker commits what it works on and claims no more. Callers go on until they return. It takes no memory, and

@@ -2,18 +2,16 @@
 
 ghost use Rattle.std.specs.Prelude.{◌≡◌, ◌≤◌, ℕ, map, false, IsTrue, IfOk};
 ghost use Rattle.std.specs.Arc.{arc_value};
-ghost use Rattle.std.specs.Option.{option_map};
-ghost use Rattle.stream_model.specs.Machine as machine;
 ghost use Rattle.items.specs.Items.{type_of, numbers_of};
 ghost use Rattle.settings.specs.Values.{value_of};
 ghost use Rattle.stores.specs.Stores.{mark_of};
-ghost use Rattle.plant.specs.Answers.{piece_reply, refusal_of, reply_of};
+ghost use Rattle.plant.specs.Answers.{piece_reply};
 ghost use Rattle.threads.specs.Live.{is_at};
-ghost use Rattle.threads.specs.History.{asked_by, said_by, said_of, noted_by};
+ghost use Rattle.threads.specs.History.{asked_by, said_by, noted_by};
 
 use flowgraph::BlockId;
 use items::{Items, Mark};
-use plant::{Closed, Fed, Piece, PlantFault, Taken};
+use plant::{Piece, PlantFault};
 use settings::Value;
 use std::alloc::{AllocError, Global};
 use std::sync::Arc;
@@ -202,48 +200,6 @@ fn same_piece(one: &Piece, other: &Piece) -> bool
         && one.items == other.items
         && are_same(&one.tags, &other.tags)
         && one.done == other.done
-}
-
-impl Answer {
-    /// What a feed returned; `None` where it was out of memory.
-    pub(crate) fn of_feed(answer: Result<Fed, PlantFault>) -> Option<Answer>
-        ensures { option_map said_by result ≡ option_map said_of (reply_of (λ f. machine.Fed f.0) answer) }
-    {
-        match answer {
-            Ok(fed) => Some(Answer::Fed(fed.0)),
-            Err(fault) => Answer::of_fault(fault),
-        }
-    }
-
-    /// The same of a close.
-    pub(crate) fn of_close(answer: Result<Closed, PlantFault>) -> Option<Answer>
-        ensures { option_map said_by result ≡ option_map said_of (reply_of (λ c. machine.Closed c.0) answer) }
-    {
-        match answer {
-            Ok(closed) => Some(Answer::Closed(closed.0)),
-            Err(fault) => Answer::of_fault(fault),
-        }
-    }
-
-    /// The same of a set.
-    pub(crate) fn of_set(answer: Result<Taken, PlantFault>) -> Option<Answer>
-        ensures { option_map said_by result ≡ option_map said_of (reply_of (λ t. machine.Taken t.0) answer) }
-    {
-        match answer {
-            Ok(taken) => Some(Answer::Taken(taken.0)),
-            Err(fault) => Answer::of_fault(fault),
-        }
-    }
-
-    /// A refusal; `None` for out of memory.
-    pub(crate) fn of_fault(fault: PlantFault) -> Option<Answer>
-        ensures { option_map said_by result ≡ option_map said_of (refusal_of fault) }
-    {
-        match fault {
-            PlantFault::Memory => None,
-            _ => Some(Answer::Refused(fault)),
-        }
-    }
 }
 
 /// What several may hold.

@@ -41,6 +41,7 @@ mod policy;
 mod pool;
 mod pool_threads;
 mod recorded;
+mod request;
 pub mod running;
 mod shared;
 mod stopwatch;

@@ -1,27 +1,24 @@
 //! A plant whose calls are recorded, as it lies under the lock while callers make calls of it.
 
 ghost use Rattle.std.specs.Prelude.{◌≡◌, ◌≤◌, [], ◌∷◌, map, true, IfOk, IfSome};
-ghost use Rattle.std.specs.Arc.{arc_value};
-ghost use Rattle.stream_model.specs.Machine as machine;
 ghost use Rattle.stream_model.specs.Machine.{is_idle, commit_of};
-ghost use Rattle.settings.specs.Values.{value_of};
 ghost use Rattle.flowgraph.specs.Flowgraph.{net_of};
 ghost use Rattle.plant.specs.Own.{is_own};
-ghost use Rattle.plant.specs.Answers.{IsOf, claim_reply, piece_reply, reply_of, step_reply};
+ghost use Rattle.plant.specs.Answers.{IsOf, claim_reply, reply_of, step_reply};
 ghost use Rattle.threads.specs.declared.entry.CallerId.TheVariants as caller;
 ghost use Rattle.threads.specs.declared.entry.Call.TheVariants as call;
 ghost use Rattle.threads.specs.History.{Asks, Brings, asked_by, noted_by};
 ghost use Rattle.threads.specs.Live.{HasReached};
 ghost use Rattle.threads.specs.Recorded.{IsNoted, IsClaimNoted, IsStepNoted, IsBack};
+ghost use Rattle.threads.specs.Request.{AreFor, IsReady, asked_of, replied, response_reply};
 
-use crate::entry::{Answer, Call, CallerId, Entry, Feed, Setting, shared};
+use crate::entry::{Answer, Call, CallerId, Entry};
+use crate::request::{Request, Response};
 use flowgraph::{Block, BlockId};
 use jobs::Worked;
-use plant::{Claim, Closed, Did, Fed, Opening, Piece, Plant, PlantFault, Step, Taken};
-use settings::Value;
+use plant::{Claim, Did, Opening, Plant, PlantFault, Step};
 use std::alloc::{AllocError, Global};
 use std::marker::Model;
-use std::sync::Arc;
 
 /// A plant, where it began, and the calls that were made since, each with its reply. What is recorded is a run of the machine from there to the
 /// plant's state. For the commit of each claim in flight there is room.
@@ -70,100 +67,27 @@ impl<B: Block> Recorded<B> {
         &self.plant
     }
 
-    /// Feeds a source.
-    pub fn feed(&mut self, desk: u32, feed: Arc<Feed, Global>) -> Result<Fed, PlantFault>
-        ensures { IsNoted B.meaning (caller.Desk desk) (asked_by (call.Feed feed)) self.old self.new (reply_of (λ f. machine.Fed f.0) result) }
-    {
-        self.history.reserve(self.flights + 1)?;
-        let fed: &Feed = &feed;
-        let answer = self.plant.feed_from(fed.source, &fed.items, &fed.marks);
-        if let Some(reply) = Answer::of_feed(answer) {
-            self.history.push_reserved(Entry {
-                caller: CallerId::Desk(desk),
-                call: Call::Feed(feed),
-                reply,
-            });
-        }
-        answer
-    }
-
-    /// Closes a source's tape.
-    pub fn close(&mut self, desk: u32, source: BlockId) -> Result<Closed, PlantFault>
-        ensures { IsNoted B.meaning (caller.Desk desk) (asked_by (call.Close source)) self.old self.new (reply_of (λ c. machine.Closed c.0) result) }
-    {
-        self.history.reserve(self.flights + 1)?;
-        let answer = self.plant.close(source);
-        if let Some(reply) = Answer::of_close(answer) {
-            self.history.push_reserved(Entry {
-                caller: CallerId::Desk(desk),
-                call: Call::Close(source),
-                reply,
-            });
-        }
-        answer
-    }
-
-    /// Sets the value of a block's setting, which is `value`.
-    pub fn set(
-        &mut self,
-        desk: u32,
-        setting: Arc<Setting, Global>,
-        value: Value,
-    ) -> Result<Taken, PlantFault>
-        requires { value_of value ≡ value_of (arc_value setting).value }
-        ensures { IsNoted B.meaning (caller.Desk desk) (asked_by (call.Set setting)) self.old self.new (reply_of (λ t. machine.Taken t.0) result) }
-    {
-        self.history.reserve(self.flights + 1)?;
-        let set: &Setting = &setting;
-        let answer = self.plant.set(set.block, set.at, value);
-        if let Some(reply) = Answer::of_set(answer) {
-            self.history.push_reserved(Entry {
-                caller: CallerId::Desk(desk),
-                call: Call::Set(setting),
-                reply,
-            });
-        }
-        answer
-    }
-
-    /// What a sink shows: one for who asks, and one for a log.
-    pub fn read(
+    /// Has the plant respond to a caller, and returns the response with what is noted of it. An `Err` changes nothing.
+    pub fn call(
         &mut self,
         alloc: Global,
         desk: u32,
-        sink: BlockId,
-        from: u64,
-        max: u64,
-    ) -> Result<(Arc<Piece, Global>, Arc<Piece, Global>), PlantFault>
-        ensures noted { IsNoted B.meaning (caller.Desk desk) (asked_by (call.Read sink from max)) self.old self.new (reply_of (λ p. piece_reply (arc_value p.0)) result) }
-        ensures both { IfOk result (λ p. arc_value p.0 ≡ arc_value p.1) }
+        request: Request,
+    ) -> Result<(Response, Answer), AllocError>
+        requires { IsReady request }
+        ensures noted { IsNoted B.meaning (caller.Desk desk) (asked_of request) self.old self.new (replied (λ r. response_reply r.0) result) }
+        ensures fits { IfOk result (λ r. AreFor request r.0 r.1) }
     {
         self.history.reserve(self.flights + 1)?;
-        let call = Call::Read(sink, from, max);
-        match self.plant.read(alloc, sink, from, max) {
-            Ok(piece) => {
-                let piece = shared(alloc, piece)?;
-                let noted = Arc::try_clone(&piece)?;
-                let other = Arc::try_clone(&piece)?;
-                self.history.push_reserved(Entry {
-                    caller: CallerId::Desk(desk),
-                    call,
-                    reply: Answer::Piece(noted),
-                });
-                Ok((piece, other))
-            }
-            Err(fault) => match Answer::of_fault(fault) {
-                Some(reply) => {
-                    self.history.push_reserved(Entry {
-                        caller: CallerId::Desk(desk),
-                        call,
-                        reply,
-                    });
-                    Err(fault)
-                }
-                None => Err(fault),
-            },
-        }
+        let (call, response) = request.ask(alloc, &mut self.plant);
+        let reply = response.to_answer()?;
+        let other = response.to_answer()?;
+        self.history.push_reserved(Entry {
+            caller: CallerId::Desk(desk),
+            call,
+            reply,
+        });
+        Ok((response, other))
     }
 
     /// Claims at most `max` firings for a block's worker. What is handed out and the end of the block are recorded, and room is kept for the

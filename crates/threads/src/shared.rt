@@ -2,21 +2,20 @@
 //! it does; of what lies under a lock no clause of these can speak.
 
 ghost use Rattle.std.specs.Prelude.{◌≡◌, ◌≤◌, None, IfOk};
-ghost use Rattle.std.specs.Arc.{arc_value};
-ghost use Rattle.settings.specs.Values.{value_of};
 ghost use Rattle.threads.specs.Locked.{IsOwn};
+ghost use Rattle.threads.specs.Request.{AreFor, IsReady};
 
-use crate::entry::{Feed, Setting};
+use crate::entry::Answer;
 use crate::errands::{Brought, Errand, Waiting};
 use crate::gate::Gate;
 use crate::locked::{Locked, Next};
+use crate::request::{Request, Response};
 use crate::turns::Turns;
 use crate::woken::{BITS, Woken};
 use crate::worker::Worker;
 use flowgraph::{Block, BlockId};
-use plant::{Closed, Fed, Headway, Piece, PlantFault, Taken, Watch};
-use settings::Value;
-use std::alloc::Global;
+use plant::{Headway, Watch};
+use std::alloc::{AllocError, Global};
 use std::hint::spin_loop;
 use std::sync::atomic::Ordering;
 use std::sync::{Arc, Mutex, MutexGuard, Wait};
@@ -198,53 +197,21 @@ impl<B: Block, G: Gate + Drop> Shared<B, G> {
         }
     }
 
-    /// Feeds a source for a desk.
-    pub fn feed<R: Wait>(
-        &self,
-        rt: &R,
-        desk: u32,
-        feed: Arc<Feed, Global>,
-    ) -> Result<Fed, PlantFault> {
-        let mut woken = Woken::new();
-        let answer = self.as_guest(rt).feed(desk, feed, &mut woken);
-        self.wake(&woken);
-        answer
-    }
-
-    /// Closes a source's tape for a desk.
-    pub fn close<R: Wait>(&self, rt: &R, desk: u32, source: BlockId) -> Result<Closed, PlantFault> {
-        let mut woken = Woken::new();
-        let answer = self.as_guest(rt).close(desk, source, &mut woken);
-        self.wake(&woken);
-        answer
-    }
-
-    /// Sets the value of a block's setting, which is `value`, for a desk.
-    pub fn set<R: Wait>(
-        &self,
-        rt: &R,
-        desk: u32,
-        setting: Arc<Setting, Global>,
-        value: Value,
-    ) -> Result<Taken, PlantFault>
-        requires { value_of value ≡ value_of (arc_value setting).value }
-    {
-        self.as_guest(rt).set(desk, setting, value)
-    }
-
-    /// What a sink shows to a desk, twice.
-    pub fn read<R: Wait>(
+    /// Makes a call for a desk: the response, and what is noted of it.
+    pub fn call<R: Wait>(
         &self,
         rt: &R,
         alloc: Global,
         desk: u32,
-        sink: BlockId,
-        from: u64,
-        max: u64,
-    ) -> Result<(Arc<Piece, Global>, Arc<Piece, Global>), PlantFault>
-        ensures { IfOk result (λ p. arc_value p.0 ≡ arc_value p.1) }
+        request: Request,
+    ) -> Result<(Response, Answer), AllocError>
+        requires { IsReady request }
+        ensures { IfOk result (λ r. AreFor request r.0 r.1) }
     {
-        self.as_guest(rt).read(alloc, desk, sink, from, max)
+        let mut woken = Woken::new();
+        let answer = self.as_guest(rt).call(alloc, desk, request, &mut woken);
+        self.wake(&woken);
+        answer
     }
 
     /// A caller asks for the end of the run.
