@@ -1,6 +1,6 @@
 //! A graph file that streams between readers and writers in memory, one of marks among them, alone and with threads that help, of which one allocation may fail.
 use super::streams::Page;
-use flow::streams::open_stream;
+use flow::opening::open_stream;
 use graph_file::FileFault;
 use helper_threads::HelperThreads;
 use kinds::Kind;

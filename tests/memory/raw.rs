@@ -1,10 +1,13 @@
 //! A run between raw input and raw outputs in memory, of which one allocation may fail.
 use super::streams::{Page, Text};
+use flow::fault::Fault;
+use flow::opening::open_plant;
 use flow::raw_fault::EndPlace::{Output, Tags};
 use flow::raw_fault::RawFault;
+use flow::raw_input::feed_from;
 use flow::raw_output::{write_items, write_tags};
-use flow::raw_run::RawRun;
-use plant::BlockId;
+use flow::run::settle_plant;
+use plant::{BlockId, Unwatched};
 use raw_items::ByteOrder;
 use reporting::Refusal;
 use std::alloc::Global;
@@ -63,10 +66,13 @@ pub fn answer(alloc: Global) -> Left {
 }
 
 fn answer_to(alloc: Global, left: &mut Left) -> Result<(), RawFault> {
-    let mut run = RawRun::open(alloc, FILE.as_bytes())?;
+    let mut plant = match open_plant(alloc, FILE.as_bytes()) {
+        Ok(plant) => plant,
+        Err(fault) => return Err(RawFault::Whole(Fault::File(fault))),
+    };
     let mut input = Text::new(INPUT);
-    run.feed_from(alloc, 0, SOURCE, ByteOrder::Little, &mut input)?;
-    let plant = run.settle(alloc)?;
+    feed_from(alloc, &mut plant, 0, SOURCE, ByteOrder::Little, &mut input)?;
+    let (plant, _) = settle_plant(alloc, plant, &mut Unwatched)?;
     write_items(alloc, &plant, Output(0), SINK, ByteOrder::Little, &mut left.items)?;
     write_tags(alloc, &plant, Tags(0), SINK, &mut left.tags)
 }

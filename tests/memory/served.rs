@@ -2,9 +2,8 @@
 use super::chains;
 use super::streams::{Page, Text};
 use drawings::Format;
-use flow::running::Threading;
-use flow::serve::{Action, serve};
-use flow::stalls::Notes;
+use flow::threading::Threading;
+use flow::serve::{Action, Verbosity, serve};
 use plant::Unwatched;
 use std::alloc::{AllocError, Global};
 use std::sync::Wait;
@@ -239,7 +238,7 @@ fn answer_of<R: Threads + Wait + Clock + Copy + Send + Sync + 'static>(
         rt,
         alloc,
         command,
-        Notes::Shown,
+        Verbosity::WithNotes,
         file.as_bytes(),
         &mut input,
         &mut output,

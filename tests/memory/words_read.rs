@@ -3,7 +3,7 @@ use super::words::{Asked, asked_by};
 use crate::Host;
 use clap::error::ErrorKind;
 use flow::serve::Action;
-use flow::start::StartFault;
+use flow::start_fault::StartFault;
 use std::alloc::Global;
 use std::{env, fs};
 

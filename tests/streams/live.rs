@@ -3,8 +3,7 @@ ghost use Rattle.std.specs.Prelude.{None};
 
 use super::fakes::{Pieces, Written, lines_in};
 use super::served::{Ends, GOOD, served};
-use flow::serve::{Action, serve};
-use flow::stalls::Notes;
+use flow::serve::{Action, Verbosity, serve};
 use plant::{Headway, Unwatched, Watch};
 use reporting::{Broken, ByteIn, ByteOut};
 use std::alloc::Global;
@@ -124,7 +123,7 @@ fn each_line_is_answered_before_the_next_is_read(rt: HostRuntime) -> Result<(), 
         rt,
         alloc,
         Action::Live,
-        Notes::Shown,
+        Verbosity::WithNotes,
         CHAIN.as_bytes(),
         &mut input,
         &mut output,
@@ -285,7 +284,7 @@ fn a_live_run_is_stopped_behind_a_fault(rt: HostRuntime) -> Result<(), Fail> {
             rt,
             alloc,
             Action::Live,
-            Notes::Shown,
+            Verbosity::WithNotes,
             file.as_bytes(),
             &mut input,
             &mut output,

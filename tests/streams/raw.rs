@@ -3,14 +3,16 @@ use super::fakes::{Pieces, Written};
 use flow::fault::Fault;
 use flow::raw_fault::EndPlace::{Input, Output, Tags};
 use flow::raw_fault::{EndFault, RawFault};
+use flow::opening::open_plant;
+use flow::raw_input::{feed_from, sink_named, source_named};
 use flow::raw_output::{write_items, write_tags};
-use flow::raw_run::{RawRun, sink_named, source_named};
+use flow::refusal_line::report_raw;
+use flow::run::settle_plant;
 use flow::script::ScriptFault;
-use flow::telling::report_raw;
 use graph_file::FileFault;
 use items::Items;
 use kinds::Kind;
-use plant::{BlockId, Plant, PlantFault};
+use plant::{BlockId, Plant, PlantFault, Unwatched};
 use raw_items::ByteOrder;
 use std::alloc::Global;
 use std::process::Abort;
@@ -42,11 +44,17 @@ fn output(alloc: Global, room: usize) -> Written {
     }
 }
 
+// The plant of a file.
+fn opened(alloc: Global, file: &str) -> Result<Plant<Kind>, RawFault> {
+    open_plant(alloc, file.as_bytes()).map_err(|fault| RawFault::Whole(Fault::File(fault)))
+}
+
 // The run of a file with its feeds behind the chain, and the bytes fed to its source.
 fn ran(alloc: Global, file: &str, input: &mut Pieces<'_>) -> Result<Plant<Kind>, RawFault> {
-    let mut run = RawRun::open(alloc, file.as_bytes())?;
-    run.feed_from(alloc, 0, SOURCE, ByteOrder::Little, input)?;
-    Ok(run.settle(alloc)?)
+    let mut plant = opened(alloc, file)?;
+    feed_from(alloc, &mut plant, 0, SOURCE, ByteOrder::Little, input)?;
+    let (plant, _) = settle_plant(alloc, plant, &mut Unwatched)?;
+    Ok(plant)
 }
 
 // The shorts that the sink holds.
@@ -176,7 +184,7 @@ fn tags_are_written_line_by_line(rt: HostRuntime) -> Result<(), Fail> {
 #[test]
 fn ends_are_named_by_blocks(rt: HostRuntime) -> Result<(), Fail> {
     let alloc = rt.alloc();
-    let run = RawRun::open(alloc, CHAIN.as_bytes()).map_err(|_| "a run")?;
+    let plant = opened(alloc, CHAIN).map_err(|_| "a plant")?;
     let place = Input(4);
     for (name, source, sink) in [
         ("src", "0", "22 NotSink input 4"),
@@ -185,8 +193,8 @@ fn ends_are_named_by_blocks(rt: HostRuntime) -> Result<(), Fail> {
         ("src ", "20 NoSuchBlock input 4", "20 NoSuchBlock input 4"),
     ] {
         for (found, wanted) in [
-            (source_named(run.graph(), place, name.as_bytes()), source),
-            (sink_named(run.graph(), place, name.as_bytes()), sink),
+            (source_named(plant.graph(), place, name.as_bytes()), source),
+            (sink_named(plant.graph(), place, name.as_bytes()), sink),
         ] {
             let told = match found {
                 Ok(block) => block.0.to_string(alloc)?,
@@ -201,10 +209,11 @@ fn ends_are_named_by_blocks(rt: HostRuntime) -> Result<(), Fail> {
 #[test]
 fn inputs_of_a_source_stand_one_behind_the_other(rt: HostRuntime) -> Result<(), Fail> {
     let alloc = rt.alloc();
-    let mut run = RawRun::open(alloc, CHAIN.as_bytes()).map_err(|_| "a run")?;
+    let mut plant = opened(alloc, CHAIN).map_err(|_| "a plant")?;
     for number in 0..2 {
-        let fed = run.feed_from(
+        let fed = feed_from(
             alloc,
+            &mut plant,
             number,
             SOURCE,
             ByteOrder::Big,
@@ -212,7 +221,7 @@ fn inputs_of_a_source_stand_one_behind_the_other(rt: HostRuntime) -> Result<(), 
         );
         assert!(rt; fed.is_ok());
     }
-    let ran = run.settle(alloc)?;
+    let (ran, _) = settle_plant(alloc, plant, &mut Unwatched)?;
     assert_eq!(rt; held(alloc, &ran)?.as_slice(), [-32_768, 1, -32_768, 1].as_slice());
     let mut output = output(alloc, 9);
     for (block, text) in [

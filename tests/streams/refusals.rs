@@ -1,6 +1,6 @@
 //! What is written to standard error.
 use super::served::{Ends, GOOD, served};
-use flow::running::Threading;
+use flow::threading::Threading;
 use flow::serve::Action;
 use std::alloc::Global;
 use std::sync::Wait;

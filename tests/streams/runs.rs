@@ -1,9 +1,8 @@
 //! Calls whose streams come in pieces, or fail.
 use super::fakes::lines_in;
 use super::served::{Ends, GOOD, served, served_with};
-use flow::running::Threading;
-use flow::serve::Action;
-use flow::stalls::Notes;
+use flow::threading::Threading;
+use flow::serve::{Action, Verbosity};
 use std::test::Fail;
 
 // Two ways from one source of bytes.
@@ -138,7 +137,7 @@ fn a_stall_is_explained(rt: HostRuntime) -> Result<(), Fail> {
         Action::RunAlone,
         Action::Live,
     ] {
-        let left = served_with(rt, alloc, GOOD, command, Notes::Hidden, file, "");
+        let left = served_with(rt, alloc, GOOD, command, Verbosity::Quiet, file, "");
         assert!(rt; left.is(STALLED.as_bytes(), "", 3), "nothing is told");
         for errors_room in [0, 1, 14, 50, 100, 200, RING.len() - 1, RING.len()] {
             let ends = Ends {
@@ -167,7 +166,7 @@ fn a_stall_is_explained(rt: HostRuntime) -> Result<(), Fail> {
 fn open_sources_are_told(rt: HostRuntime) -> Result<(), Fail> {
     let alloc = rt.alloc();
     let told = "flow: stalled: src is open: it waits to be fed\n";
-    for (notes, errors) in [(Notes::Shown, told), (Notes::Hidden, "")] {
+    for (notes, errors) in [(Verbosity::WithNotes, told), (Verbosity::Quiet, "")] {
         let left = served_with(
             rt,
             alloc,

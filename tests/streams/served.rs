@@ -1,7 +1,6 @@
 //! Calls of `serve` over streams in memory.
 use super::fakes::{Pieces, Written};
-use flow::serve::{Action, serve};
-use flow::stalls::Notes;
+use flow::serve::{Action, Verbosity, serve};
 use plant::Unwatched;
 use std::alloc::Global;
 use std::sync::Wait;
@@ -53,7 +52,7 @@ pub fn served<R: Threads + Wait + Clock + Copy + Send + Sync + 'static>(
     file: &[u8],
     input: &str,
 ) -> Left {
-    served_with(rt, alloc, ends, command, Notes::Shown, file, input)
+    served_with(rt, alloc, ends, command, Verbosity::WithNotes, file, input)
 }
 
 /// The same with notes or without.
@@ -62,7 +61,7 @@ pub fn served_with<R: Threads + Wait + Clock + Copy + Send + Sync + 'static>(
     alloc: Global,
     ends: Ends,
     command: Action,
-    notes: Notes,
+    verbosity: Verbosity,
     file: &[u8],
     input: &str,
 ) -> Left {
@@ -86,7 +85,7 @@ pub fn served_with<R: Threads + Wait + Clock + Copy + Send + Sync + 'static>(
         rt,
         alloc,
         command,
-        notes,
+        verbosity,
         file,
         &mut input,
         &mut output,

@@ -1,7 +1,7 @@
 //! The texts of replies, reports and faults.
 use flow::fault::Fault;
 use flow::script::ScriptFault;
-use flow::start::StartFault;
+use flow::start_fault::StartFault;
 use graph_file::FileFault;
 use items::{ItemType, Items, Tag, TagKey};
 use plant::PlantFault;

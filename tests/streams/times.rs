@@ -1,9 +1,8 @@
 //! Where the time of a run went: the reports, byte for byte, and what a run of each way is measured.
 use super::fakes::{Pieces, Written};
 use flow::measured::{Form, Looks, Measured};
-use flow::running::Threading;
-use flow::serve::{Action, serve};
-use flow::stalls::Notes;
+use flow::threading::Threading;
+use flow::serve::{Action, Verbosity, serve};
 use flowgraph::Valid;
 use graph_file::read_graph;
 use kinds::Kind;
@@ -164,7 +163,7 @@ fn a_run_of_each_way_is_counted(rt: HostRuntime) -> Result<(), Fail> {
             rt,
             alloc,
             action,
-            Notes::Shown,
+            Verbosity::WithNotes,
             GRAPH.as_bytes(),
             &mut input,
             &mut output,

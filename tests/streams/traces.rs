@@ -1,9 +1,8 @@
 //! The trace of a run: its text, byte for byte, by a clock that is set; and what the trace of a run of each way has.
 use super::fakes::{Pieces, Written};
 use flow::measured::{Form, Looks, Measured};
-use flow::running::Threading;
-use flow::serve::{Action, serve};
-use flow::stalls::Notes;
+use flow::threading::Threading;
+use flow::serve::{Action, Verbosity, serve};
 use flowgraph::{BlockId, Valid};
 use graph_file::read_graph;
 use kinds::Kind;
@@ -244,7 +243,7 @@ fn a_run_of_each_way_is_traced(rt: HostRuntime) -> Result<(), Fail> {
             rt,
             alloc,
             action,
-            Notes::Shown,
+            Verbosity::WithNotes,
             GRAPH.as_bytes(),
             &mut input,
             &mut output,

@@ -2,9 +2,8 @@
 use super::terminal::Terminal;
 use super::words::{Asked, asked_by};
 use clap::error::ErrorKind;
-use flow::running::Threading;
-use flow::serve::{Action, serve};
-use flow::stalls::Notes;
+use flow::threading::Threading;
+use flow::serve::{Action, Verbosity, serve};
 use reporting::{ReadEnd, WriteEnd};
 use std::alloc::Global;
 use std::cell::Cell;
@@ -63,7 +62,7 @@ fn shown<R: Threads + Wait + Clock + Copy + Send + Sync + 'static>(
             rt,
             alloc,
             Action::RunAlone,
-            Notes::Shown,
+            Verbosity::WithNotes,
             GRAPH.as_bytes(),
             &mut ReadEnd::new(b"".as_slice()),
             &mut output,
@@ -141,7 +140,7 @@ fn words_ask_for_calls(rt: HostRuntime) -> Result<(), Fail> {
                     (command, "a.toml", is_quiet)
                 );
                 assert_eq!(rt; call.may_show(true), !is_quiet);
-                assert_eq!(rt; call.notes() == Notes::Shown, !is_quiet);
+                assert_eq!(rt; call.verbosity() == Verbosity::WithNotes, !is_quiet);
                 assert!(rt; !call.may_show(false), "no terminal");
             }
             Ok(Asked::Kinds) | Err(_) => assert!(rt; false, "{words:?}"),

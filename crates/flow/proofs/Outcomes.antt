@@ -11,7 +11,7 @@ use Rattle.flowgraph.specs.Flowgraph.{net_of}
 use Rattle.kinds.specs.declared.kind.Kind.{Kind}
 use Rattle.kinds.specs.Kind.{meaning_of}
 use Rattle.plant.specs.Plant.{PlantState}
-use Rattle.plant.specs.Settling.{HasSettled, StepsLead}
+use Rattle.plant.specs.Settling.{HasSettled, HoldsSettled, StepsLead}
 use Rattle.plant.specs.declared.answers.Settled.{Settled}
 use Rattle.plant.specs.declared.answers.Settled.TheVariants.{Done, Quiet}
 use Rattle.graph_file.specs.Refusals.{Refusal}
@@ -28,9 +28,10 @@ use Rattle.top_block.specs.Closing.{with_all_closed}
 use Rattle.flow.proofs.Agreeing.{same_names}
 use Rattle.reporting.specs.Ends.{AppendsBeginning}
 use Rattle.flow.specs.Session.{in_state, turn}
+use Rattle.flow.specs.RawEnds.{StepsToRest}
 use Rattle.flow.specs.Reports.{run_text}
 use Rattle.flow.specs.Threads.{HasCome}
-use Rattle.flow.specs.Serve.{Becomes, Fails, IsNoFile, Refuses, RunsNot, StopsLive, Writes, WritesNot, IsAtRest, IsLiveTo, IsRunTo, IsRunAloneTo, plant_in, stalled_in, reads_in, reads_failed, writes_in, writes_failed}
+use Rattle.flow.specs.Serve.{Becomes, Fails, IsNoFile, Refuses, RunsNot, StopsLive, Writes, WritesNot, IsAtRest, IsEnd, IsLiveTo, IsRunTo, IsRunAloneTo, plant_in, stalled_in, reads_in, reads_failed, writes_in, writes_failed}
 use Rattle.flow.specs.declared.fault.Fault.{Fault}
 use Rattle.flow.specs.declared.fault.Fault.TheVariants.{File, Script, Run}
 use Rattle.flow.specs.declared.script.ScriptFault.TheVariants.{BadLine, Read, Write, Memory}
@@ -113,12 +114,6 @@ module _ {A : Type 0} (IsDone : List ℕ → ℕ → Type 0) (r : Result A Refus
   no_reads_of_run {X} out out' (Err (Script fault)) h = no_reads {X = X} out out' (Err (Script fault)) h
   no_reads_of_run out out' (Err (Run fault)) h = refl
 
--- the plant of a run that stalled is the one that was opened, elsewhere
-stalled_is : (p r : Opened) (st : State) (done : Bool) (stalled : Option Opened) → r ≡ record p { state = st } → done ≡ is_all_done st → stalled ≡ (if done then None else Some r) →
-    stalled ≡ stalled_in p st
-stalled_is p r st done stalled same all e =
-    e ∙ ap (λ (x : Opened). if done then None else Some x) same ∙ ap (λ (b : Bool). if b then None else Some (record p { state = st })) all
-
 -- what a run told was written, and its plant is given on
 pub wrote_run : (IsDone : Option Opened → List ℕ → ℕ → Type 0) (out out' : Option (List ℕ)) (text : List ℕ) (status s : ℕ) (stalled t : Option (PlantState Kind)) →
     IsDone (option_map opened_of stalled) text status → s ≡ status → t ≡ stalled → Appends out out' text → Writes (IsDone (option_map opened_of t)) out out' s
@@ -156,26 +151,47 @@ pub at_rest : (net : Network) (caps : Capacities) (st : State) (settled : Settle
 at_rest net caps st Done h whole = record { whole = whole; quiet = λ e. absurd (let both : true ≡ false = sym h ∙ e in cc) }
 at_rest net caps st Quiet h whole = record { whole = whole; quiet = λ _. h.1 }
 
-module _ (file text : List ℕ) (p q r : PlantState Kind) where
-  -- a plant whose sources were closed, and which then settled
-  pub ran : (settled : Settled) (done : Bool) (status : ℕ) (stalled : Option Opened) → plant_in file ≡ Ok (opened_of p) → q ≡ with_all_closed meaning_of p → r ≡ in_state q r.state →
-      StepsLead (net_of meaning_of q.graph) q.capacities turn q.state r.state → HasSettled (net_of meaning_of r.graph) r.capacities r.state settled →
-      done ≡ is_all_done r.state → (done ≡ true → IsWhole (net_of meaning_of r.graph) r.state) → text ≡ run_text (drafted r.graph) r.state → status ≡ (if done then 0 else 3) →
-      stalled ≡ (if done then None else Some (opened_of r)) → IsRunAloneTo file stalled text status
-  ran settled done status stalled opens closes same steps rests all whole tells well left =
-      let of : r ≡ in_state p r.state = same ∙ ap (λ (x : PlantState Kind). in_state x r.state) closes in (
-        record {
-          plant = opened_of p;
-          opens = opens;
-          last = r.state;
-          steps = subst (λ (x : PlantState Kind). StepsLead (net_of meaning_of x.graph) x.capacities turn x.state r.state) closes steps;
-          rests = subst (λ (x : PlantState Kind). IsAtRest (net_of meaning_of x.graph) x.capacities r.state) of
-              (at_rest (net_of meaning_of r.graph) r.capacities r.state settled rests (λ e. whole (all ∙ e)));
-          told = tells ∙ ap (λ (x : PlantState Kind). run_text (drafted x.graph) r.state) of;
-          well = well ∙ ap (λ (b : Bool). if b then 0 else 3) all;
-        },
-        stalled_is (opened_of p) (opened_of r) r.state done stalled (ap opened_of of) all left,
-      )
+settled_rest : (net : Network) (caps : Capacities) (st : State) (settled : Settled) → HasSettled net caps st settled → HoldsSettled net st settled → IsAtRest net caps st
+settled_rest net caps st Done h whole = record { whole = λ _. whole; quiet = λ e. absurd (let both : true ≡ false = sym h ∙ e in cc) }
+settled_rest net caps st Quiet h whole = record { whole = λ e. absurd (let both : true ≡ false = sym e ∙ h.0 in cc); quiet = λ _. h.1 }
+
+-- what is told of a plant that settled
+pub ended : (p : PlantState Kind) (text : List ℕ) (settled : Settled) (done : Bool) (status : ℕ) (stalled : Option Opened) → HasSettled (net_of meaning_of p.graph) p.capacities p.state settled →
+    done ≡ is_all_done p.state → (done ≡ true → IsWhole (net_of meaning_of p.graph) p.state) → text ≡ run_text (drafted p.graph) p.state → status ≡ (if done then 0 else 3) →
+    stalled ≡ (if done then None else Some (opened_of p)) → IsEnd (opened_of p) stalled text status
+ended p text settled done status stalled rests all whole tells well left = record {
+  rests = at_rest (net_of meaning_of p.graph) p.capacities p.state settled rests (λ e. whole (all ∙ e));
+  told = tells;
+  well = well ∙ ap (λ (b : Bool). if b then 0 else 3) all;
+  left = left ∙ ap (λ (b : Bool). if b then None else Some (opened_of p)) all;
+}
+
+-- a plant that settled behind its closing is at rest
+pub steps_to_rest : (p q r : PlantState Kind) (settled : Settled) → q ≡ with_all_closed meaning_of p → r ≡ in_state q r.state →
+    StepsLead (net_of meaning_of q.graph) q.capacities turn q.state r.state → HasSettled (net_of meaning_of r.graph) r.capacities r.state settled →
+    HoldsSettled (net_of meaning_of r.graph) r.state settled → StepsToRest (opened_of p) (opened_of r)
+steps_to_rest p q r settled closes same steps rests whole =
+    let of : r ≡ in_state p r.state = same ∙ ap (λ (x : PlantState Kind). in_state x r.state) closes in
+    record {
+      same = ap opened_of of;
+      steps = subst (λ (x : PlantState Kind). StepsLead (net_of meaning_of x.graph) x.capacities turn x.state r.state) closes steps;
+      rests = settled_rest (net_of meaning_of r.graph) r.capacities r.state settled rests whole;
+    }
+
+-- the plant of a file came to rest block by block, and what is told of it then
+pub ran : (file text : List ℕ) (status : ℕ) (p r : Opened) (stalled : Option Opened) → plant_in file ≡ Ok p → StepsToRest p r → IsEnd r stalled text status → IsRunAloneTo file stalled text status
+ran file text status p r stalled opens to is = (
+  record {
+    plant = p;
+    opens = opens;
+    last = r.state;
+    steps = to.steps;
+    rests = subst (λ (x : Opened). IsAtRest x.draft.net x.capacities r.state) to.same is.rests;
+    told = is.told ∙ ap (λ (x : Opened). run_text x.draft r.state) to.same;
+    well = is.well;
+  },
+  is.left ∙ ap (λ (x : Opened). stalled_in x r.state) to.same,
+)
 
 -- a plant with the same names and network, and with buffers as large as its rates ask, is the one that was opened, elsewhere
 module _ (p r : PlantState Kind) (eq : Kind → Kind → Bool) (agree : graphs_agree eq r.graph p.graph ≡ true) (net : net_of meaning_of r.graph ≡ net_of meaning_of p.graph)
@@ -192,12 +208,11 @@ module _ (p r : PlantState Kind) (eq : Kind → Kind → Bool) (agree : graphs_a
       let graph = same_graph in
       λ i. record { draft = graph i; capacities = capacities i; state = r.state }
 
-module _ (file text : List ℕ) (p r : PlantState Kind) (eq : Kind → Kind → Bool) where
-  pub ran_in_threads : (settled : Settled) (done : Bool) (status : ℕ) (stalled : Option Opened) → HasReturned meaning_of eq (handed_of (with_all_closed meaning_of p)) r → plant_in file ≡ Ok (opened_of p) →
+module _ (file text : List ℕ) (status : ℕ) (p r : PlantState Kind) (stalled : Option Opened) (eq : Kind → Kind → Bool) where
+  pub ran_in_threads : HasReturned meaning_of eq (handed_of (with_all_closed meaning_of p)) r → plant_in file ≡ Ok (opened_of p) →
       p.capacities ≡ capacities_of (net_of meaning_of p.graph) (balance_of (net_of meaning_of p.graph)) → Sound (net_of meaning_of r.graph) r.capacities r.state →
-      HasSettled (net_of meaning_of r.graph) r.capacities r.state settled → done ≡ is_all_done r.state → (done ≡ true → IsWhole (net_of meaning_of r.graph) r.state) →
-      text ≡ run_text (drafted r.graph) r.state → status ≡ (if done then 0 else 3) → stalled ≡ (if done then None else Some (opened_of r)) → IsRunTo file stalled text status
-  ran_in_threads settled done status stalled back opens fit sound rests all whole tells well left =
+      IsEnd (opened_of r) stalled text status → IsRunTo file stalled text status
+  ran_in_threads back opens fit sound is =
       let same = same_plant p r eq back.graph back.net back.capacities fit in (
         record {
           plant = opened_of p;
@@ -205,19 +220,17 @@ module _ (file text : List ℕ) (p r : PlantState Kind) (eq : Kind → Kind → 
           last = r.state;
           handed = back.handed;
           sound = subst (λ (x : Opened). Sound x.draft.net x.capacities x.state) same sound;
-          rests = subst (λ (x : Opened). IsAtRest x.draft.net x.capacities x.state) same (at_rest (net_of meaning_of r.graph) r.capacities r.state settled rests (λ e. whole (all ∙ e)));
-          told = tells ∙ ap (λ d. run_text d r.state) (same_graph p r eq back.graph back.net back.capacities);
-          well = well ∙ ap (λ (b : Bool). if b then 0 else 3) all;
+          rests = subst (λ (x : Opened). IsAtRest x.draft.net x.capacities x.state) same is.rests;
+          told = is.told ∙ ap (λ (x : Opened). run_text x.draft r.state) same;
+          well = is.well;
         },
-        stalled_is (opened_of p) (opened_of r) r.state done stalled same all left,
+        is.left ∙ ap (λ (x : Opened). stalled_in x r.state) same,
       )
 
   -- calls were made meanwhile
-  pub ran_live : (settled : Settled) (done : Bool) (status : ℕ) (stalled : Option Opened) → HasCome meaning_of eq (opening_of p) r → plant_in file ≡ Ok (opened_of p) →
-      p.capacities ≡ capacities_of (net_of meaning_of p.graph) (balance_of (net_of meaning_of p.graph)) →
-      HasSettled (net_of meaning_of r.graph) r.capacities r.state settled → done ≡ is_all_done r.state → (done ≡ true → IsWhole (net_of meaning_of r.graph) r.state) →
-      text ≡ run_text (drafted r.graph) r.state → status ≡ (if done then 0 else 3) → stalled ≡ (if done then None else Some (opened_of r)) → IsLiveTo file stalled text status
-  ran_live settled done status stalled come opens fit rests all whole tells well left =
+  pub ran_live : HasCome meaning_of eq (opening_of p) r → plant_in file ≡ Ok (opened_of p) →
+      p.capacities ≡ capacities_of (net_of meaning_of p.graph) (balance_of (net_of meaning_of p.graph)) → IsEnd (opened_of r) stalled text status → IsLiveTo file stalled text status
+  ran_live come opens fit is =
       let back = come.1 in
       let same = same_plant p r eq back.graph back.net back.capacities fit in (
         record {
@@ -226,11 +239,11 @@ module _ (file text : List ℕ) (p r : PlantState Kind) (eq : Kind → Kind → 
           history = come.0;
           last = r.state;
           run = subst (λ (x : Opened). IsRunOf x.draft.net x.capacities p.state come.0 r.state) same back.run;
-          rests = subst (λ (x : Opened). IsAtRest x.draft.net x.capacities x.state) same (at_rest (net_of meaning_of r.graph) r.capacities r.state settled rests (λ e. whole (all ∙ e)));
-          told = tells ∙ ap (λ d. run_text d r.state) (same_graph p r eq back.graph back.net back.capacities);
-          well = well ∙ ap (λ (b : Bool). if b then 0 else 3) all;
+          rests = subst (λ (x : Opened). IsAtRest x.draft.net x.capacities x.state) same is.rests;
+          told = is.told ∙ ap (λ (x : Opened). run_text x.draft r.state) same;
+          well = is.well;
         },
-        stalled_is (opened_of p) (opened_of r) r.state done stalled same all left,
+        is.left ∙ ap (λ (x : Opened). stalled_in x r.state) same,
       )
 
 -- how a live run ended that came to rest

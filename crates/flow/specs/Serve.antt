@@ -33,8 +33,8 @@ use Rattle.flow.specs.declared.fault.Fault.TheVariants.{File, Script, Run}
 use Rattle.flow.specs.declared.script.ScriptFault.TheVariants.{BadLine, Read, Write, Memory}
 use Rattle.flow.specs.declared.serve.Action.{Action}
 use Rattle.flow.specs.declared.serve.Action.TheVariants as action
-use Rattle.flow.specs.declared.stalls.Notes.{Notes}
-use Rattle.flow.specs.declared.stalls.Notes.TheVariants.{Shown, Hidden}
+use Rattle.flow.specs.declared.serve.Verbosity.{Verbosity}
+use Rattle.flow.specs.declared.serve.Verbosity.TheVariants.{WithNotes, Quiet}
 
 -- the bytes of a stream, of an input those that are left, and how many reads or writes of it failed
 pub record Stream : Type 0 where
@@ -137,6 +137,13 @@ pub record IsLive (file text : List ℕ) (status : ℕ) : Type 0 where
 -- the plant in which a run came to rest, if it stalled
 abbrev pub stalled_in : Opened → State → Option Opened
 stalled_in plant last = if is_all_done last then None else Some (record plant { state = last })
+
+-- what is told of a plant that came to rest, and the plant where it stalled
+pub record IsEnd (plant : Opened) (stalled : Option Opened) (text : List ℕ) (status : ℕ) : Type 0 where
+  pub rests : IsAtRest plant.draft.net plant.capacities plant.state
+  pub told : text ≡ run_text plant.draft plant.state
+  pub well : status ≡ (if is_all_done plant.state then 0 else 3)
+  pub left : stalled ≡ stalled_in plant plant.state
 
 -- a run, and the plant of it that stalled
 abbrev pub IsRunTo : List ℕ → Option Opened → List ℕ → ℕ → Type 0
@@ -265,17 +272,17 @@ abbrev pub Explains : Opened → Stream → Stream → Type 0
 Explains plant old new = (known : Bool) × Tries old new (stall_text (uneven_line known (balance_of plant.draft.net)) plant.draft plant.capacities plant.state)
 
 -- the plant that stalled is explained, if there is one and that is wanted; else nothing is
-abbrev pub Remarks : Notes → Option Opened → Stream → Stream → Type 0
-Remarks Shown (Some plant) old new = Explains plant old new
-Remarks Shown None old new = new ≡ old
-Remarks Hidden stalled old new = new ≡ old
+abbrev pub Remarks : Verbosity → Option Opened → Stream → Stream → Type 0
+Remarks WithNotes (Some plant) old new = Explains plant old new
+Remarks WithNotes None old new = new ≡ old
+Remarks Quiet stalled old new = new ≡ old
 
 -- a command was done, and no fault is reported, but why a run stalled may be explained; or it was not, the fault is reported, and the status is the one
 -- that it brings
-pub data Serves (notes : Notes) (c : Action) (file : List ℕ) (input input' output output' errors errors' : Stream) : ℕ → Type 0 where
+pub data Serves (verbosity : Verbosity) (c : Action) (file : List ℕ) (input input' output output' errors errors' : Stream) : ℕ → Type 0 where
   Well : (status : ℕ) (stalled : Option Opened) → Does c file input.bytes input'.bytes output.bytes output'.bytes status stalled →
-      Grows c input.failed input'.failed 0 → Grows c output.failed output'.failed 0 → Remarks notes stalled errors errors' →
-      Serves notes c file input input' output output' errors errors' status
+      Grows c input.failed input'.failed 0 → Grows c output.failed output'.failed 0 → Remarks verbosity stalled errors errors' →
+      Serves verbosity c file input input' output output' errors errors' status
   Badly : (fault : Fault) → DoesNot c file input.bytes input'.bytes output.bytes output'.bytes fault →
       Grows c input.failed input'.failed (reads_failed fault) → Grows c output.failed output'.failed (writes_failed fault) → Tries errors errors' (fault_line fault) →
-      Serves notes c file input input' output output' errors errors' (status_of fault)
+      Serves verbosity c file input input' output output' errors errors' (status_of fault)

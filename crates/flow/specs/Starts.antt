@@ -6,8 +6,8 @@ use Rattle.script_text.specs.Replies.{line_text}
 use Rattle.flow.specs.Faults.{fault_line, status_of}
 use Rattle.flow.specs.declared.fault.Fault.TheVariants.{Script}
 use Rattle.flow.specs.declared.script.ScriptFault.TheVariants as script
-use Rattle.flow.specs.declared.start.StartFault.{StartFault}
-use Rattle.flow.specs.declared.start.StartFault.TheVariants.{NoText, BadWords, NoFile, NoTrace, NoOutput, Memory}
+use Rattle.flow.specs.declared.start_fault.StartFault.{StartFault}
+use Rattle.flow.specs.declared.start_fault.StartFault.TheVariants.{NoText, BadWords, NoFile, NoTrace, NoOutput, Memory}
 
 -- a word that is no UTF-8 is reported; otherwise only memory can run out
 abbrev pub words_fault : ErrorKind → StartFault

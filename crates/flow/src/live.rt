@@ -1,6 +1,7 @@
-//! A run of which an input makes calls, line by line, in as many threads as its work is worth.
+//! The command `live`: the plant of a file runs in as many threads as its work is worth, while the lines of an input make calls of it.
 
-ghost use Rattle.std.specs.Prelude.{List, ◌≡◌, ◌≤◌, map, true, vec_len, IfOk, IfErr};
+ghost use Rattle.std.specs.Prelude.{List, ℕ, Option, ◌≡◌, ◌≤◌, map, true, vec_len, IfOk, IfErr};
+ghost use Rattle.std.specs.Option.{option_map};
 ghost use Rattle.stream_model.specs.Machine.{is_idle};
 ghost use Rattle.flowgraph.specs.Flowgraph.{net_of};
 ghost use Rattle.kinds.specs.Kind.{meaning_of};
@@ -9,13 +10,19 @@ ghost use Rattle.plant.specs.Handed.{OpeningState};
 ghost use Rattle.plant.specs.Settling.{HasSettled};
 ghost use Rattle.threads.specs.History.{Noted, noted_by};
 ghost use Rattle.threads.specs.Live.{LiveRunEndsIn, opening_of};
-ghost use Rattle.flow.specs.Serve.{IsNoFile};
+ghost use Rattle.graph_file.specs.Opening.{opened_of};
+ghost use Rattle.flow.specs.Serve.{IsLiveTo, IsNoFile, StopsLive, Writes};
 ghost use Rattle.flow.specs.Threads.{HasCome};
 
+mod desk_calls;
+mod line_caller;
+
+use crate::command_output::{CommandEnd, run_output, write_run};
 use crate::fault::Fault;
-use crate::line_caller::LineCaller;
-use crate::running::turns;
+use crate::live::line_caller::LineCaller;
+use crate::opening::open_plant;
 use crate::script::ScriptFault;
+use crate::threading::turns;
 use kinds::Kind;
 use plant::{Plant, Settled, Watch};
 use reporting::{ByteIn, ByteOut};
@@ -27,14 +34,41 @@ use std::time::Clock;
 use threads::{Finished, Open, Outcome, RunError};
 use top_block::TopBlock;
 
-/// Runs a plant while the lines of `input` make calls of it, each answered on `output` before the next is read. At the end of the input
-/// the run goes on until it comes to rest. It gives the plant back as it is then.
-pub(crate) fn live_plant<
+/// Runs the plant of a file while the lines of `input` make calls of it, until it comes to rest behind the end of the input, and writes what its sinks hold.
+pub(crate) fn run_live<
     R: Threads + Wait + Clock + Sync,
     I: ByteIn + Send,
     O: ByteOut + Send,
     W: Watch,
 >(
+    rt: &R,
+    alloc: Global,
+    file: &[u8],
+    input: &mut I,
+    output: &mut O,
+    watch: &mut W,
+) -> Result<CommandEnd, Fault>
+    ensures does { IfOk result (λ ended. (between : Option (List ℕ)) × Writes (IsLiveTo file.now (option_map opened_of ended.stalled)) between (O.contents output.new) ended.status) }
+    ensures does_not { IfErr result (StopsLive file.now (I.remaining input.old) (I.remaining input.new) (O.contents output.old) (O.contents output.new)) }
+{
+    let plant = match open_plant(alloc, file) {
+        Ok(plant) => plant,
+        Err(fault) => return Err(Fault::File(fault)),
+    };
+    plant.recall();
+    let (plant, settled) = live_plant(rt, alloc, plant, input, output, watch)?;
+    plant.recall();
+    let ran = run_output(alloc, plant, settled)?;
+    // (the caller's thread may have left it so that no failure more can be counted)
+    if output.failures() == u64::MAX {
+        return Err(Fault::Script(ScriptFault::Write));
+    }
+    write_run(output, ran)
+}
+
+// Runs a plant while the lines of `input` make calls of it, each answered on `output` before the next is read. At the end of the input
+// the run goes on until it comes to rest. It gives the plant back as it is then.
+fn live_plant<R: Threads + Wait + Clock + Sync, I: ByteIn + Send, O: ByteOut + Send, W: Watch>(
     rt: &R,
     alloc: Global,
     plant: Plant<Kind>,

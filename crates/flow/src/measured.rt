@@ -1,7 +1,7 @@
 //! What a run spends its time on, measured and told.
 
 use crate::fault::NO_MEMORY;
-use crate::serve::open_plant;
+use crate::opening::open_plant;
 use flowgraph::Valid;
 use graph_file::FileFault;
 use kinds::Kind;
@@ -18,7 +18,7 @@ use std::time::Clock;
 pub enum Form {
     /// In columns.
     Text,
-    /// As one object of JSON.
+    /// In one object of JSON.
     Json,
 }
 

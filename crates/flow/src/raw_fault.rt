@@ -58,7 +58,7 @@ pub enum EndPlace {
 /// Why a run with raw items stopped. Its text is the number of the refusal, its name, and what the name alone does not say.
 #[derive(Debug, Drop, Error)]
 pub enum RawFault {
-    /// As without raw items: the graph file is refused, the run failed, or memory or the report did.
+    /// No end is to blame: the graph file is refused, the run failed, or memory or the report did.
     Whole(Fault),
     /// An end of the run is refused, or its device failed.
     End(EndPlace, EndFault),

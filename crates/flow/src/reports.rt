@@ -22,7 +22,7 @@ use std::alloc::{AllocError, Global};
 use streaming::StreamingPlant;
 
 /// The report on a valid graph: its blocks, its connections, its rates, and how often each block fires in an iteration.
-pub(crate) fn checked(
+pub(crate) fn check_report(
     alloc: Global,
     graph: &Valid<Kind>,
     rates: &Rates,
@@ -81,7 +81,7 @@ fn add_firings(
 }
 
 /// The report on a run: what each sink holds, and how the run ended.
-pub(crate) fn ended(
+pub(crate) fn run_report(
     alloc: Global,
     plant: &Plant<Kind>,
     settled: Settled,
@@ -98,7 +98,7 @@ pub(crate) fn ended(
 }
 
 /// The report on a run of a plant that streams: how many items each sink has taken with those that were not drained, and how the run ended.
-pub fn streamed(
+pub fn stream_report(
     alloc: Global,
     plant: &StreamingPlant<Kind>,
     settled: Settled,
@@ -129,7 +129,7 @@ fn add_rest(
             add_held(alloc, text, name, piece.held, &piece)
         }
         Err(PlantFault::NotSink) => Ok(()),
-        // (as below)
+        // A block that there is is refused only where memory runs out.
         Err(_) => Err(AllocError),
     }
 }

@@ -1,4 +1,4 @@
-//! A script: commands line by line, and their replies.
+//! The command `script`: lines of an input, one by one, with a reply to each that asks something.
 
 ghost use Rattle.std.specs.Prelude.{◌≡◌, ◌+◌, ◌-◌, ◌^◌, ◌<◌, ◌≤◌, suc, [], ◌∷◌, IfOk, IfErr, OnOk};
 ghost use Rattle.script_text.specs.Lines.{most_lines};
@@ -8,9 +8,12 @@ ghost use Rattle.script_text.specs.Grammar.{Says, IsAskable};
 ghost use Rattle.script_text.specs.Commands.{command_seen};
 ghost use Rattle.flow.specs.Session.{Answers, graph_of, standing_of, in_state, none_kept};
 ghost use Rattle.flow.specs.Script.{Answered, Stops, Unwritten, Proceeds, Went, Ends, RunEndsIn, Breaks, failed_reads, failed_writes};
+ghost use Rattle.flow.specs.Serve.{IsScript, StopsScript, reads_in, writes_in};
 ghost use Rattle.flow.specs.declared.script.ScriptFault.TheVariants.{Memory};
 
 use crate::answerer::Answerer;
+use crate::fault::Fault;
+use crate::opening::open_plant;
 use crate::session::Session;
 use block_kinds::Block;
 use plant::Plant;
@@ -91,6 +94,30 @@ impl From<AllocError> for ScriptFault {
 
     fn from(_refusal: AllocError) -> ScriptFault {
         ScriptFault::Memory
+    }
+}
+
+/// Does the commands of the input on the plant of a file, and writes their replies. It starts no thread and waits for none.
+pub fn run_script<I: ByteIn, O: ByteOut>(
+    alloc: Global,
+    file: &[u8],
+    input: &mut I,
+    output: &mut O,
+) -> Result<u8, Fault>
+    requires reads { I.failed input.old < 2 ^ 64 - 1 }
+    requires writes { O.failed output.old < 2 ^ 64 - 1 }
+    ensures does { IfOk result (λ status. IsScript file.now (I.remaining input.old) (I.remaining input.new) (O.contents output.old) (O.contents output.new) × (status ≡ 0)) }
+    ensures does_not { IfErr result (StopsScript file.now (I.remaining input.old) (I.remaining input.new) (O.contents output.old) (O.contents output.new)) }
+    ensures failed_reads { I.failed input.new ≡ I.failed input.old + reads_in result }
+    ensures failed_writes { O.failed output.new ≡ O.failed output.old + writes_in result }
+{
+    let plant = match open_plant(alloc, file) {
+        Ok(plant) => plant,
+        Err(fault) => return Err(Fault::File(fault)),
+    };
+    match script(alloc, plant, input, output) {
+        Ok(_done) => Ok(0),
+        Err(fault) => Err(Fault::Script(fault)),
     }
 }
 

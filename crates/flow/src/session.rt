@@ -8,11 +8,16 @@ ghost use Rattle.script_text.specs.Grammar.{IsAskable};
 ghost use Rattle.script_text.specs.Commands.{command_seen};
 ghost use Rattle.flow.specs.Session.{graph_of, standing, standing_of, in_state, in_standing, none_kept, kept_in, name_in, Answers, AnswersOn, IsAnswered, KeepsJobs};
 
+pub(crate) mod calls;
+mod claims;
+mod settle;
+pub(crate) mod waits;
+
 use crate::answerer::Answerer;
-use crate::calls::{close, feed, read, refused, set, step};
-use crate::claims::{abandon, claim, commit};
-use crate::settling::settle;
-use crate::waits::why;
+use crate::session::calls::{close, feed, read, refused, set, step};
+use crate::session::claims::{abandon, claim, commit};
+use crate::session::settle::settle_all;
+use crate::session::waits::why;
 use block_kinds::Block;
 use items::BlockName;
 use plant::{BlockId, Job, Plant, PlantFault, Valid};
@@ -135,7 +140,7 @@ pub(crate) fn find<B: Block>(graph: &Valid<B>, name: &BlockName) -> Option<Block
     find_named(graph, name.bytes())
 }
 
-/// The same of any text.
+/// The number of the block whose name is this text, which need not be one that a command may have.
 pub(crate) fn find_named<B: Block>(graph: &Valid<B>, name: &[u8]) -> Option<BlockId>
     ensures named { option_map (λ block. block.0) result ≡ position (bytes_eq name.now) graph.now.names }
     ensures inside { IfSome result (λ block. block.0 < length graph.now.blocks) }
@@ -160,7 +165,7 @@ fn answer_all<B: Block>(
 {
     match command {
         Command::Quiet => Reply::Quiet(plant.quiet()).to_line(alloc),
-        Command::Settle => settle(alloc, plant, jobs),
+        Command::Settle => settle_all(alloc, plant, jobs),
         Command::Feed { .. }
         | Command::Close { .. }
         | Command::Set { .. }
@@ -201,6 +206,6 @@ fn answer_on<B: Block>(
         Command::Read { from, max, .. } => read(alloc, plant, block, *from, u64::from(*max)),
         Command::Why { .. } => why(alloc, plant, block),
         Command::Quiet => Reply::Quiet(plant.quiet()).to_line(alloc),
-        Command::Settle => settle(alloc, plant, jobs),
+        Command::Settle => settle_all(alloc, plant, jobs),
     }
 }

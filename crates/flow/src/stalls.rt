@@ -12,7 +12,10 @@ ghost use Rattle.graph_file.specs.Opening.{opened_of};
 ghost use Rattle.flow.specs.Serve.{Explains, Puts, Remarks, stream};
 ghost use Rattle.flow.specs.Stalls.{full_in, is_for_room, lowest_from, open_line, open_text, opener_line, ring_at, ring_from, ring_text, stall_text, uneven_line, wait_line, waits_text};
 
-use crate::waiting::Waiting;
+pub mod stalled_plant;
+
+use crate::serve::Verbosity;
+use crate::stalls::stalled_plant::StalledPlant;
 use flowgraph::Valid;
 use itoa::Buffer;
 use kinds::Kind;
@@ -21,34 +24,27 @@ use rates::{Rates, balance};
 use reporting::{Broken, ByteOut};
 use std::alloc::Global;
 
-/// Whether it is explained why a run stalled.
-#[derive(Clone, Copy, Debug, PartialEq, Eq)]
-pub enum Notes {
-    Shown,
-    Hidden,
-}
-
 const UNEVEN: &[u8] =
     b"flow: stalled: the rates are uneven: on longer streams any capacity may fill\n";
 
 /// Tells why a run stalled, if it did and that is wanted.
-pub(crate) fn remark<E: ByteOut>(
+pub(crate) fn note_stall<E: ByteOut>(
     alloc: Global,
-    notes: Notes,
+    verbosity: Verbosity,
     stalled: &Option<Plant<Kind>>,
     errors: &mut E,
 )
     requires { E.failed errors.old < 2 ^ 64 - 1 }
-    ensures { Remarks notes (option_map opened_of stalled.now) (stream (E.contents errors.old) (E.failed errors.old)) (stream (E.contents errors.new) (E.failed errors.new)) }
+    ensures { Remarks verbosity (option_map opened_of stalled.now) (stream (E.contents errors.old) (E.failed errors.old)) (stream (E.contents errors.new) (E.failed errors.new)) }
 {
-    match (notes, stalled) {
-        (Notes::Shown, Some(plant)) => explain_stall(alloc, plant, errors),
-        (Notes::Shown, None) | (Notes::Hidden, _) => {}
+    match (verbosity, stalled) {
+        (Verbosity::WithNotes, Some(plant)) => explain_stall(alloc, plant, errors),
+        (Verbosity::WithNotes, None) | (Verbosity::Quiet, _) => {}
     }
 }
 
 /// Writes what the blocks of a plant that stalled wait for, up to the first write that fails.
-pub fn explain_stall<P: Waiting, E: ByteOut>(alloc: Global, plant: &P, errors: &mut E)
+pub fn explain_stall<P: StalledPlant, E: ByteOut>(alloc: Global, plant: &P, errors: &mut E)
     requires { E.failed errors.old < 2 ^ 64 - 1 }
     ensures { Explains (opened_of (P.seen plant.now)) (stream (E.contents errors.old) (E.failed errors.old)) (stream (E.contents errors.new) (E.failed errors.new)) }
 {
@@ -67,7 +63,11 @@ fn rates_line(alloc: Global, graph: &Valid<Kind>) -> &'static [u8]
 }
 
 // Writes what a stall is, with this text on the rates.
-fn tell_stall<P: Waiting, E: ByteOut>(errors: &mut E, plant: &P, rates: &[u8]) -> Result<(), Broken>
+fn tell_stall<P: StalledPlant, E: ByteOut>(
+    errors: &mut E,
+    plant: &P,
+    rates: &[u8],
+) -> Result<(), Broken>
     requires { E.failed errors.old < 2 ^ 64 - 1 }
     ensures { Puts result (stream (E.contents errors.old) (E.failed errors.old)) (stream (E.contents errors.new) (E.failed errors.new)) (stall_text rates.now (drafted (P.seen plant.now).graph) (P.seen plant.now).capacities (P.seen plant.now).state) }
 {
@@ -83,7 +83,7 @@ fn tell_stall<P: Waiting, E: ByteOut>(errors: &mut E, plant: &P, rates: &[u8]) -
 }
 
 // Writes of each block of the ring that a block is on what it waits for, and what may open the ring.
-fn tell_ring<P: Waiting, E: ByteOut>(
+fn tell_ring<P: StalledPlant, E: ByteOut>(
     errors: &mut E,
     plant: &P,
     block: BlockId,
@@ -101,7 +101,7 @@ fn tell_ring<P: Waiting, E: ByteOut>(
 }
 
 // The lowest of a block and of as many to which waits lead from it as there are blocks.
-fn lowest<P: Waiting>(plant: &P, block: BlockId) -> BlockId
+fn lowest<P: StalledPlant>(plant: &P, block: BlockId) -> BlockId
     requires { block.0 < length (P.seen plant.now).graph.blocks }
     ensures value { let net = net_of meaning_of (P.seen plant.now).graph in result.0 ≡ lowest_from net (P.seen plant.now).capacities (P.seen plant.now).state (length net.nodes) block.0 }
     ensures inside { result.0 < length (P.seen plant.now).graph.blocks }
@@ -116,7 +116,7 @@ fn lowest<P: Waiting>(plant: &P, block: BlockId) -> BlockId
 }
 
 // Writes what each block of a ring waits for, from this one on.
-fn tell_waits<P: Waiting, E: ByteOut>(
+fn tell_waits<P: StalledPlant, E: ByteOut>(
     errors: &mut E,
     plant: &P,
     first: BlockId,
@@ -138,7 +138,7 @@ fn tell_waits<P: Waiting, E: ByteOut>(
 }
 
 // The first block of a ring that waits for room, from this one on.
-fn full<P: Waiting>(plant: &P, first: BlockId) -> Option<BlockId>
+fn full<P: StalledPlant>(plant: &P, first: BlockId) -> Option<BlockId>
     requires { first.0 < length (P.seen plant.now).graph.blocks }
     ensures value { let net = net_of meaning_of (P.seen plant.now).graph in let caps = (P.seen plant.now).capacities in let st = (P.seen plant.now).state in
         option_map (λ block. block.0) result ≡ full_in net caps st (ring_from net caps st first.0 (length net.nodes) first.0) }
@@ -158,7 +158,7 @@ fn full<P: Waiting>(plant: &P, first: BlockId) -> Option<BlockId>
 }
 
 // Whether a block waits for room.
-fn is_full<P: Waiting>(plant: &P, block: BlockId) -> bool
+fn is_full<P: StalledPlant>(plant: &P, block: BlockId) -> bool
     requires { block.0 < length (P.seen plant.now).graph.blocks }
     ensures { result ≡ is_for_room (wait_of (net_of meaning_of (P.seen plant.now).graph) (P.seen plant.now).capacities (P.seen plant.now).state block.0) }
 {
@@ -173,7 +173,7 @@ fn is_full<P: Waiting>(plant: &P, block: BlockId) -> bool
 }
 
 // Writes which capacity may open a ring.
-fn tell_opener<P: Waiting, E: ByteOut>(
+fn tell_opener<P: StalledPlant, E: ByteOut>(
     errors: &mut E,
     plant: &P,
     full: Option<BlockId>,
@@ -197,7 +197,7 @@ fn tell_opener<P: Waiting, E: ByteOut>(
 }
 
 // Writes of each source that waits to be fed that it is open.
-fn tell_open<P: Waiting, E: ByteOut>(errors: &mut E, plant: &P) -> Result<(), Broken>
+fn tell_open<P: StalledPlant, E: ByteOut>(errors: &mut E, plant: &P) -> Result<(), Broken>
     requires { E.failed errors.old < 2 ^ 64 - 1 }
     ensures { Puts result (stream (E.contents errors.old) (E.failed errors.old)) (stream (E.contents errors.new) (E.failed errors.new)) (open_text (drafted (P.seen plant.now).graph) (P.seen plant.now).capacities (P.seen plant.now).state) }
 {
@@ -207,8 +207,8 @@ fn tell_open<P: Waiting, E: ByteOut>(errors: &mut E, plant: &P) -> Result<(), Br
     Ok(())
 }
 
-// The same of one block.
-fn tell_if_open<P: Waiting, E: ByteOut>(
+// Writes of a block that it is open, where it is a source that waits to be fed.
+fn tell_if_open<P: StalledPlant, E: ByteOut>(
     errors: &mut E,
     plant: &P,
     block: BlockId,
@@ -235,7 +235,7 @@ fn tell_if_open<P: Waiting, E: ByteOut>(
 }
 
 // Writes what a block waits for, where it waits for another.
-fn tell_wait<P: Waiting, E: ByteOut>(
+fn tell_wait<P: StalledPlant, E: ByteOut>(
     errors: &mut E,
     plant: &P,
     block: BlockId,
@@ -276,7 +276,7 @@ fn tell_wait<P: Waiting, E: ByteOut>(
 }
 
 // The block that a block waits for, or the block itself where it waits for none.
-fn next<P: Waiting>(plant: &P, block: BlockId) -> BlockId
+fn next<P: StalledPlant>(plant: &P, block: BlockId) -> BlockId
     requires { block.0 < length (P.seen plant.now).graph.blocks }
     ensures value { result.0 ≡ next_of (net_of meaning_of (P.seen plant.now).graph) (P.seen plant.now).capacities (P.seen plant.now).state block.0 }
     ensures inside { result.0 < length (P.seen plant.now).graph.blocks }

@@ -4,7 +4,7 @@ use crate::devices::{Chain, Device, Source, Target};
 use crate::ends::{Ends, NamedEnd};
 use crate::stops::{Stop, Stream, stop_of, unopened};
 use flow::raw_fault::{EndFault, EndPlace};
-use flow::raw_run::{sink_named, source_named};
+use flow::raw_input::{sink_named, source_named};
 use flowgraph::BlockId;
 use raw_items::item_size;
 use std::alloc::{AllocError, Global};

@@ -2,7 +2,7 @@
 
 use crate::refusing::begins_none;
 use explanations::page_of_kinds;
-use flow::start::StartFault;
+use flow::start_fault::StartFault;
 
 /// Prints the page, in one write, and returns the exit status.
 pub fn print_kinds(rt: &HostRuntime) -> u8 {

@@ -25,7 +25,7 @@ use crate::words::{Asked, Call, asked_by};
 use clap::error::ErrorKind;
 use explanations::{KeptLines, Noted};
 use flow::serve::serve;
-use flow::start::StartFault;
+use flow::start_fault::StartFault;
 use plant::Watch;
 use reporting::{ReadEnd, WriteEnd};
 use std::io::{IsTerminal, Write};
@@ -111,7 +111,7 @@ fn serve_file<R: Threads + Wait + Clock + Copy + Send + Sync + 'static, W: Watch
         threads,
         rt.alloc(),
         call.action,
-        call.notes(),
+        call.verbosity(),
         file,
         &mut input,
         &mut output,

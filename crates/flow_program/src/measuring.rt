@@ -3,7 +3,7 @@
 use crate::refusing::begins_none;
 use crate::words::Call;
 use flow::measured::{Looks, Measured};
-use flow::start::StartFault;
+use flow::start_fault::StartFault;
 use run_stats::Observer;
 use std::alloc::{AllocError, Global};
 use std::io::Write;

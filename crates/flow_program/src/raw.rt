@@ -5,14 +5,15 @@ use crate::joins::{Kept, join_inputs, join_marks, join_outputs};
 use crate::refusing::buffered;
 use crate::stops::{Stop, Stream, explain, stop_of};
 use crate::words::Call;
+use flow::command_output::status_of;
 use flow::fault::Fault;
+use flow::opening::open_stream;
 use flow::raw_fault::{EndFault, EndPlace, RawFault};
-use flow::reports::streamed;
+use flow::refusal_line::report_raw;
+use flow::reports::stream_report;
 use flow::script::ScriptFault;
-use flow::serve::Action;
-use flow::stalls::{Notes, explain_stall};
-use flow::streams::open_stream;
-use flow::telling::report_raw;
+use flow::serve::{Action, Verbosity};
+use flow::stalls::explain_stall;
 use flowgraph::BlockId;
 use helper_threads::HelperThreads;
 use pipeline::{End, Pipeline, PipelineFault, Settled};
@@ -25,9 +26,6 @@ use std::thread::Threads;
 use std::time::Clock;
 use streaming::{NoHelpers, Watch};
 
-// The exit status of a run that came to rest before all blocks were done.
-const STALLED: u8 = 3;
-
 /// Runs a graph file between files. All of them are opened before the first is read.
 pub fn run_raw<R: Threads + Wait + Clock + Copy + Send + Sync + 'static, W: Watch>(
     threads: R,
@@ -38,12 +36,12 @@ pub fn run_raw<R: Threads + Wait + Clock + Copy + Send + Sync + 'static, W: Watc
 ) -> u8 {
     let mut errors = buffered(rt.alloc(), rt.stderr());
     match stream(threads, rt, call, file, watch) {
-        Ok(None) => 0,
+        Ok(None) => status_of(true),
         Ok(Some(stalled)) => {
-            if call.notes() == Notes::Shown {
+            if call.verbosity() == Verbosity::WithNotes {
                 explain_stall(rt.alloc(), &stalled.plant, &mut errors);
             }
-            STALLED
+            status_of(false)
         }
         Err(Stop { fault, reason }) => {
             report_raw(&fault, &mut errors);
@@ -162,7 +160,7 @@ fn write_kept(rt: &HostRuntime, run: &Stream<'_>, kept: Vec<Kept<'_>>) -> Result
 
 // Tells how the run ended, on standard error where standard output has items or tags.
 fn tell(rt: &HostRuntime, run: &Stream<'_>, ends: &Ends<'_>, settled: Settled) -> Result<(), Stop> {
-    let text = streamed(rt.alloc(), &run.plant, settled)?;
+    let text = stream_report(rt.alloc(), &run.plant, settled)?;
     let written = if ends.use_output() {
         WriteEnd::new(rt.stderr()).write(&text)
     } else {

@@ -4,7 +4,7 @@ ghost use Rattle.std.specs.Prelude.{◌≡◌, []};
 ghost use Rattle.std.specs.Io.Buffered.{writer_inner, writer_buffer};
 
 use explanations::shown;
-use flow::start::StartFault;
+use flow::start_fault::StartFault;
 use reporting::WriteEnd;
 use std::alloc::Global;
 use std::env::{Env, FillError};

@@ -5,8 +5,8 @@ use crate::measuring::came_to_rest;
 use crate::refusing::{begins_none, buffered};
 use crate::words::Call;
 use flow::measured::Measured;
-use flow::stalls::Notes;
-use flow::start::StartFault;
+use flow::serve::Verbosity;
+use flow::start_fault::StartFault;
 use std::fs::File;
 use std::io::{BufWriter, Write};
 use std::time::Clock;
@@ -73,7 +73,7 @@ fn write<R: Clock + Copy>(measured: &Measured<R>, file: TraceFile) -> io::Result
 // Says how many turns and waits a trace lacks, if it does.
 fn tell_left_out<R: Clock + Copy>(rt: &HostRuntime, call: &Call<'_>, measured: &Measured<R>) {
     let (left_out, count) = measured.left_out();
-    if 0 < left_out && call.notes() == Notes::Shown {
+    if 0 < left_out && call.verbosity() == Verbosity::WithNotes {
         let mut errors = buffered(rt.alloc(), rt.stderr()).writer;
         let _ = write!(
             errors,

@@ -1,7 +1,7 @@
 //! What the words of the program ask for.
 
 ghost use Rattle.std.specs.Prelude.{◌≡◌, ◌&&◌, not, if◌then◌else◌};
-ghost use Rattle.flow.specs.declared.stalls.Notes.TheVariants.{Shown, Hidden};
+ghost use Rattle.flow.specs.declared.serve.Verbosity.TheVariants.{WithNotes, Quiet};
 
 use super::ends::{Ends, EndsFault};
 use clap::builder::ValueParser;
@@ -9,9 +9,8 @@ use clap::error::ErrorKind;
 use clap::{Arg, ArgAction, ArgMatches};
 use drawings::Format;
 use flow::measured::Form;
-use flow::running::Threading;
-use flow::serve::Action;
-use flow::stalls::Notes;
+use flow::serve::{Action, Verbosity};
+use flow::threading::Threading;
 use std::alloc::{AllocError, Global};
 
 const VERSION: &str = "0.1.0";
@@ -60,14 +59,14 @@ impl Call<'_> {
         is_terminal && !self.is_quiet
     }
 
-    /// Whether it is explained why a run stalled, unless the words say no.
-    pub fn notes(&self) -> Notes
-        ensures { result ≡ (if self.now.is_quiet then Hidden else Shown) }
+    /// Whether lines are written that no command asks for, unless the words say no.
+    pub fn verbosity(&self) -> Verbosity
+        ensures { result ≡ (if self.now.is_quiet then Quiet else WithNotes) }
     {
         if self.is_quiet {
-            Notes::Hidden
+            Verbosity::Quiet
         } else {
-            Notes::Shown
+            Verbosity::WithNotes
         }
     }
 }

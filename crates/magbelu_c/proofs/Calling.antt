@@ -22,7 +22,7 @@ use Rattle.raw_items.specs.declared.byte_order.ByteOrder.{ByteOrder}
 use Rattle.raw_items.specs.Layout.{cut_of}
 use Rattle.raw_items.specs.Values.{items_of}
 use Rattle.magbelu_c.specs.declared.reply.Reply as c
-use Rattle.magbelu_c.specs.Replies.{Calls, Told, cut_item, fed_as, fed_bytes, found, named, refused, stepped, told_maybe}
+use Rattle.magbelu_c.specs.Replies.{Calls, Replied, cut_item, fed_as, fed_bytes, found, named, refused, stepped, told_maybe}
 
 -- what was found by its name
 pub none_at : (r : Option BlockId) (o : Option ℕ) → option_map (λ (b : BlockId). b.0) r ≡ o → r ≡ None → None ≡ o
@@ -39,11 +39,11 @@ module _ (p : PlantState Kind) (name : List ℕ) (call : Network → State → �
   now_at o = found o (call (net_of meaning_of p.graph) p.state) p.state
 
   pub none_named : None ≡ place → (r : c.Reply) → r ≡ refused 20 0 → Calls may (named p name call) p p r
-  none_named e r h = subst (λ (o : Option ℕ). Calls may (now_at o) p p r) e (Told (Some (Refused machine.no_such_block)) (refl, refl) h)
+  none_named e r h = subst (λ (o : Option ℕ). Calls may (now_at o) p p r) e (Replied (Some (Refused machine.no_such_block)) (refl, refl) h)
 
   pub one_named : (b : ℕ) → Some b ≡ place → (p' : PlantState Kind) (reply : Option Reply) → Answered (call (net_of meaning_of p.graph) p.state b) p p' reply →
       (r : c.Reply) → r ≡ told_maybe reply → Calls may (named p name call) p p' r
-  one_named b e p' reply h r t = subst (λ (o : Option ℕ). Calls may (now_at o) p p' r) e (Told reply h t)
+  one_named b e p' reply h r t = subst (λ (o : Option ℕ). Calls may (now_at o) p p' r) e (Replied reply h t)
 
 pub always : (now : Reply × State) (p p' : PlantState Kind) (reply : Option Reply) → AnsweredAlways now p p' reply → Answered now p p' reply
 always now p p' None h = absurd (let no : None ≡ Some now.0 = h.0 in cc)

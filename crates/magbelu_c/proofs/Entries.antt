@@ -4,19 +4,17 @@ use Rattle.std.proofs.lemmas.List.{drop_all, drop_more}
 use Rattle.std.specs.Prelude.{◌⊎◌, Result, Ok, Err, IsOk}
 use Rattle.stream_model.specs.Network.{State}
 use Rattle.flowgraph.specs.declared.parts.BlockId.{BlockId}
-use Rattle.graph_file.specs.declared.fault.FileFault.{FileFault}
 use Rattle.graph_file.specs.Blocks.{Draft}
 use Rattle.graph_file.specs.Opening.{Opened}
-use Rattle.graph_file.specs.Refusals.{IsRefused}
 use Rattle.raw_items.specs.declared.byte_order.ByteOrder.{ByteOrder}
-use Rattle.flow.specs.declared.fault.Fault.TheVariants.{File, Script}
+use Rattle.flow.specs.declared.fault.Fault.TheVariants.{Script}
 use Rattle.flow.specs.declared.script.ScriptFault.TheVariants.{Memory}
 use Rattle.flow.specs.declared.raw_fault.RawFault.{RawFault}
 use Rattle.flow.specs.declared.raw_fault.RawFault.TheVariants.{Whole}
 use Rattle.flow.specs.Serve.{plant_in}
 use Rattle.magbelu_c.specs.declared.tables.Input.{Input}
 use Rattle.magbelu_c.specs.declared.tables.Output.{Output}
-use Rattle.magbelu_c.specs.Between.{AreFed, AreHeld, AreMisfed, FailsBetween, IsFed, IsMisnamed, IsTaken, NoMemory, NoPlant, Misnamed, RunsBetween, output_bytes, sink_of}
+use Rattle.magbelu_c.specs.Between.{AreFed, AreHeld, AreMisfed, FailsBetween, IsFed, IsMisnamed, IsTaken, NoMemory, Misnamed, RunsBetween, output_bytes, sink_of}
 
 one_more : (n : ℕ) → n + 1 ≡ suc n
 one_more n = omega arith
@@ -82,9 +80,6 @@ held_all d n outputs st order lens bytes over Comes comes =
     (comes [] [] (subst (λ (os : List Output). AreHeld d st order n os [] []) (sym (drop_all n outputs over)) (refl, refl))))
 
 module _ (file : List ℕ) (order : ByteOrder) (inputs : List Input) (outputs : List Output) where
-  pub no_plant : (fault : RawFault) → (why : FileFault) × (fault ≡ Whole (File why)) × IsRefused (plant_in file) why → FailsBetween file order inputs outputs fault
-  no_plant fault (why, e, h) = subst (FailsBetween file order inputs outputs) (sym e) (NoPlant why h)
-
   module _ (plant : Opened) (opens : plant_in file ≡ Ok plant) where
     pub no_memory : (fault : RawFault) → fault ≡ Whole (Script Memory) → FailsBetween file order inputs outputs fault
     no_memory fault e = subst (FailsBetween file order inputs outputs) (sym e) (NoMemory (subst IsOk (sym opens) refl))

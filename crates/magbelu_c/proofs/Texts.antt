@@ -5,7 +5,7 @@ use Rattle.std.specs.Io.KnownBytes.{Appends}
 use Rattle.graph_file.specs.Refusals.{Refusal}
 use Rattle.flow.specs.declared.fault.Fault.{Fault}
 use Rattle.flow.specs.Serve.{IsScript, StopsScript, Stream, Tries, Writes, WritesNot, stream}
-use Rattle.magbelu_c.specs.Answers.{IsScripted, WasNot, WasNotScripted}
+use Rattle.magbelu_c.specs.CallAnswers.{IsScripted, WasNot, WasNotScripted}
 
 -- a line was put together from nothing
 pub tells : (xs : List ℕ) (n : ℕ) → xs ≡ [] → n ≡ 0 → (last : Stream) (line : List ℕ) → Tries (stream (Some xs) n) last line → Tries (stream (Some []) 0) last line

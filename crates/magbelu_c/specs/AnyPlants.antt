@@ -2,10 +2,9 @@
 use Rattle.std.specs.Prelude.{◌≡◌, Bool, true, false, List, ℕ, Result, Ok}
 use Rattle.kinds.specs.declared.kind.Kind.{Kind}
 use Rattle.plant.specs.Plant.{ForgetsNone, PlantState}
-use Rattle.graph_file.specs.Opening.{Opened, opened_of, streamed}
+use Rattle.graph_file.specs.Opening.{Opened, opened_of}
 use Rattle.graph_file.specs.Refusals.{Refusal}
-use Rattle.graph_file.specs.Steps.{then}
-use Rattle.flow.specs.Serve.{content_in, plant_in}
+use Rattle.flow.specs.Serve.{plant_in, streamed_in}
 use Rattle.magbelu_c.specs.declared.any_plant.AnyPlant.{AnyPlant}
 use Rattle.magbelu_c.specs.declared.any_plant.AnyPlant.TheVariants.{Whole, Streaming}
 
@@ -19,18 +18,14 @@ abbrev pub with_plant : AnyPlant → PlantState Kind → AnyPlant
 with_plant (Whole p) q = Whole q
 with_plant (Streaming s) q = Streaming (record s { plant = q })
 
--- the plant that streams of a file
-abbrev pub stream_in : List ℕ → Result Opened Refusal
-stream_in file = (then) (content_in file) streamed
-
 -- what a file opens, by whether it is to stream
 abbrev pub opening_in : Bool → List ℕ → Result Opened Refusal
 opening_in false file = plant_in file
-opening_in true file = stream_in file
+opening_in true file = streamed_in file
 
 -- a plant is what a file opens, and nothing of it is forgotten
 abbrev pub IsOpened : Bool → List ℕ → AnyPlant → Type 0
 IsOpened false file (Whole p) = plant_in file ≡ Ok (opened_of p)
-IsOpened true file (Streaming s) = (stream_in file ≡ Ok (opened_of s.plant)) × ForgetsNone s.kept
+IsOpened true file (Streaming s) = (streamed_in file ≡ Ok (opened_of s.plant)) × ForgetsNone s.kept
 IsOpened false file (Streaming s) = ⊥
 IsOpened true file (Whole p) = ⊥

@@ -7,7 +7,7 @@ use Rattle.magbelu_c.specs.declared.answer.Answer.{Answer}
 use Rattle.magbelu_c.specs.declared.any_plant.AnyPlant.{AnyPlant}
 use Rattle.magbelu_c.specs.declared.piece.Piece.{Piece}
 use Rattle.magbelu_c.specs.declared.reply.Reply.{Reply}
-use Rattle.magbelu_c.specs.Answers.{ToldBadly}
+use Rattle.magbelu_c.specs.CallAnswers.{ToldBadly}
 use Rattle.magbelu_c.specs.AnyPlants.{IsOpened, opening_in}
 use Rattle.magbelu_c.specs.Draining.{DrainsOn}
 use Rattle.magbelu_c.specs.Pieces.{ReadsOn, unshown}

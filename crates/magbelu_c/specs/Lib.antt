@@ -1,4 +1,4 @@
-pub mod Answers
+pub mod CallAnswers
 pub mod AnyPlants
 pub mod Between
 pub mod Draining

@@ -23,7 +23,7 @@ use Rattle.magbelu_c.specs.declared.any_plant.AnyPlant.{AnyPlant}
 use Rattle.magbelu_c.specs.declared.any_plant.AnyPlant.TheVariants.{Whole, Streaming}
 use Rattle.magbelu_c.specs.declared.piece.Piece.{Piece}
 use Rattle.magbelu_c.specs.declared.reply.Reply.{Reply}
-use Rattle.magbelu_c.specs.Answers.{shown}
+use Rattle.magbelu_c.specs.CallAnswers.{shown}
 use Rattle.magbelu_c.specs.Replies.{named, no_memory, not_open, told_maybe}
 
 -- nothing is shown, for a reply

@@ -76,7 +76,7 @@ wants p name does = takes (position (bytes_eq name) p.graph.names) (does (net_of
 
 -- a call was answered as the machine does now, or memory ran out; it may also run out before, for what the call is given
 pub data Calls (may_want : Bool) (now : machine.Reply × State) (old new : PlantState Kind) (r : Reply) : Type 0 where
-  Told : (reply : Option machine.Reply) → Answered now old new reply → r ≡ told_maybe reply → Calls may_want now old new r
+  Replied : (reply : Option machine.Reply) → Answered now old new reply → r ≡ told_maybe reply → Calls may_want now old new r
   Wanting : may_want ≡ true → new ≡ old → r ≡ no_memory → Calls may_want now old new r
 
 -- the number of a refusal of bytes that end within an item

@@ -1,12 +1,12 @@
 //! What a call answers.
 
 ghost use Rattle.std.specs.Prelude.{◌≡◌};
-ghost use Rattle.magbelu_c.specs.Answers.{ToldBadly, ToldRaw, ToldWell};
+ghost use Rattle.magbelu_c.specs.CallAnswers.{ToldBadly, ToldRaw, ToldWell};
 
 use crate::shows::show;
 use flow::fault::Fault;
 use flow::raw_fault::RawFault;
-use flow::telling::{report, report_raw};
+use flow::refusal_line::{report, report_raw};
 use reporting::{Refusal, WriteEnd};
 use std::alloc::Global;
 

@@ -13,16 +13,17 @@ ghost use Rattle.settings.specs.Values.{value_of};
 ghost use Rattle.stores.specs.Stores.{mark_of};
 ghost use Rattle.graph_file.specs.Refusals.{IsRefused};
 ghost use Rattle.magbelu_c.specs.AnyPlants.{IsOpened, opening_in, plant_of, with_plant};
-ghost use Rattle.magbelu_c.specs.Settling.{SettlesOn};
+ghost use Rattle.magbelu_c.specs.Settling.{SettlesOn, SettlesStream};
 
 use crate::idle::Idle;
-use crate::reply::Reply;
-use crate::streams;
+use crate::reply::{Reply, at_rest, done, no_memory};
+use flow::opening::open_stream;
+use flow::turn::TURN;
 use flowgraph::{BlockId, Valid};
 use graph_file::FileFault;
 use items::{ItemType, Items, Mark};
 use kinds::Kind;
-use plant::{BlockNeed, Closed, Fed, PlantFault, Step, Taken};
+use plant::{BlockNeed, Closed, Fed, PlantFault, Settled, Step, Taken};
 use settings::Value;
 use std::alloc::Global;
 use streaming::StreamingPlant;
@@ -43,7 +44,7 @@ impl AnyPlant {
         ensures refused { IfErr result (IsRefused (opening_in streams file.now)) }
     {
         if streams {
-            match streams::open(alloc, file) {
+            match open_stream(alloc, file) {
                 Ok(stream) => Ok(AnyPlant::Streaming(stream)),
                 Err(fault) => Err(fault),
             }
@@ -168,7 +169,7 @@ impl AnyPlant {
     {
         match self {
             AnyPlant::Whole(idle) => idle.settle(alloc),
-            AnyPlant::Streaming(stream) => streams::settle(stream, alloc),
+            AnyPlant::Streaming(stream) => settle_stream(stream, alloc),
         }
     }
 
@@ -180,5 +181,16 @@ impl AnyPlant {
             AnyPlant::Whole(idle) => idle.need(block),
             AnyPlant::Streaming(stream) => stream.need(block),
         }
+    }
+}
+
+// Steps all blocks until none can act, and forgets what sources have taken.
+fn settle_stream(stream: &mut StreamingPlant<Kind>, alloc: Global) -> Reply
+    ensures { SettlesStream stream.old stream.new result }
+{
+    match stream.settle(alloc, TURN) {
+        Ok(Settled::Done) => done(0, 0),
+        Ok(Settled::Quiet) => at_rest(),
+        Err(_) => no_memory(),
     }
 }

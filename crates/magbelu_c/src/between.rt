@@ -9,11 +9,13 @@ ghost use Rattle.flow.specs.RawFeeds.{raw_writes};
 ghost use Rattle.flow.specs.Session.{in_state};
 ghost use Rattle.magbelu_c.specs.Between.{AreFed, AreHeld, AreMisfed, FailsBetween, IsFed, IsMisfed, IsMisnamed, IsTaken, RunsBetween, output_bytes, sink_of};
 
+use crate::idle::Idle;
 use crate::tables::{Input, Output};
+use flow::command_output::status_of;
+use flow::fault::Fault;
 use flow::raw_fault::{EndPlace, RawFault};
+use flow::raw_input::{sink_named, source_named};
 use flow::raw_output::{write_items, write_tags};
-use flow::raw_run::{RawRun, sink_named, source_named};
-use flow::runs::status_of;
 use flowgraph::{BlockId, Valid};
 use kinds::Kind;
 use plant::Plant;
@@ -40,18 +42,18 @@ pub(crate) fn run_between(
     ensures runs { IfOk result (λ given. RunsBetween file.now order inputs.now outputs.now given.lens.items given.bytes.items given.status) }
     ensures fails { IfErr result (FailsBetween file.now order inputs.now outputs.now) }
 {
-    let mut run = match RawRun::open(alloc, file) {
-        Ok(run) => run,
-        Err(fault) => return Err(fault),
+    let mut idle = match Idle::open(alloc, file) {
+        Ok(idle) => idle,
+        Err(fault) => return Err(RawFault::Whole(Fault::File(fault))),
     };
-    if let Err(fault) = feed_all(alloc, &mut run, order, inputs) {
+    if let Err(fault) = feed_all(alloc, &mut idle, order, inputs) {
         return Err(fault);
     }
     // A name that is none is refused before the run.
-    if let Err(fault) = test_names(run.graph(), outputs) {
+    if let Err(fault) = test_names(idle.graph(), outputs) {
         return Err(fault);
     }
-    let plant = match run.settle(alloc) {
+    let plant = match idle.run_to_rest(alloc) {
         Ok(plant) => plant,
         Err(refusal) => return Err(RawFault::from(refusal)),
     };
@@ -68,16 +70,16 @@ pub(crate) fn run_between(
 // Feeds the inputs, one after the other.
 fn feed_all(
     alloc: Global,
-    run: &mut RawRun,
+    idle: &mut Idle,
     order: ByteOrder,
     inputs: &[Input<'_>],
 ) -> Result<(), RawFault>
-    ensures same { run.new ≡ in_state run.old run.new.state }
-    ensures fed { OnOk result (AreFed (drafted run.old.graph) order 0 inputs.now run.old.state run.new.state) }
-    ensures misfed { IfErr result (AreMisfed (drafted run.old.graph) order 0 inputs.now run.old.state) }
+    ensures same { idle.new ≡ in_state idle.old idle.new.state }
+    ensures fed { OnOk result (AreFed (drafted idle.old.graph) order 0 inputs.now idle.old.state idle.new.state) }
+    ensures misfed { IfErr result (AreMisfed (drafted idle.old.graph) order 0 inputs.now idle.old.state) }
 {
     for (number, input) in inputs.iter().enumerate() {
-        if let Err(fault) = feed(alloc, run, order, number, input) {
+        if let Err(fault) = feed(alloc, idle, order, number, input) {
             return Err(fault);
         }
     }
@@ -86,19 +88,19 @@ fn feed_all(
 
 fn feed(
     alloc: Global,
-    run: &mut RawRun,
+    idle: &mut Idle,
     order: ByteOrder,
     number: usize,
     input: &Input<'_>,
 ) -> Result<(), RawFault>
-    ensures same { run.new ≡ in_state run.old run.new.state }
-    ensures fed { OnOk result (IsFed (drafted run.old.graph) order number input.now run.old.state run.new.state) }
-    ensures misfed { IfErr result (IsMisfed (drafted run.old.graph) order number input.now run.old.state) }
+    ensures same { idle.new ≡ in_state idle.old idle.new.state }
+    ensures fed { OnOk result (IsFed (drafted idle.old.graph) order number input.now idle.old.state idle.new.state) }
+    ensures misfed { IfErr result (IsMisfed (drafted idle.old.graph) order number input.now idle.old.state) }
 {
-    match source_named(run.graph(), EndPlace::Input(number), input.name) {
+    match source_named(idle.graph(), EndPlace::Input(number), input.name) {
         Ok(source) => {
             let mut bytes = ReadEnd::new(input.bytes);
-            run.feed_from(alloc, number, source, order, &mut bytes)
+            idle.feed_from(alloc, number, source, order, &mut bytes)
         }
         Err(fault) => Err(fault),
     }

@@ -2,10 +2,12 @@
 
 ghost use Rattle.std.specs.Prelude.{◌≡◌};
 ghost use Rattle.flow.specs.Serve.{IsCheck, IsRunAlone, graph_in, plant_in};
-ghost use Rattle.magbelu_c.specs.Answers.{Answers, WasNot, IsScripted, WasNotScripted};
+ghost use Rattle.magbelu_c.specs.CallAnswers.{Answers, WasNot, IsScripted, WasNotScripted};
 
 use crate::answer::{Answer, badly, well};
-use flow::serve::{check, run_alone, run_script};
+use flow::check::check;
+use flow::run::run_alone;
+use flow::script::run_script;
 use plant::Unwatched;
 use reporting::{ReadEnd, WriteEnd};
 use std::alloc::Global;

@@ -1,6 +1,6 @@
 //! A call that shows where a graph file is refused.
 
-ghost use Rattle.magbelu_c.specs.Answers.{Answers};
+ghost use Rattle.magbelu_c.specs.CallAnswers.{Answers};
 ghost use Rattle.magbelu_c.specs.Explaining.{Accepts, Explains};
 
 use crate::answer::{Answer, badly, well};

@@ -7,7 +7,7 @@ ghost use Rattle.flowgraph.specs.Flowgraph.{net_of};
 ghost use Rattle.kinds.specs.Kind.{meaning_of};
 ghost use Rattle.plant.specs.Feeding.{feed_numbers};
 ghost use Rattle.flow.specs.Serve.{Refuses};
-ghost use Rattle.magbelu_c.specs.Answers.{order_of};
+ghost use Rattle.magbelu_c.specs.CallAnswers.{order_of};
 ghost use Rattle.magbelu_c.specs.AnyPlants.{IsOpened, opening_in, plant_of};
 ghost use Rattle.magbelu_c.specs.Held.{Drains, Frees, Opens, Shows, at_of};
 ghost use Rattle.magbelu_c.specs.Replies.{CallsOn, OnHeld, fed_bytes, is_fed, named, sized, stepped, wants};

@@ -1,6 +1,6 @@
 //! A plant whose calls are made one by one, so that no claim is ever in flight.
 
-ghost use Rattle.std.specs.Prelude.{◌≡◌, ◌≤◌, Ok, IfOk, IfErr, map};
+ghost use Rattle.std.specs.Prelude.{◌≡◌, ◌≤◌, ◌<◌, ◌-◌, ◌^◌, Ok, IfOk, IfErr, OnOk, map};
 ghost use Rattle.stream_model.specs.Machine as machine;
 ghost use Rattle.stream_model.specs.Machine.{close_of, feed_of, is_idle, set_of, step_of};
 ghost use Rattle.flowgraph.specs.Flowgraph.{net_of};
@@ -13,21 +13,28 @@ ghost use Rattle.settings.specs.Values.{value_of};
 ghost use Rattle.stores.specs.Stores.{mark_of};
 ghost use Rattle.graph_file.specs.Opening.{opened_of};
 ghost use Rattle.graph_file.specs.Refusals.{IsRefused};
+ghost use Rattle.flow.specs.RawEnds.{StepsToRest};
+ghost use Rattle.flow.specs.RawFeeds.{IsFedBy, StopsFeeding};
 ghost use Rattle.flow.specs.Serve.{plant_in};
+ghost use Rattle.flow.specs.Session.{in_state};
 ghost use Rattle.magbelu_c.specs.Settling.{Settles};
 
 use crate::reply::{Reply, at_rest, done, no_memory};
+use flow::opening::open_plant;
+use flow::raw_fault::RawFault;
+use flow::raw_input;
+use flow::run::settle_plant;
+use flow::turn::TURN;
 use flowgraph::{BlockId, Valid};
-use graph_file::{FileFault, read_graph};
+use graph_file::FileFault;
 use items::{ItemType, Items, Mark};
 use kinds::Kind;
-use plant::{BlockNeed, Closed, Fed, Plant, PlantFault, Settled, Step, Taken};
+use plant::{BlockNeed, Closed, Fed, Plant, PlantFault, Settled, Step, Taken, Unwatched};
+use raw_items::ByteOrder;
+use reporting::ByteIn;
 use settings::Value;
-use std::alloc::Global;
+use std::alloc::{AllocError, Global};
 use std::marker::Model;
-
-/// How many firings of a block are stepped at once where all blocks are, at most.
-pub(crate) const TURN: u32 = 65_536;
 
 /// A plant of which no claim is in flight. A contract sees the plant.
 #[derive(Drop)]
@@ -54,11 +61,7 @@ impl Idle {
         ensures opens { IfOk result (λ plant. plant_in file.now ≡ Ok (opened_of plant)) }
         ensures refused { IfErr result (IsRefused (plant_in file.now)) }
     {
-        let content = match read_graph(alloc, file) {
-            Ok(content) => content,
-            Err(fault) => return Err(fault),
-        };
-        match content.open(alloc) {
+        match open_plant(alloc, file) {
             Ok(plant) => Ok(Idle { plant }),
             Err(fault) => Err(fault),
         }
@@ -103,6 +106,24 @@ impl Idle {
         self.plant.feed_numbers(alloc, source, numbers, marks)
     }
 
+    /// Reads an input to its end, piece by piece, and puts the items that its bytes are at the end of a source's tape. Where it stops by a fault, some of
+    /// them may stand there.
+    pub(crate) fn feed_from<I: ByteIn>(
+        &mut self,
+        alloc: Global,
+        number: usize,
+        source: BlockId,
+        order: ByteOrder,
+        input: &mut I,
+    ) -> Result<(), RawFault>
+        requires reads { I.failed input.old < 2 ^ 64 - 1 }
+        ensures same { self.new ≡ in_state self.old self.new.state }
+        ensures fed { OnOk result (IsFedBy (net_of meaning_of self.old.graph) self.old.state self.new.state source.0 order (I.remaining input.old) (I.remaining input.new)) }
+        ensures stops { IfErr result (StopsFeeding (net_of meaning_of self.old.graph) self.old.state source.0 order number (I.remaining input.old) (I.remaining input.new)) }
+    {
+        raw_input::feed_from(alloc, &mut self.plant, number, source, order, input)
+    }
+
     /// Closes a source's tape.
     pub(crate) fn close(&mut self, source: BlockId) -> Result<Closed, PlantFault>
         ensures { AnsweredAlways (close_of (net_of meaning_of self.old.graph) self.old.state source.0) self.old self.new (reply_of (λ c. machine.Closed c.0) result) }
@@ -141,6 +162,17 @@ impl Idle {
         ensures { wait_in result ≡ need_of (net_of meaning_of self.now.graph) self.now.capacities self.now.state block.0 }
     {
         self.plant.need(block)
+    }
+
+    /// Closes each source, and lets the plant come to rest, block by block.
+    pub(crate) fn run_to_rest(self, alloc: Global) -> Result<Plant<Kind>, AllocError>
+        ensures { IfOk result (λ plant. StepsToRest (opened_of self) (opened_of plant)) }
+    {
+        let Idle { plant } = self;
+        match settle_plant(alloc, plant, &mut Unwatched) {
+            Ok((plant, _)) => Ok(plant),
+            Err(refusal) => Err(refusal),
+        }
     }
 
     /// Steps all blocks until none can act.

@@ -5,7 +5,7 @@
 //! ```
 //!
 //! A call takes pointers with their lengths, refuses what they may not be (54 and on), and does one call of the libraries below: `calls` whole runs of a file,
-//! `raw_calls` and `between` runs between raw items, `held_calls` those of a plant that is held behind a `handle`, `streams` and `draining` those of one that
+//! `raw_calls` and `between` runs between raw items, `held_calls` those of a plant that is held behind a `handle`, `draining` those of one that
 //! streams, `kernels` arithmetic over slices. It starts no thread, and keeps nothing between two calls but what a handle holds.
 #![tactic(auto)]
 
@@ -26,6 +26,5 @@ pub mod piece;
 pub mod raw_calls;
 pub mod reply;
 mod shows;
-mod streams;
 pub mod tables;
 mod tagging;

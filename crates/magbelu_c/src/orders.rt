@@ -1,7 +1,7 @@
 //! Orders of bytes by number.
 
 ghost use Rattle.std.specs.Prelude.{◌≡◌};
-ghost use Rattle.magbelu_c.specs.Answers.{order_of};
+ghost use Rattle.magbelu_c.specs.CallAnswers.{order_of};
 
 use raw_items::ByteOrder;
 

@@ -1,7 +1,7 @@
 //! A call that raw items go into, and raw items come out of.
 
 ghost use Rattle.std.specs.Prelude.{◌≡◌};
-ghost use Rattle.magbelu_c.specs.Answers.{AnswersRun, order_of};
+ghost use Rattle.magbelu_c.specs.CallAnswers.{AnswersRun, order_of};
 
 use crate::answer::{Answer, badly_raw, well};
 use crate::between::run_between;

@@ -1,7 +1,7 @@
 //! Buffers of a caller.
 
 ghost use Rattle.std.specs.Prelude.{◌≡◌};
-ghost use Rattle.magbelu_c.specs.Answers.{shown};
+ghost use Rattle.magbelu_c.specs.CallAnswers.{shown};
 
 /// Puts items at the front of a buffer, where they fit.
 pub(crate) fn show<T: Copy>(items: &[T], buffer: &mut [T])

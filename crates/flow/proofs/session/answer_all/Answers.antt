@@ -16,5 +16,5 @@ pub returns-in-Settle-clause-answers : goal.returns-in-Settle-clause-answers
 unfolding AnswersOn
 returns-in-Settle-clause-answers g c =
     let from = standing_of c.args.plant.now (kept_in c.args.jobs.now) in
-    if_ok _ _ c.settle.result c.settle.ensures.settles (λ line h.
+    if_ok _ _ c.settle_all.result c.settle_all.ensures.settles (λ line h.
     on_as (graph_of g.B.Block.meaning c.args.plant.now) 0 _ _ from _ line.items (ap command_seen c.in-Settle.is) h)

@@ -152,5 +152,5 @@ unfolding AnswersOn
 returns-in-Settle-clause-answers g c =
     let old = c.args.plant.now in
     let from = standing_of old (kept_in c.args.jobs.now) in
-    if_ok _ _ c.settle.result c.settle.ensures.settles (λ line h.
+    if_ok _ _ c.settle_all.result c.settle_all.ensures.settles (λ line h.
     on_as (graph_of g.B.Block.meaning old) c.args.block.0 _ _ from _ line.items (ap command_seen c.in-Settle.is) h)

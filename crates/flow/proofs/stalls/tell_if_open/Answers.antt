@@ -8,9 +8,9 @@ use Rattle.flow.proofs.stalls.tell_if_open.Goals as goal
 
 pub returns-in-Feed : goal.returns-in-Feed
 returns-in-Feed g c =
-    let d = drafted (g.P.Waiting.seen c.args.plant.now).graph in
+    let d = drafted (g.P.StalledPlant.seen c.args.plant.now).graph in
     let b = c.args.block.0 in
-    let named = name_is _ (g.P.Waiting.seen c.args.plant.now).graph b c.name.result.now c.graph.ensures c.name.ensures in
+    let named = name_is _ (g.P.StalledPlant.seen c.args.plant.now).graph b c.name.result.now c.graph.ensures c.name.ensures in
     puts_as _ _ _ _ _
     (ap (λ (name : List ℕ). codes "flow: stalled: " ++ (name ++ codes " is open: it waits to be fed\n")) (sym named)
     ∙ line_of_3 (codes "flow: stalled: ") (slice_index_or d.names b []) (codes " is open: it waits to be fed") (10 ∷ [])

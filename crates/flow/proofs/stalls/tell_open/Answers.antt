@@ -16,20 +16,20 @@ returns-in_err-tell_if_open g c =
     let broken = c.in_err-tell_if_open.field-0.0 in
     puts_fault _ _ c.from_residual.result broken _ c.from_residual.ensures.0
     (c.loop-block.invariant.1 (Err broken) _
-    (open_breaks (g.P.Waiting.seen c.args.plant.now) _ _ c.loop-block.block c.graph.ensures c.len-block-end.ensures.nodes c.loop-block-test.true broken _ _ c.in_err-tell_if_open.ensures))
+    (open_breaks (g.P.StalledPlant.seen c.args.plant.now) _ _ c.loop-block.block c.graph.ensures c.len-block-end.ensures.nodes c.loop-block-test.true broken _ _ c.in_err-tell_if_open.ensures))
 
 pub loop-block-preserved : goal.loop-block-preserved
 loop-block-preserved g c = (
   c.in_ok-tell_if_open.ensures.1 ∙ c.loop-block.invariant.0,
   λ r last rest. c.loop-block.invariant.1 r last
-      (open_goes_on (g.P.Waiting.seen c.args.plant.now) _ _ c.loop-block.block c.graph.ensures c.len-block-end.ensures.nodes c.loop-block-test.true
+      (open_goes_on (g.P.StalledPlant.seen c.args.plant.now) _ _ c.loop-block.block c.graph.ensures c.len-block-end.ensures.nodes c.loop-block-test.true
       r (stream (g.E.ByteOut.contents c.loop-block.errors) (g.E.ByteOut.failed c.loop-block.errors)) (stream (g.E.ByteOut.contents c.tell_if_open.new.errors) (g.E.ByteOut.failed c.tell_if_open.new.errors)) last
       c.in_ok-tell_if_open.ensures rest),
 )
 
 pub returns : goal.returns
 returns g c =
-    let plant = (g.P.Waiting.seen c.args.plant.now) in
+    let plant = (g.P.StalledPlant.seen c.args.plant.now) in
     let d = drafted plant.graph in
     let n = length d.net.nodes in
     let nodes : c.len-block-end.result ≡ n = rw (← c.graph.ensures) c.len-block-end.ensures.nodes in

@@ -12,7 +12,7 @@ use Rattle.flow.proofs.stalls.tell_open.Given as goal
 -- no write failed so far, and whoever writes the lines of the blocks that are left has written all
 abbrev pub invariant-loop-block : goal.invariant-loop-block
 invariant-loop-block g l =
-    let d = drafted (g.P.Waiting.seen l.plant).graph in
+    let d = drafted (g.P.StalledPlant.seen l.plant).graph in
     (g.E.ByteOut.failed l.errors ≡ g.E.ByteOut.failed l.initial.errors)
-    × ((r : Result (Unit {0}) Broken) (last : Stream) → Puts r (stream (g.E.ByteOut.contents l.errors) (g.E.ByteOut.failed l.errors)) last (flat_map (open_line d (g.P.Waiting.seen l.plant).capacities (g.P.Waiting.seen l.plant).state) (drop l.block (below (length d.net.nodes)))) →
-    Puts r (stream (g.E.ByteOut.contents l.initial.errors) (g.E.ByteOut.failed l.initial.errors)) last (open_text d (g.P.Waiting.seen l.plant).capacities (g.P.Waiting.seen l.plant).state))
+    × ((r : Result (Unit {0}) Broken) (last : Stream) → Puts r (stream (g.E.ByteOut.contents l.errors) (g.E.ByteOut.failed l.errors)) last (flat_map (open_line d (g.P.StalledPlant.seen l.plant).capacities (g.P.StalledPlant.seen l.plant).state) (drop l.block (below (length d.net.nodes)))) →
+    Puts r (stream (g.E.ByteOut.contents l.initial.errors) (g.E.ByteOut.failed l.initial.errors)) last (open_text d (g.P.StalledPlant.seen l.plant).capacities (g.P.StalledPlant.seen l.plant).state))

@@ -10,9 +10,9 @@ pub loop-number-preserved : goal.loop-number-preserved
 loop-number-preserved c =
     let same = ap (λ (p : PlantState Kind). drafted p.graph) c.loop-number.invariant.same in
     record {
-      same = c.in_default.ensures.same ∙ ap (λ (p : PlantState Kind). in_state p c.feed.new.run.state) c.loop-number.invariant.same;
+      same = c.in_default.ensures.same ∙ ap (λ (p : PlantState Kind). in_state p c.feed.new.idle.state) c.loop-number.invariant.same;
       fed = λ last rest. c.loop-number.invariant.fed last
-          (fed_more (drafted c.args.run.now.graph) c.args.order c.loop-number.number c.args.inputs.now _ c.loop-number-test.true c.loop-number.run.state (drafted c.loop-number.run.graph) same c.feed.new.run.state last c.in_default.ensures.fed rest);
+          (fed_more (drafted c.args.idle.now.graph) c.args.order c.loop-number.number c.args.inputs.now _ c.loop-number-test.true c.loop-number.idle.state (drafted c.loop-number.idle.graph) same c.feed.new.idle.state last c.in_default.ensures.fed rest);
       misfed = λ fault rest. c.loop-number.invariant.misfed fault
-          (misfed_more (drafted c.args.run.now.graph) c.args.order c.loop-number.number c.args.inputs.now _ c.loop-number-test.true c.loop-number.run.state (drafted c.loop-number.run.graph) same c.feed.new.run.state fault c.in_default.ensures.fed rest);
+          (misfed_more (drafted c.args.idle.now.graph) c.args.order c.loop-number.number c.args.inputs.now _ c.loop-number-test.true c.loop-number.idle.state (drafted c.loop-number.idle.graph) same c.feed.new.idle.state fault c.in_default.ensures.fed rest);
     }

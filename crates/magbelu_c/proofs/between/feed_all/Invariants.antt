@@ -9,9 +9,9 @@ use Rattle.magbelu_c.proofs.between.feed_all.Given as goal
 -- whatever comes of the inputs that are left comes of all
 abbrev pub invariant-loop-number : goal.invariant-loop-number
 invariant-loop-number l = record {
-  same : l.run ≡ in_state l.initial.run l.run.state;
-  fed : (last : State) → AreFed (drafted l.initial.run.graph) l.order l.number (drop l.number l.inputs) l.run.state last →
-      AreFed (drafted l.initial.run.graph) l.order 0 l.inputs l.initial.run.state last;
-  misfed : (fault : RawFault) → AreMisfed (drafted l.initial.run.graph) l.order l.number (drop l.number l.inputs) l.run.state fault →
-      AreMisfed (drafted l.initial.run.graph) l.order 0 l.inputs l.initial.run.state fault;
+  same : l.idle ≡ in_state l.initial.idle l.idle.state;
+  fed : (last : State) → AreFed (drafted l.initial.idle.graph) l.order l.number (drop l.number l.inputs) l.idle.state last →
+      AreFed (drafted l.initial.idle.graph) l.order 0 l.inputs l.initial.idle.state last;
+  misfed : (fault : RawFault) → AreMisfed (drafted l.initial.idle.graph) l.order l.number (drop l.number l.inputs) l.idle.state fault →
+      AreMisfed (drafted l.initial.idle.graph) l.order 0 l.inputs l.initial.idle.state fault;
 }

@@ -1,6 +1,6 @@
 use Rattle.std.proofs.Common.{rules, ◌≡◌, [], refl}
 use Rattle.std.specs.Prelude.{Some}
-use Rattle.magbelu_c.specs.Answers.{Done, Failed}
+use Rattle.magbelu_c.specs.CallAnswers.{Done, Failed}
 use Rattle.magbelu_c.proofs.Texts.{not_scripted, scripted}
 use Rattle.magbelu_c.proofs.calls.magbelu_bytes_script.Goals as goal
 

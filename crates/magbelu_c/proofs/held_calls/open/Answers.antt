@@ -1,5 +1,5 @@
 use Rattle.std.proofs.Common.{rules, ◌≡◌, ℕ, List, [], None, refl, sym, subst}
-use Rattle.magbelu_c.specs.Answers.{ToldBadly}
+use Rattle.magbelu_c.specs.CallAnswers.{ToldBadly}
 use Rattle.magbelu_c.specs.Held.{IsOpen, Opened, Refused}
 use Rattle.magbelu_c.proofs.held_calls.open.Goals as goal
 

@@ -1,6 +1,6 @@
 use Rattle.std.proofs.Common.{refl, subst}
 use Rattle.raw_items.specs.declared.byte_order.ByteOrder.{ByteOrder}
-use Rattle.magbelu_c.specs.Answers.{Ran, RanNot, order_of}
+use Rattle.magbelu_c.specs.CallAnswers.{Ran, RanNot, order_of}
 use Rattle.magbelu_c.specs.Between.{FailsBetween}
 use Rattle.magbelu_c.proofs.Entries.{ran_so}
 use Rattle.magbelu_c.proofs.raw_calls.magbelu_bytes_run_items.Goals as goal

@@ -1,0 +1,69 @@
+//! The line that says why a command stopped. No memory is asked for, so that every fault has one.
+
+ghost use Rattle.std.specs.Prelude.{◌≡◌, ◌+◌, ◌-◌, ◌^◌, ◌<◌, ◌++◌, ◌∷◌, [], codes, OnOk, OnErr, is_ok, if◌then◌else◌};
+ghost use Rattle.std.specs.List.{flat_map};
+ghost use Rattle.std.specs.Io.KnownBytes.{Appends};
+ghost use Rattle.reporting.specs.Ends.{AppendsBeginning};
+ghost use Rattle.reporting.specs.Texts.{part_text, refusal_text};
+ghost use Rattle.script_text.specs.Replies.{line_text};
+ghost use Rattle.flow.specs.Faults.{fault_line};
+ghost use Rattle.flow.specs.RawFaults.{raw_fault_line};
+ghost use Rattle.flow.specs.Serve.{Tries, stream};
+
+use crate::fault::Fault;
+use crate::raw_fault::RawFault;
+use itoa::Buffer;
+use reporting::{Broken, ByteOut, RefusalText, TextPart};
+
+/// Writes the line that says why a command stopped. Whether that succeeds is nothing to the command.
+pub fn report<E: ByteOut>(fault: &Fault, errors: &mut E)
+    requires { E.failed errors.old < 2 ^ 64 - 1 }
+    ensures { Tries (stream (E.contents errors.old) (E.failed errors.old)) (stream (E.contents errors.new) (E.failed errors.new)) (fault_line fault.now) }
+{
+    write_line(fault.refusal_text(), errors);
+}
+
+/// Writes the line that says why a run with raw items stopped. Whether that succeeds is nothing to the run.
+pub fn report_raw<E: ByteOut>(fault: &RawFault, errors: &mut E)
+    requires { E.failed errors.old < 2 ^ 64 - 1 }
+    ensures { Tries (stream (E.contents errors.old) (E.failed errors.old)) (stream (E.contents errors.new) (E.failed errors.new)) (raw_fault_line fault.now) }
+{
+    write_line(fault.refusal_text(), errors);
+}
+
+// Writes the line of a refusal with this text.
+fn write_line<E: ByteOut>(text: RefusalText<'_>, errors: &mut E)
+    requires { E.failed errors.old < 2 ^ 64 - 1 }
+    ensures { Tries (stream (E.contents errors.old) (E.failed errors.old)) (stream (E.contents errors.new) (E.failed errors.new)) (line_text (codes "flow: refused " ++ refusal_text text.entry)) }
+{
+    match errors.write(b"flow: refused ") {
+        Ok(()) => write_parts(errors, text.parts.as_slice()),
+        Err(_) => {}
+    }
+}
+
+// Writes the parts of a line and its end, up to the first write that fails.
+fn write_parts<E: ByteOut>(errors: &mut E, parts: &[TextPart<'_>])
+    requires { E.failed errors.old < 2 ^ 64 - 1 }
+    ensures { Tries (stream (E.contents errors.old) (E.failed errors.old)) (stream (E.contents errors.new) (E.failed errors.new)) (flat_map part_text parts.now ++ 10 ∷ []) }
+{
+    for part in parts {
+        let Ok(()) = write_part(errors, *part) else {
+            return;
+        };
+    }
+    let _ = errors.write(b"\n");
+}
+
+fn write_part<E: ByteOut>(errors: &mut E, part: TextPart<'_>) -> Result<(), Broken>
+    requires { E.failed errors.old < 2 ^ 64 - 1 }
+    ensures ok { OnOk result (Appends (E.contents errors.old) (E.contents errors.new) (part_text part.entry)) }
+    ensures err { OnErr result (AppendsBeginning (E.contents errors.old) (E.contents errors.new) (part_text part.entry)) }
+    ensures counted { E.failed errors.new ≡ (if is_ok result then E.failed errors.old else E.failed errors.old + 1) }
+{
+    match part {
+        TextPart::Text(text) => errors.write(text.as_bytes()),
+        TextPart::Number(number) => errors.write(Buffer::new().format(number).as_bytes()),
+        TextPart::Signed(number) => errors.write(Buffer::new().format(number).as_bytes()),
+    }
+}
