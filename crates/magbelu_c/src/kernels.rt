@@ -8,6 +8,19 @@ ghost use Rattle.magbelu_c.specs.Kernels.{AreAlike, IsAlike, Makes};
 // The number of the refusal of slices that differ in length.
 const LENGTHS: u32 = 57;
 
+// Runs a kernel where its slices have one length, and gives what the call answers.
+macro_rules! where_alike {
+    ($alike:expr, $kernel:expr) => {
+        if $alike {
+            $kernel;
+            0
+        } else {
+            LENGTHS
+        }
+    };
+}
+
+// Whether all have one length.
 fn are_alike<T>(a: &[T], b: &[T], out: &[T]) -> bool
     ensures { IsTrue result ↔ AreAlike a.now b.now out.now }
 {
@@ -19,11 +32,7 @@ fn are_alike<T>(a: &[T], b: &[T], out: &[T]) -> bool
 pub extern "C" fn magbelu_kernel_add_shorts(a: &[i16], b: &[i16], out: &mut [i16]) -> u32
     ensures { Makes (AreAlike a.now b.now out.old) (out.new ≡ add_wrap Short a.now b.now) out.old out.new result }
 {
-    if !are_alike(a, b, out) {
-        return LENGTHS;
-    }
-    lane_kernels::add_wrap(a, b, out);
-    0
+    where_alike!(are_alike(a, b, out), lane_kernels::add_wrap(a, b, out))
 }
 
 /// Adds a number to each of the shorts, wrapping.
@@ -31,11 +40,10 @@ pub extern "C" fn magbelu_kernel_add_shorts(a: &[i16], b: &[i16], out: &mut [i16
 pub extern "C" fn magbelu_kernel_add_number_shorts(a: &[i16], number: i16, out: &mut [i16]) -> u32
     ensures { Makes (IsAlike a.now out.old) (out.new ≡ add_const_wrap Short a.now number) out.old out.new result }
 {
-    if out.len() != a.len() {
-        return LENGTHS;
-    }
-    lane_kernels::add_const_wrap(a, number, out);
-    0
+    where_alike!(
+        out.len() == a.len(),
+        lane_kernels::add_const_wrap(a, number, out)
+    )
 }
 
 /// Multiplies each of the shorts by a number, wrapping.
@@ -43,11 +51,7 @@ pub extern "C" fn magbelu_kernel_add_number_shorts(a: &[i16], number: i16, out: 
 pub extern "C" fn magbelu_kernel_multiply_shorts(a: &[i16], number: i16, out: &mut [i16]) -> u32
     ensures { Makes (IsAlike a.now out.old) (out.new ≡ mul_wrap Short a.now number) out.old out.new result }
 {
-    if out.len() != a.len() {
-        return LENGTHS;
-    }
-    lane_kernels::mul_wrap(a, number, out);
-    0
+    where_alike!(out.len() == a.len(), lane_kernels::mul_wrap(a, number, out))
 }
 
 /// Adds the ints of two slices, wrapping where a sum leaves the range.
@@ -55,11 +59,7 @@ pub extern "C" fn magbelu_kernel_multiply_shorts(a: &[i16], number: i16, out: &m
 pub extern "C" fn magbelu_kernel_add_ints(a: &[i32], b: &[i32], out: &mut [i32]) -> u32
     ensures { Makes (AreAlike a.now b.now out.old) (out.new ≡ add_wrap Int a.now b.now) out.old out.new result }
 {
-    if !are_alike(a, b, out) {
-        return LENGTHS;
-    }
-    lane_kernels::add_wrap(a, b, out);
-    0
+    where_alike!(are_alike(a, b, out), lane_kernels::add_wrap(a, b, out))
 }
 
 /// Adds a number to each of the ints, wrapping.
@@ -67,11 +67,10 @@ pub extern "C" fn magbelu_kernel_add_ints(a: &[i32], b: &[i32], out: &mut [i32])
 pub extern "C" fn magbelu_kernel_add_number_ints(a: &[i32], number: i32, out: &mut [i32]) -> u32
     ensures { Makes (IsAlike a.now out.old) (out.new ≡ add_const_wrap Int a.now number) out.old out.new result }
 {
-    if out.len() != a.len() {
-        return LENGTHS;
-    }
-    lane_kernels::add_const_wrap(a, number, out);
-    0
+    where_alike!(
+        out.len() == a.len(),
+        lane_kernels::add_const_wrap(a, number, out)
+    )
 }
 
 /// Multiplies each of the ints by a number, wrapping.
@@ -79,11 +78,7 @@ pub extern "C" fn magbelu_kernel_add_number_ints(a: &[i32], number: i32, out: &m
 pub extern "C" fn magbelu_kernel_multiply_ints(a: &[i32], number: i32, out: &mut [i32]) -> u32
     ensures { Makes (IsAlike a.now out.old) (out.new ≡ mul_wrap Int a.now number) out.old out.new result }
 {
-    if out.len() != a.len() {
-        return LENGTHS;
-    }
-    lane_kernels::mul_wrap(a, number, out);
-    0
+    where_alike!(out.len() == a.len(), lane_kernels::mul_wrap(a, number, out))
 }
 
 /// The bits that both of two bytes have.
@@ -91,11 +86,7 @@ pub extern "C" fn magbelu_kernel_multiply_ints(a: &[i32], number: i32, out: &mut
 pub extern "C" fn magbelu_kernel_and_bytes(a: &[u8], b: &[u8], out: &mut [u8]) -> u32
     ensures { Makes (AreAlike a.now b.now out.old) (map pos out.new ≡ and_bits Byte (map pos a.now) (map pos b.now)) out.old out.new result }
 {
-    if !are_alike(a, b, out) {
-        return LENGTHS;
-    }
-    lane_kernels::and(a, b, out);
-    0
+    where_alike!(are_alike(a, b, out), lane_kernels::and(a, b, out))
 }
 
 /// The bits that either of two bytes has.
@@ -103,11 +94,7 @@ pub extern "C" fn magbelu_kernel_and_bytes(a: &[u8], b: &[u8], out: &mut [u8]) -
 pub extern "C" fn magbelu_kernel_or_bytes(a: &[u8], b: &[u8], out: &mut [u8]) -> u32
     ensures { Makes (AreAlike a.now b.now out.old) (map pos out.new ≡ or_bits Byte (map pos a.now) (map pos b.now)) out.old out.new result }
 {
-    if !are_alike(a, b, out) {
-        return LENGTHS;
-    }
-    lane_kernels::or(a, b, out);
-    0
+    where_alike!(are_alike(a, b, out), lane_kernels::or(a, b, out))
 }
 
 /// The bits that one of two bytes has alone.
@@ -115,11 +102,7 @@ pub extern "C" fn magbelu_kernel_or_bytes(a: &[u8], b: &[u8], out: &mut [u8]) ->
 pub extern "C" fn magbelu_kernel_xor_bytes(a: &[u8], b: &[u8], out: &mut [u8]) -> u32
     ensures { Makes (AreAlike a.now b.now out.old) (map pos out.new ≡ xor_bits Byte (map pos a.now) (map pos b.now)) out.old out.new result }
 {
-    if !are_alike(a, b, out) {
-        return LENGTHS;
-    }
-    lane_kernels::xor(a, b, out);
-    0
+    where_alike!(are_alike(a, b, out), lane_kernels::xor(a, b, out))
 }
 
 /// The bits that both of two shorts have.
@@ -127,11 +110,7 @@ pub extern "C" fn magbelu_kernel_xor_bytes(a: &[u8], b: &[u8], out: &mut [u8]) -
 pub extern "C" fn magbelu_kernel_and_shorts(a: &[i16], b: &[i16], out: &mut [i16]) -> u32
     ensures { Makes (AreAlike a.now b.now out.old) (out.new ≡ and_bits Short a.now b.now) out.old out.new result }
 {
-    if !are_alike(a, b, out) {
-        return LENGTHS;
-    }
-    lane_kernels::and(a, b, out);
-    0
+    where_alike!(are_alike(a, b, out), lane_kernels::and(a, b, out))
 }
 
 /// The bits that either of two shorts has.
@@ -139,11 +118,7 @@ pub extern "C" fn magbelu_kernel_and_shorts(a: &[i16], b: &[i16], out: &mut [i16
 pub extern "C" fn magbelu_kernel_or_shorts(a: &[i16], b: &[i16], out: &mut [i16]) -> u32
     ensures { Makes (AreAlike a.now b.now out.old) (out.new ≡ or_bits Short a.now b.now) out.old out.new result }
 {
-    if !are_alike(a, b, out) {
-        return LENGTHS;
-    }
-    lane_kernels::or(a, b, out);
-    0
+    where_alike!(are_alike(a, b, out), lane_kernels::or(a, b, out))
 }
 
 /// The bits that one of two shorts has alone.
@@ -151,11 +126,7 @@ pub extern "C" fn magbelu_kernel_or_shorts(a: &[i16], b: &[i16], out: &mut [i16]
 pub extern "C" fn magbelu_kernel_xor_shorts(a: &[i16], b: &[i16], out: &mut [i16]) -> u32
     ensures { Makes (AreAlike a.now b.now out.old) (out.new ≡ xor_bits Short a.now b.now) out.old out.new result }
 {
-    if !are_alike(a, b, out) {
-        return LENGTHS;
-    }
-    lane_kernels::xor(a, b, out);
-    0
+    where_alike!(are_alike(a, b, out), lane_kernels::xor(a, b, out))
 }
 
 /// The bits that both of two ints have.
@@ -163,11 +134,7 @@ pub extern "C" fn magbelu_kernel_xor_shorts(a: &[i16], b: &[i16], out: &mut [i16
 pub extern "C" fn magbelu_kernel_and_ints(a: &[i32], b: &[i32], out: &mut [i32]) -> u32
     ensures { Makes (AreAlike a.now b.now out.old) (out.new ≡ and_bits Int a.now b.now) out.old out.new result }
 {
-    if !are_alike(a, b, out) {
-        return LENGTHS;
-    }
-    lane_kernels::and(a, b, out);
-    0
+    where_alike!(are_alike(a, b, out), lane_kernels::and(a, b, out))
 }
 
 /// The bits that either of two ints has.
@@ -175,11 +142,7 @@ pub extern "C" fn magbelu_kernel_and_ints(a: &[i32], b: &[i32], out: &mut [i32])
 pub extern "C" fn magbelu_kernel_or_ints(a: &[i32], b: &[i32], out: &mut [i32]) -> u32
     ensures { Makes (AreAlike a.now b.now out.old) (out.new ≡ or_bits Int a.now b.now) out.old out.new result }
 {
-    if !are_alike(a, b, out) {
-        return LENGTHS;
-    }
-    lane_kernels::or(a, b, out);
-    0
+    where_alike!(are_alike(a, b, out), lane_kernels::or(a, b, out))
 }
 
 /// The bits that one of two ints has alone.
@@ -187,9 +150,5 @@ pub extern "C" fn magbelu_kernel_or_ints(a: &[i32], b: &[i32], out: &mut [i32]) 
 pub extern "C" fn magbelu_kernel_xor_ints(a: &[i32], b: &[i32], out: &mut [i32]) -> u32
     ensures { Makes (AreAlike a.now b.now out.old) (out.new ≡ xor_bits Int a.now b.now) out.old out.new result }
 {
-    if !are_alike(a, b, out) {
-        return LENGTHS;
-    }
-    lane_kernels::xor(a, b, out);
-    0
+    where_alike!(are_alike(a, b, out), lane_kernels::xor(a, b, out))
 }
