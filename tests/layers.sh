@@ -47,7 +47,7 @@ put_calls() {
     [[ ! -d $own/src/memory ]] || { task='crate::memory::answer(rt)' && begin='crate::memory::use_up(rt.alloc());'; }
     [[ ! -d $own/src/programs ]] || other='crate::programs::print(rt, name).unwrap_or(ExitCode::FAILURE)'
     echo 'use crate::Host;'
-    printf 'use crate::%s;\n' "$@"
+    (($# == 0)) || printf 'use crate::%s;\n' "$@"
     echo 'use std::process::{ExitCode, Termination};'
     echo "pub fn task<R: Host>(rt: R) -> Option<ExitCode> { $task }"
     echo "pub fn call<R: Host>(rt: R, name: &str) -> ExitCode { $begin"
@@ -130,11 +130,14 @@ list() {
 
 run() {
     local it kind words=()
-    put
-    # (where tasks of memory are in it)
-    [[ ! -d $own/src/memory ]] || words=(--fail-alloc "$refused")
-    build_copy "$own" "${words[@]}" -- copy "$room/program" || return
-    call_all
+    # (what a page quotes is no call)
+    if grep -qv '^pages/' "$room/wanted"; then
+        put
+        # (where tasks of memory are in it)
+        [[ ! -d $own/src/memory ]] || words=(--fail-alloc "$refused")
+        build_copy "$own" "${words[@]}" -- copy "$room/program" || return
+        call_all
+    fi
     while IFS= read -r it; do
         kind_of "$it"
         "judge_$kind" "$it"

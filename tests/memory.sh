@@ -93,7 +93,7 @@ judge_allocation() {
 
 # put_memory: its tasks as a module of the program, with those of the program's own files that read its words, and the file that they read
 put_memory() {
-    if grep -q '^memory/' "$room/wanted"; then
+    if grep -qE '^(memory|no_threads)/' "$room/wanted"; then
         echo "memory: MEMORY_EIGHTH=$eighth"
         put_folder memory
         cp -- "$top/crates/$program_crate/src/"{ends,words}.rt "$own/src/memory"

@@ -13,8 +13,6 @@ folders=() libraries=(flow pipeline helper_threads clap) others=(memory)
 list() { echo no_threads/each_run_is_told_61; }
 
 run() {
-    # (of the cases none is wanted, of the program the tasks)
-    echo memory/no_threads >>"$room/wanted"
     put
     mkdir "$room/given"
     : >"$room/given/no_threads"
