@@ -1,5 +1,5 @@
 -- What callers ask of a plant, and what it responds.
-use Rattle.std.specs.Prelude.{◌≡◌, ⊤, Bool, true, false, Option, Some, None, Result, Ok, Err}
+use Rattle.std.specs.Prelude.{ℕ, ◌≡◌, ⊤, Bool, true, false, Option, Some, None, Result, Ok, Err}
 use Rattle.std.specs.Arc.{arc_value}
 use Rattle.std.specs.Option.{option_map}
 use Rattle.stream_model.specs.Meaning.{Meaning}
@@ -25,6 +25,13 @@ asked_of (request.Feed feed) = asked_by (call.Feed feed)
 asked_of (request.Close source) = asked_by (call.Close source)
 asked_of (request.Set setting value) = asked_by (call.Set setting)
 asked_of (request.Read sink from max) = asked_by (call.Read sink from max)
+
+-- the block that a request is about
+abbrev pub block_of : Request → ℕ
+block_of (request.Feed feed) = (arc_value feed).source.0
+block_of (request.Close source) = source.0
+block_of (request.Set setting value) = (arc_value setting).block.0
+block_of (request.Read sink from max) = sink.0
 
 -- the value that a plant takes is that of the setting
 abbrev pub IsReady : Request → Type 0

@@ -80,8 +80,7 @@ impl<B: Block> Recorded<B> {
     {
         self.history.reserve(self.flights + 1)?;
         let (call, response) = request.ask(alloc, &mut self.plant);
-        let reply = response.to_answer()?;
-        let other = response.to_answer()?;
+        let (reply, other) = response.to_answers()?;
         self.history.push_reserved(Entry {
             caller: CallerId::Desk(desk),
             call,

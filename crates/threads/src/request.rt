@@ -7,7 +7,7 @@ ghost use Rattle.stream_model.specs.Machine.{read_of};
 ghost use Rattle.flowgraph.specs.Flowgraph.{net_of};
 ghost use Rattle.plant.specs.Answers.{Answered, AnsweredBy, piece_reply, reply_of};
 ghost use Rattle.threads.specs.History.{asked_by, said_by, said_of};
-ghost use Rattle.threads.specs.Request.{IsReady, asked_of, fits, now_at, response_reply, tells};
+ghost use Rattle.threads.specs.Request.{IsReady, asked_of, block_of, fits, now_at, response_reply, tells};
 
 use crate::entry::{Answer, Call, Feed, Setting, shared};
 use flowgraph::{Block, BlockId};
@@ -46,7 +46,9 @@ pub enum Response {
 
 impl Request {
     /// The block that it is about.
-    pub fn block(&self) -> BlockId {
+    pub fn block(&self) -> BlockId
+        ensures { result.0 ≡ block_of self.now }
+    {
         match self {
             Request::Feed(feed) => feed.source,
             Request::Set(setting, _) => setting.block,
@@ -115,8 +117,17 @@ fn shown<B: Block>(
 }
 
 impl Response {
-    /// The response, as it is noted. `Err` for out of memory, and where memory for the piece lacks.
-    pub fn to_answer(&self) -> Result<Answer, AllocError>
+    /// The response, as it is noted in the history and once more in the log of a desk. `Err` for out of memory, and where memory for a piece lacks.
+    pub fn to_answers(&self) -> Result<(Answer, Answer), AllocError>
+        ensures first { IfOk result (λ answers. Some (said_by answers.0) ≡ option_map said_of (response_reply self.now)) }
+        ensures second { IfOk result (λ answers. Some (said_by answers.1) ≡ option_map said_of (response_reply self.now)) }
+        ensures err { IfErr result (λ _. tells (response_reply self.now) ≡ false) }
+    {
+        Ok((self.to_answer()?, self.to_answer()?))
+    }
+
+    // The response, as it is noted.
+    fn to_answer(&self) -> Result<Answer, AllocError>
         ensures ok { IfOk result (λ answer. Some (said_by answer) ≡ option_map said_of (response_reply self.now)) }
         ensures err { IfErr result (λ _. tells (response_reply self.now) ≡ false) }
     {
