@@ -13,7 +13,7 @@ use std::fmt;
 use threads::RunError;
 
 /// Why a call was refused, why a pipeline stopped, or why a run in threads failed. Number, name and text are those of the fault that it was converted from: 1 to 12,
-/// 20 to 34, 40 to 44, 51 to 53, or 60 to 62, and a name as `Loop` or `Memory`.
+/// 20 to 34, 40 to 44, 51 to 53, 58, or 60 to 62, and a name as `Loop` or `Memory`.
 #[derive(Debug, Drop, thiserror::Error)]
 pub enum Error {
     /// Items could not be made.
@@ -26,6 +26,8 @@ pub enum Error {
     Plant(PlantFault),
     /// A job or its work that is handed in is not that of the claim in flight of its block.
     NoJob,
+    /// A key of a tag is not 1 to 16 ASCII letters, digits, `_`, `.` and `-`.
+    BadKey,
     /// A graph file is refused.
     File(FileFault),
     /// A pipeline stopped, or is joined already.
@@ -46,6 +48,7 @@ impl Refusal for Error {
             Error::Graph(fault) => fault.row(),
             Error::Plant(fault) => fault.row(),
             Error::NoJob => (30, "NoJob"),
+            Error::BadKey => (58, "BadKey"),
             Error::File(fault) => fault.row(),
             Error::Pipeline(fault) => fault.row(),
             Error::Run(fault) => fault.row(),
@@ -64,6 +67,7 @@ impl fmt::Display for Error {
             Error::Graph(fault) => write!(f, "{fault}"),
             Error::Plant(fault) => write!(f, "{fault}"),
             Error::NoJob => write!(f, "the block has no such job"),
+            Error::BadKey => write!(f, "a tag's key is 1 to 16 letters, digits, `_`, `.` or `-`"),
             Error::File(fault) => write!(f, "{fault}"),
             Error::Pipeline(fault) => write!(f, "{fault}"),
             Error::Run(fault) => write!(f, "{fault}"),

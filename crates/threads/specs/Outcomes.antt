@@ -13,6 +13,12 @@ use Rattle.threads.specs.declared.outcome.Outcome.TheVariants.{Done, Stopped, St
 use Rattle.threads.specs.declared.fault.RunFault.{RunFault}
 use Rattle.threads.specs.declared.fault.RunFault.TheVariants.{Memory, Thread, Foreign}
 
+-- the plant, however the run ended
+abbrev pub plant_in : {B P : Type 0} → Outcome B P → PlantState B
+plant_in (Done p) = p
+plant_in (Stopped p) = p
+plant_in (Stalled p) = p
+
 -- what a plant was handed: its graph, and the tapes, closed marks and settings of its blocks
 abbrev pub handed_of : {B : Type 0} → PlantState B → HandedState B
 handed_of p = record { graph = p.graph; handed = p.state.handed }

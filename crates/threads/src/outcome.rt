@@ -1,5 +1,8 @@
 //! How a run in threads ends.
 
+ghost use Rattle.std.specs.Prelude.{◌≡◌};
+ghost use Rattle.threads.specs.Outcomes.{plant_in};
+
 use flowgraph::Block;
 use plant::Plant;
 
@@ -13,4 +16,14 @@ pub enum Outcome<B: Block> {
     Stopped(Plant<B>),
     /// Some block is not done, and none can act: the rates are not balanced, or a source is open.
     Stalled(Plant<B>),
+}
+
+impl<B: Block> Outcome<B> {
+    /// The plant, however the run ended.
+    pub fn into_plant(self) -> Plant<B>
+        ensures { result ≡ plant_in self }
+    {
+        let (Outcome::Done(plant) | Outcome::Stopped(plant) | Outcome::Stalled(plant)) = self;
+        plant
+    }
 }

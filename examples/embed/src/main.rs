@@ -23,7 +23,7 @@ fn main(rt: HostRuntime) -> Result<(), Error> {
     let (graph, [source, adder, sink]) = chain(alloc)?;
     let mut top = TopBlock::from_graph(alloc, graph.validate(alloc)?)?;
     let items = Items::from_numbers(alloc, ItemType::Byte, &[250, 1, 2, 3])?;
-    let key = TagKey::new(b"burst").ok_or(ItemFault::ItemRange)?;
+    let key = TagKey::new(b"burst").ok_or(Error::BadKey)?;
     let mark = Mark {
         offset: 1,
         key,
@@ -31,10 +31,7 @@ fn main(rt: HostRuntime) -> Result<(), Error> {
     };
     top.feed(source, items, &[mark])?;
     top.set(adder, Some(2), Value::Number(100))?;
-    let (Outcome::Done(plant) | Outcome::Stalled(plant) | Outcome::Stopped(plant)) = top.run(
-        rt,
-        alloc,
-    )?;
+    let plant = top.run(rt, alloc)?.into_plant();
     let piece = plant.read(alloc, sink, 0, 100)?;
     let _ = println!(rt; "{:?}", piece.items);
     for tag in &piece.tags {
