@@ -23,8 +23,8 @@ put_embed() {
     local own=$room/tree/crates/embed
     put_apart tree embed magbelu
     put_sources "$top/examples/embed" "$own"
-    sed "s/^use std::alloc::Global;/&\nuse std::sync::Wait;\nuse std::thread::Threads;/
-        s/^fn main(rt: HostRuntime)/pub fn main<R: Threads + Wait + AllocGlobal + Print + Copy + Send + 'static>(rt: R)/" "$own/src/main.rt" >"$own/src/lib.rt"
+    sed "s/^use std::alloc::Global;/&\nuse std::sync::Wait;\nuse std::thread::Threads;\nuse std::time::Clock;/
+        s/^fn main(rt: HostRuntime)/pub fn main<R: Threads + Wait + Clock + AllocGlobal + Print + Copy + Send + 'static>(rt: R)/" "$own/src/main.rt" >"$own/src/lib.rt"
     rm -- "$own/src/main.rt"
 }
 

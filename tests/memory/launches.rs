@@ -3,13 +3,14 @@ use flowgraph::{BlockId, Graph, Options, Policy};
 use items::ItemType;
 use kinds::{Kind, VectorSink, VectorSource};
 use math_blocks::AddConst;
-use plant::{Plant, PlantFault, Settled};
+use plant::{Plant, PlantFault, Settled, Unwatched};
 use std::alloc::Global;
 use std::sync::{Arc, Wait};
 use std::thread::Threads;
 use std::time::Clock;
 use threads::{
-    Open, Outcome, RunError, RunFault, Turns, launch, launch_adaptive, run, run_adaptive,
+    Open, Outcome, RunError, RunFault, RunOptions, Threading, Turns, launch, launch_with, run,
+    run_with,
 };
 use top_block::TopBlock;
 
@@ -31,9 +32,9 @@ pub enum Way {
     Start,
     /// By `launch` and `wait`, of a plant without blocks, for which no thread is started.
     LaunchNothing,
-    /// By `run_adaptive`.
+    /// By `run_with`, in as many threads as the work is worth.
     Adaptive,
-    /// By `launch_adaptive` and `wait`.
+    /// By `launch_with` and `wait`, in as many threads as the work is worth.
     Pool,
 }
 
@@ -118,11 +119,11 @@ pub fn run_ready<R: Threads + Wait + Clock + Copy + Send + 'static>(
     let Ready { plant, gate } = ready;
     match way {
         Way::Run => end_of(run(rt, alloc, plant, gate), false),
-        Way::Adaptive => end_of(
-            run_adaptive(rt, alloc, plant, gate, Turns::default()),
-            false,
-        ),
-        Way::Pool => match launch_adaptive(rt, alloc, plant, gate, Turns::default()) {
+        Way::Adaptive => {
+            let options = adaptive(gate);
+            end_of(run_with(rt, alloc, plant, options, &mut Unwatched), false)
+        }
+        Way::Pool => match launch_with(rt, alloc, plant, adaptive(gate)) {
             Ok(running) => end_of(running.wait(&rt), true),
             Err(fault) => end_of(Err(fault), false),
         },
@@ -134,6 +135,15 @@ pub fn run_ready<R: Threads + Wait + Clock + Copy + Send + 'static>(
             Ok(running) => end_of(running.wait(&rt), true),
             Err(fault) => end_of(Err(fault), false),
         },
+    }
+}
+
+// As many threads as the work is worth.
+fn adaptive(gate: Arc<Open, Global>) -> RunOptions<Open> {
+    RunOptions {
+        threading: Threading::Adaptive,
+        turns: Turns::default(),
+        gate: Some(gate),
     }
 }
 

@@ -11,7 +11,9 @@ use std::sync::atomic::{AtomicBool, Ordering};
 use std::sync::{Arc, Wait};
 use std::thread::Threads;
 use std::time::Clock;
-use threads::{Caller, Desk, Gate, Open, Outcome, RunFault, Turns, live, live_adaptive, run};
+use threads::{
+    Caller, Desk, Gate, Open, Outcome, RunFault, RunOptions, Threading, Turns, live, live_with, run,
+};
 
 const SHORT: ItemType = ItemType::Short;
 
@@ -237,7 +239,7 @@ pub struct Ended {
 pub enum Way {
     /// By `live`.
     EachBlock,
-    /// By `live_adaptive`.
+    /// By `live_with`, in as many threads as the work is worth.
     Adaptive,
 }
 
@@ -257,7 +259,14 @@ pub fn run_live<R: Threads + Wait + Clock + Sync>(
     let turns = Turns::default();
     let ended = match way {
         Way::EachBlock => live(rt, alloc, plant, gate, callers, turns),
-        Way::Adaptive => live_adaptive(rt, alloc, plant, gate, callers, turns, &mut Unwatched),
+        Way::Adaptive => {
+            let options = RunOptions {
+                threading: Threading::Adaptive,
+                turns,
+                gate: Some(gate),
+            };
+            live_with(rt, alloc, plant, callers, options, &mut Unwatched)
+        }
     };
     let (plant, is_done) = match ended {
         Ok(finished) => match finished.outcome {
@@ -276,7 +285,7 @@ pub fn run_live<R: Threads + Wait + Clock + Sync>(
 }
 
 /// Whether the run ended well, and else whether its plant, run again, does. Nothing is refused memory any more.
-pub fn is_right<R: Threads + Wait + Copy + Send + 'static>(
+pub fn is_right<R: Threads + Wait + Clock + Copy + Send + 'static>(
     rt: R,
     alloc: Global,
     ended: Ended,

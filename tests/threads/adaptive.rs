@@ -6,9 +6,9 @@ use super::probes::{Habit, Probe, Spinner};
 use super::runs::{
     End, Host, ended, ended_as, holds_turned, same_sinks, settled, share, shared, split,
 };
-use super::ways::{ByChance, Still, Way, WithClock, ran_by_to};
+use super::ways::{ByChance, Still, Way, WithClock, adaptive, ran_by_to};
 use flowgraph::BlockId;
-use plant::{Headway, Plant, Watch};
+use plant::{Headway, Plant, Unwatched, Watch};
 use std::alloc::Global;
 use std::hint::spin_loop;
 use std::process::Abort;
@@ -17,7 +17,7 @@ use std::sync::atomic::{AtomicU64, Ordering};
 use std::test::Fail;
 use std::thread;
 use std::time::{Duration, Instant};
-use threads::{Gate, Turns, launch_adaptive, run_adaptive, run_adaptive_watched};
+use threads::{Gate, launch_with, run_with};
 
 const ITEMS: u32 = 3_000;
 
@@ -47,7 +47,8 @@ fn work_that_takes_no_time_stays_on_one_thread(rt: HostRuntime) -> Result<(), Fa
     let still = WithClock { rt, clock: Still };
     let gate = shared(&rt, alloc, Counts::new());
     let plant = fed(&rt, alloc, &CHAIN);
-    match run_adaptive(still, alloc, plant, share(&rt, &gate), Turns::default()) {
+    let options = adaptive(share(&rt, &gate));
+    match run_with(still, alloc, plant, options, &mut Unwatched) {
         Ok(outcome) => {
             let plant = ended_as(&rt, outcome, End::Done);
             holds_turned(&rt, alloc, &plant, SINK, ITEMS);
@@ -56,7 +57,7 @@ fn work_that_takes_no_time_stays_on_one_thread(rt: HostRuntime) -> Result<(), Fa
     }
     // No work was given away, nor is any in a pool.
     let plant = fed(&rt, alloc, &CHAIN);
-    match launch_adaptive(still, alloc, plant, share(&rt, &gate), Turns::default()) {
+    match launch_with(still, alloc, plant, adaptive(share(&rt, &gate))) {
         Ok(running) => {
             let (end, plant) = ended(&rt, running);
             assert!(rt; end == End::Done, "{end:?}");
@@ -111,7 +112,8 @@ fn dear_work_is_done_side_by_side(rt: HostRuntime) -> Result<(), Fail> {
     let gate = shared(&rt, alloc, Beside::new());
     for _ in 0..RUNS {
         let plant = dear_chains(&rt, alloc, [0, u64::MAX]);
-        match run_adaptive(rt, alloc, plant, share(&rt, &gate), Turns::default()) {
+        let options = adaptive(share(&rt, &gate));
+        match run_with(rt, alloc, plant, options, &mut Unwatched) {
             Ok(outcome) => {
                 let plant = ended_as(&rt, outcome, End::Done);
                 for sink in SINKS {
@@ -196,8 +198,8 @@ fn run_dear<R: Host + 'static>(
     let plant = dear_chains(&rt, alloc, dear);
     let own = share(&rt, gate);
     let ended = match begun {
-        Begun::Run => run_adaptive(rt, alloc, plant, own, Turns::default()),
-        Begun::Launched => match launch_adaptive(rt, alloc, plant, own, Turns::default()) {
+        Begun::Run => run_with(rt, alloc, plant, adaptive(own), &mut Unwatched),
+        Begun::Launched => match launch_with(rt, alloc, plant, adaptive(own)) {
             Ok(running) => running.wait(&rt),
             Err(fault) => Err(fault),
         },
@@ -256,7 +258,7 @@ fn a_stop_is_seen_while_cheap_blocks_run_flat_out(rt: HostRuntime) -> Result<(),
     for _ in 0..RUNS {
         let gate = shared(&rt, alloc, Counts::new());
         let plant = fed(&rt, alloc, &LONG);
-        let mut running = match launch_adaptive(rt, alloc, plant, gate, Turns::default()) {
+        let mut running = match launch_with(rt, alloc, plant, adaptive(gate)) {
             Ok(running) => running,
             Err(fault) => panic!(rt; "not launched: {fault}"),
         };
@@ -301,7 +303,7 @@ fn a_stop_at_any_moment_loses_nothing_in_a_pool(rt: HostRuntime) -> Result<(), F
         let gate = shared(&rt, alloc, Counts::new());
         let plant = fed(&rt, alloc, &TWO_CHAINS);
         let own = share(&rt, &gate);
-        let mut running = match launch_adaptive(erratic, alloc, plant, own, Turns::default()) {
+        let mut running = match launch_with(erratic, alloc, plant, adaptive(own)) {
             Ok(running) => running,
             Err(fault) => panic!(rt; "not launched: {fault}"),
         };
@@ -371,9 +373,8 @@ fn a_watch_is_shown_a_run_on_one_thread_and_in_a_pool(rt: HostRuntime) -> Result
         let mut alone = Notes::new(pause);
         let gate = shared(&rt, alloc, Counts::new());
         let plant = fed(&rt, alloc, &CHAIN);
-        let turns = Turns::default();
         let still = WithClock { rt, clock: Still };
-        match run_adaptive_watched(still, alloc, plant, gate, turns, &mut alone) {
+        match run_with(still, alloc, plant, adaptive(gate), &mut alone) {
             Ok(outcome) => {
                 let _ = split(&rt, outcome);
             }
@@ -382,7 +383,7 @@ fn a_watch_is_shown_a_run_on_one_thread_and_in_a_pool(rt: HostRuntime) -> Result
         let mut pooled = Notes::new(pause);
         let gate = shared(&rt, alloc, Counts::new());
         let plant = dear_chains(&rt, alloc, [0, u64::MAX]);
-        match run_adaptive_watched(erratic, alloc, plant, gate, turns, &mut pooled) {
+        match run_with(erratic, alloc, plant, adaptive(gate), &mut pooled) {
             Ok(outcome) => {
                 let _ = split(&rt, outcome);
             }

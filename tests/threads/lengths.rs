@@ -6,7 +6,7 @@ use super::live_runs::{Does, LiveWay, finished_with};
 use super::runs::{
     End, ended, ended_as, holds_turned, launched, same_sinks, settled, share, shared,
 };
-use super::ways::{WAYS, ran_by};
+use super::ways::{WAYS, per_block, ran_by};
 use flowgraph::BlockId;
 use std::process::Abort;
 use std::sync::atomic::{AtomicU64, Ordering};
@@ -63,7 +63,8 @@ fn a_turn_is_of_so_many_firings_at_most(rt: HostRuntime) -> Result<(), Fail> {
     for (most, least_passes) in [(1, 9_000), (7, 3 * 429), (65_536, 3 * 3)] {
         let gate = shared(&rt, alloc, Counts::new());
         let plant = fed(&rt, alloc, &CHAIN);
-        let running = match launch_with(rt, alloc, plant, share(&rt, &gate), turns(&rt, most)) {
+        let options = per_block(turns(&rt, most), share(&rt, &gate));
+        let running = match launch_with(rt, alloc, plant, options) {
             Ok(running) => running,
             Err(fault) => panic!(rt; "not launched: {fault}"),
         };
@@ -127,7 +128,8 @@ fn a_turn_is_as_long_as_it_may_be(rt: HostRuntime) -> Result<(), Fail> {
     for (most, second) in FIRST_TURNS {
         let gate = shared(&rt, alloc, SecondTurn::new());
         let plant = fed(&rt, alloc, &ROOMY);
-        let running = match launch_with(rt, alloc, plant, share(&rt, &gate), turns(&rt, most)) {
+        let options = per_block(turns(&rt, most), share(&rt, &gate));
+        let running = match launch_with(rt, alloc, plant, options) {
             Ok(running) => running,
             Err(fault) => panic!(rt; "not launched: {fault}"),
         };

@@ -1,7 +1,7 @@
 //! Runs with callers, and what the tests' callers have in common.
 use super::gates::Counts;
 use super::runs::{Host, share, shared};
-use super::ways::{ByChance, WithClock};
+use super::ways::{ByChance, WithClock, chosen};
 use flowgraph::BlockId;
 use items::{ItemType, Items, Mark};
 use kinds::Kind;
@@ -10,7 +10,7 @@ use settings::Value;
 use std::alloc::Global;
 use std::process::Abort;
 use std::sync::{Arc, Wait};
-use threads::{Caller, Desk, Finished, Gate, Turns, live, live_adaptive};
+use threads::{Caller, Desk, Finished, Gate, Threading, Turns, live, live_with};
 
 /// Where a caller makes its calls: a desk, and what each call there takes.
 #[derive(Drop)]
@@ -138,9 +138,13 @@ pub fn finished_with<C: Caller<Kind> + Drop + Send, G: Gate + Drop + Send + Sync
     };
     let ended = match way {
         LiveWay::EachBlock => live(rt, alloc, plant, own, callers, turns),
-        LiveWay::Adaptive => live_adaptive(rt, alloc, plant, own, callers, turns, &mut Unwatched),
+        LiveWay::Adaptive => {
+            let options = chosen(Threading::Adaptive, turns, own);
+            live_with(rt, alloc, plant, callers, options, &mut Unwatched)
+        }
         LiveWay::Erratic => {
-            live_adaptive(&erratic, alloc, plant, own, callers, turns, &mut Unwatched)
+            let options = chosen(Threading::Adaptive, turns, own);
+            live_with(&erratic, alloc, plant, callers, options, &mut Unwatched)
         }
     };
     match ended {

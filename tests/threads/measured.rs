@@ -2,7 +2,7 @@
 use super::drawn::{Drawing, Make, fed};
 use super::gates::Counts;
 use super::runs::{End, Host, ended, piece, share, shared, split};
-use super::ways::{ByChance, WAYS, Way, WithClock};
+use super::ways::{WAYS, Way, run_in_way};
 use flowgraph::BlockId;
 use kinds::Kind;
 use plant::{Headway, Need, Plant, Settled, Step, Watch};
@@ -12,7 +12,7 @@ use std::sync::Arc;
 use std::sync::atomic::{AtomicU64, Ordering};
 use std::test::Fail;
 use std::time::Duration;
-use threads::{Gate, Turns, launch_adaptive, run_adaptive, run_with};
+use threads::{Gate, Turns};
 
 // A source whose every third item goes on, twice: firings 3,000, 1,000, 1,000 and 2,000.
 const THINNED: Drawing<'static> = Drawing {
@@ -102,22 +102,7 @@ fn run_in<R: Host + 'static>(
     gate: &Arc<Counting, Global>,
 ) -> Plant<Kind> {
     let plant = fed(&rt, alloc, &THINNED);
-    let turns = Turns::default();
-    let own = share(&rt, gate);
-    let erratic = WithClock {
-        rt,
-        clock: ByChance,
-    };
-    let outcome = match way {
-        Way::EachBlock => run_with(rt, alloc, plant, own, turns),
-        Way::Adaptive => run_adaptive(rt, alloc, plant, own, turns),
-        Way::Erratic => run_adaptive(erratic, alloc, plant, own, turns),
-        Way::ErraticPool => match launch_adaptive(erratic, alloc, plant, own, turns) {
-            Ok(running) => running.wait(&rt),
-            Err(fault) => Err(fault),
-        },
-    };
-    match outcome {
+    match run_in_way(rt, alloc, way, plant, Turns::default(), share(&rt, gate)) {
         Ok(outcome) => {
             let (end, plant) = split(&rt, outcome);
             assert!(&rt; end == End::Done, "{way:?}: {end:?}");

@@ -1,10 +1,11 @@
 //! Runs in threads and on one, and what their sinks show.
 use super::drawn::{Drawing, Make, fed, tape_item};
 use super::gates::Counts;
+use super::ways::per_block;
 use block_kinds::Block;
 use flowgraph::BlockId;
 use kinds::Kind;
-use plant::{Piece, Plant};
+use plant::{Piece, Plant, Unwatched};
 use std::alloc::Global;
 use std::process::Abort;
 use std::sync::{Arc, Wait};
@@ -106,7 +107,8 @@ where
     B::Places: Send + Sync + 'static,
 {
     let gate = shared(&rt, alloc, Counts::new());
-    match run_with(rt, alloc, plant, share(&rt, &gate), turns) {
+    let options = per_block(turns, share(&rt, &gate));
+    match run_with(rt, alloc, plant, options, &mut Unwatched) {
         Ok(outcome) => {
             assert!(&rt;
                 gate.missed() == 0,

@@ -5,6 +5,7 @@ use super::gates::Counts;
 use super::live_runs::{Does, doing};
 use super::replays::{replay, same_logs};
 use super::runs::{End, Host, ended_as, holds_turned, share, shared};
+use super::ways::{adaptive, per_block};
 use flowgraph::{BlockId, Valid};
 use items::{ItemType, Items};
 use kinds::Kind;
@@ -13,7 +14,7 @@ use std::alloc::{AllocError, Global};
 use std::process::Abort;
 use std::test::Fail;
 use std::time::Duration;
-use threads::{Finished, Turns};
+use threads::{Finished, RunOptions, Threading, Turns};
 use top_block::TopBlock;
 
 const ITEMS: u32 = 3_000;
@@ -106,8 +107,9 @@ fn chains_run_past_a_gate_in_turns_of_any_length(rt: HostRuntime) -> Result<(), 
             panic!(&rt; "turns of {most}");
         };
         let gate = shared(&rt, alloc, Counts::new());
-        let outcome = fed_chains(&rt, alloc).run_with(rt, alloc, share(&rt, &gate), turns);
-        let plant = match outcome {
+        let options = per_block(turns, share(&rt, &gate));
+        let top = fed_chains(&rt, alloc);
+        let plant = match top.run_with(rt, alloc, options, &mut Unwatched) {
             Ok(outcome) => ended_as(&rt, outcome, End::Done),
             Err(fault) => panic!(&rt; "not run: {fault}"),
         };
@@ -127,8 +129,8 @@ fn a_gate_is_told_of_turns_by_both_calls(rt: HostRuntime) -> Result<(), Fail> {
     let alloc = rt.alloc();
     let gate = shared(&rt, alloc, Counts::new());
     let top = fed_chains(&rt, alloc);
-    let own = share(&rt, &gate);
-    match top.run_adaptive_with(rt, alloc, own, Turns::default(), &mut Unwatched) {
+    let options = adaptive(share(&rt, &gate));
+    match top.run_with(rt, alloc, options, &mut Unwatched) {
         Ok(outcome) => {
             let _ = ended_as(&rt, outcome, End::Done);
         }
@@ -136,7 +138,8 @@ fn a_gate_is_told_of_turns_by_both_calls(rt: HostRuntime) -> Result<(), Fail> {
     }
     let fired = gate.fired();
     assert!(rt; fired == u64::from(6 * ITEMS), "told of {fired} firings");
-    match fed_chains(&rt, alloc).start_with(rt, alloc, share(&rt, &gate), Turns::default()) {
+    let options = per_block(Turns::default(), share(&rt, &gate));
+    match fed_chains(&rt, alloc).start_with(rt, alloc, options) {
         Ok(running) => match running.wait(&rt) {
             Ok(outcome) => {
                 let _ = ended_as(&rt, outcome, End::Done);
@@ -214,7 +217,7 @@ fn a_run_with_a_caller_is_watched_to_its_end(rt: HostRuntime) -> Result<(), Fail
         let gate = shared(&rt, alloc, Counts::new());
         let callers = one_caller(&rt, alloc)?;
         let mut ends = Ends { told: 0 };
-        match top.start_live_watched(&rt, alloc, gate, callers, turns, &mut ends) {
+        match top.start_live_with(&rt, alloc, callers, per_block(turns, gate), &mut ends) {
             Ok(ran) => is_answered(&rt, alloc, ran),
             Err(fault) => panic!(&rt; "not finished: {fault}"),
         }
@@ -232,14 +235,8 @@ fn a_run_with_a_caller_takes_the_threads_that_its_work_is_worth(rt: HostRuntime)
     let gate = shared(&rt, alloc, Counts::new());
     let callers = one_caller(&rt, alloc)?;
     let mut ends = Ends { told: 0 };
-    match top.start_live_adaptive(
-        &rt,
-        alloc,
-        share(&rt, &gate),
-        callers,
-        Turns::default(),
-        &mut ends,
-    ) {
+    let options = adaptive(share(&rt, &gate));
+    match top.start_live_with(&rt, alloc, callers, options, &mut ends) {
         Ok(ran) => is_answered(&rt, alloc, ran),
         Err(fault) => panic!(&rt; "not finished: {fault}"),
     }

@@ -3,14 +3,16 @@ use super::drawn::Drawing;
 use super::gates::Counts;
 use super::runs::{End, Host, share, shared, split};
 use block_kinds::Block;
-use plant::Plant;
+use plant::{Plant, Unwatched};
 use std::alloc::Global;
 use std::io;
 use std::process::Abort;
-use std::sync::Wait;
+use std::sync::{Arc, Wait};
 use std::thread::Threads;
 use std::time::{Clock, Duration};
-use threads::{Turns, launch_adaptive, run_adaptive, run_with};
+use threads::{
+    Gate, Outcome, RunFault, RunOptions, Threading, Turns, launch_with, run_with,
+};
 
 /// A way.
 #[derive(Clone, Copy, Debug, PartialEq, Eq)]
@@ -32,6 +34,69 @@ pub const WAYS: [Way; 4] = [
     Way::Erratic,
     Way::ErraticPool,
 ];
+
+/// Such threads, turns and a gate.
+pub fn chosen<G: Gate + Drop>(
+    threading: Threading,
+    turns: Turns,
+    gate: Arc<G, Global>,
+) -> RunOptions<G> {
+    RunOptions {
+        threading,
+        turns,
+        gate: Some(gate),
+    }
+}
+
+/// As many threads as the work is worth, turns of usual length, and a gate.
+pub fn adaptive<G: Gate + Drop>(gate: Arc<G, Global>) -> RunOptions<G> {
+    chosen(Threading::Adaptive, Turns::default(), gate)
+}
+
+/// A thread for each block, such turns, and a gate.
+pub fn per_block<G: Gate + Drop>(turns: Turns, gate: Arc<G, Global>) -> RunOptions<G> {
+    chosen(Threading::PerBlock, turns, gate)
+}
+
+/// Runs a plant in a way.
+pub fn run_in_way<
+    B: Block + Send + Sync + 'static,
+    G: Gate + Drop + Send + Sync + 'static,
+    R: Host + 'static,
+>(
+    rt: R,
+    alloc: Global,
+    way: Way,
+    plant: Plant<B>,
+    turns: Turns,
+    gate: Arc<G, Global>,
+) -> Result<Outcome<B>, RunFault<B>>
+where
+    B::Places: Send + Sync + 'static,
+{
+    let erratic = WithClock {
+        rt,
+        clock: ByChance,
+    };
+    match way {
+        Way::EachBlock => run_with(rt, alloc, plant, per_block(turns, gate), &mut Unwatched),
+        Way::Adaptive => {
+            let options = chosen(Threading::Adaptive, turns, gate);
+            run_with(rt, alloc, plant, options, &mut Unwatched)
+        }
+        Way::Erratic => {
+            let options = chosen(Threading::Adaptive, turns, gate);
+            run_with(erratic, alloc, plant, options, &mut Unwatched)
+        }
+        Way::ErraticPool => {
+            let options = chosen(Threading::Adaptive, turns, gate);
+            match launch_with(erratic, alloc, plant, options) {
+                Ok(running) => running.wait(&rt),
+                Err(fault) => Err(fault),
+            }
+        }
+    }
+}
 
 /// A runtime with a clock of its own.
 #[derive(Clone, Copy)]
@@ -97,21 +162,7 @@ where
     B::Places: Send + Sync + 'static,
 {
     let gate = shared(&rt, alloc, Counts::new());
-    let own = share(&rt, &gate);
-    let erratic = WithClock {
-        rt,
-        clock: ByChance,
-    };
-    let ended = match way {
-        Way::EachBlock => run_with(rt, alloc, plant, own, turns),
-        Way::Adaptive => run_adaptive(rt, alloc, plant, own, turns),
-        Way::Erratic => run_adaptive(erratic, alloc, plant, own, turns),
-        Way::ErraticPool => match launch_adaptive(erratic, alloc, plant, own, turns) {
-            Ok(running) => running.wait(&rt),
-            Err(fault) => Err(fault),
-        },
-    };
-    match ended {
+    match run_in_way(rt, alloc, way, plant, turns, share(&rt, &gate)) {
         Ok(outcome) => {
             assert!(&rt;
                 gate.missed() == 0,

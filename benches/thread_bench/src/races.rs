@@ -10,13 +10,13 @@ use crate::plain::{Item, add_one, counted};
 use flowgraph::BlockId;
 use items::ItemType;
 use kinds::Kind;
-use plant::{Claim, Plant, Settled};
+use plant::{Claim, Plant, Settled, Unwatched};
 use std::alloc::Global;
 use std::io;
 use std::sync::{Arc, Wait};
 use std::thread::Threads;
 use std::time::{Clock, CpuClock, Instant};
-use threads::{Caller, Desk, Gate, Open, Outcome, Turns, live, run_adaptive, run_with};
+use threads::{Caller, Desk, Gate, Open, Outcome, RunOptions, Threading, Turns, live, run_with};
 
 // On one thread a block fires as often as items and room let it.
 const MOST_FIRINGS: u32 = u32::MAX;
@@ -93,13 +93,6 @@ pub fn race<R: Host + 'static>(rt: R, alloc: Global, shape: Shape, runs: u32) ->
     Ok(times)
 }
 
-// How many threads a run has.
-#[derive(Clone, Copy)]
-enum Threading {
-    PerBlock,
-    Adaptive,
-}
-
 fn threads_span<R: Host + 'static>(
     rt: R,
     alloc: Global,
@@ -107,7 +100,7 @@ fn threads_span<R: Host + 'static>(
     threading: Threading,
 ) -> io::Result<Span> {
     let plant = fed_plant(alloc, shape)?.plant;
-    let (Some(turns), Ok(gate)) = (Turns::new(shape.turns), Arc::new(alloc, Open)) else {
+    let Some(turns) = Turns::new(shape.turns) else {
         return Err(io::Error::from(Fault::Run));
     };
     if !plant.idle() {
@@ -115,11 +108,8 @@ fn threads_span<R: Host + 'static>(
     }
     let start = Instant::now(&rt)?;
     let used = rt.process_cpu_time()?;
-    let ended = match threading {
-        Threading::PerBlock => run_with(rt, alloc, plant, gate, turns),
-        Threading::Adaptive => run_adaptive(rt, alloc, plant, gate, turns),
-    };
-    match ended {
+    let options = RunOptions::new(threading, turns);
+    match run_with(rt, alloc, plant, options, &mut Unwatched) {
         Ok(Outcome::Done(_)) => {}
         _ => return Err(io::Error::from(Fault::Run)),
     }

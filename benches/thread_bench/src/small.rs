@@ -3,12 +3,13 @@
 use crate::feeds::Fault;
 use crate::graphs::{Fed, Shape, Work, fed_plant};
 use items::ItemType;
-use plant::Piece;
+use plant::{Piece, Unwatched};
 use std::alloc::Global;
 use std::io;
-use std::sync::{Arc, Wait};
+use std::sync::Wait;
 use std::thread::Threads;
-use threads::{Open, Outcome, Turns, run_with};
+use std::time::Clock;
+use threads::{Outcome, RunOptions, Threading, Turns, run_with};
 
 const SMALL: Shape = Shape {
     item: ItemType::Byte,
@@ -60,9 +61,9 @@ const SHAPES: [Shape; 5] = [
 ];
 
 /// What prints, and starts threads.
-pub trait Host: Threads + Wait + Print + Copy + Send {}
+pub trait Host: Threads + Wait + Clock + Print + Copy + Send {}
 
-impl<R: Threads + Wait + Print + Copy + Send> Host for R {}
+impl<R: Threads + Wait + Clock + Print + Copy + Send> Host for R {}
 
 /// Runs each small graph in threads and prints what its first sink holds.
 pub fn print_small<R: Host + 'static>(rt: R, alloc: Global) -> io::Result<()> {
@@ -78,19 +79,20 @@ pub fn print_small<R: Host + 'static>(rt: R, alloc: Global) -> io::Result<()> {
 }
 
 // What the first sink shows after the run.
-fn shown<R: Threads + Wait + Copy + Send + 'static>(
+fn shown<R: Threads + Wait + Clock + Copy + Send + 'static>(
     rt: R,
     alloc: Global,
     shape: Shape,
 ) -> Result<Piece, Fault> {
     let Fed { plant, sink } = fed_plant(alloc, shape)?;
-    let (Some(turns), Ok(gate)) = (Turns::new(shape.turns), Arc::new(alloc, Open)) else {
+    let Some(turns) = Turns::new(shape.turns) else {
         return Err(Fault::Run);
     };
     if !plant.idle() {
         return Err(Fault::Run);
     }
-    match run_with(rt, alloc, plant, gate, turns) {
+    let options = RunOptions::new(Threading::PerBlock, turns);
+    match run_with(rt, alloc, plant, options, &mut Unwatched) {
         Ok(Outcome::Done(plant)) => Ok(plant.read(alloc, sink, 0, 100)?),
         _ => Err(Fault::Run),
     }

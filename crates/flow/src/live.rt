@@ -28,10 +28,10 @@ use plant::{Plant, Settled, Watch};
 use reporting::{ByteIn, ByteOut};
 use script_text::LineSplitter;
 use std::alloc::{AllocError, Global};
-use std::sync::{Arc, Wait};
+use std::sync::Wait;
 use std::thread::Threads;
 use std::time::Clock;
-use threads::{Finished, Open, Outcome, RunError};
+use threads::{Finished, Outcome, RunError, RunOptions, Threading};
 use top_block::TopBlock;
 
 /// Runs the plant of a file while the lines of `input` make calls of it, until it comes to rest behind the end of the input, and writes what its sinks hold.
@@ -81,25 +81,11 @@ fn live_plant<R: Threads + Wait + Clock + Sync, I: ByteIn + Send, O: ByteOut + S
     ensures no_file { IfErr result IsNoFile }
     ensures settled { IfOk result (λ r. HasSettled (net_of meaning_of r.0.graph) r.0.capacities r.0.state r.1) }
 {
-    let gate = shared_gate(alloc)?;
     let callers = one_caller(alloc, input, output)?;
-    match TopBlock::from_plant(plant).start_live_adaptive(
-        rt,
-        alloc,
-        gate,
-        callers,
-        turns(),
-        watch,
-    ) {
+    let options = RunOptions::new(Threading::Adaptive, turns());
+    match TopBlock::from_plant(plant).start_live_with(rt, alloc, callers, options, watch) {
         Ok(finished) => came_to_rest(finished),
         Err(fault) => Err(Fault::from(fault)),
-    }
-}
-
-fn shared_gate(alloc: Global) -> Result<Arc<Open, Global>, AllocError> {
-    match Arc::new(alloc, Open) {
-        Ok(gate) => Ok(gate),
-        Err(_) => Err(AllocError),
     }
 }
 

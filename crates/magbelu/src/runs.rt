@@ -7,8 +7,7 @@ pub use run_stats::{
 };
 pub use threads::{
     Answer, Call, Caller, CallerId, Desk, Entry, Feed, Finished, Gate, Open, Outcome, RunError,
-    RunFault, Running, Setting, Turns, launch, launch_adaptive, launch_open, launch_with, live,
-    live_adaptive, live_watched, run, run_adaptive, run_adaptive_open, run_adaptive_watched,
-    run_with,
+    RunFault, RunOptions, Running, Setting, Threading, Turns, launch, launch_with, live, live_with,
+    run, run_with,
 };
 pub use top_block::{TopBlock, close_all};

@@ -2,6 +2,8 @@
 
 use flowgraph::BlockId;
 use plant::Need;
+use std::alloc::Global;
+use std::sync::Arc;
 
 /// What each worker calls after each claim and before its work, with no lock held. A gate that waits delays its own worker, and those that
 /// wait for its block's items. It is there for tests and for probes; `Open` does nothing. It is also told of each turn and each wait of a block, by
@@ -29,4 +31,37 @@ pub struct Open;
 
 impl Gate for Open {
     fn pass(&self, _block: BlockId, _firing: u64) {}
+}
+
+/// The gate of a run that may have none.
+impl<G: Gate + Drop> Gate for Option<Arc<G, Global>> {
+    fn pass(&self, block: BlockId, firing: u64) {
+        if let Some(gate) = self {
+            gate.pass(block, firing);
+        }
+    }
+
+    fn missed(&self) {
+        if let Some(gate) = self {
+            gate.missed();
+        }
+    }
+
+    fn begins(&self, block: BlockId) {
+        if let Some(gate) = self {
+            gate.begins(block);
+        }
+    }
+
+    fn worked(&self, block: BlockId, firings: u32) {
+        if let Some(gate) = self {
+            gate.worked(block, firings);
+        }
+    }
+
+    fn waits(&self, block: BlockId, need: Need) {
+        if let Some(gate) = self {
+            gate.waits(block, need);
+        }
+    }
 }

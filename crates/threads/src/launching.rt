@@ -1,78 +1,25 @@
 //! The start of a run in threads.
 
-ghost use Rattle.std.specs.Prelude.{◌≡◌, ◌≤◌, true, false, IfOk, IfErr, IfSome};
-ghost use Rattle.std.specs.Arc.{arc_value};
+ghost use Rattle.std.specs.Prelude.{◌≡◌, true, false, IfOk, IfErr};
 ghost use Rattle.stream_model.specs.Machine.{is_idle};
-ghost use Rattle.threads.specs.Outcomes.{HasReturned, GivesBack, IsSo, handed_of};
+ghost use Rattle.threads.specs.Outcomes.{GivesBack, IsSo, handed_of};
 
-use crate::engine::Engine;
+use crate::crew::Crew;
 use crate::fault::RunFault;
-use crate::gate::{Gate, Open};
-use crate::locked::Locked;
-use crate::pool::Pool;
-use crate::running::{Running, came_back};
+use crate::gate::Gate;
+use crate::pool_threads::lead;
+use crate::prepared::{given_back, prepare};
+use crate::run_options::{RunOptions, Threading};
+use crate::running::Running;
 use crate::shared::Shared;
-use crate::turns::Turns;
-use crate::waiting::Waiting;
 use crate::worker::work;
 use flowgraph::{Block, BlockId};
-use plant::{Handed, Plant};
-use std::alloc::{AllocError, AllocFailed, Global};
+use plant::{Handed, Plant, Unwatched};
+use std::alloc::Global;
 use std::sync::{Arc, Wait};
 use std::thread;
-use std::thread::{JoinHandle, Parker, Threads};
-
-/// As `launch_with`, with the gate that does nothing.
-pub fn launch_open<B: Block + Send + Sync + 'static, R: Threads + Wait + Copy + Send + 'static>(
-    rt: R,
-    alloc: Global,
-    plant: Plant<B>,
-    turns: Turns,
-) -> Result<Running<B, Open>, RunFault<B>>
-where
-    B::Places: Send + Sync + 'static,
-    requires { is_idle plant.state ≡ true }
-    ensures ok { IfOk result (λ r. r ≡ record { handed = handed_of plant; asked = false; most = turns.most }) }
-    ensures err { IfErr result (GivesBack B.meaning B.eq (handed_of plant)) }
-{
-    let (plant, gate) = with_open_gate(alloc, plant)?;
-    launch_with(rt, alloc, plant, gate, turns)
-}
-
-/// A plant with the gate that does nothing.
-pub(crate) fn with_open_gate<B: Block>(
-    alloc: Global,
-    plant: Plant<B>,
-) -> Result<(Plant<B>, Arc<Open, Global>), RunFault<B>>
-    requires { is_idle plant.state ≡ true }
-    ensures ok { IfOk result (λ p. p.0 ≡ plant) }
-    ensures err { IfErr result (GivesBack B.meaning B.eq (handed_of plant)) }
-    ensures memory { IfErr result (IsSo true false) }
-{
-    match Arc::new(alloc, Open) {
-        Ok(gate) => Ok((plant, gate)),
-        Err(_) => Err(out_of_memory(plant)),
-    }
-}
-
-/// A plant that lacked the memory to run.
-pub(crate) fn out_of_memory<B: Block>(plant: Plant<B>) -> RunFault<B>
-    requires { is_idle plant.state ≡ true }
-    ensures back { GivesBack B.meaning B.eq (handed_of plant) result }
-    ensures memory { IsSo true false result }
-{
-    plant.recall();
-    RunFault::Memory(plant)
-}
-
-// A plant with what its run needs.
-#[derive(Drop)]
-struct Prepared<B: Block> {
-    locked: Locked<B>,
-    handed: Handed<B>,
-    parkers: Vec<Parker>,
-    workers: Vec<JoinHandle<()>>,
-}
+use std::thread::{JoinHandle, Threads};
+use std::time::Clock;
 
 /// Starts a worker for each block of a plant that has no claim in flight, and returns. The workers claim, work and commit until all blocks are done,
 /// none can act, or a stop is asked for; each claims at most 1,024 firings at a time. Before each work the gate is called. Open sources stay open.
@@ -80,7 +27,7 @@ struct Prepared<B: Block> {
 pub fn launch<
     B: Block + Send + Sync + 'static,
     G: Gate + Drop + Send + Sync + 'static,
-    R: Threads + Wait + Copy + Send + 'static,
+    R: Threads + Wait + Clock + Copy + Send + 'static,
 >(rt: R, alloc: Global, plant: Plant<B>, gate: Arc<G, Global>) -> Result<Running<B, G>, RunFault<B>>
 where
     B::Places: Send + Sync + 'static,
@@ -88,103 +35,60 @@ where
     ensures ok { IfOk result (λ r. r ≡ record { handed = handed_of plant; asked = false; most = 1024 }) }
     ensures err { IfErr result (GivesBack B.meaning B.eq (handed_of plant)) }
 {
-    launch_with(rt, alloc, plant, gate, Turns::default())
+    launch_with(rt, alloc, plant, RunOptions::per_block(Some(gate)))
 }
 
-/// As `launch`, with turns of another length.
+/// Starts a run as these options say, and returns: as `launch`, or with one thread that starts others as their work is worth them. The run goes on
+/// until all blocks are done, none can act, or a stop is asked for. Open sources stay open. Fails with `RunFault::Memory` or `RunFault::Thread`,
+/// which return the plant.
 pub fn launch_with<
     B: Block + Send + Sync + 'static,
     G: Gate + Drop + Send + Sync + 'static,
-    R: Threads + Wait + Copy + Send + 'static,
+    R: Threads + Wait + Clock + Copy + Send + 'static,
 >(
     rt: R,
     alloc: Global,
     plant: Plant<B>,
-    gate: Arc<G, Global>,
-    turns: Turns,
+    options: RunOptions<G>,
 ) -> Result<Running<B, G>, RunFault<B>>
 where
     B::Places: Send + Sync + 'static,
     requires { is_idle plant.state ≡ true }
-    ensures ok { IfOk result (λ r. r ≡ record { handed = handed_of plant; asked = false; most = turns.most }) }
+    ensures ok { IfOk result (λ r. r ≡ record { handed = handed_of plant; asked = false; most = options.turns.most }) }
     ensures err { IfErr result (GivesBack B.meaning B.eq (handed_of plant)) }
 {
-    let Prepared {
-        locked,
-        handed,
-        parkers,
-        workers,
-    } = prepare(alloc, plant)?;
-    let shared = Shared::new(locked, parkers, gate, turns);
-    match Arc::new(alloc, shared) {
-        Ok(shared) => start_all(rt, alloc, shared, workers, handed),
-        Err(refused) => Err(lacked(refused, &handed)),
+    let RunOptions {
+        threading,
+        turns,
+        gate,
+    } = options;
+    let running = prepare(alloc, plant, gate, turns, Crew::new(threading, turns))?;
+    match threading {
+        Threading::PerBlock => start_workers(rt, alloc, running),
+        Threading::Adaptive => start_first(rt, alloc, running),
     }
-}
-
-// All that a run needs, and a record of what its plant was handed.
-fn prepare<B: Block>(alloc: Global, plant: Plant<B>) -> Result<Prepared<B>, RunFault<B>>
-    requires { is_idle plant.state ≡ true }
-    ensures ok { IfOk result (λ p. p.handed ≡ handed_of plant) }
-    ensures err { IfErr result (GivesBack B.meaning B.eq (handed_of plant)) }
-    ensures memory { IfErr result (IsSo true false) }
-{
-    match rooms_of(alloc, &plant) {
-        Ok((handed, waiting, parkers, workers)) => Ok(Prepared {
-            locked: Locked::new(Engine::Plain(plant), waiting, Pool::none(alloc), 0),
-            handed,
-            parkers,
-            workers,
-        }),
-        Err(_) => Err(out_of_memory(plant)),
-    }
-}
-
-// What a run needs beside its plant.
-fn rooms_of<B: Block>(
-    alloc: Global,
-    plant: &Plant<B>,
-) -> Result<(Handed<B>, Waiting, Vec<Parker>, Vec<JoinHandle<()>>), AllocError>
-    ensures { IfOk result (λ r. r.0 ≡ handed_of plant.now) }
-{
-    let blocks = plant.graph().len();
-    Ok((
-        plant.handed(alloc)?,
-        Waiting::new(alloc, blocks)?,
-        make_parkers(alloc, blocks)?,
-        Vec::with_capacity(alloc, blocks)?,
-    ))
-}
-
-pub(crate) fn make_parkers(alloc: Global, count: usize) -> Result<Vec<Parker>, AllocError> {
-    let mut parkers = Vec::with_capacity(alloc, count)?;
-    for parker in 0..count {
-        let _ = parker;
-        parkers.push_reserved(Parker::new());
-    }
-    Ok(parkers)
 }
 
 // Starts a worker for each block. Where one cannot be started, those that are there leave again.
-fn start_all<
+fn start_workers<
     B: Block + Send + Sync + 'static,
     G: Gate + Drop + Send + Sync + 'static,
     R: Threads + Wait + Copy + Send + 'static,
->(
-    rt: R,
-    alloc: Global,
-    shared: Arc<Shared<B, G>, Global>,
-    mut workers: Vec<JoinHandle<()>>,
-    handed: Handed<B>,
-) -> Result<Running<B, G>, RunFault<B>>
+>(rt: R, alloc: Global, running: Running<B, G>) -> Result<Running<B, G>, RunFault<B>>
 where
     B::Places: Send + Sync + 'static,
-    ensures ok { IfOk result (λ r. r ≡ record { handed = handed; asked = false; most = (arc_value shared).turns.most }) }
-    ensures err { IfErr result (GivesBack B.meaning B.eq handed) }
+    ensures ok { IfOk result (λ r. r ≡ running) }
+    ensures err { IfErr result (GivesBack B.meaning B.eq running.handed) }
     ensures thread { IfErr result (IsSo false true) }
 {
+    let Running {
+        shared,
+        mut workers,
+        handed,
+        asked,
+    } = running;
     for (block, _parker) in (0..u32::MAX).zip(&shared.parkers) {
-        match start(rt, alloc, &shared, BlockId(block)) {
+        match start_worker(rt, alloc, &shared, BlockId(block)) {
             Some(worker) => {
                 if workers.push(worker).is_err() {
                     return Err(called_back(rt, shared, workers, &handed));
@@ -197,12 +101,12 @@ where
         shared,
         workers,
         handed,
-        asked: false,
+        asked,
     })
 }
 
 // A worker's thread.
-fn start<
+fn start_worker<
     B: Block + Send + Sync + 'static,
     G: Gate + Drop + Send + Sync + 'static,
     R: Threads + Wait + Copy + Send + 'static,
@@ -219,8 +123,54 @@ where
     thread::spawn(&rt, move || work(&rt, alloc, &*shared, block)).ok()
 }
 
-/// Has the workers that were started leave, and gives the plant back.
-pub(crate) fn called_back<B: Block, G: Gate + Drop, R: Threads + Wait + Copy>(
+// Starts the first thread of a pool, which starts the others.
+fn start_first<
+    B: Block + Send + Sync + 'static,
+    G: Gate + Drop + Send + Sync + 'static,
+    R: Threads + Wait + Clock + Copy + Send + 'static,
+>(rt: R, alloc: Global, running: Running<B, G>) -> Result<Running<B, G>, RunFault<B>>
+where
+    B::Places: Send + Sync + 'static,
+    ensures ok { IfOk result (λ r. r ≡ running) }
+    ensures err { IfErr result (GivesBack B.meaning B.eq running.handed) }
+    ensures thread { IfErr result (IsSo false true) }
+{
+    let Running {
+        shared,
+        mut workers,
+        handed,
+        asked,
+    } = running;
+    match start_leader(rt, alloc, &shared) {
+        Some(first) => {
+            if workers.push(first).is_err() {
+                return Err(called_back(rt, shared, workers, &handed));
+            }
+        }
+        None => return Err(called_back(rt, shared, workers, &handed)),
+    }
+    Ok(Running {
+        shared,
+        workers,
+        handed,
+        asked,
+    })
+}
+
+fn start_leader<
+    B: Block + Send + Sync + 'static,
+    G: Gate + Drop + Send + Sync + 'static,
+    R: Threads + Wait + Clock + Copy + Send + 'static,
+>(rt: R, alloc: Global, shared: &Arc<Shared<B, G>, Global>) -> Option<JoinHandle<()>>
+where
+    B::Places: Send + Sync + 'static,
+{
+    let shared = Arc::try_clone(shared).ok()?;
+    thread::spawn(&rt, move || lead(rt, alloc, &shared, &mut Unwatched)).ok()
+}
+
+// Has the workers that were started leave, and gives the plant back.
+fn called_back<B: Block, G: Gate + Drop, R: Threads + Wait + Copy>(
     rt: R,
     shared: Arc<Shared<B, G>, Global>,
     workers: Vec<JoinHandle<()>>,
@@ -239,37 +189,5 @@ pub(crate) fn called_back<B: Block, G: Gate + Drop, R: Threads + Wait + Copy>(
     match given_back(shared, handed) {
         Some(plant) => RunFault::Thread(plant),
         None => RunFault::Foreign,
-    }
-}
-
-/// Gives the plant back where there was no memory for what its threads share.
-pub(crate) fn lacked<B: Block, G: Gate + Drop>(
-    refused: AllocFailed<Shared<B, G>>,
-    handed: &Handed<B>,
-) -> RunFault<B>
-    ensures back { GivesBack B.meaning B.eq handed.now result }
-    ensures memory { IsSo true false result }
-{
-    match given_back(refused.value, handed) {
-        Some(plant) => RunFault::Memory(plant),
-        None => RunFault::Foreign,
-    }
-}
-
-// The plant of a run that could not begin, where it has what was handed in.
-fn given_back<B: Block, G: Gate + Drop>(
-    shared: Shared<B, G>,
-    handed: &Handed<B>,
-) -> Option<Plant<B>>
-    ensures { IfSome result (HasReturned B.meaning B.eq handed.now) }
-{
-    let Locked { engine, .. } = shared.locked.into_inner();
-    let Engine::Plain(plant) = engine else {
-        return None;
-    };
-    if came_back(&plant, handed) {
-        Some(plant)
-    } else {
-        None
     }
 }

@@ -1,18 +1,19 @@
 //! Runs of a plant in threads, which claim, work and commit until it comes to rest, and what it holds then.
 //!
 //! ```text
-//! let running = launch(rt, alloc, plant, gate)?; // a thread for each block
+//! let running = launch_with(rt, alloc, plant, RunOptions::default())?; // in as many threads as the work is worth
 //! match running.wait(&rt)? {
-//!     Outcome::Done(plant) => ..,                // each sink has its whole stream
-//!     Outcome::Stalled(plant) => ..,             // no block can act, and not all are done
-//!     Outcome::Stopped(plant) => ..,             // a stop was asked for
+//!     Outcome::Done(plant) => ..,    // each sink has its whole stream
+//!     Outcome::Stalled(plant) => .., // no block can act, and not all are done
+//!     Outcome::Stopped(plant) => .., // a stop was asked for
 //! }
 //! ```
 //!
-//! - [`launch`] and [`run`] have a worker for each block. Whose progress wakes whom is decided in `waiting`.
-//! - [`run_adaptive`] and [`launch_adaptive`] take as many threads as the work is worth. All that is decided there stands in `policy`, a page to read.
-//! - [`live`] has callers at desks make calls while a thread for each block works, and returns the history of all calls; [`live_adaptive`] does so in
-//!   as many threads as the work is worth.
+//! - [`launch`], [`run`] and [`live`] have a worker for each block. [`launch_with`], [`run_with`] and [`live_with`] take [`RunOptions`]: whether each block has
+//!   a thread, how long a turn is, and a gate.
+//! - `live` has callers at desks make calls while the blocks work, and returns the history of all calls.
+//! - Whose progress wakes which worker is decided in `waiting`. What a run decides that takes as many threads as the work is worth stands in `policy`, a
+//!   page to read.
 //!
 //! The plant lies under one lock, and each call that is made of it there is one call of `Locked`, whose contract is exact. What a worker does between two looks at the
 //! lock is a turn: it commits, claims, and leaves to work. What comes out of the lock is compared with what was handed in, since a lock tells nothing but a
@@ -22,6 +23,7 @@
 mod adaptive;
 mod alone;
 mod calling;
+mod crew;
 pub mod desk;
 mod desks;
 mod engine;
@@ -31,7 +33,8 @@ pub mod fault;
 pub mod gate;
 mod launching;
 mod lent_calls;
-mod live_pool;
+mod live_crew;
+mod live_rooms;
 mod locked;
 mod locked_calls;
 mod logs;
@@ -40,8 +43,10 @@ pub mod outcome;
 mod policy;
 mod pool;
 mod pool_threads;
+mod prepared;
 mod recorded;
 mod request;
+pub mod run_options;
 pub mod running;
 mod shared;
 mod stopwatch;
@@ -50,15 +55,14 @@ mod waiting;
 mod woken;
 mod worker;
 
-pub use adaptive::{launch_adaptive, run_adaptive, run_adaptive_open, run_adaptive_watched};
-pub use calling::{Finished, live, live_watched};
+pub use calling::{Finished, live, live_with};
 pub use desk::{Caller, Desk};
 pub use entry::{Answer, Call, CallerId, Entry, Feed, Setting};
 pub use fault::{RunError, RunFault};
 pub use gate::{Gate, Open};
-pub use launching::{launch, launch_open, launch_with};
-pub use live_pool::live_adaptive;
+pub use launching::{launch, launch_with};
 pub use outcome::Outcome;
+pub use run_options::{RunOptions, Threading};
 pub use running::{Running, run, run_with};
 pub use turns::Turns;
 pub use waiting::share_of;

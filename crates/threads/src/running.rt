@@ -2,24 +2,27 @@
 
 ghost use Rattle.std.specs.Prelude.{◌≡◌, true, false, IfOk, IfErr};
 ghost use Rattle.stream_model.specs.Machine.{is_idle};
+ghost use Rattle.threads.specs.declared.run_options.Threading.TheVariants.{Adaptive};
 ghost use Rattle.threads.specs.Outcomes.{RunEndsIn, GivesBack, HasReturned, IsSo, handed_of};
 ghost use Rattle.threads.specs.Running.{RunState};
 
+use crate::adaptive::run_adaptive;
 use crate::engine::Engine;
 use crate::fault::RunFault;
 use crate::gate::Gate;
 use crate::launching::launch_with;
 use crate::locked::Locked;
 use crate::outcome::Outcome;
+use crate::run_options::{RunOptions, Threading};
 use crate::shared::Shared;
-use crate::turns::Turns;
 use flowgraph::Block;
-use plant::{Handed, Headway, Plant, Watch};
+use plant::{Handed, Headway, Plant, Unwatched, Watch};
 use std::alloc::Global;
 use std::fmt;
 use std::marker::Model;
 use std::sync::{Arc, Wait};
 use std::thread::{JoinHandle, Threads};
+use std::time::Clock;
 
 /// A plant at work in threads, one for each of its blocks. Where it is dropped its workers go on by themselves, and are cut off as the program
 /// ends; `wait` gives the plant back. A contract sees what was handed in, whether a stop was asked for, and how many firings a worker claims at
@@ -154,7 +157,7 @@ pub(crate) fn came_back<B: Block>(plant: &Plant<B>, handed: &Handed<B>) -> bool
 pub fn run<
     B: Block + Send + Sync + 'static,
     G: Gate + Drop + Send + Sync + 'static,
-    R: Threads + Wait + Copy + Send + 'static,
+    R: Threads + Wait + Clock + Copy + Send + 'static,
 >(rt: R, alloc: Global, plant: Plant<B>, gate: Arc<G, Global>) -> Result<Outcome<B>, RunFault<B>>
 where
     B::Places: Send + Sync + 'static,
@@ -162,29 +165,46 @@ where
     ensures ok { IfOk result (RunEndsIn B.meaning B.eq (handed_of plant) false) }
     ensures err { IfErr result (GivesBack B.meaning B.eq (handed_of plant)) }
 {
-    run_with(rt, alloc, plant, gate, Turns::default())
+    run_with(
+        rt,
+        alloc,
+        plant,
+        RunOptions::per_block(Some(gate)),
+        &mut Unwatched,
+    )
 }
 
-/// As `run`, with turns of another length.
+/// Runs a plant to its end as these options say, and waits for that. It is never `Stopped`. Sources that are open stay open. It calls `watch.show` after
+/// each pause, where the run is on one thread now and then, and `watch.end` as it is over, however it ends. Fails with `RunFault::Memory`, and with
+/// `RunFault::Thread` where each block has a thread and one could not be started; both return the plant. Where the run takes as many threads as its work
+/// is worth, and none can be started, the caller's does all.
 pub fn run_with<
     B: Block + Send + Sync + 'static,
     G: Gate + Drop + Send + Sync + 'static,
-    R: Threads + Wait + Copy + Send + 'static,
+    R: Threads + Wait + Clock + Copy + Send + 'static,
+    W: Watch,
 >(
     rt: R,
     alloc: Global,
     plant: Plant<B>,
-    gate: Arc<G, Global>,
-    turns: Turns,
+    options: RunOptions<G>,
+    watch: &mut W,
 ) -> Result<Outcome<B>, RunFault<B>>
 where
     B::Places: Send + Sync + 'static,
     requires { is_idle plant.state ≡ true }
     ensures ok { IfOk result (RunEndsIn B.meaning B.eq (handed_of plant) false) }
     ensures err { IfErr result (GivesBack B.meaning B.eq (handed_of plant)) }
+    ensures told { options.threading ≡ Adaptive → IfErr result (IsSo true false) }
 {
-    match launch_with(rt, alloc, plant, gate, turns) {
-        Ok(running) => running.wait(&rt),
-        Err(fault) => Err(fault),
+    match options.threading {
+        Threading::Adaptive => run_adaptive(rt, alloc, plant, options, watch),
+        Threading::PerBlock => match launch_with(rt, alloc, plant, options) {
+            Ok(running) => running.wait_watched(&rt, watch),
+            Err(fault) => {
+                watch.end();
+                Err(fault)
+            }
+        },
     }
 }

@@ -35,7 +35,8 @@ pub struct Shared<B: Block, G: Gate + Drop> {
     pub parkers: Vec<Parker>,
     /// Where who looks on sleeps between two looks.
     pub watcher: Parker,
-    pub gate: Arc<G, Global>,
+    /// What is told of turns, where something is.
+    pub gate: Option<Arc<G, Global>>,
     /// How much a worker does in one turn.
     pub turns: Turns,
 }
@@ -45,7 +46,7 @@ impl<B: Block, G: Gate + Drop> Shared<B, G> {
     pub fn new(
         locked: Locked<B>,
         parkers: Vec<Parker>,
-        gate: Arc<G, Global>,
+        gate: Option<Arc<G, Global>>,
         turns: Turns,
     ) -> Shared<B, G>
         ensures { result.turns ≡ turns }
@@ -152,15 +153,7 @@ impl<B: Block, G: Gate + Drop> Shared<B, G> {
         } else {
             self.locked(rt)
         };
-        locked.errand(
-            rt,
-            alloc,
-            thread,
-            brought,
-            &self.waiting,
-            &*self.gate,
-            woken,
-        )
+        locked.errand(rt, alloc, thread, brought, &self.waiting, &self.gate, woken)
     }
 
     // The lock for a thread of a pool that is counted while it waits.

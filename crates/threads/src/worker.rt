@@ -67,7 +67,7 @@ pub fn work<B: Block, G: Gate + Drop, R: Wait>(
         let next = shared.turn(rt, alloc, &mut worker, &mut woken);
         shared.wake(&woken);
         match next {
-            Next::Work(job) => worker.works(&*shared.gate, job),
+            Next::Work(job) => worker.works(&shared.gate, job),
             Next::Sleep(need) => {
                 shared.gate.waits(block, need);
                 shared.sleep(rt, block);

@@ -12,6 +12,7 @@ ghost use Rattle.plant.specs.Answers.{Answered, AnsweredAlways, reply_of};
 ghost use Rattle.settings.specs.Values.{value_of};
 ghost use Rattle.plant.specs.Opening.{opening_plant};
 ghost use Rattle.plant.specs.Plant.{PlantState};
+ghost use Rattle.threads.specs.declared.run_options.Threading.TheVariants.{Adaptive};
 ghost use Rattle.threads.specs.History.{noted_by};
 ghost use Rattle.threads.specs.Live.{AreLogs, HaveReturned, LiveRunEndsIn, GivesBackLive, opening_of};
 ghost use Rattle.threads.specs.Outcomes.{RunEndsIn, GivesBack, IsSo, handed_of};
@@ -30,8 +31,8 @@ use std::sync::{Arc, Wait};
 use std::thread::Threads;
 use std::time::Clock;
 use threads::{
-    Caller, Finished, Gate, Open, Outcome, RunFault, Running, Turns, launch_open, launch_with,
-    live_adaptive, live_watched, run_adaptive_open, run_adaptive_watched, run_with,
+    Caller, Finished, Gate, Open, Outcome, RunFault, RunOptions, Running, launch_with, live_with,
+    run_with,
 };
 
 /// A plant of kinds with no claim in flight, which is fed and then run in threads. It is the whole life of a flowgraph whose data are there from
@@ -114,7 +115,7 @@ impl TopBlock {
 
     /// Closes each source that is open, starts a thread for each block, and returns. Fails with `RunFault::Memory` or `RunFault::Thread`, which
     /// return the plant with its sources closed.
-    pub fn start<R: Threads + Wait + Copy + Send + 'static>(
+    pub fn start<R: Threads + Wait + Clock + Copy + Send + 'static>(
         self,
         rt: R,
         alloc: Global,
@@ -122,46 +123,30 @@ impl TopBlock {
         ensures ok { IfOk result (λ r. r ≡ record { handed = handed_of (with_all_closed meaning_of self); asked = false; most = 1024 }) }
         ensures err { IfErr result (GivesBack meaning_of ⟦<Kind as PartialEq>⟧.eq (handed_of (with_all_closed meaning_of self))) }
     {
-        self.start_turns(rt, alloc, Turns::default())
+        self.start_with(rt, alloc, RunOptions::per_block(None))
     }
 
-    /// As `start`, with turns of another length.
-    pub fn start_turns<R: Threads + Wait + Copy + Send + 'static>(
-        self,
-        rt: R,
-        alloc: Global,
-        turns: Turns,
-    ) -> Result<Running<Kind, Open>, RunFault<Kind>>
-        ensures ok { IfOk result (λ r. r ≡ record { handed = handed_of (with_all_closed meaning_of self); asked = false; most = turns.most }) }
-        ensures err { IfErr result (GivesBack meaning_of ⟦<Kind as PartialEq>⟧.eq (handed_of (with_all_closed meaning_of self))) }
-    {
-        let TopBlock { mut plant } = self;
-        close_all(&mut plant);
-        launch_open(rt, alloc, plant, turns)
-    }
-
-    /// As `start_turns`, with a gate.
+    /// Closes each source that is open, starts a run as these options say, and returns. Fails as `start` does.
     pub fn start_with<
         G: Gate + Drop + Send + Sync + 'static,
-        R: Threads + Wait + Copy + Send + 'static,
+        R: Threads + Wait + Clock + Copy + Send + 'static,
     >(
         self,
         rt: R,
         alloc: Global,
-        gate: Arc<G, Global>,
-        turns: Turns,
+        options: RunOptions<G>,
     ) -> Result<Running<Kind, G>, RunFault<Kind>>
-        ensures ok { IfOk result (λ r. r ≡ record { handed = handed_of (with_all_closed meaning_of self); asked = false; most = turns.most }) }
+        ensures ok { IfOk result (λ r. r ≡ record { handed = handed_of (with_all_closed meaning_of self); asked = false; most = options.turns.most }) }
         ensures err { IfErr result (GivesBack meaning_of ⟦<Kind as PartialEq>⟧.eq (handed_of (with_all_closed meaning_of self))) }
     {
         let TopBlock { mut plant } = self;
         close_all(&mut plant);
-        launch_with(rt, alloc, plant, gate, turns)
+        launch_with(rt, alloc, plant, options)
     }
 
-    /// Closes each source that is open, runs the plant in threads, and waits for its end, which is never `Stopped`. Fails as `start` and
-    /// `Running::wait` do.
-    pub fn run<R: Threads + Wait + Copy + Send + 'static>(
+    /// Closes each source that is open, runs the plant in threads, one for each block, and waits for its end, which is never `Stopped`. Fails as `start`
+    /// and `Running::wait` do.
+    pub fn run<R: Threads + Wait + Clock + Copy + Send + 'static>(
         self,
         rt: R,
         alloc: Global,
@@ -169,70 +154,16 @@ impl TopBlock {
         ensures ok { IfOk result (RunEndsIn meaning_of ⟦<Kind as PartialEq>⟧.eq (handed_of (with_all_closed meaning_of self)) false) }
         ensures err { IfErr result (GivesBack meaning_of ⟦<Kind as PartialEq>⟧.eq (handed_of (with_all_closed meaning_of self))) }
     {
-        match self.start(rt, alloc) {
-            Ok(running) => running.wait(&rt),
-            Err(fault) => Err(fault),
-        }
+        let options: RunOptions<Open> = RunOptions::per_block(None);
+        self.run_with(rt, alloc, options, &mut Unwatched)
     }
 
-    /// As `run`, with a gate and turns of any length. It answers `Outcome::Done` where all blocks came to their end, as they do in each graph of
-    /// balanced rates, and `Stalled` where none can act before that. It fails with `RunFault::Memory` where memory ran out, before the run or for a
-    /// claim, and with `RunFault::Thread` where a thread could not be started; both return the plant with its sources closed. `RunFault::Foreign`
-    /// should never come.
+    /// Closes each source that is open, runs the plant as these options say, and waits for its end, which is never `Stopped`. It answers `Outcome::Done`
+    /// where all blocks came to their end, as they do in each graph of balanced rates, and `Stalled` where none can act before that. It calls `watch.show`
+    /// after each pause, where the run is on one thread now and then, and `watch.end` as it is over. It fails with `RunFault::Memory` where memory ran
+    /// out, before the run or for a claim, and with `RunFault::Thread` where each block has a thread and one could not be started; both return the plant
+    /// with its sources closed. `RunFault::Foreign` should never come.
     pub fn run_with<
-        G: Gate + Drop + Send + Sync + 'static,
-        R: Threads + Wait + Copy + Send + 'static,
-    >(
-        self,
-        rt: R,
-        alloc: Global,
-        gate: Arc<G, Global>,
-        turns: Turns,
-    ) -> Result<Outcome<Kind>, RunFault<Kind>>
-        ensures ok { IfOk result (RunEndsIn meaning_of ⟦<Kind as PartialEq>⟧.eq (handed_of (with_all_closed meaning_of self)) false) }
-        ensures err { IfErr result (GivesBack meaning_of ⟦<Kind as PartialEq>⟧.eq (handed_of (with_all_closed meaning_of self))) }
-    {
-        let TopBlock { mut plant } = self;
-        close_all(&mut plant);
-        run_with(rt, alloc, plant, gate, turns)
-    }
-
-    /// Closes each source that is open, runs the plant in as many threads as its work is worth, and waits for its end, which is never `Stopped`: on
-    /// this thread alone, as `Plant::settle`, while the work is cheap, and in up to one thread a processor where it pays. The work of a block must
-    /// not wait for that of another. Fails with `RunFault::Memory`, which returns the plant with its sources closed; `RunFault::Foreign` should never
-    /// come.
-    pub fn run_adaptive<R: Threads + Wait + Clock + Copy + Send + 'static>(
-        self,
-        rt: R,
-        alloc: Global,
-        turns: Turns,
-    ) -> Result<Outcome<Kind>, RunFault<Kind>>
-        ensures ok { IfOk result (RunEndsIn meaning_of ⟦<Kind as PartialEq>⟧.eq (handed_of (with_all_closed meaning_of self)) false) }
-        ensures err { IfErr result (GivesBack meaning_of ⟦<Kind as PartialEq>⟧.eq (handed_of (with_all_closed meaning_of self))) }
-        ensures told { IfErr result (IsSo true false) }
-    {
-        self.run_adaptive_watched(rt, alloc, turns, &mut Unwatched)
-    }
-
-    /// As `run_adaptive`; it calls `watch.show` where a pause is over, now and then while the run is on one thread, and `watch.end` as it is over.
-    pub fn run_adaptive_watched<R: Threads + Wait + Clock + Copy + Send + 'static, W: Watch>(
-        self,
-        rt: R,
-        alloc: Global,
-        turns: Turns,
-        watch: &mut W,
-    ) -> Result<Outcome<Kind>, RunFault<Kind>>
-        ensures ok { IfOk result (RunEndsIn meaning_of ⟦<Kind as PartialEq>⟧.eq (handed_of (with_all_closed meaning_of self)) false) }
-        ensures err { IfErr result (GivesBack meaning_of ⟦<Kind as PartialEq>⟧.eq (handed_of (with_all_closed meaning_of self))) }
-        ensures told { IfErr result (IsSo true false) }
-    {
-        let TopBlock { mut plant } = self;
-        close_all(&mut plant);
-        run_adaptive_open(rt, alloc, plant, turns, watch)
-    }
-
-    /// As `run_adaptive_watched`, with a gate, which is told of the steps on this thread too.
-    pub fn run_adaptive_with<
         G: Gate + Drop + Send + Sync + 'static,
         R: Threads + Wait + Clock + Copy + Send + 'static,
         W: Watch,
@@ -240,17 +171,16 @@ impl TopBlock {
         self,
         rt: R,
         alloc: Global,
-        gate: Arc<G, Global>,
-        turns: Turns,
+        options: RunOptions<G>,
         watch: &mut W,
     ) -> Result<Outcome<Kind>, RunFault<Kind>>
         ensures ok { IfOk result (RunEndsIn meaning_of ⟦<Kind as PartialEq>⟧.eq (handed_of (with_all_closed meaning_of self)) false) }
         ensures err { IfErr result (GivesBack meaning_of ⟦<Kind as PartialEq>⟧.eq (handed_of (with_all_closed meaning_of self))) }
-        ensures told { IfErr result (IsSo true false) }
+        ensures told { options.threading ≡ Adaptive → IfErr result (IsSo true false) }
     {
         let TopBlock { mut plant } = self;
         close_all(&mut plant);
-        run_adaptive_watched(rt, alloc, plant, gate, turns, watch)
+        run_with(rt, alloc, plant, options, watch)
     }
 
     /// Starts a worker for each block and a thread for each of at most 16 callers, and waits until all callers have returned and the plant has come
@@ -261,7 +191,7 @@ impl TopBlock {
     pub fn start_live<
         G: Gate + Drop + Send + Sync,
         C: Caller<Kind> + Drop + Send,
-        R: Threads + Wait + Sync,
+        R: Threads + Wait + Clock + Sync,
     >(
         self,
         rt: &R,
@@ -278,40 +208,19 @@ impl TopBlock {
         ensures turns { IfOk result (λ f. f.turns.most ≡ 1024) }
         ensures err { IfErr result (GivesBackLive meaning_of ⟦<Kind as PartialEq>⟧.eq (opening_of self)) }
     {
-        self.start_live_watched(rt, alloc, gate, callers, Turns::default(), &mut Unwatched)
+        self.start_live_with(
+            rt,
+            alloc,
+            callers,
+            RunOptions::per_block(Some(gate)),
+            &mut Unwatched,
+        )
     }
 
-    /// As `start_live`, with turns of another length. Once all callers have returned, it calls `watch.show` after each pause, and then `watch.end`.
-    pub fn start_live_watched<
-        G: Gate + Drop + Send + Sync,
-        C: Caller<Kind> + Drop + Send,
-        R: Threads + Wait + Sync,
-        W: Watch,
-    >(
-        self,
-        rt: &R,
-        alloc: Global,
-        gate: Arc<G, Global>,
-        callers: Vec<C>,
-        turns: Turns,
-        watch: &mut W,
-    ) -> Result<Finished<Kind, C>, RunFault<Kind>>
-        requires { vec_len callers ≤ 16 }
-        ensures ends { IfOk result (λ f. LiveRunEndsIn meaning_of ⟦<Kind as PartialEq>⟧.eq (opening_of self) (map noted_by f.history.items) f.outcome) }
-        ensures logs { IfOk result (λ f. AreLogs (map (λ l. map noted_by l.items) f.logs.items) (map noted_by f.history.items)) }
-        ensures callers { IfOk result (λ f. vec_len f.callers ≡ vec_len callers) }
-        ensures logged { IfOk result (λ f. vec_len f.logs ≡ vec_len callers) }
-        ensures ran { IfOk result (λ f. HaveReturned C.ran self.graph callers.items f.callers.items (map (λ l. map noted_by l.items) f.logs.items)) }
-        ensures turns { IfOk result (λ f. f.turns ≡ turns) }
-        ensures err { IfErr result (GivesBackLive meaning_of ⟦<Kind as PartialEq>⟧.eq (opening_of self)) }
-    {
-        let TopBlock { plant } = self;
-        live_watched(rt, alloc, plant, gate, callers, turns, watch)
-    }
-
-    /// As `start_live`, but in as many threads as the work is worth: this one alone while it is cheap, and up to one a processor where it pays, beside
-    /// those of the callers. The work of a block must not wait for that of another. `watch` is shown how far the run is as by `start_live_watched`.
-    pub fn start_live_adaptive<
+    /// As `start_live`, but as these options say: with a worker for each block, or in as many threads as the work is worth, this one alone while it is
+    /// cheap, and up to one a processor where it pays, beside those of the callers. Once all callers have returned, it calls `watch.show` after each
+    /// pause, and then `watch.end`.
+    pub fn start_live_with<
         G: Gate + Drop + Send + Sync,
         C: Caller<Kind> + Drop + Send,
         R: Threads + Wait + Clock + Sync,
@@ -320,9 +229,8 @@ impl TopBlock {
         self,
         rt: &R,
         alloc: Global,
-        gate: Arc<G, Global>,
         callers: Vec<C>,
-        turns: Turns,
+        options: RunOptions<G>,
         watch: &mut W,
     ) -> Result<Finished<Kind, C>, RunFault<Kind>>
         requires { vec_len callers ≤ 16 }
@@ -331,10 +239,10 @@ impl TopBlock {
         ensures callers { IfOk result (λ f. vec_len f.callers ≡ vec_len callers) }
         ensures logged { IfOk result (λ f. vec_len f.logs ≡ vec_len callers) }
         ensures ran { IfOk result (λ f. HaveReturned C.ran self.graph callers.items f.callers.items (map (λ l. map noted_by l.items) f.logs.items)) }
-        ensures turns { IfOk result (λ f. f.turns ≡ turns) }
+        ensures turns { IfOk result (λ f. f.turns ≡ options.turns) }
         ensures err { IfErr result (GivesBackLive meaning_of ⟦<Kind as PartialEq>⟧.eq (opening_of self)) }
     {
         let TopBlock { plant } = self;
-        live_adaptive(rt, alloc, plant, gate, callers, turns, watch)
+        live_with(rt, alloc, plant, callers, options, watch)
     }
 }

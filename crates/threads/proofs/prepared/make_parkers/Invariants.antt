@@ -1,5 +1,5 @@
 use Rattle.std.proofs.Common.{◌≡◌, ◌≤◌, vec_len, vec_capacity}
-use Rattle.threads.proofs.launching.make_parkers.Given as goal
+use Rattle.threads.proofs.prepared.make_parkers.Given as goal
 
 abbrev pub invariant-loop-parker : goal.invariant-loop-parker
 invariant-loop-parker l = record {

@@ -1,6 +1,6 @@
 use Rattle.std.proofs.Common.{[], refl}
 use Rattle.threads.proofs.Agreeing.{graph_self}
-use Rattle.threads.proofs.calling.out_of_memory.Goals as goal
+use Rattle.threads.proofs.live_rooms.out_of_memory.Goals as goal
 
 pub returns-clause-back : goal.returns-clause-back
 returns-clause-back g c = (

@@ -1,6 +1,6 @@
 use Rattle.std.proofs.Common.{refl}
 use Rattle.threads.proofs.Agreeing.{graph_self}
-use Rattle.threads.proofs.launching.out_of_memory.Goals as goal
+use Rattle.threads.proofs.prepared.out_of_memory.Goals as goal
 
 pub returns-clause-back : goal.returns-clause-back
 returns-clause-back g c = record {

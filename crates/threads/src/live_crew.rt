@@ -1,0 +1,99 @@
+//! The threads of a run with callers: those that act for the blocks, and one for each caller.
+
+ghost use Rattle.std.specs.Prelude.{◌≡◌, ◌≤◌, map, IfSome, vec_len};
+ghost use Rattle.threads.specs.Desks.{IsEmpty};
+ghost use Rattle.threads.specs.History.{noted_by};
+ghost use Rattle.threads.specs.Live.{HaveReturned};
+
+use crate::desk::Caller;
+use crate::desks::{Returned, Room, at_desks, return_callers, seated};
+use crate::gate::Gate;
+use crate::pool_threads::lead_in_scope;
+use crate::shared::Shared;
+use crate::worker::work;
+use flowgraph::{Block, BlockId, Valid};
+use plant::Watch;
+use std::alloc::Global;
+use std::sync::Wait;
+use std::thread::{Scope, Threads};
+use std::time::Clock;
+
+/// Starts a worker for each block and a thread for each caller, and waits for the callers. Where a thread cannot be started the workers leave.
+pub fn run_workers<
+    's,
+    'r: 's,
+    'h: 's,
+    E,
+    B: Block + Send + Sync + 's + 'h,
+    G: Gate + Drop + Send + Sync + 's + 'h,
+    C: Caller<B> + Drop + Send + 's,
+    R: Threads + Wait + Sync + 's + 'r,
+>(
+    rt: &'r R,
+    alloc: Global,
+    scope: &Scope<'s, E>,
+    shared: &'h Shared<B, G>,
+    graph: &'h Valid<B>,
+    callers: Vec<C>,
+    room: Room<B, C>,
+) -> Option<Returned<C>>
+where
+    B::Places: Send + Sync,
+    requires few { vec_len callers ≤ 16 }
+    requires empty { IsEmpty room }
+    ensures ran { IfSome result (λ came. HaveReturned C.ran graph.now callers.items came.callers.items (map (λ l. map noted_by l.items) came.logs.items)) }
+    ensures callers { IfSome result (λ came. vec_len came.callers ≡ vec_len callers) }
+    ensures logs { IfSome result (λ came. vec_len came.logs ≡ vec_len callers) }
+{
+    for (block, _parker) in (0..u32::MAX).zip(&shared.parkers) {
+        let block = BlockId(block);
+        if scope.spawn(move || work(rt, alloc, shared, block)).is_err() {
+            shared.end(rt);
+            return None;
+        }
+    }
+    let came = at_desks(rt, alloc, scope, shared, graph, callers, room);
+    if came.is_none() {
+        shared.end(rt);
+    }
+    came
+}
+
+/// Starts a thread for each caller, acts for the blocks until the run ends, and waits for the callers.
+pub fn run_pool<
+    's,
+    'r: 's,
+    'h: 's,
+    E,
+    B: Block + Send + Sync + 's + 'h,
+    G: Gate + Drop + Send + Sync + 's + 'h,
+    C: Caller<B> + Drop + Send + 's,
+    R: Threads + Wait + Clock + Sync + 's + 'r,
+    W: Watch,
+>(
+    rt: &'r R,
+    alloc: Global,
+    scope: &Scope<'s, E>,
+    shared: &'h Shared<B, G>,
+    graph: &'h Valid<B>,
+    callers: Vec<C>,
+    room: Room<B, C>,
+    watch: &mut W,
+) -> Option<Returned<C>>
+where
+    B::Places: Send + Sync,
+    requires few { vec_len callers ≤ 16 }
+    requires empty { IsEmpty room }
+    ensures ran { IfSome result (λ came. HaveReturned C.ran graph.now callers.items came.callers.items (map (λ l. map noted_by l.items) came.logs.items)) }
+    ensures callers { IfSome result (λ came. vec_len came.callers ≡ vec_len callers) }
+    ensures logs { IfSome result (λ came. vec_len came.logs ≡ vec_len callers) }
+{
+    let Room {
+        callers: back,
+        logs,
+        desks,
+    } = room;
+    let desks = seated(rt, alloc, scope, shared, graph, callers, desks)?;
+    lead_in_scope(rt, alloc, scope, shared, watch);
+    return_callers(rt, desks, back, logs)
+}

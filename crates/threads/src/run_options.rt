@@ -1,0 +1,70 @@
+//! What may be chosen of a run in threads.
+
+ghost use Rattle.std.specs.Prelude.{◌≡◌, None};
+ghost use Rattle.threads.specs.declared.run_options.Threading.TheVariants as threading;
+
+use crate::gate::{Gate, Open};
+use crate::turns::Turns;
+use std::alloc::Global;
+use std::sync::Arc;
+
+/// In how many threads the blocks of a run work. What the sinks hold does not depend on it.
+#[derive(Clone, Copy, Debug, PartialEq, Eq)]
+pub enum Threading {
+    /// In as many as their work is worth: on one, which steps all blocks in their order as `Plant::settle` does, and, once the work of several blocks
+    /// is found to be worth it, in up to one a processor. The gate is passed before work that another thread could do, and not by steps on one
+    /// thread, of which it is told. The work of a block must not wait for that of another.
+    Adaptive,
+    /// In one for each block. The gate is passed before each work.
+    PerBlock,
+}
+
+/// What may be chosen of a run.
+#[derive(Drop)]
+pub struct RunOptions<G: Gate + Drop> {
+    /// In how many threads the blocks work.
+    pub threading: Threading,
+    /// How many firings are claimed at most in one turn.
+    pub turns: Turns,
+    /// The gate that threads pass, where there is one.
+    pub gate: Option<Arc<G, Global>>,
+}
+
+impl RunOptions<Open> {
+    /// Such threads and turns, and no gate.
+    pub fn new(threading: Threading, turns: Turns) -> RunOptions<Open>
+        ensures { result ≡ record { threading = threading; turns = turns; gate = None } }
+    {
+        RunOptions {
+            threading,
+            turns,
+            gate: None,
+        }
+    }
+}
+
+impl<G: Gate + Drop> RunOptions<G> {
+    /// What `launch`, `run` and the top block's `start` and `run` choose: a thread for each block, turns of at most 1,024 firings, and such a gate.
+    pub fn per_block(gate: Option<Arc<G, Global>>) -> RunOptions<G>
+        ensures threading { result.threading ≡ threading.PerBlock }
+        ensures turns { result.turns.most ≡ 1024 }
+        ensures gate { result.gate ≡ gate }
+    {
+        RunOptions {
+            threading: Threading::PerBlock,
+            turns: Turns::default(),
+            gate,
+        }
+    }
+}
+
+impl Default for RunOptions<Open> {
+    /// As many threads as the work is worth, turns of at most 1,024 firings, and no gate.
+    fn default() -> RunOptions<Open>
+        ensures threading { result.threading ≡ threading.Adaptive }
+        ensures turns { result.turns.most ≡ 1024 }
+        ensures gate { result.gate ≡ None }
+    {
+        RunOptions::new(Threading::Adaptive, Turns::default())
+    }
+}
