@@ -18,8 +18,24 @@ unproved_runs_pass_all_on() {
     writes output "words: run -q -- FILE" "$(cat "$elsewhere/a graph.toml")" "input: "
     calls 0 ./flow_by_link run "a graph.toml" -q <"$room/given"
     writes output "words: run -q FILE" "$(cat "$elsewhere/a graph.toml")" "input: "
+    calls 0 ./flow_by_link run --one-thread "a graph.toml" --big-endian <"$room/given"
+    writes output "words: run --one-thread --big-endian FILE" "$(cat "$elsewhere/a graph.toml")" "input: "
+    calls 0 ./flow_by_link run --thread-per-block "a graph.toml" --stats <"$room/given"
+    writes output "words: run --thread-per-block --stats FILE" "$(cat "$elsewhere/a graph.toml")" "input: "
+    calls 0 ./flow_by_link run --stats=json "a graph.toml" <"$room/given"
+    writes output "words: run --stats=json FILE" "$(cat "$elsewhere/a graph.toml")" "input: "
     calls 0 ./flow_by_link --help "a b" <"$room/given"
     writes output "words: --help a b" "input: "
+}
+
+# What a run unproved would look for below its own folder is refused before it begins.
+files_beside_are_refused() {
+    local word
+    for word in -i --input=src=a -o --output=out=b --marks --tags=out=c --trace; do
+        calls 125 ./flow_by_link run "$word" src=a "a graph.toml"
+        writes errors "$beside"
+        writes output
+    done
 }
 
 failures_pass_on() {

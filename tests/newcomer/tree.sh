@@ -7,6 +7,7 @@ elsewhere=$room/elsewhere
 own=$tree/crates/$program_crate
 built=$tree${program#"$top"}
 unproved="flow: not built from these sources yet: running it unproved, which compiles it each time; ./build proves and builds it once, in some $build_minutes minutes"
+beside="flow: files of raw items and traces are for the built program alone: ./build proves and builds it once, in some $build_minutes minutes"
 lacks="there is no rt in PATH: it is the command of the Rattle toolchain, which proves and compiles this repository"
 
 # wrong SAYING: ends the part, since each case goes on from where the one before it left off

@@ -9,6 +9,7 @@ source "$(dirname -- "$(readlink -f -- "${BASH_SOURCE[0]}")")/../part.sh"
 
 cases=(
     unproved_runs_pass_all_on
+    files_beside_are_refused
     failures_pass_on
     limits_are_told
     places_are_shown
