@@ -2,6 +2,7 @@
 //! side, that blocks change sides, and that a stop is seen.
 use super::drawn::{Drawing, Make, SINK, TURNED, TWO_TURNED, fed, feed, kind, opened};
 use super::gates::Counts;
+use super::helpers::alone;
 use super::probes::{Habit, Probe, Spinner};
 use super::runs::{
     End, Host, ended, ended_as, holds_turned, same_sinks, settled, share, shared, split,
@@ -122,7 +123,7 @@ fn dear_work_is_done_side_by_side(rt: HostRuntime) -> Result<(), Fail> {
             }
             Err(fault) => panic!(rt; "not run: {fault}"),
         }
-        if 0 < gate.met.load(Ordering::SeqCst) {
+        if 0 < gate.met.load(Ordering::SeqCst) || alone(&rt) {
             return Ok(());
         }
     }

@@ -133,8 +133,8 @@ fn drawn_graphs_give_the_same_with_helpers(rt: HostRuntime) -> Result<(), Fail> 
     Ok(())
 }
 
-// Whether there is no processor but the caller's.
-fn alone(rt: &impl Threads) -> bool {
+/// Whether there is no processor but the caller's.
+pub fn alone(rt: &impl Threads) -> bool {
     match thread::available_parallelism(rt) {
         Ok(count) => count.get() < 2,
         Err(_) => true,
