@@ -101,7 +101,7 @@ where
     ensures told { IfErr result (IsSo true false) }
 {
     let RunOptions { turns, gate, .. } = options;
-    match prepare(alloc, plant, gate, turns, Crew::Pool(turns, heavy)) {
+    match prepare(alloc, plant, gate, turns, Crew::Pool(heavy)) {
         Ok(running) => {
             lead(rt, alloc, &running.shared, watch);
             running.wait(&rt)

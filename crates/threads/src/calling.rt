@@ -15,7 +15,7 @@ use crate::engine::Engine;
 use crate::entry::Entry;
 use crate::fault::RunFault;
 use crate::gate::Gate;
-use crate::live_crew::{run_pool, run_workers};
+use crate::live_crew::run_all;
 use crate::live_rooms::{LiveRooms, prepare};
 use crate::locked::Locked;
 use crate::logs::are_logs;
@@ -117,8 +117,8 @@ where
         turns,
         gate,
     } = options;
-    let crew = Crew::new(threading, turns);
-    let (locked, rooms) = prepare(alloc, plant, callers.len(), crew)?;
+    let crew = Crew::new(threading);
+    let (locked, rooms) = prepare(alloc, plant, callers.len(), turns, crew)?;
     let LiveRooms {
         opening,
         graph,
@@ -164,18 +164,17 @@ where
             ensures ran { IfSome result (λ came. HaveReturned C.ran graph.entry.now callers.items came.callers.items (map (λ l. map noted_by l.items) came.logs.items)) }
             ensures many { IfSome result (λ came. (vec_len came.callers ≡ vec_len callers) × (vec_len came.logs ≡ vec_len callers)) }
         {
-            match threading {
-                Threading::PerBlock => {
-                    let came = run_workers(rt, alloc, scope, shared, graph, callers, room);
-                    shared.show(rt, watch);
-                    came
-                }
-                Threading::Adaptive => {
-                    let came = run_pool(rt, alloc, scope, shared, graph, callers, room, watch);
-                    watch.end();
-                    came
-                }
+            let came = run_all(
+                rt, alloc, scope, shared, graph, callers, room, threading, watch,
+            );
+            if came.is_none() {
+                shared.end(rt);
             }
+            match threading {
+                Threading::PerBlock => shared.show(rt, watch),
+                Threading::Adaptive => watch.end(),
+            }
+            came
         },
     )
 }

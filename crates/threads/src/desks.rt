@@ -4,7 +4,6 @@ ghost use Rattle.std.specs.Prelude.{◌≡◌, ◌≤◌, map, vec_len, IfOk, If
 ghost use Rattle.threads.specs.Desk.{opened_at};
 ghost use Rattle.threads.specs.Desks.{AreSeated, HaveKept, IsEmpty};
 ghost use Rattle.threads.specs.History.{noted_by};
-ghost use Rattle.threads.specs.Live.{HaveReturned};
 
 use crate::desk::{Caller, Desk};
 use crate::entry::Entry;
@@ -61,43 +60,7 @@ impl<B: Block, C: Caller<B> + Drop + Send> Room<B, C> {
     }
 }
 
-/// Starts a thread for each caller, and waits for all of them. `None` where a thread cannot be started; then those that are there go on.
-pub fn at_desks<
-    's,
-    'r: 's,
-    'h: 's,
-    E,
-    B: Block + Send + Sync + 's + 'h,
-    G: Gate + Drop + Send + Sync + 's + 'h,
-    C: Caller<B> + Drop + Send + 's,
-    R: Threads + Wait + Sync + 's + 'r,
->(
-    rt: &'r R,
-    alloc: Global,
-    scope: &Scope<'s, E>,
-    shared: &'h Shared<B, G>,
-    graph: &'h Valid<B>,
-    callers: Vec<C>,
-    room: Room<B, C>,
-) -> Option<Returned<C>>
-where
-    B::Places: Send + Sync,
-    requires few { vec_len callers ≤ 16 }
-    requires empty { IsEmpty room }
-    ensures ran { IfSome result (λ came. HaveReturned C.ran graph.now callers.items came.callers.items (map (λ l. map noted_by l.items) came.logs.items)) }
-    ensures callers { IfSome result (λ came. vec_len came.callers ≡ vec_len callers) }
-    ensures logs { IfSome result (λ came. vec_len came.logs ≡ vec_len callers) }
-{
-    let Room {
-        callers: back,
-        logs,
-        desks,
-    } = room;
-    let desks = seated(rt, alloc, scope, shared, graph, callers, desks)?;
-    return_callers(rt, desks, back, logs)
-}
-
-/// Starts a thread for each caller.
+/// Starts a thread for each caller. `None` where one cannot be started; those that are there go on.
 pub fn seated<
     's,
     'r: 's,

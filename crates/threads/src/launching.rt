@@ -62,40 +62,18 @@ where
         turns,
         gate,
     } = options;
-    let running = prepare(alloc, plant, gate, turns, Crew::new(threading, turns))?;
-    match threading {
-        Threading::PerBlock => start_workers(rt, alloc, running),
-        Threading::Adaptive => start_first(rt, alloc, running),
-    }
-}
-
-// Starts a worker for each block. Where one cannot be started, those that are there leave again.
-fn start_workers<
-    B: Block + Send + Sync + 'static,
-    G: Gate + Drop + Send + Sync + 'static,
-    R: Threads + Wait + Copy + Send + 'static,
->(rt: R, alloc: Global, running: Running<B, G>) -> Result<Running<B, G>, RunFault<B>>
-where
-    B::Places: Send + Sync + 'static,
-    ensures ok { IfOk result (λ r. r ≡ running) }
-    ensures err { IfErr result (GivesBack B.meaning B.eq running.handed) }
-    ensures thread { IfErr result (IsSo false true) }
-{
     let Running {
         shared,
         mut workers,
         handed,
         asked,
-    } = running;
-    for (block, _parker) in (0..u32::MAX).zip(&shared.parkers) {
-        match start_worker(rt, alloc, &shared, BlockId(block)) {
-            Some(worker) => {
-                if workers.push(worker).is_err() {
-                    return Err(called_back(rt, shared, workers, &handed));
-                }
-            }
-            None => return Err(called_back(rt, shared, workers, &handed)),
-        }
+    } = prepare(alloc, plant, gate, turns, Crew::new(threading))?;
+    let started = match threading {
+        Threading::PerBlock => start_workers(rt, alloc, &shared, &mut workers),
+        Threading::Adaptive => start_first(rt, alloc, &shared, &mut workers),
+    };
+    if started.is_none() {
+        return Err(called_back(rt, shared, workers, &handed));
     }
     Ok(Running {
         shared,
@@ -103,6 +81,27 @@ where
         handed,
         asked,
     })
+}
+
+// Starts a worker for each block, as far as threads can be started.
+fn start_workers<
+    B: Block + Send + Sync + 'static,
+    G: Gate + Drop + Send + Sync + 'static,
+    R: Threads + Wait + Copy + Send + 'static,
+>(
+    rt: R,
+    alloc: Global,
+    shared: &Arc<Shared<B, G>, Global>,
+    workers: &mut Vec<JoinHandle<()>>,
+) -> Option<()>
+where
+    B::Places: Send + Sync + 'static,
+{
+    for (block, _parker) in (0..u32::MAX).zip(&shared.parkers) {
+        let worker = start_worker(rt, alloc, shared, BlockId(block))?;
+        workers.push(worker).ok()?;
+    }
+    Some(())
 }
 
 // A worker's thread.
@@ -128,45 +127,18 @@ fn start_first<
     B: Block + Send + Sync + 'static,
     G: Gate + Drop + Send + Sync + 'static,
     R: Threads + Wait + Clock + Copy + Send + 'static,
->(rt: R, alloc: Global, running: Running<B, G>) -> Result<Running<B, G>, RunFault<B>>
-where
-    B::Places: Send + Sync + 'static,
-    ensures ok { IfOk result (λ r. r ≡ running) }
-    ensures err { IfErr result (GivesBack B.meaning B.eq running.handed) }
-    ensures thread { IfErr result (IsSo false true) }
-{
-    let Running {
-        shared,
-        mut workers,
-        handed,
-        asked,
-    } = running;
-    match start_leader(rt, alloc, &shared) {
-        Some(first) => {
-            if workers.push(first).is_err() {
-                return Err(called_back(rt, shared, workers, &handed));
-            }
-        }
-        None => return Err(called_back(rt, shared, workers, &handed)),
-    }
-    Ok(Running {
-        shared,
-        workers,
-        handed,
-        asked,
-    })
-}
-
-fn start_leader<
-    B: Block + Send + Sync + 'static,
-    G: Gate + Drop + Send + Sync + 'static,
-    R: Threads + Wait + Clock + Copy + Send + 'static,
->(rt: R, alloc: Global, shared: &Arc<Shared<B, G>, Global>) -> Option<JoinHandle<()>>
+>(
+    rt: R,
+    alloc: Global,
+    shared: &Arc<Shared<B, G>, Global>,
+    workers: &mut Vec<JoinHandle<()>>,
+) -> Option<()>
 where
     B::Places: Send + Sync + 'static,
 {
-    let shared = Arc::try_clone(shared).ok()?;
-    thread::spawn(&rt, move || lead(rt, alloc, &shared, &mut Unwatched)).ok()
+    let first = Arc::try_clone(shared).ok()?;
+    let leader = thread::spawn(&rt, move || lead(rt, alloc, &first, &mut Unwatched));
+    workers.push(leader.ok()?).ok()
 }
 
 // Has the workers that were started leave, and gives the plant back.

@@ -6,9 +6,10 @@ ghost use Rattle.threads.specs.History.{noted_by};
 ghost use Rattle.threads.specs.Live.{HaveReturned};
 
 use crate::desk::Caller;
-use crate::desks::{Returned, Room, at_desks, return_callers, seated};
+use crate::desks::{Returned, Room, return_callers, seated};
 use crate::gate::Gate;
 use crate::pool_threads::lead_in_scope;
+use crate::run_options::Threading;
 use crate::shared::Shared;
 use crate::worker::work;
 use flowgraph::{Block, BlockId, Valid};
@@ -18,49 +19,9 @@ use std::sync::Wait;
 use std::thread::{Scope, Threads};
 use std::time::Clock;
 
-/// Starts a worker for each block and a thread for each caller, and waits for the callers. Where a thread cannot be started the workers leave.
-pub fn run_workers<
-    's,
-    'r: 's,
-    'h: 's,
-    E,
-    B: Block + Send + Sync + 's + 'h,
-    G: Gate + Drop + Send + Sync + 's + 'h,
-    C: Caller<B> + Drop + Send + 's,
-    R: Threads + Wait + Sync + 's + 'r,
->(
-    rt: &'r R,
-    alloc: Global,
-    scope: &Scope<'s, E>,
-    shared: &'h Shared<B, G>,
-    graph: &'h Valid<B>,
-    callers: Vec<C>,
-    room: Room<B, C>,
-) -> Option<Returned<C>>
-where
-    B::Places: Send + Sync,
-    requires few { vec_len callers ≤ 16 }
-    requires empty { IsEmpty room }
-    ensures ran { IfSome result (λ came. HaveReturned C.ran graph.now callers.items came.callers.items (map (λ l. map noted_by l.items) came.logs.items)) }
-    ensures callers { IfSome result (λ came. vec_len came.callers ≡ vec_len callers) }
-    ensures logs { IfSome result (λ came. vec_len came.logs ≡ vec_len callers) }
-{
-    for (block, _parker) in (0..u32::MAX).zip(&shared.parkers) {
-        let block = BlockId(block);
-        if scope.spawn(move || work(rt, alloc, shared, block)).is_err() {
-            shared.end(rt);
-            return None;
-        }
-    }
-    let came = at_desks(rt, alloc, scope, shared, graph, callers, room);
-    if came.is_none() {
-        shared.end(rt);
-    }
-    came
-}
-
-/// Starts a thread for each caller, acts for the blocks until the run ends, and waits for the callers.
-pub fn run_pool<
+/// Starts a thread for each caller and has the blocks' work done: by a worker for each, or by a pool that this thread leads until the run ends. Then
+/// it waits for the callers. `None` where a thread cannot be started; those that are there go on.
+pub fn run_all<
     's,
     'r: 's,
     'h: 's,
@@ -78,6 +39,7 @@ pub fn run_pool<
     graph: &'h Valid<B>,
     callers: Vec<C>,
     room: Room<B, C>,
+    threading: Threading,
     watch: &mut W,
 ) -> Option<Returned<C>>
 where
@@ -93,7 +55,32 @@ where
         logs,
         desks,
     } = room;
+    if threading == Threading::PerBlock {
+        start_workers(rt, alloc, scope, shared)?;
+    }
     let desks = seated(rt, alloc, scope, shared, graph, callers, desks)?;
-    lead_in_scope(rt, alloc, scope, shared, watch);
+    if threading == Threading::Adaptive {
+        lead_in_scope(rt, alloc, scope, shared, watch);
+    }
     return_callers(rt, desks, back, logs)
+}
+
+// Starts a worker for each block.
+fn start_workers<
+    's,
+    'r: 's,
+    'h: 's,
+    E,
+    B: Block + Send + Sync + 's + 'h,
+    G: Gate + Drop + Send + Sync + 's + 'h,
+    R: Threads + Wait + Sync + 's + 'r,
+>(rt: &'r R, alloc: Global, scope: &Scope<'s, E>, shared: &'h Shared<B, G>) -> Option<()>
+where
+    B::Places: Send + Sync,
+{
+    for (block, _parker) in (0..u32::MAX).zip(&shared.parkers) {
+        let block = BlockId(block);
+        scope.spawn(move || work(rt, alloc, shared, block)).ok()?;
+    }
+    Some(())
 }

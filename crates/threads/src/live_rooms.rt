@@ -14,8 +14,9 @@ use crate::engine::Engine;
 use crate::fault::RunFault;
 use crate::locked::Locked;
 use crate::pool::Pool;
-use crate::prepared::make_parkers;
+use crate::prepared::{make_parkers, out_of_memory};
 use crate::recorded::Recorded;
+use crate::turns::Turns;
 use crate::waiting::Waiting;
 use flowgraph::{Block, Valid};
 use plant::{Opening, Plant};
@@ -37,6 +38,7 @@ pub fn prepare<B: Block, C: Caller<B> + Drop + Send>(
     alloc: Global,
     plant: Plant<B>,
     callers: usize,
+    turns: Turns,
     crew: Crew,
 ) -> Result<(Locked<B>, LiveRooms<B, C>), RunFault<B>>
     requires idle { is_idle plant.state ≡ true }
@@ -48,7 +50,7 @@ pub fn prepare<B: Block, C: Caller<B> + Drop + Send>(
 {
     match (
         rooms_of(alloc, &plant, callers),
-        locked_rooms_of(alloc, &plant, crew),
+        locked_rooms_of(alloc, &plant, turns, crew),
     ) {
         (Ok(rooms), Ok((opening, waiting, pool))) => Ok((
             Locked::new(
@@ -61,16 +63,6 @@ pub fn prepare<B: Block, C: Caller<B> + Drop + Send>(
         )),
         _ => Err(out_of_memory(plant)),
     }
-}
-
-// A plant that lacked the memory to run.
-fn out_of_memory<B: Block>(plant: Plant<B>) -> RunFault<B>
-    requires { is_idle plant.state ≡ true }
-    ensures back { GivesBackLive B.meaning B.eq (opening_of plant) result }
-    ensures memory { IsSo true false result }
-{
-    plant.recall();
-    RunFault::Memory(plant)
 }
 
 // What a run needs beside its lock.
@@ -95,11 +87,12 @@ fn rooms_of<B: Block, C: Caller<B> + Drop + Send>(
 fn locked_rooms_of<B: Block>(
     alloc: Global,
     plant: &Plant<B>,
+    turns: Turns,
     crew: Crew,
 ) -> Result<(Opening<B>, Waiting, Pool), AllocError>
     ensures { IfOk result (λ r. r.0 ≡ opening_of plant.now) }
 {
     let opening = plant.opening(alloc)?;
-    let (waiting, pool) = crew.waiting_and_pool(alloc, plant.graph())?;
+    let (waiting, pool) = crew.waiting_and_pool(alloc, plant.graph(), turns)?;
     Ok((opening, waiting, pool))
 }

@@ -2,6 +2,7 @@
 
 ghost use Rattle.std.specs.Prelude.{◌≡◌, true, false, IfOk, IfErr, IfSome};
 ghost use Rattle.stream_model.specs.Machine.{is_idle};
+ghost use Rattle.threads.specs.Live.{GivesBackLive, opening_of};
 ghost use Rattle.threads.specs.Outcomes.{HasReturned, GivesBack, IsSo, handed_of};
 
 use crate::crew::Crew;
@@ -38,7 +39,7 @@ pub fn prepare<B: Block, G: Gate + Drop>(
         handed,
         parkers,
         workers,
-    } = parts_of(alloc, plant, crew)?;
+    } = parts_of(alloc, plant, turns, crew)?;
     let shared = Shared::new(locked, parkers, gate, turns);
     match Arc::new(alloc, shared) {
         Ok(shared) => Ok(Running {
@@ -61,13 +62,18 @@ struct Parts<B: Block> {
 }
 
 // All that a run needs, and a record of what its plant was handed.
-fn parts_of<B: Block>(alloc: Global, plant: Plant<B>, crew: Crew) -> Result<Parts<B>, RunFault<B>>
+fn parts_of<B: Block>(
+    alloc: Global,
+    plant: Plant<B>,
+    turns: Turns,
+    crew: Crew,
+) -> Result<Parts<B>, RunFault<B>>
     requires { is_idle plant.state ≡ true }
     ensures ok { IfOk result (λ p. p.handed ≡ handed_of plant) }
     ensures err { IfErr result (GivesBack B.meaning B.eq (handed_of plant)) }
     ensures memory { IfErr result (IsSo true false) }
 {
-    match rooms_of(alloc, &plant, crew) {
+    match rooms_of(alloc, &plant, turns, crew) {
         Ok((handed, (waiting, pool), parkers, workers)) => Ok(Parts {
             locked: Locked::new(Engine::Plain(plant), waiting, pool, 0),
             handed,
@@ -81,13 +87,18 @@ fn parts_of<B: Block>(alloc: Global, plant: Plant<B>, crew: Crew) -> Result<Part
 // What a run needs beside its plant.
 type Rooms<B> = (Handed<B>, (Waiting, Pool), Vec<Parker>, Vec<JoinHandle<()>>);
 
-fn rooms_of<B: Block>(alloc: Global, plant: &Plant<B>, crew: Crew) -> Result<Rooms<B>, AllocError>
+fn rooms_of<B: Block>(
+    alloc: Global,
+    plant: &Plant<B>,
+    turns: Turns,
+    crew: Crew,
+) -> Result<Rooms<B>, AllocError>
     ensures { IfOk result (λ r. r.0 ≡ handed_of plant.now) }
 {
     let graph = plant.graph();
     Ok((
         plant.handed(alloc)?,
-        crew.waiting_and_pool(alloc, graph)?,
+        crew.waiting_and_pool(alloc, graph, turns)?,
         make_parkers(alloc, graph.len())?,
         Vec::with_capacity(alloc, graph.len())?,
     ))
@@ -107,6 +118,7 @@ pub fn make_parkers(alloc: Global, count: usize) -> Result<Vec<Parker>, AllocErr
 pub fn out_of_memory<B: Block>(plant: Plant<B>) -> RunFault<B>
     requires { is_idle plant.state ≡ true }
     ensures back { GivesBack B.meaning B.eq (handed_of plant) result }
+    ensures live { GivesBackLive B.meaning B.eq (opening_of plant) result }
     ensures memory { IsSo true false result }
 {
     plant.recall();

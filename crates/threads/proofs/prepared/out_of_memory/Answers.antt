@@ -1,4 +1,4 @@
-use Rattle.std.proofs.Common.{refl}
+use Rattle.std.proofs.Common.{[], refl}
 use Rattle.threads.proofs.Agreeing.{graph_self}
 use Rattle.threads.proofs.prepared.out_of_memory.Goals as goal
 
@@ -10,3 +10,15 @@ returns-clause-back g c = record {
   handed = refl;
   idle = c.requires;
 }
+
+pub returns-clause-live : goal.returns-clause-live
+returns-clause-live g c = (
+  [],
+  record {
+    graph = graph_self g.B.PartialEq.eq g.met.B.Eq.laws.refl c.args.plant.graph;
+    net = refl;
+    capacities = c.recall.ensures.capacities;
+    run = record { replies = refl; left = refl };
+    idle = c.requires;
+  },
+)

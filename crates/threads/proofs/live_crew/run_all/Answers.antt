@@ -2,7 +2,7 @@ use Rattle.std.proofs.Common.{rules, map}
 use Rattle.std.proofs.lemmas.Option.{IfSome_then}
 use Rattle.threads.specs.History.{noted_by}
 use Rattle.threads.proofs.Promises.{have_returned}
-use Rattle.threads.proofs.live_crew.run_pool.Goals as goal
+use Rattle.threads.proofs.live_crew.run_all.Goals as goal
 
 pub returns-clause-ran : goal.returns-clause-ran
 returns-clause-ran g c = IfSome_then c.return_callers.result c.return_callers.ensures.kept
