@@ -1,14 +1,13 @@
 /*
  * Calls of c/magbelu.h. With `check FILE`, `run FILE`, `script FILE LINES` or `items FILE [-b] [-i NAME=PATH].. [-o NAME=PATH].. [-t NAME=PATH]..` it writes what
- * the call gives, and ends with its status. With `wrong` it makes calls that are wrong, and tests what they answer; with `held` calls of plants that are held, in
- * two threads too, and of kernels.
+ * the call gives, and ends with its status. With `wrong` it makes calls that are wrong, and tests what they answer; with `held` it makes the calls of plants.c,
+ * streams.c and kernels.c.
  */
-#include <pthread.h>
 #include <stdio.h>
 #include <stdlib.h>
 #include <string.h>
 
-#include "magbelu.h"
+#include "calls.h"
 
 enum { MOST = 16 };
 
@@ -22,7 +21,7 @@ static void fail(const char *saying) {
     exit(99);
 }
 
-static void must(int holds, const char *saying) {
+void must(int holds, const char *saying) {
     if (!holds) {
         fail(saying);
     }
@@ -155,15 +154,18 @@ static int items(int count, char **words) {
     return status;
 }
 
-static const char chain[] = "block = [{ name = \"src\", kind = \"vector_source\", type = \"short\" }, { name = \"add\", kind = \"add_const\", type = \"short\", value = 1 },\n"
-                            "{ name = \"out\", kind = \"vector_sink\", type = \"short\" }]\n"
-                            "connect = [{ from = \"src\", to = \"add\" }, { from = \"add\", to = \"out\" }]\n";
+const char chain[] = "block = [{ name = \"src\", kind = \"vector_source\", type = \"short\" }, { name = \"add\", kind = \"add_const\", type = \"short\", value = 1 },\n"
+                     "{ name = \"out\", kind = \"vector_sink\", type = \"short\" }]\n"
+                     "connect = [{ from = \"src\", to = \"add\" }, { from = \"add\", to = \"out\" }]\n";
 
-/* is ANSWER STATUS NUMBER OUTPUT_LEN ERROR LINE: whether the answer is this */
-static void is(struct magbelu_answer answer, uint32_t status, uint32_t number, size_t output_len, const char *error, const char *line) {
+void is(struct magbelu_answer answer, uint32_t status, uint32_t number, size_t output_len, const char *error, const char *line) {
     must(answer.status == status && answer.number == number && answer.output_len == output_len, line);
     must(answer.error_len == strlen(line), line);
     must(error == NULL || memcmp(error, line, strlen(line)) == 0, line);
+}
+
+void replied(struct magbelu_reply reply, uint32_t status, uint32_t number, uint32_t what, uint64_t value, const char *saying) {
+    must(reply.status == status && reply.number == number && reply.what == what && reply.value == value, saying);
 }
 
 /* The places of faults in files, as `flow --explain` shows them. */
@@ -255,252 +257,6 @@ static void wrong(void) {
        "flow: refused 22 NotSink output 0\n");
     output.name = NULL;
     is(magbelu_run_items(chain, len, 0, NULL, 0, &output, 1, lens, 1, text, sizeof text, error, sizeof error), 1, 54, 0, error, null_line);
-}
-
-/* reply STATUS NUMBER WHAT VALUE: whether the reply is this */
-static void replied(struct magbelu_reply reply, uint32_t status, uint32_t number, uint32_t what, uint64_t value, const char *saying) {
-    must(reply.status == status && reply.number == number && reply.what == what && reply.value == value, saying);
-}
-
-static void shows(struct magbelu_plant *plant, uint64_t from, uint64_t max, const char *wanted, size_t wanted_len, uint64_t held, const char *lines) {
-    char bytes[64], tags[256];
-    struct magbelu_piece piece;
-    memset(bytes, '-', sizeof bytes);
-    piece = magbelu_read(plant, "out", 3, from, max, 0, bytes, sizeof bytes, tags, sizeof tags);
-    must(piece.status == 0 && piece.number == 0 && piece.held == held && piece.item_size == 2, "what a read tells");
-    must(piece.bytes_len == wanted_len && memcmp(bytes, wanted, wanted_len) == 0 && bytes[wanted_len] == '-', "the bytes of a read");
-    must(piece.tags_len == strlen(lines) && memcmp(tags, lines, piece.tags_len) == 0, "the tags of a read");
-    piece = magbelu_read(plant, "out", 3, from, max, 0, NULL, 0, NULL, 0);
-    must(piece.bytes_len == wanted_len && piece.tags_len == strlen(lines), "a read without room");
-}
-
-static void not_open(struct magbelu_plant *plant) {
-    char bytes[4] = "abc";
-    struct magbelu_piece piece;
-    replied(magbelu_item_size(plant, "src", 3), 1, 55, 0, 0, "an item's size");
-    replied(magbelu_feed(plant, "src", 3, 0, "\1\0", 2, NULL, 0), 1, 55, 0, 0, "a feed");
-    replied(magbelu_feed_numbers(plant, "src", 3, NULL, 0, NULL, 0), 1, 55, 0, 0, "a feed of numbers");
-    replied(magbelu_close(plant, "src", 3), 1, 55, 0, 0, "a close");
-    replied(magbelu_set(plant, "add", 3, MAGBELU_NOW, 1), 1, 55, 0, 0, "a setting");
-    replied(magbelu_set_taps(plant, "add", 3, MAGBELU_NOW, NULL, 0), 1, 55, 0, 0, "taps");
-    replied(magbelu_step(plant, "src", 3, 1), 1, 55, 0, 0, "a step");
-    replied(magbelu_settle(plant), 1, 55, 0, 0, "a settle");
-    piece = magbelu_read(plant, "out", 3, 0, 9, 0, bytes, sizeof bytes, NULL, 0);
-    must(piece.status == 1 && piece.number == 55 && piece.bytes_len == 0 && bytes[0] == 'a', "a read");
-    replied(magbelu_free(plant), 1, 55, 0, 0, "a second free");
-}
-
-static void refusals(struct magbelu_plant *plant) {
-    const struct magbelu_tag off = {9, 1, (const uint8_t *)"a", 1}, bad = {0, 1, (const uint8_t *)"a b", 3}, null = {0, 1, NULL, 0};
-    const int64_t wide[1] = {40000};
-    struct magbelu_piece piece;
-    char bytes[4] = "abc";
-    replied(magbelu_item_size(plant, "out", 3), 1, 21, 0, 0, "not a source");
-    replied(magbelu_feed(plant, "none", 4, 0, "\1\0", 2, NULL, 0), 1, 20, 0, 0, "no such block");
-    replied(magbelu_feed(plant, "out", 3, 0, "\1\0", 2, NULL, 0), 1, 21, 0, 0, "not a source");
-    replied(magbelu_feed(plant, "src", 3, 0, "\1\0\2", 3, NULL, 0), 1, 53, 0, 0, "a cut item");
-    replied(magbelu_feed(plant, "src", 3, 0, "\1\0", 2, &off, 1), 1, 25, 0, 0, "a tag on no item");
-    replied(magbelu_feed(plant, "src", 3, 0, "\1\0", 2, &bad, 1), 1, 58, 0, 0, "a key that is none");
-    replied(magbelu_feed(plant, "src", 3, 0, "\1\0", 2, &null, 1), 1, 54, 0, 0, "a key at NULL");
-    replied(magbelu_feed(plant, NULL, 3, 0, "\1\0", 2, NULL, 0), 1, 54, 0, 0, "a name at NULL");
-    replied(magbelu_feed(plant, "src", 3, 0, NULL, 2, NULL, 0), 1, 54, 0, 0, "bytes at NULL");
-    replied(magbelu_feed(NULL, "src", 3, 0, "\1\0", 2, NULL, 0), 1, 54, 0, 0, "a plant at NULL");
-    replied(magbelu_feed_numbers(plant, "src", 3, wide, 1, NULL, 0), 1, 24, 0, 0, "a number out of range");
-    replied(magbelu_set(plant, "src", 3, MAGBELU_NOW, 1), 1, 28, 0, 0, "no setting");
-    replied(magbelu_set(plant, "add", 3, MAGBELU_NOW, 40000), 1, 29, 0, 0, "a wrong setting");
-    replied(magbelu_set_taps(plant, "add", 3, MAGBELU_NOW, NULL, 0), 1, 29, 0, 0, "taps for a number");
-    replied(magbelu_step(plant, "none", 4, 0), 1, 20, 0, 0, "a step of no block");
-    piece = magbelu_read(plant, "add", 3, 0, 9, 0, bytes, sizeof bytes, NULL, 0);
-    must(piece.status == 1 && piece.number == 22 && bytes[0] == 'a', "not a sink");
-    piece = magbelu_read(plant, "out", 3, 99, 9, 0, bytes, sizeof bytes, NULL, 0);
-    must(piece.status == 1 && piece.number == 31 && bytes[0] == 'a', "beyond the end");
-}
-
-static void held(void) {
-    struct magbelu_plant plant = MAGBELU_NO_PLANT;
-    const struct magbelu_tag tags[2] = {{1, -7, (const uint8_t *)"burst", 5}, {2, 3, (const uint8_t *)"end", 3}};
-    const int64_t numbers[2] = {-1, 300};
-    const size_t len = sizeof chain - 1;
-    char error[64];
-    not_open(&plant);
-    is(magbelu_open(&plant, "x", 1, error, sizeof error), 1, 40, 0, error, "flow: refused 40 Syntax\n");
-    not_open(&plant);
-    is(magbelu_open(&plant, NULL, 1, error, sizeof error), 1, 54, 0, error, "magbelu: refused 54 Null\n");
-    is(magbelu_open(NULL, chain, len, error, sizeof error), 1, 54, 0, error, "magbelu: refused 54 Null\n");
-    is(magbelu_open(&plant, chain, len, NULL, 0), 0, 0, 0, NULL, "");
-    is(magbelu_open(&plant, chain, len, NULL, 0), 1, 56, 0, NULL, "");
-    refusals(&plant);
-    replied(magbelu_item_size(&plant, "src", 3), 0, 0, 0, 2, "an item's size");
-    replied(magbelu_feed(&plant, "src", 3, 0, "\1\0\2\0\3\0", 6, tags, 2), 0, 0, 0, 3, "a feed");
-    replied(magbelu_set(&plant, "add", 3, 2, 10), 0, 0, 0, 2, "a setting");
-    replied(magbelu_step(&plant, "out", 3, 9), 0, 0, MAGBELU_WAITS_ITEMS, 0, "a sink waits");
-    replied(magbelu_step(&plant, "src", 3, 0), 0, 0, MAGBELU_DID, 0, "no firing");
-    replied(magbelu_step(&plant, "src", 3, 2), 0, 0, MAGBELU_DID, 2, "two firings");
-    replied(magbelu_settle(&plant), 3, 0, 0, 0, "an open source");
-    shows(&plant, 0, 9, "\2\0\3\0\15\0", 6, 3, "@1:burst=-7/0\n@2:end=3/0\n");
-    shows(&plant, 2, 9, "\15\0", 2, 3, "@2:end=3/0\n");
-    shows(&plant, 3, 9, "", 0, 3, "");
-    replied(magbelu_set(&plant, "add", 3, 0, 10), 1, 27, 0, 3, "a late setting");
-    replied(magbelu_feed(&plant, "src", 3, 1, "\0\1", 2, NULL, 0), 0, 0, 0, 4, "the highest byte first");
-    replied(magbelu_feed_numbers(&plant, "src", 3, numbers, 2, NULL, 0), 0, 0, 0, 6, "a feed of numbers");
-    replied(magbelu_feed(&plant, "src", 3, 0, NULL, 0, NULL, 0), 0, 0, 0, 6, "a feed of nothing");
-    replied(magbelu_close(&plant, "src", 3), 0, 0, 0, 6, "a close");
-    replied(magbelu_close(&plant, "src", 3), 1, 23, 0, 0, "closed before");
-    replied(magbelu_settle(&plant), 0, 0, 0, 0, "all are done");
-    replied(magbelu_step(&plant, "src", 3, 1), 0, 0, MAGBELU_DONE, 0, "a source that is done");
-    shows(&plant, 3, 2, "\13\0\11\0", 4, 6, "");
-    replied(magbelu_free(&plant), 0, 0, 0, 0, "a free");
-    not_open(&plant);
-    is(magbelu_open(&plant, chain, len, NULL, 0), 0, 0, 0, NULL, "");
-    replied(magbelu_free(&plant), 0, 0, 0, 0, "a free");
-}
-
-static void drains(struct magbelu_stream *stream, uint64_t max, const char *wanted, size_t wanted_len, uint64_t held, const char *lines) {
-    char bytes[64], tags[256];
-    struct magbelu_piece piece;
-    memset(bytes, '-', sizeof bytes);
-    /* What does not fit is not taken away. */
-    piece = magbelu_stream_drain(stream, "out", 3, max, 0, bytes, wanted_len > 0 ? wanted_len - 1 : 0, tags, sizeof tags);
-    must(piece.bytes_len == wanted_len && piece.tags_len == strlen(lines) && (wanted_len == 0 || bytes[0] == '-'), "a drain with too little room");
-    if (lines[0] != 0) {
-        piece = magbelu_stream_drain(stream, "out", 3, max, 0, bytes, sizeof bytes, tags, strlen(lines) - 1);
-        must(piece.bytes_len == wanted_len && piece.tags_len == strlen(lines), "a drain with too little room for tags");
-    }
-    piece = magbelu_stream_drain(stream, "out", 3, max, 0, bytes, sizeof bytes, tags, sizeof tags);
-    must(piece.status == 0 && piece.number == 0 && piece.held == held && piece.item_size == 2, "what a drain tells");
-    must(piece.bytes_len == wanted_len && memcmp(bytes, wanted, wanted_len) == 0 && bytes[wanted_len] == '-', "the bytes of a drain");
-    must(piece.tags_len == strlen(lines) && memcmp(tags, lines, piece.tags_len) == 0, "the tags of a drain");
-}
-
-static void none_streams(struct magbelu_stream *stream) {
-    char bytes[4] = "abc";
-    struct magbelu_piece piece;
-    replied(magbelu_stream_item_size(stream, "src", 3), 1, 55, 0, 0, "an item's size");
-    replied(magbelu_stream_feed(stream, "src", 3, 0, "\1\0", 2, NULL, 0), 1, 55, 0, 0, "a feed");
-    replied(magbelu_stream_feed_numbers(stream, "src", 3, NULL, 0, NULL, 0), 1, 55, 0, 0, "a feed of numbers");
-    replied(magbelu_stream_close(stream, "src", 3), 1, 55, 0, 0, "a close");
-    replied(magbelu_stream_set(stream, "add", 3, MAGBELU_NOW, 1), 1, 55, 0, 0, "a setting");
-    replied(magbelu_stream_set_taps(stream, "add", 3, MAGBELU_NOW, NULL, 0), 1, 55, 0, 0, "taps");
-    replied(magbelu_stream_settle(stream), 1, 55, 0, 0, "a settle");
-    replied(magbelu_stream_need(stream, "src", 3), 1, 55, 0, 0, "a need");
-    piece = magbelu_stream_drain(stream, "out", 3, 9, 0, bytes, sizeof bytes, NULL, 0);
-    must(piece.status == 1 && piece.number == 55 && piece.bytes_len == 0 && bytes[0] == 'a', "a drain");
-    replied(magbelu_stream_free(stream), 1, 55, 0, 0, "a second free");
-}
-
-static void stream_refusals(struct magbelu_stream *stream) {
-    const struct magbelu_tag off = {9, 1, (const uint8_t *)"a", 1}, bad = {0, 1, (const uint8_t *)"a b", 3};
-    struct magbelu_piece piece;
-    char bytes[4] = "abc";
-    replied(magbelu_stream_feed(stream, "out", 3, 0, "\1\0", 2, NULL, 0), 1, 21, 0, 0, "not a source");
-    replied(magbelu_stream_feed(stream, "src", 3, 0, "\1\0\2", 3, NULL, 0), 1, 53, 0, 0, "a cut item");
-    replied(magbelu_stream_feed(stream, "src", 3, 0, "\1\0", 2, &off, 1), 1, 25, 0, 0, "a tag on no item");
-    replied(magbelu_stream_feed(stream, "src", 3, 0, "\1\0", 2, &bad, 1), 1, 58, 0, 0, "a key that is none");
-    replied(magbelu_stream_feed(NULL, "src", 3, 0, "\1\0", 2, NULL, 0), 1, 54, 0, 0, "a stream at NULL");
-    replied(magbelu_stream_need(stream, NULL, 3), 1, 54, 0, 0, "a name at NULL");
-    replied(magbelu_stream_need(stream, "none", 4), 1, 20, 0, 0, "no such block");
-    piece = magbelu_stream_drain(stream, "none", 4, 9, 0, bytes, sizeof bytes, NULL, 0);
-    must(piece.status == 1 && piece.number == 20 && bytes[0] == 'a', "no such block");
-    piece = magbelu_stream_drain(stream, "add", 3, 9, 0, bytes, sizeof bytes, NULL, 0);
-    must(piece.status == 1 && piece.number == 22 && bytes[0] == 'a', "not a sink");
-    piece = magbelu_stream_drain(stream, "out", 3, 9, 0, NULL, 4, NULL, 0);
-    must(piece.status == 1 && piece.number == 54, "a buffer at NULL");
-    /* It is no plant of which sinks are read. */
-    piece = magbelu_read(&stream->plant, "out", 3, 0, 9, 0, bytes, sizeof bytes, NULL, 0);
-    must(piece.status == 1 && piece.number == 55 && bytes[0] == 'a', "a read of a stream");
-}
-
-static void streams(void) {
-    struct magbelu_stream stream = MAGBELU_NO_STREAM;
-    const struct magbelu_tag tag = {1, -7, (const uint8_t *)"burst", 5};
-    const int64_t number = 300;
-    const size_t len = sizeof chain - 1;
-    char error[64];
-    none_streams(&stream);
-    is(magbelu_stream_open(&stream, "x", 1, error, sizeof error), 1, 40, 0, error, "flow: refused 40 Syntax\n");
-    is(magbelu_stream_open(NULL, chain, len, error, sizeof error), 1, 54, 0, error, "magbelu: refused 54 Null\n");
-    is(magbelu_stream_open(&stream, chain, len, NULL, 0), 0, 0, 0, NULL, "");
-    is(magbelu_stream_open(&stream, chain, len, NULL, 0), 1, 56, 0, NULL, "");
-    stream_refusals(&stream);
-    replied(magbelu_stream_need(&stream, "src", 3), 0, 0, MAGBELU_WAITS_FEED, 0, "a source waits to be fed");
-    replied(magbelu_stream_need(&stream, "out", 3), 0, 0, MAGBELU_WAITS_ITEMS, 0, "a sink waits for items");
-    replied(magbelu_stream_item_size(&stream, "src", 3), 0, 0, 0, 2, "an item's size");
-    replied(magbelu_stream_feed(&stream, "src", 3, 0, "\1\0\2\0\3\0", 6, &tag, 1), 0, 0, 0, 3, "a feed");
-    replied(magbelu_stream_need(&stream, "src", 3), 0, 0, MAGBELU_READY, 0, "a source that may act");
-    replied(magbelu_stream_set(&stream, "add", 3, 2, 10), 0, 0, 0, 2, "a setting");
-    replied(magbelu_stream_settle(&stream), 3, 0, 0, 0, "an open source");
-    drains(&stream, 2, "\2\0\3\0", 4, 3, "@1:burst=-7/0\n");
-    drains(&stream, 9, "\15\0", 2, 3, "");
-    drains(&stream, 9, "", 0, 3, "");
-    replied(magbelu_stream_feed_numbers(&stream, "src", 3, &number, 1, NULL, 0), 0, 0, 0, 4, "a feed of numbers");
-    replied(magbelu_stream_close(&stream, "src", 3), 0, 0, 0, 4, "a close");
-    replied(magbelu_stream_settle(&stream), 0, 0, 0, 0, "all are done");
-    replied(magbelu_stream_need(&stream, "out", 3), 0, 0, MAGBELU_DONE, 0, "a sink that is done");
-    drains(&stream, 9, "\66\1", 2, 4, "");
-    replied(magbelu_stream_free(&stream), 0, 0, 0, 0, "a free");
-    none_streams(&stream);
-}
-
-/* A thread with a plant of its own. */
-static void *works(void *value) {
-    struct magbelu_plant plant = MAGBELU_NO_PLANT;
-    int16_t items[1000], got[1000];
-    const int16_t add = *(int16_t *)value;
-    int turn, at;
-    is(magbelu_open(&plant, chain, sizeof chain - 1, NULL, 0), 0, 0, 0, NULL, "");
-    replied(magbelu_set(&plant, "add", 3, MAGBELU_NOW, add), 0, 0, 0, 0, "a setting");
-    for (turn = 0; turn < 50; turn++) {
-        for (at = 0; at < 1000; at++) {
-            items[at] = (int16_t)(turn + at);
-        }
-        replied(magbelu_feed(&plant, "src", 3, 0, items, sizeof items, NULL, 0), 0, 0, 0, 1000 * (uint64_t)(turn + 1), "a feed");
-        replied(magbelu_settle(&plant), 3, 0, 0, 0, "a settle");
-        must(magbelu_read(&plant, "out", 3, 1000 * (uint64_t)turn, 1000, 0, got, sizeof got, NULL, 0).bytes_len == sizeof got, "a read");
-        for (at = 0; at < 1000; at++) {
-            must(got[at] == turn + at + add, "an item");
-        }
-    }
-    replied(magbelu_free(&plant), 0, 0, 0, 0, "a free");
-    return NULL;
-}
-
-static void threads(void) {
-    pthread_t each[2];
-    int16_t values[2] = {100, -100};
-    must(pthread_create(&each[0], NULL, works, &values[0]) == 0 && pthread_create(&each[1], NULL, works, &values[1]) == 0, "no thread");
-    must(pthread_join(each[0], NULL) == 0 && pthread_join(each[1], NULL) == 0, "no join");
-}
-
-static void kernels(void) {
-    int16_t a[40], b[40], out[40];
-    int32_t x[3] = {INT32_MAX, -5, 7}, y[3] = {1, 3, 6}, z[3] = {9, 9, 9};
-    const uint8_t m[3] = {0xf0, 0x0f, 0xff}, n[3] = {0xff, 0x01, 0x80};
-    uint8_t o[3];
-    int at;
-    for (at = 0; at < 40; at++) {
-        a[at] = (int16_t)(32760 + at);
-        b[at] = (int16_t)(3 * at);
-    }
-    must(magbelu_kernel_add_shorts(a, 40, b, 40, out, 40) == 0, "a sum");
-    for (at = 0; at < 40; at++) {
-        must(out[at] == (int16_t)(uint16_t)(32760 + 4 * at), "an item of a sum");
-    }
-    must(magbelu_kernel_add_shorts(a, 40, b, 39, out, 40) == MAGBELU_LENGTHS && magbelu_kernel_add_shorts(a, 40, b, 40, out, 39) == MAGBELU_LENGTHS, "lengths");
-    must(out[0] == 32760, "a kernel that was refused writes");
-    must(magbelu_kernel_add_number_shorts(b, 40, -3, out, 40) == 0 && out[39] == 114, "a number more");
-    must(magbelu_kernel_multiply_shorts(b, 40, 1000, out, 40) == 0 && out[39] == (int16_t)(uint16_t)117000, "a product");
-    must(magbelu_kernel_xor_shorts(b, 40, b, 40, out, 40) == 0 && out[39] == 0, "xor of itself");
-    must(magbelu_kernel_add_ints(x, 3, y, 3, z, 3) == 0 && z[0] == INT32_MIN && z[1] == -2 && z[2] == 13, "a sum of ints");
-    must(magbelu_kernel_add_number_ints(x, 3, 1, z, 3) == 0 && z[0] == INT32_MIN && z[2] == 8, "a number more");
-    must(magbelu_kernel_multiply_ints(x, 3, 2, z, 3) == 0 && z[0] == -2 && z[1] == -10, "a product of ints");
-    must(magbelu_kernel_and_ints(x, 3, y, 3, z, 3) == 0 && z[1] == 3 && z[2] == 6, "and of ints");
-    must(magbelu_kernel_or_ints(x, 3, y, 3, z, 3) == 0 && z[1] == -5 && z[2] == 7, "or of ints");
-    must(magbelu_kernel_xor_ints(x, 3, y, 3, z, 3) == 0 && z[1] == -8 && z[2] == 1, "xor of ints");
-    must(magbelu_kernel_and_bytes(m, 3, n, 3, o, 3) == 0 && o[0] == 0xf0 && o[1] == 0x01 && o[2] == 0x80, "and of bytes");
-    must(magbelu_kernel_or_bytes(m, 3, n, 3, o, 3) == 0 && o[0] == 0xff && o[1] == 0x0f && o[2] == 0xff, "or of bytes");
-    must(magbelu_kernel_xor_bytes(m, 3, n, 3, o, 3) == 0 && o[0] == 0x0f && o[1] == 0x0e && o[2] == 0x7f, "xor of bytes");
-    must(magbelu_kernel_and_shorts(a, 40, b, 40, out, 40) == 0 && out[1] == (32761 & 3), "and of shorts");
-    must(magbelu_kernel_or_shorts(a, 40, b, 40, out, 40) == 0 && out[1] == (32761 | 3), "or of shorts");
 }
 
 int main(int count, char **words) {

@@ -7,41 +7,10 @@ import sys
 import tempfile
 import threading
 
-try:
-    import tomllib
-except ImportError:
-    tomllib = None
-
 import magbelu
+from shared import CHAIN, chain, generated, raises, refuses, tomllib
 
 top = pathlib.Path(sys.argv[1])
-
-CHAIN = """
-block = [{ name = "src", kind = "vector_source", type = "%s" }, { name = "add", kind = "add_const", type = "%s", value = 10 },
-    { name = "out", kind = "vector_sink", type = "%s" }]
-connect = [{ from = "src", to = "add" }, { from = "add", to = "out" }]
-"""
-
-
-def chain(item_type):
-    return magbelu.Graph.from_text(CHAIN % (item_type, item_type, item_type))
-
-
-def refuses(number, name, call, kind=magbelu.Refused):
-    try:
-        call()
-    except kind as error:
-        assert (error.number, error.name) == (number, name), error
-        return error
-    raise AssertionError("%d %s is not refused" % (number, name))
-
-
-def raises(kind, call):
-    try:
-        call()
-    except kind:
-        return
-    raise AssertionError("%s is not raised" % kind.__name__)
 
 
 def examples():
@@ -178,38 +147,6 @@ def held_graphs_come_to_what_runs_tell():
             assert held_as_run(text) == wanted.splitlines(), file
 
 
-def generated(rng):
-    """A random chain with a branch, its text with its feed in it, its text without, and the feed in pieces."""
-    item_type = rng.choice(["byte", "short", "int"])
-    low, high = {"byte": (0, 255), "short": (-32768, 32767), "int": (-(2**31), 2**31 - 1)}[item_type]
-    blocks, connects, last = ['{ name = "src", kind = "vector_source", type = "%s" }' % item_type], [], "src"
-    for at in range(rng.randint(1, 5)):
-        kind, words = rng.choice([
-            ("add_const", ", value = %d" % rng.randint(0, 100)),
-            ("multiply_const", ", value = %d" % rng.randint(0, 9)),
-            ("not", ""),
-            ("delay", ", n = %d" % rng.randint(0, 5)),
-            ("head", ", n = %d" % rng.randint(0, 60)),
-            ("skiphead", ", n = %d" % rng.randint(0, 9)),
-            ("keep_one_in_n", ", n = %d" % rng.randint(1, 4)),
-            ("repeat", ", n = %d" % rng.randint(1, 3)),
-            ("integrate", ", n = %d" % rng.randint(1, 3)),
-        ])
-        name = "b%d" % at
-        blocks.append('{ name = "%s", kind = "%s", type = "%s"%s }' % (name, kind, item_type, words))
-        connects.append('{ from = "%s", to = "%s" }' % (last, name))
-        if rng.random() < 0.4:
-            blocks.append('{ name = "side%d", kind = "vector_sink", type = "%s" }' % (at, item_type))
-            connects.append('{ from = "%s", to = "side%d" }' % (name, at))
-        last = name
-    blocks.append('{ name = "out", kind = "vector_sink", type = "%s" }' % item_type)
-    connects.append('{ from = "%s", to = "out" }' % last)
-    text = "block = [%s]\nconnect = [%s]\n" % (",\n".join(blocks), ",\n".join(connects))
-    pieces = [[rng.randint(low, high) for _ in range(rng.randint(0, 40))] for _ in range(rng.randint(1, 4))]
-    fed = "%sfeed = [{ source = \"src\", items = %s }]\n" % (text, sum(pieces, []))
-    return text, fed, pieces
-
-
 def generated_graphs_come_to_what_runs_tell():
     if tomllib is None:
         return
@@ -250,83 +187,6 @@ def threads_call_one_graph():
         items = list(graph.read("out")[0])
     assert sorted(items) == [value + 10 for value in range(8) for _ in range(2000)]
     assert all(items[at : at + 10] == items[at : at + 1] * 10 for at in range(0, len(items), 10))
-
-
-def streams_give_what_runs_give():
-    """Generated graphs, which are fed in pieces, give what a run of the whole feed gives, and what was given is forgotten."""
-    if tomllib is None:
-        return
-    rng, done = random.Random(33), 0
-    while done < 100:
-        text, fed, pieces = generated(rng)
-        try:
-            wanted = magbelu.run(fed)[0]
-        except magbelu.Refused:
-            continue
-        sinks = [it["name"] for it in tomllib.loads(text)["block"] if it["kind"] == "vector_sink"]
-        given = {sink: [] for sink in sinks}
-        with magbelu.Stream(text) as stream:
-            for piece in stream.through(src=pieces):
-                given[piece.sink] += list(piece.items)
-            assert all(len(stream.drain(sink)[0]) == 0 for sink in sinks)
-        lines = [" ".join(["sink", sink, str(len(given[sink]))] + [str(it) for it in given[sink]]) for sink in sinks]
-        assert lines == [it for it in wanted.splitlines() if it.startswith("sink ")], fed
-        done += 1
-
-
-def streams_take_what_they_lack():
-    """Of two sources that are added, one comes in large pieces and the other in small ones: no more is taken of either than the other needs."""
-    taken = {"a": 0, "b": 0}
-
-    def numbers(name, size):
-        while taken[name] < 100000:
-            taken[name] += size
-            yield range(taken[name] - size, taken[name])
-            assert abs(taken["a"] - taken["b"]) < 40000, taken
-
-    kinds = [("a", "vector_source"), ("b", "vector_source"), ("sum", "add"), ("out", "vector_sink")]
-    blocks = ", ".join('{ name = "%s", kind = "%s", type = "int" }' % it for it in kinds)
-    ends = '{ from = "a", to = "sum" }, { from = "b", to = "sum", to_port = 1 }, { from = "sum", to = "out" }'
-    with magbelu.Stream("block = [%s]\nconnect = [%s]\n" % (blocks, ends)) as stream:
-        items = [item for piece in stream.through(a=numbers("a", 10000), b=numbers("b", 500)) for item in piece.items]
-    assert items == [2 * at for at in range(100000)]
-
-
-def streams_are_tagged_set_and_refused():
-    stream = magbelu.Stream(CHAIN % (3 * ("short",)))
-    assert stream.need("src") == ("feed", None) and stream.need("out") == ("items", 0)
-    for turn in range(100):
-        assert stream.feed("src", [turn] * 1000, tags=[(1000 * turn, "k", turn)]) == 1000 * (turn + 1)
-        assert stream.set("add", turn) == 1000 * turn and stream.need("src").what == "ready" and not stream.settle()
-        items, tags = stream.drain("out", 1)
-        assert list(items) == [2 * turn] and [it[:3] for it in tags] == [(1000 * turn, "k", turn)]
-        assert list(stream.drain("out")[0]) == [2 * turn] * 999 and not len(stream.drain("out")[0])
-    refuses(20, "NoSuchBlock", lambda: stream.need("none"))
-    refuses(21, "NotSource", lambda: stream.through(out=[]))
-    refuses(22, "NotSink", lambda: stream.drain("add"))
-    refuses(24, "ItemRange", lambda: stream.feed("src", [2**15]))
-    assert stream.close("src") == 100000 and stream.settle() and stream.need("out").what == "done"
-    stream.free()
-    for call in [lambda: stream.feed("src", [1]), lambda: stream.settle(), lambda: stream.drain("out"), lambda: stream.need("src"), lambda: stream.through(src=[])]:
-        refuses(55, "NotOpen", call)
-    refuses(40, "Syntax", lambda: magbelu.Stream("x"))
-
-
-def streams_drain_into_arrays():
-    """Items are written where the caller says, with their tags, however many lines these are; and nothing else is written."""
-    stream, room = magbelu.Stream(CHAIN % (3 * ("short",))), array.array("h", [-1] * 3000)
-    stream.feed("src", range(2000), tags=[(at, "a_key_of_16_bytes"[:16], at) for at in range(2000)])
-    stream.settle()
-    count, tags = stream.drain_into("out", memoryview(room)[1:1001])
-    assert count == 1000 and room.tolist() == [-1] + list(range(10, 1010)) + [-1] * 1999
-    assert [it[:3] for it in tags] == [(at, "a_key_of_16_bytes"[:16], at) for at in range(1000)]
-    for wrong in [array.array("i", [0]), array.array("B", [0]), bytes(2), memoryview(room)[::2], memoryview(room).toreadonly(), [0, 0]]:
-        raises(TypeError, lambda: stream.drain_into("out", wrong))
-    assert stream.drain_into("out", room[:0]) == (0, [])
-    count, tags = stream.drain_into("out", room)
-    assert (count, len(tags)) == (1000, 1000) and room.tolist() == [*range(1010, 2010), 1009] + [-1] * 1999
-    assert stream.anew().drain_into("out", room) == (0, [])
-    refuses(22, "NotSink", lambda: stream.drain_into("add", room))
 
 
 def raw_items_in_and_out():
@@ -472,10 +332,6 @@ tests = [
     held_graphs_come_to_what_runs_tell,
     generated_graphs_come_to_what_runs_tell,
     freed_graphs_are_refused,
-    streams_give_what_runs_give,
-    streams_take_what_they_lack,
-    streams_are_tagged_set_and_refused,
-    streams_drain_into_arrays,
     raw_items_in_and_out,
     what_is_wrong_is_refused,
     nothing_is_cut,

@@ -4,12 +4,10 @@ use super::drawn::{Drawing, Make, SINK, TURNED, TWO_TURNED, fed, feed, kind, ope
 use super::gates::Counts;
 use super::helpers::alone;
 use super::probes::{Habit, Probe, Spinner};
-use super::runs::{
-    End, Host, ended, ended_as, holds_turned, same_sinks, settled, share, shared, split,
-};
+use super::runs::{End, Host, ended, ended_as, holds_turned, same_sinks, settled, share, shared};
 use super::ways::{ByChance, Still, Way, WithClock, adaptive, ran_by_to};
 use flowgraph::BlockId;
-use plant::{Headway, Plant, Unwatched, Watch};
+use plant::{Plant, Unwatched};
 use std::alloc::Global;
 use std::hint::spin_loop;
 use std::process::Abort;
@@ -28,7 +26,8 @@ const MANY: u32 = 20_000;
 // So often a run is made again until what depends on the machine comes about.
 const RUNS: u32 = 100;
 
-const CHAIN: Drawing<'static> = Drawing {
+/// A source, a block that turns bits, and a sink, with more items than a buffer holds.
+pub const CHAIN: Drawing<'static> = Drawing {
     capacity: 64,
     items: ITEMS,
     ..TURNED
@@ -131,8 +130,8 @@ fn dear_work_is_done_side_by_side(rt: HostRuntime) -> Result<(), Fail> {
     panic!(rt; "no two of {passed} pieces of work were done side by side");
 }
 
-// Two chains in which the second block is dear in its firings of this range.
-fn dear_chains(rt: &impl Abort, alloc: Global, dear: [u64; 2]) -> Plant<Probe> {
+/// Two chains in which the second block is dear in its firings of this range.
+pub fn dear_chains(rt: &impl Abort, alloc: Global, dear: [u64; 2]) -> Plant<Probe> {
     let mut blocks = Vec::new(alloc);
     for make in TWO_CHAINS.makes {
         let habit = match *make {
@@ -320,84 +319,6 @@ fn a_stop_at_any_moment_loses_nothing_in_a_pool(rt: HostRuntime) -> Result<(), F
         let plant = ran_by_to(rt, alloc, Way::Adaptive, plant, End::Done, "again");
         for sink in SINKS {
             holds_turned(&rt, alloc, &plant, sink, ITEMS);
-        }
-    }
-    Ok(())
-}
-
-// The watch that notes what it is shown.
-#[derive(Drop)]
-struct Notes {
-    pause: Option<Duration>,
-    shown: u32,
-    fell: bool,
-    last: u64,
-    ended: u32,
-}
-
-impl Notes {
-    fn new(pause: Option<Duration>) -> Notes {
-        Notes {
-            pause,
-            shown: 0,
-            fell: false,
-            last: 0,
-            ended: 0,
-        }
-    }
-}
-
-impl Watch for Notes {
-    fn pause(&self) -> Option<Duration> {
-        self.pause
-    }
-
-    fn show(&mut self, headway: Headway) {
-        self.shown += 1;
-        self.fell |= headway.given < self.last;
-        self.last = headway.given;
-    }
-
-    fn end(&mut self) {
-        self.ended += 1;
-    }
-}
-
-#[test]
-fn a_watch_is_shown_a_run_on_one_thread_and_in_a_pool(rt: HostRuntime) -> Result<(), Fail> {
-    let alloc = rt.alloc();
-    let erratic = WithClock {
-        rt,
-        clock: ByChance,
-    };
-    for pause in [None, Some(Duration::ZERO)] {
-        let mut alone = Notes::new(pause);
-        let gate = shared(&rt, alloc, Counts::new());
-        let plant = fed(&rt, alloc, &CHAIN);
-        let still = WithClock { rt, clock: Still };
-        match run_with(still, alloc, plant, adaptive(gate), &mut alone) {
-            Ok(outcome) => {
-                let _ = split(&rt, outcome);
-            }
-            Err(fault) => panic!(rt; "not run: {fault}"),
-        }
-        let mut pooled = Notes::new(pause);
-        let gate = shared(&rt, alloc, Counts::new());
-        let plant = dear_chains(&rt, alloc, [0, u64::MAX]);
-        match run_with(erratic, alloc, plant, adaptive(gate), &mut pooled) {
-            Ok(outcome) => {
-                let _ = split(&rt, outcome);
-            }
-            Err(fault) => panic!(rt; "not run: {fault}"),
-        }
-        for (what, notes) in [("alone", &alone), ("in a pool", &pooled)] {
-            assert!(rt; notes.ended == 1, "{what}: ended {} times", notes.ended);
-            assert!(rt; !notes.fell, "{what}: it went back");
-            assert!(rt;
-                pause.is_some() == (0 < notes.shown),
-                "{what}: shown {} times",
-                notes.shown
-            );
         }
     }
     Ok(())

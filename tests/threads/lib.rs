@@ -25,5 +25,6 @@ mod stops;
 mod taps;
 mod top_blocks;
 mod wakes;
+mod watched;
 mod ways;
 mod wide;

@@ -1,0 +1,95 @@
+"""Streams of python/magbelu beside whole runs: pieces in and out, needs, tags, settings, and what is wrong. tests/parts/c.sh calls it."""
+
+import array
+import random
+
+import magbelu
+from shared import CHAIN, generated, raises, refuses, tomllib
+
+
+def streams_give_what_runs_give():
+    """Generated graphs, which are fed in pieces, give what a run of the whole feed gives, and what was given is forgotten."""
+    if tomllib is None:
+        return
+    rng, done = random.Random(33), 0
+    while done < 100:
+        text, fed, pieces = generated(rng)
+        try:
+            wanted = magbelu.run(fed)[0]
+        except magbelu.Refused:
+            continue
+        sinks = [it["name"] for it in tomllib.loads(text)["block"] if it["kind"] == "vector_sink"]
+        given = {sink: [] for sink in sinks}
+        with magbelu.Stream(text) as stream:
+            for piece in stream.through(src=pieces):
+                given[piece.sink] += list(piece.items)
+            assert all(len(stream.drain(sink)[0]) == 0 for sink in sinks)
+        lines = [" ".join(["sink", sink, str(len(given[sink]))] + [str(it) for it in given[sink]]) for sink in sinks]
+        assert lines == [it for it in wanted.splitlines() if it.startswith("sink ")], fed
+        done += 1
+
+
+def streams_take_what_they_lack():
+    """Of two sources that are added, one comes in large pieces and the other in small ones: no more is taken of either than the other needs."""
+    taken = {"a": 0, "b": 0}
+
+    def numbers(name, size):
+        while taken[name] < 100000:
+            taken[name] += size
+            yield range(taken[name] - size, taken[name])
+            assert abs(taken["a"] - taken["b"]) < 40000, taken
+
+    kinds = [("a", "vector_source"), ("b", "vector_source"), ("sum", "add"), ("out", "vector_sink")]
+    blocks = ", ".join('{ name = "%s", kind = "%s", type = "int" }' % it for it in kinds)
+    ends = '{ from = "a", to = "sum" }, { from = "b", to = "sum", to_port = 1 }, { from = "sum", to = "out" }'
+    with magbelu.Stream("block = [%s]\nconnect = [%s]\n" % (blocks, ends)) as stream:
+        items = [item for piece in stream.through(a=numbers("a", 10000), b=numbers("b", 500)) for item in piece.items]
+    assert items == [2 * at for at in range(100000)]
+
+
+def streams_are_tagged_set_and_refused():
+    stream = magbelu.Stream(CHAIN % (3 * ("short",)))
+    assert stream.need("src") == ("feed", None) and stream.need("out") == ("items", 0)
+    for turn in range(100):
+        assert stream.feed("src", [turn] * 1000, tags=[(1000 * turn, "k", turn)]) == 1000 * (turn + 1)
+        assert stream.set("add", turn) == 1000 * turn and stream.need("src").what == "ready" and not stream.settle()
+        items, tags = stream.drain("out", 1)
+        assert list(items) == [2 * turn] and [it[:3] for it in tags] == [(1000 * turn, "k", turn)]
+        assert list(stream.drain("out")[0]) == [2 * turn] * 999 and not len(stream.drain("out")[0])
+    refuses(20, "NoSuchBlock", lambda: stream.need("none"))
+    refuses(21, "NotSource", lambda: stream.through(out=[]))
+    refuses(22, "NotSink", lambda: stream.drain("add"))
+    refuses(24, "ItemRange", lambda: stream.feed("src", [2**15]))
+    assert stream.close("src") == 100000 and stream.settle() and stream.need("out").what == "done"
+    stream.free()
+    for call in [lambda: stream.feed("src", [1]), lambda: stream.settle(), lambda: stream.drain("out"), lambda: stream.need("src"), lambda: stream.through(src=[])]:
+        refuses(55, "NotOpen", call)
+    refuses(40, "Syntax", lambda: magbelu.Stream("x"))
+
+
+def streams_drain_into_arrays():
+    """Items are written where the caller says, with their tags, however many lines these are; and nothing else is written."""
+    stream, room = magbelu.Stream(CHAIN % (3 * ("short",))), array.array("h", [-1] * 3000)
+    stream.feed("src", range(2000), tags=[(at, "a_key_of_16_bytes"[:16], at) for at in range(2000)])
+    stream.settle()
+    count, tags = stream.drain_into("out", memoryview(room)[1:1001])
+    assert count == 1000 and room.tolist() == [-1] + list(range(10, 1010)) + [-1] * 1999
+    assert [it[:3] for it in tags] == [(at, "a_key_of_16_bytes"[:16], at) for at in range(1000)]
+    for wrong in [array.array("i", [0]), array.array("B", [0]), bytes(2), memoryview(room)[::2], memoryview(room).toreadonly(), [0, 0]]:
+        raises(TypeError, lambda: stream.drain_into("out", wrong))
+    assert stream.drain_into("out", room[:0]) == (0, [])
+    count, tags = stream.drain_into("out", room)
+    assert (count, len(tags)) == (1000, 1000) and room.tolist() == [*range(1010, 2010), 1009] + [-1] * 1999
+    assert stream.anew().drain_into("out", room) == (0, [])
+    refuses(22, "NotSink", lambda: stream.drain_into("add", room))
+
+
+tests = [
+    streams_give_what_runs_give,
+    streams_take_what_they_lack,
+    streams_are_tagged_set_and_refused,
+    streams_drain_into_arrays,
+]
+for test in tests:
+    test()
+print("c: %d tests of the streams of python/magbelu passed" % len(tests))
