@@ -11,7 +11,7 @@ ghost use Rattle.threads.specs.History.{Asks, Noted, noted_by};
 ghost use Rattle.threads.specs.Desk.{DeskState, IsLogged};
 ghost use Rattle.threads.specs.Request.{IsReady, asked_of, fits, replied, response_reply};
 
-use crate::entry::{CallerId, Entry, Feed, Setting, shared};
+use crate::entry::{CallerId, Entry, Feed, Setting, in_arc};
 use crate::gate::Gate;
 use crate::request::{Request, Response};
 use crate::shared::Shared;
@@ -102,7 +102,8 @@ impl<'a, B: Block, G: Gate + Drop> Desk<'a, B, G> {
         &self.log
     }
 
-    /// Appends items to a source's tape, with marks on them, as `Plant::feed` does, and wakes the source's worker. The log keeps the items and marks.
+    /// Appends items to a source's tape, with marks on them, as `Plant::feed` does, and has the source's worker, or a thread of the pool, look. The log
+    /// keeps the items and marks.
     pub fn feed<R: Wait>(
         &mut self,
         rt: &R,
@@ -114,7 +115,7 @@ impl<'a, B: Block, G: Gate + Drop> Desk<'a, B, G> {
         ensures { IsLogged (Asks (machine.Feed source.0 (type_of items) (numbers_of items) (map mark_of marks.now))) self.old self.new (reply_of (λ f. machine.Fed f.0) result) }
     {
         let marks = Vec::from_slice(alloc, marks)?;
-        let feed = shared(
+        let feed = in_arc(
             alloc,
             Feed {
                 source,
@@ -154,7 +155,7 @@ impl<'a, B: Block, G: Gate + Drop> Desk<'a, B, G> {
         ensures { IsLogged (Asks (machine.Set block.0 at (value_of value))) self.old self.new (reply_of (λ t. machine.Taken t.0) result) }
     {
         let copy = value.copy(alloc)?;
-        let setting = shared(alloc, Setting { block, at, value })?;
+        let setting = in_arc(alloc, Setting { block, at, value })?;
         match self.call(rt, alloc, Request::Set(setting, copy))? {
             Response::Taken(taken) => Ok(taken),
             Response::Refused(fault) => Err(fault),
@@ -162,7 +163,8 @@ impl<'a, B: Block, G: Gate + Drop> Desk<'a, B, G> {
         }
     }
 
-    /// A copy of what a sink holds from item `from` on, at most `max` items, with the tags on them, as `Plant::read` returns it. The log shares it.
+    /// A copy of what a sink holds from item `from` on, at most `max` items, with the tags on them, as `Plant::read` returns it. The log shares
+    /// it. The lock is held while the items are copied: ask for what is new.
     pub fn read<R: Wait>(
         &mut self,
         rt: &R,

@@ -202,8 +202,8 @@ fn same_piece(one: &Piece, other: &Piece) -> bool
         && one.done == other.done
 }
 
-/// What several may hold.
-pub(crate) fn shared<T: Drop>(alloc: Global, value: T) -> Result<Arc<T, Global>, AllocError>
+/// A value in an `Arc`.
+pub(crate) fn in_arc<T: Drop>(alloc: Global, value: T) -> Result<Arc<T, Global>, AllocError>
     ensures { IfOk result (λ it. arc_value it ≡ value) }
 {
     match Arc::new(alloc, value) {

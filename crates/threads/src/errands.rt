@@ -40,17 +40,17 @@ pub struct Brought<B: Block> {
 
 /// Who waits for the lock.
 #[derive(Drop)]
-pub struct Waiting {
+pub struct LockQueue {
     /// How many threads of the pool have something to bring back.
     pub mates: AtomicU64,
     /// How many others there are.
     pub guests: AtomicU64,
 }
 
-impl Waiting {
+impl LockQueue {
     /// Nobody.
-    pub fn new() -> Waiting {
-        Waiting {
+    pub fn new() -> LockQueue {
+        LockQueue {
             mates: AtomicU64::new(0),
             guests: AtomicU64::new(0),
         }
@@ -75,7 +75,7 @@ impl<B: Block> Locked<B> {
         alloc: Global,
         thread: usize,
         brought: Option<Brought<B>>,
-        waiting: &Waiting,
+        queue: &LockQueue,
         gate: &G,
         woken: &mut Woken,
     ) -> Errand<B>
@@ -83,7 +83,7 @@ impl<B: Block> Locked<B> {
     {
         self.pool.is_here(thread);
         let from = self.bring(rt, brought, woken);
-        self.go_on(rt, alloc, thread, from, waiting, gate, woken)
+        self.go_on(rt, alloc, thread, from, queue, gate, woken)
     }
 
     // Step after step, until the turn ends.
@@ -93,14 +93,14 @@ impl<B: Block> Locked<B> {
         alloc: Global,
         thread: usize,
         from: usize,
-        waiting: &Waiting,
+        queue: &LockQueue,
         gate: &G,
         woken: &mut Woken,
     ) -> Errand<B>
         ensures { HasErrand B.meaning self.old.engine self.new.engine self.new.ends result }
     {
         'steps: for _ in 0..STEPS {
-            if let Some(errand) = self.act(rt, alloc, thread, from, waiting, gate, woken) {
+            if let Some(errand) = self.act(rt, alloc, thread, from, queue, gate, woken) {
                 return errand;
             }
         }
@@ -114,7 +114,7 @@ impl<B: Block> Locked<B> {
         alloc: Global,
         thread: usize,
         from: usize,
-        waiting: &Waiting,
+        queue: &LockQueue,
         gate: &G,
         woken: &mut Woken,
     ) -> Option<Errand<B>>
@@ -123,11 +123,11 @@ impl<B: Block> Locked<B> {
         if self.ends {
             return Some(Errand::Leave);
         }
-        if waiting.has_guest() {
+        if queue.has_guest() {
             return Some(Errand::Again);
         }
         let light = self.pool.next_light();
-        if light.is_none() || waiting.has_mate() {
+        if light.is_none() || queue.has_mate() {
             if let Some(block) = self.pool.next_heavy(from) {
                 return self.claim_heavy(rt, alloc, block, gate, woken);
             }

@@ -5,11 +5,11 @@ use plant::Need;
 use std::alloc::Global;
 use std::sync::Arc;
 
-/// What each worker calls after each claim and before its work, with no lock held. A gate that waits delays its own worker, and those that
-/// wait for its block's items. It is there for tests and for probes; `Open` does nothing. It is also told of each turn and each wait of a block, by
-/// calls that do nothing unless it has bodies for them. These may come with the lock held: such a body is short, and waits for nobody.
+/// What a run tells of itself, for tests and for probes; `Open` does nothing. Only `pass` is called with no lock held, and may wait. The others do nothing
+/// unless a gate has bodies for them, and may come with the lock held: such a body is short, and waits for nobody.
 pub trait Gate {
-    /// The worker of this block has claimed firings from this one on, counted from 0.
+    /// Firings of this block were claimed from this one on, counted from 0, and their work comes next. A gate that waits here delays that work, and
+    /// whoever waits for its items.
     fn pass(&self, block: BlockId, firing: u64);
 
     /// All workers slept or had left though a block could act, so that all are woken to look again. It should never be called; a probe may count it.

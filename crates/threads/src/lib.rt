@@ -12,11 +12,11 @@
 //! - [`launch`], [`run`] and [`live`] have a worker for each block. [`launch_with`], [`run_with`] and [`live_with`] take [`RunOptions`]: whether each block has
 //!   a thread, how long a turn is, and a gate.
 //! - `live` has callers at desks make calls while the blocks work, and returns the history of all calls.
-//! - Whose progress wakes which worker is decided in `waiting`. What a run decides that takes as many threads as the work is worth stands in `policy`, a
-//!   page to read.
+//! - With a thread for each block, whose progress wakes which worker is decided in `waiting`. A run in as many threads as the work is worth goes by `policy`, a
+//!   page to read; whom it calls is decided in `pool`.
 //!
-//! The plant lies under one lock, and each call that is made of it there is one call of `Locked`, whose contract is exact. What a worker does between two looks at the
-//! lock is a turn: it commits, claims, and leaves to work. What comes out of the lock is compared with what was handed in, since a lock tells nothing but a
+//! The plant lies under one lock, and each call that is made of it there is one call of `Locked`, whose contract is exact. At each turn a worker takes
+//! the lock once: it commits what it did and claims anew. Then it works without the lock. What comes out of the lock is compared with what was handed in, since a lock tells nothing but a
 //! type of what it holds. So the contracts say what a plant holds at the end, for every schedule.
 #![tactic(auto)]
 

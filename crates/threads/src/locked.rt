@@ -115,7 +115,7 @@ impl<B: Block> Locked<B> {
         Next::Leave
     }
 
-    // What comes back is none of the plant's: then the run ends, and what is held is looked at.
+    // What a worker did is committed, and who waits for it is woken. Work that is none of the plant's ends the run.
     fn take_back(&mut self, brought: Option<Worked<B>>, woken: &mut Woken)
         ensures committed { HasBrought B.meaning B.eq brought self.old.engine self.new.engine }
         ensures others { self.new ≡ record self.old { engine = self.new.engine; waiting = self.new.waiting; pool = self.new.pool; ends = self.new.ends } }

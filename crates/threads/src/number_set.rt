@@ -5,7 +5,8 @@ pub const NUMBERS: usize = WORDS * BITS;
 
 const WORDS: usize = 4;
 
-const BITS: usize = 64;
+/// How many of them a word has.
+pub const BITS: usize = 64;
 
 /// A set of numbers below 256. It takes no memory.
 #[derive(Clone, Copy)]
@@ -14,26 +15,26 @@ pub struct NumberSet {
 }
 
 impl NumberSet {
-    /// None.
+    /// The empty set.
     pub fn new() -> NumberSet {
         NumberSet { words: [0; WORDS] }
     }
 
-    /// And this number.
+    /// Adds a number.
     pub fn add(&mut self, number: usize) {
         if let Some(word) = self.words.get_mut(number / BITS) {
             *word |= 1u64 << (number % BITS);
         }
     }
 
-    /// But for this number.
+    /// Takes a number away.
     pub fn remove(&mut self, number: usize) {
         if let Some(word) = self.words.get_mut(number / BITS) {
             *word &= !(1u64 << (number % BITS));
         }
     }
 
-    /// And all of these.
+    /// Adds all numbers of another set.
     pub fn add_all(&mut self, other: &NumberSet) {
         for (word, more) in self.words.iter_mut().zip(&other.words) {
             *word |= *more;
@@ -64,7 +65,7 @@ impl NumberSet {
         self
     }
 
-    /// How many there are.
+    /// How many numbers it has.
     pub fn count(&self) -> u32 {
         let mut count: u32 = 0;
         for word in &self.words {
@@ -73,9 +74,14 @@ impl NumberSet {
         count
     }
 
-    /// Whether there is none.
+    /// Whether it is empty.
     pub fn is_empty(&self) -> bool {
         self.count() == 0
+    }
+
+    /// Each 64 numbers, as the bits of a word.
+    pub fn words(&self) -> &[u64] {
+        &self.words
     }
 
     /// The least number that is no less than `from`, or else the least.

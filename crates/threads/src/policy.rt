@@ -21,12 +21,13 @@
 //! firings as take about `TURN`, as far as the block's share of its buffers goes.
 //!
 //! **Who is woken.** A thread that leaves with work, while another heavy block may act, calls one sleeper, unless one that was called has not come
-//! yet. Where nobody sleeps the first thread starts one more when it comes back from its own work, up to one a processor and one a block. So threads
+//! yet (`Pool::goes`, `Pool::call`). Where nobody sleeps the first thread starts one more when it comes back from its own work, up to one a processor and one a block. So threads
 //! come one by one, as far as there is work. Any progress of a block marks its neighbours as ready, whatever they wait for: to ask them costs less
 //! than to know.
 //!
-//! **How long the lock is held.** For at most `STEPS` steps, of which each light one takes less than about `LONG`. A guest (a stop, a look at the
-//! headway) is looked for before each step, and let go first.
+//! **How long the lock is held.** For at most `STEPS` steps, of which each light one takes less than about `LONG`; a heavy block that no other could be
+//! worked beside is stepped there too. A guest (a stop, a look at the headway) is looked for before each step, and let go first. A sink, or the history of
+//! a run with callers, that outgrows its room is moved to a larger one under the lock: that is rare, but takes the longer the more they hold.
 //!
 //! **How a run ends.** A thread with nothing to do sleeps while another is at work, since what that brings may be work for it. The last one asks the
 //! plant: if all blocks are done or it is quiet, the run is over; else a block that may act was not marked, which should never happen, and all look
@@ -39,6 +40,9 @@ use crate::number_set::NumberSet;
 /// What takes so many nanoseconds may be worth a thread. To wake one and have it come takes about as long, so shorter work is done before it is
 /// there.
 const LONG: u64 = 4_000;
+
+/// A heavy block stays heavy above this, so that one at the border does not swing.
+const STILL_LONG: u64 = LONG / 2;
 
 /// Work is worth a thread if it takes at least so many times as long as its claim and its commit. These are made under the lock, one at a time: with
 /// a lesser ratio no two threads could be kept at work.
@@ -69,7 +73,8 @@ const SIGNS: u32 = 2;
 /// How often the pause before a block is tried again is doubled at most: to 16,384 steps, which are a part of a second.
 const DOUBLED: u32 = 10;
 
-/// So many steps a thread makes before it lets the lock go: some tens of microseconds, or a quarter of a millisecond at most.
+/// So many steps a thread makes before it lets the lock go: some tens of microseconds, and a quarter of a millisecond at most where all are light. A lone
+/// heavy block is stepped there too, some `TURN` each time.
 pub const STEPS: u32 = 64;
 
 /// So often a thread of a pool lets guests go first by spinning, a microsecond or so, before it asks for the lock again. A guest that sleeps for the
@@ -246,7 +251,7 @@ impl Habit {
     /// A turn of so many firings outside of the lock took so long, and its claim and its commit `held`. It returns what the block turns out to be,
     /// where it shows.
     pub fn worked(&mut self, firings: u32, nanos: u64, held: u64) -> Option<Sort> {
-        if LONG / 2 <= nanos && held.saturating_mul(WORTH) <= nanos {
+        if STILL_LONG <= nanos && held.saturating_mul(WORTH) <= nanos {
             self.signs = 0;
             self.share = self.share_for(firings, nanos);
             return None;

@@ -49,7 +49,8 @@ where
     mates.join(&rt);
 }
 
-/// As `lead`, with threads of a scope, which joins them. `watch` is shown how far the plant is once no caller is left.
+/// Turn after turn of the first thread of a pool until the run ends. The others are threads of the scope, which joins them. `watch` is shown how far the
+/// plant is once no caller is left.
 pub fn lead_in_scope<
     's,
     'r: 's,
@@ -274,7 +275,7 @@ impl<B: Block, G: Gate + Drop> Shared<B, G> {
     // Lets guests take the lock first.
     fn yield_to_guests(&self) {
         for _ in 0..YIELDS {
-            if !self.waiting.has_guest() {
+            if !self.queue.has_guest() {
                 return;
             }
             spin_loop();

@@ -9,7 +9,7 @@ ghost use Rattle.plant.specs.Answers.{Answered, AnsweredBy, piece_reply, reply_o
 ghost use Rattle.threads.specs.History.{asked_by, said_by, said_of};
 ghost use Rattle.threads.specs.Request.{IsReady, asked_of, block_of, fits, now_at, response_reply, tells};
 
-use crate::entry::{Answer, Call, Feed, Setting, shared};
+use crate::entry::{Answer, Call, Feed, Setting, in_arc};
 use flowgraph::{Block, BlockId};
 use plant::{Closed, Fed, Piece, Plant, PlantFault, Taken};
 use settings::Value;
@@ -113,7 +113,7 @@ fn shown<B: Block>(
     ensures { AnsweredBy (read_of (net_of B.meaning plant.now.graph) plant.now.state sink.0 from max) (reply_of (λ p. piece_reply (arc_value p)) result) }
 {
     let piece = plant.read(alloc, sink, from, max)?;
-    Ok(shared(alloc, piece)?)
+    Ok(in_arc(alloc, piece)?)
 }
 
 impl Response {

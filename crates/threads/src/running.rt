@@ -24,9 +24,9 @@ use std::sync::{Arc, Wait};
 use std::thread::{JoinHandle, Threads};
 use std::time::Clock;
 
-/// A plant at work in threads, one for each of its blocks. Where it is dropped its workers go on by themselves, and are cut off as the program
-/// ends; `wait` gives the plant back. A contract sees what was handed in, whether a stop was asked for, and how many firings a worker claims at
-/// most.
+/// A plant at work in threads: one for each of its blocks, or a pool that acts for all. Where it is dropped the threads go on by themselves, and are cut
+/// off as the program ends; `wait` gives the plant back. A contract sees what was handed in, whether a stop was asked for, and how many firings are
+/// claimed at most at once.
 #[derive(Drop)]
 pub struct Running<B: Block, G: Gate + Drop> {
     pub(crate) shared: Arc<Shared<B, G>, Global>,
@@ -72,7 +72,7 @@ impl<B: Block, G: Gate + Drop> Running<B, G> {
         self.shared.headway(rt)
     }
 
-    /// As `wait`; until the workers leave it calls `watch.show` after each pause, and then `watch.end`.
+    /// Waits as `wait` does, and until then calls `watch.show` after each pause, and `watch.end` at the end.
     pub fn wait_watched<R: Threads + Wait, W: Watch>(
         self,
         rt: &R,

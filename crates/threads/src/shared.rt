@@ -6,12 +6,13 @@ ghost use Rattle.threads.specs.Locked.{IsOwn};
 ghost use Rattle.threads.specs.Request.{AreFor, IsReady};
 
 use crate::entry::Answer;
-use crate::errands::{Brought, Errand, Waiting};
+use crate::errands::{Brought, Errand, LockQueue};
 use crate::gate::Gate;
 use crate::locked::{Locked, Next};
+use crate::number_set::BITS;
 use crate::request::{Request, Response};
 use crate::turns::Turns;
-use crate::woken::{BITS, Woken};
+use crate::woken::Woken;
 use crate::worker::Worker;
 use flowgraph::{Block, BlockId};
 use plant::{Headway, Watch};
@@ -30,7 +31,7 @@ const LOOKS: u32 = 500;
 pub struct Shared<B: Block, G: Gate + Drop> {
     pub locked: Mutex<Locked<B>>,
     /// Who waits for it, in a run whose threads act for all blocks: they hold it long.
-    pub waiting: Waiting,
+    pub queue: LockQueue,
     /// For each block where its worker sleeps, or for each thread of a pool.
     pub parkers: Vec<Parker>,
     /// Where who looks on sleeps between two looks.
@@ -53,7 +54,7 @@ impl<B: Block, G: Gate + Drop> Shared<B, G> {
     {
         Shared {
             locked: Mutex::new(locked),
-            waiting: Waiting::new(),
+            queue: LockQueue::new(),
             parkers,
             watcher: Parker::new(),
             gate,
@@ -61,7 +62,7 @@ impl<B: Block, G: Gate + Drop> Shared<B, G> {
         }
     }
 
-    /// Wakes workers. The lock is not held.
+    /// Wakes threads. The lock is not held.
     pub fn wake(&self, woken: &Woken) {
         for (parkers, word) in self.parkers.chunks(BITS).zip(woken.words()) {
             let mut bits = *word;
@@ -85,7 +86,7 @@ impl<B: Block, G: Gate + Drop> Shared<B, G> {
         self.as_guest(rt).engine.plant().headway()
     }
 
-    /// The same once no caller is left.
+    /// How far the sources are, once no caller is left; `None` before that. It takes the lock, and looks at each block.
     pub fn headway_alone<R: Wait>(&self, rt: &R) -> Option<Headway> {
         let locked = self.as_guest(rt);
         if 0 < locked.callers {
@@ -153,22 +154,22 @@ impl<B: Block, G: Gate + Drop> Shared<B, G> {
         } else {
             self.locked(rt)
         };
-        locked.errand(rt, alloc, thread, brought, &self.waiting, &self.gate, woken)
+        locked.errand(rt, alloc, thread, brought, &self.queue, &self.gate, woken)
     }
 
     // The lock for a thread of a pool that is counted while it waits.
     fn as_mate<R: Wait>(&self, rt: &R) -> MutexGuard<'_, Locked<B>> {
-        self.waiting.mates.fetch_add(1, Ordering::SeqCst);
+        self.queue.mates.fetch_add(1, Ordering::SeqCst);
         let locked = self.locked(rt);
-        self.waiting.mates.fetch_sub(1, Ordering::SeqCst);
+        self.queue.mates.fetch_sub(1, Ordering::SeqCst);
         locked
     }
 
     // The lock for a guest, who is let go first.
     fn as_guest<R: Wait>(&self, rt: &R) -> MutexGuard<'_, Locked<B>> {
-        self.waiting.guests.fetch_add(1, Ordering::SeqCst);
+        self.queue.guests.fetch_add(1, Ordering::SeqCst);
         let locked = self.locked.lock(rt);
-        self.waiting.guests.fetch_sub(1, Ordering::SeqCst);
+        self.queue.guests.fetch_sub(1, Ordering::SeqCst);
         locked
     }
 

@@ -1,4 +1,4 @@
-//! Which workers work, which wait and for what, and whom the headway of a block concerns. It is the runtime's policy: nothing that a sink shows
+//! Which workers work, which wait and for what, and whom the progress of a block concerns. It is the runtime's policy: nothing that a sink shows
 //! depends on it, and a wake-up that is lost costs time, since the last worker to rest looks at the whole graph.
 
 ghost use Rattle.std.specs.Prelude.{◌<◌, ◌≤◌, length};
@@ -27,7 +27,7 @@ enum WorkerState {
 
 // How far a block went on: by so many firings, and whether its worker rests then.
 #[derive(Clone, Copy, Debug)]
-struct Headway {
+struct Advance {
     firings: u32,
     rests: bool,
 }
@@ -81,7 +81,7 @@ impl Waiting {
     )
         requires { block.0 < length graph.now.blocks }
     {
-        let headway = Headway {
+        let headway = Advance {
             firings,
             rests: false,
         };
@@ -99,7 +99,7 @@ impl Waiting {
         requires { block.0 < length graph.now.blocks }
     {
         self.rests(block, WorkerState::Waits(need, 0));
-        let headway = Headway {
+        let headway = Advance {
             firings: 0,
             rests: true,
         };
@@ -158,7 +158,7 @@ impl Waiting {
         &mut self,
         graph: &Valid<B>,
         block: BlockId,
-        headway: Headway,
+        headway: Advance,
         woken: &mut Woken,
     )
         requires { block.0 < length graph.now.blocks }

@@ -1,14 +1,11 @@
-//! Which workers are to be woken once the lock is let go.
+//! Which threads are to be woken once the lock is let go.
 
-// A bit for each block that a graph may have.
-const WORDS: usize = 4;
-/// How many of them a word has.
-pub const BITS: usize = 64;
+use crate::number_set::NumberSet;
 
-/// Workers that are to be woken. It takes no memory.
+/// Threads that are to be woken: the workers of these blocks, or these threads of a pool. It takes no memory.
 #[derive(Drop)]
 pub struct Woken {
-    words: [u64; WORDS],
+    threads: NumberSet,
     /// Whether all rested though a block could act.
     pub missed: bool,
     /// Whether the run is over, so that who looks on is woken too.
@@ -18,25 +15,23 @@ pub struct Woken {
 }
 
 impl Woken {
-    /// None.
+    /// Nobody is to be woken.
     pub fn new() -> Woken {
         Woken {
-            words: [0; WORDS],
+            threads: NumberSet::new(),
             missed: false,
             ends: false,
             wants: false,
         }
     }
 
-    /// And the worker of this block.
-    pub fn add(&mut self, block: usize) {
-        if let Some(word) = self.words.get_mut(block / BITS) {
-            *word |= 1u64 << (block % BITS);
-        }
+    /// Adds a thread by its number.
+    pub fn add(&mut self, thread: usize) {
+        self.threads.add(thread);
     }
 
-    /// Each 64 blocks, as the bits of a word.
+    /// The threads, each 64 of them as the bits of a word.
     pub fn words(&self) -> &[u64] {
-        &self.words
+        self.threads.words()
     }
 }
