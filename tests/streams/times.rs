@@ -3,14 +3,15 @@ use super::fakes::{Pieces, Written};
 use flow::measured::{Form, Looks, Measured};
 use flow::threading::Threading;
 use flow::serve::{Action, Verbosity, serve};
-use flowgraph::Valid;
+use flowgraph::{BlockId, Valid};
 use graph_file::read_graph;
 use kinds::Kind;
-use plant::Unwatched;
-use run_stats::{Figures, Stats, Waited, json_report, text_report};
+use plant::{Need, Unwatched};
+use run_stats::{Figures, Meter, Stats, Waited, json_report, text_report};
 use std::alloc::Global;
 use std::process::Abort;
 use std::test::Fail;
+use threads::Gate;
 
 const GRAPH: &str = "[[block]]\nname = \"src\"\nkind = \"vector_source\"\ntype = \"byte\"\n\
     [[block]]\nname = \"a\"\nkind = \"keep_one_in_n\"\ntype = \"byte\"\nn = 2\n\
@@ -81,7 +82,7 @@ block  kind           firings  items in  items out  at work  of the run  turns  
 src    vector_source    3,000         0      3,000  12.3 us       0.6 %      3     4.1 us  room of a 2 times (3.1 us)
 a      keep_one_in_n    1,500     3,000      1,500   1.5 ms      75.0 %      3   500.0 us  items of src 1 time (999 ns)
 out    vector_sink      1,499     1,499          0     0 ns       0.0 %      0          -  items of a 1,004 times (1.2 ms)
-The run is limited by a, which was at work for 75.0 % of it, and for which all others waited.
+The run is limited by a, which was at work for 75.0 % of it, and each wait of another block was for it.
 ";
 
 const JSON: &str = "{\"nanoseconds\":2000000,\"blocks\":[\
@@ -124,6 +125,28 @@ fn nothing_limits_a_run_in_which_none_was_at_work(rt: HostRuntime) -> Result<(),
         told.as_slice(),
         b"{\"nanoseconds\":0,\"blocks\":[],\"limited_by\":null,\"all_waited_for_it\":false}\n".as_slice()
     );
+    Ok(())
+}
+
+#[test]
+fn a_wait_is_counted_at_its_port_alone(rt: HostRuntime) -> Result<(), Fail> {
+    let alloc = rt.alloc();
+    let meter = Meter::new(alloc, rt, &graph(&rt, alloc))?;
+    // A source waits for its feed, which is at none of its ports.
+    meter.waits(BlockId(0), Need::Items(0));
+    meter.waits(BlockId(1), Need::Items(0));
+    // A wait that goes on is one.
+    meter.waits(BlockId(1), Need::Items(0));
+    meter.waits(BlockId(1), Need::Room(0));
+    meter.waits(BlockId(2), Need::Items(0));
+    let stats = meter.stats(alloc)?;
+    let mut counts = Vec::new(alloc);
+    for figures in &stats.blocks {
+        for waited in figures.inputs.iter().chain(&figures.outputs) {
+            counts.push(waited.count)?;
+        }
+    }
+    assert_eq!(rt; counts.as_slice(), [0, 1, 1, 1].as_slice());
     Ok(())
 }
 

@@ -28,7 +28,7 @@ struct Counters {
     nanos: AtomicU64,
     // When its turn began.
     began: AtomicU64,
-    // For which of its ports it waits, counted from 1, inputs first; 0 for none.
+    // For which of its ports it waits, counted from 1, outputs first; 0 for none.
     port: AtomicU64,
     // Since when.
     since: AtomicU64,
@@ -157,11 +157,11 @@ impl Counters {
         write(&self.port, 0);
     }
 
-    // The number of a port, from 1 on.
+    // The number of a port, from 1 on, outputs first: the input that a source waits for, its feed, is none of the ports.
     fn number_of(&self, need: Need) -> u64 {
         let before = match need {
-            Need::Items(port) => port,
-            Need::Room(port) => self.inputs.len().saturating_add(port),
+            Need::Room(port) => port,
+            Need::Items(port) => self.outputs.len().saturating_add(port),
         };
         (before as u64).saturating_add(1)
     }
@@ -169,9 +169,9 @@ impl Counters {
     // The waits at the port of a number.
     fn waits_at(&self, number: u64) -> Option<&Waits> {
         let before = (number as usize).checked_sub(1)?;
-        match before.checked_sub(self.inputs.len()) {
-            Some(port) => self.outputs.get(port),
-            None => self.inputs.get(before),
+        match before.checked_sub(self.outputs.len()) {
+            Some(port) => self.inputs.get(port),
+            None => self.outputs.get(before),
         }
     }
 

@@ -191,7 +191,7 @@ fn push_limit(out: &mut Vec<u8>, graph: &Valid<Kind>, stats: &Stats) -> Result<(
     }
     out.extend_from_slice(b" of it")?;
     if all_wait_for(graph, stats, limit) {
-        out.extend_from_slice(b", and for which all others waited")?;
+        out.extend_from_slice(b", and each wait of another block was for it")?;
     }
     out.extend_from_slice(b".\n")
 }

@@ -56,9 +56,12 @@ pub(crate) fn push_share(out: &mut Vec<u8>, part: u64, whole: u64) -> Result<(),
 /// How many thousandths of a whole this is, cut; none of nothing.
 pub(crate) fn per_mille(part: u64, whole: u64) -> u64 {
     if whole == 0 {
-        0
-    } else {
-        part.saturating_mul(THOUSAND) / whole
+        return 0;
+    }
+    match part.checked_mul(THOUSAND) {
+        Some(thousandfold) => thousandfold / whole,
+        // (of so long a time a thousandth is not missed)
+        None => part / (whole / THOUSAND).max(1),
     }
 }
 
