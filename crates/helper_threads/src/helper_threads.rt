@@ -48,7 +48,8 @@ impl<
 where
     B::Places: Send + Sync + 'static,
 {
-    /// Starts threads for a graph. Where one cannot be started, those before it help, or nobody. It fails only where the allocator refuses.
+    /// Starts threads for a graph. Where one cannot be started, those before it help, or nobody. It fails only where the allocator refuses what is asked of it
+    /// before the first.
     pub fn start(
         rt: R,
         alloc: Global,
@@ -60,10 +61,9 @@ where
         let (sender, works) = bounded(alloc, most.saturating_mul(2))?;
         let mut threads = Vec::with_capacity(alloc, most)?;
         for _ in 0..most {
-            let (todo, sender) = (todo.clone()?, sender.clone()?);
-            match thread::spawn(&rt, move || work(&rt, &todo, &sender)) {
-                Ok(handle) => threads.push(handle)?,
-                Err(_) => break,
+            match started(rt, &todo, &sender) {
+                Ok(Some(handle)) => threads.push(handle)?,
+                _ => break,
             }
         }
         Ok(HelperThreads {
@@ -94,6 +94,19 @@ where
             handle.join(&rt);
         }
     }
+}
+
+// One more thread, where one can be started.
+fn started<B: Block + Send + Sync + 'static, R: Threads + Wait + Clock + Copy + Send + 'static>(
+    rt: R,
+    todo: &Receiver<Job<B>, Global>,
+    sender: &Sender<Worked<B>, Global>,
+) -> Result<Option<JoinHandle<()>>, AllocError>
+where
+    B::Places: Send + Sync + 'static,
+{
+    let (todo, sender) = (todo.clone()?, sender.clone()?);
+    Ok(thread::spawn(&rt, move || work(&rt, &todo, &sender)).ok())
 }
 
 // Does jobs until no more can come.

@@ -1,9 +1,9 @@
 //! Threads that help a plant that streams: while its caller's thread steps cheap blocks, they do the work of dear ones.
 //!
 //! ```text
-//! let mut helpers = HelperThreads::start(rt, alloc, plant.graph());
-//! pipeline.run_with(alloc, &mut helpers, &mut Unwatched)?;
-//! helpers.end();
+//! let mut helpers = HelperThreads::start(rt, alloc, pipeline.plant.graph())?;
+//! let ended = pipeline.run_with(alloc, &mut helpers, &mut Unwatched);
+//! helpers.finish();
 //! ```
 //!
 //! The plant stays with the caller, who claims firings of a dear block, sends the job, and commits the work that comes back. So no contract speaks of these threads: a

@@ -13,7 +13,7 @@ use std::fmt;
 use threads::RunError;
 
 /// Why a call was refused, why a pipeline stopped, or why a run in threads failed. Number, name and text are those of the fault that it was converted from: 1 to 12,
-/// 20 to 34, 40 to 44, 51 to 53, 58, or 60 to 62, and a name as `Loop` or `Memory`.
+/// 20 to 34, 40 to 44, 50 to 53, 58, or 60 to 62, and a name as `Loop` or `Memory`.
 #[derive(Debug, Drop, thiserror::Error)]
 pub enum Error {
     /// Items could not be made.
