@@ -118,8 +118,43 @@ impl<'a> Document<'a> {
         self.start_of(place)
     }
 
-    /// Where the item of this number begins in an array that begins at a place.
+    /// Where the item of this number begins in the array of a place, which its brackets or its headers make; or else the place.
     pub fn item_of(&self, array: usize, number: usize) -> usize {
+        match self.header_of(array, number) {
+            Some(header) => header,
+            None => self.inline_item(array, number),
+        }
+    }
+
+    // Where the header of this number begins, of those that make the array of a place, or the place where there are fewer. None where no table begins there.
+    fn header_of(&self, place: usize, number: usize) -> Option<usize> {
+        // (of a key the value begins behind it)
+        let first = self
+            .entries
+            .iter()
+            .find(|entry| entry.start == place && entry.value == place)?;
+        let mut left = number;
+        for entry in &self.entries {
+            let is_header = entry.start == entry.value && entry.table == first.table;
+            if is_header && self.word_of(entry) == self.word_of(first) {
+                if left == 0 {
+                    return Some(entry.start);
+                }
+                left -= 1;
+            }
+        }
+        Some(place)
+    }
+
+    // The first word of a key or a header; of a table of its own it is empty.
+    fn word_of(&self, entry: &Entry) -> &[u8] {
+        match entry.key {
+            Some(word) => part(self.text, word),
+            None => b"",
+        }
+    }
+
+    fn inline_item(&self, array: usize, number: usize) -> usize {
         let mut place = array;
         let mut depth = 0usize;
         let mut count = 0usize;

@@ -85,8 +85,8 @@ fn item_range_finding(
     Ok(document.at_value(place, Key::Items, message))
 }
 
-// Whether a number is one of a type.
-fn is_in(item: ItemType, number: i64) -> bool {
+/// Whether a number is an item of a type.
+pub(crate) fn is_in(item: ItemType, number: i64) -> bool {
     match item {
         ItemType::Byte => u8::try_from(number).is_ok(),
         ItemType::Short => i16::try_from(number).is_ok(),

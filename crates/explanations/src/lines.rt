@@ -55,9 +55,12 @@ impl<I> KeptLines<I> {
     /// The first bad line of those that are kept, shown with what a line may say; none where none is bad. In a live run fewer commands are good.
     pub fn bad_line(&self, alloc: Global, is_live: bool) -> Result<Option<String>, AllocError> {
         let mut number = self.kept.before;
+        let mut left = self.kept.count;
         for line in self.kept.bytes.as_slice().split(|byte| *byte == b'\n') {
             number = number.saturating_add(1);
-            let line = without_return(line);
+            // (a return is a part of a last line without a line feed)
+            let line = if 0 < left { without_return(line) } else { line };
+            left = left.saturating_sub(1);
             if let Some(finding) = fault_of_line(alloc, line, is_live)? {
                 let source = Source {
                     name: "standard input",

@@ -4,13 +4,14 @@ use crate::document::Document;
 use crate::expected::{
     known_keys, listed_keys, listed_kinds, owner, range_text, shape_text, type_text,
 };
+use crate::feed_faults::is_in;
 use crate::frame::Finding;
 use crate::looks::shown;
 use crate::near::near_name;
 use crate::tokens::part;
 use graph_file::FilePlace;
-use items::TagKey;
-use kind_keys::table::{has_only, keys_fault, text_at, value_at, values_at};
+use items::{ItemType, TagKey};
+use kind_keys::table::{has_only, keys_fault, text_at, type_at, value_at, values_at};
 use kind_keys::{Key, KeyFault, ValueForm};
 use kinds::KindName;
 use parameters::Parameter;
@@ -47,7 +48,8 @@ fn unknown_key(document: &Document<'_>, place: FilePlace) -> Result<Finding, All
             continue;
         };
         let word = part(document.text, span);
-        if entry.table == place && !is_known(&keys, word) {
+        // (with escapes it may be any key)
+        if entry.table == place && !word.contains(&b'\\') && !is_known(&keys, word) {
             let word = shown(alloc, word)?;
             return Ok(Finding {
                 place: entry.start,
@@ -187,19 +189,43 @@ fn bad_parameter(
 
 // The first number of a list that may not stand in it, whatever stands beside it.
 fn bad_number(document: &Document<'_>, place: FilePlace, parameter: Parameter) -> Option<usize> {
-    let (least, most) = match parameter {
-        Parameter::Map => (0, 255),
-        Parameter::Taps => (-32768, 32767),
-        Parameter::Lengths => (1, 1024),
-        _ => return None,
-    };
     let values = values_at(document.table_at(place)?, Key::Parameter(parameter));
     for (number, value) in values.iter().enumerate() {
         if let Some(found) = value.as_integer() {
-            if found < least || most < found {
+            if !may_stand(document, place, parameter, values.len(), found)? {
                 return Some(number);
             }
         }
     }
     None
+}
+
+// Whether a number may stand in a list of so many; none of a parameter that is no list.
+fn may_stand(
+    document: &Document<'_>,
+    place: FilePlace,
+    parameter: Parameter,
+    count: usize,
+    number: i64,
+) -> Option<bool> {
+    Some(match parameter {
+        Parameter::Map => is_in(ItemType::Byte, number),
+        Parameter::Taps => is_in(ItemType::Short, number),
+        Parameter::Lengths => 1 <= number && number <= 1024,
+        Parameter::Places => match usize::try_from(number) {
+            Ok(place) => place < count,
+            Err(_) => false,
+        },
+        Parameter::Values => is_in(type_of_values(document, place)?, number),
+        _ => return None,
+    })
+}
+
+// The type of the numbers of a list `values`.
+fn type_of_values(document: &Document<'_>, place: FilePlace) -> Option<ItemType> {
+    let key = match document.kind_at(place)? {
+        KindName::Table => Parameter::To,
+        _ => Parameter::ItemType,
+    };
+    type_at(document.table_at(place)?, Key::Parameter(key))
 }
