@@ -28,7 +28,7 @@ pub enum EndFault {
     NotSink,
     /// The source's tape was closed before.
     Closed,
-    /// The tape would be longer than 2^32 items.
+    /// The tape would be longer than 2^32 items, or than a run that streams takes.
     TapeFull,
     /// It could not be opened, or a read failed.
     Read,

@@ -43,7 +43,7 @@ impl<B: Block, R: Read, W: Write> Pipeline<B, R, W> {
     /// Reads, works and writes until each block is done, or none can act and no reader gives more. Then all is written that the sinks have taken.
     ///
     /// Before each read that may wait, all that came of what was read before is written, and the writers are flushed. A reader is asked only where its
-    /// source lacks items that another block waits for. Where it stops by a fault, what was written is a beginning.
+    /// source has given all that it was fed: first one whose items a sink waits for, else any. Where it stops by a fault, what was written is a beginning.
     pub fn run(&mut self, alloc: Global) -> Result<Settled, PipelineFault>
         ensures goes { OnOk result (GoesOn R.remaining W.contents (net_of B.meaning self.old.plant.plant.graph) self.old.plant self.new.plant self.old.ends.items self.new.ends.items) }
         ensures begins { OnErr result (Begins R.remaining W.contents (net_of B.meaning self.old.plant.plant.graph) self.old.plant self.new.plant self.old.ends.items self.new.ends.items) }
