@@ -55,4 +55,13 @@ on_terminal run "$room/long.toml"
 [[ $shown =~ ^($'\r'"flow: "[0-9]+" of $count items")+$'\r\e[K'$ ]] || wrong "a run shows: $(printf '%q' "$shown")"
 on_terminal run --quiet "$room/long.toml"
 [[ -z $shown ]] || wrong "a quiet run shows: $(printf '%q' "$shown")"
-echo "terminal: a long run shows how far it is, and a quiet one does not"
+# The tags of a long stream that has none: the terminal shows what comes of it, and no line between.
+cat >"$room/plain.toml" <<'END'
+block = [{ name = "src", kind = "vector_source", type = "byte" }, { name = "out", kind = "vector_sink", type = "byte" }]
+connect = [{ from = "src", to = "out" }]
+END
+flow=$(printf '%q ' "$program" run -i src=- -o out=/dev/null --tags out=- "$room/plain.toml")
+script -q -e -c "head -c 1000000000 /dev/zero | $flow" "$room/shown" </dev/null >/dev/null || wrong "status $? of a stream on a terminal"
+shown=$(grep -v '^Script ' "$room/shown" || true)
+[[ $shown == $'sink out 1000000000\r\ndone\r' ]] || wrong "a stream on a terminal shows: $(printf '%q' "$shown")"
+echo "terminal: a long run shows how far it is; a quiet one does not, nor one whose items or tags go there"

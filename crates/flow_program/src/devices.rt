@@ -80,10 +80,7 @@ impl Chain {
     pub fn number(&self) -> usize {
         match self.parts.get(self.at) {
             Some(part) => part.number,
-            None => match self.parts.last() {
-                Some(part) => part.number,
-                None => 0,
-            },
+            None => 0,
         }
     }
 }

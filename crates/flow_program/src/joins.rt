@@ -5,7 +5,8 @@ use crate::ends::{Ends, NamedEnd};
 use crate::stops::{Stop, Stream, stop_of, unopened};
 use flow::raw_fault::{EndFault, EndPlace};
 use flow::raw_input::{sink_named, source_named};
-use flowgraph::BlockId;
+use flowgraph::{BlockId, Valid};
+use kinds::Kind;
 use raw_items::item_size;
 use std::alloc::{AllocError, Global};
 use std::fs;
@@ -73,12 +74,14 @@ pub struct Kept<'a> {
     pub target: Target<'a>,
 }
 
-/// Makes the outputs, in their order, and joins each sink with one of its items to its own. The others are returned.
+/// Makes the outputs, in their order, and joins each sink with one of its items to its own. The others are returned. Where a name is refused no file is made, and
+/// so none is emptied.
 pub fn join_outputs<'a>(
     rt: &'a HostRuntime,
     run: &mut Stream<'a>,
     ends: &Ends<'_>,
 ) -> Result<Vec<Kept<'a>>, Stop> {
+    test_names(run.plant.graph(), ends)?;
     let mut targets = slots::<Targets<'a>>(rt.alloc(), run.plant.graph().len())?;
     for (number, end) in ends.outputs.iter().enumerate() {
         let place = EndPlace::Output(number);
@@ -109,6 +112,17 @@ pub fn join_outputs<'a>(
         }
     }
     join_targets(rt, run, ends, targets)
+}
+
+// Whether each output names a sink.
+fn test_names(graph: &Valid<Kind>, ends: &Ends<'_>) -> Result<(), Stop> {
+    for (number, end) in ends.outputs.iter().enumerate() {
+        sink_named(graph, EndPlace::Output(number), end.block.as_bytes())?;
+    }
+    for (number, end) in ends.tags.iter().enumerate() {
+        sink_named(graph, EndPlace::Tags(number), end.block.as_bytes())?;
+    }
+    Ok(())
 }
 
 fn join_targets<'a>(

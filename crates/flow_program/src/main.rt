@@ -7,6 +7,7 @@ mod explaining;
 mod joins;
 mod listing;
 mod measuring;
+mod overwriting;
 mod raw;
 mod refusing;
 mod stops;
@@ -17,11 +18,12 @@ mod words;
 use crate::explaining::{REFUSED, explain_device, explain_file, explain_line};
 use crate::listing::print_kinds;
 use crate::measuring::{measured_for, tell_times};
+use crate::overwriting::overwrites;
 use crate::raw::run_raw;
 use crate::refusing::{begins_none, buffered};
 use crate::terminal::Terminal;
 use crate::tracing::{tell_trace, trace_file_for};
-use crate::words::{Asked, Call, asked_by};
+use crate::words::{Asked, Call, asked_by, written_twice};
 use clap::error::ErrorKind;
 use explanations::{KeptLines, Noted};
 use flow::serve::serve;
@@ -53,16 +55,23 @@ fn status<R: Threads + Wait + Clock + Copy + Send + Sync + 'static>(
     };
     match asked_by(rt.alloc(), &words) {
         Ok(Asked::Kinds) => print_kinds(rt),
-        Ok(Asked::Call(call)) => run(threads, rt, call),
-        Err(error) => {
-            let fault = StartFault::of_call(error.kind() == ErrorKind::OutOfMemory);
-            if fault == StartFault::BadWords {
-                // Its text ends its last line.
-                let _ = eprint!(rt; "{error}");
-            }
-            begins_none(rt, fault)
-        }
+        Ok(Asked::Call(call)) => match overwrites(rt, &call) {
+            Ok(false) => run(threads, rt, call),
+            Ok(true) => refuse(rt, &written_twice(rt.alloc())),
+            Err(_) => begins_none(rt, StartFault::Memory),
+        },
+        Err(error) => refuse(rt, &error),
     }
+}
+
+// Says what is wrong with the words.
+fn refuse(rt: &HostRuntime, error: &clap::Error) -> u8 {
+    let fault = StartFault::of_call(error.kind() == ErrorKind::OutOfMemory);
+    if fault == StartFault::BadWords {
+        // Its text ends its last line.
+        let _ = eprint!(rt; "{error}");
+    }
+    begins_none(rt, fault)
 }
 
 fn run<R: Threads + Wait + Clock + Copy + Send + Sync + 'static>(
@@ -70,7 +79,9 @@ fn run<R: Threads + Wait + Clock + Copy + Send + Sync + 'static>(
     rt: &HostRuntime,
     call: Call<'_>,
 ) -> u8 {
-    let may_show = call.may_show(rt.stderr().is_terminal());
+    // (a run that writes items or tags to a terminal would write them into the line that shows it)
+    let is_shared = call.ends.use_output() && rt.stdout().is_terminal();
+    let may_show = call.may_show(rt.stderr().is_terminal() && !is_shared);
     let mut terminal = Terminal::new(rt, rt.stderr(), may_show);
     let file = match fs::read(rt, call.path) {
         Ok(file) => file,

@@ -17,7 +17,7 @@ use flow::stalls::explain_stall;
 use flowgraph::BlockId;
 use helper_threads::HelperThreads;
 use pipeline::{End, Pipeline, PipelineFault, Settled};
-use reporting::{ByteOut, WriteEnd, write_whole};
+use reporting::write_whole;
 use script_text::push_tag_lines;
 use std::alloc::{AllocError, Global};
 use std::io::Write;
@@ -162,12 +162,15 @@ fn write_kept(rt: &HostRuntime, run: &Stream<'_>, kept: Vec<Kept<'_>>) -> Result
 fn tell(rt: &HostRuntime, run: &Stream<'_>, ends: &Ends<'_>, settled: Settled) -> Result<(), Stop> {
     let text = stream_report(rt.alloc(), &run.plant, settled)?;
     let written = if ends.use_output() {
-        WriteEnd::new(rt.stderr()).write(&text)
+        write_whole(&mut rt.stderr(), &text)
     } else {
-        WriteEnd::new(std::io::writer(rt)).write(&text)
+        write_whole(&mut std::io::writer(rt), &text)
     };
     match written {
         Ok(()) => Ok(()),
-        Err(_) => Err(Stop::from(RawFault::Whole(Fault::Script(ScriptFault::Write)))),
+        Err(error) => Err(Stop {
+            fault: RawFault::Whole(Fault::Script(ScriptFault::Write)),
+            reason: Some(error),
+        }),
     }
 }

@@ -16,8 +16,8 @@ const LONGEST_LINE: usize = 1024;
 // Of a longer word nothing is said: it is no path either.
 const LONGEST_WORD: usize = 4096;
 
-/// A writer behind a buffer, so that a line that comes in pieces is one write, and stays whole beside those of other programs. No memory is asked for later; where
-/// none is left now, each piece is a write.
+/// A writer behind a buffer, so that the line of a refusal, which comes in pieces, is one write, and stays whole beside those of other programs. Of the lines of a
+/// stalled run, which may be more than the buffer holds, one may be cut. No memory is asked for later; where none is left now, each piece is a write.
 pub fn buffered<W: Write + Copy + Drop>(alloc: Global, writer: W) -> WriteEnd<BufWriter<W>>
     ensures inner { writer_inner result.writer ≡ writer }
     ensures empty { writer_buffer result.writer ≡ [] }

@@ -150,6 +150,13 @@ pub fn explain(
             let _is_refused = explain_file(rt, call, file);
             return;
         }
+        // (the report of the run could not be written)
+        RawFault::Whole(Fault::Script(ScriptFault::Write)) => {
+            if let Some(error) = reason {
+                explain_device(rt, "standard output", &error);
+            }
+            return;
+        }
         RawFault::Whole(_) => return,
         RawFault::End(place, fault) => (*place, *fault),
     };

@@ -145,6 +145,14 @@ fn action_of(name: &str, inner: &ArgMatches<'_>) -> Action {
     }
 }
 
+/// What is said of words that name a file twice which is written.
+pub fn written_twice(alloc: Global) -> clap::Error {
+    match commands(alloc) {
+        Ok(mut flow) => error_of(&mut flow, EndsFault::FileTwice),
+        Err(error) => error,
+    }
+}
+
 // What `clap` says of words that name no ends.
 fn error_of(flow: &mut clap::Command<'_>, fault: EndsFault) -> clap::Error {
     let said = match fault.text() {

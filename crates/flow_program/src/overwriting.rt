@@ -1,0 +1,82 @@
+//! Whether a call would write over what it reads, under another name: paths that differ may lead to one file.
+
+use crate::ends::NamedEnd;
+use crate::words::Call;
+use std::alloc::AllocError;
+use std::fs;
+use std::os::unix::fs::MetadataExt;
+
+// Where a path leads: the device and the number of its file; or of its folder, with its name there, where there is no such file as yet.
+type Place<'a> = (u64, u64, &'a str);
+
+/// Whether a file that the call writes is one that it reads, or that it writes besides. Devices, pipes and folders count for none.
+pub fn overwrites(rt: &HostRuntime, call: &Call<'_>) -> Result<bool, AllocError> {
+    let mut written = Vec::new(rt.alloc());
+    for end in call.ends.outputs.iter().chain(call.ends.tags.iter()) {
+        add_place(rt, &mut written, end)?;
+    }
+    if let Some(trace) = call.trace {
+        if let Some(place) = place_of(rt, trace.path) {
+            written.push(place)?;
+        }
+    }
+    written.sort_unstable();
+    if have_twins(&written) || is_written(rt, &written, call.path) {
+        return Ok(true);
+    }
+    let mut read = call.ends.inputs.iter().chain(call.ends.marks.iter());
+    Ok(read.any(|end| !end.is_standard() && is_written(rt, &written, end.path)))
+}
+
+fn add_place<'a>(
+    rt: &HostRuntime,
+    places: &mut Vec<Place<'a>>,
+    end: &NamedEnd<'a>,
+) -> Result<(), AllocError> {
+    if end.is_standard() {
+        return Ok(());
+    }
+    if let Some(place) = place_of(rt, end.path) {
+        places.push(place)?;
+    }
+    Ok(())
+}
+
+// Whether a file that is read is one of these, which are sorted.
+fn is_written(rt: &HostRuntime, written: &[Place<'_>], path: &str) -> bool {
+    match place_of(rt, path) {
+        Some(place) => written.binary_search(&place).is_ok(),
+        None => false,
+    }
+}
+
+// Whether two that are equal stand side by side.
+fn have_twins(places: &[Place<'_>]) -> bool {
+    for pair in places.windows(2) {
+        if let [first, second] = pair {
+            if first == second {
+                return true;
+            }
+        }
+    }
+    false
+}
+
+fn place_of<'a>(rt: &HostRuntime, path: &'a str) -> Option<Place<'a>> {
+    if let Ok(file) = fs::metadata(rt, path) {
+        return if file.is_file() {
+            Some((file.dev(), file.ino(), ""))
+        } else {
+            None
+        };
+    }
+    let (folder, name) = match path.rsplit_once('/') {
+        Some(("", name)) => ("/", name),
+        Some((folder, name)) => (folder, name),
+        None => (".", path),
+    };
+    match fs::metadata(rt, folder) {
+        Ok(folder) => Some((folder.dev(), folder.ino(), name)),
+        Err(_) => None,
+    }
+}
