@@ -4,14 +4,16 @@
 # The list of what was installed, under the prefix.
 installed=share/magbelu/installed
 
-# python_folder_of PREFIX: prints the folder under the prefix in which Python looks for packages, or would if it were told to look there
+# python_folder_of PREFIX: prints the folder under the prefix in which Python looks for packages, or would if it were told to look there: one beside the library
+# where there is one, since the package looks for it there
 python_folder_of() {
-    python3 - "$1" <<'END'
+    python3 - "$1" "$lib_folder" <<'END'
 import os, site, sys
 
-prefix = os.path.join(sys.argv[1], "")
-own = [it for it in [*site.getsitepackages(), site.getusersitepackages()] if it.startswith(prefix)]
-print(own[0][len(prefix):] if own else "lib/python%d.%d/site-packages" % sys.version_info[:2])
+prefix, lib = (os.path.join(it, "") for it in sys.argv[1:])
+own = [it[len(prefix):] for it in [*site.getsitepackages(), site.getusersitepackages()] if it.startswith(prefix)]
+own.sort(key=lambda it: not it.startswith(lib))
+print(own[0] if own else lib + "python%d.%d/site-packages" % sys.version_info[:2])
 END
 }
 
@@ -25,40 +27,60 @@ begin_list() {
             made+=("$folder/")
         fi
     done
-    list=$root/$installed
     printf '%s\n' "${made[@]}" "$installed" >"$list"
 }
 
-# put_library: the library for C with what compilers and Python need of it, where it is built from these sources
-put_library() {
+# put_everything: the program, and the library for C with what compilers and Python need of it, where it is built from these sources
+put_everything() {
+    python_folder=
+    put_program
     if ! is_fresh "$c_folder/libmagbelu.a" "$c_crate"; then
-        echo "build: the library for C is not installed: ./build --c has not built it from these sources" >&2
         return
     fi
     if [[ -e $c_folder/libmagbelu.so ]]; then
         put_shared
     fi
     put_development "$root"
-    echo "build: installed $root/$lib_folder/libmagbelu.a, with its headers, as magbelu of pkg-config" >&2
     if [[ -e $c_folder/libmagbelu.so ]] && python_folder=$(python_folder_of "$root" 2>/dev/null); then
         put_python
-        echo "build: installed $root/$python_folder/magbelu for Python, and $root/share/gnuradio/grc/blocks for GNU Radio Companion" >&2
     fi
 }
 
-# install_to PREFIX: all that is built, in place of what an earlier call brought there
-install_to() {
-    if [[ -e $1/$installed ]]; then
-        take_away "$1"
-    fi
-    root=$1
-    begin_list
-    put_program
+# tell_installed: what was put where
+tell_installed() {
     echo "build: installed $root/bin/flow, with its man page and completions for bash and zsh" >&2
     if [[ :$PATH: != *":$root/bin:"* ]]; then
         echo "build: $root/bin is not in PATH" >&2
     fi
-    put_library
+    if ! grep -qxF -- "$lib_folder/libmagbelu.a" "$list"; then
+        echo "build: the library for C is not installed: ./build --c has not built it from these sources" >&2
+        return
+    fi
+    echo "build: installed $root/$lib_folder/libmagbelu.a, with its headers, as magbelu of pkg-config" >&2
+    if [[ -n $python_folder ]]; then
+        echo "build: installed $root/$python_folder/magbelu for Python, and $root/share/gnuradio/grc/blocks for GNU Radio Companion" >&2
+    fi
+}
+
+# test_places PREFIX: ends the script where something would be replaced there that no earlier call has brought
+test_places() {
+    root=$1
+    list=$root/$installed
+    only_tests=1
+    test_place "$installed"
+    put_everything
+    only_tests=0
+}
+
+# install_to PREFIX: all that is built, in place of what an earlier call brought there
+install_to() {
+    test_places "$1"
+    if [[ -e $list ]]; then
+        take_away "$root"
+    fi
+    begin_list
+    put_everything
+    tell_installed
 }
 
 # take_away PREFIX: the files of its list, and those of its folders that nobody else has put something into. (The list itself goes last but for its folders.)

@@ -8,6 +8,9 @@ lib_folder=lib
 python_folder=
 zsh_folder=share/zsh/site-functions
 list=/dev/null
+# Whether places are only tested; and the file that has to go where the script ends now.
+only_tests=0
+half_made=
 
 # version_of_calls: prints the version of the library's calls, which is that of its soname
 version_of_calls() { sed -n 's/^#define MAGBELU_VERSION //p' "$top/c/magbelu.h"; }
@@ -22,17 +25,43 @@ shared_name() { echo "libmagbelu.so.$(version_of_calls)"; }
 make_folder() {
     if [[ $1 != . && ! -d $root/$1 ]]; then
         make_folder "$(dirname -- "$1")"
-        echo "$1/" >>"$list"
         mkdir -- "$root/$1"
+        echo "$1/" >>"$list"
     fi
 }
 
-# put MODE FILE PLACE: the file
-put() {
-    make_folder "$(dirname -- "$3")"
-    echo "$3" >>"$list"
-    install -m "$1" -- "$2" "$root/$3"
+# test_place PLACE: ends the script where something stands there that the list does not have, so somebody else's, or where a file stands for a folder above it
+test_place() {
+    local above=$1
+    if [[ -e $root/$1 || -L $root/$1 ]] && ! grep -qsxF -- "$1" "$list"; then
+        fail "$root/$1 is not replaced: no ./build --install has put it there"
+    fi
+    while [[ $above == */* ]]; do
+        above=${above%/*}
+        if [[ ! -d $root/$above && (-e $root/$above || -L $root/$above) ]]; then
+            fail "$root/$above is no folder"
+        fi
+    done
 }
+
+# put_by PLACE COMMAND..: what the command makes of the place. (It is listed once it is there: whatever the list has is taken away later.)
+put_by() {
+    test_place "$1"
+    if ((only_tests)); then
+        return
+    fi
+    make_folder "$(dirname -- "$1")"
+    half_made=$root/$1
+    "${@:2}" "$half_made"
+    echo "$1" >>"$list"
+    half_made=
+}
+
+# put MODE FILE PLACE: the file
+put() { put_by "$3" install -m "$1" -- "$2"; }
+
+# put_link TARGET PLACE: a link to the target
+put_link() { put_by "$2" ln -s -- "$1"; }
 
 # put_all FOLDER PLACE: all files below the folder, but for what Python has compiled
 put_all() {
@@ -57,15 +86,13 @@ put_shared() { put 644 "$c_folder/libmagbelu.so" "$lib_folder/$(shared_name)"; }
 
 # put_development PREFIX: what programs in C are compiled with, where the root will be at PREFIX
 put_development() {
-    local file name
-    name=$(shared_name)
+    local file
     for file in "$top"/c/magbelu.h*; do
         put 644 "$file" "include/${file##*/}"
     done
     put 644 "$c_folder/libmagbelu.a" "$lib_folder/libmagbelu.a"
     if [[ -e $c_folder/libmagbelu.so ]]; then
-        echo "$lib_folder/libmagbelu.so" >>"$list"
-        ln -sf -- "$name" "$root/$lib_folder/libmagbelu.so"
+        put_link "$(shared_name)" "$lib_folder/libmagbelu.so"
     fi
     put 644 <(write_pc "$1") "$lib_folder/pkgconfig/magbelu.pc"
 }

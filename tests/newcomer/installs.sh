@@ -58,6 +58,11 @@ install_brings_the_library_for_c() {
     if command -v python3 >/dev/null; then
         is_found_by_python
         brings "$companion" "$top/$companion"
+        # (beside the library, too, where Python looks into lib64 first)
+        mkdir "$room/lib64"
+        printf '%s\n' "import site, sys" "sys.platlibdir = 'lib64'" "site.PREFIXES[:] = ['$elsewhere/a prefix']" >"$room/lib64/sitecustomize.py"
+        calls 0 env PYTHONPATH="$room/lib64" ./build_by_link --install "a prefix"
+        is_found_by_python
     fi
 }
 
@@ -82,6 +87,62 @@ uninstall_takes_all_away() {
     writes errors "build: $elsewhere/a prefix has no share/magbelu/installed: ./build --install has put nothing there"
     calls 0 env HOME="$room/home" ./build_by_link --uninstall
     [[ -z $(find "$room/home/.local" -mindepth 1) ]] || wrong "--uninstall without a prefix takes nothing away from ~/.local"
+}
+
+# leaves FILE..: --uninstall leaves these files of others in bin/, which then go but for `other`
+leaves() {
+    calls 0 ./build_by_link --uninstall "a prefix"
+    cmp -s <(under_prefix) <(printf '%s\n' . ./bin "${@/#/./bin/}") || wrong "--uninstall leaves $(under_prefix | paste -sd ' '), and not bin/ with $*"
+    find "$elsewhere/a prefix/bin" -type f ! -name other -delete
+}
+
+# is_refused_for PLACE: what stands at this place, which is somebody else's, ends --install before anything is changed
+is_refused_for() {
+    under_prefix >"$room/before"
+    calls 1 ./build_by_link --install "a prefix"
+    writes errors "build: $elsewhere/a prefix/$1 is not replaced: no ./build --install has put it there"
+    under_prefix | cmp -s - "$room/before" || wrong "--install changes something, and refuses $1"
+}
+
+# installs_beside PATTERN COMMAND: --install fails where the command is run as a file is copied to a place of this pattern, which is `place` in it
+# shellcheck disable=SC2016
+installs_beside() {
+    printf '%s\n' '#!/bin/bash' 'place=${*: -1}' "[[ \$place != $1 ]] || { $2; }" "exec $(command -v install) \"\$@\"" >"$room/bin/install"
+    chmod +x "$room/bin/install"
+    calls 1 ./build_by_link --install "a prefix"
+    rm "$room/bin/install"
+}
+
+# What others have put there stays, and --uninstall does not take it away either.
+# shellcheck disable=SC2016
+install_replaces_nothing_of_others() {
+    local it list="$elsewhere/a prefix/share/magbelu/installed"
+    for it in bin/flow lib/libmagbelu.so share/man/man1/flow.1 share/magbelu/installed; do
+        mkdir -p "$(dirname -- "$elsewhere/a prefix/$it")"
+        ln -s nowhere "$elsewhere/a prefix/$it"
+        is_refused_for "$it"
+        rm "$elsewhere/a prefix/$it"
+    done
+    # (a list has itself)
+    echo bin/other >"$list"
+    is_refused_for share/magbelu/installed
+    rm -r "$elsewhere/a prefix"/{lib,share}
+    touch "$elsewhere/a prefix/share"
+    calls 1 ./build_by_link --install "a prefix"
+    writes errors "build: $elsewhere/a prefix/share is no folder"
+    rm "$elsewhere/a prefix/share"
+    # What an earlier call brought stays too.
+    calls 0 ./build_by_link --install "a prefix"
+    sed -i '\|^bin/flow-from-grc$|d' "$list"
+    is_refused_for bin/flow-from-grc
+    leaves flow-from-grc other
+    # What comes while it copies, and what comes in the place of a copy that failed.
+    installs_beside '*/bin/flow' 'echo "no flow" >"$place-from-grc"'
+    leaves flow-from-grc other
+    installs_beside '*/bin/flow-from-grc' 'echo half >"$place"; exit 1'
+    [[ ! -e $elsewhere/a\ prefix/bin/flow-from-grc ]] || wrong "--install leaves half a file"
+    echo "no flow" >"$elsewhere/a prefix/bin/flow-from-grc"
+    leaves flow-from-grc other
 }
 
 # has_files PACKAGE FILE..: a package has these files, and its documents, and no others

@@ -21,6 +21,7 @@ cases=(
     install_puts_all_in_place
     install_brings_the_library_for_c
     uninstall_takes_all_away
+    install_replaces_nothing_of_others
     deb_makes_packages
     crates_are_proved_side_by_side
     failed_build_leaves_no_half_program
