@@ -173,5 +173,6 @@ def _text(node: yaml.Node, what: str) -> Text:
     try:
         value = yaml.constructor.SafeConstructor().construct_document(node)
         return Text(str(value), _line(node))
-    except (yaml.YAMLError, ValueError, OverflowError):
+    except (yaml.YAMLError, ValueError, OverflowError, LookupError, AttributeError):
+        # (the last two where a tag says what its text is not)
         raise Refused(_line(node), Code.WRONG_TYPE, "%s: YAML has no such value" % shown(what)) from None

@@ -3,6 +3,7 @@
 from __future__ import annotations
 
 import argparse
+import errno
 import os
 import sys
 from typing import List, Optional, Sequence
@@ -34,14 +35,15 @@ def main(words: Optional[Sequence[str]] = None) -> int:
     if report.faults:
         _say(report.fault_lines(options.file))
         return _REFUSED
-    command = graph.command(options.output)
-    text = graph.toml(["Drawn in GNU Radio Companion as %s, and written by %s. To run it:" % (name, _NAME), "    " + command])
+    # (a comment is one line, of characters that TOML takes)
+    shown_path = options.output if (options.output or "").isprintable() else None
+    text = graph.toml(["Drawn in GNU Radio Companion as %s, and written by %s. To run it:" % (name, _NAME), "    " + graph.command(shown_path)])
     try:
-        _write(text, options.output)
+        _write(text, options.output, options.file)
     except OSError as error:
         return _failed(Code.WRITE, options.output or "standard output", error)
     _say(report.note_lines(options.file))
-    print(command, file=sys.stderr)
+    print(graph.command(options.output), file=sys.stderr)
     return _DONE
 
 
@@ -65,11 +67,13 @@ def _failed(code: Code, path: str, error: OSError) -> int:
     return _FAILED
 
 
-def _write(text: str, path: Optional[str]) -> None:
+def _write(text: str, path: Optional[str], drawing: str) -> None:
     data = text.encode("utf-8", "backslashreplace")
     if path is None:
         sys.stdout.buffer.write(data)
         sys.stdout.buffer.flush()
         return
+    if os.path.isfile(path) and os.path.samefile(path, drawing):
+        raise OSError(errno.EEXIST, "it is the drawing")
     with open(path, "wb") as file:
         file.write(data)

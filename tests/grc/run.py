@@ -108,6 +108,27 @@ def to_a_file(room: pathlib.Path) -> Tuple[object, object]:
     return (answer.returncode, answer.stdout, answer.stderr.splitlines()[-1], made), (0, "", wanted, text)
 
 
+def to_a_path_of_two_lines(room: pathlib.Path) -> Tuple[object, object]:
+    """Where a comment could not have the path, it has the one of a graph that goes to standard output."""
+    found, wanted = [], []
+    for path in ("a\nkey = 1.toml", "\x7f.toml"):
+        answer = convert(["-o", path, "adders.grc"], room)
+        found.append((answer.returncode, (room / path).read_text(), answer.stderr.endswith("-o late=late.u8 '%s'\n" % path)))
+        wanted.append((0, (EXAMPLES / "adders.toml").read_text(), True))
+    return found, wanted
+
+
+def onto_the_drawing(room: pathlib.Path) -> Tuple[object, object]:
+    """The drawing stays, by whatever path it is to be written."""
+    (room / "linked.toml").symlink_to("adders.grc")
+    os.link(room / "adders.grc", room / "twin.toml")
+    paths = ("adders.grc", "./adders.grc", "linked.toml", "twin.toml")
+    answers = [convert(["-o", it, "adders.grc"], room) for it in paths]
+    found = [(it.returncode, it.stdout, it.stderr) for it in answers]
+    wanted = [(4, "", "flow-from-grc: refused 52 Write %s: it is the drawing\n" % it) for it in paths]
+    return (found, (room / "adders.grc").read_bytes()), (wanted, (EXAMPLES / "adders.grc").read_bytes())
+
+
 def status_of(*words: str) -> Callable[[pathlib.Path], Tuple[object, object]]:
     """Words that are none of its own."""
     return lambda room: (convert(words, room).returncode, 2)
@@ -132,8 +153,10 @@ def without_yaml(room: pathlib.Path) -> Tuple[object, object]:
 
 
 def calls() -> Iterator[Case]:
-    """Words, files that are not there, and a Python without yaml."""
+    """Words, files that are not there or may not be written, and a Python without yaml."""
     yield Case("calls/to_a_file", in_room(to_a_file))
+    yield Case("calls/to_a_path_of_two_lines", in_room(to_a_path_of_two_lines))
+    yield Case("calls/onto_the_drawing", in_room(onto_the_drawing))
     yield Case("calls/no_words", in_room(status_of()))
     yield Case("calls/other_words", in_room(status_of("--fast", "adders.grc")))
     yield Case("calls/no_file", in_room(refusal_of("51 Read none.grc", "none.grc")))
