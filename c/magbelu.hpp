@@ -245,6 +245,11 @@ public:
         return reply(magbelu_set_taps(plant(), block.data(), block.size(), at, taps.data(), taps.size()), block);
     }
 
+    /* The same of taps in braces, of which one alone would be a number. */
+    std::uint64_t set(std::string_view block, std::initializer_list<std::int16_t> taps, std::uint64_t at = MAGBELU_NOW) {
+        return set(block, std::vector<std::int16_t>(taps), at);
+    }
+
     /* Runs the graph until it comes to rest, and gives whether all blocks are done, for which all sources have to be closed. */
     bool settle() { return tested(magbelu_settle(plant()), "").status == 0; }
 

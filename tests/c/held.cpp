@@ -101,7 +101,14 @@ static void wrong_calls_are_refused() {
     refuses(22, "22 NotSink add", [&] { graph.read<std::uint8_t>("add"); });
     refuses(24, "24 ItemRange src", [&] { graph.feed("src", {256}); });
     refuses(25, "25 TagPlace src", [&] { graph.feed("src", {1}, {{1, "a", 1}}); });
-    refuses(29, "29 WrongSetting add", [&] { graph.set("add", std::vector<std::int16_t>{1}); });
+    // What is in braces is taps, which the block has not, were it a single one.
+    const std::vector<std::int16_t> taps{5};
+    refuses(29, "29 WrongSetting add", [&] { graph.set("add", taps); });
+    refuses(29, "29 WrongSetting add", [&] { graph.set("add", taps, 1); });
+    refuses(29, "29 WrongSetting add", [&] { graph.set("add", {5}); });
+    refuses(29, "29 WrongSetting add", [&] { graph.set("add", {5}, 1); });
+    refuses(29, "29 WrongSetting add", [&] { graph.set("add", {5, 6}); });
+    must(graph.set("add", 5) == 0 && graph.set("add", 5, 1) == 1, "the places of numbers");
     refuses(31, "31 BeyondEnd out", [&] { graph.read<std::uint8_t>("out", 1); });
     refuses(58, "58 BadKey src", [&] { graph.feed("src", {1}, {{0, "a b", 1}}); });
     throws<std::invalid_argument>([&] { graph.feed("src", std::vector<std::int16_t>{1}); });
