@@ -14,17 +14,16 @@ def read(path):
     """The names of the tracks by their numbers, and the spans that last."""
     with open(path, encoding="utf-8") as file:
         events = json.load(file)["traceEvents"]
-    names = {it["tid"]: it["args"]["name"] for it in events if it["name"] == "thread_name"}
+    # (a turn has the name of its block, which may be this word)
+    names = {it["tid"]: it["args"]["name"] for it in events if it["ph"] == "M" and it["name"] == "thread_name"}
     return names, [it for it in events if it["ph"] == "X"]
 
 
-def rectangle(span, first, scale):
-    """A span as a rectangle, with its name and how long it took for who points at it."""
-    left = NAMES + (span["ts"] - first) * scale
-    width = max(span["dur"] * scale, 0.3)
+def rectangle(span, left, width):
+    """A span, or a part of it, as a rectangle, with its name and how long it took for who points at it."""
     top = (span["tid"] - 1) * ROW + 4
     title = escape(f"{span['name']}: {span['dur']} us")
-    return f'<rect x="{left:.2f}" y="{top}" width="{width:.2f}" height="{ROW - 8}" fill="{COLORS[span["cat"]]}"><title>{title}</title></rect>'
+    return f'<rect x="{left:.2f}" y="{top}" width="{max(width, 0.3):.2f}" height="{ROW - 8}" fill="{COLORS[span["cat"]]}"><title>{title}</title></rect>'
 
 
 def picture(names, spans, first, last):
@@ -34,8 +33,10 @@ def picture(names, spans, first, last):
     yield f'<svg xmlns="http://www.w3.org/2000/svg" viewBox="0 0 {WIDTH} {height}" font-family="sans-serif" font-size="12">'
     yield f'<rect width="{WIDTH}" height="{height}" fill="white"/>'
     for span in spans:
-        if first <= span["ts"] and span["ts"] + span["dur"] <= last:
-            yield rectangle(span, first, scale)
+        begin, end = max(span["ts"], first), min(span["ts"] + span["dur"], last)
+        # (one that took no time is there too)
+        if begin < end or (begin == end and not span["dur"]):
+            yield rectangle(span, NAMES + (begin - first) * scale, (end - begin) * scale)
     for number, name in names.items():
         yield f'<text x="4" y="{number * ROW - 9}">{escape(name)}</text>'
     for part in range(5):

@@ -13,7 +13,7 @@ declare -A folder_of=()
 # Those that are no calls with an input that is there: the program answers a producer that waits for it, and ends where nobody reads on.
 pipes=(pipes/slow_producer pipes/closed_output)
 # And runs whose trace a program of Python reads.
-traces=(traces/adaptive traces/one_thread traces/thread_per_block traces/first_events traces/picture)
+traces=(traces/adaptive traces/one_thread traces/thread_per_block traces/first_events traces/picture traces/part_of_a_picture)
 
 # add CASE FOLDER: the case, and the runs of a run on one thread and in one for each block
 add() {
@@ -214,6 +214,9 @@ traces_picture() {
         return 1
     fi
 }
+
+# traces_part_of_a_picture: what it draws from one time to another
+traces_part_of_a_picture() { python3 "$top/tests/programs/picture.py" "$top/scripts/trace_picture.py"; }
 
 run() {
     local it wrong start=()
