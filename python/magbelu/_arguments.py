@@ -88,12 +88,16 @@ def numbers_of(items: Any) -> array.array[int]:
     except NotImplementedError as error:
         # (of a memoryview with a format of its own, or with more than one dimension)
         raise TypeError(str(error)) from None
-    if not BOOLS.isdisjoint(map(type, items)):
+    types = set(map(type, items))
+    if not BOOLS.isdisjoint(types):
         raise TypeError("an item is an integer, and no truth value")
+    if types != {int}:
+        # (before Python 3.10 an array takes what has only `__int__`, and cuts it)
+        items = list(map(operator.index, items))
     try:
         return array.array("q", items)
     except OverflowError:
-        return array.array("q", [within(operator.index(it)) for it in items])
+        return array.array("q", [within(it) for it in items])
 
 
 # What the library reads where there are no tags.

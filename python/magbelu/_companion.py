@@ -18,12 +18,15 @@ def _ports_at(path: str, _time: int, _size: int) -> Ports:
 
 
 def _ports(path: Path) -> dict[str, list[Port]]:
-    """The "inputs" and "outputs" of a file, or none where it is not there or is refused: they are asked for each port, and while a path is being typed."""
+    """The "inputs" and "outputs" of a file, or none where it is refused, or no file that can be read: they are asked for each port, and while a path is being typed."""
     try:
-        found = os.stat(path)
+        # (to read a pipe would wait, and a path may be none)
+        if os.path.isfile(path):
+            found = os.stat(path)
+            return _ports_at(os.fspath(path), found.st_mtime_ns, found.st_size)._asdict()
     except OSError:
-        return Ports([], [])._asdict()
-    return _ports_at(os.fspath(path), found.st_mtime_ns, found.st_size)._asdict()
+        pass
+    return Ports([], [])._asdict()
 
 
 def has_ports(path: Path) -> bool:

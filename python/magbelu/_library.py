@@ -46,7 +46,7 @@ class Mark(ctypes.Structure):
 
 
 def _places() -> list[str]:
-    if "MAGBELU_LIBRARY" in os.environ:
+    if os.environ.get("MAGBELU_LIBRARY"):
         return [os.environ["MAGBELU_LIBRARY"]]
     here = pathlib.Path(__file__).resolve().parent
     name = "libmagbelu.so.%d" % _VERSION
@@ -66,13 +66,13 @@ def _load() -> ctypes.CDLL:
         except OSError as error:
             faults.append(str(error))
             continue
-        library.magbelu_version.restype = ctypes.c_uint32
-        if library.magbelu_version() != _VERSION:
-            raise ImportError("%s has another version of the calls" % place)
         try:
+            library.magbelu_version.restype = ctypes.c_uint32
+            if library.magbelu_version() != _VERSION:
+                raise ImportError("%s has another version of the calls" % place)
             return _with_types(library)
         except AttributeError as error:
-            raise ImportError("%s is older than these files: %s" % (place, error)) from None
+            raise ImportError("%s is older than these files, or another library: %s" % (place, error)) from None
     raise ImportError("libmagbelu.so is not found: ./build --c makes it (%s)" % "; ".join(faults))
 
 
@@ -152,7 +152,8 @@ class Room:
     def __init__(self, size: int) -> None:
         self.size = size
         try:
-            self.map = mmap.mmap(-1, max(size, 1))
+            # (shared memory, which is what it makes else, would stay that of both after a fork)
+            self.map = mmap.mmap(-1, max(size, 1), mmap.MAP_PRIVATE)
         except (OSError, OverflowError):
             raise OutOfMemory("32 Memory") from None
         self.kept = (ctypes.c_char * max(size, 1)).from_buffer(self.map)

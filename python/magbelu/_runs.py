@@ -100,7 +100,7 @@ def input_of(pair: tuple[Text, Any]) -> tuple[Lent, Lent]:
 
 def output_of(asked: Any) -> tuple[Lent, bool]:
     """The name of an output, and whether its tags are asked for."""
-    if isinstance(asked, (str, bytes)):
+    if isinstance(asked, (str, bytes, bytearray)):
         return Lent(bytes_of(asked)), False
     name, what = asked
     if what != "tags":
@@ -122,7 +122,7 @@ def run_items(
     >>> magbelu.run_items(magbelu.EXAMPLE, [("src", b"ABC")], ["out", ("out", "tags")])
     ([b'KLM', b''], True)
     """
-    if isinstance(outputs, (str, bytes)):
+    if isinstance(outputs, (str, bytes, bytearray)):
         raise TypeError("outputs are a list of names, and no name")
     given, wanted = [input_of(it) for it in inputs], [output_of(it) for it in outputs]
     fed = (Input * max(len(given), 1))(*[Input(name.at, name.len, data.at, data.len) for name, data in given])

@@ -13,6 +13,8 @@ from ._runs import NO_PATH
 
 # How many items of a sink are drained at a time, at most.
 PIECE = 65536
+# What comes behind the last piece of a source. (None would be a wrong piece.)
+END = object()
 
 
 class Piece(NamedTuple):
@@ -120,7 +122,7 @@ class Stream(Held):
                 return piece, tags_of(lines.part(0, piece.tags_len).decode().split())
             self._lines = Room(piece.tags_len)
 
-    def through(self, **pieces: Iterable[Items]) -> Iterator[Piece]:
+    def through(self, /, **pieces: Iterable[Items]) -> Iterator[Piece]:
         """Runs the graph over what comes in, and gives what its sinks give, piece after piece, until all blocks are done. `pieces` has an iterable for each source: of
         arrays of items, or of whatever `feed` takes. The next of them is only taken where the graph lacks it, so that no more is in memory than
         the blocks need; where there is none, the source is closed. It ends too where a source is open that is not among them and would have to be fed.
@@ -144,8 +146,8 @@ class Stream(Held):
                 yield from self._drained(sink)
             lacking = [source for source in pieces if self.need(source).what == "feed"]
             for source in lacking:
-                piece = next(pieces[source], None)
-                if piece is None:
+                piece: Any = next(pieces[source], END)
+                if piece is END:
                     self.close(source)
                 else:
                     self.feed(source, piece)

@@ -2,6 +2,7 @@
 
 import array
 import ctypes
+import decimal
 import fractions
 
 import magbelu
@@ -82,6 +83,22 @@ class Noting:
         return _library.Reply(0, 0, 0, 0)
 
 
+class Lacking(Noting):
+    """The same of a stream, of which each source lacks items until one is closed."""
+
+    is_closed = False
+
+    def magbelu_bytes_close(self, *words):
+        self.is_closed = True
+        return super().magbelu_bytes_close(*words)
+
+    def magbelu_bytes_need(self, *words):
+        return _library.Reply(0, 0, 1 if self.is_closed else 5, 0)
+
+    def magbelu_bytes_settle(self, plant):
+        return _library.Reply(0 if self.is_closed else 3, 0, 0, 0)
+
+
 library = Noting()
 _library._loaded = library
 graph = magbelu.Graph("")
@@ -109,7 +126,7 @@ def raises(kind, call):
 
 
 def items_are_integers():
-    for item in [0.9, 1.0, 1j, "1", b"1", None, True, False, fractions.Fraction(1), [1]]:
+    for item in [0.9, 1.0, 1j, "1", b"1", None, True, False, fractions.Fraction(1), decimal.Decimal("1.5"), decimal.Decimal(1), [1]]:
         raises(TypeError, lambda: graph.feed("src", [1, item]))
     for items in ["12", "", 5, None, {1: 2}, {1}, frozenset(), array.array("f", [1]), array.array("d", [0.9]), array.array("u", "1")]:
         raises(TypeError, lambda: graph.feed("src", items))
@@ -202,9 +219,26 @@ def raw_inputs_are_bytes():
         raises(TypeError, lambda: magbelu.run_items("", [("src", data)], []))
     for what in ["tag", "Tags", "", "items", None, True, b"tags"]:
         raises(ValueError, lambda: magbelu.run_items("", [], [("o", what)]))
-    for outputs in ["out", b"out"]:
+    for outputs in ["out", b"out", bytearray(b"out")]:
         raises(TypeError, lambda: magbelu.run_items("", [], outputs))
+    makes(lambda: magbelu.run_items("", [], [b"out", bytearray(b"ab"), (bytearray(b"out"), "tags")]), "items", False, [], [0, 0, 1])
     makes(lambda: magbelu.run_items("", iter([("src", b"")]), iter(["out"])), "items", False, [b""], [0])
+
+
+def pieces_are_items():
+    """A source may have any name, and is closed behind its last piece: None is no end of them."""
+    _library._loaded = own = Lacking()
+    assert list(magbelu.Stream("").through(**{"self": [[1, 2], b"", [3]]})) == []
+    assert own.noted == [("numbers", b"self", [1, 2]), ("feed", b"self", False, b"", []), ("numbers", b"self", [3]), ("close", b"self")], own.noted
+    _library._loaded = own = Lacking()
+    pieces = magbelu.Stream("").through(src=[[1], None, [2]])
+    try:
+        list(pieces)
+    except TypeError:
+        assert own.noted == [("numbers", b"src", [1])], own.noted
+    else:
+        raise AssertionError("None is a piece: %s" % own.noted)
+    _library._loaded = library
 
 
 def numpy_items_are_integers():
@@ -217,7 +251,7 @@ def numpy_items_are_integers():
     makes(lambda: graph.feed("src", [numpy.uint8(255), numpy.int64(-1)]), "numbers", b"src", [255, -1])
     for kind in ["f8", "f4", "c16", "?", "S1", "U1", "M8[s]"]:
         raises(TypeError, lambda: graph.feed("src", numpy.zeros(2, kind)))
-    for items in [numpy.array([1.0], object), [numpy.float64(1)], [numpy.bool_(True)], numpy.array([True], object)]:
+    for items in [numpy.array([1.0], object), [numpy.float64(1)], [numpy.float32(1)], [numpy.bool_(True)], numpy.array([True], object)]:
         raises(TypeError, lambda: graph.feed("src", items))
     raises(ValueError, lambda: graph.feed("src", numpy.zeros((2, 2), "i2")))
 
@@ -252,6 +286,7 @@ tests = [
     counts_are_whole,
     names_are_text,
     raw_inputs_are_bytes,
+    pieces_are_items,
     *([arrays_are_read] if numpy is None else [numpy_items_are_integers, numpy_numbers_are_whole, numpy_is_read]),
 ]
 for test in tests:

@@ -1,8 +1,8 @@
 #!/usr/bin/env bash
 # The library for C, where ./build --c has built it from these sources: c/magbelu.h compiles as C99 and as C++, and over each example and graph file of tests/ the
 # calls from C and C++, with the sanitizers, and from Python give what is expected, and where ./flow is built what it gives. Elsewhere it only compiles the headers,
-# and tries what c/magbelu.hpp and python/magbelu make of their arguments, and drawings, plots and type hints. What Python does is tried without numpy, and with
-# numpy and matplotlib where they are installed.
+# and tries what c/magbelu.hpp and python/magbelu make of their arguments and of what they find around them, and drawings, plots and type hints. What Python does is
+# tried without numpy, and with numpy and matplotlib where they are installed.
 set -euo pipefail
 # shellcheck source=tests/part.sh
 source "$(dirname -- "$(readlink -f -- "${BASH_SOURCE[0]}")")/../part.sh"
@@ -185,7 +185,7 @@ tells_notebook() {
 
 list() {
     if command -v python3 >/dev/null; then
-        printf 'c/%s\n' arguments arguments_numpy pictures pictures_matplotlib types
+        printf 'c/%s\n' arguments arguments_numpy surroundings pictures pictures_matplotlib types
     fi
     if command -v cc >/dev/null; then
         printf 'c/%s\n' header calls
@@ -243,6 +243,7 @@ try_with() {
 run() {
     try c/arguments without_numpy arguments
     try_with numpy c/arguments_numpy python_tests arguments
+    try c/surroundings without_numpy surroundings
     try c/pictures without_numpy pictures
     try_with matplotlib c/pictures_matplotlib python_tests pictures
     try_with mypy c/types tells_types
