@@ -30,12 +30,12 @@ def _ports(path: Path) -> dict[str, list[Port]]:
 
 
 def has_ports(path: Path) -> bool:
-    """Whether a file has any port.
+    """Whether a file has the ports of a block, of which one at least is an output.
 
-    >>> has_ports("no/such/file")
-    False
+    >>> has_ports("no/such/file"), has_ports("examples/echo/graph.toml")
+    (False, True)
     """
-    return any(_ports(path).values())
+    return bool(_ports(path)["outputs"])
 
 
 def has_port(path: Path, side: str, number: int) -> bool:

@@ -32,8 +32,9 @@ Setting = Union[SupportsIndex, Iterable[SupportsIndex]]
 
 
 class Flowgraph(HierBlock):  # type: ignore[misc]
-    """The graph of a file as a block of GNU Radio: its input ports are the graph's sources, its output ports its vector sinks, in the order of the file, and each has to be
-    connected. `text` stands for the file where it is given, and `path` is then only what it is called. What the file feeds a source comes before what the port brings.
+    """The graph of a file as a block of GNU Radio: its input ports are the graph's sources, its output ports its vector sinks, of which it has to have one, in the order of
+    the file, and each has to be connected. `text` stands for the file where it is given, and `path` is then only what it is called. What the file feeds a source comes
+    before what the port brings.
 
     Memory is constant, and each source is fed only where it lacks items. Tags come in whose key is a symbol of 1 to 16 letters, digits, `_`, `.` or `-` and whose value is
     a long, and go out at the items where the graph puts them, with the name of their source as source id. All others are left out, and `tags_left_out` counts them; with
@@ -56,6 +57,8 @@ class Flowgraph(HierBlock):  # type: ignore[misc]
         stream = Stream(file, str(path))
         tables = tables_of(file.decode()).get("block", [])
         self.ports = ports_of(tables)
+        if not self.ports.outputs:
+            raise ValueError("a graph without a vector_sink gives a block without an output, which GNU Radio ends with the first of its inputs")
         # (a signature of no ports has a size too)
         super().__init__("magbelu_flowgraph", *(gr.io_signature.makev(len(side), len(side), [it.size for it in side] or [1]) for side in self.ports))
         ends = [blocks.copy(it.size) for it in self.ports.inputs]

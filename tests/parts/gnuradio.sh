@@ -1,7 +1,7 @@
 #!/usr/bin/env bash
 # python/magbelu/gnuradio.py inside GNU Radio, where that is installed and ./build --c has built the library from these sources: tests/gnuradio/cases.py has the cases.
-# Graphs that are drawn by chance run beside `flow run`, which is compiled here, unproved, where ./build has not built it. That the module says what it lacks
-# where there is no GNU Radio is tried everywhere.
+# Graphs that are drawn by chance run beside `flow run`, which is compiled here, unproved, where ./build has not built it. Which graphs are a block is tried over a
+# stand-in for the library too; and that the module says what it lacks where there is no GNU Radio, everywhere.
 set -euo pipefail
 # shellcheck source=tests/part.sh
 source "$(dirname -- "$(readlink -f -- "${BASH_SOURCE[0]}")")/../part.sh"
@@ -11,13 +11,18 @@ cases=(beside_flow beside_blocks inputs_end graph_ends output_ends stopped tags_
 python=$([[ -x /usr/bin/python3 ]] && echo /usr/bin/python3 || echo python3)
 export PYTHONDONTWRITEBYTECODE=1
 
-list() { printf 'gnuradio/%s\n' without_gnuradio "${cases[@]}"; }
+list() { printf 'gnuradio/%s\n' without_gnuradio without_library "${cases[@]}"; }
 
-# lacks: prints what is not here that the cases need
-lacks() {
+# lacks_gnuradio: says so where it is not here
+lacks_gnuradio() {
     if ! "$python" -c 'from gnuradio import gr; import sys; sys.exit(not gr.version().startswith("3.10"))' 2>/dev/null; then
         echo "python3 finds no GNU Radio 3.10"
-    elif ! is_fresh "$c_folder/libmagbelu.so" "$c_crate"; then
+    fi
+}
+
+# lacks_library: the same of the library
+lacks_library() {
+    if ! is_fresh "$c_folder/libmagbelu.so" "$c_crate"; then
         echo "./build --c has not built libmagbelu.so from these sources"
     fi
 }
@@ -35,8 +40,10 @@ in_gnuradio() {
     HOME=$room MAGBELU_LIBRARY=$c_folder/libmagbelu.so PYTHONPATH=$top/python timeout 300 "$python" "$top/tests/gnuradio/cases.py" "${words[@]}"
 }
 
+# without_library: which graphs are a block
+without_library() { HOME=$room PYTHONPATH=$top/python timeout 300 "$python" "$top/tests/gnuradio/alone.py"; }
+
 # without_gnuradio: the module is imported, and says what it lacks where it is used
-# shellcheck disable=SC2317  # It is called by its name.
 without_gnuradio() {
     mkdir -p "$room/hidden"
     echo 'raise ImportError("it is hidden")' >"$room/hidden/gnuradio.py"
@@ -49,34 +56,34 @@ else:
     raise AssertionError("a block without GNU Radio")'
 }
 
-# try CASE COMMAND..: the command is the case
+# try WHY CASE COMMAND..: the command is the case, if it is wanted, and unless there is a reason why it cannot be tried here
 try() {
+    if ! is_wanted "$2"; then
+        return
+    elif [[ -n $1 ]]; then
+        left_out "$2" <<<"$1"
+        return
+    fi
     # (in a condition a command would go on where it fails)
     set +e
-    (set -e && "${@:2}") >"$room/said" 2>&1
+    (set -e && "${@:3}") >"$room/said" 2>&1
     local status=$?
     set -e
     if [[ $status == 0 ]]; then
-        passed "$1"
+        passed "$2"
     else
-        tail -n 40 "$room/said" | failed "$1"
+        tail -n 40 "$room/said" | failed "$2"
     fi
 }
 
 run() {
     local it why start=()
-    why=$(lacks)
-    if is_wanted gnuradio/without_gnuradio; then
-        try gnuradio/without_gnuradio without_gnuradio
-    fi
+    try '' gnuradio/without_gnuradio without_gnuradio
+    why=$(lacks_gnuradio)
+    try "$why" gnuradio/without_library without_library
+    why=${why:-$(lacks_library)}
     for it in "${cases[@]}"; do
-        if ! is_wanted "gnuradio/$it"; then
-            continue
-        elif [[ -n $why ]]; then
-            left_out "gnuradio/$it" <<<"$why"
-        else
-            try "gnuradio/$it" in_gnuradio "$it"
-        fi
+        try "$why" "gnuradio/$it" in_gnuradio "$it"
     done
 }
 

@@ -1,0 +1,40 @@
+"""What a block of GNU Radio makes of a graph before it runs, over a stand-in for the library. tests/parts/gnuradio.sh calls it."""
+
+from __future__ import annotations
+
+from typing import Any
+
+from joining import chain, equal
+from magbelu import _library
+from magbelu.gnuradio import Flowgraph
+
+
+class Accepting:
+    """Stands for the library: each graph is opened, and fed nothing."""
+
+    def magbelu_bytes_open_stream(self, plant: Any, *words: Any) -> Any:
+        return _library.Answer(0, 0, 0, 0)
+
+    def magbelu_bytes_feed(self, plant: Any, *words: Any) -> Any:
+        return _library.Reply(0, 0, 0, 0)
+
+    def magbelu_bytes_free(self, plant: Any) -> Any:
+        return _library.Reply(0, 0, 0, 0)
+
+
+def graphs_have_outputs() -> None:
+    """A graph without an input is a block, but none without an output: GNU Radio would end that with the first of its inputs."""
+    text = chain("short", '"add", kind = "add_const", value = 10')
+    equal([len(it) for it in Flowgraph(text=text).ports], [1, 1])
+    equal([len(it) for it in Flowgraph(text='[[block]]\nname = "out"\nkind = "vector_sink"\ntype = "byte"').ports], [0, 1])
+    for wrong in (text.replace("vector_sink", "null_sink"), ""):
+        try:
+            Flowgraph(text=wrong)
+        except ValueError as error:
+            equal("vector_sink" in str(error) and "output" in str(error), True, str(error))
+        else:
+            raise AssertionError("a block without an output")
+
+
+_library._loaded = Accepting()
+graphs_have_outputs()
