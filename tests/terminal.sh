@@ -19,17 +19,18 @@ wrong() {
     exit 1
 }
 
-# A graph whose sources are fed with so many items, each of which goes on as a thousand.
+# A graph whose sources are fed with so many items, each of which goes on as twenty thousand.
 write_graph() {
     cat <<'END'
 block = [
     { name = "many", kind = "vector_source", type = "byte" },
     { name = "more", kind = "repeat", type = "byte", n = 1000 },
+    { name = "most", kind = "repeat", type = "byte", n = 20 },
     { name = "none", kind = "null_sink", type = "byte" },
     { name = "two", kind = "vector_source", type = "byte" },
     { name = "out", kind = "vector_sink", type = "byte" },
 ]
-connect = [{ from = "many", to = "more" }, { from = "more", to = "none" }, { from = "two", to = "out" }]
+connect = [{ from = "many", to = "more" }, { from = "more", to = "most" }, { from = "most", to = "none" }, { from = "two", to = "out" }]
 END
     printf 'feed = [{ source = "two", items = [7, 8] }, { source = "many", items = ['
     head -n "$((count - 2))" < <(yes 5,) | tr -d '\n'
