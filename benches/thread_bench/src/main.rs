@@ -4,6 +4,7 @@
 
 mod feeds;
 mod filters;
+mod gates;
 mod graphs;
 mod plain;
 mod races;
@@ -26,7 +27,7 @@ fn main(rt: HostRuntime) -> io::Result<ExitCode> {
             table::print_part(rt, rt.alloc(), part)?;
         }
         _ => {
-            eprintln!(rt; "usage: thread_bench [measure [lengths|chains|filters|tuning]]")?;
+            eprintln!(rt; "usage: thread_bench [measure [lengths|chains|filters|tuning|gates]]")?;
             return Ok(ExitCode::from(BAD_WORDS));
         }
     }

@@ -81,10 +81,10 @@ pub fn race<R: Host + 'static>(rt: R, alloc: Global, shape: Shape, runs: u32) ->
             settled: times.settled.min(settled_time(&rt, alloc, shape)?),
             threads: times
                 .threads
-                .or_shorter(threads_span(rt, alloc, shape, Threading::PerBlock)?),
+                .or_shorter(ungated_span(rt, alloc, shape, Threading::PerBlock)?),
             adaptive: times
                 .adaptive
-                .or_shorter(threads_span(rt, alloc, shape, Threading::Adaptive)?),
+                .or_shorter(ungated_span(rt, alloc, shape, Threading::Adaptive)?),
             hold: times.hold.min(hold_time(&rt, alloc, shape)?),
             live: times.live.min(live),
             entries,
@@ -93,22 +93,39 @@ pub fn race<R: Host + 'static>(rt: R, alloc: Global, shape: Shape, runs: u32) ->
     Ok(times)
 }
 
-fn threads_span<R: Host + 'static>(
+// How long a run takes that has no gate, and knows of none.
+fn ungated_span<R: Host + 'static>(
     rt: R,
     alloc: Global,
     shape: Shape,
     threading: Threading,
 ) -> io::Result<Span> {
     let plant = fed_plant(alloc, shape)?.plant;
+    run_span::<Open, R>(rt, alloc, shape, plant, threading, None)
+}
+
+/// How long a run of this plant takes, whose shape this is.
+pub fn run_span<G: Gate + Drop + Send + Sync + 'static, R: Host + 'static>(
+    rt: R,
+    alloc: Global,
+    shape: Shape,
+    plant: Plant<Kind>,
+    threading: Threading,
+    gate: Option<Arc<G, Global>>,
+) -> io::Result<Span> {
     let Some(turns) = Turns::new(shape.turns) else {
         return Err(io::Error::from(Fault::Run));
     };
     if !plant.idle() {
         return Err(io::Error::from(Fault::Run));
     }
+    let options = RunOptions {
+        threading,
+        turns,
+        gate,
+    };
     let start = Instant::now(&rt)?;
     let used = rt.process_cpu_time()?;
-    let options = RunOptions::new(threading, turns);
     match run_with(rt, alloc, plant, options, &mut Unwatched) {
         Ok(Outcome::Done(_)) => {}
         _ => return Err(io::Error::from(Fault::Run)),

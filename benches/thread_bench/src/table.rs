@@ -1,5 +1,6 @@
 //! The table of all shapes.
 
+use crate::gates::{GateTimes, gate_times};
 use crate::graphs::{Shape, Work};
 use crate::races::{Host, Times, race};
 use items::ItemType;
@@ -10,6 +11,9 @@ use threads::Entry;
 
 // Of so many runs the least time counts.
 const RUNS: u32 = 5;
+
+// And of so many where a difference of one in a hundred counts.
+const MANY_RUNS: u32 = 100;
 
 // What rows have that do not say otherwise.
 const PLAIN: Shape = Shape {
@@ -35,9 +39,12 @@ const FILTERS: Shape = Shape {
 // The parts of the table.
 const PARTS: [&str; 4] = ["lengths", "chains", "filters", "tuning"];
 
-/// Whether a part of the table has this name.
+// A table of its own.
+const GATES: &str = "gates";
+
+/// Whether a part of the table has this name, or another table.
 pub fn is_part(name: &str) -> bool {
-    PARTS.contains(&name)
+    name == GATES || PARTS.contains(&name)
 }
 
 /// Times each shape and prints its row.
@@ -49,8 +56,15 @@ pub fn print_table<R: Host + Print + 'static>(rt: R, alloc: Global) -> io::Resul
     Ok(())
 }
 
-/// The same of one part of the table.
-pub fn print_part<R: Host + Print + 'static>(rt: R, alloc: Global, name: &str) -> io::Result<()> {
+/// Times the shapes of one part of the table, or those of the other table, and prints their rows.
+pub fn print_part<R: Host + Print + Drop + 'static>(
+    rt: R,
+    alloc: Global,
+    name: &str,
+) -> io::Result<()> {
+    if name == GATES {
+        return print_gates(rt, alloc);
+    }
     print_head(rt)?;
     print_rows(rt, alloc, name)
 }
@@ -191,6 +205,27 @@ fn print_tuning<R: Host + Print + 'static>(rt: R, alloc: Global) -> io::Result<(
         }
         for multiple in [16, 64] {
             print_row(rt, alloc, Shape { multiple, ..shape })?;
+        }
+    }
+    Ok(())
+}
+
+// Adders, with buffers that make a run of many short steps, of few long ones, and of some.
+fn print_gates<R: Host + Print + Drop + 'static>(rt: R, alloc: Global) -> io::Result<()> {
+    println!(rt; "capacity blocks   ungated ns unmetered ns   metered ns")?;
+    for capacity in [64, 4_096, 65_536] {
+        for blocks in [1, 4, 16] {
+            let shape = Shape {
+                blocks,
+                capacity,
+                ..PLAIN
+            };
+            let GateTimes {
+                ungated,
+                unmetered,
+                metered,
+            } = gate_times(rt, alloc, shape, MANY_RUNS)?;
+            println!(rt; "{capacity:>8} {blocks:>6} {ungated:>12} {unmetered:>12} {metered:>12}")?;
         }
     }
     Ok(())
