@@ -221,9 +221,9 @@ fn sorted_blocks<'a>(alloc: Global, ends: &[NamedEnd<'a>]) -> Result<Vec<&'a str
     Ok(blocks)
 }
 
-// Whether two that are equal stand side by side.
-fn stand_side_by_side(names: &[&str]) -> bool {
-    for pair in names.windows(2) {
+/// Whether two that are equal stand side by side.
+pub fn stand_side_by_side<T: PartialEq>(sorted: &[T]) -> bool {
+    for pair in sorted.windows(2) {
         if let [first, second] = pair {
             if first == second {
                 return true;

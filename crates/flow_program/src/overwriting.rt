@@ -1,6 +1,6 @@
 //! Whether a call would write over what it reads, under another name: paths that differ may lead to one file.
 
-use crate::ends::NamedEnd;
+use crate::ends::{NamedEnd, stand_side_by_side};
 use crate::words::Call;
 use std::alloc::AllocError;
 use std::fs;
@@ -20,8 +20,11 @@ pub fn overwrites(rt: &HostRuntime, call: &Call<'_>) -> Result<bool, AllocError>
             written.push(place)?;
         }
     }
+    if written.is_empty() {
+        return Ok(false);
+    }
     written.sort_unstable();
-    if have_twins(&written) || is_written(rt, &written, call.path) {
+    if stand_side_by_side(&written) || is_written(rt, &written, call.path) {
         return Ok(true);
     }
     let mut read = call.ends.inputs.iter().chain(call.ends.marks.iter());
@@ -48,18 +51,6 @@ fn is_written(rt: &HostRuntime, written: &[Place<'_>], path: &str) -> bool {
         Some(place) => written.binary_search(&place).is_ok(),
         None => false,
     }
-}
-
-// Whether two that are equal stand side by side.
-fn have_twins(places: &[Place<'_>]) -> bool {
-    for pair in places.windows(2) {
-        if let [first, second] = pair {
-            if first == second {
-                return true;
-            }
-        }
-    }
-    false
 }
 
 fn place_of<'a>(rt: &HostRuntime, path: &'a str) -> Option<Place<'a>> {
