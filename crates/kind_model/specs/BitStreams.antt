@@ -74,7 +74,8 @@ word_before count x n = number_by MsbFirst (map (λ j. bit_before x n (64 + coun
 abbrev pub distance : ℕ → ℕ → ℕ
 distance a b = count_ones (bit_xor a b)
 
--- 1 at the item behind a word that differs from the code in few enough bits, 0 at each other
+-- 1 at the item behind a word that differs from the code in few enough bits, 0 at each other; zeros before item 0 count as bits of a word,
+-- and none of the first `count` items is marked
 abbrev pub is_behind_code : ℕ → ℕ → ℕ → List ℤ → ℕ → ℕ
 is_behind_code code count threshold x n =
     if nat_le count n && nat_le (distance (word_before count x n) code) threshold then 1 else 0

@@ -10,7 +10,7 @@ use Rattle.kind_model.specs.Kernels.{scaled, bits_in, bits_joined, turned, lesse
 use Rattle.stream_model.specs.Meaning.{Meaning, input}
 use Rattle.stream_model.specs.Shapes.{ports, any_ports, at_rate, sync, any_number, number_at}
 
--- each item plus the number in force, wrapped (GNU Radio manual)
+-- each item plus the number in force, wrapped (GNU Radio manual; wrapping is own)
 abbrev pub add_const : ItemType → ℤ → Meaning
 add_const t v =
     record (sync t t) {
@@ -19,7 +19,7 @@ add_const t v =
       out = λ ts xs p n. wrap t (item (input xs 0) n +ℤ number_at v ts n);
     }
 
--- each item times the number in force, wrapped (GNU Radio manual)
+-- each item times the number in force, wrapped (GNU Radio manual; wrapping is own)
 abbrev pub multiply_const : ItemType → ℤ → Meaning
 multiply_const t v =
     record (sync t t) {
@@ -62,7 +62,7 @@ scale t factor shift =
 abbrev pub items_at : List (List ℤ) → ℕ → List ℤ
 items_at xs n = map (λ (x : List ℤ). item x n) xs
 
--- the sum of the inputs' items, wrapped (GNU Radio manual)
+-- the sum of the inputs' items, wrapped (GNU Radio manual; wrapping is own)
 abbrev pub add : ItemType → Meaning
 add t = record (at_rate (any_ports t) (ports 1 t) 1 1) { out = λ ts xs p n. wrap t (total (items_at xs n)) }
 
@@ -71,17 +71,17 @@ abbrev pub product : List ℤ → ℤ
 product [] = pos 1
 product (z ∷ zs) = z *ℤ product zs
 
--- the product of the inputs' items, wrapped (GNU Radio manual)
+-- the product of the inputs' items, wrapped (GNU Radio manual; wrapping is own)
 abbrev pub multiply : ItemType → Meaning
 multiply t = record (at_rate (any_ports t) (ports 1 t) 1 1) { out = λ ts xs p n. wrap t (product (items_at xs n)) }
 
--- the first number of a list less the others, and of one number its negative (GNU Radio manual)
+-- the first number of a list less the others (GNU Radio manual), and of one number its negative (own)
 abbrev pub difference : List ℤ → ℤ
 difference [] = pos 0
 difference (z ∷ []) = pos 0 -ℤ z
 difference (z ∷ y ∷ zs) = z -ℤ total (y ∷ zs)
 
--- the difference of the inputs' items, wrapped (GNU Radio manual)
+-- the difference of the inputs' items, wrapped (GNU Radio manual; wrapping is own)
 abbrev pub sub : ItemType → Meaning
 sub t = record (at_rate (any_ports t) (ports 1 t) 1 1) { out = λ ts xs p n. wrap t (difference (items_at xs n)) }
 
@@ -128,7 +128,7 @@ xor_of t = bitwise bit_xor 0 t
 abbrev pub not_of : ItemType → Meaning
 not_of t = record (sync t t) { out = λ ts xs p n. turned t (item (input xs 0) n) }
 
--- each item without its sign, wrapped (GNU Radio manual)
+-- each item without its sign, wrapped (GNU Radio manual; wrapping is own)
 abbrev pub abs : ItemType → Meaning
 abs t = record (sync t t) { out = λ ts xs p n. absolute t (item (input xs 0) n) }
 
@@ -154,7 +154,7 @@ abbrev pub looked_up : List ℤ → ℤ → ℤ
 looked_up table (pos n) = slice_index_or table n (pos n)
 looked_up table (negsuc n) = negsuc n
 
--- each byte through a table, unchanged where the table is shorter (GNU Radio manual; short tables are own)
+-- each byte through a table, unchanged where the table is shorter (GNU Radio manual; short tables as in its block)
 abbrev pub map_bb : List ℤ → Meaning
 map_bb table = record (sync Byte Byte) { out = λ ts xs p n. looked_up table (item (input xs 0) n) }
 
@@ -170,6 +170,6 @@ table to values = record (sync Byte to) { out = λ ts xs p n. number_for values 
 abbrev pub convert : ItemType → ItemType → Meaning
 convert from to = record (sync from to) { out = λ ts xs p n. wrap to (item (input xs 0) n) }
 
--- the sum of the last `length` items, wrapped (GNU Radio manual)
+-- the sum of the last `length` items, wrapped (GNU Radio manual; wrapping is own)
 abbrev pub moving_sum : ItemType → ℕ → Meaning
 moving_sum t length = record (sync t t) { history = length; out = λ ts xs p n. wrap t (sum_below length (item_before (input xs 0) n)) }

@@ -22,7 +22,7 @@ pub record IsKept (m n offset : ℕ) : Type 0 where
   pub within : offset + m ≤ n
   pub few : n ≤ 1024
 
--- the sum of each n items, wrapped (GNU Radio manual)
+-- the sum of each n items, wrapped (GNU Radio manual; wrapping is own)
 abbrev pub integrate : ItemType → ℕ → Meaning
 integrate t n = record (at_rate (ports 1 t) (ports 1 t) n 1) { out = λ ts xs p k. wrap t (sum_below n (λ j. item (input xs 0) (k * n + j))) }
 
@@ -43,7 +43,7 @@ abbrev pub inserted : List ℤ → ℕ → List ℤ → ℕ → ℕ → ℤ
 inserted values offset xs a r =
     if nat_lt r offset then item xs (a + r) else if nat_lt r (offset + length values) then item values (r - offset) else item xs (a + (r - length values))
 
--- `values` once in each `period` output items, from item `offset` of these on, and the input in all other places (GNU Radio manual; what `offset` counts is own)
+-- `values` once in each `period` output items, from item `offset` of these on, and the input in all other places (GNU Radio manual; its block counts `offset` from the period)
 abbrev pub insert : ItemType → List ℤ → ℕ → ℕ → Meaning
 insert t values period offset =
     let rest = period - length values in

@@ -14,8 +14,8 @@ use Rattle.plant.specs.declared.fault.PlantFault.TheVariants.{NoSuchBlock, NoSuc
 abbrev pub port_fault : Network → ℕ → ℕ → Option PlantFault
 port_fault net b p = if not (nat_lt b (length net.nodes)) then Some NoSuchBlock else (if not (nat_lt p (used_outputs net b)) then Some NoSuchPort else None)
 
--- behind the slowest live reader: the last items that were given, as many as its capacity and the greatest past of its readers ask, and of the
--- stream's tags exactly those on items from that reader's place on
+-- behind the slowest live reader: as many items as its capacity and the greatest past of its readers ask, and as many tags as the stream has on items from
+-- that reader's place on
 pub record KeepsBehind (net : Network) (caps : Capacities) (st : State) (b p place : ℕ) (kept : Stored) : Type 0 where
   pub items : kept.items ≡ min (given_by (node_at net b) (fired st b)) (most_kept (capacity_at caps b p) (greatest_history net b p))
   pub unread : given_by (node_at net b) (fired st b) - place ≤ kept.items

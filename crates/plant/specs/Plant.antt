@@ -29,7 +29,7 @@ pub record PlantState (B : Type 0) : Type 0 where
   pub capacities : Capacities
   pub state : State
 
--- the state is one that calls lead to, no path makes too much of a tape, what is stored is what its streams say, and for each claim in flight there is room for its commit
+-- the state is sound, no path makes too much of a tape, what is stored is what its streams say, and for each claim in flight there is room for its commit
 pub record Keeps (net : Network) (caps : Capacities) (s : Stores) (progress : List Progress) : Type 0 where
   pub sound : Sound net caps (state_of s.handed.items progress)
   pub gain : AreWithinGain net (state_of s.handed.items progress).handed

@@ -379,7 +379,7 @@ impl<B: Block> Plant<B> {
         self.parts.abandon(job)
     }
 
-    /// Recalls what every plant keeps: the graph can run, the capacities are those of its rates, the state is one that calls lead to, and whatever
+    /// Recalls what every plant keeps: the graph can run, the capacities are those of its rates, the state is sound (`Sound`), and whatever
     /// list of calls is made, each answered as its contract says, replies and state are a run of the machine. It does nothing.
     pub fn recall(&self)
         ensures runs { CanRun (net_of B.meaning self.now.graph) }

@@ -60,7 +60,8 @@ pub record SameInputs (m : Meaning) (k : ℕ) (xs ys : List (List ℤ)) : Type 0
   pub ports : length xs ≡ length ys
   pub items : (p : ℕ) → take (m.taken p k) (input xs p) ≡ take (m.taken p k) (input ys p)
 
--- a block at a rate takes d items of input p and gives i items a firing, and a tag stays within the firing that takes its item
+-- a block at a rate takes d items of input p and gives i items a firing; a tag goes no further back than the first item of the firing that takes its item, and
+-- at most to the first item of the next
 pub record IsAtRate (m : Meaning) (p d i : ℕ) : Type 0 where
   pub takes_some : 1 ≤ d
   pub takes_few : d ≤ 1024
@@ -71,7 +72,7 @@ pub record IsAtRate (m : Meaning) (p d i : ℕ) : Type 0 where
   pub not_early : (s : ℕ) → s / d * i ≤ m.place p s
   pub not_far : (s : ℕ) → m.place p s ≤ s / d * i + i
 
--- a block without a rate leaves out its first items, or puts zeros before them: not too many, since each delay adds to the numbers of items
+-- a block without a rate leaves out its first items, or gives some before it takes any: not too many, since each delay adds to the numbers of items
 abbrev pub IsShifted : Meaning → ℕ → Shift → Type 0
 IsShifted m p No = ⊥
 IsShifted m p (Skip n) = ((k : ℕ) → m.taken p k ≡ k) × ((k : ℕ) → m.given k ≡ k - n) × ((s : ℕ) → m.place p s ≡ s - n)

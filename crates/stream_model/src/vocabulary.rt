@@ -53,7 +53,7 @@ pub enum Shift {
     No,
     /// The first items are left out, this many.
     Skip(u64),
-    /// This many zeros come before the stream.
+    /// This many items are given before any is taken.
     Delay(u64),
 }
 

@@ -357,10 +357,9 @@ impl<B: Block> StreamingPlant<B> {
         settings_in_memory(&self.parts, block)
     }
 
-    /// Recalls what every plant that streams keeps: the graph can run, the state is one that calls lead to, nothing is in flight, each block has a place for how much was
-    /// drained of it, no more was drained
-    /// of a sink than it has taken, and whatever is called later, what was drained stays the beginning of the one stream that the equations of the blocks give. It
-    /// does nothing.
+    /// Recalls what every plant that streams keeps: the graph can run, the state is sound (`Sound`), nothing is in flight, each block has a place for how much
+    /// was drained of it, no more was drained of a sink than it has taken, and whatever is called later, what was drained stays the beginning of the one stream
+    /// that the equations of the blocks give. It does nothing.
     pub fn recall(&self)
         ensures runs { CanRun (net_of B.meaning self.now.plant.graph) }
         ensures sound { Sound (net_of B.meaning self.now.plant.graph) self.now.plant.capacities self.now.plant.state }

@@ -7,8 +7,8 @@
 //! - [`deliver`] stores what came of the work: items and tags go to each output that is still read, readers move on, and a sink collects;
 //! - [`release`] has a block that is done leave its inputs, so that nothing is kept for it.
 //!
-//! They work on plain fields (`Stores`), by contracts that do not mention the state of the machine. Where a tag is moved when a rate changes is decided
-//! in `brought`.
+//! They work on plain fields (`Stores`), by contracts that do not mention the state of the machine. `brought` moves the tags of a firing's items; where each
+//! goes, `Block::place` decides.
 #![tactic(auto)]
 
 mod brought;
