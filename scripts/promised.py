@@ -300,11 +300,11 @@ def counted(text: str) -> str:
     total = 0
     made: List[str] = []
     for line in text.splitlines():
-        row = re.match(r"\| (`[^|]*`) \| [\d,]+ \|(.*)", line)
+        row = re.match(r"\| (`[^|]*`) \| ([^|`]*) \|(.*)", line)
         if row:
             count = sum(lines_of(name) for name in re.findall(r"`([^`]*)`", row.group(1)))
             total += count
-            line = f"| {row.group(1)} | {count:,} |{row.group(2)}"
+            line = f"| {row.group(1)} | {count:,} |{row.group(3)}"
         elif line.startswith("#"):
             total = 0
         line = re.sub(r"^Together [\d,]+ lines", f"Together {total:,} lines", line)
