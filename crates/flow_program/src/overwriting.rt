@@ -9,7 +9,12 @@ use std::os::unix::fs::MetadataExt;
 // Where a path leads: the device and the number of its file; or of its folder, with its name there, where there is no such file as yet.
 type Place<'a> = (u64, u64, &'a str);
 
-/// Whether a file that the call writes is one that it reads, or that it writes besides. Devices, pipes and folders count for none.
+// Where the standard streams are found as files, which they are where a shell has redirected them.
+const INPUT: &str = "/dev/stdin";
+
+const OUTPUT: &str = "/dev/stdout";
+
+/// Whether a file that the call writes is one that it reads, or that it writes besides, by whatever path or standard stream. Devices, pipes and folders count for none.
 pub fn overwrites(rt: &HostRuntime, call: &Call<'_>) -> Result<bool, AllocError> {
     let mut written = Vec::new(rt.alloc());
     for end in call.ends.outputs.iter().chain(call.ends.tags.iter()) {
@@ -27,8 +32,13 @@ pub fn overwrites(rt: &HostRuntime, call: &Call<'_>) -> Result<bool, AllocError>
     if stand_side_by_side(&written) || is_written(rt, &written, call.path) {
         return Ok(true);
     }
-    let mut read = call.ends.inputs.iter().chain(call.ends.marks.iter());
-    Ok(read.any(|end| !end.is_standard() && is_written(rt, &written, end.path)))
+    for end in call.ends.inputs.iter().chain(call.ends.marks.iter()) {
+        let path = if end.is_standard() { INPUT } else { end.path };
+        if is_written(rt, &written, path) {
+            return Ok(true);
+        }
+    }
+    Ok(false)
 }
 
 fn add_place<'a>(
@@ -36,10 +46,8 @@ fn add_place<'a>(
     places: &mut Vec<Place<'a>>,
     end: &NamedEnd<'a>,
 ) -> Result<(), AllocError> {
-    if end.is_standard() {
-        return Ok(());
-    }
-    if let Some(place) = place_of(rt, end.path) {
+    let path = if end.is_standard() { OUTPUT } else { end.path };
+    if let Some(place) = place_of(rt, path) {
         places.push(place)?;
     }
     Ok(())
