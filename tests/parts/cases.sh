@@ -124,14 +124,26 @@ is_right() {
         right=1
     fi
     differs stdout "$(file_of "$folder" stdout)" "$came/stdout" || right=1
-    if [[ ! -e $folder/stderr.any ]]; then
+    if [[ ! -e $folder/stderr.has ]]; then
         differs stderr "$(file_of "$folder" stderr)" "$came/stderr" || right=1
-    elif [[ ! -s $came/stderr ]]; then
-        echo "stderr: wanted some text, and none came"
-        right=1
+    else
+        has_lines "$folder/stderr.has" "$came/stderr" || right=1
     fi
+    has_made "$folder/made" "$came/here" || right=1
     return "$right"
 }
+
+# has_lines WANTED FILE: whether each line of the file WANTED stands in the file, as a part of a line
+has_lines() {
+    local line right=0
+    while IFS= read -r line; do
+        grep -qF -- "$line" "$2" || { echo "stderr: wanted '$line' in it, and there came" && cat -- "$2" && right=1; }
+    done <"$1"
+    return "$right"
+}
+
+# has_made WANTED FOLDER: whether the call made the files of the folder WANTED, where there is one, and no others there
+has_made() { [[ ! -e $1 ]] || diff --text --recursive -U 3 -- "$1" "$2"; }
 
 # pipes_slow_producer: each line is answered, with each byte ten more, before the next is written
 pipes_slow_producer() {
