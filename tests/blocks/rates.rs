@@ -1,5 +1,6 @@
 //! The blocks that change a rate or move a stream.
 use super::runs::{LANE_COUNTS, Trials, is_bad, ramp};
+use block_kinds::Block;
 use parameters::Parameter;
 use items::ItemType::{Byte, Int, Short};
 use rate_blocks::{Delay, Head, KeepOneInN, Repeat, SkipHead};
@@ -14,6 +15,8 @@ fn rates(rt: HostRuntime) -> Result<(), Fail> {
     let twice = Repeat::new(Short, 2);
     trials.gives("twice each", twice, &[1, -2], &[1, 1, -2, -2])?;
     let first = Head::new(Byte, 3);
+    // (what it would give behind its limit, nobody asks for)
+    assert!(rt; matches!(&first, Ok(head) if head.limit() == Some(3)));
     trials.gives("the first", first, &[1, 2, 3, 4, 5], &[1, 2, 3])?;
     let late = SkipHead::new(Byte, 2);
     trials.gives("without the first", late, &[7, 8, 9], &[9])?;

@@ -1,5 +1,8 @@
 //! A block of each kind, and what a whole file says.
+use flowgraph::Valid;
 use graph_file::read_graph;
+use kinds::Kind;
+use std::alloc::Global;
 use std::test::Fail;
 
 // Each kind with all its keys.
@@ -197,12 +200,27 @@ const KINDS: [(&str, &str); 50] = [
     ),
 ];
 
-// Kinds whose missing keys have defaults.
-const DEFAULTS: [(&str, &str); 4] = [
-    ("scale", "type = \"byte\"\nfactor = 1\n"),
-    ("fir", "type = \"int\"\ntaps = [1]\n"),
-    ("interp_fir", "type = \"int\"\ntaps = [1]\n"),
-    ("repeat", "type = \"int\"\nn = 1\n"),
+// Kinds whose missing keys have defaults, which stand behind the others, and a key in which a block differs from that.
+const DEFAULTS: [(&str, &str, &str, &str); 4] = [
+    ("scale", "type = \"int\"\nfactor = 1\n", "shift = 0\n", "shift = 1\n"),
+    (
+        "fir",
+        "type = \"int\"\ntaps = [1]\n",
+        "decimation = 1\nshift = 0\n",
+        "decimation = 2\n",
+    ),
+    (
+        "interp_fir",
+        "type = \"int\"\ntaps = [1]\n",
+        "interpolation = 1\nshift = 0\n",
+        "interpolation = 2\n",
+    ),
+    (
+        "repeat",
+        "type = \"int\"\nn = 1\n",
+        "tags = \"all\"\nmultiple = 1\ncapacity = 4096\n",
+        "capacity = 4095\n",
+    ),
 ];
 
 const WHOLE: &str = "[[block]]\nname = \"src\"\nkind = \"vector_source\"\ntype = \"byte\"\n\
@@ -213,12 +231,37 @@ const WHOLE: &str = "[[block]]\nname = \"src\"\nkind = \"vector_source\"\ntype =
 
 #[test]
 fn kinds_with_all_keys(rt: HostRuntime) -> Result<(), Fail> {
-    for (kind, keys) in KINDS.iter().chain(DEFAULTS.iter()) {
+    for (kind, keys) in KINDS {
         let text = format!(in rt.alloc(); "[[block]]\nname = \"a\"\nkind = \"{kind}\"\n{keys}")?;
         match read_graph(rt.alloc(), text.as_bytes()) {
             Ok(file) => assert_eq!(rt; file.feeds.len(), 0),
             Err(fault) => assert_eq!(rt; format!(in rt.alloc(); "{kind}: {fault}")?.as_str(), ""),
         }
+    }
+    Ok(())
+}
+
+// The graph of a source of ints, a block of this kind with these keys, and a sink.
+fn graph_of(alloc: Global, kind: &str, keys: &str) -> Result<Valid<Kind>, Fail> {
+    let text = format!(in alloc; "[[block]]\nname = \"src\"\nkind = \"vector_source\"\ntype = \"int\"\n[[block]]\nname = \"a\"\nkind = \"{kind}\"\n{keys}[[block]]\nname = \"out\"\nkind = \"vector_sink\"\ntype = \"int\"\n[[connect]]\nfrom = \"src\"\nto = \"a\"\n[[connect]]\nfrom = \"a\"\nto = \"out\"\n")?;
+    match read_graph(alloc, text.as_bytes()) {
+        Ok(file) => match file.graph.validate(alloc) {
+            Ok(graph) => Ok(graph),
+            Err(_) => Err(Fail::from("not valid")),
+        },
+        Err(_) => Err(Fail::from("refused")),
+    }
+}
+
+#[test]
+fn defaults(rt: HostRuntime) -> Result<(), Fail> {
+    let alloc = rt.alloc();
+    for (kind, keys, defaults, other) in DEFAULTS {
+        let without = graph_of(alloc, kind, keys)?;
+        let with = format!(in alloc; "{keys}{defaults}")?;
+        let apart = format!(in alloc; "{keys}{other}")?;
+        assert!(rt; without.agrees(&graph_of(alloc, kind, with.as_str())?), "{kind}");
+        assert!(rt; !without.agrees(&graph_of(alloc, kind, apart.as_str())?), "{kind}");
     }
     Ok(())
 }

@@ -69,8 +69,13 @@ fn cut_and_turned_files(rt: HostRuntime) -> Result<(), Fail> {
         );
     }
     let bytes = text.as_bytes();
+    let mut is_quoted = false;
     for place in 0..bytes.len() {
-        assert!(rt; may_be(number_of(alloc, &bytes[..place])), "cut at {place}");
+        let number = number_of(alloc, &bytes[..place]);
+        assert!(rt; may_be(number), "cut at {place}");
+        // (a text that does not end)
+        assert!(rt; !is_quoted || number == 40, "cut at {place}: {number}");
+        is_quoted = is_quoted != (bytes[place] == b'"');
         for byte in [0, 255] {
             let file = turned(alloc, bytes, place, byte)?;
             assert_eq!(rt; number_of(alloc, &file), 40, "{byte} at {place}");

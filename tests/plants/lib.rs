@@ -9,6 +9,7 @@ mod helped;
 mod marked;
 mod needs;
 mod orders;
+mod piped;
 mod pipelines;
 mod stores;
 mod streamed;

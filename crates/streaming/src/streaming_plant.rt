@@ -48,7 +48,7 @@ use tags::Tag;
 /// A flowgraph that runs in constant memory, for as long as it is fed. A contract sees it as a plant that forgets nothing, with how much is kept.
 ///
 /// In memory are the buffers, what was fed and not taken by its source, and what a sink took and was not drained; what was forgotten of these makes it at
-/// most twice as much.
+/// most twice as many items. Memory that was taken is kept for what comes, so it is that of the longest piece so far.
 pub struct StreamingPlant<B: Block> {
     parts: Parts<B>,
 }
@@ -316,7 +316,9 @@ impl<B: Block> StreamingPlant<B> {
 
     /// How many items all sources were fed, and how many of these they have given, to be shown: where the numbers grow beyond 64 bits, they stay there. It looks at
     /// each block, and takes no memory.
-    pub fn headway(&self) -> Headway {
+    pub fn headway(&self) -> Headway
+        ensures { result.given ≤ result.fed }
+    {
         self.parts.headway()
     }
 
