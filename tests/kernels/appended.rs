@@ -2,8 +2,8 @@
 
 use super::in_turn::{MOST, in_turn};
 use lane_kernels::{
-    SimdLane, append_abs_wrap, append_and_const, append_clip, append_maximum, append_minimum,
-    append_multiply_wrap, append_or_const, append_sub_wrap, append_xor_const, maximum_into,
+    AndBits, OrBits, SimdLane, XorBits, append_abs_wrap, append_clip, append_joined_bits_const,
+    append_maximum, append_minimum, append_multiply_wrap, append_sub_wrap, maximum_into,
     minimum_into, multiply_wrap_into, sub_wrap_into,
 };
 use std::alloc::{AllocError, Global};
@@ -203,9 +203,9 @@ fn call<T: SimdLane>(kernel: Kernel, x: &[T], y: &[T], c: [T; 2], out: &mut Vec<
         Sub => append_sub_wrap(x, y, out),
         Minimum => append_minimum(x, y, out),
         Maximum => append_maximum(x, y, out),
-        AndConst => append_and_const(x, c[0], out),
-        OrConst => append_or_const(x, c[0], out),
-        XorConst => append_xor_const(x, c[0], out),
+        AndConst => append_joined_bits_const::<T, AndBits>(x, c[0], out),
+        OrConst => append_joined_bits_const::<T, OrBits>(x, c[0], out),
+        XorConst => append_joined_bits_const::<T, XorBits>(x, c[0], out),
         Abs => append_abs_wrap(x, out),
         Clip => append_clip(x, c[0], c[1], out),
     }

@@ -2,9 +2,9 @@
 
 use super::in_turn::{MOST, in_turn};
 use lane_kernels::{
-    SimdLane, add_const_wrap, add_wrap, add_wrap_into, and, and_into, append_add_const_wrap,
-    append_add_wrap, append_and, append_mul_wrap, append_not, append_or, append_scale_sat,
-    append_xor, mul_wrap, not, or, or_into, scale_sat, xor, xor_into,
+    AndBits, OrBits, SimdLane, XorBits, add_const_wrap, add_wrap, add_wrap_into,
+    append_add_const_wrap, append_add_wrap, append_joined_bits, append_mul_wrap, append_not,
+    append_scale_sat, join_bits, join_bits_into, mul_wrap, not, scale_sat,
 };
 use std::alloc::{AllocError, Global};
 use std::process::Abort;
@@ -234,9 +234,9 @@ fn call<T: SimdLane>(kernel: Kernel, x: &[T], y: &[T], c: T, out: &mut [T]) {
         AddConstWrap => add_const_wrap(x, c, out),
         MulWrap => mul_wrap(x, c, out),
         ScaleSat(factor, shift) => scale_sat(x, factor, shift % 32, out),
-        And => and(x, y, out),
-        Or => or(x, y, out),
-        Xor => xor(x, y, out),
+        And => join_bits::<T, AndBits>(x, y, out),
+        Or => join_bits::<T, OrBits>(x, y, out),
+        Xor => join_bits::<T, XorBits>(x, y, out),
         Not => not(x, out),
     }
 }
@@ -265,9 +265,9 @@ fn call_appending<T: SimdLane>(kernel: Kernel, x: &[T], y: &[T], c: T, out: &mut
         AddConstWrap => append_add_const_wrap(x, c, out),
         MulWrap => append_mul_wrap(x, c, out),
         ScaleSat(factor, shift) => append_scale_sat(x, factor, shift % 32, out),
-        And => append_and(x, y, out),
-        Or => append_or(x, y, out),
-        Xor => append_xor(x, y, out),
+        And => append_joined_bits::<T, AndBits>(x, y, out),
+        Or => append_joined_bits::<T, OrBits>(x, y, out),
+        Xor => append_joined_bits::<T, XorBits>(x, y, out),
         Not => append_not(x, out),
     }
 }
@@ -285,9 +285,9 @@ fn joins<T: SimdLane + PartialEq>(
     let y = in_turn(b);
     match kernel {
         AddWrap => add_wrap_into(&y[..n], &mut found[..n]),
-        And => and_into(&y[..n], &mut found[..n]),
-        Or => or_into(&y[..n], &mut found[..n]),
-        Xor => xor_into(&y[..n], &mut found[..n]),
+        And => join_bits_into::<T, AndBits>(&y[..n], &mut found[..n]),
+        Or => join_bits_into::<T, OrBits>(&y[..n], &mut found[..n]),
+        Xor => join_bits_into::<T, XorBits>(&y[..n], &mut found[..n]),
         AddConstWrap | MulWrap | ScaleSat(_, _) | Not => return true,
     }
     found[..n] == expected[..n] && found[n..] == in_turn(a)[n..]

@@ -6,8 +6,8 @@ use crate::item::Item;
 use crate::plain::{self, Operation};
 use lane_filters::{FilterLane, diff_decode, dot_i16, dot_i32, fir_row, pack_bits, unpack_bits};
 use lane_kernels::{
-    NarrowsTo, SimdLane, WidensTo, add_const_wrap, add_wrap, and, mul_wrap, narrow, not, or,
-    scale_sat, widen, xor,
+    AndBits, NarrowsTo, OrBits, SimdLane, WidensTo, XorBits, add_const_wrap, add_wrap, join_bits,
+    mul_wrap, narrow, not, scale_sat, widen,
 };
 
 /// A kernel that gives an item for each item.
@@ -106,9 +106,9 @@ pub fn call_kernel<T: SimdLane>(kernel: Kernel, x: &[T], y: &[T], out: &mut [T])
         Kernel::AddWrap => add_wrap(x, y, out),
         Kernel::AddConstWrap => add_const_wrap(x, y[0], out),
         Kernel::MulWrap => mul_wrap(x, y[0], out),
-        Kernel::And => and(x, y, out),
-        Kernel::Or => or(x, y, out),
-        Kernel::Xor => xor(x, y, out),
+        Kernel::And => join_bits::<T, AndBits>(x, y, out),
+        Kernel::Or => join_bits::<T, OrBits>(x, y, out),
+        Kernel::Xor => join_bits::<T, XorBits>(x, y, out),
         Kernel::Not => not(x, out),
     }
 }

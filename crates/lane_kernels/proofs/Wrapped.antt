@@ -6,11 +6,10 @@ use Rattle.std.specs.Prelude.{bit_xor}
 use Rattle.std.proofs.lemmas.Int.{wrapping_add_is, wrapping_mul_is}
 use Rattle.std.proofs.lemmas.Nat.{and_le_l, or_lt, xor_lt}
 use Rattle.stream_model.specs.Numbers.{IsItem, wrap, centred, numbers_in}
-use Rattle.kind_model.specs.Kernels.{bits_in, turned}
+use Rattle.kind_model.specs.Kernels.{bits_in, bits_joined, turned}
 use Rattle.stream_model.specs.declared.vocabulary.ItemType.{ItemType}
 use Rattle.stream_model.specs.declared.vocabulary.ItemType.TheVariants.{Byte, Short, Int}
 use Rattle.numbers.proofs.Widths.{byte_below, short_fits, int_fits}
-use Rattle.lane_kernels.specs.Blocks.{joined}
 
 -- op keeps numbers below 2 ^ k below it
 pub record Keeps (op : ℕ → ℕ → ℕ) (k : ℕ) : Type 0 where
@@ -93,7 +92,7 @@ module _ (w : Width) (t : ItemType) (h : Holds w t) where
   pub multiplied : (x y : ℤ) → SFits w x → SFits w y → to_z w ((of_z w x * of_z w y) % 2 ^ bits w) ≡ wrap t (x *ℤ y)
   multiplied x y p q = wrapping_mul_is w x y p q ∙ sym (h.wraps (x *ℤ y))
 
-  pub joined_bits : (op : ℕ → ℕ → ℕ) → Keeps op (bits w) → (x y : ℤ) → SFits w x → SFits w y → to_z w (op (of_z w x) (of_z w y)) ≡ joined op t x y
+  pub joined_bits : (op : ℕ → ℕ → ℕ) → Keeps op (bits w) → (x y : ℤ) → SFits w x → SFits w y → to_z w (op (of_z w x) (of_z w y)) ≡ bits_joined op t x y
   joined_bits op k x y p q =
       read (op (of_z w x) (of_z w y)) (k.below _ _ (h.below x p) (h.below y q)) ∙ sym (λ i. wrap t (pos (op (h.is_bits x p i) (h.is_bits y q i))))
 
@@ -102,7 +101,7 @@ module _ (w : Width) (t : ItemType) (h : Holds w t) where
 
 -- ---- bytes
 
-pub joined_bytes : (op : ℕ → ℕ → ℕ) → Keeps op 8 → (x y : ℕ) → IsItem Byte (pos x) → IsItem Byte (pos y) → pos (op x y) ≡ joined op Byte (pos x) (pos y)
+pub joined_bytes : (op : ℕ → ℕ → ℕ) → Keeps op 8 → (x y : ℕ) → IsItem Byte (pos x) → IsItem Byte (pos y) → pos (op x y) ≡ bits_joined op Byte (pos x) (pos y)
 joined_bytes op k x y p q =
     let below : op x y < 2 ^ 8 = k.below x y (byte_below x p) (byte_below y q) in
     let first : x ≡ x % 256 = omega (arith, byte_below x p) in

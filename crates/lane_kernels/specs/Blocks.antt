@@ -1,17 +1,12 @@
--- Blocks of items, and what logic makes of two numbers.
-use Rattle.std.specs.Prelude.{◌≡◌, ℕ, ◌≤◌, ℤ, pos, List, length, All, unsigned_abs, int_lt, if◌then◌else◌}
-use Rattle.stream_model.specs.Numbers.{IsItem, wrap}
-use Rattle.kind_model.specs.Kernels.{bits_in}
+-- Blocks of items, and numbers within bounds.
+use Rattle.std.specs.Prelude.{◌≡◌, ℕ, ◌≤◌, ℤ, List, length, All, unsigned_abs, int_lt, if◌then◌else◌}
+use Rattle.stream_model.specs.Numbers.{IsItem}
 use Rattle.stream_model.specs.declared.vocabulary.ItemType.{ItemType}
 
 -- so many items of the type
 pub record IsBlock {X : Type 0} (count : ℕ) (t : ItemType) (number : X → ℤ) (xs : List X) : Type 0 where
   pub whole : length xs ≡ count
   pub items : All (λ x. IsItem t (number x)) xs
-
--- the number whose bits are those of x and y, joined bit for bit by op
-abbrev pub joined : (ℕ → ℕ → ℕ) → ItemType → ℤ → ℤ → ℤ
-joined op t x y = wrap t (pos (op (bits_in t x) (bits_in t y)))
 
 -- z is at most bound away from 0
 pub record IsWithin (bound : ℕ) (z : ℤ) : Type 0 where

@@ -28,8 +28,8 @@ pub use comparing::{
 };
 pub use conversion::{NarrowsTo, WidensTo, narrow, widen};
 pub use logic::{
-    and, and_into, append_and, append_and_const, append_not, append_or, append_or_const,
-    append_xor, append_xor_const, not, or, or_into, xor, xor_into,
+    AndBits, BitOperation, OrBits, XorBits, append_joined_bits, append_joined_bits_const,
+    append_not, join_bits, join_bits_into, not,
 };
 pub use simd_lane::{MOST_LANES, SimdLane};
 pub use streams::{deinterleave, interleave};

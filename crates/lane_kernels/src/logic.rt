@@ -1,44 +1,109 @@
 //! Logic on the bits of items.
-ghost use Rattle.std.specs.Prelude.{◌≡◌, ◌≤◌, ◌+◌, ◌++◌, length, map, bit_and, bit_or, bit_xor, vec_len, vec_capacity};
-ghost use Rattle.kind_model.specs.Kernels.{and_bits, or_bits, xor_bits, joined_bits_const, not_bits, turned};
-ghost use Rattle.lane_kernels.specs.Blocks.{joined};
+ghost use Rattle.std.specs.Prelude.{◌≡◌, ℕ, ◌≤◌, ◌+◌, ◌++◌, length, map, vec_len, vec_capacity};
+ghost use Rattle.std.specs.Simd.Lanes.{zip2};
+ghost use Rattle.stream_model.specs.declared.vocabulary.ItemType.{ItemType};
+ghost use Rattle.kind_model.specs.Kernels.{bits_joined, joined_bits, joined_bits_const, not_bits, turned};
+ghost use Rattle.lane_kernels.specs.Blocks.{IsBlock};
+ghost use Rattle.lane_kernels.specs.Bitwise.{IsBitwise};
 
 use crate::SimdLane;
 use crate::appending::{append_map, append_zip};
 use crate::blocks::{MapBlock, ZipBlock, map_blocks, zip_blocks};
 use crate::joining::zip_into;
 use crate::plain::with;
+use std::marker::PhantomData;
 
-#[derive(Drop)]
-struct Both;
+/// An operation that joins the bits of two items, bit for bit.
+pub trait BitOperation: Eq + Drop {
+    /// The bits that it makes of those of two items.
+    ghost on_bits: { ℕ → ℕ → ℕ };
 
-impl<T: SimdLane> ZipBlock<T> for Both {
-    ghost means = { joined bit_and T.kind };
+    /// The bits that join to nothing new.
+    ghost none: { ItemType → ℕ };
 
-    fn block(a: &[T], b: &[T], out: &mut [T]) {
+    /// The operation at each two items of two blocks.
+    fn block<T: SimdLane>(a: &[T], b: &[T], out: &mut [T])
+        requires a_block { IsBlock T.LANES T.kind T.number a.now }
+        requires b_block { IsBlock T.LANES T.kind T.number b.now }
+        requires out_block { length out.old ≡ T.LANES }
+        ensures { map T.number out.new ≡ zip2 (bits_joined on_bits T.kind) (map T.number a.now) (map T.number b.now) };
+
+    /// Items may be joined in any order.
+    ghost is_bitwise: { IsBitwise on_bits none };
+}
+
+/// The bits that both items have.
+#[derive(Debug, Drop, PartialEq, Eq)]
+pub struct AndBits;
+
+impl BitOperation for AndBits {
+    ghost use Rattle.std.specs.Prelude.{bit_and};
+    ghost use Rattle.lane_kernels.specs.Bitwise.{all_set, and_is_bitwise};
+
+    ghost on_bits = { bit_and };
+
+    ghost none = { all_set };
+
+    #[inline(always)]
+    fn block<T: SimdLane>(a: &[T], b: &[T], out: &mut [T]) {
         T::and_block(a, b, out);
     }
+
+    ghost is_bitwise = { and_is_bitwise };
 }
 
-#[derive(Drop)]
-struct Either;
+/// The bits that either item has.
+#[derive(Debug, Drop, PartialEq, Eq)]
+pub struct OrBits;
 
-impl<T: SimdLane> ZipBlock<T> for Either {
-    ghost means = { joined bit_or T.kind };
+impl BitOperation for OrBits {
+    ghost use Rattle.std.specs.Prelude.{bit_or};
+    ghost use Rattle.lane_kernels.specs.Bitwise.{none_set, or_is_bitwise};
 
-    fn block(a: &[T], b: &[T], out: &mut [T]) {
+    ghost on_bits = { bit_or };
+
+    ghost none = { none_set };
+
+    #[inline(always)]
+    fn block<T: SimdLane>(a: &[T], b: &[T], out: &mut [T]) {
         T::or_block(a, b, out);
     }
+
+    ghost is_bitwise = { or_is_bitwise };
 }
 
-#[derive(Drop)]
-struct OneAlone;
+/// The bits that one of two items has alone.
+#[derive(Debug, Drop, PartialEq, Eq)]
+pub struct XorBits;
 
-impl<T: SimdLane> ZipBlock<T> for OneAlone {
-    ghost means = { joined bit_xor T.kind };
+impl BitOperation for XorBits {
+    ghost use Rattle.std.specs.Prelude.{bit_xor};
+    ghost use Rattle.lane_kernels.specs.Bitwise.{none_set, xor_is_bitwise};
 
-    fn block(a: &[T], b: &[T], out: &mut [T]) {
+    ghost on_bits = { bit_xor };
+
+    ghost none = { none_set };
+
+    #[inline(always)]
+    fn block<T: SimdLane>(a: &[T], b: &[T], out: &mut [T]) {
         T::xor_block(a, b, out);
+    }
+
+    ghost is_bitwise = { xor_is_bitwise };
+}
+
+/// The operation as one of blocks.
+#[derive(Drop)]
+struct OnBits<O> {
+    _operation: PhantomData<O>,
+}
+
+impl<T: SimdLane, O: BitOperation> ZipBlock<T> for OnBits<O> {
+    ghost means = { bits_joined O.on_bits T.kind };
+
+    #[inline(always)]
+    fn block(a: &[T], b: &[T], out: &mut [T]) {
+        O::block(a, b, out);
     }
 }
 
@@ -61,67 +126,25 @@ impl<T: SimdLane> MapBlock<T, T> for Turn {
     ghost has_few_lanes = { T.has_few_lanes };
 }
 
-/// The bits that both items have.
+/// The operation at each two items.
 #[tactic(auto, using(crate::proofs::Listed::zipped_is_listed))]
 #[inline(always)]
-pub fn and<T: SimdLane>(a: &[T], b: &[T], out: &mut [T])
+pub fn join_bits<T: SimdLane, O: BitOperation>(a: &[T], b: &[T], out: &mut [T])
     requires same_length { length a.now ≡ length b.now }
     requires out_length { length out.old ≡ length a.now }
-    ensures { map T.number out.new ≡ and_bits T.kind (map T.number a.now) (map T.number b.now) }
+    ensures { map T.number out.new ≡ joined_bits O.on_bits T.kind (map T.number a.now) (map T.number b.now) }
 {
-    zip_blocks::<T, Both>(a, b, out);
+    zip_blocks::<T, OnBits<O>>(a, b, out);
 }
 
-/// Leaves each item of `out` the bits that the item of `items` at its place has too.
+/// Writes over each item of `out` the operation at it and the item of `items` at its place.
 #[tactic(auto, using(crate::proofs::Listed::zipped_is_listed))]
 #[inline(always)]
-pub fn and_into<T: SimdLane>(items: &[T], out: &mut [T])
+pub fn join_bits_into<T: SimdLane, O: BitOperation>(items: &[T], out: &mut [T])
     requires { length items.now ≡ length out.old }
-    ensures { map T.number out.new ≡ and_bits T.kind (map T.number out.old) (map T.number items.now) }
+    ensures { map T.number out.new ≡ joined_bits O.on_bits T.kind (map T.number out.old) (map T.number items.now) }
 {
-    zip_into::<T, Both>(items, out);
-}
-
-/// The bits that either item has.
-#[tactic(auto, using(crate::proofs::Listed::zipped_is_listed))]
-#[inline(always)]
-pub fn or<T: SimdLane>(a: &[T], b: &[T], out: &mut [T])
-    requires same_length { length a.now ≡ length b.now }
-    requires out_length { length out.old ≡ length a.now }
-    ensures { map T.number out.new ≡ or_bits T.kind (map T.number a.now) (map T.number b.now) }
-{
-    zip_blocks::<T, Either>(a, b, out);
-}
-
-/// Gives each item of `out` the bits that the item of `items` at its place has.
-#[tactic(auto, using(crate::proofs::Listed::zipped_is_listed))]
-#[inline(always)]
-pub fn or_into<T: SimdLane>(items: &[T], out: &mut [T])
-    requires { length items.now ≡ length out.old }
-    ensures { map T.number out.new ≡ or_bits T.kind (map T.number out.old) (map T.number items.now) }
-{
-    zip_into::<T, Either>(items, out);
-}
-
-/// The bits that one of two items has alone.
-#[tactic(auto, using(crate::proofs::Listed::zipped_is_listed))]
-#[inline(always)]
-pub fn xor<T: SimdLane>(a: &[T], b: &[T], out: &mut [T])
-    requires same_length { length a.now ≡ length b.now }
-    requires out_length { length out.old ≡ length a.now }
-    ensures { map T.number out.new ≡ xor_bits T.kind (map T.number a.now) (map T.number b.now) }
-{
-    zip_blocks::<T, OneAlone>(a, b, out);
-}
-
-/// Turns the bits of each item of `out` that the item of `items` at its place has.
-#[tactic(auto, using(crate::proofs::Listed::zipped_is_listed))]
-#[inline(always)]
-pub fn xor_into<T: SimdLane>(items: &[T], out: &mut [T])
-    requires { length items.now ≡ length out.old }
-    ensures { map T.number out.new ≡ xor_bits T.kind (map T.number out.old) (map T.number items.now) }
-{
-    zip_into::<T, OneAlone>(items, out);
+    zip_into::<T, OnBits<O>>(items, out);
 }
 
 /// The bits that each item lacks.
@@ -134,73 +157,27 @@ pub fn not<T: SimdLane>(a: &[T], out: &mut [T])
     map_blocks(&Turn, a, out);
 }
 
-/// Appends the bits that both items have, where the capacity has room.
+/// Appends the operation at each two items, where the capacity has room.
 #[inline(always)]
-pub fn append_and<T: SimdLane>(a: &[T], b: &[T], out: &mut Vec<T>)
+pub fn append_joined_bits<T: SimdLane, O: BitOperation>(a: &[T], b: &[T], out: &mut Vec<T>)
     requires same_length { length a.now ≡ length b.now }
     requires room { vec_len out.old + length a.now ≤ vec_capacity out.old }
-    ensures items { map T.number out.new.items ≡ map T.number out.old.items ++ and_bits T.kind (map T.number a.now) (map T.number b.now) }
+    ensures items { map T.number out.new.items ≡ map T.number out.old.items ++ joined_bits O.on_bits T.kind (map T.number a.now) (map T.number b.now) }
     ensures len { vec_len out.new ≡ vec_len out.old + length a.now }
     ensures capacity { vec_capacity out.old ≤ vec_capacity out.new }
 {
-    append_zip::<T, Both>(a, b, out);
+    append_zip::<T, OnBits<O>>(a, b, out);
 }
 
-/// Appends the bits that either item has, where the capacity has room.
+/// Appends the operation at each item and `c`, where the capacity has room.
 #[inline(always)]
-pub fn append_or<T: SimdLane>(a: &[T], b: &[T], out: &mut Vec<T>)
-    requires same_length { length a.now ≡ length b.now }
+pub fn append_joined_bits_const<T: SimdLane, O: BitOperation>(a: &[T], c: T, out: &mut Vec<T>)
     requires room { vec_len out.old + length a.now ≤ vec_capacity out.old }
-    ensures items { map T.number out.new.items ≡ map T.number out.old.items ++ or_bits T.kind (map T.number a.now) (map T.number b.now) }
+    ensures items { map T.number out.new.items ≡ map T.number out.old.items ++ joined_bits_const O.on_bits T.kind (map T.number a.now) (T.number c) }
     ensures len { vec_len out.new ≡ vec_len out.old + length a.now }
     ensures capacity { vec_capacity out.old ≤ vec_capacity out.new }
 {
-    append_zip::<T, Either>(a, b, out);
-}
-
-/// Appends the bits that one of two items has alone, where the capacity has room.
-#[inline(always)]
-pub fn append_xor<T: SimdLane>(a: &[T], b: &[T], out: &mut Vec<T>)
-    requires same_length { length a.now ≡ length b.now }
-    requires room { vec_len out.old + length a.now ≤ vec_capacity out.old }
-    ensures items { map T.number out.new.items ≡ map T.number out.old.items ++ xor_bits T.kind (map T.number a.now) (map T.number b.now) }
-    ensures len { vec_len out.new ≡ vec_len out.old + length a.now }
-    ensures capacity { vec_capacity out.old ≤ vec_capacity out.new }
-{
-    append_zip::<T, OneAlone>(a, b, out);
-}
-
-/// Appends the bits that each item and `c` both have, where the capacity has room.
-#[inline(always)]
-pub fn append_and_const<T: SimdLane>(a: &[T], c: T, out: &mut Vec<T>)
-    requires room { vec_len out.old + length a.now ≤ vec_capacity out.old }
-    ensures items { map T.number out.new.items ≡ map T.number out.old.items ++ joined_bits_const bit_and T.kind (map T.number a.now) (T.number c) }
-    ensures len { vec_len out.new ≡ vec_len out.old + length a.now }
-    ensures capacity { vec_capacity out.old ≤ vec_capacity out.new }
-{
-    append_map(&with::<T, Both>(c), a, out);
-}
-
-/// Appends the bits that each item or `c` has, where the capacity has room.
-#[inline(always)]
-pub fn append_or_const<T: SimdLane>(a: &[T], c: T, out: &mut Vec<T>)
-    requires room { vec_len out.old + length a.now ≤ vec_capacity out.old }
-    ensures items { map T.number out.new.items ≡ map T.number out.old.items ++ joined_bits_const bit_or T.kind (map T.number a.now) (T.number c) }
-    ensures len { vec_len out.new ≡ vec_len out.old + length a.now }
-    ensures capacity { vec_capacity out.old ≤ vec_capacity out.new }
-{
-    append_map(&with::<T, Either>(c), a, out);
-}
-
-/// Appends the bits that each item or `c` has alone, where the capacity has room.
-#[inline(always)]
-pub fn append_xor_const<T: SimdLane>(a: &[T], c: T, out: &mut Vec<T>)
-    requires room { vec_len out.old + length a.now ≤ vec_capacity out.old }
-    ensures items { map T.number out.new.items ≡ map T.number out.old.items ++ joined_bits_const bit_xor T.kind (map T.number a.now) (T.number c) }
-    ensures len { vec_len out.new ≡ vec_len out.old + length a.now }
-    ensures capacity { vec_capacity out.old ≤ vec_capacity out.new }
-{
-    append_map(&with::<T, OneAlone>(c), a, out);
+    append_map(&with::<T, OnBits<O>>(c), a, out);
 }
 
 /// Appends the bits that each item lacks, where the capacity has room.

@@ -3,8 +3,8 @@ ghost use Rattle.std.specs.Prelude.{◌≡◌, ℕ, ◌+◌, ◌/◌, ◌<◌, �
 ghost use Rattle.std.specs.Simd.Lanes.{zip2};
 ghost use Rattle.std.specs.Mem.{type_size};
 ghost use Rattle.stream_model.specs.Numbers.{wrap};
-ghost use Rattle.kind_model.specs.Kernels.{scaled, turned};
-ghost use Rattle.lane_kernels.specs.Blocks.{IsBlock, joined};
+ghost use Rattle.kind_model.specs.Kernels.{scaled, bits_joined, turned};
+ghost use Rattle.lane_kernels.specs.Blocks.{IsBlock};
 ghost use Rattle.lane_kernels.specs.Streams.{deinterleaved};
 ghost use Rattle.lane_kernels.specs.declared.simd_lane.TheConstants.{MOST_LANES};
 
@@ -61,7 +61,7 @@ pub trait SimdLane: Number {
         requires b_block { IsBlock Self.LANES Self.kind Self.number b.now }
         requires out_block { length out.old ≡ Self.LANES }
         ensures { map Self.number out.new ≡
-            zip2 (joined bit_and Self.kind) (map Self.number a.now) (map Self.number b.now) };
+            zip2 (bits_joined bit_and Self.kind) (map Self.number a.now) (map Self.number b.now) };
 
     /// The bits that either has.
     fn or_block(a: &[Self], b: &[Self], out: &mut [Self])
@@ -69,7 +69,7 @@ pub trait SimdLane: Number {
         requires b_block { IsBlock Self.LANES Self.kind Self.number b.now }
         requires out_block { length out.old ≡ Self.LANES }
         ensures { map Self.number out.new ≡
-            zip2 (joined bit_or Self.kind) (map Self.number a.now) (map Self.number b.now) };
+            zip2 (bits_joined bit_or Self.kind) (map Self.number a.now) (map Self.number b.now) };
 
     /// The bits that one has alone.
     fn xor_block(a: &[Self], b: &[Self], out: &mut [Self])
@@ -77,7 +77,7 @@ pub trait SimdLane: Number {
         requires b_block { IsBlock Self.LANES Self.kind Self.number b.now }
         requires out_block { length out.old ≡ Self.LANES }
         ensures { map Self.number out.new ≡
-            zip2 (joined bit_xor Self.kind) (map Self.number a.now) (map Self.number b.now) };
+            zip2 (bits_joined bit_xor Self.kind) (map Self.number a.now) (map Self.number b.now) };
 
     /// The bits, all turned.
     fn not_block(a: &[Self], out: &mut [Self])

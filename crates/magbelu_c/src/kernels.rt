@@ -5,6 +5,8 @@ ghost use Rattle.kind_model.specs.Kernels.{add_wrap, add_const_wrap, mul_wrap, a
 ghost use Rattle.stream_model.specs.declared.vocabulary.ItemType.TheVariants.{Byte, Short, Int};
 ghost use Rattle.magbelu_c.specs.Kernels.{AreAlike, IsAlike, Makes};
 
+use lane_kernels::{AndBits, OrBits, XorBits, join_bits};
+
 // The number of the refusal of slices that differ in length.
 const LENGTHS: u32 = 57;
 
@@ -86,7 +88,7 @@ pub extern "C" fn magbelu_kernel_multiply_ints(a: &[i32], number: i32, out: &mut
 pub extern "C" fn magbelu_kernel_and_bytes(a: &[u8], b: &[u8], out: &mut [u8]) -> u32
     ensures { Makes (AreAlike a.now b.now out.old) (map pos out.new ≡ and_bits Byte (map pos a.now) (map pos b.now)) out.old out.new result }
 {
-    where_alike!(are_alike(a, b, out), lane_kernels::and(a, b, out))
+    where_alike!(are_alike(a, b, out), join_bits::<u8, AndBits>(a, b, out))
 }
 
 /// The bits that either of two bytes has.
@@ -94,7 +96,7 @@ pub extern "C" fn magbelu_kernel_and_bytes(a: &[u8], b: &[u8], out: &mut [u8]) -
 pub extern "C" fn magbelu_kernel_or_bytes(a: &[u8], b: &[u8], out: &mut [u8]) -> u32
     ensures { Makes (AreAlike a.now b.now out.old) (map pos out.new ≡ or_bits Byte (map pos a.now) (map pos b.now)) out.old out.new result }
 {
-    where_alike!(are_alike(a, b, out), lane_kernels::or(a, b, out))
+    where_alike!(are_alike(a, b, out), join_bits::<u8, OrBits>(a, b, out))
 }
 
 /// The bits that one of two bytes has alone.
@@ -102,7 +104,7 @@ pub extern "C" fn magbelu_kernel_or_bytes(a: &[u8], b: &[u8], out: &mut [u8]) ->
 pub extern "C" fn magbelu_kernel_xor_bytes(a: &[u8], b: &[u8], out: &mut [u8]) -> u32
     ensures { Makes (AreAlike a.now b.now out.old) (map pos out.new ≡ xor_bits Byte (map pos a.now) (map pos b.now)) out.old out.new result }
 {
-    where_alike!(are_alike(a, b, out), lane_kernels::xor(a, b, out))
+    where_alike!(are_alike(a, b, out), join_bits::<u8, XorBits>(a, b, out))
 }
 
 /// The bits that both of two shorts have.
@@ -110,7 +112,7 @@ pub extern "C" fn magbelu_kernel_xor_bytes(a: &[u8], b: &[u8], out: &mut [u8]) -
 pub extern "C" fn magbelu_kernel_and_shorts(a: &[i16], b: &[i16], out: &mut [i16]) -> u32
     ensures { Makes (AreAlike a.now b.now out.old) (out.new ≡ and_bits Short a.now b.now) out.old out.new result }
 {
-    where_alike!(are_alike(a, b, out), lane_kernels::and(a, b, out))
+    where_alike!(are_alike(a, b, out), join_bits::<i16, AndBits>(a, b, out))
 }
 
 /// The bits that either of two shorts has.
@@ -118,7 +120,7 @@ pub extern "C" fn magbelu_kernel_and_shorts(a: &[i16], b: &[i16], out: &mut [i16
 pub extern "C" fn magbelu_kernel_or_shorts(a: &[i16], b: &[i16], out: &mut [i16]) -> u32
     ensures { Makes (AreAlike a.now b.now out.old) (out.new ≡ or_bits Short a.now b.now) out.old out.new result }
 {
-    where_alike!(are_alike(a, b, out), lane_kernels::or(a, b, out))
+    where_alike!(are_alike(a, b, out), join_bits::<i16, OrBits>(a, b, out))
 }
 
 /// The bits that one of two shorts has alone.
@@ -126,7 +128,7 @@ pub extern "C" fn magbelu_kernel_or_shorts(a: &[i16], b: &[i16], out: &mut [i16]
 pub extern "C" fn magbelu_kernel_xor_shorts(a: &[i16], b: &[i16], out: &mut [i16]) -> u32
     ensures { Makes (AreAlike a.now b.now out.old) (out.new ≡ xor_bits Short a.now b.now) out.old out.new result }
 {
-    where_alike!(are_alike(a, b, out), lane_kernels::xor(a, b, out))
+    where_alike!(are_alike(a, b, out), join_bits::<i16, XorBits>(a, b, out))
 }
 
 /// The bits that both of two ints have.
@@ -134,7 +136,7 @@ pub extern "C" fn magbelu_kernel_xor_shorts(a: &[i16], b: &[i16], out: &mut [i16
 pub extern "C" fn magbelu_kernel_and_ints(a: &[i32], b: &[i32], out: &mut [i32]) -> u32
     ensures { Makes (AreAlike a.now b.now out.old) (out.new ≡ and_bits Int a.now b.now) out.old out.new result }
 {
-    where_alike!(are_alike(a, b, out), lane_kernels::and(a, b, out))
+    where_alike!(are_alike(a, b, out), join_bits::<i32, AndBits>(a, b, out))
 }
 
 /// The bits that either of two ints has.
@@ -142,7 +144,7 @@ pub extern "C" fn magbelu_kernel_and_ints(a: &[i32], b: &[i32], out: &mut [i32])
 pub extern "C" fn magbelu_kernel_or_ints(a: &[i32], b: &[i32], out: &mut [i32]) -> u32
     ensures { Makes (AreAlike a.now b.now out.old) (out.new ≡ or_bits Int a.now b.now) out.old out.new result }
 {
-    where_alike!(are_alike(a, b, out), lane_kernels::or(a, b, out))
+    where_alike!(are_alike(a, b, out), join_bits::<i32, OrBits>(a, b, out))
 }
 
 /// The bits that one of two ints has alone.
@@ -150,5 +152,5 @@ pub extern "C" fn magbelu_kernel_or_ints(a: &[i32], b: &[i32], out: &mut [i32]) 
 pub extern "C" fn magbelu_kernel_xor_ints(a: &[i32], b: &[i32], out: &mut [i32]) -> u32
     ensures { Makes (AreAlike a.now b.now out.old) (out.new ≡ xor_bits Int a.now b.now) out.old out.new result }
 {
-    where_alike!(are_alike(a, b, out), lane_kernels::xor(a, b, out))
+    where_alike!(are_alike(a, b, out), join_bits::<i32, XorBits>(a, b, out))
 }

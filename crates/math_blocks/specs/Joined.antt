@@ -1,12 +1,12 @@
 -- Blocks that make each item of one item of each input.
-use Rattle.std.specs.Prelude.{◌≡◌, ◌≤◌, ℕ, ◌-◌, ℤ, pos, ◌+ℤ◌, ◌-ℤ◌, ◌*ℤ◌, List, [], ◌∷◌, ◌++◌, length, All, true, ◌&&◌}
+use Rattle.std.specs.Prelude.{◌≡◌, ◌≤◌, ℕ, ℤ, pos, ◌+ℤ◌, ◌-ℤ◌, ◌*ℤ◌, List, [], ◌∷◌, ◌++◌, length, All, true, ◌&&◌}
 use Rattle.std.specs.Cmp.{first_so}
 use denote.Enum.Bare.{sameb}
 use Rattle.std.proofs.Common.{ap, ◌∙◌}
 use Rattle.stream_model.specs.contracts.vocabulary.ItemType.{the_type}
 use Rattle.stream_model.specs.declared.vocabulary.ItemType.{ItemType}
-use Rattle.stream_model.specs.Numbers.{IsItem, least_of, greatest_of, numbers_in, wrap, total}
-use Rattle.kind_model.specs.Kernels.{bits_in, lesser, greater}
+use Rattle.stream_model.specs.Numbers.{IsItem, least_of, greatest_of, wrap, total}
+use Rattle.kind_model.specs.Kernels.{lesser, greater}
 use Rattle.stream_model.specs.Meaning.{Meaning}
 use Rattle.stream_model.specs.Shapes.{ports, any_ports, at_rate}
 use Rattle.kind_model.specs.Math.{items_at, difference, product, least_up_to, greatest_down_to, all_bits}
@@ -92,16 +92,6 @@ lesser_of_two t y z = lesser y z
 abbrev pub greater_of_two : ItemType → ℤ → ℤ → ℤ
 greater_of_two t y z = greater y z
 
--- the number with the bits of all numbers, joined bit for bit by op, where `none` joins to nothing new; and of two
+-- the number with the bits of all numbers, joined bit for bit by op, where `none` joins to nothing new
 abbrev pub bits_of_all : (ℕ → ℕ → ℕ) → (ItemType → ℕ) → ItemType → List ℤ → ℤ
 bits_of_all op none t zs = wrap t (pos (all_bits op (none t) t zs))
-
-abbrev pub bits_of_two : (ℕ → ℕ → ℕ) → ItemType → ℤ → ℤ → ℤ
-bits_of_two op t y z = wrap t (pos (op (bits_in t y) (bits_in t z)))
-
--- the number with all bits of the type, and that with none
-abbrev pub all_set : ItemType → ℕ
-all_set t = numbers_in t - 1
-
-abbrev pub none_set : ItemType → ℕ
-none_set t = 0

@@ -1,12 +1,12 @@
 use Rattle.std.proofs.Common.{w32}
 use Rattle.std.specs.Prelude.{bit_or}
 use Rattle.stream_model.specs.declared.vocabulary.ItemType.TheVariants.{Int}
-use Rattle.lane_kernels.specs.Blocks.{joined}
+use Rattle.kind_model.specs.Kernels.{bits_joined}
 use Rattle.lane_kernels.proofs.SignedLanes.{signed_zip}
 use Rattle.lane_kernels.proofs.Wrapped.{int_lanes, joined_bits, or_keeps}
 use Rattle.lane_kernels.proofs.ints.I32SimdLane.or_block.Goals as goal
 
 pub returns : goal.returns
 returns c =
-    signed_zip 4 w32 Int c.args.out.now c.args.a.now c.requires.out_block c.requires.a_block bit_or (joined bit_or Int)
+    signed_zip 4 w32 Int c.args.out.now c.args.a.now c.requires.out_block c.requires.a_block bit_or (bits_joined bit_or Int)
     (λ x y p q. joined_bits w32 Int int_lanes bit_or (or_keeps 32) x y (int_lanes.fits x p) (int_lanes.fits y q)) c.args.b.now c.requires.b_block

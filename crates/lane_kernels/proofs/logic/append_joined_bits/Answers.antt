@@ -1,6 +1,6 @@
 use Rattle.std.proofs.Common.{◌∙◌, ◌++◌, map, ap}
 use Rattle.lane_kernels.proofs.Listed.{zipped_is_listed}
-use Rattle.lane_kernels.proofs.logic.append_xor.Goals as goal
+use Rattle.lane_kernels.proofs.logic.append_joined_bits.Goals as goal
 
 pub returns-clause-items : goal.returns-clause-items
 returns-clause-items g c =

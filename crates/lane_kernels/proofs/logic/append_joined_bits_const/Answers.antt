@@ -1,12 +1,11 @@
-use Rattle.std.specs.Prelude.{bit_xor}
 use Rattle.std.proofs.Common.{◌∙◌, ◌++◌, map, ap}
 use Rattle.kind_model.specs.Kernels.{joined_bits_const}
 use Rattle.lane_kernels.proofs.Listed.{mapped_is_listed}
-use Rattle.lane_kernels.proofs.logic.append_xor_const.Goals as goal
+use Rattle.lane_kernels.proofs.logic.append_joined_bits_const.Goals as goal
 
 pub returns-clause-items : goal.returns-clause-items
 returns-clause-items g c =
     let number = g.T.Number.number in
     let xs = map number c.args.a.now in
     c.append_map.ensures.items ∙ ap (λ ys. map number c.args.out.now.items ++ ys) (mapped_is_listed _ xs)
-    ∙ ap (λ by. map number c.args.out.now.items ++ joined_bits_const bit_xor g.T.Number.kind xs (number by)) c.with.ensures
+    ∙ ap (λ by. map number c.args.out.now.items ++ joined_bits_const g.O.BitOperation.on_bits g.T.Number.kind xs (number by)) c.with.ensures
