@@ -18,9 +18,6 @@ use Rattle.bit_blocks.specs.declared.register.Register.{Register}
 use Rattle.bit_blocks.specs.declared.register_block.RegisterBlock.{RegisterBlock}
 use Rattle.bit_blocks.specs.declared.correlate_access_code.CorrelateAccessCode.{CorrelateAccessCode}
 use Rattle.bit_blocks.specs.declared.repacking.Repacking.{Repacking}
-use Rattle.bit_blocks.specs.declared.repack_bits.RepackBits.{RepackBits}
-use Rattle.bit_blocks.specs.declared.packed_to_unpacked.PackedToUnpacked.{PackedToUnpacked}
-use Rattle.bit_blocks.specs.declared.unpacked_to_packed.UnpackedToPacked.{UnpackedToPacked}
 use Rattle.bit_blocks.specs.declared.diff_encoder.DiffEncoder.{DiffEncoder}
 use Rattle.bit_blocks.specs.declared.diff_decoder.DiffDecoder.{DiffDecoder}
 
@@ -54,19 +51,10 @@ same_register f a b e =
     λ i. f (bits_same i) (mask_same i) (init_same i)
 
 -- a block that cuts bits another way
-abbrev pub repacking_of : Repacking → Meaning
+abbrev pub repacking_of : {K : _} → Repacking K → Meaning
 repacking_of r = repacking r.item r.from r.to r.read r.write
 
-abbrev pub repack_bits_of : RepackBits → Meaning
-repack_bits_of b = repacking_of b.cut
-
-abbrev pub packed_to_unpacked_of : PackedToUnpacked → Meaning
-packed_to_unpacked_of b = repacking_of b.cut
-
-abbrev pub unpacked_to_packed_of : UnpackedToPacked → Meaning
-unpacked_to_packed_of b = repacking_of b.cut
-
-pub repacking_of-lawful : (r : Repacking) → IsLawful (repacking_of r)
+pub repacking_of-lawful : {K : _} (r : Repacking K) → IsLawful (repacking_of r)
 repacking_of-lawful r = repacking-lawful r.item r.from r.to r.read r.write r.some r.few r.some_given r.few_given
 
 -- orders that the derived test finds equal are one
@@ -78,7 +66,7 @@ same_order LsbFirst LsbFirst e = refl
 
 -- and so are ways to cut bits
 pub repacking_of-same :
-    (a b : Repacking) → (sameb item.the_type a.item b.item && (nat_eq a.from b.from && (nat_eq a.to b.to && (sameb order.the_type a.read b.read
+    {K : _} (a b : Repacking K) → (sameb item.the_type a.item b.item && (nat_eq a.from b.from && (nat_eq a.to b.to && (sameb order.the_type a.read b.read
     && (sameb order.the_type a.write b.write && (nat_eq a.taken b.taken && nat_eq a.given b.given)))))) ≡ true → repacking_of a ≡ repacking_of b
 repacking_of-same a b e =
     let counts = nat_eq a.taken b.taken && nat_eq a.given b.given in

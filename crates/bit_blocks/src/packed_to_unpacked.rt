@@ -4,25 +4,25 @@ ghost use Rattle.stream_model.specs.Numbers.{bits_of};
 ghost use Rattle.kind_model.specs.BitStreams.{packed_to_unpacked};
 
 use crate::repacking::{Repacking, width_of};
-use block_kinds::{Block, ByPace, Held, Shape};
-use items::{ItemType, Items};
+use items::ItemType;
 use kind_model::BitOrder;
 use parameters::{ParamFault, Parameter};
 
 /// All bits of each item, one after the other, in items of `bits` bits. As GNU Radio's `packed_to_unpacked_xx`, its `endianness` the order in which an
 /// item's bits are taken: the first bit of an output is its highest in either order. But a firing takes whole rounds, as many items as fill whole outputs,
 /// so that of a last round that is not whole nothing is given, where GNU Radio's block gives each output that is full; and it has one stream.
-#[derive(Debug, Drop, PartialEq, Eq)]
-pub struct PackedToUnpacked {
-    cut: Repacking,
-}
+pub type PackedToUnpacked = Repacking<ToUnpacked>;
+
+/// Whole items become items of fewer bits.
+#[derive(Clone, Copy)]
+pub struct ToUnpacked;
 
 impl PackedToUnpacked {
-    ghost use Rattle.bit_blocks.specs.Kinds.{packed_to_unpacked_of};
+    ghost use Rattle.bit_blocks.specs.Kinds.{repacking_of};
 
     /// The block with this number of bits; `BadParameter` outside 1 to those of the type.
     pub fn new(item: ItemType, bits: u32, order: BitOrder) -> Result<PackedToUnpacked, ParamFault>
-        ensures meaning { IfOk result (λ block. packed_to_unpacked_of block ≡ packed_to_unpacked item bits order) }
+        ensures meaning { IfOk result (λ block. repacking_of block ≡ packed_to_unpacked item bits order) }
         ensures range { IsOk result ↔ ((1 ≤ bits) × (bits ≤ bits_of item)) }
         ensures err { IfErr result (λ fault. fault ≡ ParamFault.BadParameter Parameter.Bits) }
     {
@@ -30,36 +30,6 @@ impl PackedToUnpacked {
         if bits < 1 || width < bits {
             return Err(ParamFault::BadParameter(Parameter::Bits));
         }
-        Ok(PackedToUnpacked {
-            cut: Repacking::new(item, width, bits, order, BitOrder::MsbFirst),
-        })
+        Ok(Repacking::of_widths(item, width, bits, order, BitOrder::MsbFirst))
     }
-}
-
-impl Block for PackedToUnpacked {
-    ghost use Rattle.bit_blocks.specs.Kinds.{packed_to_unpacked_of, repacking_of-lawful, repacking_of-same};
-
-    ghost meaning = { packed_to_unpacked_of };
-
-    type Places = ByPace;
-
-    fn shape(&self, input: usize) -> Shape<'_> {
-        self.cut.shape(input)
-    }
-
-    fn work(
-        &self,
-        state: u64,
-        first: u64,
-        count: u64,
-        windows: &[Items],
-        held: &[Held],
-        out: &mut [Items],
-    ) -> u64 {
-        self.cut.work(state, first, count, windows, held, out)
-    }
-
-    ghost lawful = { λ b. repacking_of-lawful b.cut };
-
-    ghost same = { λ a b. repacking_of-same a.cut b.cut };
 }

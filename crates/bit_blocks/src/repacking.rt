@@ -1,4 +1,4 @@
-//! What the blocks share that cut a stream of bits another way.
+//! Blocks that cut a stream of bits another way.
 ghost use Rattle.std.specs.Prelude.{◌≡◌, ◌≤◌, ◌+◌, ◌*◌, ◌/◌, [], length};
 ghost use Rattle.stream_model.specs.Numbers.{bits_of};
 ghost use Rattle.items.specs.Items.{type_of, numbers_of, spare_of};
@@ -8,6 +8,7 @@ use block_kinds::{Batch, Block, ByPace, Held, Shape, Single, ports, work_single}
 use items::{ItemType, Items};
 use kind_model::BitOrder;
 use lane_filters::append_repacked;
+use std::marker::PhantomData;
 
 /// How many bits an item has.
 pub(crate) fn width_of(item: ItemType) -> u32
@@ -33,18 +34,22 @@ fn greatest_divisor(a: u32, b: u32) -> u32
     divisor
 }
 
-/// From the lowest `from` bits of each item, in the order `read`, to items of `to` bits in the order `write`.
-#[derive(Debug, Drop, PartialEq, Eq)]
-pub(crate) struct Repacking {
-    pub(crate) item: ItemType,
-    pub(crate) from: u32,
-    pub(crate) to: u32,
+/// A block that goes from the lowest `from` bits of each item, in the order `read`, to items of `to` bits in the order `write`. `K` says which kind it is, since
+/// each is made of other parameters.
+#[derive(Drop)]
+#[derive_where(Debug, PartialEq, Eq)]
+pub struct Repacking<K> {
+    item: ItemType,
+    from: u32,
+    to: u32,
     // The order of the bits in an item that is taken, and in one that is given.
-    pub(crate) read: BitOrder,
-    pub(crate) write: BitOrder,
+    read: BitOrder,
+    write: BitOrder,
     // How many items a firing takes, and how many it gives.
     taken: u64,
     given: u64,
+    #[derive_where(skip)]
+    kind: PhantomData<K>,
     ghost some: { 1 ≤ from },
     ghost few: { from ≤ 32 },
     ghost some_given: { 1 ≤ to },
@@ -53,17 +58,17 @@ pub(crate) struct Repacking {
     ghost gives: { given ≡ from / common_divisor from to },
 }
 
-impl Repacking {
+impl<K> Repacking<K> {
     ghost use Rattle.bit_blocks.specs.Kinds.{repacking_of};
 
     /// From the lowest `from` bits of each item to items of `to` bits.
-    pub(crate) fn new(
+    pub(crate) fn of_widths(
         item: ItemType,
         from: u32,
         to: u32,
         read: BitOrder,
         write: BitOrder,
-    ) -> Repacking
+    ) -> Repacking<K>
         requires some { 1 ≤ from }
         requires few { from ≤ 32 }
         requires some_given { 1 ≤ to }
@@ -79,6 +84,7 @@ impl Repacking {
             write,
             taken: u64::from(to / divisor),
             given: u64::from(from / divisor),
+            kind: PhantomData,
         }
     }
 
@@ -110,7 +116,7 @@ impl Repacking {
     }
 }
 
-impl Single for Repacking {
+impl<K> Single for Repacking<K> {
     ghost use Rattle.std.specs.Prelude.{refl};
     ghost use Rattle.bit_blocks.specs.Kinds.{repacking_of};
 
@@ -124,7 +130,7 @@ impl Single for Repacking {
     ghost single = { λ b. record { in_least = refl; in_most = refl; out_least = refl; out_most = refl } };
 }
 
-impl Block for Repacking {
+impl<K: Drop> Block for Repacking<K> {
     ghost use Rattle.bit_blocks.specs.Kinds.{repacking_of, repacking_of-lawful, repacking_of-same};
 
     ghost meaning = { repacking_of };

@@ -4,8 +4,7 @@ ghost use Rattle.stream_model.specs.Numbers.{bits_of};
 ghost use Rattle.kind_model.specs.BitStreams.{unpacked_to_packed};
 
 use crate::repacking::{Repacking, width_of};
-use block_kinds::{Block, ByPace, Held, Shape};
-use items::{ItemType, Items};
+use items::ItemType;
 use kind_model::BitOrder;
 use parameters::{ParamFault, Parameter};
 
@@ -13,17 +12,18 @@ use parameters::{ParamFault, Parameter};
 /// `unpacked_to_packed_xx`, its `endianness` the order in which an output is filled: the first bit of an item taken is its highest in either order. But a
 /// firing takes whole rounds, as many items as fill whole outputs, so that of a last round that is not whole nothing is given, where GNU Radio's block
 /// gives each output that is full; and it has one stream.
-#[derive(Debug, Drop, PartialEq, Eq)]
-pub struct UnpackedToPacked {
-    cut: Repacking,
-}
+pub type UnpackedToPacked = Repacking<ToPacked>;
+
+/// The lowest bits of items become whole items.
+#[derive(Clone, Copy)]
+pub struct ToPacked;
 
 impl UnpackedToPacked {
-    ghost use Rattle.bit_blocks.specs.Kinds.{unpacked_to_packed_of};
+    ghost use Rattle.bit_blocks.specs.Kinds.{repacking_of};
 
     /// The block with this number of bits; `BadParameter` outside 1 to those of the type.
     pub fn new(item: ItemType, bits: u32, order: BitOrder) -> Result<UnpackedToPacked, ParamFault>
-        ensures meaning { IfOk result (λ block. unpacked_to_packed_of block ≡ unpacked_to_packed item bits order) }
+        ensures meaning { IfOk result (λ block. repacking_of block ≡ unpacked_to_packed item bits order) }
         ensures range { IsOk result ↔ ((1 ≤ bits) × (bits ≤ bits_of item)) }
         ensures err { IfErr result (λ fault. fault ≡ ParamFault.BadParameter Parameter.Bits) }
     {
@@ -31,36 +31,6 @@ impl UnpackedToPacked {
         if bits < 1 || width < bits {
             return Err(ParamFault::BadParameter(Parameter::Bits));
         }
-        Ok(UnpackedToPacked {
-            cut: Repacking::new(item, bits, width, BitOrder::MsbFirst, order),
-        })
+        Ok(Repacking::of_widths(item, bits, width, BitOrder::MsbFirst, order))
     }
-}
-
-impl Block for UnpackedToPacked {
-    ghost use Rattle.bit_blocks.specs.Kinds.{unpacked_to_packed_of, repacking_of-lawful, repacking_of-same};
-
-    ghost meaning = { unpacked_to_packed_of };
-
-    type Places = ByPace;
-
-    fn shape(&self, input: usize) -> Shape<'_> {
-        self.cut.shape(input)
-    }
-
-    fn work(
-        &self,
-        state: u64,
-        first: u64,
-        count: u64,
-        windows: &[Items],
-        held: &[Held],
-        out: &mut [Items],
-    ) -> u64 {
-        self.cut.work(state, first, count, windows, held, out)
-    }
-
-    ghost lawful = { λ b. repacking_of-lawful b.cut };
-
-    ghost same = { λ a b. repacking_of-same a.cut b.cut };
 }

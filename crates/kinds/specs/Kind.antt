@@ -10,7 +10,7 @@ use Rattle.math_blocks.specs.Joined.{joined-same}
 use Rattle.fir_blocks.specs.Kinds.{filter_of, filter-same}
 use Rattle.rate_blocks.specs.Kinds.{counted_of}
 use Rattle.rate_blocks.specs.Mux.{interleave_of, deinterleave_of, stream_mux_of, interleave_of-lawful, deinterleave_of-lawful, stream_mux_of-lawful, stream_mux_of-same}
-use Rattle.bit_blocks.specs.Kinds.{k_bits_of, diff_decoder_of, diff_encoder_of, register_block_of, some_modulus, same_register, repack_bits_of, repacking_of-lawful, repacking_of-same, packed_to_unpacked_of, repacking_of-lawful, repacking_of-same, unpacked_to_packed_of, correlate_access_code_of, correlate_access_code-same}
+use Rattle.bit_blocks.specs.Kinds.{k_bits_of, diff_decoder_of, diff_encoder_of, register_block_of, some_modulus, same_register, repacking_of, repacking_of-lawful, repacking_of-same, correlate_access_code_of, correlate_access_code-same}
 use Rattle.kind_laws.specs.Ends.{vector_source-lawful, vector_sink-lawful, null_sink-lawful}
 use Rattle.kind_laws.specs.Math.{add_const-lawful, multiply_const-lawful, scale-lawful, add-lawful, and_of-lawful, or_of-lawful, xor_of-lawful, not_of-lawful, convert-lawful, moving_sum-lawful, and_const-lawful, or_const-lawful, xor_const-lawful, clip-lawful, abs-lawful, mute-lawful, multiply-lawful, minimum-lawful, maximum-lawful, sub-lawful}
 use Rattle.kind_laws.specs.Filters.{fir-lawful, interp_fir-lawful}
@@ -70,9 +70,9 @@ meaning_of (SkipHead b) = counted_of skiphead b
 meaning_of (Delay b) = counted_of delay b
 meaning_of (PackKBits b) = k_bits_of pack_k_bits b
 meaning_of (UnpackKBits b) = k_bits_of unpack_k_bits b
-meaning_of (RepackBits b) = repack_bits_of b
-meaning_of (PackedToUnpacked b) = packed_to_unpacked_of b
-meaning_of (UnpackedToPacked b) = unpacked_to_packed_of b
+meaning_of (RepackBits b) = repacking_of b
+meaning_of (PackedToUnpacked b) = repacking_of b
+meaning_of (UnpackedToPacked b) = repacking_of b
 meaning_of (DiffEncoder b) = diff_encoder_of b
 meaning_of (DiffDecoder b) = diff_decoder_of b
 meaning_of (Scrambler b) = register_block_of scrambler b
@@ -122,9 +122,9 @@ meaning_of-lawful (SkipHead b) = skiphead-lawful b.item b.n
 meaning_of-lawful (Delay b) = delay-lawful b.item b.n b.most
 meaning_of-lawful (PackKBits b) = pack_k_bits-lawful b.k b.some b.few
 meaning_of-lawful (UnpackKBits b) = unpack_k_bits-lawful b.k b.some b.few
-meaning_of-lawful (RepackBits b) = repacking_of-lawful b.cut
-meaning_of-lawful (PackedToUnpacked b) = repacking_of-lawful b.cut
-meaning_of-lawful (UnpackedToPacked b) = repacking_of-lawful b.cut
+meaning_of-lawful (RepackBits b) = repacking_of-lawful b
+meaning_of-lawful (PackedToUnpacked b) = repacking_of-lawful b
+meaning_of-lawful (UnpackedToPacked b) = repacking_of-lawful b
 meaning_of-lawful (DiffEncoder b) = diff_encoder-lawful b.modulus.value (some_modulus b.modulus) b.modulus.few
 meaning_of-lawful (DiffDecoder b) = diff_decoder-lawful b.modulus.value (some_modulus b.modulus) b.modulus.few
 meaning_of-lawful (Scrambler b) = scrambler-lawful b.register.bits b.register.mask b.register.init b.register.is.init_most
@@ -175,9 +175,9 @@ meaning_of-same (SkipHead a) (SkipHead b) e = same_sized skiphead a.item b.item 
 meaning_of-same (Delay a) (Delay b) e = same_sized delay a.item b.item a.n b.n e
 meaning_of-same (PackKBits a) (PackKBits b) e = ap pack_k_bits (same_number a.k b.k e)
 meaning_of-same (UnpackKBits a) (UnpackKBits b) e = ap unpack_k_bits (same_number a.k b.k e)
-meaning_of-same (RepackBits a) (RepackBits b) e = repacking_of-same a.cut b.cut e
-meaning_of-same (PackedToUnpacked a) (PackedToUnpacked b) e = repacking_of-same a.cut b.cut e
-meaning_of-same (UnpackedToPacked a) (UnpackedToPacked b) e = repacking_of-same a.cut b.cut e
+meaning_of-same (RepackBits a) (RepackBits b) e = repacking_of-same a b e
+meaning_of-same (PackedToUnpacked a) (PackedToUnpacked b) e = repacking_of-same a b e
+meaning_of-same (UnpackedToPacked a) (UnpackedToPacked b) e = repacking_of-same a b e
 meaning_of-same (DiffEncoder a) (DiffEncoder b) e = ap diff_encoder (same_number a.modulus.value b.modulus.value e)
 meaning_of-same (DiffDecoder a) (DiffDecoder b) e = ap diff_decoder (same_number a.modulus.value b.modulus.value e)
 meaning_of-same (Scrambler a) (Scrambler b) e = same_register scrambler a.register b.register e

@@ -6,7 +6,7 @@ use Rattle.bit_blocks.specs.Kinds.{repacking_of}
 use Rattle.bit_blocks.proofs.repacking.RepackingBlock.shape.Goals as goal
 
 pub returns-clause-shape : goal.returns-clause-shape
-returns-clause-shape c =
+returns-clause-shape g c =
     let b = c.args.self.now in
     let m = repacking_of b in
     let p = c.args._input in
