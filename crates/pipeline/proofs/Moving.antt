@@ -204,25 +204,25 @@ module _ {R W B : Type 0} (remaining : R → Option (List ℕ)) (contents : W �
   goes_set p es b v e = subst (λ (fs : List (End R W)). GoesOn remaining contents net p p es fs) (sym (ap (set es b) e ∙ set-get_or es b ends.Open)) (goes_none p p es refl)
 
   pub begins_none : (p q : StreamingState B) (es : List (End R W)) → q ≡ p → Begins remaining contents net p q es es
-  begins_none p q es e = moves_same AppendsBeginning (MayHaveRead remaining) contents net (λ a. begins_none_of a []) (may_read-same remaining) p q es e
+  begins_none p q es e = (0, moves_same AppendsBeginning (MayHaveRead remaining 0) contents net (λ a. begins_none_of a []) (may_read-same remaining 0) p q es e)
 
   pub goes_then : (p q r : StreamingState B) (es fs gs : List (End R W)) → GoesOn remaining contents net p q es fs → GoesOn remaining contents net q r fs gs → GoesOn remaining contents net p r es gs
   goes_then p q r es fs gs = moves_then Appends appends_then remaining (HasRead remaining) (read-then remaining) contents net p q r es fs gs
 
   pub begins_then_of : (p q r : StreamingState B) (es fs gs : List (End R W)) → GoesOn remaining contents net p q es fs → Begins remaining contents net q r fs gs → Begins remaining contents net p r es gs
-  begins_then_of p q r es fs gs = moves_then AppendsBeginning begins_then remaining (MayHaveRead remaining) (may_read-then remaining) contents net p q r es fs gs
+  begins_then_of p q r es fs gs first second = (second.0, moves_then AppendsBeginning begins_then remaining (MayHaveRead remaining second.0) (may_read-then remaining second.0) contents net p q r es fs gs first second.1)
 
   pub goes_by_delivery : (p q : StreamingState B) (es : List (End R W)) (b : ℕ) (o o' : Output W) → b < length es → end_at es b ≡ ends.Output o → Delivers Appends contents net p q b o o' → GoesOn remaining contents net p q es (set es b (ends.Output o'))
   goes_by_delivery = moved_by_delivery Appends (HasRead remaining) contents net appends_none (read-same remaining)
 
   pub begins_by_delivery : (p q : StreamingState B) (es : List (End R W)) (b : ℕ) (o o' : Output W) → b < length es → end_at es b ≡ ends.Output o → Delivers AppendsBeginning contents net p q b o o' → Begins remaining contents net p q es (set es b (ends.Output o'))
-  begins_by_delivery = moved_by_delivery AppendsBeginning (MayHaveRead remaining) contents net (λ a. begins_none_of a []) (may_read-same remaining)
+  begins_by_delivery p q es b o o' in' is delivers = (b, moved_by_delivery AppendsBeginning (MayHaveRead remaining b) contents net (λ a. begins_none_of a []) (may_read-same remaining b) p q es b o o' in' is delivers)
 
   pub goes_by_intake : (p q : StreamingState B) (es : List (End R W)) (b : ℕ) (i i' : InputState R) → b < length es → end_at es b ≡ ends.Input i → TakesIn (HasRead remaining) net p q b i i' → GoesOn remaining contents net p q es (set es b (ends.Input i'))
   goes_by_intake = moved_by_intake Appends (HasRead remaining) contents net appends_none (read-same remaining)
 
-  pub begins_by_intake : (p q : StreamingState B) (es : List (End R W)) (b : ℕ) (i i' : InputState R) → b < length es → end_at es b ≡ ends.Input i → TakesIn (MayHaveRead remaining) net p q b i i' → Begins remaining contents net p q es (set es b (ends.Input i'))
-  begins_by_intake = moved_by_intake AppendsBeginning (MayHaveRead remaining) contents net (λ a. begins_none_of a []) (may_read-same remaining)
+  pub begins_by_intake : (p q : StreamingState B) (es : List (End R W)) (b : ℕ) (i i' : InputState R) → b < length es → end_at es b ≡ ends.Input i → TakesIn (MayHaveRead remaining b) net p q b i i' → Begins remaining contents net p q es (set es b (ends.Input i'))
+  begins_by_intake p q es b i i' in' is takes = (b, moved_by_intake AppendsBeginning (MayHaveRead remaining b) contents net (λ a. begins_none_of a []) (may_read-same remaining b) p q es b i i' in' is takes)
 
   pub goes_by_round : (p q : StreamingState B) (es : List (End R W)) → q.plant ≡ record p.plant { state = q.plant.state } → q.plant.state.handed ≡ p.plant.state.handed → q.kept.sinks ≡ p.kept.sinks → GoesOn remaining contents net p q es es
   goes_by_round = moved_by_round Appends (HasRead remaining) contents net appends_none (read-same remaining)

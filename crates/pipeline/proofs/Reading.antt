@@ -1,5 +1,5 @@
 -- Readers that give more and more.
-use Rattle.std.proofs.Common.{◌≡◌, ℕ, ℤ, ◌++◌, Bool, true, false, ◌<◌, List, [], ◌∷◌, length, arith, refl, ap, sym, ◌∙◌, subst, append_assoc, inl, inr}
+use Rattle.std.proofs.Common.{◌≡◌, ℕ, ℤ, ◌++◌, Bool, true, false, ◌<◌, ◌≤◌, List, [], ◌∷◌, length, arith, refl, ap, sym, ◌∙◌, subst, append_assoc, inl, inr}
 use Rattle.std.proofs.lemmas.Bool.{cases_Bool}
 use Rattle.std.proofs.lemmas.List.{append-nil}
 use Rattle.std.specs.Prelude.{Option, Some, None, IsTrue, ◌↔◌}
@@ -13,11 +13,11 @@ use Rattle.raw_items.specs.Values.{items_of}
 use Rattle.raw_items.proofs.Pieces.{HasDecoded-more}
 use Rattle.streaming.specs.Streaming.{StreamingState}
 use Rattle.pipeline.specs.Ends.{InputState}
-use Rattle.pipeline.specs.Marks.{AreOver, AreRead, AreTold, BeginTold, FindsMarks, Marking, ReadsMarks}
-use Rattle.pipeline.specs.Pipeline.{HasRead, Intake, MayHaveRead}
+use Rattle.pipeline.specs.Marks.{AreOver, AreRead, AreTold, FindsMarks, Marking, ReadsMarks}
+use Rattle.pipeline.specs.Pipeline.{HasRead, Intake, IsUnfed, MayHaveRead, longest_piece}
 use Rattle.pipeline.specs.Steps.{HasFed, TakesIn}
 use Rattle.pipeline.proofs.Growing.{consumes_none, consumes_then}
-use Rattle.pipeline.proofs.Telling.{begins-before, begins-here, finds-told, read-begins, reads-none, reads-then, told-as}
+use Rattle.pipeline.proofs.Telling.{are_read-none, finds-told, reads-none, reads-then, told-as}
 
 module _ {R : Type 0} (remaining : R → Option (List ℕ)) (b : ℕ) where
   pub read-same : (i : InputState R) (h : Handed) → HasRead remaining b i i h h
@@ -33,18 +33,6 @@ module _ {R : Type 0} (remaining : R → Option (List ℕ)) (b : ℕ) where
     stays_open = λ e. refl;
     closes = λ before ended. absurd (cc (before, ended));
     over = λ e. (refl, refl);
-  }
-
-  pub may_read-same : (i : InputState R) (h : Handed) → MayHaveRead remaining b i i h h
-  may_read-same i h = record {
-    bytes = [];
-    rest = [];
-    read = consumes_none (remaining i.reader);
-    fed = λ before start d. rw (append-nil before) d.items;
-    marks = [];
-    marks_read = reads-none remaining i.marks;
-    marked = λ before start told. rw (append-nil before) (begins-here remaining b i.marks before start h.tags told);
-    alone = refl;
   }
 
   module _ (i j k : InputState R) (f g h : Handed) (first : HasRead remaining b i j f g) where
@@ -73,22 +61,6 @@ module _ {R : Type 0} (remaining : R → Option (List ℕ)) (b : ℕ) where
           let one = first.over e in
           let two = second.over (ap InputState.is_ended one.0 ∙ e) in
           (two.0 ∙ one.0, two.1 ∙ one.1);
-    }
-
-    pub may_read-then : MayHaveRead remaining b j k g h → MayHaveRead remaining b i k f h
-    may_read-then second = record {
-      bytes = first.bytes ++ second.bytes;
-      rest = second.rest;
-      read = rw (append_assoc first.bytes second.bytes second.rest) (consumes_then _ _ _ first.bytes (second.bytes ++ second.rest) first.read second.read);
-      fed = λ before start d.
-          second.fed (before ++ first.bytes) start (first.fed before start d)
-          ∙ ap (λ (x : Decoding). start ++ items_of x.item_type x.order ((before ++ first.bytes) ++ second.bytes)) first.layout
-          ∙ ap (λ bs. start ++ items_of i.decoder.item_type i.decoder.order bs) (append_assoc before first.bytes second.bytes);
-      marks = first.marks ++ second.marks;
-      marks_read = reads-then remaining i.marks j.marks k.marks first.marks second.marks first.marks_read second.marks_read;
-      marked = λ before start told. subst (λ (bs : List ℕ). BeginTold b i.marks bs start h.tags) (append_assoc before first.marks second.marks)
-          (begins-before remaining b i.marks j.marks first.marks _ start h.tags first.marks_read (second.marked (before ++ first.marks) start (first.marked before start told)));
-      alone = second.alone ∙ ap (λ (x : Handed). record x { tape = h.tape; tags = h.tags; closed = h.closed }) first.alone;
     }
 
   -- bytes that were read were fed
@@ -124,19 +96,6 @@ module _ {R : Type 0} (remaining : R → Option (List ℕ)) (b : ℕ) where
     over = λ e. absurd (cc (e, open0));
   }
 
-  -- or they were not
-  pub may_read-gone : (i k : InputState R) (h : Handed) (bytes : List ℕ) → Consumes (remaining i.reader) (remaining k.reader) bytes → AreRead remaining i.marks k.marks → MayHaveRead remaining b i k h h
-  may_read-gone i k h bytes read marks = record {
-    bytes = [];
-    rest = bytes;
-    read = read;
-    fed = λ before start d. rw (append-nil before) d.items;
-    marks = (read-begins remaining b i.marks k.marks marks).0;
-    marks_read = (read-begins remaining b i.marks k.marks marks).1;
-    marked = λ before start told. (read-begins remaining b i.marks k.marks marks).2 before start h.tags told;
-    alone = refl;
-  }
-
   -- at its end the source is closed
   pub end-read : (i k : InputState R) (h : Handed) → k.reader ≡ i.reader → k.decoder ≡ i.decoder → i.decoder.cut ≡ [] → k.is_ended ≡ true → i.is_ended ≡ false → IsAtEnd (remaining i.reader) →
       FindsMarks remaining i.marks k.marks [] → AreOver k.marks → HasRead remaining b i k h (record h { closed = true })
@@ -153,6 +112,39 @@ module _ {R : Type 0} (remaining : R → Option (List ℕ)) (b : ℕ) where
     stays_open = λ e. absurd (cc (e, ended));
     closes = λ before e. (refl, rw reader at, ap Decoding.cut decoder ∙ cut, over);
     over = λ e. absurd (cc (e, open0));
+  }
+
+module _ {R : Type 0} (remaining : R → Option (List ℕ)) where
+  unfed-none : (i : InputState R) → IsUnfed remaining i i
+  unfed-none i = record {
+    piece = [];
+    few = omega arith;
+    read = consumes_none (remaining i.reader);
+    marks_read = are_read-none remaining i.marks;
+    stays = refl;
+    over = λ e. refl;
+  }
+
+  module _ (short b : ℕ) where
+    pub may_read-same : (i : InputState R) (h : Handed) → MayHaveRead remaining short b i i h h
+    may_read-same i h = record { fed = i; has_read = read-same remaining b i h; rest = unfed-none i; others = λ _. refl }
+
+    pub may_read-then : (i j k : InputState R) (f g h : Handed) → HasRead remaining b i j f g → MayHaveRead remaining short b j k g h → MayHaveRead remaining short b i k f h
+    may_read-then i j k f g h first second = record {
+      fed = second.fed;
+      has_read = read-then remaining b i j second.fed f g h first second.has_read;
+      rest = second.rest;
+      others = second.others;
+    }
+
+  -- a piece that was read was not fed
+  pub may_read-gone : (b : ℕ) (i k : InputState R) (h : Handed) (piece : List ℕ) → length piece ≤ longest_piece → Consumes (remaining i.reader) (remaining k.reader) piece → AreRead remaining i.marks k.marks → i.is_ended ≡ false → k.is_ended ≡ i.is_ended →
+      MayHaveRead remaining b b i k h h
+  may_read-gone b i k h piece few read marks open0 stays = record {
+    fed = i;
+    has_read = read-same remaining b i h;
+    rest = record { piece = piece; few = few; read = read; marks_read = marks; stays = stays; over = λ e. absurd (cc (e, open0)) };
+    others = λ other. absurd (other refl);
   }
 
 pub keeps_consumes : (a b : Option (List ℕ)) → Keeps a b → Consumes a b []

@@ -10,7 +10,7 @@ use Rattle.script_text.specs.Lines.{lines_of}
 use Rattle.script_text.specs.Splits.{IsUnfinished, most_held}
 use Rattle.script_text.specs.MarkLines.{line_mark, marks_said}
 use Rattle.script_text.proofs.LineLemmas.{return_less}
-use Rattle.pipeline.specs.Marks.{AreRead, AreTold, BeginTold, FindsMarks, Follows, Gives, GivesTo, HasTold, IsRead, Marking, ReadsMarks, Rise, RiseTo, last_item}
+use Rattle.pipeline.specs.Marks.{AreRead, AreTold, FindsMarks, Follows, Gives, GivesTo, HasTold, IsRead, Marking, ReadsMarks, Rise, RiseTo, last_item}
 use Rattle.pipeline.proofs.Growing.{consumes_none, consumes_then}
 
 -- one more mark that is not before the last
@@ -214,24 +214,6 @@ module _ {R : Type 0} (remaining : R → Option (List ℕ)) where
   are_read-none None = tt
   are_read-none (Some m) = gives-read m m m [] (gives-none m)
 
-  -- what stood behind them before is a beginning
-  pub read-begins : (b : ℕ) (k l : Option (Marking R)) → AreRead remaining k l →
-      (bytes : List ℕ) × ReadsMarks remaining k l bytes × ((before : List ℕ) (start tags : List Tag) → AreTold remaining b k before start tags → BeginTold b k (before ++ bytes) start tags)
-  read-begins b None None read = ([], tt, λ before start tags told. told)
-  read-begins b None (Some m) read = absurd read
-  read-begins b (Some k) None read = absurd read
-  read-begins b (Some k) (Some l) read = (
-    read.bytes,
-    read.read,
-    λ before start tags told. (
-      told.0,
-      map Some (option_to_list k.held) ++ marks_said (k.rest ++ read.bytes),
-      told.1.lines read.bytes read.over ∙ ap (λ zs. zs ++ marks_said (k.rest ++ read.bytes)) (map-append Some told.0 (option_to_list k.held))
-          ∙ append_assoc (map Some told.0) (map Some (option_to_list k.held)) (marks_said (k.rest ++ read.bytes)),
-      told.2,
-    ),
-  )
-
   pub reads-none : (k : Option (Marking R)) → ReadsMarks remaining k k []
   reads-none None = tt
   reads-none (Some m) = consumes_none (remaining m.reader)
@@ -246,23 +228,6 @@ module _ {R : Type 0} (remaining : R → Option (List ℕ)) where
 
   pub told-as : (b : ℕ) (k : Option (Marking R)) (bs cs : List ℕ) (start tags : List Tag) → bs ≡ cs → AreTold remaining b k bs start tags → AreTold remaining b k cs start tags
   told-as b k bs cs start tags e told = subst (λ (ds : List ℕ). AreTold remaining b k ds start tags) e told
-
-  -- all of them are a beginning too
-  pub begins-here : (b : ℕ) (k : Option (Marking R)) (bytes : List ℕ) (start tags : List Tag) → AreTold remaining b k bytes start tags → BeginTold b k bytes start tags
-  begins-here b None bytes start tags told = told
-  begins-here b (Some m) bytes start tags told = (
-    told.0,
-    map Some (option_to_list m.held) ++ marks_said (m.rest ++ []),
-    ap marks_said (sym (append-nil bytes)) ∙ told.1.lines [] (λ e. refl) ∙ ap (λ zs. zs ++ marks_said (m.rest ++ [])) (map-append Some told.0 (option_to_list m.held))
-        ∙ append_assoc (map Some told.0) (map Some (option_to_list m.held)) (marks_said (m.rest ++ [])),
-    told.2,
-  )
-
-  pub begins-before : (b : ℕ) (k l : Option (Marking R)) (xs bytes : List ℕ) (start tags : List Tag) → ReadsMarks remaining k l xs → BeginTold b l bytes start tags → BeginTold b k bytes start tags
-  begins-before b None None xs bytes start tags read begins = begins
-  begins-before b None (Some l) xs bytes start tags read begins = absurd read
-  begins-before b (Some k) None xs bytes start tags read begins = absurd read
-  begins-before b (Some k) (Some l) xs bytes start tags read begins = begins
 
   -- the same where a line may say no mark, and where a read gave nothing
   pub said-gives : (m m' : Marking R) (line : List ℕ) (said : Option Mark) → m.is_over ≡ false → m.held ≡ None →

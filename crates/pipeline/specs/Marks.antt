@@ -85,11 +85,6 @@ abbrev pub AreTold : {R : Type 0} → (R → Option (List ℕ)) → ℕ → Opti
 AreTold remaining b None bytes start out = out ≡ start
 AreTold remaining b (Some m) bytes start out = (given : List Mark) × HasTold remaining m bytes given × (out ≡ start ++ map (tag_of b) given)
 
--- behind those that it had at the start are marks that the first lines of these bytes say
-abbrev pub BeginTold : {R : Type 0} → ℕ → Option (Marking R) → List ℕ → List Tag → List Tag → Type 0
-BeginTold b None bytes start out = out ≡ start
-BeginTold b (Some m) bytes start out = (given : List Mark) × (later : List (Option Mark)) × (marks_said bytes ≡ map Some given ++ later) × (out ≡ start ++ map (tag_of b) given)
-
 -- no mark is left
 abbrev pub AreOver : {R : Type 0} → Option (Marking R) → Type 0
 AreOver None = ⊤

@@ -7,7 +7,7 @@ use Rattle.stream_model.specs.Network.{Network, Handed, State, handed_at, role_a
 use Rattle.machine_laws.specs.Sound.{fired}
 use Rattle.machine_laws.specs.Waits.{ForFeed, wait_of}
 use Rattle.items.specs.Items.{type_of}
-use Rattle.raw_items.specs.Values.{items_of, all_bytes_of}
+use Rattle.raw_items.specs.Values.{all_bytes_of}
 use Rattle.raw_items.specs.Decoding.{HasDecoded}
 use Rattle.reporting.specs.Ends.{AppendsBeginning}
 use Rattle.script_text.specs.Replies.{tag_line}
@@ -15,7 +15,7 @@ use Rattle.streaming.specs.Streaming.{StreamingState, drained, stream_into, tags
 use Rattle.pipeline.specs.declared.end.End.{End}
 use Rattle.pipeline.specs.declared.end.End.TheVariants as ends
 use Rattle.pipeline.specs.Ends.{InputState}
-use Rattle.pipeline.specs.Marks.{AreOver, AreTold, BeginTold, ReadsMarks}
+use Rattle.pipeline.specs.Marks.{AreOver, AreRead, AreTold, ReadsMarks}
 use Rattle.pipeline.specs.declared.end.Output.{Output}
 
 -- how known bytes grow by a text: by all of it, or by a beginning
@@ -40,9 +40,9 @@ pub record HasWritten {W : Type 0} (Grows : Growth) (contents : W → Option (Li
 abbrev pub Intake : Type 0 → Type 1
 Intake R = (b : ℕ) → InputState R → InputState R → Handed → Handed → Type 0
 
--- what was read was fed: if the tape ended with the items of some bytes, it ends with those of these bytes and what was read. A reader at its end
--- gives no more, and its source is closed. If its tags were those at some start and the marks that were given on of some bytes, they are those that were given on
--- of these bytes and what was read of the reader of marks, and all of them where the source is closed
+-- what was read was fed: if the tape ended with the items of some bytes, it ends with those of these bytes and what was read. If its tags were those at some start
+-- and the marks that were given on of some bytes, they are those that were given on of these bytes and what was read of the reader of marks. The source is closed
+-- only as its reader ends: it is then at its end, its bytes were whole items, and no mark is left. A reader that had ended is not read, nor its source fed
 pub record HasRead {R : Type 0} (remaining : R → Option (List ℕ)) (b : ℕ) (old new : InputState R) (handed handed' : Handed) : Type 0 where
   pub bytes : List ℕ
   pub read : Consumes (remaining old.reader) (remaining new.reader) bytes
@@ -56,17 +56,25 @@ pub record HasRead {R : Type 0} (remaining : R → Option (List ℕ)) (b : ℕ) 
   pub closes : old.is_ended ≡ false → new.is_ended ≡ true → (handed'.closed ≡ true) × IsAtEnd (remaining new.reader) × (new.decoder.cut ≡ []) × AreOver new.marks
   pub over : old.is_ended ≡ true → (new ≡ old) × (handed' ≡ handed)
 
--- the same, but that a piece which was read last may not have been fed, and the marks that were are those of the first lines
-pub record MayHaveRead {R : Type 0} (remaining : R → Option (List ℕ)) (b : ℕ) (old new : InputState R) (handed handed' : Handed) : Type 0 where
-  pub bytes : List ℕ
-  pub rest : List ℕ
-  pub read : Consumes (remaining old.reader) (remaining new.reader) (bytes ++ rest)
-  pub fed : (before : List ℕ) (start : List ℤ) → HasDecoded old.decoder before start handed.tape →
-      handed'.tape ≡ start ++ items_of old.decoder.item_type old.decoder.order (before ++ bytes)
-  pub marks : List ℕ
-  pub marks_read : ReadsMarks remaining old.marks new.marks marks
-  pub marked : (before : List ℕ) (start : List Tag) → AreTold remaining b old.marks before start handed.tags → BeginTold b old.marks (before ++ marks) start handed'.tags
-  pub alone : handed' ≡ record handed { tape = handed'.tape; tags = handed'.tags; closed = handed'.closed }
+-- how many bytes a piece has at most
+abbrev pub longest_piece : ℕ
+longest_piece = 65536
+
+-- one piece was read, or nothing, and then maybe marks, and nothing of it was fed. A reader that had ended was not read
+pub record IsUnfed {R : Type 0} (remaining : R → Option (List ℕ)) (old new : InputState R) : Type 0 where
+  pub piece : List ℕ
+  pub few : length piece ≤ longest_piece
+  pub read : Consumes (remaining old.reader) (remaining new.reader) piece
+  pub marks_read : AreRead remaining old.marks new.marks
+  pub stays : new.is_ended ≡ old.is_ended
+  pub over : old.is_ended ≡ true → new ≡ old
+
+-- what was read was fed as far as the reader was in `fed`, and what was read behind that was not. There is such a rest only at source `short`
+pub record MayHaveRead {R : Type 0} (remaining : R → Option (List ℕ)) (short b : ℕ) (old new : InputState R) (handed handed' : Handed) : Type 0 where
+  pub fed : InputState R
+  pub has_read : HasRead remaining b old fed handed handed'
+  pub rest : IsUnfed remaining fed new
+  pub others : (b ≡ short → ⊥) → new ≡ fed
 
 -- what became of an end of block b in the meantime
 abbrev pub EndMoves : {R W B : Type 0} → Growth → Intake R → (W → Option (List ℕ)) → Network → (old new : StreamingState B) → ℕ → End R W → End R W → Type 0
@@ -99,9 +107,9 @@ pub record Moves {R W B : Type 0} (Grows : Growth) (Reads : Intake R) (contents 
 abbrev pub GoesOn : {R W B : Type 0} → (R → Option (List ℕ)) → (W → Option (List ℕ)) → Network → (old new : StreamingState B) → (es es' : List (End R W)) → Type 0
 GoesOn remaining contents net old new es es' = Moves Appends (HasRead remaining) contents net old new es es'
 
--- the same, but that what is written is a beginning of what was drained
+-- the same, but that what is written is a beginning of what was drained, and that of one source the piece that was read last may not be fed
 abbrev pub Begins : {R W B : Type 0} → (R → Option (List ℕ)) → (W → Option (List ℕ)) → Network → (old new : StreamingState B) → (es es' : List (End R W)) → Type 0
-Begins remaining contents net old new es es' = Moves AppendsBeginning (MayHaveRead remaining) contents net old new es es'
+Begins remaining contents net old new es es' = (short : ℕ) × Moves AppendsBeginning (MayHaveRead remaining short) contents net old new es es'
 
 -- a sink with an output was drained of all that it has taken
 abbrev pub IsDelivered : {R W B : Type 0} → StreamingState B → ℕ → End R W → Type 0

@@ -29,7 +29,7 @@ impl<R: Read> Input<R> {
         piece: &mut [u8; PIECE],
     ) -> Result<(), PipelineFault>
         ensures ok { OnOk result (TakesIn (HasRead R.remaining) (net_of B.meaning plant.old.plant.graph) plant.old plant.new source.0 self.old self.new) }
-        ensures err { OnErr result (TakesIn (MayHaveRead R.remaining) (net_of B.meaning plant.old.plant.graph) plant.old plant.new source.0 self.old self.new) }
+        ensures err { OnErr result (TakesIn (MayHaveRead R.remaining source.0) (net_of B.meaning plant.old.plant.graph) plant.old plant.new source.0 self.old self.new) }
         ensures fault { IfErr result (IsOfReader R.remaining source self.new) }
     {
         if self.is_ended {
@@ -55,6 +55,7 @@ impl<R: Read> Input<R> {
         ensures ok { OnOk result (TakesIn (HasFed R.remaining bytes.now) (net_of B.meaning plant.old.plant.graph) plant.old plant.new source.0 self.old self.new) }
         ensures reader { self.new.reader ≡ self.old.reader }
         ensures err { OnErr result (plant.new ≡ plant.old) }
+        ensures ended { OnErr result (self.new.is_ended ≡ self.old.is_ended) }
         ensures marks { OnErr result (AreRead R.remaining self.old.marks self.new.marks) }
         ensures fault { IfErr result (IsOfReader R.remaining source self.new) }
     {
@@ -82,6 +83,7 @@ impl<R: Read> Input<R> {
         ensures ok { OnOk result (TakesIn (HasRead R.remaining) (net_of B.meaning plant.old.plant.graph) plant.old plant.new source.0 self.old self.new) }
         ensures reader { self.new.reader ≡ self.old.reader }
         ensures err { OnErr result (plant.new ≡ plant.old) }
+        ensures ended { OnErr result (self.new.is_ended ≡ self.old.is_ended) }
         ensures marks { OnErr result (AreRead R.remaining self.old.marks self.new.marks) }
         ensures fault { IfErr result (IsOfReader R.remaining source self.new) }
     {

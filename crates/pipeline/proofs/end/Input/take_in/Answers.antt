@@ -1,4 +1,5 @@
-use Rattle.std.proofs.Common.{[], take, refl, subst}
+use Rattle.std.proofs.Common.{◌≤◌, [], arith, length, take, refl, subst}
+use Rattle.std.proofs.lemmas.List.{length-take}
 use Rattle.std.proofs.lemmas.Result.{on_ok_weaker, on_err_weaker}
 use Rattle.std.specs.Io.KnownBytes.{Consumes}
 use Rattle.flowgraph.specs.Flowgraph.{net_of}
@@ -18,8 +19,8 @@ returns-in-Err-clause-err g c =
     let i : InputState _ = record { reader = c.self.inside.reader; decoder = c.self.inside.decoder; marks = c.self.inside.marks; is_ended = c.self.inside.is_ended } in
     let k : InputState _ = record { reader = c.read.new.self; decoder = c.self.inside.decoder; marks = c.self.inside.marks; is_ended = c.self.inside.is_ended } in
     rw (← c.self.view_is)
-    (takes_none (MayHaveRead remaining) (net_of g.B.Block.meaning p.plant.graph) p p c.args.source.0 i i k refl
-    (may_read-gone remaining c.args.source.0 i k (handed_at p.plant.state.handed c.args.source.0) [] (keeps_consumes _ _ c.in-Err.ensures.bytes) (are_read-none remaining i.marks)))
+    (takes_none (MayHaveRead remaining c.args.source.0) (net_of g.B.Block.meaning p.plant.graph) p p c.args.source.0 i i k refl
+    (may_read-gone remaining c.args.source.0 i k (handed_at p.plant.state.handed c.args.source.0) [] (omega arith) (keeps_consumes _ _ c.in-Err.ensures.bytes) (are_read-none remaining i.marks) c.if-self.false refl))
 
 pub returns-then-count-eq0-clause-ok : goal.returns-then-count-eq0-clause-ok
 returns-then-count-eq0-clause-ok g c =
@@ -45,9 +46,9 @@ returns-then-count-eq0-clause-err g c =
     let i : InputState _ = record { reader = c.self.inside.reader; decoder = c.self.inside.decoder; marks = c.self.inside.marks; is_ended = c.self.inside.is_ended } in
     rw (← c.self.view_is)
     (on_err_weaker c.end.result
-    (λ both. takes_none (MayHaveRead remaining) net p c.end.new.plant b i i c.end.new.self both.0
-    (may_read-gone remaining b i c.end.new.self (handed_at p.plant.state.handed b) [] (rw c.end.ensures.reader (subst (λ n. Consumes (remaining c.self.inside.reader) (remaining c.read.new.self) (take n c.read.new.buf)) c.if-count-eq0.true c.in-Ok.ensures.bytes.0)) both.1))
-    (on_err_both _ _ c.end.result c.end.ensures.err c.end.ensures.marks))
+    (λ all. takes_none (MayHaveRead remaining b) net p c.end.new.plant b i i c.end.new.self all.0.0
+    (may_read-gone remaining b i c.end.new.self (handed_at p.plant.state.handed b) [] (omega arith) (rw c.end.ensures.reader (subst (λ n. Consumes (remaining c.self.inside.reader) (remaining c.read.new.self) (take n c.read.new.buf)) c.if-count-eq0.true c.in-Ok.ensures.bytes.0)) all.1 c.if-self.false all.0.1))
+    (on_err_both _ _ c.end.result (on_err_both _ _ c.end.result c.end.ensures.err c.end.ensures.ended) c.end.ensures.marks))
 
 pub returns-clause-ok : goal.returns-clause-ok
 returns-clause-ok g c =
@@ -70,8 +71,9 @@ returns-clause-err g c =
     let net = net_of g.B.Block.meaning p.plant.graph in
     let b = c.args.source.0 in
     let i : InputState _ = record { reader = c.self.inside.reader; decoder = c.self.inside.decoder; marks = c.self.inside.marks; is_ended = c.self.inside.is_ended } in
+    let few : length (take c.in-Ok.count c.read.new.buf) ≤ 65536 = (let size = length-take c.in-Ok.count c.read.new.buf in omega (arith, size, c.in-Ok.ensures.bound)) in
     rw (← c.self.view_is)
     (on_err_weaker c.feed.result
-    (λ both. takes_none (MayHaveRead remaining) net p c.feed.new.plant b i i c.feed.new.self both.0
-    (may_read-gone remaining b i c.feed.new.self (handed_at p.plant.state.handed b) (take c.in-Ok.count c.read.new.buf) (rw c.feed.ensures.reader c.in-Ok.ensures.bytes.0) both.1))
-    (on_err_both _ _ c.feed.result c.feed.ensures.err c.feed.ensures.marks))
+    (λ all. takes_none (MayHaveRead remaining b) net p c.feed.new.plant b i i c.feed.new.self all.0.0
+    (may_read-gone remaining b i c.feed.new.self (handed_at p.plant.state.handed b) (take c.in-Ok.count c.read.new.buf) few (rw c.feed.ensures.reader c.in-Ok.ensures.bytes.0) all.1 c.if-self.false all.0.1))
+    (on_err_both _ _ c.feed.result (on_err_both _ _ c.feed.result c.feed.ensures.err c.feed.ensures.ended) c.feed.ensures.marks))
