@@ -7,7 +7,7 @@ ghost use Rattle.threads.specs.Outcomes.{HasReturned, RunEndsIn, GivesBack, IsSo
 use crate::alone::{Ended, settle_alone};
 use crate::crew::Crew;
 use crate::fault::RunFault;
-use crate::gate::Gate;
+use crate::gate::{Gate, Open};
 use crate::number_set::NumberSet;
 use crate::outcome::Outcome;
 use crate::pool_threads::lead;
@@ -43,7 +43,11 @@ where
     ensures told { IfErr result (IsSo true false) }
 {
     let mut plant = plant;
-    let ended = settle_alone(&rt, alloc, &mut plant, &options.gate, watch);
+    // A run without a gate does not look for one in each step.
+    let ended = match &options.gate {
+        Some(_) => settle_alone(&rt, alloc, &mut plant, &options.gate, watch),
+        None => settle_alone(&rt, alloc, &mut plant, &Open, watch),
+    };
     let outcome = went_on(rt, alloc, plant, options, ended, watch);
     watch.end();
     outcome
