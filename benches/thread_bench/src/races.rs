@@ -126,13 +126,14 @@ pub fn run_span<G: Gate + Drop + Send + Sync + 'static, R: Host + 'static>(
     };
     let start = Instant::now(&rt)?;
     let used = rt.process_cpu_time()?;
-    match run_with(rt, alloc, plant, options, &mut Unwatched) {
-        Ok(Outcome::Done(_)) => {}
-        _ => return Err(io::Error::from(Fault::Run)),
-    }
+    let ended = run_with(rt, alloc, plant, options, &mut Unwatched);
     let elapsed = start.elapsed(&rt)?.as_nanos();
     let processor = rt.process_cpu_time()?.saturating_sub(used).as_nanos();
-    Ok(Span { elapsed, processor })
+    // (The plant is let go of once the clock was read, as that of `settle` is.)
+    match ended {
+        Ok(Outcome::Done(_)) => Ok(Span { elapsed, processor }),
+        _ => Err(io::Error::from(Fault::Run)),
+    }
 }
 
 // Nobody makes calls.
