@@ -3,9 +3,9 @@ use Rattle.std.proofs.Common.{◌≡◌, ℕ, ◌+◌, ◌<◌, List, [], ◌∷
 use Rattle.std.proofs.lemmas.List.{length-map, get_or-map, drop_more}
 use Rattle.std.proofs.lemmas.Bool.{or_parts}
 use Rattle.stream_model.specs.Network as model
-use Rattle.stream_model.specs.Network.{Network, State, Handed, node_at, role_at, is_source, writers_of, readers_of, used_outputs}
+use Rattle.stream_model.specs.Network.{Network, State, Handed, node_at, readers_of, used_outputs}
 use Rattle.stream_model.specs.Claims as claims
-use Rattle.stream_model.specs.Claims.{Counts, lacks_for_good, lacks_items}
+use Rattle.stream_model.specs.Claims.{Counts, lacks_for_good}
 use Rattle.stream_model.specs.Machine.{Capacities, counts_in, counts_out, counts_of, output_counts}
 use Rattle.machine_laws.specs.Waits.{ForRoom, reader_in, slower, slowest, wait_by, wait_of}
 use Rattle.machine_laws.proofs.Deciding.{Reason, decide-reason}

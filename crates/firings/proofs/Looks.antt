@@ -8,7 +8,7 @@ use Rattle.stream_model.specs.Lists.{below}
 use Rattle.std.proofs.lemmas.List.{length-map, length-replicate, get_or-map}
 use Rattle.std.proofs.lemmas.List.Elements.{All-filter}
 use Rattle.stream_model.specs.Network as model
-use Rattle.stream_model.specs.Network.{Network, State, readers_of, writers_of, writer_of, no_connection, role_at, is_source, handed_at, nothing_handed, progress_at, no_progress, node_at, used_outputs, given_by}
+use Rattle.stream_model.specs.Network.{Network, State, readers_of, writers_of, writer_of, no_connection, role_at, is_source, handed_at, nothing_handed, progress_at, node_at, used_outputs, given_by}
 use Rattle.stream_model.specs.Claims.{InputCounts, ReaderCounts, OutputCounts, is_abandoned}
 use Rattle.stream_model.specs.Machine.{Capacities, capacity_at, counts_in, counts_out, tape_counts, reader_counts, output_counts}
 use Rattle.stream_laws.specs.CanRun.{CanRun}

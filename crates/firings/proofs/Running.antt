@@ -7,11 +7,11 @@ use Rattle.std.proofs.lemmas.List.{length-map, length-replicate, get_or-map, set
 use Rattle.stream_model.specs.Lists.{below}
 use Rattle.stream_model.specs.Meaning.{Meaning}
 use Rattle.stream_model.specs.Network as model
-use Rattle.stream_model.specs.Network.{Network, Handed, State, node_at, handed_at, nothing_handed, progress_at, no_progress, writers_of, role_at, is_source, taken_by, given_by}
+use Rattle.stream_model.specs.Network.{Network, Handed, State, node_at, handed_at, nothing_handed, progress_at, no_progress, role_at, is_source}
 use Rattle.stream_model.specs.Claims as claims
 use Rattle.stream_model.specs.Claims.{InputCounts, Counts, decide}
 use Rattle.stream_model.specs.Machine as machine
-use Rattle.stream_model.specs.Machine.{Capacities, Claim, is_waiting, tape_counts, input_counts, counts_in, counts_out, counts_of, claim_of, is_quiet, is_idle}
+use Rattle.stream_model.specs.Machine.{Capacities, Claim, is_waiting, counts_in, counts_out, counts_of, claim_of, is_quiet, is_idle}
 use Rattle.stream_model.proofs.Streams.{given_by-rises, taken_by-rises}
 use Rattle.graph_model.specs.Gains.{most_grown}
 use Rattle.graph_model.specs.Graphs.{IsValidGraph}

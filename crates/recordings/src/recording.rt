@@ -1,6 +1,6 @@
 //! A stream of which only the end may be in memory: its items, and its tags.
 
-ghost use Rattle.std.specs.Prelude.{◌≡◌, ◌+◌, ◌-◌, ◌*◌, ◌<◌, ◌≤◌, ◌^◌, [], ◌++◌, length, map, drop, slice_range, IfOk, OnOk, IsOk, ◌==◌};
+ghost use Rattle.std.specs.Prelude.{◌≡◌, ◌+◌, ◌-◌, ◌*◌, ◌≤◌, ◌^◌, [], ◌++◌, length, map, drop, slice_range, IfOk, OnOk, IsOk, ◌==◌};
 ghost use Rattle.stream_model.specs.Tags.{tags_within};
 ghost use Rattle.items.specs.Items as typed;
 ghost use Rattle.items.specs.Items.{numbers_of};

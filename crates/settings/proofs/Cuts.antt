@@ -1,13 +1,13 @@
 -- Settings cut at an item.
-use Rattle.std.proofs.Common.{◌≡◌, ℕ, ◌+◌, ◌<◌, ◌≤◌, Bool, true, false, not, ◌&&◌, cond, inl, inr, List, [], ◌∷◌, ◌++◌, All, refl, sym, ap, ◌∙◌, subst, arith}
-use Rattle.std.specs.Prelude.{filter, nat_le, nat_lt, AllPairs}
+use Rattle.std.proofs.Common.{◌≡◌, ℕ, ◌<◌, ◌≤◌, Bool, true, false, not, ◌&&◌, cond, inl, inr, List, [], ◌∷◌, ◌++◌, All, refl, sym, ap, ◌∙◌, subst, arith}
+use Rattle.std.specs.Prelude.{filter, nat_le, nat_lt}
 use Rattle.std.proofs.lemmas.Bool.{cases_Bool, le-leb, leb-true, leb-false, ltb-true, ltb-false, lt-ltb}
-use Rattle.std.proofs.lemmas.List.Elements.{All-nil, All-cons, All-head, All-tail, All-weaker, filter_passes, filter_agree}
+use Rattle.std.proofs.lemmas.List.Elements.{All-nil, All-cons, All-head, All-tail, All-weaker, filter_passes}
 use Rattle.std.proofs.lemmas.List.Kept.{AllPairs-filter}
 use Rattle.stream_model.specs.Settings.{Value, Held, setting_at, between, IsRising}
 use Rattle.stream_model.proofs.Rising.{rising_tail, rising_head}
 use Rattle.settings.proofs.Latest.{latest-later, latest-last}
-use Rattle.settings.proofs.Made.{between_cut, between_none}
+use Rattle.settings.proofs.Made.{between_cut}
 
 filter-none : {X : Type 0} (p : X → Bool) (xs : List X) → All (λ x. p x ≡ false) xs → filter p xs ≡ []
 filter-none p [] none = refl

@@ -12,7 +12,7 @@ use Rattle.stream_model.specs.Machine.{with_handed}
 use Rattle.recordings.specs.Recording.{RecordingState}
 use Rattle.buffers.specs.Buffer.{BufferState}
 use Rattle.plant_laws.specs.Stored as stored
-use Rattle.plant_laws.specs.Stored.{Stored, OutputBuffer, tape_at, timeline_at, word_at, buffers_in, buffer_at, sink_at}
+use Rattle.plant_laws.specs.Stored.{OutputBuffer, tape_at, timeline_at, word_at, buffers_in, buffer_at, sink_at}
 use Rattle.stores.specs.declared.intake.Intake.{Intake}
 use Rattle.stores.specs.declared.stores.Stores.{Stores}
 use Rattle.stores.specs.Stores.{handed_of, tape_of, buffer_of, collected_of, stored_of, rows_in, stored_in, state_of}

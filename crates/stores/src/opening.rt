@@ -1,6 +1,6 @@
 //! What is stored before anything happens.
 
-ghost use Rattle.std.specs.Prelude.{◌≡◌, ◌<◌, ◌≤◌, length, map, fold, max, All, IfOk};
+ghost use Rattle.std.specs.Prelude.{◌≡◌, ◌<◌, ◌≤◌, length, map, IfOk};
 ghost use Rattle.stream_model.specs.Lists.{below};
 ghost use Rattle.stream_model.specs.Network.{node_at, used_outputs};
 ghost use Rattle.stream_model.specs.Machine.{capacity_at};

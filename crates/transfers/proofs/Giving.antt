@@ -10,7 +10,7 @@ use Rattle.stream_model.specs.Lists.{below}
 use Rattle.stream_model.specs.Tags as model
 use Rattle.stream_model.specs.Tags.{tags_within}
 use Rattle.stream_model.specs.Network as network
-use Rattle.stream_model.specs.Network.{Network, no_connection, role_at, is_source, is_keeper, node_at, writers_of, writer_of, used_outputs, taken_by}
+use Rattle.stream_model.specs.Network.{Network, no_connection, role_at, is_source, node_at, writers_of, writer_of, used_outputs, taken_by}
 use Rattle.stream_model.specs.Meaning.{input}
 use Rattle.stream_laws.specs.CanRun.{CanRun}
 use Rattle.stream_laws.specs.Tags.{brought}
@@ -25,7 +25,7 @@ use Rattle.tags.specs.TagList.{insert_tags}
 use Rattle.buffers.specs.Buffer.{BufferState}
 use Rattle.recordings.specs.Recording.{RecordingState}
 use Rattle.plant_laws.specs.Stored as stored
-use Rattle.plant_laws.specs.Stored.{OutputBuffer, Collected, Stored, nothing_collected, buffers_in, buffer_in, buffer_at, tape_at, sink_at}
+use Rattle.plant_laws.specs.Stored.{OutputBuffer, Collected, nothing_collected, buffers_in, buffer_in, buffer_at, tape_at}
 use Rattle.plant_laws.specs.Changes.{pushed, collected, tags_waiting, tags_brought}
 use Rattle.stores.specs.declared.intake.Intake.{Intake}
 use Rattle.stores.specs.Stores.{buffer_of, collected_of}

@@ -1,6 +1,6 @@
 //! Places for items, in the memory that they have where that is enough.
-ghost use Rattle.std.specs.Prelude.{◌≡◌, ◌+◌, ◌≤◌, [], length, All, IsOk, OnOk};
-ghost use Rattle.items.specs.Items.{type_of, numbers_of, spare_of};
+ghost use Rattle.std.specs.Prelude.{◌≡◌, ◌≤◌, [], length, All, IsOk, OnOk};
+ghost use Rattle.items.specs.Items.{type_of};
 ghost use Rattle.transfers.specs.Places.{IsPlace, ArePlaces, KeepsRoom, KeepRoom, room_of};
 
 use items::{ItemType, Items};

@@ -1,5 +1,5 @@
 //! Room for what a commit stores.
-ghost use Rattle.std.specs.Prelude.{◌≡◌, ◌+◌, ◌^◌, ◌<◌, ◌≤◌, ℕ, [], length, map, slice_index_or, All, IfOk, IsOk, OnOk, sum_by, vec_capacity};
+ghost use Rattle.std.specs.Prelude.{◌≡◌, ◌+◌, ◌^◌, ◌<◌, ◌≤◌, ℕ, [], length, map, slice_index_or, All, IfOk, IsOk, OnOk, sum_by};
 ghost use Rattle.flowgraph.specs.Flowgraph.{net_of};
 ghost use Rattle.stores.specs.Stores.{stored_in, buffer_of, collected_of};
 ghost use Rattle.stores.specs.Lending.{CanLend, HasRoom, KeepsAllRoom, no_buffer, no_sink};

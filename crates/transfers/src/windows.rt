@@ -1,5 +1,5 @@
 //! The windows of firings.
-ghost use Rattle.std.specs.Prelude.{◌≡◌, ◌+◌, ◌-◌, ◌^◌, ◌<◌, ◌≤◌, ℕ, [], length, map, slice_range, slice_index_or, All, IsOk, OnOk};
+ghost use Rattle.std.specs.Prelude.{◌≡◌, ◌+◌, ◌-◌, ◌<◌, ◌≤◌, ℕ, [], length, map, slice_range, slice_index_or, All, IsOk, OnOk};
 ghost use Rattle.stream_model.specs.Network.{node_at, writers_of};
 ghost use Rattle.items.specs.declared.stream_items.Items.{Items};
 ghost use Rattle.items.specs.Items.{type_of, numbers_of};

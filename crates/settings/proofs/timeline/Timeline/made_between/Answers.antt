@@ -1,9 +1,8 @@
-use Rattle.std.proofs.Common.{◌∷◌, ◌∙◌, ap, map, rules, arith}
+use Rattle.std.proofs.Common.{◌∷◌, ◌∙◌, ap, map, arith}
 use Rattle.stream_model.specs.Settings as model
 use Rattle.settings.specs.Values.{value_of, placed}
 use Rattle.settings.proofs.Cuts.{made_is}
-use Rattle.settings.proofs.Made.{between_none}
-use Rattle.settings.proofs.Entries.{map-made, map-nothing}
+use Rattle.settings.proofs.Entries.{map-made}
 use Rattle.settings.proofs.timeline.Timeline.made_between.Goals as goal
 
 pub returns : goal.returns

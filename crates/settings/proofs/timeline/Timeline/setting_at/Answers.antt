@@ -1,4 +1,4 @@
-use Rattle.std.proofs.Common.{ℕ, [], ◌∷◌, ◌++◌, ◌∙◌, sym, ap, map}
+use Rattle.std.proofs.Common.{ℕ, [], ◌∷◌, ◌∙◌, sym, ap, map}
 use Rattle.std.proofs.lemmas.List.{map-append}
 use Rattle.settings.specs.declared.value.Value.{Value}
 use Rattle.settings.specs.Values.{value_of, placed}
