@@ -1,6 +1,6 @@
 //! Why a ring could not be made or take a reader.
 ghost use Rattle.std.specs.Prelude.{◌≡◌, Some};
-ghost use Rattle.ring_readers.specs.Fault.{number_of, text_of};
+ghost use Rattle.ring_readers.specs.Fault.{text_of};
 ghost use Rattle.ring_readers.specs.declared.fault.RingFault.TheVariants.{Memory};
 
 use std::alloc::AllocError;
@@ -12,17 +12,6 @@ use std::fmt;
 pub enum RingFault {
     /// Memory ran out.
     Memory,
-}
-
-impl RingFault {
-    /// The number by which the refusal is reported: 32.
-    pub fn number(&self) -> u32
-        ensures { result ≡ number_of self.now }
-    {
-        match self {
-            RingFault::Memory => 32,
-        }
-    }
 }
 
 impl fmt::Display for RingFault {

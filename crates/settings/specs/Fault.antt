@@ -1,13 +1,8 @@
--- The numbers of refusals.
+-- The texts of refusals.
 use Rattle.std.specs.Prelude.{ℕ, List, ◌++◌, codes}
 use Rattle.std.specs.Fmt.{decimal}
 use Rattle.settings.specs.declared.fault.SettingFault.{SettingFault}
 use Rattle.settings.specs.declared.fault.SettingFault.TheVariants.{Late, Memory}
-
--- the number by which a refusal is reported
-abbrev pub number_of : SettingFault → ℕ
-number_of (Late floor) = 27
-number_of Memory = 32
 
 -- what is printed of it
 abbrev pub text_of : SettingFault → List ℕ

@@ -1,6 +1,6 @@
 //! Why a setting was refused.
 ghost use Rattle.std.specs.Prelude.{◌≡◌, Some};
-ghost use Rattle.settings.specs.Fault.{number_of, text_of};
+ghost use Rattle.settings.specs.Fault.{text_of};
 ghost use Rattle.settings.specs.declared.fault.SettingFault.TheVariants.{Memory};
 
 use std::alloc::AllocError;
@@ -14,18 +14,6 @@ pub enum SettingFault {
     Late { floor: u64 },
     /// Out of memory.
     Memory,
-}
-
-impl SettingFault {
-    /// The number by which the refusal is reported: 27 or 32.
-    pub fn number(&self) -> u32
-        ensures { result ≡ number_of self.now }
-    {
-        match self {
-            SettingFault::Late { .. } => 27,
-            SettingFault::Memory => 32,
-        }
-    }
 }
 
 impl fmt::Display for SettingFault {
