@@ -1,9 +1,8 @@
 -- Where the waits of a plant's blocks lead.
-use Rattle.std.proofs.Common.{◌≡◌, ℕ, suc, ◌+◌, ◌-◌, ◌<◌, ◌≤◌, Bool, true, false, not, List, length, drop, Option, Some, None, refl, arith, ap, sym, ◌∙◌, subst, cond}
+use Rattle.std.proofs.Common.{◌≡◌, ℕ, suc, ◌+◌, ◌-◌, ◌<◌, ◌≤◌, Bool, true, false, not, List, length, drop, Option, Some, None, refl, arith, ap, sym, ◌∙◌, subst}
 use Rattle.std.specs.Prelude.{position}
 use Rattle.std.specs.List.{position_from}
 use Rattle.std.specs.Option.{option_map}
-use Rattle.std.proofs.lemmas.List.{drop_more, drop_all}
 use Rattle.std.proofs.lemmas.List.Quantifiers.{position-Some}
 use Rattle.std.proofs.lemmas.Iterator.Adapters.{position_from-zero}
 use Rattle.stream_model.specs.Network.{Network, Progress, State, no_progress, progress_at}
@@ -21,18 +20,8 @@ is_live s = not s.done
 abbrev pub live_from : ℕ → List Progress → Option ℕ
 live_from i ps = position_from is_live i (drop i ps)
 
-module _ (ps : List Progress) (i : ℕ) (in' : i < length ps) where
-  pub live_turn : (progress_at ps i).done ≡ true → live_from (i + 1) ps ≡ live_from i ps
-  live_turn done = sym (ap (position_from is_live i) (drop_more ps i no_progress in') ∙ ap (λ t. cond (not t) (Some i) (live_from (i + 1) ps)) done)
-
-  pub live_found : (progress_at ps i).done ≡ false → Some i ≡ live_from i ps
-  live_found live = sym (ap (position_from is_live i) (drop_more ps i no_progress in') ∙ ap (λ t. cond (not t) (Some i) (live_from (i + 1) ps)) live)
-
 pub live_first : (ps : List Progress) → live_from 0 ps ≡ position is_live ps
 live_first ps = sym (position_from-zero is_live ps)
-
-pub live_none : (ps : List Progress) (i : ℕ) → length ps ≤ i → live_from i ps ≡ None
-live_none ps i past = ap (position_from is_live i) (drop_all i ps past)
 
 module _ (net : Network) (caps : Capacities) (st : State) where
   -- one wait less is left
@@ -46,9 +35,6 @@ module _ (net : Network) (caps : Capacities) (st : State) where
 
   pub ring_found : (n i b : ℕ) → n ≤ i → Some (followed net caps st (n - i) b) ≡ ring_of net caps st → Some b ≡ ring_of net caps st
   ring_found n i b past e = ap Some (sym (followed_none n i b past)) ∙ e
-
-  pub ring_begins : (b : ℕ) → Some b ≡ lowest_live st → Some (followed net caps st (length net.nodes) b) ≡ ring_of net caps st
-  ring_begins b e = ap (option_map (followed net caps st (length net.nodes))) e
 
   module _ (can : CanRun net) (sound : Sound net caps st) (closed : AreClosed net st) (quiet : is_quiet net caps st ≡ true) where
     on_ring_from : (b : ℕ) (o : Option ℕ) → lowest_live st ≡ o → Some b ≡ option_map (followed net caps st (length net.nodes)) o → IsOnRing net caps st b

@@ -166,9 +166,6 @@ module _ (net : Network) (caps : Capacities) (st : State) (b max : ℕ) (in' : b
     said : Says decided r
     said = plainly decided (progress_at st.progress b).firings r (ap plain_reply (sym is) ∙ plain)
 
-    abbrev Now : Reply × State → Type 0
-    Now x = x ≡ (r, after)
-
     pub answered_now : next net caps st (Claim b max) ≡ (r, after)
     unfolding claim_of
     answered_now = next_claims ∙ said.0

@@ -1,5 +1,5 @@
 -- What a plant keeps stays true as a block is handed something.
-use Rattle.std.proofs.Common.{◌≡◌, ℕ, ℤ, zero, suc, ◌<◌, ◌≤◌, ◌+◌, List, ◌++◌, [], ◌∷◌, map, length, get_or, set, refl, arith, ap, sym, ◌∙◌, subst, true, false, Option, Some, Ok, Err}
+use Rattle.std.proofs.Common.{◌≡◌, ℕ, ℤ, zero, suc, ◌<◌, ◌≤◌, ◌+◌, List, ◌++◌, [], ◌∷◌, map, length, get_or, set, refl, arith, ap, sym, ◌∙◌, subst, true, false, Some, Ok, Err}
 use Rattle.std.specs.Arc.{arc_value}
 use Rattle.std.proofs.lemmas.List.{map-set, length-map}
 use Rattle.std.proofs.Math.Seq.{map-set_same}
@@ -69,10 +69,6 @@ room_same net s s' b h is same a k c room = record {
 -- answers that leave the plant as it is, and answers that move it
 pub stays : {B : Type 0} (now : Reply × State) (x : PlantState B) (r : Reply) → now ≡ (r, x.state) → (r ≡ now.0) × (x ≡ record x { state = now.1 })
 stays now x r e = rw e (refl, refl)
-
--- the same of a call that memory cannot fail
-pub always : {B : Type 0} (now : Reply × State) (x : PlantState B) (r : Reply) → now ≡ (r, x.state) → (◌≡◌ {A = Option Reply} (Some r) (Some now.0)) × (x ≡ record x { state = now.1 })
-always now x r e = rw e (refl, refl)
 
 -- what each place of a mapped list reads as
 pub mapped_at : {X Y : Type 0} (f : X → Y) (xs : List X) (k : ℕ) (x : X) (y : Y) → k < length xs → get_or (map f xs) k y ≡ f (get_or xs k x)

@@ -25,10 +25,6 @@ all_alike : {X Y : Type 0} (y : Y) (xs : List X) → replicate (length xs) y ≡
 all_alike y [] = refl
 all_alike y (x ∷ xs) = ap (λ ys. y ∷ ys) (all_alike y xs)
 
-mapped_alike : {X Y Z : Type 0} (f : Y → Z) (y : Y) (xs : List X) → map f (map (λ _. y) xs) ≡ replicate (length xs) (f y)
-mapped_alike f y [] = refl
-mapped_alike f y (x ∷ xs) = ap (λ ys. f y ∷ ys) (mapped_alike f y xs)
-
 all_zero : {X Y : Type 0} (from : Y → ℕ) (made : X → Y) → ((x : X) → from (made x) ≡ 0) → (xs : List X) → All (λ k. k ≡ 0) (map from (map made xs))
 all_zero from made zero [] = All-nil (λ k. k ≡ 0)
 all_zero from made zero (x ∷ xs) = All-cons (λ k. k ≡ 0) (from (made x)) (map from (map made xs)) (zero x) (all_zero from made zero xs)

@@ -1,6 +1,5 @@
 -- The machine's refusals of calls to a source, and that they change nothing.
-use Rattle.std.proofs.Common.{◌≡◌, ℕ, ◌<◌, ◌+◌, Bool, true, false, List, ℤ, length, Some, Result, Ok, Err, refl, sym, lt-ltb, ltb-true, not, nat_le, nat_lt, ◌&&◌, if◌then◌else◌}
-use Rattle.std.specs.List.{list_all}
+use Rattle.std.proofs.Common.{◌≡◌, ℕ, ◌<◌, ◌+◌, Bool, true, false, List, ℤ, length, Some, Result, Ok, Err, refl, lt-ltb, ltb-true, not, nat_lt, if◌then◌else◌}
 use Rattle.stream_model.specs.declared.vocabulary.ItemType.{ItemType}
 use Rattle.stream_model.specs.Numbers.{types_agree}
 use Rattle.stream_model.specs.Tags.{Mark}
@@ -9,7 +8,6 @@ use Rattle.stream_model.specs.Machine as machine
 use Rattle.stream_model.specs.Machine.{Reply, Refused, marks_fit, close_of, feed_of, with_handed, with_tape}
 use Rattle.plant.specs.declared.fault.PlantFault.{PlantFault}
 use Rattle.plant.specs.declared.fault.PlantFault.TheVariants.{NoSuchBlock, NotSource, Closed, TagPlace, TapeFull}
-use Rattle.firings.specs.declared.progress.Tape.{Tape}
 use Rattle.firings.specs.State.{tape_of}
 use Rattle.plant.specs.Plant.{PlantState}
 use Rattle.plant.specs.Answers.{Answered, refusal_of, source_type_of}
@@ -46,18 +44,6 @@ fits true placed full n total st st' h = absurd (cc)
 fits false false full n total st st' h = absurd (cc)
 fits false true true n total st st' h = absurd (cc)
 fits false true false n total st st' h = let is : n ≡ total = cc in rw is refl
-
-long : (closed placed full : Bool) (n total : ℕ) →
-    ◌≡◌ {A = Result ℕ PlantFault} (if closed then Err Closed else (if not placed then Err TagPlace else (if full then Err TapeFull else Ok n))) (Ok total) → total ≡ n
-long true placed full n total h = absurd (cc)
-long false false full n total h = absurd (cc)
-long false true true n total h = absurd (cc)
-long false true false n total h = let is : n ≡ total = cc in sym is
-
--- a tape that takes the items has so many more
-pub length_with-ok : (tape : Tape) (longest count : ℕ) (ms : List Mark) (total : ℕ) → length_with tape longest count ms ≡ Ok total → total ≡ tape.length + count
-length_with-ok tape longest count ms total h =
-    long tape.closed (list_all (λ m. nat_le tape.length m.offset && nat_lt m.offset (tape.length + count)) ms) (nat_lt longest (tape.length + count)) _ total h
 
 -- a refusal that changes nothing is an answer
 pub answered : {B : Type 0} (e : PlantFault) (now : Reply × State) (x : PlantState B) → refusal_of e ≡ Some now.0 → now.1 ≡ x.state → Answered now x x (refusal_of e)

@@ -58,9 +58,6 @@ module _ (names : List (List ℕ)) (net : Network) (can : CanRun net) (valid : I
   pub handed_there : b < length s.handed.items
   handed_there = let places = lend.places.tapes in let long = length-map s.handed.items tape_of in omega arith
 
-  pub words_there : b < length s.words.items
-  words_there = let places = lend.places.words in omega arith
-
   -- the items that its firings take fit a word
   first_small : taken_by (node_at net b) 0 (next) < 2 ^ 62
   first_small =

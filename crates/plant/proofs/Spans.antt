@@ -1,5 +1,5 @@
 -- What is kept, and how long tapes may come to be.
-use Rattle.std.proofs.Common.{◌≡◌, ℕ, ℤ, ◌<◌, ◌≤◌, Bool, true, false, Option, Some, None, List, [], length, map, set, get_or, ap, sym, ◌∙◌, subst, All, refl, inl, inr}
+use Rattle.std.proofs.Common.{◌≡◌, ℕ, ℤ, ◌<◌, ◌≤◌, Bool, true, false, None, List, [], length, map, set, get_or, ap, sym, ◌∙◌, subst, All, refl, inl, inr}
 use Rattle.std.specs.Prelude.{nat_lt, if◌then◌else◌, Vec}
 use Rattle.std.specs.Global.{Global}
 use Rattle.std.proofs.lemmas.Bool.{cases_Bool, ltb-true, ltb-false}
@@ -9,7 +9,7 @@ use Rattle.std.proofs.Math.ListN.{get_or-eq_default}
 use Rattle.stream_model.specs.Tags.{Tag, tags_within}
 use Rattle.stream_model.specs.Meaning.{input}
 use Rattle.stream_model.specs.Network.{Network, longest_tape, role_at, is_keeper}
-use Rattle.plant_laws.specs.Stored.{Tape, Collected, Stored, firsts_of, no_tape, nothing_collected, tape_at, settings_from, sink_at}
+use Rattle.plant_laws.specs.Stored.{Tape, Collected, Stored, firsts_of, no_tape, nothing_collected, settings_from, sink_at}
 use Rattle.plant_laws.specs.Changes.{collected, tags_waiting}
 use Rattle.plant_laws.proofs.Forgetting.{firsts-sink}
 use Rattle.stores.specs.declared.intake.Intake.{Intake}
@@ -33,9 +33,6 @@ zero_at from xs d none zero b =
       | inl e ↦ let in' = ltb-true b (length xs) e in sym (get_or-map from xs b d 0 in') ∙ zero b 0 (rw (length-map xs from) in')
       | inr e ↦ ap from (get_or-eq_default xs d (ltb-false b (length xs) e)) ∙ none
     ]
-
-pub tape_whole : (stored : Stored) → ForgetsNone (firsts_of stored) → (b : ℕ) → (tape_at stored b).from ≡ 0
-tape_whole stored none b = zero_at (λ (t : Tape). t.from) stored.tapes no_tape refl none.tapes b
 
 pub sink_whole : (stored : Stored) → ForgetsNone (firsts_of stored) → (b : ℕ) → (sink_at stored b).from ≡ 0
 sink_whole stored none b = zero_at (λ (s : Collected). s.from) stored.sinks nothing_collected refl none.sinks b

@@ -65,8 +65,3 @@ count_of-short t xs l = div-eq_of_lt l
 
 pub items_of-short : (t : ItemType) (order : ByteOrder) (xs : List ℕ) → length xs < size_of t → items_of t order xs ≡ []
 items_of-short t order xs l = ap (λ m. map (item_of t order) (first_chunks (size_of t) m xs)) (count_of-short t xs l)
-
-pub cut_of-short : (t : ItemType) (xs : List ℕ) → length xs < size_of t → cut_of t xs ≡ xs
-cut_of-short t xs l =
-    let none : count_of t xs * size_of t ≡ 0 = ap (λ m. m * size_of t) (count_of-short t xs l) ∙ omega arith in
-    ap (λ m. drop m xs) none

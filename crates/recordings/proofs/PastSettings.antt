@@ -8,7 +8,7 @@ use Rattle.std.proofs.lemmas.List.Sums.{fold-append}
 use Rattle.stream_model.specs.Lists.{numbers_from}
 use Rattle.stream_model.specs.Settings.{Value, Held, latest, setting_at, made_at, between, put_setting, IsRising}
 use Rattle.stream_model.proofs.Latest.{latest-taken, latest-passed, latest-older, latest-append, latest-holds}
-use Rattle.stream_model.proofs.Rising.{rising_nil, rising_tail, rising_head}
+use Rattle.stream_model.proofs.Rising.{rising_tail, rising_head}
 use Rattle.stream_model.proofs.Putting.{put-behind, put-here, put-before, put-rises, put-last}
 use Rattle.settings.specs.declared.value.Value as typed
 use Rattle.settings.specs.Values.{placed}
@@ -221,9 +221,6 @@ module _ (own : Value) (made : List Held) (from : ℕ) (kept : List Held) (are :
             | inr stays ↦ ap (kept_from high) (kept-at low t ts stays)
                 ∙ ap (λ us. cond (nat_le high t.at) (t ∷ us) us) (kept-kept high low ts le)
           ]
-
-pub none_past : (own : Value) → ArePastSettings own [] 0 []
-none_past own = record { first = 0; reads = zero-le; rising = rising_nil; kept_is = refl; few = zero-le }
 
 -- a setting more
 pub made_more : (calls : List (typed.Value × ℕ)) (v : typed.Value) (at : ℕ) → settings_made (calls ++ (v, at) ∷ []) ≡ put_setting (placed (at, v)) (settings_made calls)

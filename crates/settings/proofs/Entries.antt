@@ -115,21 +115,6 @@ map-made from to es =
     map-chosen (range_contains nat_cmp (Included (from + 1)) (Excluded to)) (λ n. not (nat_le n from) && nat_lt n to)
     (λ n i. from_next from n i && before to n i) es
 
--- no item lies between an item and itself
-pub map-nothing : (es : List (ℕ × Value)) → map placed (entries_between nat_cmp (Included 0) (Excluded 0) es) ≡ []
-map-nothing [] = refl
-map-nothing (e ∷ es) =
-    ap (λ b. map placed (cond (b && not (is_le (nat_cmp 0 e.0))) (e ∷ entries_between nat_cmp (Included 0) (Excluded 0) es) (entries_between nat_cmp (Included 0) (Excluded 0) es))) from
-    ∙ ap (λ b. map placed (cond b (e ∷ entries_between nat_cmp (Included 0) (Excluded 0) es) (entries_between nat_cmp (Included 0) (Excluded 0) es))) (ap not from)
-    ∙ map-nothing es
-  where
-    from : is_le (nat_cmp 0 e.0) ≡ true
-    from =
-        elim (cases_order 0 e.0) [
-          | inl here ↦ ap is_le (cmp-equal 0 e.0 here)
-          | inr other ↦ elim other [ inl later ↦ ap is_le (cmp-less 0 e.0 later) | inr earlier ↦ absurd (omega arith) ]
-        ]
-
 -- all of them
 pub all_between : (es : List (ℕ × Value)) → entries_between nat_cmp Unbounded Unbounded es ≡ es
 all_between [] = refl

@@ -95,9 +95,3 @@ between_cut own done xs ys from to rising ordered past after high later =
     let found : filter_map (made b (xs ++ ys)) (numbers_from (suc from) (to - suc from)) ≡ xs =
     made_in (to - suc from) (suc from) b xs ys (omega arith) rising (All-weaker (λ t. from < t.at) (λ t. suc from ≤ t.at) (λ t lt. omega arith) xs (all_left (λ t. from < t.at) xs ys after)) (All-weaker (λ t. t.at < to) (λ t. t.at < suc from + (to - suc from)) (λ t lt. omega arith) xs high) (All-weaker (λ t. to ≤ t.at) (λ t. suc from + (to - suc from) ≤ t.at) (λ t le. omega arith) ys later) in
     ap (λ zs. setting_at own (done ++ (xs ++ ys)) from ∷ zs) (same ∙ found)
-
--- where there is no item between
-pub between_none : (own : Value) (ts : List Held) (from to : ℕ) → to ≤ from → between own ts from to ≡ setting_at own ts from ∷ []
-between_none own ts from to past =
-    let none : to - suc from ≡ 0 = omega arith in
-    ap (λ k. setting_at own ts from ∷ filter_map (made_at own ts) (numbers_from (suc from) k)) none

@@ -16,7 +16,7 @@ use Rattle.flowgraph.specs.declared.parts.Connection.{Connection}
 use Rattle.flowgraph.specs.Flowgraph.{Flowgraph, net_of, node_of, connection_of}
 use Rattle.stream_model.specs.Meaning.{Meaning}
 use Rattle.ring_readers.specs.declared.reader.ReaderState.{ReaderState}
-use Rattle.ring_readers.specs.State.{ring_state, empty_ring, with_reader}
+use Rattle.ring_readers.specs.State.{ring_state, with_reader}
 use Rattle.buffers.specs.Buffer.{BufferState}
 use Rattle.plant_laws.specs.Stored.{OutputBuffer}
 use Rattle.plant_laws.specs.Opening.{first_place, empty_buffer, empty_sink, stored_opening}
@@ -70,9 +70,6 @@ module _ (net : Network) where
   buffer_with item capacity greatest cs = record { item = item; ring = ring_state 0 [] capacity greatest (map (first_place net) cs); tags = [] }
 
   module _ (item : ItemType) (capacity greatest : ℕ) where
-    pub no_reader_yet : (b : BufferState) (cs : List model.Connection) → b.item ≡ item → b.ring ≡ empty_ring capacity greatest → b.tags ≡ [] → buffer_of b ≡ buffer_with item capacity greatest (take 0 cs)
-    no_reader_yet b cs typed ring tags = rw (typed, ring, tags) refl
-
     pub reader_added : (cs : List Connection) (k history : ℕ) (old new : BufferState) → k < length cs → buffer_of old ≡ buffer_with item capacity greatest (take k (map connection_of cs)) →
         history ≡ (node_at net (get_or cs k nothing_there).to.0).meaning.history → new ≡ record old { ring = with_reader old.ring history } →
         buffer_of new ≡ buffer_with item capacity greatest (take (k + 1) (map connection_of cs))

@@ -1,8 +1,8 @@
 -- What a block's policy chooses of the tags on its inputs.
-use Rattle.std.proofs.Common.{◌≡◌, ℕ, zero, suc, ◌+◌, ◌<◌, ◌≤◌, Bool, List, [], ◌∷◌, ◌++◌, map, length, get_or, drop, refl, arith, ap, sym, ◌∙◌, subst, All, add-one, drop-cons, append_assoc, append-nil, length-append, eq-eqb, ne_eqb, ltb-true}
+use Rattle.std.proofs.Common.{◌≡◌, ℕ, zero, suc, ◌+◌, ◌<◌, ◌≤◌, Bool, List, [], ◌∷◌, ◌++◌, map, length, get_or, drop, refl, arith, ap, sym, ◌∙◌, subst, All, add-one, drop-cons, append_assoc, eq-eqb, ne_eqb, ltb-true}
 use Rattle.std.specs.Prelude.{if◌then◌else◌, ◌&&◌, nat_le, nat_lt}
 use Rattle.std.proofs.lemmas.Bool.{and_parts}
-use Rattle.std.proofs.lemmas.List.{length-map, get_or-map, drop_all}
+use Rattle.std.proofs.lemmas.List.{length-map, get_or-map}
 use Rattle.std.proofs.lemmas.List.Elements.{filter_passes}
 use Rattle.stream_model.specs.declared.vocabulary.Policy.TheVariants as policy
 use Rattle.stream_model.specs.Tags as model
@@ -30,11 +30,6 @@ pub stays : (n : Node) (p : ℕ) → ((s : ℕ) → n.meaning.place p s ≡ s) �
 stays n p same [] = refl
 stays n p same (t ∷ ts) = ap (λ (u : model.Tag). u ∷ moved n p ts) (ap (λ s. record t { offset = s }) (same t.offset)) ∙ ap (λ us. t ∷ us) (stays n p same ts)
 
--- all: which output it is does not matter
-pub all_alike : (n : Node) (p q : ℕ) (ts : List (List model.Tag)) → chosen policy.All n p q ts ≡ chosen policy.All n 0 q ts
-all_alike n p q [] = refl
-all_alike n p q (t ∷ ts) = ap (λ us. moved n q t ++ us) (all_alike n p (suc q) ts)
-
 module _ (n : Node) (from to : ℕ) where
   abbrev pub taken_at : ℕ → List model.Tag → List model.Tag
   taken_at q t = tags_within (taken_by n q from) (taken_by n q to) t
@@ -49,9 +44,6 @@ module _ (n : Node) (from to : ℕ) where
   -- input after input
   pub all_turn : (ts : List (List model.Tag)) (q : ℕ) → q < length ts → all_from q (drop q ts) ≡ moved n q (taken_at q (get_or ts q [])) ++ all_from (q + 1) (drop (q + 1) ts)
   all_turn ts q in' = rw (add-one, drop-cons ts q []) refl
-
-  pub all_end : (ts : List (List model.Tag)) (q : ℕ) → length ts ≤ q → all_from q (drop q ts) ≡ []
-  all_end ts q over = ap (all_from q) (drop_all q ts over)
 
   -- one: that of the input of the output's number
   pub one_there : (ts : List (List model.Tag)) (p q j : ℕ) → p ≡ q + j → j < length ts → chosen policy.One n p q (tags_taken n q from to ts) ≡ moved n p (taken_at p (get_or ts j []))
@@ -85,17 +77,6 @@ module _ (n : Node) (from to : ℕ) where
       ∙ append_assoc have (moved n q (taken_at q (get_or ts q []))) (all_from (q + 1) (drop (q + 1) ts))
       ∙ ap (λ us. have ++ us) (sym (all_turn ts q in'))
       ∙ left
-
-  pub left_room : (ts : List (List model.Tag)) (q : ℕ) (have whole : List model.Tag) → q < length ts → have ++ all_from q (drop q ts) ≡ whole → length have + length (taken_at q (get_or ts q [])) ≤ length whole
-  left_room ts q have whole in' left =
-      let long = ap length (ap (λ us. have ++ us) (sym (all_turn ts q in')) ∙ left) in
-      let one = length-append have (moved n q (taken_at q (get_or ts q [])) ++ all_from (q + 1) (drop (q + 1) ts)) in
-      let two = length-append (moved n q (taken_at q (get_or ts q []))) (all_from (q + 1) (drop (q + 1) ts)) in
-      let three = length-map (taken_at q (get_or ts q [])) (λ t. record t { offset = n.meaning.place q t.offset }) in
-      omega arith
-
-  pub left_none : (ts : List (List model.Tag)) (q : ℕ) (have whole : List model.Tag) → length ts ≤ q → have ++ all_from q (drop q ts) ≡ whole → have ≡ whole
-  left_none ts q have whole over left = sym (append-nil have) ∙ ap (λ us. have ++ us) (sym (all_end ts q over)) ∙ left
 
   pub one_is : (ts : List (List model.Tag)) (p : ℕ) → n.policy ≡ policy.One → p < length ts → brought n p from to ts ≡ moved n p (taken_at p (get_or ts p []))
   one_is ts p e in' = ap (λ chooses. chosen chooses n p 0 (tags_taken n 0 from to ts)) e ∙ one_there ts p 0 p (omega arith) in'

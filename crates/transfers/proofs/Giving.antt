@@ -66,9 +66,6 @@ module _ (start : List (List OutputBuffer)) (b : ℕ) (in' : b < length start) (
   abbrev pub so_far : ℕ → List (List OutputBuffer)
   so_far q = set start b (map f (below q) ++ drop q (buffers_in start b))
 
-  pub none_yet : start ≡ so_far 0
-  none_yet = sym (set-get_or start b [])
-
   pub all_done : (n : ℕ) → length (buffers_in start b) ≤ n → so_far n ≡ set start b (map f (below n))
   all_done n over = ap (λ row. set start b (map f (below n) ++ row)) (drop_all n (buffers_in start b) over) ∙ ap (set start b) (append-nil (map f (below n)))
 

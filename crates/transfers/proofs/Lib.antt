@@ -2,7 +2,6 @@ pub mod States
 pub mod Wires
 pub mod Reading
 pub mod TagCounts
-pub mod WordCounts
 pub mod Rooms
 pub mod WindowLists
 pub mod PlaceLists
