@@ -181,7 +181,8 @@ impl<B: Block> StreamingPlant<B> {
         self.parts.step(alloc, block, max)
     }
 
-    /// Forgets all that sources have taken, and the settings that no item is read with any more. It takes no memory, and an `Err` never comes while nobody shares a tape.
+    /// Forgets all that sources have taken, and the settings that no item is read with any more. It takes no memory: an `Err` would come only of a tape that is
+    /// shared, which is copied first, and nothing shares a tape of a plant that streams.
     pub fn release(&mut self) -> Result<(), AllocError>
         ensures plant { self.new.plant ≡ self.old.plant }
         ensures sinks { self.new.kept.sinks ≡ self.old.kept.sinks }
