@@ -75,7 +75,7 @@ const REFUSED: [(&str, &str); 23] = [
 ];
 
 // What is added to the chain.
-const REFUSED_BEHIND: [(&str, &str); 12] = [
+const REFUSED_BEHIND: [(&str, &str); 15] = [
     (
         "[[block]]\nname = \"a\"\nkind = \"not\"\ntype = \"byte\"",
         "1 DuplicateName a",
@@ -91,6 +91,18 @@ const REFUSED_BEHIND: [(&str, &str); 12] = [
     (
         "[[connect]]\nfrom = \"a\"\nto = \"b\"\nto_port = -1",
         "3 PortRange b in -1",
+    ),
+    (
+        "[[connect]]\nfrom = \"abcdefghijklmnopqrstuvwxyz012345\"\nto = \"b\"\nfrom_port = -1",
+        "3 PortRange abcdefghijklmnopqrstuvwxyz012345 out -1",
+    ),
+    (
+        "[[connect]]\nfrom = \"abcdefghijklmnopqrstuvwxyz0123456\"\nto = \"b\"\nfrom_port = -1",
+        "3 PortRange connect 1 out -1",
+    ),
+    (
+        "[[connect]]\nfrom = \"a\"\nto = \"b c\"\nto_port = -9223372036854775808",
+        "3 PortRange connect 1 in -9223372036854775808",
     ),
     (
         "[[connect]]\nfrom = \"a\"\nto = \"out\"\nfrom_port = 9000000000",

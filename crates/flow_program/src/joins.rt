@@ -3,7 +3,7 @@
 use crate::devices::{Chain, Device, Source, Target};
 use crate::ends::{Ends, NamedEnd};
 use crate::stops::{Stop, Stream, stop_of, unopened};
-use flow::raw_fault::{EndFault, EndPlace};
+use flow::raw_fault::{EndFault, EndPlace, RawFault};
 use flow::raw_input::{sink_named, source_named};
 use flowgraph::{BlockId, Valid};
 use kinds::Kind;
@@ -115,12 +115,18 @@ pub fn join_outputs<'a>(
 }
 
 // Whether each output names a sink.
-fn test_names(graph: &Valid<Kind>, ends: &Ends<'_>) -> Result<(), Stop> {
+fn test_names(graph: &Valid<Kind>, ends: &Ends<'_>) -> Result<(), RawFault> {
     for (number, end) in ends.outputs.iter().enumerate() {
-        sink_named(graph, EndPlace::Output(number), end.block.as_bytes())?;
+        match sink_named(graph, EndPlace::Output(number), end.block.as_bytes()) {
+            Ok(_sink) => {}
+            Err(fault) => return Err(fault),
+        }
     }
     for (number, end) in ends.tags.iter().enumerate() {
-        sink_named(graph, EndPlace::Tags(number), end.block.as_bytes())?;
+        match sink_named(graph, EndPlace::Tags(number), end.block.as_bytes()) {
+            Ok(_sink) => {}
+            Err(fault) => return Err(fault),
+        }
     }
     Ok(())
 }

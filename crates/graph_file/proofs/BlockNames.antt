@@ -1,12 +1,15 @@
--- The names of blocks are ASCII.
-use Rattle.std.proofs.Common.{◌≡◌, ℕ, zero, suc, ◌<◌, Bool, true, List, [], ◌∷◌, length, arith, inl, inr, eqb-true}
-use Rattle.std.specs.Prelude.{nat_le, ◌&&◌, ◌||◌, ◌==◌, IsUtf8}
+-- The names of blocks are ASCII, and what is kept of a text that may be one.
+use Rattle.std.proofs.Common.{◌≡◌, ◌∙◌, sym, ap, subst, ℕ, zero, suc, ◌<◌, ◌≤◌, Bool, true, false, if◌then◌else◌, List, [], ◌∷◌, length, arith, inl, inr, eqb-true}
+use Rattle.std.specs.Prelude.{nat_le, ◌&&◌, ◌||◌, ◌==◌, ◌↔◌, IsTrue, IsUtf8}
 use Rattle.std.specs.Char.{is_ascii_alphanumeric}
 use Rattle.std.specs.List.{list_all}
 use Rattle.std.specs.Str.{IsAscii}
 use Rattle.std.proofs.lemmas.Bool.{and_parts, or_cases, leb-true}
 use Rattle.std.proofs.lemmas.Str.{IsUtf8-from_ascii}
+use Rattle.items.specs.Name.{IsName}
+use Rattle.items.proofs.Names.{name_test}
 use Rattle.graph_model.specs.Graphs.{is_name}
+use Rattle.graph_file.specs.Refusals.{block_name}
 
 abbrev is_between : ℕ → ℕ → ℕ → Bool
 is_between least most c = nat_le least c && nat_le c most
@@ -41,3 +44,17 @@ ascii (c ∷ s) is (suc i) = ascii s (and_parts (name_byte c) (list_all name_byt
 
 pub IsUtf8-is_name : (s : List ℕ) → is_name s ≡ true → IsUtf8 s
 IsUtf8-is_name s is = IsUtf8-from_ascii s (ascii s (and_parts (nat_le 1 (length s) && nat_le (length s) 32) (list_all name_byte s) is).1)
+
+-- what is kept of a text, by a test that says whether its bytes are a name
+module _ (text bytes : List ℕ) (same : bytes ≡ text) (test : Bool) (is : IsTrue test ↔ IsName 32 bytes) where
+  tested : test ≡ is_name text
+  tested = name_test 32 bytes test is ∙ ap is_name same
+
+  pub block_name-name : test ≡ true → text ≡ block_name text
+  block_name-name passed = sym (ap (λ b. if b then text else []) (sym tested ∙ passed))
+
+  pub block_name-other : test ≡ false → [] ≡ block_name text
+  block_name-other failed = sym (ap (λ b. if b then text else []) (sym tested ∙ failed))
+
+  pub block_name-fits : test ≡ true → length text ≤ 32
+  block_name-fits passed = subst (λ s. length s ≤ 32) same (is.0 passed).short

@@ -1,5 +1,5 @@
 -- The connections of a graph file.
-use Rattle.std.specs.Prelude.{◌⊎◌, ℕ, suc, ◌<◌, length, ◌-◌, ◌^◌, min, ℤ, pos, negsuc, List, [], ◌∷◌, ◌++◌, Option, Some, None, Result, Ok, Err, IsOk, bytes_eq, if◌then◌else◌}
+use Rattle.std.specs.Prelude.{ℕ, suc, ◌-◌, ◌^◌, min, ℤ, pos, negsuc, List, [], ◌∷◌, ◌++◌, Option, Some, None, Result, Ok, Err, IsOk, bytes_eq, if◌then◌else◌}
 use Rattle.toml.specs.Data.{Items, no_items, item, Members, as_table}
 use Rattle.stream_model.specs.Network as network
 use Rattle.graph_model.specs.Graphs as model
@@ -16,7 +16,7 @@ use Rattle.kind_keys.specs.declared.fault.KeyFault.{KeyFault}
 use Rattle.kind_keys.specs.declared.fault.KeyFault.TheVariants.{UnknownKey}
 use Rattle.kind_keys.specs.Tables.{text_at, number_at, count_at, keys_fault, has_only}
 use Rattle.graph_file.specs.declared.fault.FilePlace.TheVariants as places
-use Rattle.graph_file.specs.Refusals.{Refusal, of_graph, negative_port, short}
+use Rattle.graph_file.specs.Refusals.{Refusal, of_graph, negative_port, short, block_name}
 use Rattle.graph_file.specs.Blocks.{Draft}
 use Rattle.graph_file.specs.Steps.{unless}
 use Rattle.std.specs.Prelude.{Bool, true, false}
@@ -31,10 +31,10 @@ abbrev pub number_from : ℕ → List ℕ → Items → Option ℕ
 number_from n name no_items = None
 number_from n name (item d ds) = if bytes_eq (name_in (as_table d)) name then Some (min n (2 ^ 32 - 1)) else number_from (suc n) name ds
 
--- what follows, where a port is not negative
-abbrev pub from_zero : ℤ → List ℕ → Side → Result Draft Refusal → Result Draft Refusal
-from_zero (pos n) name side rest = rest
-from_zero (negsuc n) name side rest = Err (negative_port name side (negsuc n))
+-- what follows, where a port of the connection of table n is not negative
+abbrev pub from_zero : ℕ → ℤ → List ℕ → Side → Result Draft Refusal → Result Draft Refusal
+from_zero n (pos port) end side rest = rest
+from_zero n (negsuc port) end side rest = Err (negative_port (places.Connect n) (block_name end) side (negsuc port))
 
 -- the graph with one connection more
 abbrev pub with_connection : Draft → network.Connection → Draft
@@ -61,10 +61,6 @@ joined n d ms from to =
     let c : network.Connection = record { from = from; out_port = count_at ms keys.FromPort; to = to; in_port = count_at ms keys.ToPort } in
     connected n d ms c (connect_fault d.net c)
 
--- one of the ends is a longer text than a block's name, for which a refusal of its port takes memory
-abbrev pub HasLongEnd : Members → Type 0
-HasLongEnd ms = (32 < length (text_at ms keys.From)) ⊎ (32 < length (text_at ms keys.To))
-
 -- the keys up to the port of the output, and all keys
 abbrev pub from_keys : List Key
 from_keys = keys.From ∷ keys.To ∷ keys.FromPort ∷ []
@@ -81,11 +77,11 @@ only_fault false fault = Some UnknownKey
 abbrev pub connect_step : Items → ℕ → Draft → Members → Result Draft Refusal
 connect_step blocks n d ms =
     unless (places.Connect n) (only_fault (has_only connect_keys ms) (keys_fault ms from_keys))
-    (from_zero (number_at ms keys.FromPort) (text_at ms keys.From) Out
+    (from_zero n (number_at ms keys.FromPort) (text_at ms keys.From) Out
     (unless (places.Connect n) (keys_fault ms (keys.ToPort ∷ []))
-    (from_zero (number_at ms keys.ToPort) (text_at ms keys.To) In
+    (from_zero n (number_at ms keys.ToPort) (text_at ms keys.To) In
     (known n (number_from 0 (text_at ms keys.From) blocks) (λ from. known n (number_from 0 (text_at ms keys.To) blocks) (λ to. joined n d ms from to))))))
 
--- the connection of the table takes memory as its port is refused, or as it goes into the graph
+-- the connection of the table takes memory as it goes into the graph
 abbrev pub ConnectTakes : Items → ℕ → Draft → Members → Type 0
-ConnectTakes blocks n d ms = HasLongEnd ms ⊎ IsOk (connect_step blocks n d ms)
+ConnectTakes blocks n d ms = IsOk (connect_step blocks n d ms)

@@ -1,5 +1,6 @@
 -- Why a graph file is refused.
-use Rattle.std.specs.Prelude.{◌≡◌, ℕ, ℤ, List, [], length, nat_le, if◌then◌else◌, Option, Some, None, Result, Err, string_bytes, codes}
+use Rattle.std.specs.Prelude.{◌≡◌, ℕ, ℤ, List, [], length, nat_le, if◌then◌else◌, Option, Some, None, Result, Err, codes}
+use Rattle.graph_model.specs.Graphs.{is_name}
 use Rattle.flowgraph.specs.declared.fault.GraphFault as graph_fault
 use Rattle.flowgraph.specs.Fault as graph_faults
 use Rattle.flowgraph.specs.declared.fault.Side.{Side}
@@ -10,35 +11,33 @@ use Rattle.plant.specs.declared.fault.PlantFault.TheVariants as plant
 use Rattle.plant.specs.Fault as feeds
 use Rattle.kind_keys.specs.Fault as tables
 use Rattle.graph_file.specs.declared.fault.FilePlace.{FilePlace}
-use Rattle.graph_file.specs.declared.fault.EndName.{EndName}
-use Rattle.graph_file.specs.declared.fault.EndName.TheVariants as ends
 use Rattle.graph_file.specs.declared.fault.FileFault.{FileFault}
 use Rattle.graph_file.specs.declared.fault.FileFault.TheVariants as file
 
 -- a refusal: the text is no TOML, a table at a place is wrong, a block or a connection does not go into the graph, where a block of
--- this name is named, a port of the block of this name is negative, or the feed of this number is refused by a number
+-- this name is named, a port of the connection at a place is negative, at the end of the block of this name, or the feed of this number
+-- is refused by a number
 pub data Refusal : Type 0 where
   syntax : Refusal
   at_table : FilePlace → KeyFault → Refusal
   of_graph : FilePlace → graph_fault.GraphFault → List ℕ → Refusal
-  negative_port : List ℕ → Side → ℤ → Refusal
+  negative_port : FilePlace → List ℕ → Side → ℤ → Refusal
   of_feed : ℕ → ℕ → Refusal
 
 -- a block's name has at most 32 bytes; a longer text is none, and is not reported
 abbrev pub short : List ℕ → List ℕ
 short name = if nat_le (length name) 32 then name else []
 
--- the name at an end of a connection, as the file says it
-abbrev pub end_text : EndName → List ℕ
-end_text (ends.Short name) = name.bytes
-end_text (ends.Long name) = string_bytes name
+-- the text at an end of a connection, where it is a block's name; any other may hold anything, and is not reported
+abbrev pub block_name : List ℕ → List ℕ
+block_name text = if is_name text then text else []
 
 -- the refusal that a fault reports; none where it is out of memory
 abbrev pub told : FileFault → Option Refusal
 told file.Syntax = Some syntax
 told (file.Table place fault) = Some (at_table place fault)
 told (file.Graph place fault name) = Some (of_graph place fault name.bytes)
-told (file.NegativePort name side port) = Some (negative_port (end_text name) side port)
+told (file.NegativePort place name side port) = Some (negative_port place name.bytes side port)
 told (file.Feed n fault) = Some (of_feed n (feeds.number_of fault))
 told file.Memory = None
 
@@ -69,7 +68,7 @@ abbrev pub row_of : FileFault → ℕ × List ℕ
 row_of file.Syntax = (40, codes "Syntax")
 row_of (file.Table place fault) = tables.row_of fault
 row_of (file.Graph place fault name) = graph_faults.row_of fault
-row_of (file.NegativePort name side port) = (3, codes "PortRange")
+row_of (file.NegativePort place name side port) = (3, codes "PortRange")
 row_of (file.Feed n fault) = feeds.row_of fault
 row_of file.Memory = (32, codes "Memory")
 

@@ -1,5 +1,5 @@
 -- How the refusals of a graph file print: their number, their name, and what the name alone does not say.
-use Rattle.std.specs.Prelude.{ℕ, ℤ, List, [], ◌++◌, codes}
+use Rattle.std.specs.Prelude.{ℕ, ℤ, List, [], ◌++◌, length, ◌==◌, if◌then◌else◌, codes}
 use Rattle.std.specs.Fmt.{decimal, signed_decimal}
 use Rattle.flowgraph.specs.declared.fault.GraphFault.{GraphFault}
 use Rattle.flowgraph.specs.declared.fault.GraphFault.TheVariants as graph
@@ -14,7 +14,7 @@ use Rattle.graph_file.specs.declared.fault.FilePlace.TheVariants.{Top, Block, Co
 use Rattle.graph_file.specs.declared.fault.FileFault.{FileFault}
 use Rattle.graph_file.specs.declared.fault.FileFault.TheVariants as file
 use Rattle.reporting.specs.Texts.{head}
-use Rattle.graph_file.specs.Refusals.{row_of, end_text}
+use Rattle.graph_file.specs.Refusals.{row_of}
 
 -- the words for places
 abbrev pub place_text : FilePlace → List ℕ
@@ -48,16 +48,20 @@ graph_rest place (graph.OneToOne b) name = codes " " ++ name
 graph_rest place (graph.Gain b) name = codes " " ++ name
 graph_rest place graph.Memory name = []
 
--- of a port of the block of this name that is negative
-abbrev pub negative_rest : List ℕ → Side → ℤ → List ℕ
-negative_rest name side port = codes " " ++ name ++ codes " " ++ side_text side ++ codes " " ++ signed_decimal port
+-- what an end of a connection is called: by the name of its block, or by the place of the table where it has none
+abbrev pub end_text : FilePlace → List ℕ → List ℕ
+end_text place name = if length name == 0 then place_text place else name
+
+-- of a port of that end that is negative
+abbrev pub negative_rest : FilePlace → List ℕ → Side → ℤ → List ℕ
+negative_rest place name side port = codes " " ++ end_text place name ++ codes " " ++ side_text side ++ codes " " ++ signed_decimal port
 
 -- of a fault
 abbrev pub rest_of : FileFault → List ℕ
 rest_of file.Syntax = []
 rest_of (file.Table place fault) = table_rest place fault
 rest_of (file.Graph place fault name) = graph_rest place fault name.bytes
-rest_of (file.NegativePort name side port) = negative_rest (end_text name) side port
+rest_of (file.NegativePort place name side port) = negative_rest place name.bytes side port
 rest_of (file.Feed n fault) = codes " feed " ++ decimal n
 rest_of file.Memory = []
 

@@ -28,11 +28,11 @@ pub fn fault_of(alloc: Global, text: &[u8], depth: Depth) -> Result<Option<FileF
     };
     match depth {
         Depth::Graph => match file.validate(alloc) {
-            Ok(_) => Ok(None),
+            Ok(_graph) => Ok(None),
             Err(fault) => unless_memory(fault),
         },
         Depth::Plant => match file.open(alloc) {
-            Ok(_) => Ok(None),
+            Ok(_plant) => Ok(None),
             Err(fault) => unless_memory(fault),
         },
     }

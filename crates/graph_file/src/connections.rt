@@ -13,12 +13,10 @@ use flowgraph::{BlockId, Graph, GraphFault, Side};
 use kind_keys::Key;
 use kind_keys::table::{count_at, keys_fault, number_at, text_at};
 use kinds::Kind;
-use std::alloc::Global;
 use toml::{Table, Value};
 
 /// Makes the connections of an array of tables between the blocks of another.
 pub(crate) fn add_connections(
-    alloc: Global,
     graph: &mut Graph<Kind>,
     blocks: &[Value],
     values: &[Value],
@@ -28,7 +26,7 @@ pub(crate) fn add_connections(
     ensures memory { IsErrOf result FileFault.Memory → StepsTake (connect_step (items_view blocks.now)) (ConnectTakes (items_view blocks.now)) 0 (drafted graph.old) (items_view values.now) }
 {
     for (number, value) in values.iter().enumerate() {
-        if let Err(fault) = connect_value(alloc, graph, blocks, number, value) {
+        if let Err(fault) = connect_value(graph, blocks, number, value) {
             return Err(fault);
         }
     }
@@ -37,7 +35,6 @@ pub(crate) fn add_connections(
 
 // Makes the connection of a value of the array. What is no table was refused before.
 fn connect_value(
-    alloc: Global,
     graph: &mut Graph<Kind>,
     blocks: &[Value],
     number: usize,
@@ -48,14 +45,13 @@ fn connect_value(
     ensures memory { IsErrOf result FileFault.Memory → TakesIn (ConnectTakes (items_view blocks.now)) number (drafted graph.old) (as_table (view value.now)) }
 {
     match value.as_table() {
-        Some(table) => connect(alloc, graph, blocks, number, table),
+        Some(table) => connect(graph, blocks, number, table),
         None => Ok(()),
     }
 }
 
 // Makes the connection of a table.
 fn connect(
-    alloc: Global,
     graph: &mut Graph<Kind>,
     blocks: &[Value],
     number: usize,
@@ -73,14 +69,14 @@ fn connect(
     let (from, to) = (text_at(table, Key::From), text_at(table, Key::To));
     let out_port = number_at(table, Key::FromPort);
     if out_port < 0 {
-        return Err(port_fault(alloc, from, Side::Out, out_port));
+        return Err(port_fault(place, from, Side::Out, out_port));
     }
     if let Some(fault) = keys_fault(table, &[Key::ToPort]) {
         return Err(table_fault(place, fault));
     }
     let in_port = number_at(table, Key::ToPort);
     if in_port < 0 {
-        return Err(port_fault(alloc, to, Side::In, in_port));
+        return Err(port_fault(place, to, Side::In, in_port));
     }
     let (Some(from), Some(to)) = (block_named(blocks, from), block_named(blocks, to)) else {
         return Err(graph_fault(place, GraphFault::UnknownBlock, ""));

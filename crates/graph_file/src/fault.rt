@@ -1,19 +1,23 @@
 //! Why a graph file is refused.
-ghost use Rattle.std.specs.Prelude.{◌≡◌, ◌↔◌, ◌⊎◌, ◌<◌, length, None, Some};
+ghost use Rattle.std.specs.Prelude.{◌≡◌, ◌↔◌, ◌⊎◌, None, Some};
 ghost use Rattle.graph_file.specs.declared.fault.FileFault.TheVariants.{Memory};
-ghost use Rattle.graph_file.specs.Refusals.{told, told_table, told_feed, of_graph, negative_port, short, end_text, row_of};
+ghost use Rattle.graph_file.specs.Refusals.{told, told_table, told_feed, of_graph, negative_port, short, block_name, row_of};
 ghost use Rattle.reporting.specs.Texts.{refusal_text};
 ghost use Rattle.graph_file.specs.Texts as texts;
 
 use crate::texts::{feed_text, graph_text, negative_text, table_text};
 use arrayvec::ArrayString;
 use flowgraph::{GraphFault, Side};
+use items::is_name;
 use kind_keys::KeyFault;
 use plant::PlantFault;
 use reporting::{Refusal, RefusalText};
-use std::alloc::{AllocError, AllocFailed, Global};
+use std::alloc::{AllocError, AllocFailed};
 use std::fmt;
 use thiserror::Error;
+
+/// How many bytes a block's name has at most.
+const MOST_NAME: usize = 32;
 
 /// A table of a graph file: the document itself, or one of its blocks, connections or feeds, counted from 0.
 #[derive(Clone, Copy, Debug, PartialEq, Eq)]
@@ -26,15 +30,6 @@ pub enum FilePlace {
     Connect(usize),
     /// An entry of `feed`.
     Feed(usize),
-}
-
-/// The text at an end of a connection. One that may be the name of a block is held without memory.
-#[derive(Debug, Drop)]
-pub enum EndName {
-    /// Up to 32 bytes.
-    Short(ArrayString<32>),
-    /// More.
-    Long(String),
 }
 
 /// Why a graph file is refused. Its text is the number of the refusal, its name, and what the name alone does not say.
@@ -53,9 +48,10 @@ pub enum FileFault {
         fault: GraphFault,
         name: ArrayString<32>,
     },
-    /// A port of a connection is negative.
+    /// A port of a connection is negative. `name` is that of the block at this end, and empty where the text there is no block's name.
     NegativePort {
-        name: EndName,
+        place: FilePlace,
+        name: ArrayString<32>,
         side: Side,
         port: i64,
     },
@@ -66,17 +62,6 @@ pub enum FileFault {
     },
     /// Out of memory.
     Memory,
-}
-
-impl EndName {
-    fn text(&self) -> &str
-        ensures { result.now ≡ end_text self.now }
-    {
-        match self {
-            EndName::Short(name) => name.as_str(),
-            EndName::Long(name) => name.as_str(),
-        }
-    }
 }
 
 impl Refusal for FileFault {
@@ -104,12 +89,12 @@ impl FileFault {
             FileFault::Syntax | FileFault::Memory => RefusalText::alone(row),
             FileFault::Table { place, fault } => table_text(*place, *fault),
             FileFault::Graph { place, fault, name } => graph_text(*place, *fault, name.as_str()),
-            FileFault::NegativePort { name, side, port } => negative_text(
-                row,
-                name.text(),
-                *side,
-                *port,
-            ),
+            FileFault::NegativePort {
+                place,
+                name,
+                side,
+                port,
+            } => negative_text(row, *place, name.as_str(), *side, *port),
             FileFault::Feed { feed, fault } => feed_text(*feed, *fault),
         }
     }
@@ -168,22 +153,29 @@ pub(crate) fn graph_fault(place: FilePlace, fault: GraphFault, name: &str) -> Fi
     FileFault::Graph { place, fault, name }
 }
 
-/// The refusal of a negative port of the block of this name.
-pub(crate) fn port_fault(alloc: Global, name: &str, side: Side, port: i64) -> FileFault
-    ensures told { (told result ≡ None) ⊎ (told result ≡ Some (negative_port name.now side port)) }
-    ensures memory { told result ≡ None → 32 < length name.now }
+/// The refusal of a negative port at an end of a connection, which has this text.
+pub(crate) fn port_fault(place: FilePlace, end: &str, side: Side, port: i64) -> FileFault
+    ensures { told result ≡ Some (negative_port place (block_name end.now) side port) }
 {
-    if let Ok(short) = ArrayString::from(name) {
-        let name = EndName::Short(short);
-        return FileFault::NegativePort { name, side, port };
+    let name = block_name(end);
+    FileFault::NegativePort {
+        place,
+        name,
+        side,
+        port,
     }
-    match String::from_str(alloc, name) {
-        Ok(long) => FileFault::NegativePort {
-            name: EndName::Long(long),
-            side,
-            port,
-        },
-        Err(_) => FileFault::Memory,
+}
+
+// The text where it is a block's name, or an empty one.
+fn block_name(text: &str) -> ArrayString<32>
+    ensures { result.bytes ≡ block_name text.now }
+{
+    if !is_name(text.as_bytes(), MOST_NAME) {
+        return ArrayString::new();
+    }
+    match ArrayString::from(text) {
+        Ok(name) => name,
+        Err(_) => ArrayString::new(),
     }
 }
 

@@ -79,7 +79,7 @@ fn graph_of(alloc: Global, table: &Table) -> Result<Graph<Kind>, FileFault>
     if let Err(fault) = add_blocks(alloc, &mut graph, blocks) {
         return Err(fault);
     }
-    match add_connections(alloc, &mut graph, blocks, values_at(table, Key::Connect)) {
+    match add_connections(&mut graph, blocks, values_at(table, Key::Connect)) {
         Ok(()) => Ok(graph),
         Err(fault) => Err(fault),
     }

@@ -24,6 +24,6 @@ mod taking;
 mod texts;
 
 pub use accepted::{Depth, fault_of};
-pub use fault::{EndName, FileFault, FilePlace};
+pub use fault::{FileFault, FilePlace};
 pub use feed::{Feed, FileMark};
 pub use file::{File, read_graph};

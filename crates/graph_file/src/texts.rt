@@ -59,16 +59,23 @@ pub(crate) fn graph_text<'a>(place: FilePlace, fault: GraphFault, name: &'a str)
     }
 }
 
-/// The refusal of a negative port of the block of this name.
+/// The refusal of a negative port of the connection of a table. `name` is that of the block at this end, or empty.
 pub(crate) fn negative_text<'a>(
     row: (u32, &'static str),
+    place: FilePlace,
     name: &'a str,
     side: Side,
     port: i64,
 ) -> RefusalText<'a>
-    ensures { refusal_text result ≡ head (row.entry.0, row.entry.1.now) ++ texts.negative_rest name.now side port }
+    ensures { refusal_text result ≡ head (row.entry.0, row.entry.1.now) ++ texts.negative_rest place name.now side port }
 {
-    RefusalText::headed(row, sided(name, side, TextPart::Signed(port)))
+    let port = TextPart::Signed(port);
+    let rest = if name.is_empty() {
+        placed_sided(place, side, port)
+    } else {
+        sided(name, side, port)
+    };
+    RefusalText::headed(row, rest)
 }
 
 /// The refusal of a feed, counted from 0.
@@ -123,6 +130,19 @@ fn sided<'a>(name: &'a str, side: Side, port: TextPart<'a>) -> [TextPart<'a>; 6]
         SPACE,
         port,
     ]
+}
+
+// A place, the side of a port and the port.
+fn placed_sided<'a>(place: FilePlace, side: Side, port: TextPart<'a>) -> [TextPart<'a>; 6]
+    ensures { flat_map part_text result ≡ codes " " ++ texts.place_text place ++ codes " " ++ side_text side ++ codes " " ++ part_text port.entry }
+{
+    let (table, number) = place_parts(place);
+    // (with the spaces around it, since there are six parts)
+    let side = match side {
+        Side::In => " in ",
+        Side::Out => " out ",
+    };
+    [SPACE, table, number, TextPart::Text(side), port, EMPTY]
 }
 
 // The word for a place, and its number.

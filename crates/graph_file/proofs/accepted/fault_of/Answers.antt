@@ -18,14 +18,14 @@ returns-in-Err-clause-accepted c =
     refused Graph some = is_utf8 c.args.text.now (λ utf8. refused_first (file_of (parse_document c.args.text.now)) (λ (x : Content). validated x.graph) c.in-Err.fault some (c.in-Err.ensures.refused utf8))
     refused Plant some = is_utf8 c.args.text.now (λ utf8. refused_first (file_of (parse_document c.args.text.now)) opened c.in-Err.fault some (c.in-Err.ensures.refused utf8))
 
-pub returns-in-Graph-clause-accepted : goal.returns-in-Graph-clause-accepted
-returns-in-Graph-clause-accepted c =
+pub returns-in-Err-validate-clause-accepted : goal.returns-in-Err-validate-clause-accepted
+returns-in-Err-validate-clause-accepted c =
     subst (λ (d : Depth). IfOk c.unless_memory-in-Err-validate.result (λ found. IsNone found ↔ IsAccepted d c.args.text.now)) (sym c.in-Graph.is)
     (kept c.unless_memory-in-Err-validate.result c.in-Err-validate.fault c.unless_memory-in-Err-validate.ensures
     (λ some. is_utf8 c.args.text.now (λ utf8. refused_behind (file_of (parse_document c.args.text.now)) (λ (x : Content). validated x.graph) (seen c.in-Ok.file) c.in-Err-validate.fault c.in-Ok.ensures.ok.1 some c.in-Err-validate.ensures.refused)))
 
-pub returns-clause-accepted : goal.returns-clause-accepted
-returns-clause-accepted c =
+pub returns-in-Err-open-clause-accepted : goal.returns-in-Err-open-clause-accepted
+returns-in-Err-open-clause-accepted c =
     subst (λ (d : Depth). IfOk c.unless_memory-in-Err-open.result (λ found. IsNone found ↔ IsAccepted d c.args.text.now)) (sym c.in-Plant.is)
     (kept c.unless_memory-in-Err-open.result c.in-Err-open.fault c.unless_memory-in-Err-open.ensures
     (λ some. is_utf8 c.args.text.now (λ utf8. refused_behind (file_of (parse_document c.args.text.now)) opened (seen c.in-Ok.file) c.in-Err-open.fault c.in-Ok.ensures.ok.1 some c.in-Err-open.ensures.refused)))
@@ -37,14 +37,14 @@ returns-in-Err-clause-why c = because (IsWhy c.args.depth c.args.text.now) c.unl
     why Graph = λ utf8. told_first (file_of (parse_document c.args.text.now)) (λ (x : Content). validated x.graph) c.in-Err.fault (c.in-Err.ensures.refused utf8)
     why Plant = λ utf8. told_first (file_of (parse_document c.args.text.now)) opened c.in-Err.fault (c.in-Err.ensures.refused utf8)
 
-pub returns-in-Graph-clause-why : goal.returns-in-Graph-clause-why
-returns-in-Graph-clause-why c =
+pub returns-in-Err-validate-clause-why : goal.returns-in-Err-validate-clause-why
+returns-in-Err-validate-clause-why c =
     subst (λ (d : Depth). IfOk c.unless_memory-in-Err-validate.result (λ found. IfSome found (IsWhy d c.args.text.now))) (sym c.in-Graph.is)
     (because (IsWhy Graph c.args.text.now) c.unless_memory-in-Err-validate.result c.in-Err-validate.fault c.unless_memory-in-Err-validate.ensures
     (λ utf8. told_next (file_of (parse_document c.args.text.now)) (λ (x : Content). validated x.graph) (seen c.in-Ok.file) c.in-Err-validate.fault c.in-Ok.ensures.ok.1 c.in-Err-validate.ensures.refused))
 
-pub returns-clause-why : goal.returns-clause-why
-returns-clause-why c =
+pub returns-in-Err-open-clause-why : goal.returns-in-Err-open-clause-why
+returns-in-Err-open-clause-why c =
     subst (λ (d : Depth). IfOk c.unless_memory-in-Err-open.result (λ found. IfSome found (IsWhy d c.args.text.now))) (sym c.in-Plant.is)
     (because (IsWhy Plant c.args.text.now) c.unless_memory-in-Err-open.result c.in-Err-open.fault c.unless_memory-in-Err-open.ensures
     (λ utf8. told_next (file_of (parse_document c.args.text.now)) opened (seen c.in-Ok.file) c.in-Err-open.fault c.in-Ok.ensures.ok.1 c.in-Err-open.ensures.refused))
