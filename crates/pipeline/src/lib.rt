@@ -8,8 +8,9 @@
 //! let settled = pipeline.run(alloc)?;
 //! ```
 //!
-//! Memory is constant, however long the streams are. What a writer was given is, at any time and also after a fault, a beginning of what the equations of
-//! the blocks give for all that was read, and all of it where the run is done.
+//! Memory is constant, however long the streams are, where each sink that keeps items has an output. What a writer was given is, at any time and also after a
+//! fault, a beginning of what the equations of the blocks give for all that was read, and all of it where the run is done. A run that ended by a fault is not to
+//! be gone on with: what was read or drained last may be lost.
 #![tactic(auto)]
 
 mod delivery;

@@ -25,7 +25,7 @@ use streaming::{
 const TURN: u32 = 65_536;
 
 // So many items of a sink are written before the plant came to rest.
-const PIECE: usize = 65_536;
+const WORTH_A_WRITE: usize = 65_536;
 
 /// A plant that streams, with a reader for each of some sources and writers for some sinks. A contract sees the plant and what each block is joined to.
 #[derive(Drop)]
@@ -43,7 +43,8 @@ impl<B: Block, R: Read, W: Write> Pipeline<B, R, W> {
     /// Reads, works and writes until each block is done, or none can act and no reader gives more. Then all is written that the sinks have taken.
     ///
     /// Before each read that may wait, all that came of what was read before is written, and the writers are flushed. A reader is asked only where its
-    /// source has given all that it was fed: first one whose items a sink waits for, else any. Where it stops by a fault, what was written is a beginning.
+    /// source has given all that it was fed: first one whose items a sink waits for, else any. Where it stops by a fault, what was written is a beginning, and
+    /// the pipeline is not to be run again: what was read or drained last may be lost.
     pub fn run(&mut self, alloc: Global) -> Result<Settled, PipelineFault>
         ensures goes { OnOk result (GoesOn R.remaining W.contents (net_of B.meaning self.old.plant.plant.graph) self.old.plant self.new.plant self.old.ends.items self.new.ends.items) }
         ensures begins { OnErr result (Begins R.remaining W.contents (net_of B.meaning self.old.plant.plant.graph) self.old.plant self.new.plant self.old.ends.items self.new.ends.items) }
@@ -56,7 +57,8 @@ impl<B: Block, R: Read, W: Write> Pipeline<B, R, W> {
         self.run_with(alloc, &mut NoHelpers, &mut Unwatched)
     }
 
-    /// As `run`, with helpers that do work of its blocks where they are called. It shows to `watch` after each turn how far it is.
+    /// As `run`, with helpers that do work of its blocks where they are called. It shows to `watch` after each turn how far it is; `watch.end` is the
+    /// caller's to call.
     pub fn run_with<H: Helpers<Job<B>, Worked<B>>, V: Watch>(
         &mut self,
         alloc: Global,
@@ -98,7 +100,7 @@ impl<B: Block, R: Read, W: Write> Pipeline<B, R, W> {
     {
         let has_moved = self.round(alloc, helpers)?;
         if has_moved {
-            self.write(PIECE)?;
+            self.write(WORTH_A_WRITE)?;
             return Ok(None);
         }
         self.write(0)?;
