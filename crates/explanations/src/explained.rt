@@ -60,7 +60,12 @@ fn finding_of(alloc: Global, text: &[u8], fault: &FileFault) -> Result<Finding, 
             *fault,
             name.as_str(),
         ),
-        FileFault::NegativePort { side, port, .. } => negative_finding(&document, *side, *port),
+        FileFault::NegativePort {
+            place,
+            side,
+            port,
+            ..
+        } => negative_finding(&document, *place, *side, *port),
         FileFault::Feed { feed, fault } => feed_finding(&document, *feed, *fault),
     }
 }

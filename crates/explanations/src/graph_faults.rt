@@ -9,7 +9,7 @@ use crate::ports::{joined_ports, port_of, ports_text, sides_of, used_ports};
 use flowgraph::{BlockOption, GraphFault, Limit, Side};
 use graph_file::FilePlace;
 use kind_keys::Key;
-use kind_keys::table::{number_at, small_at, text_at};
+use kind_keys::table::{small_at, text_at};
 use std::alloc::AllocError;
 
 /// Where a graph is wrong, and why. `name` is that of the block that the refusal names.
@@ -32,22 +32,15 @@ pub(crate) fn graph_finding(
     }
 }
 
-/// Where a negative port stands, the first of its side.
+/// Where a negative port stands.
 pub(crate) fn negative_finding(
     document: &Document<'_>,
+    place: FilePlace,
     side: Side,
     port: i64,
 ) -> Result<Finding, AllocError> {
-    let key = port_key(side);
     let message = format!(in document.alloc; "there is no port {port}: ports are counted from 0")?;
-    for (number, value) in document.connections().iter().enumerate() {
-        if let Some(table) = value.as_table() {
-            if number_at(table, key) == port {
-                return Ok(document.at_value(FilePlace::Connect(number), key, message));
-            }
-        }
-    }
-    Ok(document.at_table(FilePlace::Top, message))
+    Ok(document.at_value(place, port_key(side), message))
 }
 
 fn port_key(side: Side) -> Key {
