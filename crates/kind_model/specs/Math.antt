@@ -81,7 +81,7 @@ difference [] = pos 0
 difference (z ∷ []) = pos 0 -ℤ z
 difference (z ∷ y ∷ zs) = z -ℤ total (y ∷ zs)
 
--- the difference of the inputs' items, wrapped (GNU Radio manual; wrapping is own)
+-- the difference of the inputs' items, wrapped (GNU Radio manual for two inputs and more; the negative of one input, and wrapping, are own)
 abbrev pub sub : ItemType → Meaning
 sub t = record (at_rate (any_ports t) (ports 1 t) 1 1) { out = λ ts xs p n. wrap t (difference (items_at xs n)) }
 
