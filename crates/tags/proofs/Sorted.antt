@@ -187,8 +187,3 @@ row_and_more gone kept xs row more same le some =
     let count : kept ≡ length (drop gone row) = some ∙ sym (length-drop gone row) in
     let behind : take (length xs - gone) (drop gone xs) ≡ drop gone row ++ more = subst (λ us. take (length us - gone) (drop gone us) ≡ drop gone row ++ more) (sym same) (all_behind gone row more le) in
     rw (behind, count, front (drop gone row) more, back (drop gone row) more) refl
-
-pub one_tag : (x : items.Tag) (xs : List items.Tag) → length xs ≡ 1 → x ≡ slice_index_or xs 0 x → map tag_of xs ≡ tag_of x ∷ []
-one_tag x [] e h = absurd (omega (arith, e))
-one_tag x (y ∷ []) e h = ap (λ t. tag_of t ∷ []) (sym h)
-one_tag x (y ∷ z ∷ zs) e h = absurd (omega (arith, e))

@@ -10,6 +10,9 @@ use items::Tag;
 use std::alloc::{AllocError, Global};
 use std::marker::Model;
 
+// How many tags at most are put in one after the other: moving the tags behind each of them costs less than sorting these.
+const FEW: usize = 16;
+
 /// The tags of a stream, ordered by offset, key, value and source. Duplicates are kept. A contract sees the list, and how many
 /// more tags fit before memory is needed.
 #[derive(Debug, Drop)]
@@ -102,21 +105,33 @@ impl Tags {
         }
     }
 
-    /// Adds tags at their places, where there is room. It takes no memory. Several are sorted at once, together with the tags
-    /// from the least of them on.
+    /// Adds tags at their places, where there is room. It takes no memory. A few are put in one after the other; more are sorted at
+    /// once, together with the tags from the least of them on.
     pub fn insert_all(&mut self, more: &[Tag])
         requires { length more.now ≤ self.old.spare }
         ensures tags { self.new.tags ≡ insert_tags (map tag_of more.now) self.old.tags }
         ensures spare { self.new.spare + length more.now ≡ self.old.spare }
         ensures room { self.new.spare + length self.new.tags ≡ self.old.spare + length self.old.tags }
     {
-        if let [tag] = more {
-            self.insert_reserved(*tag);
+        if more.len() <= FEW {
+            self.insert_each(more);
             return;
         }
         let kept = self.row.len() - self.gone;
         append(&mut self.row, more);
         sort_in(&mut self.row[self.gone..], kept);
+    }
+
+    // Adds tags one after the other, where there is room.
+    fn insert_each(&mut self, more: &[Tag])
+        requires { length more.now ≤ self.old.spare }
+        ensures tags { self.new.tags ≡ insert_tags (map tag_of more.now) self.old.tags }
+        ensures spare { self.new.spare + length more.now ≡ self.old.spare }
+        ensures room { self.new.spare + length self.new.tags ≡ self.old.spare + length self.old.tags }
+    {
+        for tag in more {
+            self.insert_reserved(*tag);
+        }
     }
 
     /// The tags on items `from` to below `to`; none where `to` is not above `from`. Both places are searched by halving.

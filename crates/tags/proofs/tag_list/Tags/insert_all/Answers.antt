@@ -1,25 +1,12 @@
 use Rattle.std.proofs.Common.{rules, ◌≡◌, ◌+◌, ◌-◌, ◌≤◌, List, ◌++◌, ◌∙◌, ap, sym, subst, arith, length, map, take, drop, vec_len}
-use Rattle.std.proofs.lemmas.List.{length-map, length-append}
+use Rattle.std.proofs.lemmas.List.{length-append}
 use borrow.Rule.Slice.PartMut.{put_mid}
 use Rattle.stream_model.specs.Tags.{IsOrdered}
 use Rattle.items.specs.declared.marks.Tag.{Tag}
 use Rattle.items.specs.Tags.{tag_of}
 use Rattle.tags.specs.TagList.{insert_tags, kept_of}
-use Rattle.tags.proofs.Inserted.{length-insert_tags}
-use Rattle.tags.proofs.Sorted.{length-parted, parted_row, kept_parted, row_and_more, ordered_insert_tags, one_tag}
+use Rattle.tags.proofs.Sorted.{length-parted, parted_row, kept_parted, row_and_more, ordered_insert_tags}
 use Rattle.tags.proofs.tag_list.Tags.insert_all.Goals as goal
-
-one : (c : goal.After-insert_reserved) → c.insert_reserved.new.self.tags ≡ insert_tags (map tag_of c.args.more.now) c.args.self.now.tags
-one c =
-    c.insert_reserved.ensures.tags
-    ∙ ap (λ ts. insert_tags ts c.args.self.now.tags) (sym (one_tag c.tag-item.result c.args.more.now (omega (arith, c.in-len1.len_at_least, c.in-len1.len_below)) c.tag-item.is))
-
-pub returns-in-len1-clause-tags : goal.returns-in-len1-clause-tags
-returns-in-len1-clause-tags c = one c
-
-pub returns-in-len1-clause-room : goal.returns-in-len1-clause-room
-returns-in-len1-clause-room c =
-    omega (arith, ap length (one c), length-insert_tags (map tag_of c.args.more.now) c.args.self.now.tags, length-map c.args.more.now tag_of, c.insert_reserved.ensures.spare, c.in-len1.len_at_least, c.in-len1.len_below)
 
 -- the row as it is then
 abbrev row : (c : goal.After-self-1) → List Tag
