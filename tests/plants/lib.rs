@@ -1,9 +1,13 @@
 //! Tests of plants through their public calls: each call once, jobs that are copied and brought back, what blocks wait for and what
-//! buffers store, long runs in any order, balanced graphs that never stall, plants that stream, alone and with helpers, and pipelines.
+//! buffers store, long runs in any order, balanced graphs that never stall, plants that stream, alone and with helpers, for long, and pipelines; and calls that have
+//! memory enough.
 
+mod ample;
 mod balanced;
 mod calls;
 mod drawn;
+mod endless;
+mod faulty;
 mod handed;
 mod helped;
 mod marked;

@@ -294,7 +294,11 @@ fn what_cannot_be_joined_is_refused(rt: HostRuntime) -> Result<(), Fail> {
     }
     for block in [BlockId(8), SOURCE, SINKS[0]] {
         let refused = run.mark_from(alloc, block, reader());
-        assert!(rt; matches!(refused, Err(PipelineFault::Joined(at)) if at == block), "no reader of items");
+        assert!(rt; matches!(&refused, Err(PipelineFault::NotJoined(at)) if *at == block), "no reader of items");
+        if let Err(fault) = refused {
+            assert!(rt; fault.number() == 35 && fault.name() == "NotJoined", "35");
+            assert!(rt; format!(in alloc; "{fault}")?.as_str() == "the block is joined to no reader of items", "in words");
+        }
     }
     assert!(rt; run.read_from(alloc, SOURCE, little, reader()).is_ok(), "joined");
     assert!(rt; run.mark_from(alloc, SOURCE, reader()).is_ok(), "marks of its items");

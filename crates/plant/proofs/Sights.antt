@@ -24,7 +24,7 @@ use Rattle.plant_laws.specs.Stored.{tape_at, timeline_at, settings_from, buffer_
 use Rattle.plant_laws.specs.Claims.{MayFire, Serves, held_over, input_buffer, input_reader}
 use Rattle.plant_laws.proofs.Windows.{length-windows}
 use Rattle.plant_laws.proofs.Serving.{flights_may_fire, firings_are_served, is_end, enough, job_window}
-use Rattle.std.specs.Arc.{arc_value}
+use Rattle.stores.specs.SourceTapes.{tape_in}
 use Rattle.stores.specs.declared.intake.Intake.{Intake}
 use Rattle.stores.specs.declared.stores.Stores.{Stores}
 use Rattle.stores.specs.Stores.{rows_in, stored_in, state_of, tape_of, buffer_of}
@@ -229,16 +229,16 @@ module _ {names : List (List ℕ)} {net : Network} {s : Stores} {ps : List Progr
 
     -- the window of a source
     module _ (source : is_source (role_at net b) ≡ true) where
-      pub tape_long : first + claimed ≤ length (arc_value h.tape).items
+      pub tape_long : first + claimed ≤ length (tape_in h.tape).items
       tape_long =
           let long = (lends.tape source).long in
           let same = ap (λ (t : plain.Tape). length t.items) tape_here in
           rw (r.first_is, r.claimed_is) (omega arith)
 
-      pub tape_type : (arc_value h.tape).item ≡ (node_at net b).meaning.inputs.item
+      pub tape_type : (tape_in h.tape).item ≡ (node_at net b).meaning.inputs.item
       tape_type = sym (ap (λ (t : plain.Tape). t.item) tape_here) ∙ (lends.tape source).type
 
-      pub cut_is : slice_range (arc_value h.tape).items first (first + claimed) ∷ [] ≡ (in_flight net (state_of s.handed.items ps) b).windows
+      pub cut_is : slice_range (tape_in h.tape).items first (first + claimed) ∷ [] ≡ (in_flight net (state_of s.handed.items ps) b).windows
       cut_is =
           rw (r.first_is, r.claimed_is)
           (ap (λ (t : plain.Tape). slice_range t.items (progress_at ps b).firings ((progress_at ps b).firings + (progress_at ps b).claimed) ∷ []) (sym tape_here)

@@ -16,6 +16,7 @@ use Rattle.stores.specs.declared.intake.Intake.{Intake}
 use Rattle.stores.specs.declared.stores.Stores.{Stores}
 use Rattle.stores.specs.Stores.{IsWhole, rows_in, stored_in, stored_of, tape_of}
 use Rattle.stores.specs.Delivery.{delivered}
+use Rattle.stores.specs.SourceTapes.{is_own}
 use Rattle.plant.specs.Plant.{Spans, ForgetsNone, KeepsAll, spans_of}
 
 -- no tape of a plant grows beyond the usual
@@ -38,19 +39,21 @@ pub sink_whole : (stored : Stored) → ForgetsNone (firsts_of stored) → (b : �
 sink_whole stored none b = zero_at (λ (s : Collected). s.from) stored.sinks nothing_collected refl none.sinks b
 
 -- what hands a block something, and forgets nothing of its tape and of its settings
-pub spans_handed : (s : Stores) (b : ℕ) (h h' : Intake) → h ≡ get_or s.handed.items b h → b < length s.handed.items → (tape_of h').from ≡ (tape_of h).from → settings_from h'.timeline ≡ settings_from h.timeline → h'.longest ≡ h.longest →
-    ◌≡◌ {A = Spans} (record { firsts = firsts_of (stored_of (set s.handed.items b h') s.words.items (rows_in s) s.sinks.items); longest = map (λ (x : Intake). x.longest) (set s.handed.items b h') }) (spans_of s)
-spans_handed s b h h' h_is in' from unread longest =
+pub spans_handed : (s : Stores) (b : ℕ) (h h' : Intake) → h ≡ get_or s.handed.items b h → b < length s.handed.items → (tape_of h').from ≡ (tape_of h).from → settings_from h'.timeline ≡ settings_from h.timeline → h'.longest ≡ h.longest → is_own h'.tape ≡ is_own h.tape →
+    ◌≡◌ {A = Spans} (record { firsts = firsts_of (stored_of (set s.handed.items b h') s.words.items (rows_in s) s.sinks.items); longest = map (λ (x : Intake). x.longest) (set s.handed.items b h'); own = map (λ (x : Intake). is_own x.tape) (set s.handed.items b h') }) (spans_of s)
+spans_handed s b h h' h_is in' from unread longest alone =
     let here : tape_of h ≡ get_or (map tape_of s.handed.items) b no_tape = ap tape_of h_is ∙ sym (get_or-map tape_of s.handed.items b h no_tape in') in
     let tapes : map (λ (t : Tape). t.from) (map tape_of (set s.handed.items b h')) ≡ map (λ (t : Tape). t.from) (map tape_of s.handed.items) =
     ap (map (λ (t : Tape). t.from)) (map-set tape_of s.handed.items b h') ∙ map-set_same (λ (t : Tape). t.from) (map tape_of s.handed.items) b (tape_of h') no_tape (from ∙ ap (λ (t : Tape). t.from) here) in
     let limits : map (λ (x : Intake). x.longest) (set s.handed.items b h') ≡ map (λ (x : Intake). x.longest) s.handed.items =
     map-set_same (λ (x : Intake). x.longest) s.handed.items b h' h (longest ∙ ap (λ (x : Intake). x.longest) h_is) in
+    let owners : map (λ (x : Intake). is_own x.tape) (set s.handed.items b h') ≡ map (λ (x : Intake). is_own x.tape) s.handed.items =
+    map-set_same (λ (x : Intake). is_own x.tape) s.handed.items b h' h (alone ∙ ap (λ (x : Intake). is_own x.tape) h_is) in
     let timelines : map settings_from (map (λ (x : Intake). x.timeline) (set s.handed.items b h')) ≡ map settings_from (map (λ (x : Intake). x.timeline) s.handed.items) =
     ap (map settings_from) (map-set (λ (x : Intake). x.timeline) s.handed.items b h')
     ∙ map-set_same settings_from (map (λ (x : Intake). x.timeline) s.handed.items) b h'.timeline None
     (unread ∙ ap settings_from (ap (λ (x : Intake). x.timeline) h_is ∙ sym (get_or-map (λ (x : Intake). x.timeline) s.handed.items b h None in'))) in
-    rw (tapes, limits, timelines) refl
+    rw (tapes, limits, owners, timelines) refl
 
 -- a commit forgets nothing
 collected_keeps : (stored : Stored) (b : ℕ) (xs : List ℤ) (ts : List Tag) (t : Bool) → firsts_of (record stored { sinks = if t then set stored.sinks b (collected (sink_at stored b) xs ts) else stored.sinks }) ≡ firsts_of stored
@@ -62,7 +65,8 @@ pub spans_delivered : (net : Network) (s s' : Stores) (b k next : ℕ) (windows 
 spans_delivered net s s' b k next windows outputs word stored handed =
     let firsts : firsts_of (stored_in s') ≡ firsts_of (stored_in s) = ap firsts_of stored ∙ collected_keeps (stored_in s) b (input windows 0) (tags_within k next (get_or (tags_waiting net (stored_in s) b) 0 [])) (is_keeper (role_at net b)) in
     let limits : map (λ (x : Intake). x.longest) s'.handed.items ≡ map (λ (x : Intake). x.longest) s.handed.items = ap (λ (v : Vec Intake Global). map (λ (x : Intake). x.longest) v.items) handed in
-    (λ i. record { firsts = firsts i; longest = limits i })
+    let owners : map (λ (x : Intake). is_own x.tape) s'.handed.items ≡ map (λ (x : Intake). is_own x.tape) s.handed.items = ap (λ (v : Vec Intake Global). map (λ (x : Intake). is_own x.tape) v.items) handed in
+    (λ i. record { firsts = firsts i; longest = limits i; own = owners i })
 
 -- nothing of what blocks were handed is forgotten
 pub handed_whole : (s : Stores) → ForgetsNone (firsts_of (stored_in s)) → (hs : List Intake) → hs ≡ s.handed.items → All IsWhole hs

@@ -1,5 +1,5 @@
 -- What a contract sees of a plant, and what its parts keep.
-use Rattle.std.specs.Prelude.{ℕ, ◌≡◌, ◌<◌, ◌≤◌, ◌+◌, List, length, map, All, true, slice_index_or}
+use Rattle.std.specs.Prelude.{ℕ, ◌≡◌, ◌<◌, ◌≤◌, ◌+◌, Bool, List, length, map, All, true, slice_index_or}
 use Rattle.std.specs.Arc.{arc_value}
 use Rattle.stream_model.specs.Meaning.{Meaning}
 use Rattle.stream_model.specs.Network.{Network, Progress, State, longest_tape, node_at, progress_at}
@@ -20,6 +20,7 @@ use Rattle.plant_laws.specs.Calls.{IsWorked}
 use Rattle.stores.specs.declared.intake.Intake.{Intake}
 use Rattle.stores.specs.declared.stores.Stores.{Stores}
 use Rattle.stores.specs.Stores.{state_of, stored_in}
+use Rattle.stores.specs.SourceTapes.{is_own}
 use Rattle.stores.specs.Lending.{HasRoom, IsLent}
 use Rattle.plant.specs.declared.parts.Parts.{Parts}
 
@@ -49,13 +50,15 @@ pub record KeepsBut (net : Network) (caps : Capacities) (s : Stores) (progress :
 abbrev pub plant_of : {B P : Type 0} → Parts B P → PlantState B
 plant_of p = record { graph = arc_value p.graph; capacities = sizes_of p.capacities; state = state_of p.stores.handed.items p.firings }
 
--- the first items that are kept, and those at which settings may still be read, and for each block the most items that its tape may come to hold
+-- the first items that are kept, and those at which settings may still be read, and for each block the most items that its tape may come to hold, and whether
+-- that is shared with nobody
 pub record Spans : Type 0 where
   pub firsts : Firsts
   pub longest : List ℕ
+  pub own : List Bool
 
 abbrev pub spans_of : Stores → Spans
-spans_of s = record { firsts = firsts_of (stored_in s); longest = map (λ (h : Intake). h.longest) s.handed.items }
+spans_of s = record { firsts = firsts_of (stored_in s); longest = map (λ (h : Intake). h.longest) s.handed.items; own = map (λ (h : Intake). is_own h.tape) s.handed.items }
 
 abbrev pub spans_in : {B P : Type 0} → Parts B P → Spans
 spans_in p = spans_of p.stores

@@ -24,7 +24,7 @@ pub enum PlantFault {
     ItemRange,
     /// A mark lies outside the items that it was fed with.
     TagPlace,
-    /// The tape would be longer than 2^32 items.
+    /// The tape would be longer than the source takes: 2^32 items, and of a plant that streams 2^61, divided by the greatest gain of the graph.
     TapeFull,
     /// The setting would begin before the first item that is still open, which is the floor.
     Late { floor: u64 },

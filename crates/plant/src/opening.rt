@@ -26,22 +26,24 @@ struct Fresh {
 }
 
 impl<B: Block> Parts<B> {
-    /// The parts of a graph of which nothing is fed and nothing fired, where a tape may come to hold `longest` items. If it is out of memory it
-    /// returns the graph.
+    /// The parts of a graph of which nothing is fed and nothing fired, where a tape may come to hold `longest` items, and is `alone` the plant's or shared with
+    /// copies. If it is out of memory it returns the graph.
     pub fn open(
         alloc: Global,
         graph: Valid<B>,
         longest: u64,
+        alone: bool,
     ) -> Result<Parts<B>, (Valid<B>, AllocError)>
         requires { IsWithinGain (net_of B.meaning graph) longest }
         ensures right { IfOk result (IsRight B.meaning) }
         ensures whole { IfOk result (λ parts. ForgetsNone (spans_in parts).firsts) }
         ensures longest { IfOk result (λ parts. All (λ n. n ≡ longest) (spans_in parts).longest) }
+        ensures alone { IfOk result (λ parts. All (λ o. o ≡ alone) (spans_in parts).own) }
         ensures opens { IfOk result (λ parts. plant_of parts ≡ opening_plant_within longest B.meaning graph) }
         ensures back { IfErr result (λ refusal. refusal.0 ≡ graph) }
     {
-        match prepare(alloc, &graph, longest) {
-            Ok(fresh) => shared(alloc, graph, fresh, longest),
+        match prepare(alloc, &graph, longest, alone) {
+            Ok(fresh) => shared(alloc, graph, fresh, longest, alone),
             Err(refusal) => Err((graph, refusal)),
         }
     }
@@ -53,12 +55,14 @@ fn shared<B: Block>(
     graph: Valid<B>,
     fresh: Fresh,
     longest: u64,
+    alone: bool,
 ) -> Result<Parts<B>, (Valid<B>, AllocError)>
-    requires fresh { IsFresh (net_of B.meaning graph) longest fresh }
+    requires fresh { IsFresh (net_of B.meaning graph) longest alone fresh }
     requires gain { IsWithinGain (net_of B.meaning graph) longest }
     ensures right { IfOk result (IsRight B.meaning) }
     ensures whole { IfOk result (λ parts. ForgetsNone (spans_in parts).firsts) }
     ensures longest { IfOk result (λ parts. All (λ n. n ≡ longest) (spans_in parts).longest) }
+    ensures alone { IfOk result (λ parts. All (λ o. o ≡ alone) (spans_in parts).own) }
     ensures opens { IfOk result (λ parts. plant_of parts ≡ opening_plant_within longest B.meaning graph) }
     ensures back { IfErr result (λ refusal. refusal.0 ≡ graph) }
 {
@@ -77,14 +81,19 @@ fn shared<B: Block>(
 }
 
 // All that a plant of the graph has beside it.
-fn prepare<B: Block>(alloc: Global, graph: &Valid<B>, longest: u64) -> Result<Fresh, AllocError>
-    ensures { IfOk result (IsFresh (net_of B.meaning graph.now) longest) }
+fn prepare<B: Block>(
+    alloc: Global,
+    graph: &Valid<B>,
+    longest: u64,
+    alone: bool,
+) -> Result<Fresh, AllocError>
+    ensures { IfOk result (IsFresh (net_of B.meaning graph.now) longest alone) }
 {
     graph.recall();
     let rates = balance(alloc, graph)?;
     let capacities = capacities(alloc, graph, &rates)?;
     let blocks = graph.len();
-    let stores = Stores::open(alloc, graph, capacities.rows(), longest)?;
+    let stores = Stores::open(alloc, graph, capacities.rows(), longest, alone)?;
     let firings = Firings::new(alloc, blocks)?;
     let lent = places(alloc, blocks)?;
     Ok(Fresh {

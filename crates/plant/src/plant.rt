@@ -87,7 +87,7 @@ impl<B: Block> Plant<B> {
         ensures back { IfErr result (λ refusal. refusal.0 ≡ graph) }
     {
         graph.recall();
-        match Parts::open(alloc, graph, LONGEST_TAPE) {
+        match Parts::open(alloc, graph, LONGEST_TAPE, false) {
             Ok(parts) => Ok(Plant { parts }),
             Err(refusal) => Err(refusal),
         }

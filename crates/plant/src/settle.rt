@@ -8,7 +8,7 @@ ghost use Rattle.machine_laws.specs.Steps.{moves_on};
 ghost use Rattle.flowgraph.specs.Flowgraph.{net_of};
 ghost use Rattle.plant.specs.Plant.{IsRight, KeepsAll, plant_of, spans_in};
 ghost use Rattle.plant.specs.Settling.{StepsLead, HasMoved, HasSettled, HoldsSettled};
-ghost use Rattle.plant.specs.Headway.{fed_to, given_by_source, headway_of};
+ghost use Rattle.plant.specs.Headway.{fed_to, given_by_source, headway_of, headway_shown};
 
 use crate::answers::{Headway, Settled, Step};
 use crate::parts::Parts;
@@ -148,6 +148,7 @@ impl<B: Block> Parts<B> {
     pub fn headway(&self) -> Headway
         requires { IsRight B.meaning self.now }
         ensures value { let plant = plant_of self.now in KeepsAll (spans_in self.now) → result ≡ headway_of (net_of B.meaning plant.graph) plant.state }
+        ensures shown { let plant = plant_of self.now in result ≡ headway_shown (net_of B.meaning plant.graph) plant.state }
         ensures within { result.given ≤ result.fed }
     {
         let mut headway = Headway { given: 0, fed: 0 };

@@ -10,12 +10,13 @@ use Rattle.settings.specs.declared.value.Value.{Value}
 use Rattle.settings.specs.Values.{placed}
 use Rattle.settings.specs.Timelines.{kept_from}
 
--- the type of the items, all items, the first that is kept, and how many more fit before memory is needed
+-- the type of the items, all items, the first that is kept, how many more fit before memory is needed, and how many fit into memory at all
 pub record ItemsState : Type 0 where
   pub item : ItemType
   pub items : List ℤ
   pub from : ℕ
   pub spare : ℕ
+  pub capacity : ℕ
 
 -- all tags in order, the first item whose tags are kept, and how many more tags fit
 pub record TagsState : Type 0 where

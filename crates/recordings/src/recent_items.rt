@@ -1,6 +1,6 @@
 //! Items of which only the last may be in memory.
 
-ghost use Rattle.std.specs.Prelude.{◌≡◌, ◌+◌, ◌-◌, ◌*◌, ◌<◌, ◌≤◌, ◌^◌, [], ◌++◌, length, take, drop, slice_range, IfOk, OnOk, IsOk, vec_len, vec_capacity};
+ghost use Rattle.std.specs.Prelude.{◌≡◌, ◌+◌, ◌-◌, ◌*◌, ◌<◌, ◌≤◌, ◌^◌, [], ◌++◌, length, take, drop, slice_range, IfOk, OnOk, IsOk, max, vec_len, vec_capacity};
 ghost use Rattle.items.specs.Items.{type_of, numbers_of, spare_of};
 
 use items::{ItemFault, ItemType, Items};
@@ -51,6 +51,7 @@ impl Model for RecentItems {
       items = forgotten_items r.forgotten.pieces ++ numbers_of r.items;
       from = r.before + r.gone;
       spare = min (spare_of r.items) (2 ^ 62 - (r.before + length (numbers_of r.items)));
+      capacity = spare_of r.items + length (numbers_of r.items);
     } };
 
     ghost invariant = { λ r. AreRecent r.forgotten.pieces r.before r.gone (numbers_of r.items) };
@@ -94,26 +95,29 @@ impl RecentItems {
         self.before + self.gone as u64
     }
 
-    /// How many items are in memory: at most twice as many as are kept.
+    /// How many items are in memory: all that are kept, and at most twice as many.
     pub fn in_memory(&self) -> usize
-        ensures { result ≤ 2 * (length self.now.items - self.now.from) }
+        ensures least { length self.now.items - self.now.from ≤ result }
+        ensures most { result ≤ 2 * (length self.now.items - self.now.from) }
     {
         self.items.len()
     }
 
-    /// Makes room for `n` more items. It fails only where the allocator refuses, or where there would be more than 2^62.
+    /// Makes room for `n` more items. Where they do not fit, memory grows by as many items as it has, or by `n` if that is more. It fails only where the
+    /// allocator refuses, or where there would be more than 2^62 items.
     pub fn reserve(&mut self, n: usize) -> Result<(), AllocError>
         ensures item { self.new.item ≡ self.old.item }
         ensures items { self.new.items ≡ self.old.items }
         ensures from { self.new.from ≡ self.old.from }
         ensures ok { OnOk result (n ≤ self.new.spare) }
         ensures spare { self.old.spare ≤ self.new.spare }
+        ensures capacity { self.new.capacity ≤ max self.old.capacity (4 * (length self.old.items - self.old.from) + n) }
         ensures succeeds { n ≤ self.old.spare → IsOk result }
     {
         if MOST - self.before - (self.items.len() as u64) < n as u64 {
             return Err(AllocError);
         }
-        self.items.reserve(n)
+        make_room(&mut self.items, n)
     }
 
     /// Appends items. It takes no memory.
@@ -192,6 +196,37 @@ impl RecentItems {
             gone: self.gone,
         })
     }
+}
+
+// Makes room for `n` more items.
+fn make_room(items: &mut Items, n: usize) -> Result<(), AllocError>
+    ensures item { type_of items.new ≡ type_of items.old }
+    ensures items { numbers_of items.new ≡ numbers_of items.old }
+    ensures ok { OnOk result (n ≤ spare_of items.new) }
+    ensures spare { spare_of items.old ≤ spare_of items.new }
+    ensures most { spare_of items.new ≤ max (spare_of items.old) (length (numbers_of items.old) + n) }
+    ensures succeeds { n ≤ spare_of items.old → IsOk result }
+{
+    match items {
+        Items::Byte(numbers) => grow(numbers, n),
+        Items::Short(numbers) => grow(numbers, n),
+        Items::Int(numbers) => grow(numbers, n),
+    }
+}
+
+// Makes room for `n` more numbers. `Vec::reserve` does not say how much it takes at most.
+fn grow<T>(numbers: &mut Vec<T>, n: usize) -> Result<(), AllocError>
+    ensures items { numbers.new.items ≡ numbers.old.items }
+    ensures len { vec_len numbers.new ≡ vec_len numbers.old }
+    ensures ok { OnOk result (vec_len numbers.new + n ≤ vec_capacity numbers.new) }
+    ensures spare { vec_capacity numbers.old ≤ vec_capacity numbers.new }
+    ensures most { vec_capacity numbers.new ≤ max (vec_capacity numbers.old) (2 * vec_len numbers.old + n) }
+    ensures succeeds { vec_len numbers.old + n ≤ vec_capacity numbers.old → IsOk result }
+{
+    if n <= numbers.capacity() - numbers.len() {
+        return Ok(());
+    }
+    numbers.reserve_exact(n.max(numbers.len()))
 }
 
 // Takes the first items away, which are at least as many as those behind them.

@@ -1,6 +1,6 @@
 //! A stream of which only the end may be in memory: its items, and its tags.
 
-ghost use Rattle.std.specs.Prelude.{◌≡◌, ◌+◌, ◌-◌, ◌*◌, ◌≤◌, ◌^◌, [], ◌++◌, length, map, drop, slice_range, IfOk, OnOk, IsOk, ◌==◌};
+ghost use Rattle.std.specs.Prelude.{◌≡◌, ◌+◌, ◌-◌, ◌*◌, ◌≤◌, ◌^◌, [], ◌++◌, length, map, drop, slice_range, IfOk, OnOk, IsOk, max, ◌==◌};
 ghost use Rattle.stream_model.specs.Tags.{tags_within};
 ghost use Rattle.items.specs.Items as typed;
 ghost use Rattle.items.specs.Items.{numbers_of};
@@ -34,6 +34,7 @@ impl Model for Recording {
       from = r.items.from;
       spare_items = r.items.spare;
       spare_tags = r.tags.spare;
+      capacity = r.items.capacity;
     } };
 
     ghost invariant = { λ r. r.tags.from ≡ r.items.from };
@@ -83,9 +84,10 @@ impl Recording {
         self.items.from()
     }
 
-    /// How many items are in memory: at most twice as many as are kept.
+    /// How many items are in memory: all that are kept, and at most twice as many.
     pub fn in_memory(&self) -> usize
-        ensures { result ≤ 2 * (length self.now.items - self.now.from) }
+        ensures least { length self.now.items - self.now.from ≤ result }
+        ensures most { result ≤ 2 * (length self.now.items - self.now.from) }
     {
         self.items.in_memory()
     }
@@ -105,6 +107,7 @@ impl Recording {
         ensures from { self.new.from ≡ self.old.from }
         ensures ok { OnOk result ((items ≤ self.new.spare_items) × (tags ≤ self.new.spare_tags)) }
         ensures spare { (self.old.spare_items ≤ self.new.spare_items) × (self.old.spare_tags ≤ self.new.spare_tags) }
+        ensures capacity { self.new.capacity ≤ max self.old.capacity (4 * (length self.old.items - self.old.from) + items) }
         ensures succeeds { items ≤ self.old.spare_items → tags ≤ self.old.spare_tags → IsOk result }
     {
         self.items.reserve(items)?;

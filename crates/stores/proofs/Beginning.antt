@@ -1,5 +1,5 @@
 -- What is stored before anything happens.
-use Rattle.std.proofs.Common.{◌≡◌, ℕ, zero, suc, ◌+◌, ◌<◌, ◌≤◌, max, List, [], ◌∷◌, length, map, take, get_or, refl, arith, ap, sym, subst, ◌∙◌}
+use Rattle.std.proofs.Common.{◌≡◌, ℕ, Bool, zero, suc, ◌+◌, ◌<◌, ◌≤◌, max, List, [], ◌∷◌, length, map, take, get_or, refl, arith, ap, sym, subst, ◌∙◌}
 use Rattle.std.specs.Prelude.{fold}
 use Rattle.std.specs.Prelude.{◌==◌, ◌&&◌, Vec}
 use Rattle.std.specs.Global.{Global}
@@ -83,7 +83,7 @@ module _ (net : Network) where
         (sym (map_more (first_place net) (map connection_of cs) k no_connection (rw length-map lt)))
 
 -- each part is as it is when a plant is opened, and so is the whole
-pub opened : (net : Network) (caps : Capacities) (s : Stores) (longest : ℕ) → AreUnhanded longest net.nodes s.handed.items → s.words.items ≡ map (λ (n : Node). n.meaning.start) net.nodes →
+pub opened : (net : Network) (caps : Capacities) (s : Stores) (longest : ℕ) (alone : Bool) → AreUnhanded longest alone net.nodes s.handed.items → s.words.items ≡ map (λ (n : Node). n.meaning.start) net.nodes →
     map (λ (row : Vec BufferState Global). map buffer_of row.items) s.buffers.items ≡ map (λ b. map (empty_buffer net caps b) (below (used_outputs net b))) (below (length net.nodes)) →
     map collected_of s.sinks.items ≡ map empty_sink net.nodes → stored_in s ≡ stored_opening net caps
-opened net caps s longest handed words buffers sinks = rw (handed.tapes, handed.timelines, words, map-map, buffers, sinks) refl
+opened net caps s longest alone handed words buffers sinks = rw (handed.tapes, handed.timelines, words, map-map, buffers, sinks) refl

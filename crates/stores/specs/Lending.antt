@@ -81,7 +81,7 @@ abbrev pub no_buffer : BufferState
 no_buffer = record { item = Byte; ring = empty_ring 0 0; tags = []; spare = 0 }
 
 abbrev pub no_sink : RecordingState
-no_sink = record { item = Byte; items = []; tags = []; from = 0; spare_items = 0; spare_tags = 0 }
+no_sink = record { item = Byte; items = []; tags = []; from = 0; spare_items = 0; spare_tags = 0; capacity = 0 }
 
 abbrev pub buffer_state : Stores → ℕ → ℕ → BufferState
 buffer_state s b p = slice_index_or (slice_index_or (rows_in s) b []) p no_buffer

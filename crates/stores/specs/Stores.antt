@@ -1,6 +1,5 @@
 -- What the fields of a plant stand for.
 use Rattle.std.specs.Prelude.{◌≡◌, ◌++◌, ℕ, ℤ, List, [], map, Option, Some, None}
-use Rattle.std.specs.Arc.{arc_value}
 use Rattle.stream_model.specs.Tags as model_tags
 use Rattle.stream_model.specs.Network as model
 use Rattle.stream_model.specs.Network.{Progress, State}
@@ -14,6 +13,7 @@ use Rattle.plant_laws.specs.Stored.{Tape, OutputBuffer, Collected, Stored, setti
 use Rattle.plant_laws.specs.Changes.{with_settings_to}
 use Rattle.plant_laws.specs.Calls.{TakesOneMore}
 pub use Rattle.stores.specs.Marks.{mark_of, stamped}
+use Rattle.stores.specs.SourceTapes.{tape_in, is_own}
 use Rattle.stores.specs.declared.intake.Intake.{Intake}
 use Rattle.stores.specs.declared.stores.Stores.{Stores}
 
@@ -24,11 +24,11 @@ settings_in (Some s) = s.settings
 
 -- what a block was handed, as the model has it
 abbrev pub handed_of : Intake → model.Handed
-handed_of h = let tape = arc_value h.tape in record { tape = tape.items; tags = tape.marks; closed = h.closed; settings = settings_in h.timeline; longest = h.longest }
+handed_of h = let tape = tape_in h.tape in record { tape = tape.items; tags = tape.marks; closed = h.closed; settings = settings_in h.timeline; longest = h.longest }
 
 -- its tape with the tags in order
 abbrev pub tape_of : Intake → Tape
-tape_of h = let tape = arc_value h.tape in record { item = tape.item; items = tape.items; tags = tape.tags; closed = h.closed; from = tape.from }
+tape_of h = let tape = tape_in h.tape in record { item = tape.item; items = tape.items; tags = tape.tags; closed = h.closed; from = tape.from }
 
 abbrev pub buffer_of : BufferState → OutputBuffer
 buffer_of b = record { item = b.item; ring = b.ring; tags = b.tags }
@@ -54,7 +54,7 @@ state_of handed progress = record { handed = map handed_of handed; progress = pr
 
 -- nothing of what was handed to a block is forgotten
 pub record IsWhole (h : Intake) : Type 0 where
-  pub tape : (arc_value h.tape).from ≡ 0
+  pub tape : (tape_in h.tape).from ≡ 0
   pub settings : settings_from h.timeline ≡ 0
 
 -- nothing that was handed to a block changed
@@ -62,12 +62,14 @@ pub record IsAsBefore (old new : Intake) : Type 0 where
   pub handed : handed_of new ≡ handed_of old
   pub tape : tape_of new ≡ tape_of old
   pub timeline : new.timeline ≡ old.timeline
+  pub own : is_own new.tape ≡ is_own old.tape
 
 -- source b was fed with items and marks
 pub record IsFed (b : ℕ) (xs : List ℤ) (ms : List model_tags.Mark) (old new : Intake) : Type 0 where
   pub handed : handed_of new ≡ with_tape (handed_of old) b xs ms
   pub tape : tape_of new ≡ (let tape = tape_of old in record tape { items = tape.items ++ xs; tags = insert_tags (map (tag_of b) ms) tape.tags })
   pub timeline : new.timeline ≡ old.timeline
+  pub own : is_own new.tape ≡ is_own old.tape
 
 -- there is a timeline before and after, with one more setting
 pub record HasOneMore (h : Held) (old new : Option SettingsState) : Type 0 where
@@ -82,15 +84,18 @@ pub record IsSet (h : Held) (old new : Intake) : Type 0 where
   pub handed : handed_of new ≡ (let handed = handed_of old in record handed { settings = put_setting h handed.settings })
   pub tape : tape_of new ≡ tape_of old
   pub timeline : HasOneMore h old.timeline new.timeline
+  pub own : is_own new.tape ≡ is_own old.tape
 
 -- the items of the tape before one are forgotten; a contract sees them still
 pub record HasForgotten (to : ℕ) (old new : Intake) : Type 0 where
   pub handed : handed_of new ≡ handed_of old
   pub tape : tape_of new ≡ record (tape_of old) { from = to }
   pub timeline : new.timeline ≡ old.timeline
+  pub own : is_own new.tape ≡ is_own old.tape
 
 -- its settings are read from an item on; a contract sees all of them still
 pub record HasForgottenSettings (to : ℕ) (old new : Intake) : Type 0 where
   pub handed : handed_of new ≡ handed_of old
   pub tape : tape_of new ≡ tape_of old
   pub timeline : new.timeline ≡ with_settings_to to old.timeline
+  pub own : is_own new.tape ≡ is_own old.tape

@@ -1,9 +1,8 @@
 //! What a block was handed.
 
-ghost use Rattle.std.specs.Prelude.{◌≡◌, ◌≤◌, length, map, IsOk, IsSome, IfOk, OnOk, OnErr};
+ghost use Rattle.std.specs.Prelude.{◌≡◌, ◌≤◌, length, map, true, IsOk, IsSome, IfOk, OnOk, OnErr};
 ghost use Rattle.std.specs.List.{Any};
 ghost use Rattle.std.specs.Option.{option_map};
-ghost use Rattle.std.specs.Arc.{arc_value};
 ghost use Rattle.stream_model.specs.Network.{nothing_within};
 ghost use Rattle.items.specs.Items.{type_of, numbers_of};
 ghost use Rattle.settings.specs.Values.{value_of};
@@ -12,20 +11,19 @@ ghost use Rattle.plant_laws.specs.Stored.{no_tape, settings_from};
 ghost use Rattle.plant_laws.specs.Changes.{with_settings_to};
 ghost use Rattle.plant_laws.specs.Opening.{own_settings};
 ghost use Rattle.stores.specs.Marks.{mark_of};
-ghost use Rattle.stores.specs.Tapes.{longer_tape};
+ghost use Rattle.stores.specs.SourceTapes.{tape_in, is_own};
 ghost use Rattle.stores.specs.Stores.{handed_of, tape_of, settings_in, HasForgotten, HasForgottenSettings, HasOneMore, IsAsBefore, IsFed, IsSet};
 
-use crate::tape::Tape;
+use crate::source_tape::SourceTape;
 use items::{ItemType, Items, Mark};
 use recordings::RecentSettings;
 use settings::Value;
 use std::alloc::{AllocError, Global};
-use std::sync::Arc;
 
-/// What a block was handed: a source's tape, and settings. The tape is shared with the copies that are made of it, until either is fed.
+/// What a block was handed: a source's tape, and settings.
 #[derive(Debug, Drop)]
 pub struct Intake {
-    pub tape: Arc<Tape, Global>,
+    pub tape: SourceTape,
     /// Whether the tape is closed.
     pub closed: bool,
     /// The settings, where the block has one.
@@ -35,24 +33,26 @@ pub struct Intake {
 }
 
 impl Intake {
-    /// Nothing yet: an open tape without items, and no settings. The block's own parameter, if it has a setting, is in force. It fails only where
-    /// the allocator refuses.
+    /// Nothing yet: an open tape without items, which is `alone` its owner's or shared with copies, and no settings. The block's own parameter, if it has a
+    /// setting, is in force. It fails only where the allocator refuses.
     pub fn new(
         alloc: Global,
         item: ItemType,
         own: Option<Value>,
         longest: u64,
+        alone: bool,
     ) -> Result<Intake, AllocError>
         ensures handed { IfOk result (λ intake. handed_of intake ≡ nothing_within longest) }
         ensures tape { IfOk result (λ intake. tape_of intake ≡ record no_tape { item = item }) }
         ensures timeline { IfOk result (λ intake. intake.timeline ≡ own_settings (option_map value_of own)) }
+        ensures alone { IfOk result (λ intake. is_own intake.tape ≡ alone) }
     {
         let timeline = match own {
             Some(value) => Some(RecentSettings::new(alloc, value)),
             None => None,
         };
         Ok(Intake {
-            tape: shared(alloc, Tape::new(alloc, item))?,
+            tape: SourceTape::new(alloc, item, alone)?,
             closed: false,
             timeline,
             longest,
@@ -61,22 +61,21 @@ impl Intake {
 
     /// Puts items at the end of the tape, with each mark as a tag of the source. A tape that is shared is copied first. An `Err` changes nothing.
     pub fn feed(&mut self, source: u32, items: &Items, marks: &[Mark]) -> Result<(), AllocError>
-        requires { type_of items.now ≡ (arc_value self.old.tape).item }
+        requires { type_of items.now ≡ (tape_in self.old.tape).item }
         ensures ok { OnOk result (IsFed source (numbers_of items.now) (map mark_of marks.now) self.old self.new) }
         ensures err { OnErr result (IsAsBefore self.old self.new) }
     {
-        feed_tape(&mut self.tape, source, items, marks)
+        self.tape.feed(source, items, marks)
     }
 
-    /// The items of the tape before `to` are forgotten, and the tags on them. A tape that is shared is copied first, which fails where the allocator
-    /// refuses; an `Err` changes nothing.
-    pub fn forget(&mut self, to: u64) -> Result<(), AllocError>
-        requires kept { (arc_value self.old.tape).from ≤ to }
-        requires within { to ≤ length (arc_value self.old.tape).items }
-        ensures ok { OnOk result (HasForgotten to self.old self.new) }
-        ensures err { OnErr result (IsAsBefore self.old self.new) }
+    /// The items of the tape before `to` are forgotten, and the tags on them. It takes no memory.
+    pub fn forget(&mut self, to: u64)
+        requires own { is_own self.old.tape ≡ true }
+        requires kept { (tape_in self.old.tape).from ≤ to }
+        requires within { to ≤ length (tape_in self.old.tape).items }
+        ensures { HasForgotten to self.old self.new }
     {
-        forget_in(&mut self.tape, to)
+        self.tape.forget(to);
     }
 
     /// The settings that no item from `to` on is read with are forgotten. It takes no memory.
@@ -97,41 +96,6 @@ impl Intake {
     {
         set_in(&mut self.timeline, at, value)
     }
-}
-
-// A tape that may be shared from now on.
-fn shared(alloc: Global, tape: Tape) -> Result<Arc<Tape, Global>, AllocError>
-    ensures { IfOk result (λ shared. arc_value shared ≡ tape) }
-{
-    match Arc::new(alloc, tape) {
-        Ok(shared) => Ok(shared),
-        Err(_) => Err(AllocError),
-    }
-}
-
-// Puts items and marks on a tape, which is copied first where it is shared.
-fn feed_tape(
-    tape: &mut Arc<Tape, Global>,
-    source: u32,
-    items: &Items,
-    marks: &[Mark],
-) -> Result<(), AllocError>
-    requires { type_of items.now ≡ (arc_value tape.old).item }
-    ensures ok { OnOk result (arc_value tape.new ≡ longer_tape (arc_value tape.old) source (numbers_of items.now) (map mark_of marks.now)) }
-    ensures err { OnErr result (arc_value tape.new ≡ arc_value tape.old) }
-{
-    Arc::make_mut(tape)?.feed(source, items, marks)
-}
-
-// Forgets the items of a tape before `to`, which is copied first where it is shared.
-fn forget_in(tape: &mut Arc<Tape, Global>, to: u64) -> Result<(), AllocError>
-    requires kept { (arc_value tape.old).from ≤ to }
-    requires within { to ≤ length (arc_value tape.old).items }
-    ensures ok { OnOk result (arc_value tape.new ≡ record (arc_value tape.old) { from = to }) }
-    ensures err { OnErr result (arc_value tape.new ≡ arc_value tape.old) }
-{
-    Arc::make_mut(tape)?.forget(to);
-    Ok(())
 }
 
 // Forgets the settings that no item from `to` on is read with.

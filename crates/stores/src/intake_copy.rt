@@ -57,13 +57,13 @@ impl Model for IntakeCopy {
 }
 
 impl IntakeCopy {
-    /// A copy of what a block was handed. It takes memory for the settings alone, and fails only where the allocator refuses.
+    /// A copy of what a block was handed. It takes memory for the settings, and for a tape that is not shared, and fails only where the allocator refuses.
     pub fn of(alloc: Global, intake: &Intake) -> Result<IntakeCopy, AllocError>
         requires { IsWhole intake.now }
         ensures { IfOk result (λ copy. copy ≡ handed_of intake.now) }
     {
         Ok(IntakeCopy {
-            tape: Arc::try_clone(&intake.tape)?,
+            tape: intake.tape.share(alloc)?,
             closed: intake.closed,
             settings: settings_of(alloc, &intake.timeline)?,
             longest: intake.longest,

@@ -17,17 +17,18 @@ use recordings::Recording;
 use ring_readers::RingFault;
 use std::alloc::{AllocError, Global};
 
-/// What each block is handed before anything is, where a tape may come to hold `longest` items.
+/// What each block is handed before anything is, where a tape may come to hold `longest` items, and is `alone` its owner's or shared with copies.
 pub(crate) fn all_handed<B: Block>(
     alloc: Global,
     graph: &Valid<B>,
     longest: u64,
+    alone: bool,
 ) -> Result<Vec<Intake>, AllocError>
-    ensures { IfOk result (λ handed. AreUnhanded longest (net_of B.meaning graph.now).nodes handed.items) }
+    ensures { IfOk result (λ handed. AreUnhanded longest alone (net_of B.meaning graph.now).nodes handed.items) }
 {
     let mut handed = Vec::with_capacity(alloc, graph.len())?;
     for block in 0..graph.len() {
-        handed.push_reserved(unhanded(alloc, graph, BlockId(block as u32), longest)?);
+        handed.push_reserved(unhanded(alloc, graph, BlockId(block as u32), longest, alone)?);
     }
     Ok(handed)
 }
@@ -38,13 +39,14 @@ fn unhanded<B: Block>(
     graph: &Valid<B>,
     block: BlockId,
     longest: u64,
+    alone: bool,
 ) -> Result<Intake, AllocError>
     requires { block.0 < length graph.now.blocks }
-    ensures { IfOk result (IsUnhanded longest (node_at (net_of B.meaning graph.now) block.0)) }
+    ensures { IfOk result (IsUnhanded longest alone (node_at (net_of B.meaning graph.now) block.0)) }
 {
     let kind = graph.block(block);
     let own = kind.own(alloc)?;
-    Intake::new(alloc, kind.outputs().item, own, longest)
+    Intake::new(alloc, kind.outputs().item, own, longest, alone)
 }
 
 /// The state word of each block before its first firing.

@@ -60,22 +60,25 @@ impl fmt::Debug for Stores {
 impl Stores {
     ghost use Rattle.stores.specs.Stores.{stored_in, handed_of};
     ghost use Rattle.stores.specs.Opening.{HaveCapacities};
+    ghost use Rattle.stores.specs.SourceTapes.{is_own};
 
     /// What is stored before anything happens. The capacities are those of the used outputs of each block, in items, and a tape may come to hold
-    /// `longest` items. It fails only where the allocator refuses.
+    /// `longest` items, and is `alone` the plant's or shared with copies. It fails only where the allocator refuses.
     pub fn open<B: Block>(
         alloc: Global,
         graph: &Valid<B>,
         capacities: &[Vec<u32>],
         longest: u64,
+        alone: bool,
     ) -> Result<Stores, AllocError>
         requires { HaveCapacities (net_of B.meaning graph.now) (map (λ row. row.items) capacities.now) }
         ensures stored { IfOk result (λ s. stored_in s ≡ stored_opening (net_of B.meaning graph.now) (map (λ row. row.items) capacities.now)) }
         ensures handed { IfOk result (λ s. map handed_of s.handed.items ≡ map (λ _. nothing_within longest) (net_of B.meaning graph.now).nodes) }
         ensures brought { IfOk result (λ s. s.brought.items ≡ []) }
+        ensures alone { IfOk result (λ s. map (λ h. is_own h.tape) s.handed.items ≡ map (λ _. alone) (net_of B.meaning graph.now).nodes) }
     {
         Ok(Stores {
-            handed: all_handed(alloc, graph, longest)?,
+            handed: all_handed(alloc, graph, longest, alone)?,
             words: words(alloc, graph)?,
             buffers: buffers(alloc, graph, capacities)?,
             sinks: sinks(alloc, graph)?,

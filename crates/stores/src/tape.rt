@@ -5,7 +5,7 @@ ghost use Rattle.std.specs.Vec.{vec_len, vec_capacity};
 ghost use Rattle.items.specs.Items.{type_of, numbers_of};
 ghost use Rattle.items.specs.Tags.{tag_of};
 ghost use Rattle.stores.specs.Marks.{mark_of, stamped};
-ghost use Rattle.stores.specs.Tapes.{blank_tape, longer_tape};
+ghost use Rattle.stores.specs.Tapes.{blank_tape, longer_tape, room_for, shorter_tape};
 
 use items::{ItemType, Items, Mark, Tag};
 use past::Past;
@@ -31,6 +31,7 @@ impl fmt::Debug for Tape {
 
 impl Model for Tape {
     ghost use Rattle.std.specs.Prelude.{◌≡◌, ◌++◌, [], map, take, flat_map};
+    ghost use Rattle.std.specs.Vec.{vec_len, vec_capacity};
     ghost use Rattle.items.specs.Tags.{tag_of};
     ghost use Rattle.stores.specs.Tapes.{TapeState};
 
@@ -42,6 +43,8 @@ impl Model for Tape {
       tags = t.recording.tags;
       marks = map tag_of (flat_map (λ p. take p.1 p.0.items) t.forgotten.pieces ++ t.marks.items);
       from = t.recording.from;
+      marks_held = vec_len t.marks;
+      marks_room = vec_capacity t.marks;
     } };
 
     ghost invariant = { λ t. t.recording.from ≡ 0 → flat_map (λ p. take p.1 p.0.items) t.forgotten.pieces ≡ [] };
@@ -84,20 +87,20 @@ impl Tape {
         ensures err { OnErr result (self.new ≡ self.old) }
     {
         self.recording.reserve(items.len(), marks.len())?;
-        self.marks.reserve(marks.len())?;
+        make_room(&mut self.marks, marks.len())?;
         let before = self.marks.len();
         push_stamped(&mut self.marks, source, marks);
         self.recording.push(items, &self.marks[before..]);
         Ok(())
     }
 
-    /// The items before `to` and the tags on them are forgotten. It takes no memory.
+    /// The items before `to` and the tags on them are forgotten, and all tags in the order of feeding. It takes no memory.
     pub fn forget(&mut self, to: u64)
         requires kept { self.old.from ≤ to }
         requires within { to ≤ length self.old.items }
-        ensures { self.new ≡ record self.old { from = to } }
+        ensures { self.new ≡ shorter_tape self.old to }
     {
-        if to == self.recording.from() {
+        if to == 0 {
             return;
         }
         self.recording.forget(to);
@@ -112,7 +115,7 @@ impl Tape {
         Ok(Tape {
             recording: self.recording.copy(alloc)?,
             forgotten: self.forgotten.and(&self.marks, &0),
-            marks: Vec::from_slice(alloc, &self.marks)?,
+            marks: copied(alloc, &self.marks)?,
         })
     }
 
@@ -135,10 +138,39 @@ impl Clone for Tape {
     }
 }
 
+// The same tags in memory of their own, with as much room.
+fn copied(alloc: Global, tags: &Vec<Tag>) -> Result<Vec<Tag>, AllocError>
+    ensures items { IfOk result (λ copy. copy.items ≡ tags.now.items) }
+    ensures len { IfOk result (λ copy. vec_len copy ≡ vec_len tags.now) }
+    ensures room { IfOk result (λ copy. vec_capacity copy ≡ vec_capacity tags.now) }
+{
+    let mut copy = Vec::with_capacity(alloc, tags.capacity())?;
+    for tag in tags {
+        copy.push_reserved(*tag);
+    }
+    Ok(copy)
+}
+
+// Makes room for `n` more tags. `Vec::reserve` does not say how much it takes.
+fn make_room(tags: &mut Vec<Tag>, n: usize) -> Result<(), AllocError>
+    ensures items { tags.new.items ≡ tags.old.items }
+    ensures len { vec_len tags.new ≡ vec_len tags.old }
+    ensures fits { OnOk result (vec_len tags.new + n ≤ vec_capacity tags.new) }
+    ensures room { OnOk result (vec_capacity tags.new ≡ room_for (vec_len tags.old) (vec_capacity tags.old) n) }
+    ensures err { OnErr result (vec_capacity tags.new ≡ vec_capacity tags.old) }
+{
+    if n <= tags.capacity() - tags.len() {
+        return Ok(());
+    }
+    tags.reserve_exact(n.max(tags.len()))
+}
+
 // Appends the tag that each mark becomes. It takes no memory.
 fn push_stamped(tags: &mut Vec<Tag>, source: u32, marks: &[Mark])
     requires { vec_len tags.old + length marks.now ≤ vec_capacity tags.old }
-    ensures { tags.new.items ≡ tags.old.items ++ map (stamped source) marks.now }
+    ensures items { tags.new.items ≡ tags.old.items ++ map (stamped source) marks.now }
+    ensures len { vec_len tags.new ≡ vec_len tags.old + length marks.now }
+    ensures capacity { vec_capacity tags.new ≡ vec_capacity tags.old }
 {
     for mark in marks {
         tags.push_reserved(Tag {

@@ -1,5 +1,6 @@
 pub mod Extents
 pub mod Idles
+pub mod Owning
 pub mod Releases
 pub mod Pieces
 pub mod Joins

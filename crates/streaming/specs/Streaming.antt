@@ -1,5 +1,5 @@
 -- What a contract sees of a plant that streams.
-use Rattle.std.specs.Prelude.{ℕ, ◌+◌, ◌<◌, ◌≡◌, List, ◌++◌, length, take, true, false, IsSome, slice_index_or, slice_set, ℤ}
+use Rattle.std.specs.Prelude.{ℕ, ◌+◌, ◌<◌, ◌≡◌, All, List, ◌++◌, length, take, true, false, IsSome, slice_index_or, slice_set, ℤ}
 use Rattle.stream_model.specs.Tags.{Tag, tags_within}
 use Rattle.stream_model.specs.Meaning.{Meaning, input}
 use Rattle.stream_model.specs.Network.{Network, State, node_at, role_at, is_source, taken_by, entering, tags_entering}
@@ -9,7 +9,7 @@ use Rattle.machine_laws.specs.Sound.{fired}
 use Rattle.flowgraph.specs.Flowgraph.{Flowgraph, net_of}
 use Rattle.plant_laws.specs.Stored.{Firsts}
 use Rattle.plant.specs.declared.parts.Parts.{Parts}
-use Rattle.plant.specs.Plant.{IsRight, PlantState, plant_of}
+use Rattle.plant.specs.Plant.{IsRight, PlantState, plant_of, spans_in}
 use Rattle.plant.specs.Opening.{opening_plant_within}
 
 -- the plant as it would be if it forgot nothing, and the first item that is kept in memory of each tape, of what each sink has collected, and of each
@@ -18,10 +18,11 @@ pub record StreamingState (B : Type 0) : Type 0 where
   pub plant : PlantState B
   pub kept : Firsts
 
--- what a plant that streams keeps: it claims and commits in one, so that nothing is in flight between two calls
+-- what a plant that streams keeps: it claims and commits in one, so that nothing is in flight between two calls, and it has its tapes alone
 pub record IsStreaming {B P : Type 0} (meaning : B → Meaning) (p : Parts B P) : Type 0 where
   pub right : IsRight meaning p
   pub idle : is_idle (plant_of p).state ≡ true
+  pub own : All (λ o. o ≡ true) (spans_in p).own
 
 -- how many items were drained of a sink: the first that is kept is the next
 abbrev pub drained : {B : Type 0} → StreamingState B → ℕ → ℕ

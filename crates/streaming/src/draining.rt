@@ -77,6 +77,7 @@ pub(crate) fn drain<B: Block>(
         IfOk result (λ piece. GoesOn (net_of B.meaning plant.graph) plant.state sink.0 (slice_index_or (spans_in parts.old).firsts.sinks sink.0 0) (numbers_of piece.items) (map tag_of piece.tags.items)) }
     ensures tapes { (spans_in parts.new).firsts.tapes ≡ (spans_in parts.old).firsts.tapes }
     ensures settings { (spans_in parts.new).firsts.settings ≡ (spans_in parts.old).firsts.settings }
+    ensures alone { (spans_in parts.new).own ≡ (spans_in parts.old).own }
     ensures sinks { let old = (spans_in parts.old).firsts.sinks in
         IfOk result (λ piece. (spans_in parts.new).firsts.sinks ≡ slice_set old sink.0 (slice_index_or old sink.0 0 + length (numbers_of piece.items))) }
     ensures err { OnErr result (spans_in parts.new ≡ spans_in parts.old) }
@@ -115,6 +116,7 @@ pub(crate) fn consume<B: Block>(
     ensures whole { let plant = plant_of parts.old in IfOk result (λ d. d.done ≡ true → HoldsAll (net_of B.meaning plant.graph) plant.state sink.0) }
     ensures tapes { (spans_in parts.new).firsts.tapes ≡ (spans_in parts.old).firsts.tapes }
     ensures settings { (spans_in parts.new).firsts.settings ≡ (spans_in parts.old).firsts.settings }
+    ensures alone { (spans_in parts.new).own ≡ (spans_in parts.old).own }
     ensures sinks { let old = (spans_in parts.old).firsts.sinks in
         IfOk result (λ d. (spans_in parts.new).firsts.sinks ≡ slice_set old sink.0 (end_of d max)) }
     ensures err { OnErr result (spans_in parts.new ≡ spans_in parts.old) }
@@ -152,6 +154,7 @@ pub(crate) fn drain_into<B: Block>(
     ensures item_type { type_of items.new ≡ type_of items.old }
     ensures tapes { (spans_in parts.new).firsts.tapes ≡ (spans_in parts.old).firsts.tapes }
     ensures settings { (spans_in parts.new).firsts.settings ≡ (spans_in parts.old).firsts.settings }
+    ensures alone { (spans_in parts.new).own ≡ (spans_in parts.old).own }
     ensures sinks { let old = (spans_in parts.old).firsts.sinks in
         IfOk result (λ d. (spans_in parts.new).firsts.sinks ≡ slice_set old sink.0 (end_of d max)) }
     ensures err { OnErr result ((spans_in parts.new ≡ spans_in parts.old) × (numbers_of items.new ≡ numbers_of items.old) × (tags.new.items ≡ tags.old.items)) }

@@ -1,7 +1,8 @@
 //! How much is in memory of what sources were fed, of what sinks have taken, and of settings.
 
-ghost use Rattle.std.specs.Prelude.{◌-◌, ◌+◌, ◌*◌, ◌<◌, ◌≡◌, ◌≤◌, length, true, slice_index_or};
-ghost use Rattle.stream_model.specs.Network.{handed_at, role_at, is_keeper, is_source};
+ghost use Rattle.std.specs.Prelude.{◌-◌, ◌+◌, ◌*◌, ◌<◌, ◌≡◌, ◌≤◌, length, true, Some, slice_index_or};
+ghost use Rattle.stream_model.specs.Settings as model;
+ghost use Rattle.stream_model.specs.Network.{handed_at, node_at, role_at, is_keeper, is_source};
 ghost use Rattle.stream_model.specs.Tags.{tags_within};
 ghost use Rattle.machine_laws.specs.Sound.{fired};
 ghost use Rattle.tags.specs.TagList.{tags_from};
@@ -14,13 +15,17 @@ use flowgraph::{Block, BlockId};
 use plant::Parts;
 use stream_model::Role;
 
-/// How many items are in memory of what a source was fed, or of what a sink has taken.
+/// How many items are in memory of what a source was fed, or of what a sink has taken: all that are kept, and at most twice as many.
 pub(crate) fn items_in_memory<B: Block>(parts: &Parts<B>, block: BlockId) -> usize
     requires { IsRight B.meaning parts.now }
     ensures source { let plant = plant_of parts.now in let net = net_of B.meaning plant.graph in block.0 < length net.nodes → is_source (role_at net block.0) ≡ true →
         result ≤ 2 * (length (handed_at plant.state.handed block.0).tape - slice_index_or (spans_in parts.now).firsts.tapes block.0 0) }
     ensures sink { let plant = plant_of parts.now in let net = net_of B.meaning plant.graph in block.0 < length net.nodes → is_keeper (role_at net block.0) ≡ true →
         result ≤ 2 * (fired plant.state block.0 - slice_index_or (spans_in parts.now).firsts.sinks block.0 0) }
+    ensures of_source { let plant = plant_of parts.now in let net = net_of B.meaning plant.graph in block.0 < length net.nodes → is_source (role_at net block.0) ≡ true →
+        length (handed_at plant.state.handed block.0).tape - slice_index_or (spans_in parts.now).firsts.tapes block.0 0 ≤ result }
+    ensures of_sink { let plant = plant_of parts.now in let net = net_of B.meaning plant.graph in block.0 < length net.nodes → is_keeper (role_at net block.0) ≡ true →
+        fired plant.state block.0 - slice_index_or (spans_in parts.now).firsts.sinks block.0 0 ≤ result }
 {
     parts.graph.recall();
     let at = block.0 as usize;
@@ -54,8 +59,13 @@ pub(crate) fn tags_in_memory<B: Block>(parts: &Parts<B>, block: BlockId) -> usiz
     }
 }
 
-/// How many settings of a block are in memory: no more than were made, and at most one more than were made at the first item that may read them or later.
+/// How many settings of a block are in memory: all that may still be read, no more than were made, and at most one more than were made at the first item that may
+/// read them or later.
 pub(crate) fn settings_in_memory<B: Block>(parts: &Parts<B>, block: BlockId) -> usize
+    requires { IsRight B.meaning parts.now }
+    ensures read { let plant = plant_of parts.now in let net = net_of B.meaning plant.graph in let made = (handed_at plant.state.handed block.0).settings in
+        (own : model.Value) → block.0 < length net.nodes → (node_at net block.0).meaning.own ≡ Some own →
+        length (kept_from (model.setting_at own made (slice_index_or (spans_in parts.now).firsts.settings block.0 0)).at made) ≤ result }
     ensures made { result ≤ length (handed_at (plant_of parts.now).state.handed block.0).settings }
     ensures past { result ≤ 1 + length (kept_from (slice_index_or (spans_in parts.now).firsts.settings block.0 0) (handed_at (plant_of parts.now).state.handed block.0).settings) }
 {

@@ -1,9 +1,10 @@
 //! The plant that streams.
 
-ghost use Rattle.std.specs.Prelude.{◌≡◌, ◌+◌, ◌++◌, ◌-◌, ◌*◌, ◌<◌, ◌≤◌, ℕ, length, map, true, false, None, Err, IsOk, IfOk, IfErr, OnErr, vec_len, vec_capacity};
+ghost use Rattle.std.specs.Prelude.{◌≡◌, ◌+◌, ◌++◌, ◌-◌, ◌*◌, ◌<◌, ◌≤◌, ℕ, length, map, true, false, Some, None, Err, IsOk, IfOk, IfErr, OnErr, vec_len, vec_capacity};
 ghost use Rattle.std.specs.List.{Any};
 ghost use Rattle.std.specs.Option.{option_map};
 ghost use Rattle.stream_model.specs.Machine as machine;
+ghost use Rattle.stream_model.specs.Settings as model;
 ghost use Rattle.stream_model.specs.Machine.{step_of, feed_of, close_of, set_of, read_of, is_idle, is_all_done, is_quiet, IsWhole, HoldsAll};
 ghost use Rattle.stream_model.specs.Network.{node_at, handed_at, role_at, is_keeper, is_source};
 ghost use Rattle.stream_model.specs.Tags.{tags_within};
@@ -21,6 +22,7 @@ ghost use Rattle.plant.specs.declared.fault.PlantFault.TheVariants.{NoSuchBlock,
 ghost use Rattle.plant.specs.Plant.{ForgetsNone};
 ghost use Rattle.plant.specs.Answers.{Answered, AnsweredAlways, AnsweredBy, piece_reply, reply_of, source_type_of, step_reply};
 ghost use Rattle.plant.specs.Feeding.{feed_numbers};
+ghost use Rattle.plant.specs.Headway.{headway_shown};
 ghost use Rattle.plant.specs.Settling.{StepsLead, HasMoved, HasSettled, HoldsSettled};
 ghost use Rattle.plant.specs.Waits.{need_of, wait_in};
 ghost use Rattle.streaming.specs.Draining.{HasRoom, IsAtSink, MayBeRefused, drain_fault, end_of, items_taken, tags_taken};
@@ -87,7 +89,7 @@ impl<B: Block> StreamingPlant<B> {
         ensures back { IfErr result (λ refusal. refusal.0 ≡ graph) }
     {
         let longest = graph.longest_tape();
-        match Parts::open(alloc, graph, longest) {
+        match Parts::open(alloc, graph, longest, true) {
             Ok(parts) => Ok(StreamingPlant { parts }),
             Err(refusal) => Err(refusal),
         }
@@ -181,14 +183,13 @@ impl<B: Block> StreamingPlant<B> {
         self.parts.step(alloc, block, max)
     }
 
-    /// Forgets all that sources have taken, and the settings that no item is read with any more. It takes no memory: an `Err` would come only of a tape that is
-    /// shared, which is copied first, and nothing shares a tape of a plant that streams.
-    pub fn release(&mut self) -> Result<(), AllocError>
+    /// Forgets all that sources have taken, and the settings that no item is read with any more. It takes no memory.
+    pub fn release(&mut self)
         ensures plant { self.new.plant ≡ self.old.plant }
         ensures sinks { self.new.kept.sinks ≡ self.old.kept.sinks }
-        ensures taken { IfOk result (λ _. KeepsNoTaken (net_of B.meaning self.new.plant.graph) self.new) }
+        ensures taken { KeepsNoTaken (net_of B.meaning self.new.plant.graph) self.new }
     {
-        forget_taken(&mut self.parts)
+        forget_taken(&mut self.parts);
     }
 
     /// Steps all blocks in their order, at most `max` firings each, again and again, until all are done, or a whole round did nothing. Then it
@@ -203,7 +204,7 @@ impl<B: Block> StreamingPlant<B> {
         ensures taken { IfOk result (λ _. KeepsNoTaken (net_of B.meaning self.new.plant.graph) self.new) }
     {
         let settled = self.parts.settle(alloc, max, &mut Unwatched)?;
-        forget_taken(&mut self.parts)?;
+        forget_taken(&mut self.parts);
         Ok(settled)
     }
 
@@ -219,7 +220,7 @@ impl<B: Block> StreamingPlant<B> {
         ensures taken { IfOk result (λ _. KeepsNoTaken (net_of B.meaning self.new.plant.graph) self.new) }
     {
         let moved = self.parts.round(alloc, max, &mut Unwatched)?;
-        forget_taken(&mut self.parts)?;
+        forget_taken(&mut self.parts);
         Ok(moved)
     }
 
@@ -238,7 +239,7 @@ impl<B: Block> StreamingPlant<B> {
         ensures taken { IfOk result (λ _. KeepsNoTaken (net_of B.meaning self.new.plant.graph) self.new) }
     {
         let moved = helped_round(&mut self.parts, alloc, max, helpers)?;
-        forget_taken(&mut self.parts)?;
+        forget_taken(&mut self.parts);
         Ok(moved)
     }
 
@@ -315,10 +316,11 @@ impl<B: Block> StreamingPlant<B> {
         self.parts.need(block)
     }
 
-    /// How many items all sources were fed, and how many of these they have given, to be shown: where the numbers grow beyond 64 bits, they stay there. It looks at
-    /// each block, and takes no memory.
+    /// How many items all sources were fed, and how many of these they have given, with those that are forgotten: where the numbers grow beyond 64 bits, they
+    /// stay there. It looks at each block, and takes no memory.
     pub fn headway(&self) -> Headway
-        ensures { result.given ≤ result.fed }
+        ensures value { result ≡ headway_shown (net_of B.meaning self.now.plant.graph) self.now.plant.state }
+        ensures within { result.given ≤ result.fed }
     {
         self.parts.headway()
     }
@@ -330,13 +332,17 @@ impl<B: Block> StreamingPlant<B> {
         self.parts.ring()
     }
 
-    /// How many items are in memory of what a source was fed, or of what a sink has taken: at most twice as many as are kept. There are none of any
-    /// other block, whose outputs have buffers.
+    /// How many items are in memory of what a source was fed, or of what a sink has taken: all that are kept, and at most twice as many. There are none of
+    /// any other block, whose outputs have buffers.
     pub fn items_in_memory(&self, block: BlockId) -> usize
         ensures source { let net = net_of B.meaning self.now.plant.graph in block.0 < length net.nodes → is_source (role_at net block.0) ≡ true →
             result ≤ 2 * (length (handed_at self.now.plant.state.handed block.0).tape - tape_kept self.now block.0) }
         ensures sink { let net = net_of B.meaning self.now.plant.graph in block.0 < length net.nodes → is_keeper (role_at net block.0) ≡ true →
             result ≤ 2 * (fired self.now.plant.state block.0 - drained self.now block.0) }
+        ensures of_source { let net = net_of B.meaning self.now.plant.graph in block.0 < length net.nodes → is_source (role_at net block.0) ≡ true →
+            length (handed_at self.now.plant.state.handed block.0).tape - tape_kept self.now block.0 ≤ result }
+        ensures of_sink { let net = net_of B.meaning self.now.plant.graph in block.0 < length net.nodes → is_keeper (role_at net block.0) ≡ true →
+            fired self.now.plant.state block.0 - drained self.now block.0 ≤ result }
     {
         items_in_memory(&self.parts, block)
     }
@@ -351,9 +357,12 @@ impl<B: Block> StreamingPlant<B> {
         tags_in_memory(&self.parts, block)
     }
 
-    /// How many settings of a block are in memory: no more than were made, and at most one more than were made at the first item that may read them or
-    /// later. That one was in force there as what is past was forgotten, and stays until that is done again.
+    /// How many settings of a block are in memory: all that may still be read, no more than were made, and at most one more than were made at the first item
+    /// that may read them or later. That one was in force there as what is past was forgotten, and stays until that is done again.
     pub fn settings_in_memory(&self, block: BlockId) -> usize
+        ensures read { let net = net_of B.meaning self.now.plant.graph in let made = (handed_at self.now.plant.state.handed block.0).settings in
+            (own : model.Value) → block.0 < length net.nodes → (node_at net block.0).meaning.own ≡ Some own →
+            length (kept_from (model.setting_at own made (settings_kept self.now block.0)).at made) ≤ result }
         ensures made { result ≤ length (handed_at self.now.plant.state.handed block.0).settings }
         ensures past { result ≤ 1 + length (kept_from (settings_kept self.now block.0) (handed_at self.now.plant.state.handed block.0).settings) }
     {

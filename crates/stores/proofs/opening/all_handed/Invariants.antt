@@ -7,7 +7,7 @@ abbrev pub invariant-loop-block : goal.invariant-loop-block
 invariant-loop-block g l =
     let nodes = (net_of g.B.Block.meaning l.graph).nodes in
     record {
-      items : AreUnhanded l.longest (take l.block nodes) l.handed.items;
+      items : AreUnhanded l.longest l.alone (take l.block nodes) l.handed.items;
       many : vec_len l.handed ≡ l.block;
       room : length nodes ≤ vec_capacity l.handed;
     }

@@ -9,6 +9,7 @@ use Rattle.plant.specs.Plant.{plant_of}
 use Rattle.plant.proofs.Moves.{handed_long}
 use Rattle.plant.proofs.Sets.{small}
 use Rattle.streaming.proofs.Releases.{keeps_settings, settings_same, reads_set, reads_other, reads_from, froms_stay, unread_here, few_firings, few_taken}
+use Rattle.streaming.proofs.Owning.{owners_stay}
 use Rattle.streaming.proofs.forgetting.forget_settings.Goals as goal
 
 pub taken-taken-requires-clause-firings : goal.taken-taken-requires-clause-firings
@@ -75,3 +76,6 @@ returns-clause-own g c = λ some.
 
 pub returns-clause-others : goal.returns-clause-others
 returns-clause-others g c = λ a ne. reads_other c.args.parts.now.stores.handed.items c.args.block.0 a c.forget_settings.new.self ne
+
+pub returns-clause-alone : goal.returns-clause-alone
+returns-clause-alone g c = owners_stay c.args.parts.now.stores.handed.items c.args.block.0 c.index_mut.result.now c.forget_settings.new.self c.index_mut.ensures.value c.forget_settings.ensures.own

@@ -11,6 +11,7 @@ invariant-loop-block g l = record {
   right : IsRight g.B.Block.meaning l.parts;
   same : plant_of l.parts ≡ plant_of l.initial.parts;
   sinks : (spans_in l.parts).firsts.sinks ≡ (spans_in l.initial.parts).firsts.sinks;
+  own : (spans_in l.parts).own ≡ (spans_in l.initial.parts).own;
   tapes : let plant = plant_of l.initial.parts in (b : ℕ) → b < l.block → is_source (role_at (net_of g.B.Block.meaning plant.graph) b) ≡ true → get_or (spans_in l.parts).firsts.tapes b 0 ≡ fired plant.state b;
   settings : let plant = plant_of l.initial.parts in let net = net_of g.B.Block.meaning plant.graph in (b : ℕ) → b < l.block → is_source (role_at net b) ≡ false → IsSome (node_at net b).meaning.own →
       get_or (spans_in l.parts).firsts.settings b 0 ≡ taken_by (node_at net b) 0 (fired plant.state b);

@@ -52,4 +52,4 @@ returns-clause-spans g c =
     let there : source_type_of net c.args.source.0 ≡ Ok c.in_ok-source_type.field-0 = rw (← c.deref-2.ensures) (sym c.source_type.ensures ∙ c.in_ok-source_type.was) in
     let is = source_there net c.args.source.0 c.in_ok-source_type.field-0 there in
     let long = handed_long net _ (rw (← c.deref.ensures) c.recall.ensures.runs) _ _ c.requires.keeps in
-    spans_handed c.args.self.now.stores c.args.source.0 c.index_mut.result.now (record c.index_mut.result.now { closed = true }) c.index_mut.ensures.value (rw long is.inside) refl refl refl
+    spans_handed c.args.self.now.stores c.args.source.0 c.index_mut.result.now (record c.index_mut.result.now { closed = true }) c.index_mut.ensures.value (rw long is.inside) refl refl refl refl

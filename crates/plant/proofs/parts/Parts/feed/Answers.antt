@@ -108,7 +108,7 @@ returns-in_err-feed-clause-spans g c =
     let long = handed_long net _ (rw (← c.deref.ensures) c.recall.ensures.runs) _ _ c.requires.keeps in
     let same = c.in_err-feed.ensures.err in
     spans_handed c.args.self.now.stores c.args.source.0 c.index_mut.result.now c.feed.new.self c.index_mut.ensures.value (rw long is.inside)
-    (ap (λ (t : stored.Tape). t.from) same.tape) (ap stored.settings_from same.timeline) (ap (λ (h : Handed). h.longest) same.handed)
+    (ap (λ (t : stored.Tape). t.from) same.tape) (ap stored.settings_from same.timeline) (ap (λ (h : Handed). h.longest) same.handed) same.own
 
 pub returns-clause-spans : goal.returns-clause-spans
 returns-clause-spans g c =
@@ -118,4 +118,4 @@ returns-clause-spans g c =
     let long = handed_long net _ (rw (← c.deref.ensures) c.recall.ensures.runs) _ _ c.requires.keeps in
     let fed = c.in_ok-feed.ensures.ok in
     spans_handed c.args.self.now.stores c.args.source.0 c.index_mut.result.now c.feed.new.self c.index_mut.ensures.value (rw long is.inside)
-    (ap (λ (t : stored.Tape). t.from) fed.tape) (ap stored.settings_from fed.timeline) (ap (λ (h : Handed). h.longest) fed.handed)
+    (ap (λ (t : stored.Tape). t.from) fed.tape) (ap stored.settings_from fed.timeline) (ap (λ (h : Handed). h.longest) fed.handed) fed.own

@@ -1,4 +1,4 @@
-use Rattle.std.proofs.Common.{◌≡◌, ◌≤◌, ◌*◌, ◌^◌, map}
+use Rattle.std.proofs.Common.{◌≡◌, ◌≤◌, ◌*◌, ◌-◌, ◌^◌, map, min}
 use Rattle.std.specs.Prelude.{sum}
 use Rattle.stream_model.specs.Lists.{below}
 use Rattle.flowgraph.specs.Flowgraph.{net_of}
@@ -13,6 +13,8 @@ invariant-loop-block g l =
     record {
       given : KeepsAll (spans_in l.self) → l.headway.given ≡ sum (map (given_by_source net plant.state) (below l.block));
       fed : KeepsAll (spans_in l.self) → l.headway.fed ≡ sum (map (fed_to net plant.state) (below l.block));
+      given_shown : l.headway.given ≡ min (sum (map (given_by_source net plant.state) (below l.block))) (2 ^ 64 - 1);
+      fed_shown : l.headway.fed ≡ min (sum (map (fed_to net plant.state) (below l.block))) (2 ^ 64 - 1);
       within : l.headway.given ≤ l.headway.fed;
       short : KeepsAll (spans_in l.self) → l.headway.fed ≤ l.block * 2 ^ 32;
     }

@@ -139,7 +139,7 @@ returns-in_err-set-clause-spans g c =
     let long = handed_long net _ (rw (← c.deref.ensures) c.recall.ensures.runs) _ _ c.requires.keeps in
     let same = c.in_err-set.ensures.err in
     spans_handed c.args.self.now.stores c.args.block.0 c.index_mut.result.now c.set.new.self c.index_mut.ensures.value (rw long is.inside)
-    (ap (λ (t : stored.Tape). t.from) same.tape) (ap stored.settings_from same.timeline) (ap (λ (h : Handed). h.longest) same.handed)
+    (ap (λ (t : stored.Tape). t.from) same.tape) (ap stored.settings_from same.timeline) (ap (λ (h : Handed). h.longest) same.handed) same.own
 
 pub returns-clause-spans : goal.returns-clause-spans
 returns-clause-spans g c =
@@ -148,4 +148,4 @@ returns-clause-spans g c =
     let long = handed_long net _ (rw (← c.deref.ensures) c.recall.ensures.runs) _ _ c.requires.keeps in
     let set = c.in_ok-set.ensures.ok in
     spans_handed c.args.self.now.stores c.args.block.0 c.index_mut.result.now c.set.new.self c.index_mut.ensures.value (rw long is.inside)
-    (ap (λ (t : stored.Tape). t.from) set.tape) (unread_same set.timeline) (ap (λ (h : Handed). h.longest) set.handed)
+    (ap (λ (t : stored.Tape). t.from) set.tape) (unread_same set.timeline) (ap (λ (h : Handed). h.longest) set.handed) set.own

@@ -9,4 +9,5 @@ pub invariant_of-result : goal.invariant_of-result
 invariant_of-result g c = record {
   right = c.in-Ok.ensures.right;
   idle = ap (λ (x : PlantState _). is_idle x.state) c.in-Ok.ensures.opens ∙ opening-idle (net_of g.B.Block.meaning c.args.graph);
+  own = c.in-Ok.ensures.alone;
 }
