@@ -7,3 +7,5 @@ pub mod TakingIn
 pub mod Delivering
 pub mod Moving
 pub mod Faulting
+pub mod Noting
+pub mod Awaiting

@@ -13,7 +13,7 @@ use Rattle.raw_items.specs.Values.{items_of}
 use Rattle.raw_items.proofs.Pieces.{HasDecoded-more}
 use Rattle.streaming.specs.Streaming.{StreamingState}
 use Rattle.pipeline.specs.Ends.{InputState}
-use Rattle.pipeline.specs.Marks.{AreOver, AreRead, AreTold, FindsMarks, Marking, ReadsMarks}
+use Rattle.pipeline.specs.Marks.{AreOver, AreRead, AreTold, FindsMarks, Marking, ReadsMarks, have_failed}
 use Rattle.pipeline.specs.Pipeline.{HasRead, Intake, IsUnfed, MayHaveRead, longest_piece}
 use Rattle.pipeline.specs.Steps.{HasFed, TakesIn}
 use Rattle.pipeline.proofs.Growing.{consumes_none, consumes_then}
@@ -33,6 +33,8 @@ module _ {R : Type 0} (remaining : R → Option (List ℕ)) (b : ℕ) where
     stays_open = λ e. refl;
     closes = λ before ended. absurd (cc (before, ended));
     over = λ e. (refl, refl);
+    none_failed = refl;
+    no_mark_failed = refl;
   }
 
   module _ (i j k : InputState R) (f g h : Handed) (first : HasRead remaining b i j f g) where
@@ -61,12 +63,14 @@ module _ {R : Type 0} (remaining : R → Option (List ℕ)) (b : ℕ) where
           let one = first.over e in
           let two = second.over (ap InputState.is_ended one.0 ∙ e) in
           (two.0 ∙ one.0, two.1 ∙ one.1);
+      none_failed = second.none_failed ∙ first.none_failed;
+      no_mark_failed = second.no_mark_failed ∙ first.no_mark_failed;
     }
 
   -- bytes that were read were fed
-  pub fed-read : (i j k : InputState R) (h h' : Handed) (bytes : List ℕ) → Consumes (remaining i.reader) (remaining k.reader) bytes → j.decoder ≡ i.decoder → j.marks ≡ i.marks → j.is_ended ≡ false → i.is_ended ≡ false →
+  pub fed-read : (i j k : InputState R) (h h' : Handed) (bytes : List ℕ) → Consumes (remaining i.reader) (remaining k.reader) bytes → j.decoder ≡ i.decoder → j.marks ≡ i.marks → j.is_ended ≡ false → i.is_ended ≡ false → j.has_failed ≡ i.has_failed →
       HasFed remaining bytes b j k h h' → HasRead remaining b i k h h'
-  fed-read i j k h h' bytes read decoder marks open0 open1 fed = record {
+  fed-read i j k h h' bytes read decoder marks open0 open1 unfailed fed = record {
     bytes = bytes;
     read = read;
     layout = fed.layout ∙ ap (λ (d : Decoding). record d { cut = k.decoder.cut }) decoder;
@@ -78,11 +82,13 @@ module _ {R : Type 0} (remaining : R → Option (List ℕ)) (b : ℕ) where
     stays_open = λ e. ap Handed.closed fed.alone;
     closes = λ before ended. absurd (let same = fed.ended in cc (same, open0, ended));
     over = λ e. absurd (cc (e, open1));
+    none_failed = fed.none_failed ∙ unfailed;
+    no_mark_failed = fed.no_mark_failed ∙ ap have_failed marks;
   }
 
   -- nothing was read as yet
-  pub read-begun : (i j : InputState R) (h : Handed) → Consumes (remaining i.reader) (remaining j.reader) [] → j.decoder ≡ i.decoder → j.marks ≡ i.marks → i.is_ended ≡ false → j.is_ended ≡ i.is_ended → HasRead remaining b i j h h
-  read-begun i j h read decoder marks open0 same = record {
+  pub read-begun : (i j : InputState R) (h : Handed) → Consumes (remaining i.reader) (remaining j.reader) [] → j.decoder ≡ i.decoder → j.marks ≡ i.marks → i.is_ended ≡ false → j.is_ended ≡ i.is_ended → j.has_failed ≡ i.has_failed → HasRead remaining b i j h h
+  read-begun i j h read decoder marks open0 same unfailed = record {
     bytes = [];
     read = read;
     layout = decoder ∙ ap (λ (xs : List ℕ). record i.decoder { cut = xs }) (sym (ap Decoding.cut decoder));
@@ -94,12 +100,14 @@ module _ {R : Type 0} (remaining : R → Option (List ℕ)) (b : ℕ) where
     stays_open = λ e. refl;
     closes = λ before ended. absurd (cc (same, before, ended));
     over = λ e. absurd (cc (e, open0));
+    none_failed = unfailed;
+    no_mark_failed = ap have_failed marks;
   }
 
   -- at its end the source is closed
   pub end-read : (i k : InputState R) (h : Handed) → k.reader ≡ i.reader → k.decoder ≡ i.decoder → i.decoder.cut ≡ [] → k.is_ended ≡ true → i.is_ended ≡ false → IsAtEnd (remaining i.reader) →
-      FindsMarks remaining i.marks k.marks [] → AreOver k.marks → HasRead remaining b i k h (record h { closed = true })
-  end-read i k h reader decoder cut ended open0 at finds over = record {
+      FindsMarks remaining i.marks k.marks [] → AreOver k.marks → k.has_failed ≡ i.has_failed → have_failed k.marks ≡ have_failed i.marks → HasRead remaining b i k h (record h { closed = true })
+  end-read i k h reader decoder cut ended open0 at finds over unfailed no_mark = record {
     bytes = [];
     read = rw reader (consumes_none (remaining i.reader));
     layout = decoder ∙ ap (λ (xs : List ℕ). record i.decoder { cut = xs }) (sym (ap Decoding.cut decoder));
@@ -112,6 +120,8 @@ module _ {R : Type 0} (remaining : R → Option (List ℕ)) (b : ℕ) where
     stays_open = λ e. absurd (cc (e, ended));
     closes = λ before e. (refl, rw reader at, ap Decoding.cut decoder ∙ cut, over);
     over = λ e. absurd (cc (e, open0));
+    none_failed = unfailed;
+    no_mark_failed = no_mark;
   }
 
 module _ {R : Type 0} (remaining : R → Option (List ℕ)) where
@@ -159,8 +169,9 @@ not_cut b (x ∷ xs) iff e = let no : IsTrue false = subst IsTrue e (iff.1 (omeg
 -- a decoder's items at the end of a tape
 pub has_fed : {R : Type 0} (remaining : R → Option (List ℕ)) (i i' : InputState R) (b : ℕ) (bytes : List ℕ) (ys : List ℤ) (ms : List Mark) (h : Handed) → i'.decoder ≡ record i.decoder { cut = i'.decoder.cut } →
     ys ≡ items_of i.decoder.item_type i.decoder.order (i.decoder.cut ++ bytes) → i'.decoder.cut ≡ cut_of i.decoder.item_type (i.decoder.cut ++ bytes) → i'.is_ended ≡ i.is_ended → FindsMarks remaining i.marks i'.marks ms →
+    i'.has_failed ≡ i.has_failed → have_failed i'.marks ≡ have_failed i.marks →
     HasFed remaining bytes b i i' h (with_tape h b ys ms)
-has_fed remaining i i' b bytes ys ms h layout items cut ended finds = record {
+has_fed remaining i i' b bytes ys ms h layout items cut ended finds unfailed no_mark = record {
   layout = layout;
   fed = HasDecoded-more i.decoder i'.decoder bytes h.tape (h.tape ++ ys) (sym (ap Decoding.item_type layout)) (sym (ap Decoding.order layout)) (ap (λ zs. h.tape ++ zs) items) cut;
   marks = (finds-told remaining b i.marks i'.marks ms finds).0;
@@ -168,6 +179,8 @@ has_fed remaining i i' b bytes ys ms h layout items cut ended finds = record {
   marked = λ before start told. (finds-told remaining b i.marks i'.marks ms finds).2 before start h.tags told;
   alone = refl;
   ended = ended;
+  none_failed = unfailed;
+  no_mark_failed = no_mark;
 }
 
 -- where only the reader went on

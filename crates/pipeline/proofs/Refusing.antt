@@ -10,7 +10,7 @@ use Rattle.script_text.specs.Splits.{StartsTooLong}
 use Rattle.script_text.specs.MarkLines.{line_mark, marks_said}
 use Rattle.flowgraph.specs.declared.parts.BlockId.{BlockId}
 use Rattle.pipeline.specs.declared.fault.PipelineFault.{PipelineFault}
-use Rattle.pipeline.specs.declared.fault.PipelineFault.TheVariants.{Plant, Joined, Read, CutItem, ReadMarks, BadMark, MarkPlace, WriteItems, WriteTags, Memory}
+use Rattle.pipeline.specs.declared.fault.PipelineFault.TheVariants.{Plant, Joined, NotJoined, Read, CutItem, ReadMarks, BadMark, MarkPlace, WriteItems, WriteTags, Memory}
 use Rattle.pipeline.specs.Marks.{Gives, Marking, Rise, last_item}
 use Rattle.pipeline.specs.MarkFaults.{IsBehind, IsFirst, IsGivenTo, IsNone, IsOut, NamesFirst, Never, Refuses, Stands, Wrong}
 use Rattle.pipeline.proofs.Growing.{consumes_none, consumes_then}
@@ -120,6 +120,7 @@ module _ {R : Type 0} (remaining : R → Option (List ℕ)) where
     names-then (MarkPlace b n) first = first-weaker k m (IsOut P) (IsOut Q) n (out-weaker P Q f) (first-then k l m xs (IsOut P) n gives first)
     names-then (Plant b refused) first = tt
     names-then (Joined b) first = tt
+    names-then (NotJoined b) first = tt
     names-then (Read b error) first = tt
     names-then (CutItem b) first = tt
     names-then (ReadMarks b error) first = tt
@@ -147,6 +148,7 @@ module _ {R : Type 0} (remaining : R → Option (List ℕ)) where
         next-first m m' (Some mark) (IsOut Never) k goes_on none says at read (refuses.0 ∙ number) (λ above least. inl (subst (λ i. mark.offset < i) least refuses.1))
     refused-names None says (Plant b refused) refuses = tt
     refused-names None says (Joined b) refuses = tt
+    refused-names None says (NotJoined b) refuses = tt
     refused-names None says (Read b error) refuses = tt
     refused-names None says (CutItem b) refuses = tt
     refused-names None says (ReadMarks b error) refuses = tt
@@ -156,6 +158,7 @@ module _ {R : Type 0} (remaining : R → Option (List ℕ)) where
     refused-names None says Memory refuses = tt
     refused-names (Some mark) says (Plant b refused) refuses = tt
     refused-names (Some mark) says (Joined b) refuses = tt
+    refused-names (Some mark) says (NotJoined b) refuses = tt
     refused-names (Some mark) says (Read b error) refuses = tt
     refused-names (Some mark) says (CutItem b) refuses = tt
     refused-names (Some mark) says (ReadMarks b error) refuses = tt

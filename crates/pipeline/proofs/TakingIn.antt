@@ -1,6 +1,6 @@
 -- What feeding and closing leave.
 use Rattle.std.proofs.Common.{◌≡◌, ℕ, ◌+◌, ◌<◌, ◌⊎◌, ℤ, ◌++◌, true, false, not, List, [], ◌∷◌, length, refl, ap, sym, ◌∙◌, subst, inl, inr, Option, Some, None, ltb-true, get_or-set_same, get_or-set_other}
-use Rattle.std.specs.Prelude.{nat_lt}
+use Rattle.std.specs.Prelude.{nat_lt, Err}
 use Rattle.std.proofs.lemmas.List.{append-nil, set-get_or}
 use Rattle.stream_model.specs.declared.vocabulary.ItemType.{ItemType}
 use Rattle.stream_model.specs.Numbers.{types_agree}
@@ -10,6 +10,7 @@ use Rattle.stream_model.specs.Machine as machine
 use Rattle.stream_model.specs.Machine.{Capacities, Call, Feed, Close, Reply, with_handed, with_tape, marks_fit, feed_of, close_of, next}
 use Rattle.machine_laws.specs.Sound.{Sound}
 use Rattle.machine_laws.proofs.Choices.{if_both, not_false}
+use Rattle.flowgraph.specs.declared.parts.BlockId.{BlockId}
 use Rattle.plant_laws.specs.Stored.{Firsts}
 use Rattle.plant.specs.declared.fault.PlantFault.{PlantFault}
 use Rattle.plant.specs.declared.fault.PlantFault.TheVariants as fault
@@ -17,6 +18,7 @@ use Rattle.plant.specs.Answers.{Answered, AnsweredAlways, refusal_of}
 use Rattle.plant.specs.Plant.{PlantState}
 use Rattle.streaming.specs.Streaming.{StaysBegun, StreamingState, drained}
 use Rattle.pipeline.specs.Ends.{InputState}
+use Rattle.pipeline.specs.Faults.{of_plant, told_reply}
 use Rattle.pipeline.specs.Pipeline.{Intake}
 use Rattle.pipeline.specs.Steps.{TakesIn}
 
@@ -127,3 +129,19 @@ nothing-fed h b = ap (λ (xs : List ℤ). record h { tape = xs; tags = h.tags ++
 
 pub handed-same : (st : State) (b : ℕ) → with_handed st b (handed_at st.handed b) ≡ st
 handed-same st b = ap (λ (hs : List Handed). record st { handed = hs }) (set-get_or st.handed b nothing_handed)
+
+-- a refusal by the plant is told as that, and a lack of memory as such
+pub told_as_refused : {A : Type 0} (accepted : A → Reply) (b : BlockId) (f : PlantFault) → told_reply accepted (Err (of_plant b f)) ≡ refusal_of f
+told_as_refused accepted b fault.NoSuchBlock = refl
+told_as_refused accepted b fault.NotSource = refl
+told_as_refused accepted b fault.NotSink = refl
+told_as_refused accepted b fault.Closed = refl
+told_as_refused accepted b fault.ItemRange = refl
+told_as_refused accepted b fault.TagPlace = refl
+told_as_refused accepted b fault.TapeFull = refl
+told_as_refused accepted b (fault.Late floor) = refl
+told_as_refused accepted b fault.NoSetting = refl
+told_as_refused accepted b fault.WrongSetting = refl
+told_as_refused accepted b fault.BeyondEnd = refl
+told_as_refused accepted b fault.NoSuchPort = refl
+told_as_refused accepted b fault.Memory = refl

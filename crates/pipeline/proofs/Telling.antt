@@ -210,6 +210,10 @@ module _ {R : Type 0} (remaining : R → Option (List ℕ)) where
   finds-read (Some k) None marks finds = absurd finds
   finds-read (Some k) (Some l) marks finds = gives-read k l l marks finds
 
+  pub finds-none : (k : Option (Marking R)) → FindsMarks remaining k k []
+  finds-none None = refl
+  finds-none (Some m) = gives-none m
+
   pub are_read-none : (k : Option (Marking R)) → AreRead remaining k k
   are_read-none None = tt
   are_read-none (Some m) = gives-read m m m [] (gives-none m)

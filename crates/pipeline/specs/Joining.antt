@@ -1,5 +1,5 @@
 -- What a block of a pipeline is joined to.
-use Rattle.std.specs.Prelude.{ℕ, ◌≡◌, List, [], length, false, not, nat_lt, if◌then◌else◌, Option, Some, None, Result, Ok, Err, slice_set}
+use Rattle.std.specs.Prelude.{ℕ, ◌≡◌, List, [], length, false, not, nat_lt, if◌then◌else◌, Option, Some, None, Result, Ok, Err, ⊤, slice_set}
 use Rattle.stream_model.specs.declared.vocabulary.ItemType.{ItemType}
 use Rattle.stream_model.specs.Network.{Network, node_at, role_at, is_keeper}
 use Rattle.items.specs.Items.{type_of}
@@ -23,7 +23,7 @@ sink_type_of net b =
 -- a block is joined to a reader of which nothing was read, and has no marks
 abbrev pub JoinsReader : {R W : Type 0} → Network → ℕ → ByteOrder → R → List (End R W) → List (End R W) → Type 0
 JoinsReader net b order reader es es' =
-    es' ≡ slice_set es b (ends.Input (record { reader = reader; decoder = record { item_type = (node_at net b).meaning.outputs.item; order = order; cut = [] }; marks = None; is_ended = false }))
+    es' ≡ slice_set es b (ends.Input (record { reader = reader; has_failed = false; decoder = record { item_type = (node_at net b).meaning.outputs.item; order = order; cut = [] }; marks = None; is_ended = false }))
 
 -- the items of a reader are marked by another, of which nothing was read
 pub record JoinsMarks {R W : Type 0} (b : ℕ) (reader : R) (es es' : List (End R W)) : Type 0 where
@@ -37,6 +37,18 @@ abbrev pub IsUnmarked : {R W : Type 0} → End R W → Type 0
 IsUnmarked (ends.Input i) = i.marks ≡ None
 IsUnmarked ends.Open = ⊥
 IsUnmarked (ends.Output o) = ⊥
+
+-- it has both
+abbrev pub IsMarked : {R W : Type 0} → End R W → Type 0
+IsMarked (ends.Input i) = i.marks ≡ None → ⊥
+IsMarked ends.Open = ⊥
+IsMarked (ends.Output o) = ⊥
+
+-- it has no reader
+abbrev pub IsUnread : {R W : Type 0} → End R W → Type 0
+IsUnread (ends.Input i) = ⊥
+IsUnread ends.Open = ⊤
+IsUnread (ends.Output o) = ⊤
 
 -- it is joined to writers
 pub record JoinsWriters {R W : Type 0} (net : Network) (b : ℕ) (order : ByteOrder) (items tags : Option W) (es es' : List (End R W)) : Type 0 where

@@ -6,10 +6,11 @@ use Rattle.stream_model.specs.Tags.{Mark, Tag}
 use Rattle.stream_model.specs.Machine.{tag_of}
 use Rattle.script_text.specs.MarkLines.{marks_said}
 
--- a reader of marks: what was read of which no line was taken, how many lines with a line feed were taken, the mark that was read and not given yet, whether the
+-- a reader of marks: whether a read of it failed, what was read of which no line was taken, how many lines with a line feed were taken, the mark that was read and not given yet, whether the
 -- reader has no more, the number of the line of the mark that was read last, and its item
 pub record Marking (R : Type 0) : Type 0 where
   pub reader : R
+  pub has_failed : Bool
   pub rest : List ℕ
   pub taken : ℕ
   pub held : Option Mark
@@ -19,7 +20,7 @@ pub record Marking (R : Type 0) : Type 0 where
 
 -- a reader of which nothing was read
 abbrev pub unread : {R : Type 0} → R → Marking R
-unread reader = record { reader = reader; rest = []; taken = 0; held = None; is_over = false; line = 0; least = 0 }
+unread reader = record { reader = reader; has_failed = false; rest = []; taken = 0; held = None; is_over = false; line = 0; least = 0 }
 
 -- marks in the order of their items, of which the first is not before item n
 abbrev pub Rise : ℕ → List Mark → Type 0
@@ -84,6 +85,11 @@ ReadsMarks remaining (Some m) None bytes = ⊥
 abbrev pub AreTold : {R : Type 0} → (R → Option (List ℕ)) → ℕ → Option (Marking R) → List ℕ → List Tag → List Tag → Type 0
 AreTold remaining b None bytes start out = out ≡ start
 AreTold remaining b (Some m) bytes start out = (given : List Mark) × HasTold remaining m bytes given × (out ≡ start ++ map (tag_of b) given)
+
+-- whether a read of the reader of marks failed
+abbrev pub have_failed : {R : Type 0} → Option (Marking R) → Bool
+have_failed None = false
+have_failed (Some m) = m.has_failed
 
 -- no mark is left
 abbrev pub AreOver : {R : Type 0} → Option (Marking R) → Type 0

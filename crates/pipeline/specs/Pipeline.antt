@@ -15,7 +15,7 @@ use Rattle.streaming.specs.Streaming.{StreamingState, drained, stream_into, tags
 use Rattle.pipeline.specs.declared.end.End.{End}
 use Rattle.pipeline.specs.declared.end.End.TheVariants as ends
 use Rattle.pipeline.specs.Ends.{InputState}
-use Rattle.pipeline.specs.Marks.{AreOver, AreRead, AreTold, ReadsMarks}
+use Rattle.pipeline.specs.Marks.{AreOver, AreRead, AreTold, ReadsMarks, have_failed}
 use Rattle.pipeline.specs.declared.end.Output.{Output}
 
 -- how known bytes grow by a text: by all of it, or by a beginning
@@ -42,7 +42,7 @@ Intake R = (b : ℕ) → InputState R → InputState R → Handed → Handed →
 
 -- what was read was fed: if the tape ended with the items of some bytes, it ends with those of these bytes and what was read. If its tags were those at some start
 -- and the marks that were given on of some bytes, they are those that were given on of these bytes and what was read of the reader of marks. The source is closed
--- only as its reader ends: it is then at its end, its bytes were whole items, and no mark is left. A reader that had ended is not read, nor its source fed
+-- only as its reader ends: it is then at its end, its bytes were whole items, and no mark is left. A reader that had ended is not read, nor its source fed. No read failed
 pub record HasRead {R : Type 0} (remaining : R → Option (List ℕ)) (b : ℕ) (old new : InputState R) (handed handed' : Handed) : Type 0 where
   pub bytes : List ℕ
   pub read : Consumes (remaining old.reader) (remaining new.reader) bytes
@@ -55,6 +55,8 @@ pub record HasRead {R : Type 0} (remaining : R → Option (List ℕ)) (b : ℕ) 
   pub stays_open : new.is_ended ≡ false → handed'.closed ≡ handed.closed
   pub closes : old.is_ended ≡ false → new.is_ended ≡ true → (handed'.closed ≡ true) × IsAtEnd (remaining new.reader) × (new.decoder.cut ≡ []) × AreOver new.marks
   pub over : old.is_ended ≡ true → (new ≡ old) × (handed' ≡ handed)
+  pub none_failed : new.has_failed ≡ old.has_failed
+  pub no_mark_failed : have_failed new.marks ≡ have_failed old.marks
 
 -- how many bytes a piece has at most
 abbrev pub longest_piece : ℕ

@@ -5,7 +5,7 @@ use Rattle.stream_model.specs.Tags.{Tag}
 use Rattle.raw_items.specs.Decoding.{HasDecoded}
 use Rattle.streaming.specs.Streaming.{StreamingState, drained}
 use Rattle.pipeline.specs.Ends.{InputState}
-use Rattle.pipeline.specs.Marks.{AreTold, ReadsMarks}
+use Rattle.pipeline.specs.Marks.{AreTold, ReadsMarks, have_failed}
 use Rattle.pipeline.specs.declared.end.Output.{Output}
 use Rattle.pipeline.specs.Pipeline.{Growth, HasWritten, Intake, KeepsDrained}
 
@@ -18,6 +18,8 @@ pub record HasFed {R : Type 0} (remaining : R → Option (List ℕ)) (bytes : Li
   pub marked : (before : List ℕ) (start : List Tag) → AreTold remaining b old.marks before start handed.tags → AreTold remaining b new.marks (before ++ marks) start handed'.tags
   pub alone : handed' ≡ record handed { tape = handed'.tape; tags = handed'.tags }
   pub ended : new.is_ended ≡ old.is_ended
+  pub none_failed : new.has_failed ≡ old.has_failed
+  pub no_mark_failed : have_failed new.marks ≡ have_failed old.marks
 
 -- a source was handed what its reader gave, and nothing else changed
 pub record TakesIn {R B : Type 0} (Reads : Intake R) (net : Network) (old new : StreamingState B) (source : ℕ) (i i' : InputState R) : Type 0 where

@@ -12,7 +12,7 @@ ghost use Rattle.reporting.specs.Ends.{AppendsBeginning};
 ghost use Rattle.script_text.specs.Printed.{tags_seen};
 ghost use Rattle.script_text.specs.Replies.{tag_line};
 ghost use Rattle.streaming.specs.Streaming.{drained};
-ghost use Rattle.pipeline.specs.Faults.{IsOfWriters};
+ghost use Rattle.pipeline.specs.Faults.{IsNotOfItems, IsNotOfTags, IsOfWriters, LeavesTags};
 ghost use Rattle.pipeline.specs.Pipeline.{WriterGrows};
 ghost use Rattle.pipeline.specs.Steps.{Delivers};
 
@@ -35,6 +35,7 @@ pub(crate) fn deliver<B: Block, W: Write>(
     ensures all { OnOk result (drained plant.new sink.0 ≡ fired plant.new.plant.state sink.0) }
     ensures err { OnErr result (Delivers AppendsBeginning W.contents (net_of B.meaning plant.old.plant.graph) plant.old plant.new sink.0 output.old output.new) }
     ensures fault { IfErr result (IsOfWriters sink output.new) }
+    ensures tags_wait { IfErr result (LeavesTags output.old output.new) }
 {
     plant.recall();
     output.items.clear();
@@ -62,6 +63,7 @@ fn write_items<W: Write>(sink: BlockId, output: &mut Output<W>) -> Result<(), Pi
     ensures ok { OnOk result (WriterGrows Appends W.contents output.old.items_to output.new.items_to (all_bytes_of (type_of output.old.items) output.old.order (numbers_of output.old.items))) }
     ensures err { OnErr result (WriterGrows AppendsBeginning W.contents output.old.items_to output.new.items_to (all_bytes_of (type_of output.old.items) output.old.order (numbers_of output.old.items))) }
     ensures fault { IfErr result (IsOfWriters sink output.new) }
+    ensures own { IfErr result IsNotOfTags }
 {
     let Some(writer) = &mut output.items_to else {
         return Ok(());
@@ -86,6 +88,7 @@ fn write_tags<W: Write>(sink: BlockId, output: &mut Output<W>) -> Result<(), Pip
     ensures ok { OnOk result (WriterGrows Appends W.contents output.old.tags_to output.new.tags_to (flat_map tag_line (tags_seen output.old.tags.items))) }
     ensures err { OnErr result (WriterGrows AppendsBeginning W.contents output.old.tags_to output.new.tags_to (flat_map tag_line (tags_seen output.old.tags.items))) }
     ensures fault { IfErr result (IsOfWriters sink output.new) }
+    ensures own { IfErr result IsNotOfItems }
 {
     let Some(writer) = &mut output.tags_to else {
         return Ok(());
@@ -104,6 +107,7 @@ pub(crate) fn flush<W: Write>(sink: BlockId, output: &mut Output<W>) -> Result<(
     ensures items { WriterGrows Appends W.contents output.old.items_to output.new.items_to [] }
     ensures tags { WriterGrows Appends W.contents output.old.tags_to output.new.tags_to [] }
     ensures fault { IfErr result (IsOfWriters sink output.new) }
+    ensures tags_wait { IfErr result (LeavesTags output.old output.new) }
 {
     if let Some(writer) = &mut output.items_to {
         if let Err(error) = writer.flush() {

@@ -8,6 +8,7 @@ ghost use Rattle.pipeline.specs.Pipeline.{has_more};
 
 use crate::fault::PipelineFault;
 use crate::marks::MarkReader;
+use crate::tracked::Tracked;
 use flowgraph::BlockId;
 use items::{ItemType, Items, Mark};
 use raw_items::{ByteOrder, Decoder};
@@ -18,7 +19,7 @@ use tags::Tag;
 /// A reader whose bytes are the items of a source, and one of its marks where there is one.
 #[derive(Drop)]
 pub struct Input<R> {
-    pub(crate) reader: R,
+    pub(crate) reader: Tracked<R>,
     // What makes items of the bytes.
     pub(crate) decoder: Decoder,
     // What the marks on these items are read from.
@@ -37,7 +38,7 @@ impl<R> Model for Input<R> {
 
     ghost Value = { InputState R };
 
-    ghost view = { λ i. record { reader = i.reader; decoder = i.decoder; marks = i.marks; is_ended = i.is_ended } };
+    ghost view = { λ i. record { reader = i.reader.reader; has_failed = i.reader.has_failed; decoder = i.decoder; marks = i.marks; is_ended = i.is_ended } };
 
     ghost invariant = { λ i. type_of i.items ≡ i.decoder.item_type };
 }
@@ -47,15 +48,15 @@ impl<R> Input<R> {
     pub fn reader(&self) -> &R
         ensures { result.now ≡ self.now.reader }
     {
-        &self.reader
+        self.reader.reader()
     }
 
     /// A reader of which nothing was read, for a source of such items.
     pub(crate) fn new(alloc: Global, item: ItemType, order: ByteOrder, reader: R) -> Input<R>
-        ensures { result ≡ record { reader = reader; decoder = record { item_type = item; order = order; cut = [] }; marks = None; is_ended = false } }
+        ensures { result ≡ record { reader = reader; has_failed = false; decoder = record { item_type = item; order = order; cut = [] }; marks = None; is_ended = false } }
     {
         Input {
-            reader,
+            reader: Tracked::new(reader),
             decoder: Decoder::new(item, order),
             marks: None,
             items: Items::empty(alloc, item),

@@ -18,6 +18,8 @@ pub enum PipelineFault {
     Plant(BlockId, PlantFault),
     /// It is joined to a reader or to writers already.
     Joined(BlockId),
+    /// It is joined to no reader of items, on which marks could be.
+    NotJoined(BlockId),
     /// Its reader failed.
     Read(BlockId, io::Error),
     /// What was read for it ends within an item.
@@ -55,6 +57,7 @@ impl Refusal for PipelineFault {
         match self {
             PipelineFault::Plant(_, fault) => fault.row(),
             PipelineFault::Joined(_) => (34, "Joined"),
+            PipelineFault::NotJoined(_) => (35, "NotJoined"),
             PipelineFault::Read(..) | PipelineFault::ReadMarks(..) => (51, "Read"),
             PipelineFault::BadMark(..) => (50, "BadLine"),
             PipelineFault::MarkPlace(..) => (25, "TagPlace"),
@@ -72,6 +75,7 @@ impl fmt::Display for PipelineFault {
         match self {
             PipelineFault::Plant(_, fault) => write!(f, "{fault}"),
             PipelineFault::Joined(_) => f.write_str("the block is joined already"),
+            PipelineFault::NotJoined(_) => f.write_str("the block is joined to no reader of items"),
             PipelineFault::Read(_, error) => write!(f, "reading failed: {error}"),
             PipelineFault::ReadMarks(_, error) => write!(f, "reading marks failed: {error}"),
             PipelineFault::BadMark(_, line) => write!(f, "line {line} of the marks is no mark"),

@@ -3,8 +3,12 @@
 ghost use Rattle.std.specs.Prelude.{◌≡◌, [], false, IfErr, OnOk, OnErr};
 ghost use Rattle.std.specs.Io.KnownBytes.{IsAtEnd};
 ghost use Rattle.flowgraph.specs.Flowgraph.{net_of};
-ghost use Rattle.items.specs.Items.{numbers_of};
-ghost use Rattle.pipeline.specs.Faults.{IsOfPlant, IsOfReader};
+ghost use Rattle.stream_model.specs.Machine as machine;
+ghost use Rattle.stream_model.specs.Machine.{feed_of};
+ghost use Rattle.items.specs.Items.{numbers_of, type_of};
+ghost use Rattle.plant.specs.Answers.{Answered};
+ghost use Rattle.pipeline.specs.Faults.{IsCut, IsOfPlant, IsOfReader, NotesReads, told_reply};
+ghost use Rattle.script_text.specs.Commands.{marks_seen};
 ghost use Rattle.pipeline.specs.Marks.{AreRead};
 ghost use Rattle.pipeline.specs.Pipeline.{HasRead, MayHaveRead};
 ghost use Rattle.pipeline.specs.Steps.{HasFed, TakesIn};
@@ -13,9 +17,9 @@ use crate::end::Input;
 use crate::fault::PipelineFault;
 use crate::marks::{end_marks, find_marks};
 use flowgraph::{Block, BlockId};
-use items::Items;
+use items::{Items, Mark};
 use std::io::Read;
-use streaming::StreamingPlant;
+use streaming::{Fed, StreamingPlant};
 
 /// How many bytes are read at once, at most.
 pub(crate) const PIECE: usize = 65_536;
@@ -31,6 +35,8 @@ impl<R: Read> Input<R> {
         ensures ok { OnOk result (TakesIn (HasRead R.remaining) (net_of B.meaning plant.old.plant.graph) plant.old plant.new source.0 self.old self.new) }
         ensures err { OnErr result (TakesIn (MayHaveRead R.remaining source.0) (net_of B.meaning plant.old.plant.graph) plant.old plant.new source.0 self.old self.new) }
         ensures fault { IfErr result (IsOfReader R.remaining source self.new) }
+        ensures noted { IfErr result (NotesReads self.old self.new) }
+        ensures cut { IfErr result (λ fault. IsCut fault → TakesIn (HasRead R.remaining) (net_of B.meaning plant.old.plant.graph) plant.old plant.new source.0 self.old self.new) }
     {
         if self.is_ended {
             return Ok(());
@@ -58,17 +64,21 @@ impl<R: Read> Input<R> {
         ensures ended { OnErr result (self.new.is_ended ≡ self.old.is_ended) }
         ensures marks { OnErr result (AreRead R.remaining self.old.marks self.new.marks) }
         ensures fault { IfErr result (IsOfReader R.remaining source self.new) }
+        ensures noted { IfErr result (NotesReads self.old self.new) }
+        ensures whole { IfErr result (λ fault. IsCut fault → ⊥) }
     {
         self.items.clear();
         self.found.clear();
         let start = start_of(self.marks.is_some(), plant, source, &self.items)?;
         self.decoder.push(bytes, &mut self.items)?;
+        // No mark is asked for as long as there is no item that it may be on.
+        if self.items.is_empty() {
+            return Ok(());
+        }
         let end = start.saturating_add(self.items.len() as u64);
         find_marks(&mut self.marks, source, start, end, &mut self.found)?;
         plant.recall();
-        if let Err(fault) = plant.feed(source, &self.items, &self.found) {
-            return Err(PipelineFault::of_plant(source, fault));
-        }
+        let _fed = hand(plant, source, &self.items, &self.found)?;
         Ok(())
     }
 
@@ -86,6 +96,8 @@ impl<R: Read> Input<R> {
         ensures ended { OnErr result (self.new.is_ended ≡ self.old.is_ended) }
         ensures marks { OnErr result (AreRead R.remaining self.old.marks self.new.marks) }
         ensures fault { IfErr result (IsOfReader R.remaining source self.new) }
+        ensures noted { IfErr result (NotesReads self.old self.new) }
+        ensures cut { IfErr result (λ fault. IsCut fault → self.new ≡ self.old) }
     {
         if self.decoder.is_cut() {
             return Err(PipelineFault::CutItem(source));
@@ -115,8 +127,24 @@ fn start_of<B: Block>(
         return Ok(0);
     }
     // A feed of nothing tells how many there were.
-    match plant.feed(source, nothing, &[]) {
-        Ok(total) => Ok(total.0),
+    let total = hand(plant, source, nothing, &[])?;
+    Ok(total.0)
+}
+
+// Feeds a source, and tells what the plant tells.
+fn hand<B: Block>(
+    plant: &mut StreamingPlant<B>,
+    source: BlockId,
+    items: &Items,
+    marks: &[Mark],
+) -> Result<Fed, PipelineFault>
+    ensures answered { Answered (feed_of (net_of B.meaning plant.old.plant.graph) plant.old.plant.state source.0 (type_of items.now) (numbers_of items.now) (marks_seen marks.now)) plant.old.plant plant.new.plant (told_reply (λ f. machine.Fed f.0) result) }
+    ensures kept { plant.new.kept ≡ plant.old.kept }
+    ensures err { OnErr result (plant.new ≡ plant.old) }
+    ensures fault { IfErr result (IsOfPlant source) }
+{
+    match plant.feed(source, items, marks) {
+        Ok(fed) => Ok(fed),
         Err(fault) => Err(PipelineFault::of_plant(source, fault)),
     }
 }

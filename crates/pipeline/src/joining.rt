@@ -5,8 +5,8 @@ ghost use Rattle.stream_model.specs.Network.{node_at};
 ghost use Rattle.flowgraph.specs.Flowgraph.{net_of};
 ghost use Rattle.plant.specs.Answers.{source_type_of};
 ghost use Rattle.pipeline.specs.declared.end.End.TheVariants.{Open};
-ghost use Rattle.pipeline.specs.declared.fault.PipelineFault.TheVariants.{Joined, Memory, Plant};
-ghost use Rattle.pipeline.specs.Joining.{IsUnmarked, JoinsMarks, JoinsReader, JoinsWriters, sink_type_of};
+ghost use Rattle.pipeline.specs.declared.fault.PipelineFault.TheVariants.{Joined, Memory, NotJoined, Plant};
+ghost use Rattle.pipeline.specs.Joining.{IsMarked, IsUnmarked, IsUnread, JoinsMarks, JoinsReader, JoinsWriters, sink_type_of};
 ghost use Rattle.pipeline.specs.Pipeline.{end_at};
 
 use crate::end::{End, Input, Output};
@@ -69,7 +69,7 @@ impl<B: Block, R: Read + Drop, W: Write + Drop> Pipeline<B, R, W> {
     }
 
     /// Has the items of a source be marked by what the lines of a reader say, each a mark `@OFFSET:KEY=VALUE`, in the order of their items. Refused are a block
-    /// that has no reader of items, or has one of marks already, and a lack of memory. Then nothing changes.
+    /// that has no reader of items (`NotJoined`), or has one of marks already (`Joined`), and a lack of memory. Then nothing changes.
     pub fn mark_from(
         &mut self,
         alloc: Global,
@@ -77,18 +77,19 @@ impl<B: Block, R: Read + Drop, W: Write + Drop> Pipeline<B, R, W> {
         reader: R,
     ) -> Result<(), PipelineFault>
         ensures plant { self.new.plant ≡ self.old.plant }
-        ensures joined { (IsUnmarked (end_at self.old.ends.items source.0) → ⊥) → result ≡ Err (Joined source) }
+        ensures joined { IsMarked (end_at self.old.ends.items source.0) → result ≡ Err (Joined source) }
+        ensures unread { IsUnread (end_at self.old.ends.items source.0) → result ≡ Err (NotJoined source) }
         ensures free { IsUnmarked (end_at self.old.ends.items source.0) → IfErr result (λ fault. fault ≡ Memory) }
         ensures joins { OnOk result (JoinsMarks source.0 reader self.old.ends.items self.new.ends.items) }
         ensures err { OnErr result (self.new.ends.items ≡ self.old.ends.items) }
     {
         let at = source.0 as usize;
         if self.ends.len() <= at {
-            return Err(PipelineFault::Joined(source));
+            return Err(PipelineFault::NotJoined(source));
         }
         match &mut self.ends[at] {
             End::Input(input) => input.join_marks(alloc, source, reader),
-            End::Open | End::Output(_) => Err(PipelineFault::Joined(source)),
+            End::Open | End::Output(_) => Err(PipelineFault::NotJoined(source)),
         }
     }
 

@@ -10,7 +10,7 @@
 //!
 //! Memory is constant, however long the streams are, where each sink that keeps items has an output. What a writer was given is, at any time and also after a
 //! fault, a beginning of what the equations of the blocks give for all that was read, and all of it where the run is done. A run that ended by a fault is not to
-//! be gone on with: what was read or drained last may be lost.
+//! be gone on with: what was read or drained last may be lost. Behind a cut item alone it may, once its source is closed.
 #![tactic(auto)]
 
 mod delivery;
@@ -20,6 +20,7 @@ mod intake;
 mod joining;
 mod marks;
 pub mod pipeline;
+mod tracked;
 
 pub use end::{End, Input, Output};
 pub use fault::PipelineFault;

@@ -6,12 +6,13 @@ ghost use Rattle.std.specs.Option.{option_map};
 ghost use Rattle.std.specs.Io.KnownBytes.{IsAtEnd};
 ghost use Rattle.script_text.specs.Commands.{mark_seen, marks_seen};
 ghost use Rattle.script_text.specs.Splits.{IsUnfinished};
-ghost use Rattle.pipeline.specs.Faults.{IsOfMarks};
+ghost use Rattle.pipeline.specs.Faults.{IsOfMarks, NotesMarks};
 ghost use Rattle.pipeline.specs.MarkFaults.{AreBehind, AreGivenTo, IsBefore, IsBehind, IsGivenTo, IsWithin, NameFirst, NamesFirst, Never, Refuses};
-ghost use Rattle.pipeline.specs.Marks.{AreOver, AreRead, FindsMarks, Follows, Gives, GivesTo, IsOver, IsRead, unread};
+ghost use Rattle.pipeline.specs.Marks.{AreOver, AreRead, FindsMarks, Follows, Gives, GivesTo, IsOver, IsRead, have_failed, unread};
 
 use crate::fault::PipelineFault;
 use crate::intake::PIECE;
+use crate::tracked::Tracked;
 use flowgraph::BlockId;
 use items::Mark;
 use script_text::{FirstLine, LineSplitter, parse_mark_line};
@@ -22,7 +23,7 @@ use std::marker::Model;
 /// A reader whose lines are marks, in the order of their items.
 #[derive(Drop)]
 pub struct MarkReader<R> {
-    reader: R,
+    reader: Tracked<R>,
     // Where it puts the bytes of a piece.
     piece: Box<[u8; PIECE]>,
     // What makes lines of its bytes.
@@ -48,7 +49,8 @@ impl<R> Model for MarkReader<R> {
     ghost Value = { Marking R };
 
     ghost view = { λ m. record {
-      reader = m.reader;
+      reader = m.reader.reader;
+      has_failed = m.reader.has_failed;
       rest = (if m.is_over then [] else m.lines.rest);
       taken = m.lines.taken;
       held = option_map mark_seen m.held;
@@ -66,7 +68,7 @@ impl<R: Drop> MarkReader<R> {
         let piece = Box::new(alloc, [0; PIECE])?;
         let lines = LineSplitter::new(alloc)?;
         Ok(MarkReader {
-            reader,
+            reader: Tracked::new(reader),
             piece,
             lines,
             held: None,
@@ -91,6 +93,8 @@ impl<R: Read> MarkReader<R> {
         ensures within { OnOk result (All (IsWithin start end) (marks_seen marks.old.items) → All (IsWithin start end) (marks_seen marks.new.items)) }
         ensures err { OnErr result (IsRead R.remaining self.old self.new) }
         ensures fault { IfErr result (IsOfMarks source) }
+        ensures stays { OnOk result (self.new.has_failed ≡ self.old.has_failed) }
+        ensures noted { IfErr result (NotesMarks self.old.has_failed self.new.has_failed) }
         ensures first { IfErr result (NamesFirst R.remaining (IsBefore start) self.old self.new) }
     {
         for _marks in 0..u64::MAX {
@@ -115,6 +119,8 @@ impl<R: Read> MarkReader<R> {
         ensures within { OnOk result (All (IsWithin start end) (marks_seen marks.old.items) → All (IsWithin start end) (marks_seen marks.new.items)) }
         ensures err { OnErr result (IsRead R.remaining self.old self.new) }
         ensures fault { IfErr result (IsOfMarks source) }
+        ensures stays { OnOk result (self.new.has_failed ≡ self.old.has_failed) }
+        ensures noted { IfErr result (NotesMarks self.old.has_failed self.new.has_failed) }
         ensures first { IfErr result (NamesFirst R.remaining (IsBefore start) self.old self.new) }
     {
         self.find(source)?;
@@ -139,6 +145,8 @@ impl<R: Read> MarkReader<R> {
         ensures over { OnOk result (IsOver self.new) }
         ensures err { OnErr result (IsRead R.remaining self.old self.new) }
         ensures fault { IfErr result (IsOfMarks source) }
+        ensures stays { OnOk result (self.new.has_failed ≡ self.old.has_failed) }
+        ensures noted { IfErr result (NotesMarks self.old.has_failed self.new.has_failed) }
         ensures first { IfErr result (NamesFirst R.remaining (IsBehind self.old) self.old self.new) }
     {
         self.find(source)?;
@@ -155,6 +163,8 @@ impl<R: Read> MarkReader<R> {
         ensures same { (n : ℕ) → IsGivenTo n self.old → self.new ≡ self.old }
         ensures err { OnErr result (IsRead R.remaining self.old self.new) }
         ensures fault { IfErr result (IsOfMarks source) }
+        ensures stays { OnOk result (self.new.has_failed ≡ self.old.has_failed) }
+        ensures noted { IfErr result (NotesMarks self.old.has_failed self.new.has_failed) }
         ensures first { IfErr result (NamesFirst R.remaining Never self.old self.new) }
     {
         for _pieces in 0..u64::MAX {
@@ -174,6 +184,8 @@ impl<R: Read> MarkReader<R> {
         ensures ok { OnOk result (Gives R.remaining self.old self.new []) }
         ensures err { OnErr result (IsRead R.remaining self.old self.new) }
         ensures fault { IfErr result (IsOfMarks source) }
+        ensures stays { OnOk result (self.new.has_failed ≡ self.old.has_failed) }
+        ensures noted { IfErr result (NotesMarks self.old.has_failed self.new.has_failed) }
         ensures first { IfErr result (NamesFirst R.remaining Never self.old self.new) }
     {
         let taken = self.lines.taken();
@@ -200,6 +212,8 @@ impl<R: Read> MarkReader<R> {
         ensures ok { OnOk result (Gives R.remaining self.old self.new []) }
         ensures err { OnErr result (IsRead R.remaining self.old self.new) }
         ensures fault { IfErr result (IsOfMarks source) }
+        ensures stays { OnOk result (self.new.has_failed ≡ self.old.has_failed) }
+        ensures noted { IfErr result (NotesMarks self.old.has_failed self.new.has_failed) }
         ensures first { IfErr result (NamesFirst R.remaining Never self.old self.new) }
     {
         let piece: &mut [u8; PIECE] = &mut self.piece;
@@ -224,6 +238,8 @@ impl<R: Read> MarkReader<R> {
         ensures ok { OnOk result (Gives R.remaining self.old self.new []) }
         ensures err { OnErr result (IsRead R.remaining self.old self.new) }
         ensures fault { IfErr result (IsOfMarks source) }
+        ensures stays { OnOk result (self.new.has_failed ≡ self.old.has_failed) }
+        ensures noted { IfErr result (NotesMarks self.old.has_failed self.new.has_failed) }
         ensures first { IfErr result (NamesFirst R.remaining Never self.old self.new) }
     {
         self.is_over = true;
@@ -273,6 +289,8 @@ pub(crate) fn find_marks<R: Read>(
     ensures err { OnErr result (AreRead R.remaining marks.old marks.new) }
     ensures some { OnErr result (IsSome marks.new) }
     ensures fault { IfErr result (IsOfMarks source) }
+    ensures stays { OnOk result (have_failed marks.new ≡ have_failed marks.old) }
+    ensures noted { IfErr result (NotesMarks (have_failed marks.old) (have_failed marks.new)) }
     ensures first { IfErr result (NameFirst R.remaining (IsBefore start) marks.old marks.new) }
 {
     match marks {
@@ -291,6 +309,8 @@ pub(crate) fn end_marks<R: Read>(
     ensures err { OnErr result (AreRead R.remaining marks.old marks.new) }
     ensures some { OnErr result (IsSome marks.new) }
     ensures fault { IfErr result (IsOfMarks source) }
+    ensures stays { OnOk result (have_failed marks.new ≡ have_failed marks.old) }
+    ensures noted { IfErr result (NotesMarks (have_failed marks.old) (have_failed marks.new)) }
     ensures first { IfErr result (NameFirst R.remaining (AreBehind marks.old) marks.old marks.new) }
 {
     match marks {

@@ -1,11 +1,12 @@
 //! The pipeline.
 
-ghost use Rattle.std.specs.Prelude.{◌≡◌, ℕ, true, Ok, Some, IfErr, IfNone, IfOk, IfSome, OnErr, OnOk};
+ghost use Rattle.std.specs.Prelude.{◌≡◌, ◌<◌, ◌≤◌, ℕ, length, true, Ok, Some, IfErr, IfNone, IfOk, IfSome, OnErr, OnOk};
 ghost use Rattle.stream_model.specs.Machine.{IsWhole};
 ghost use Rattle.flowgraph.specs.Flowgraph.{net_of};
 ghost use Rattle.plant.specs.declared.answers.Settled.TheVariants.{Done, Quiet};
 ghost use Rattle.plant.specs.Settling.{HasMoved, HasSettled};
 ghost use Rattle.pipeline.specs.declared.fault.PipelineFault.TheVariants.{Memory};
+ghost use Rattle.pipeline.specs.Asking.{Awaits, AwaitsNone, IsNext, led_to, needed_by};
 ghost use Rattle.pipeline.specs.Faults.{IsFaultOf};
 ghost use Rattle.pipeline.specs.Pipeline.{AreDelivered, Begins, GoesOn, IsDelivered, Lacks, NoneLacks, end_at};
 
@@ -44,7 +45,7 @@ impl<B: Block, R: Read, W: Write> Pipeline<B, R, W> {
     ///
     /// Before each read that may wait, all that came of what was read before is written, and the writers are flushed. A reader is asked only where its
     /// source has given all that it was fed: first one whose items a sink waits for, else any. Where it stops by a fault, what was written is a beginning, and
-    /// the pipeline is not to be run again: what was read or drained last may be lost.
+    /// the pipeline is not to be run again: what was read or drained last may be lost. At `CutItem` nothing is: once its source is closed, the pipeline may be run again.
     pub fn run(&mut self, alloc: Global) -> Result<Settled, PipelineFault>
         ensures goes { OnOk result (GoesOn R.remaining W.contents (net_of B.meaning self.old.plant.plant.graph) self.old.plant self.new.plant self.old.ends.items self.new.ends.items) }
         ensures begins { OnErr result (Begins R.remaining W.contents (net_of B.meaning self.old.plant.plant.graph) self.old.plant self.new.plant self.old.ends.items self.new.ends.items) }
@@ -198,8 +199,9 @@ impl<B: Block, R: Read, W: Write> Pipeline<B, R, W> {
         }
     }
 
-    // Takes in a piece of what a source's reader gives.
+    // Takes in a piece of what the reader of a source gives, which is to be fed next.
     fn take_in(&mut self, block: BlockId) -> Result<(), PipelineFault>
+        requires { IsNext (net_of B.meaning self.old.plant.plant.graph) self.old.plant self.old.ends.items block.0 }
         ensures goes { OnOk result (GoesOn R.remaining W.contents (net_of B.meaning self.old.plant.plant.graph) self.old.plant self.new.plant self.old.ends.items self.new.ends.items) }
         ensures begins { OnErr result (Begins R.remaining W.contents (net_of B.meaning self.old.plant.plant.graph) self.old.plant self.new.plant self.old.ends.items self.new.ends.items) }
         ensures fault { IfErr result (IsFaultOf R.remaining self.new.ends.items) }
@@ -217,50 +219,92 @@ impl<B: Block, R: Read, W: Write> Pipeline<B, R, W> {
     // The source that is to be fed next: one whose items a sink lacks, the sinks in turn, or else any that lacks items.
     fn next_source(&mut self) -> Option<BlockId>
         ensures same { (self.new.plant ≡ self.old.plant) × (self.new.ends.items ≡ self.old.ends.items) }
+        ensures some { IfSome result (λ source. IsNext (net_of B.meaning self.new.plant.plant.graph) self.new.plant self.new.ends.items source.0) }
         ensures none { IfNone result (NoneLacks (net_of B.meaning self.new.plant.plant.graph) self.new.plant self.new.ends.items) }
     {
-        for _sinks in 0..self.ends.len() {
-            self.sink = self.after(self.sink);
-            if let Some(source) = self.lacked_by(self.sink) {
-                return Some(source);
-            }
+        let blocks = self.plant.graph().len();
+        let behind = (self.sink.0 as usize + 1).min(blocks);
+        if let Some((sink, source)) = self.first_awaiting(behind, blocks) {
+            self.sink = sink;
+            return Some(source);
+        }
+        if let Some((sink, source)) = self.first_awaiting(0, behind) {
+            self.sink = sink;
+            return Some(source);
         }
         self.any_lacking()
     }
 
-    // The block behind a block, or the first behind the last.
-    fn after(&self, block: BlockId) -> BlockId {
-        let next = block.0.saturating_add(1);
-        if (next as usize) < self.ends.len() {
-            BlockId(next)
-        } else {
-            BlockId(0)
+    // The first of the sinks from `from` to below `to` whose waits lead to a source that lacks items, and that source.
+    fn first_awaiting(&self, from: usize, to: usize) -> Option<(BlockId, BlockId)>
+        requires inside { to ≤ length self.now.plant.plant.graph.blocks }
+        requires few { to ≤ 256 }
+        ensures some { IfSome result (λ found. Awaits (net_of B.meaning self.now.plant.plant.graph) self.now.plant found.0.0 found.1.0) }
+        ensures lacks { IfSome result (λ found. Lacks (net_of B.meaning self.now.plant.plant.graph) self.now.plant found.1.0 (end_at self.now.ends.items found.1.0)) }
+        ensures none { IfNone result ((k : ℕ) → from ≤ k → k < to → AwaitsNone (net_of B.meaning self.now.plant.plant.graph) self.now.plant self.now.ends.items k) }
+    {
+        for block in from..to {
+            let sink = BlockId(block as u32);
+            if let Some(source) = self.lacked_by(sink) {
+                return Some((sink, source));
+            }
+        }
+        None
+    }
+
+    // The source that lacks items to which the waits of a sink lead.
+    fn lacked_by(&self, sink: BlockId) -> Option<BlockId>
+        requires { sink.0 < length self.now.plant.plant.graph.blocks }
+        ensures some { IfSome result (λ source. Awaits (net_of B.meaning self.now.plant.plant.graph) self.now.plant sink.0 source.0) }
+        ensures lacks { IfSome result (λ source. Lacks (net_of B.meaning self.now.plant.plant.graph) self.now.plant source.0 (end_at self.now.ends.items source.0)) }
+        ensures none { IfNone result (AwaitsNone (net_of B.meaning self.now.plant.plant.graph) self.now.plant self.now.ends.items sink.0) }
+    {
+        match self.plant.graph().role(sink) {
+            Role::Source | Role::Work => None,
+            Role::Keep | Role::Discard => self.where_lacking(self.led_to(sink)),
         }
     }
 
-    // The source to which the waits of a sink lead, where its reader has more.
-    fn lacked_by(&self, sink: BlockId) -> Option<BlockId> {
-        let graph = self.plant.graph();
-        if graph.len() <= sink.0 as usize {
-            return None;
-        }
-        if let Role::Source | Role::Work = graph.role(sink) {
-            return None;
-        }
+    // The block to which as many waits lead from a sink as there are blocks.
+    fn led_to(&self, sink: BlockId) -> BlockId
+        ensures { result.0 ≡ led_to (net_of B.meaning self.now.plant.plant.graph) self.now.plant.plant.capacities self.now.plant.plant.state sink.0 }
+    {
         let mut block = sink;
-        for _waits in 0..self.ends.len() {
-            block = match self.plant.need(block) {
-                Ok(BlockNeed::Items { writer, .. }) => writer,
-                Ok(BlockNeed::Room { reader, .. }) => reader,
-                Ok(_) | Err(_) => break,
-            };
+        for _waits in 0..self.plant.graph().len() {
+            let next = self.needed_by(block);
+            if next.0 == block.0 {
+                return block;
+            }
+            block = next;
         }
+        block
+    }
+
+    // The block that a block waits for; the block itself where it waits for none.
+    fn needed_by(&self, block: BlockId) -> BlockId
+        ensures { result.0 ≡ needed_by (net_of B.meaning self.now.plant.plant.graph) self.now.plant.plant.capacities self.now.plant.plant.state block.0 }
+    {
+        match self.plant.need(block) {
+            Ok(BlockNeed::Items { writer, .. }) => writer,
+            Ok(BlockNeed::Room { reader, .. }) => reader,
+            Ok(BlockNeed::Done | BlockNeed::Busy | BlockNeed::Ready | BlockNeed::Feed) => block,
+            Err(_) => block,
+        }
+    }
+
+    // The block, where it lacks items.
+    fn where_lacking(&self, block: BlockId) -> Option<BlockId>
+        ensures some { IfSome result (λ source. source ≡ block) }
+        ensures lacks { IfSome result (λ _. Lacks (net_of B.meaning self.now.plant.plant.graph) self.now.plant block.0 (end_at self.now.ends.items block.0)) }
+        ensures none { IfNone result (Lacks (net_of B.meaning self.now.plant.plant.graph) self.now.plant block.0 (end_at self.now.ends.items block.0) → ⊥) }
+    {
         if self.lacks(block) { Some(block) } else { None }
     }
 
     // The first source that lacks items and has a reader.
     fn any_lacking(&self) -> Option<BlockId>
-        ensures { IfNone result (NoneLacks (net_of B.meaning self.now.plant.plant.graph) self.now.plant self.now.ends.items) }
+        ensures some { IfSome result (λ source. Lacks (net_of B.meaning self.now.plant.plant.graph) self.now.plant source.0 (end_at self.now.ends.items source.0)) }
+        ensures none { IfNone result (NoneLacks (net_of B.meaning self.now.plant.plant.graph) self.now.plant self.now.ends.items) }
     {
         for block in 0..self.plant.graph().len() {
             let block = BlockId(block as u32);
@@ -274,7 +318,8 @@ impl<B: Block, R: Read, W: Write> Pipeline<B, R, W> {
     // Whether a source has given all that it was fed, and its reader has more.
     #[tactic(auto, using(crate::proofs::Moving::lacks_more))]
     fn lacks(&self, block: BlockId) -> bool
-        ensures { Lacks (net_of B.meaning self.now.plant.plant.graph) self.now.plant block.0 (end_at self.now.ends.items block.0) → result ≡ true }
+        ensures only { result ≡ true → Lacks (net_of B.meaning self.now.plant.plant.graph) self.now.plant block.0 (end_at self.now.ends.items block.0) }
+        ensures all { Lacks (net_of B.meaning self.now.plant.plant.graph) self.now.plant block.0 (end_at self.now.ends.items block.0) → result ≡ true }
     {
         match self.ends.get(block.0 as usize) {
             Some(end) => end.has_more() && matches!(self.plant.need(block), Ok(BlockNeed::Feed)),

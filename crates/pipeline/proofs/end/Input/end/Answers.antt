@@ -27,9 +27,9 @@ returns-clause-ok g c =
     let h = record (handed_at p.state.handed b) { closed = true } in
     let closed = accepted-hands net p c.close.new.self.plant b h (close_of net p.state b) (λ r. (total : ℕ) × (r ≡ machine.Closed total)) (close-hands net p.state b) _ (λ code e. cc e) (always_answered (close_of net p.state b) p c.close.new.self.plant (Some (machine.Closed c.in_default.field-0.0)) c.in_default.ensures.answered) in
     let d = c.self.inside.decoder in
-    let i : InputState _ = record { reader = c.self.inside.reader; decoder = d; marks = c.self.inside.marks; is_ended = c.self.inside.is_ended } in
-    let i' : InputState _ = record { reader = c.self.inside.reader; decoder = d; marks = c.end_marks.new.marks; is_ended = true } in
+    let i : InputState _ = record { reader = c.self.inside.reader.reader; has_failed = c.self.inside.reader.has_failed; decoder = d; marks = c.self.inside.marks; is_ended = c.self.inside.is_ended } in
+    let i' : InputState _ = record { reader = c.self.inside.reader.reader; has_failed = c.self.inside.reader.has_failed; decoder = d; marks = c.end_marks.new.marks; is_ended = true } in
     rw (← c.self.view_is)
     (takes_in (HasRead g.R.Read.remaining) net c.args.plant.now c.close.new.self b c.recall.ensures.sound closed.0 h (Close b) closed.2 closed.1 c.in_default.ensures.kept c.recall.ensures.stays i i'
     (end-read g.R.Read.remaining b i i' (handed_at p.state.handed b) refl refl (not_cut _ d.cut c.is_cut.ensures c.if-is_cut.false) refl (ap InputState.is_ended c.self.view_is ∙ c.requires.goes_on)
-    (subst (λ (v : InputState _). IsAtEnd (g.R.Read.remaining v.reader)) (sym c.self.view_is) c.requires.at_end) c.in_ok-end_marks.ensures.ok c.in_ok-end_marks.ensures.over))
+    (subst (λ (v : InputState _). IsAtEnd (g.R.Read.remaining v.reader)) (sym c.self.view_is) c.requires.at_end) c.in_ok-end_marks.ensures.ok c.in_ok-end_marks.ensures.over refl c.in_ok-end_marks.ensures.stays))

@@ -1,5 +1,5 @@
-use Rattle.std.proofs.Common.{◌≡◌, ℕ, ℤ, List, ◌++◌, refl, ap, subst, ◌∙◌, Some}
-use Rattle.stream_model.specs.Network.{handed_at}
+use Rattle.std.proofs.Common.{◌≡◌, ℕ, ℤ, List, [], ◌++◌, refl, ap, subst, sym, ◌∙◌}
+use Rattle.stream_model.specs.Network.{Handed, handed_at}
 use Rattle.stream_model.specs.Machine as machine
 use Rattle.stream_model.specs.Machine.{Feed, feed_of, with_tape}
 use Rattle.flowgraph.specs.Flowgraph.{net_of}
@@ -10,21 +10,27 @@ use Rattle.pipeline.specs.Marks.{FindsMarks}
 use Rattle.pipeline.specs.Steps.{HasFed, TakesIn}
 use Rattle.script_text.specs.Commands.{marks_seen}
 use Rattle.streaming.specs.Streaming.{StreamingState}
-use Rattle.pipeline.proofs.Reading.{has_fed}
-use Rattle.pipeline.proofs.TakingIn.{accepted-hands, feed-hands, feed-refused, plant_same, refused-same, takes_in}
+use Rattle.pipeline.proofs.Reading.{has_fed, takes_none}
+use Rattle.pipeline.proofs.TakingIn.{accepted-hands, feed-hands, nothing-fed, takes_in}
+use Rattle.pipeline.proofs.Telling.{finds-none}
 use Rattle.pipeline.proofs.end.Input.feed.Goals as goal
 
-pub returns-in-Err-clause-err : goal.returns-in-Err-clause-err
-returns-in-Err-clause-err g c =
-    let p = c.start_of.new.plant.plant in
-    let net = net_of g.B.Block.meaning p.graph in
+pub returns-then-is_empty-clause-ok : goal.returns-then-is_empty-clause-ok
+returns-then-is_empty-clause-ok g c =
+    let remaining = g.R.Read.remaining in
+    let p = c.args.plant.now in
+    let net = net_of g.B.Block.meaning p.plant.graph in
     let b = c.args.source.0 in
-    let xs = numbers_of c.push.new.out in
-    let ms = marks_seen c.deref.result.now in
-    let t = type_of c.push.new.out in
-    let same : c.feed.new.self.plant ≡ p = refused-same net p c.feed.new.self.plant b (with_tape (handed_at p.state.handed b) b xs ms) (feed_of net p.state b t xs ms) (λ r. (total : ℕ) × (r ≡ machine.Fed total))
-    (feed-hands net p.state b t xs ms) _ (λ r fed e. feed-refused c.in-Err.fault fed.0 (e ∙ ap Some fed.1)) c.in-Err.ensures.answered in
-    plant_same c.start_of.new.plant c.feed.new.self same c.in-Err.ensures.kept ∙ c.start_of.ensures.same
+    let h = handed_at p.plant.state.handed b in
+    let d = c.self.inside.decoder in
+    let i : InputState _ = record { reader = c.self.inside.reader.reader; has_failed = c.self.inside.reader.has_failed; decoder = d; marks = c.self.inside.marks; is_ended = c.self.inside.is_ended } in
+    let i' : InputState _ = record { reader = c.self.inside.reader.reader; has_failed = c.self.inside.reader.has_failed; decoder = c.push.new.self; marks = c.self.inside.marks; is_ended = c.self.inside.is_ended } in
+    let none : numbers_of c.push.new.out ≡ [] = c.is_empty.ensures.0 c.if-is_empty.true in
+    let items : [] ≡ items_of d.item_type d.order (d.cut ++ c.args.bytes.now) = sym none ∙ c.in_ok-push.ensures.items ∙ ap (λ (zs : List ℤ). zs ++ items_of d.item_type d.order (d.cut ++ c.args.bytes.now)) c.clear.ensures.numbers in
+    rw (← c.self.view_is)
+    (takes_none (HasFed remaining c.args.bytes.now) net p c.start_of.new.plant b i i i' c.start_of.ensures.same
+    (subst (λ (x : Handed). HasFed remaining c.args.bytes.now b i i' h x) (nothing-fed h b)
+    (has_fed remaining i i' b c.args.bytes.now [] [] h c.in_ok-push.ensures.layout items c.in_ok-push.ensures.cut refl (finds-none remaining i.marks) refl refl)))
 
 pub returns-clause-ok : goal.returns-clause-ok
 returns-clause-ok g c =
@@ -35,13 +41,13 @@ returns-clause-ok g c =
     let ms = marks_seen c.deref.result.now in
     let t = type_of c.push.new.out in
     let h = with_tape (handed_at p.state.handed b) b xs ms in
-    let fed = accepted-hands net p c.feed.new.self.plant b h (feed_of net p.state b t xs ms) (λ r. (total : ℕ) × (r ≡ machine.Fed total)) (feed-hands net p.state b t xs ms) _ (λ code e. cc e) c.in_default.ensures.answered in
+    let fed = accepted-hands net p c.hand.new.plant.plant b h (feed_of net p.state b t xs ms) (λ r. (total : ℕ) × (r ≡ machine.Fed total)) (feed-hands net p.state b t xs ms) _ (λ code e. cc e) c.in_ok-_fed.ensures.answered in
     let d = c.self.inside.decoder in
     let items = c.in_ok-push.ensures.items ∙ ap (λ (zs : List ℤ). zs ++ items_of d.item_type d.order (d.cut ++ c.args.bytes.now)) c.clear.ensures.numbers in
     let finds : FindsMarks g.R.Read.remaining c.self.inside.marks c.find_marks.new.marks ms = rw c.deref.ensures.value c.in_ok-find_marks.ensures.ok in
-    let i : InputState _ = record { reader = c.self.inside.reader; decoder = d; marks = c.self.inside.marks; is_ended = c.self.inside.is_ended } in
-    let i' : InputState _ = record { reader = c.self.inside.reader; decoder = c.push.new.self; marks = c.find_marks.new.marks; is_ended = c.self.inside.is_ended } in
+    let i : InputState _ = record { reader = c.self.inside.reader.reader; has_failed = c.self.inside.reader.has_failed; decoder = d; marks = c.self.inside.marks; is_ended = c.self.inside.is_ended } in
+    let i' : InputState _ = record { reader = c.self.inside.reader.reader; has_failed = c.self.inside.reader.has_failed; decoder = c.push.new.self; marks = c.find_marks.new.marks; is_ended = c.self.inside.is_ended } in
     rw (← c.self.view_is)
-    (subst (λ (q : StreamingState _). TakesIn (HasFed g.R.Read.remaining c.args.bytes.now) (net_of g.B.Block.meaning q.plant.graph) q c.feed.new.self b i i') c.start_of.ensures.same
-    (takes_in (HasFed g.R.Read.remaining c.args.bytes.now) net c.start_of.new.plant c.feed.new.self b c.recall.ensures.sound fed.0 h (Feed b t xs ms) fed.2 fed.1 c.in_default.ensures.kept c.recall.ensures.stays i i'
-    (has_fed g.R.Read.remaining i i' b c.args.bytes.now xs ms (handed_at p.state.handed b) c.in_ok-push.ensures.layout items c.in_ok-push.ensures.cut refl finds)))
+    (subst (λ (q : StreamingState _). TakesIn (HasFed g.R.Read.remaining c.args.bytes.now) (net_of g.B.Block.meaning q.plant.graph) q c.hand.new.plant b i i') c.start_of.ensures.same
+    (takes_in (HasFed g.R.Read.remaining c.args.bytes.now) net c.start_of.new.plant c.hand.new.plant b c.recall.ensures.sound fed.0 h (Feed b t xs ms) fed.2 fed.1 c.hand.ensures.kept c.recall.ensures.stays i i'
+    (has_fed g.R.Read.remaining i i' b c.args.bytes.now xs ms (handed_at p.state.handed b) c.in_ok-push.ensures.layout items c.in_ok-push.ensures.cut refl finds refl c.in_ok-find_marks.ensures.stays)))

@@ -26,7 +26,7 @@ pub returns-in-None-clause-ok : goal.returns-in-None-clause-ok
 returns-in-None-clause-ok g c =
     let s = c.self.inside in
     let open0 : s.is_over ≡ false = ap Marking.is_over c.self.view_is ∙ c.requires.goes_on in
-    let m : Marking _ = record { reader = s.reader; rest = cond s.is_over [] s.lines.rest; taken = s.lines.taken; held = option_map mark_seen s.held; is_over = s.is_over; line = s.line; least = s.least } in
+    let m : Marking _ = record { reader = s.reader.reader; has_failed = s.reader.has_failed; rest = cond s.is_over [] s.lines.rest; taken = s.lines.taken; held = option_map mark_seen s.held; is_over = s.is_over; line = s.line; least = s.least } in
     let m' : Marking _ = record m { rest = []; is_over = true } in
     let none : m.held ≡ None = ap Marking.held c.self.view_is ∙ c.requires.none in
     rw (← c.self.view_is)
@@ -37,14 +37,14 @@ returns-in-Some-clause-first g c =
     let remaining = g.R.Read.remaining in
     let s = c.self.inside in
     let open0 : s.is_over ≡ false = ap Marking.is_over c.self.view_is ∙ c.requires.goes_on in
-    let m : Marking _ = record { reader = s.reader; rest = cond s.is_over [] s.lines.rest; taken = s.lines.taken; held = option_map mark_seen s.held; is_over = s.is_over; line = s.line; least = s.least } in
+    let m : Marking _ = record { reader = s.reader.reader; has_failed = s.reader.has_failed; rest = cond s.is_over [] s.lines.rest; taken = s.lines.taken; held = option_map mark_seen s.held; is_over = s.is_over; line = s.line; least = s.least } in
     let m' : Marking _ = record m { rest = []; is_over = true } in
     let said = option_map mark_seen c.parse_mark_line-mark.result in
     let lines : c.in-Some.line.now ∷ [] ≡ lines_of m.rest = rw open0 c.in-Some.ensures in
     rw (← c.self.view_is)
     (if_err_with c.hold.result _ _ c.hold.ensures.err c.hold.ensures.refused
     (λ same fault refused. subst (λ (x : Marking _). NamesFirst remaining Never m x fault) (sym same)
-    (refused-names remaining m m' c.args.number open0 (ap Marking.held c.self.view_is ∙ c.requires.none) (λ _. rw (ap Marking.reader c.self.view_is) c.requires.at_end) (consumes_none (remaining s.reader))
+    (refused-names remaining m m' c.args.number open0 (ap Marking.held c.self.view_is ∙ c.requires.none) (λ _. rw (ap Marking.reader c.self.view_is) c.requires.at_end) (consumes_none (remaining s.reader.reader))
     (c.requires.next ∙ ap suc (sym (ap Marking.taken c.self.view_is))) said
     (λ more nothing. subst (λ bytes. Says said (marks_said (m.rest ++ bytes))) (sym (nothing refl))
     (rw (append-nil m.rest) (line-says m.rest c.in-Some.line.now [] said (sym lines) c.parse_mark_line-mark.ensures))) fault refused)))

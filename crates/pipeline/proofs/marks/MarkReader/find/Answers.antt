@@ -8,10 +8,12 @@ use Rattle.pipeline.specs.Marks.{Marking}
 use Rattle.pipeline.proofs.Delivering.{on_err}
 use Rattle.pipeline.proofs.Refusing.{names-then}
 use Rattle.pipeline.proofs.Telling.{gives-none, gives-read-then, gives-then}
+use Rattle.pipeline.specs.Faults.{NotesMarks}
+use Rattle.pipeline.proofs.Noting.{marks_noted_from}
 use Rattle.pipeline.proofs.marks.MarkReader.find.Goals as goal
 
 pub loop-pieces-init : goal.loop-pieces-init
-loop-pieces-init g c = record { gives = gives-none g.R.Read.remaining _; same = λ n up. refl }
+loop-pieces-init g c = record { gives = gives-none g.R.Read.remaining _; same = λ n up. refl; stays = refl }
 
 pub loop-pieces-preserved : goal.loop-pieces-preserved
 loop-pieces-preserved g c = record {
@@ -22,6 +24,7 @@ loop-pieces-preserved g c = record {
       let over : c.args.self.now.is_over ≡ true = up.none (sym (ap Marking.held is) ∙ sym (ap Marking.held c.self.view_is) ∙ empty) in
       let same = ap Marking.is_over c.self.view_is ∙ ap Marking.is_over is in
       absurd (cc (over, same, c.if-self.false));
+  stays = c.in_ok-read_on.ensures.stays ∙ c.loop-pieces.invariant.stays;
 }
 
 pub returns-in_err-read_on-clause-err : goal.returns-in_err-read_on-clause-err
@@ -32,3 +35,8 @@ returns-in_err-read_on-clause-first g c =
     let told : IfErr c.from_residual.result (NamesFirst g.R.Read.remaining Never c.loop-pieces.self c.read_on.new.self) = search rules in
     IfErr-weaker c.from_residual.result _ _
     (names-then g.R.Read.remaining Never Never (λ _ never. never) c.args.self.now c.loop-pieces.self c.read_on.new.self [] c.loop-pieces.invariant.gives) told
+
+pub returns-in_err-read_on-clause-noted : goal.returns-in_err-read_on-clause-noted
+returns-in_err-read_on-clause-noted g c =
+    let told : IfErr c.from_residual.result (NotesMarks c.loop-pieces.self.has_failed c.read_on.new.self.has_failed) = search rules in
+    IfErr-weaker c.from_residual.result _ _ (λ fault. marks_noted_from _ _ _ fault c.loop-pieces.invariant.stays) told

@@ -3,9 +3,10 @@ use Rattle.pipeline.specs.MarkFaults.{IsGivenTo}
 use Rattle.pipeline.specs.Marks.{Gives}
 use Rattle.pipeline.proofs.marks.MarkReader.find.Given as goal
 
--- what was read so far gave no mark on, and nothing was read where all marks were given on up to an item
+-- what was read so far gave no mark on, nothing was read where all marks were given on up to an item, and no read failed
 abbrev pub invariant-loop-pieces : goal.invariant-loop-pieces
 invariant-loop-pieces g l = record {
   gives : Gives g.R.Read.remaining l.fn.self l.self [];
   same : (n : ℕ) → IsGivenTo n l.fn.self → l.self ≡ l.fn.self;
+  stays : l.self.has_failed ≡ l.fn.self.has_failed;
 }

@@ -14,7 +14,7 @@ pub returns-in-Whole-clause-ok : goal.returns-in-Whole-clause-ok
 returns-in-Whole-clause-ok g c =
     let s = c.self.inside in
     let open0 : s.is_over ≡ false = ap Marking.is_over c.self.view_is ∙ c.requires.goes_on in
-    let m : Marking _ = record { reader = s.reader; rest = cond s.is_over [] s.lines.rest; taken = s.lines.taken; held = option_map mark_seen s.held; is_over = s.is_over; line = s.line; least = s.least } in
+    let m : Marking _ = record { reader = s.reader.reader; has_failed = s.reader.has_failed; rest = cond s.is_over [] s.lines.rest; taken = s.lines.taken; held = option_map mark_seen s.held; is_over = s.is_over; line = s.line; least = s.least } in
     let said = option_map mark_seen c.parse_mark_line-mark.result in
     let new = c.hold.new.self in
     let was = c.taken-taken.ensures in
@@ -32,7 +32,7 @@ returns-in-Whole-clause-first g c =
     let remaining = g.R.Read.remaining in
     let s = c.self.inside in
     let open0 : s.is_over ≡ false = ap Marking.is_over c.self.view_is ∙ c.requires.goes_on in
-    let m : Marking _ = record { reader = s.reader; rest = cond s.is_over [] s.lines.rest; taken = s.lines.taken; held = option_map mark_seen s.held; is_over = s.is_over; line = s.line; least = s.least } in
+    let m : Marking _ = record { reader = s.reader.reader; has_failed = s.reader.has_failed; rest = cond s.is_over [] s.lines.rest; taken = s.lines.taken; held = option_map mark_seen s.held; is_over = s.is_over; line = s.line; least = s.least } in
     let m' : Marking _ = record m { rest = cond s.is_over [] c.take_line.new.self.rest; taken = c.take_line.new.self.taken } in
     let said = option_map mark_seen c.parse_mark_line-mark.result in
     let was = c.taken-taken.ensures in
@@ -40,7 +40,7 @@ returns-in-Whole-clause-first g c =
     rw (← c.self.view_is)
     (if_err_with c.hold.result _ _ c.hold.ensures.err c.hold.ensures.refused
     (λ same fault refused. subst (λ (x : Marking _). NamesFirst remaining Never m x fault) (sym same)
-    (refused-names remaining m m' (c.taken-taken.result + 1) open0 (ap Marking.held c.self.view_is ∙ c.requires.none) (λ e. absurd (cc (e, open0))) (consumes_none (remaining s.reader)) number said
+    (refused-names remaining m m' (c.taken-taken.result + 1) open0 (ap Marking.held c.self.view_is ∙ c.requires.none) (λ e. absurd (cc (e, open0))) (consumes_none (remaining s.reader.reader)) number said
     (λ more _. line-says (m.rest ++ more) c.line.result.now (lines_of (m'.rest ++ more)) said (rw (open0, c.line.ensures) (c.in-Whole.ensures.first more)) c.parse_mark_line-mark.ensures) fault refused)))
 
 pub returns-in-TooLong-clause-first : goal.returns-in-TooLong-clause-first
@@ -48,10 +48,10 @@ returns-in-TooLong-clause-first g c =
     let remaining = g.R.Read.remaining in
     let s = c.self.inside in
     let open0 : s.is_over ≡ false = ap Marking.is_over c.self.view_is ∙ c.requires.goes_on in
-    let m : Marking _ = record { reader = s.reader; rest = cond s.is_over [] s.lines.rest; taken = s.lines.taken; held = option_map mark_seen s.held; is_over = s.is_over; line = s.line; least = s.least } in
+    let m : Marking _ = record { reader = s.reader.reader; has_failed = s.reader.has_failed; rest = cond s.is_over [] s.lines.rest; taken = s.lines.taken; held = option_map mark_seen s.held; is_over = s.is_over; line = s.line; least = s.least } in
     let m' : Marking _ = record m { rest = cond s.is_over [] c.take_line.new.self.rest; taken = c.take_line.new.self.taken } in
     let was = c.taken-taken.ensures in
     let number : c.taken-taken.result + 1 ≡ suc s.lines.taken = omega (arith, was) in
     rw (← c.self.view_is)
     (next-first remaining m m' None IsNone (c.taken-taken.result + 1) open0 (ap Marking.held c.self.view_is ∙ c.requires.none)
-    (λ more _. long-says (m.rest ++ more) (rw open0 (c.in-TooLong.ensures.0 more))) (λ e. absurd (cc (e, open0))) (consumes_none (remaining s.reader)) number (λ above least. refl))
+    (λ more _. long-says (m.rest ++ more) (rw open0 (c.in-TooLong.ensures.0 more))) (λ e. absurd (cc (e, open0))) (consumes_none (remaining s.reader.reader)) number (λ above least. refl))

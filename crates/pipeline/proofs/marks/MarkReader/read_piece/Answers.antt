@@ -1,4 +1,4 @@
-use Rattle.std.proofs.Common.{◌≡◌, ◌≤◌, ◌∙◌, [], false, cond, refl, ap, subst, arith, length, take}
+use Rattle.std.proofs.Common.{◌≡◌, ◌≤◌, ◌∙◌, Bool, [], false, cond, refl, ap, subst, arith, length, take}
 use Rattle.std.proofs.lemmas.List.{length-take}
 use Rattle.std.proofs.lemmas.Result.{IfErr-weaker, on_ok_weaker, on_err_weaker}
 use Rattle.std.specs.Io.KnownBytes.{Consumes}
@@ -28,39 +28,42 @@ returns-then-count-eq0-clause-ok g c =
     let remaining = g.R.Read.remaining in
     let s = c.self.inside in
     let open0 : s.is_over ≡ false = ap Marking.is_over c.self.view_is ∙ c.requires.goes_on in
-    let m : Marking _ = record { reader = s.reader; rest = cond s.is_over [] s.lines.rest; taken = s.lines.taken; held = option_map mark_seen s.held; is_over = s.is_over; line = s.line; least = s.least } in
-    let k : Marking _ = record m { reader = c.read.new.self } in
-    let read : Consumes (remaining s.reader) (remaining c.read.new.self) [] = subst (λ n. Consumes (remaining s.reader) (remaining c.read.new.self) (take n c.read.new.buf)) c.if-count-eq0.true c.in-Ok.ensures.bytes.0 in
+    let m : Marking _ = record { reader = s.reader.reader; has_failed = s.reader.has_failed; rest = cond s.is_over [] s.lines.rest; taken = s.lines.taken; held = option_map mark_seen s.held; is_over = s.is_over; line = s.line; least = s.least } in
+    let k : Marking _ = record m { reader = c.read.new.self.reader; has_failed = c.read.new.self.has_failed } in
+    let same : k ≡ record m { reader = c.read.new.self.reader } = ap (λ (f : Bool). record m { reader = c.read.new.self.reader; has_failed = f }) c.in-Ok.ensures.noted in
+    let read : Consumes (remaining s.reader.reader) (remaining c.read.new.self.reader) [] = subst (λ n. Consumes (remaining s.reader.reader) (remaining c.read.new.self.reader) (take n c.read.new.buf)) c.if-count-eq0.true c.in-Ok.ensures.bytes.0 in
     rw (← c.self.view_is)
-    (on_ok_weaker c.end_lines.result (λ gives. gives-then remaining m k c.end_lines.new.self [] (nothing-gives remaining m k open0 refl read) [] gives) c.end_lines.ensures.ok)
+    (on_ok_weaker c.end_lines.result (λ gives. gives-then remaining m k c.end_lines.new.self [] (nothing-gives remaining m k open0 same read) [] gives) c.end_lines.ensures.ok)
 
 pub returns-then-count-eq0-clause-err : goal.returns-then-count-eq0-clause-err
 returns-then-count-eq0-clause-err g c =
     let remaining = g.R.Read.remaining in
     let s = c.self.inside in
     let open0 : s.is_over ≡ false = ap Marking.is_over c.self.view_is ∙ c.requires.goes_on in
-    let m : Marking _ = record { reader = s.reader; rest = cond s.is_over [] s.lines.rest; taken = s.lines.taken; held = option_map mark_seen s.held; is_over = s.is_over; line = s.line; least = s.least } in
-    let k : Marking _ = record m { reader = c.read.new.self } in
-    let read : Consumes (remaining s.reader) (remaining c.read.new.self) [] = subst (λ n. Consumes (remaining s.reader) (remaining c.read.new.self) (take n c.read.new.buf)) c.if-count-eq0.true c.in-Ok.ensures.bytes.0 in
+    let m : Marking _ = record { reader = s.reader.reader; has_failed = s.reader.has_failed; rest = cond s.is_over [] s.lines.rest; taken = s.lines.taken; held = option_map mark_seen s.held; is_over = s.is_over; line = s.line; least = s.least } in
+    let k : Marking _ = record m { reader = c.read.new.self.reader; has_failed = c.read.new.self.has_failed } in
+    let same : k ≡ record m { reader = c.read.new.self.reader } = ap (λ (f : Bool). record m { reader = c.read.new.self.reader; has_failed = f }) c.in-Ok.ensures.noted in
+    let read : Consumes (remaining s.reader.reader) (remaining c.read.new.self.reader) [] = subst (λ n. Consumes (remaining s.reader.reader) (remaining c.read.new.self.reader) (take n c.read.new.buf)) c.if-count-eq0.true c.in-Ok.ensures.bytes.0 in
     rw (← c.self.view_is)
-    (on_err_weaker c.end_lines.result (λ more. gives-read-then remaining m k c.end_lines.new.self [] (nothing-gives remaining m k open0 refl read) more) c.end_lines.ensures.err)
+    (on_err_weaker c.end_lines.result (λ more. gives-read-then remaining m k c.end_lines.new.self [] (nothing-gives remaining m k open0 same read) more) c.end_lines.ensures.err)
 
 pub returns-clause-ok : goal.returns-clause-ok
 returns-clause-ok g c =
     let s = c.self.inside in
     let open0 : s.is_over ≡ false = ap Marking.is_over c.self.view_is ∙ c.requires.goes_on in
-    let m : Marking _ = record { reader = s.reader; rest = cond s.is_over [] s.lines.rest; taken = s.lines.taken; held = option_map mark_seen s.held; is_over = s.is_over; line = s.line; least = s.least } in
-    let m' : Marking _ = record { reader = c.read.new.self; rest = cond s.is_over [] c.push.new.self.rest; taken = c.push.new.self.taken; held = option_map mark_seen s.held; is_over = s.is_over; line = s.line; least = s.least } in
+    let m : Marking _ = record { reader = s.reader.reader; has_failed = s.reader.has_failed; rest = cond s.is_over [] s.lines.rest; taken = s.lines.taken; held = option_map mark_seen s.held; is_over = s.is_over; line = s.line; least = s.least } in
+    let m' : Marking _ = record { reader = c.read.new.self.reader; has_failed = c.read.new.self.has_failed; rest = cond s.is_over [] c.push.new.self.rest; taken = c.push.new.self.taken; held = option_map mark_seen s.held; is_over = s.is_over; line = s.line; least = s.least } in
     rw (← c.self.view_is)
-    (piece-gives g.R.Read.remaining m m' (take c.in-Ok.count c.read.new.buf) open0 (rw (open0, c.push.ensures.rest, c.push.ensures.taken) refl) c.in-Ok.ensures.bytes.0)
+    (piece-gives g.R.Read.remaining m m' (take c.in-Ok.count c.read.new.buf) open0 (rw (open0, c.push.ensures.rest, c.push.ensures.taken, c.in-Ok.ensures.noted) refl) c.in-Ok.ensures.bytes.0)
 
 pub returns-then-count-eq0-clause-first : goal.returns-then-count-eq0-clause-first
 returns-then-count-eq0-clause-first g c =
     let remaining = g.R.Read.remaining in
     let s = c.self.inside in
     let open0 : s.is_over ≡ false = ap Marking.is_over c.self.view_is ∙ c.requires.goes_on in
-    let m : Marking _ = record { reader = s.reader; rest = cond s.is_over [] s.lines.rest; taken = s.lines.taken; held = option_map mark_seen s.held; is_over = s.is_over; line = s.line; least = s.least } in
-    let k : Marking _ = record m { reader = c.read.new.self } in
-    let read : Consumes (remaining s.reader) (remaining c.read.new.self) [] = subst (λ n. Consumes (remaining s.reader) (remaining c.read.new.self) (take n c.read.new.buf)) c.if-count-eq0.true c.in-Ok.ensures.bytes.0 in
+    let m : Marking _ = record { reader = s.reader.reader; has_failed = s.reader.has_failed; rest = cond s.is_over [] s.lines.rest; taken = s.lines.taken; held = option_map mark_seen s.held; is_over = s.is_over; line = s.line; least = s.least } in
+    let k : Marking _ = record m { reader = c.read.new.self.reader; has_failed = c.read.new.self.has_failed } in
+    let same : k ≡ record m { reader = c.read.new.self.reader } = ap (λ (f : Bool). record m { reader = c.read.new.self.reader; has_failed = f }) c.in-Ok.ensures.noted in
+    let read : Consumes (remaining s.reader.reader) (remaining c.read.new.self.reader) [] = subst (λ n. Consumes (remaining s.reader.reader) (remaining c.read.new.self.reader) (take n c.read.new.buf)) c.if-count-eq0.true c.in-Ok.ensures.bytes.0 in
     rw (← c.self.view_is)
-    (IfErr-weaker c.end_lines.result _ _ (names-then remaining Never Never (λ _ never. never) m k c.end_lines.new.self [] (nothing-gives remaining m k open0 refl read)) c.end_lines.ensures.first)
+    (IfErr-weaker c.end_lines.result _ _ (names-then remaining Never Never (λ _ never. never) m k c.end_lines.new.self [] (nothing-gives remaining m k open0 same read)) c.end_lines.ensures.first)

@@ -1,4 +1,4 @@
-use Rattle.std.proofs.Common.{rules, [], sym}
+use Rattle.std.proofs.Common.{rules, [], refl, sym, ◌∙◌}
 use Rattle.std.proofs.lemmas.List.{append-nil}
 use Rattle.std.proofs.lemmas.Result.{IfErr-weaker}
 use Rattle.std.specs.Prelude.{IfErr}
@@ -7,6 +7,8 @@ use Rattle.pipeline.specs.MarkFaults.{IsBefore, NamesFirst}
 use Rattle.pipeline.proofs.Delivering.{on_err}
 use Rattle.pipeline.proofs.Refusing.{names-then}
 use Rattle.pipeline.proofs.Telling.{gives-none, gives-read-then, gives_to-then}
+use Rattle.pipeline.specs.Faults.{NotesMarks}
+use Rattle.pipeline.proofs.Noting.{marks_noted_from}
 use Rattle.pipeline.proofs.marks.MarkReader.take_below.Goals as goal
 
 pub returns-in_err-take_one-clause-err : goal.returns-in_err-take_one-clause-err
@@ -31,10 +33,20 @@ pub loop-marks-preserved : goal.loop-marks-preserved
 loop-marks-preserved g c = record {
   gives = gives_to-then g.R.Read.remaining c.args.self.now c.loop-marks.self c.take_one.new.self (marks_seen c.args.marks.now.items) (marks_seen c.loop-marks.marks.items) (marks_seen c.take_one.new.marks.items) c.loop-marks.invariant.gives c.in_ok-take_one.ensures.ok;
   within = λ all. c.in_ok-take_one.ensures.within (c.loop-marks.invariant.within all);
+  stays = c.in_ok-take_one.ensures.stays ∙ c.loop-marks.invariant.stays;
 }
 
 pub loop-marks-init : goal.loop-marks-init
 loop-marks-init g c = record {
   gives = ([], gives-none g.R.Read.remaining _, sym (append-nil (marks_seen c.args.marks.now.items)));
   within = λ all. all;
+  stays = refl;
 }
+
+pub returns-in_err-take_one-clause-noted : goal.returns-in_err-take_one-clause-noted
+returns-in_err-take_one-clause-noted g c =
+    let told : IfErr c.from_residual.result (NotesMarks c.loop-marks.self.has_failed c.take_one.new.self.has_failed) = search rules in
+    IfErr-weaker c.from_residual.result _ _ (λ fault. marks_noted_from _ _ _ fault c.loop-marks.invariant.stays) told
+
+pub returns-then-not-branch-clause-stays : goal.returns-then-not-branch-clause-stays
+returns-then-not-branch-clause-stays g c = c.in_ok-take_one.ensures.stays ∙ c.loop-marks.invariant.stays

@@ -17,7 +17,7 @@ returns-clause-ok g c =
     let remaining = g.R.Read.remaining in
     let s = c.self.inside in
     let m = c.find.new.self in
-    let m' : Marking _ = record { reader = s.reader; rest = cond s.is_over [] s.lines.rest; taken = s.lines.taken; held = None; is_over = s.is_over; line = s.line; least = s.least } in
+    let m' : Marking _ = record { reader = s.reader.reader; has_failed = s.reader.has_failed; rest = cond s.is_over [] s.lines.rest; taken = s.lines.taken; held = None; is_over = s.is_over; line = s.line; least = s.least } in
     let mark = mark_seen c.in-Some.mark in
     let held : m.held ≡ Some mark = sym (ap Marking.held c.self.view_is) ∙ ap (option_map mark_seen) c.in-Some.is in (
       mark ∷ [],
