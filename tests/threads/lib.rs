@@ -5,6 +5,7 @@ mod adaptive;
 mod desks;
 mod drawn;
 mod ends;
+mod faultless;
 mod gates;
 mod growing;
 mod helpers;

@@ -1,6 +1,7 @@
 -- A record stays one as a call is noted.
 use Rattle.std.proofs.Common.{◌≡◌, ℕ, ◌+◌, List, [], ◌∷◌, ◌++◌, map, Option, Some, None, refl, ap, sym, ◌∙◌, subst, arith, false}
 use mathlib.Core.List.{map-append}
+use Rattle.std.proofs.lemmas.List.Elements.{All-nil, All-push}
 use Rattle.std.specs.Option.{option_map}
 use Rattle.stream_model.specs.Meaning.{Meaning}
 use Rattle.stream_model.specs.Network.{Network, State}
@@ -18,8 +19,8 @@ use Rattle.plant.specs.Handed.{OpeningState}
 use Rattle.plant.specs.Plant.{PlantState}
 use Rattle.threads.specs.declared.entry.CallerId.{CallerId}
 use Rattle.threads.specs.declared.entry.Entry.{Entry}
-use Rattle.threads.specs.History.{Asked, Said, Noted, call_in, noted_by, said_of}
-use Rattle.threads.specs.Recorded.{RecordedState, IsRecord, IsNoted, flights_in, now_in}
+use Rattle.threads.specs.History.{Asked, Said, Noted, MayAsk, call_in, noted_by, said_of}
+use Rattle.threads.specs.Recorded.{RecordedState, IsRecord, IsNoted, flights_in, note_of, now_in}
 use Rattle.threads.specs.Request.{tells}
 use Rattle.threads.proofs.Flights.{read_rests}
 use Rattle.threads.proofs.Histories.{run_more}
@@ -44,31 +45,31 @@ module _ {B : Type 0} (meaning : B → Meaning) (old new : PlantState B) (o : Op
   now = next (net_of meaning old.graph) old.capacities old.state (call_in (net_of meaning old.graph) old.state asked)
 
   -- one call more
-  pub noted : (caller : CallerId) (said : Said) → Went now old new said →
+  pub noted : (caller : CallerId) (said : Said) → MayAsk caller asked → Went now old new said →
       IsRecord meaning (record { plant = new; opening = o; history = history ++ record { caller = caller; asked = asked; said = said } ∷ [] })
-  noted caller said went =
+  noted caller said may went =
       let more = run_more (net_of meaning old.graph) old.capacities o.state old.state history was.run caller asked now.0 refl in
       subst (λ (p : PlantState B). IsRecord meaning (record { plant = p; opening = o; history = history ++ record { caller = caller; asked = asked; said = said } ∷ [] })) (sym went.moved)
       (subst (λ (s : Said). IsRecord meaning (record { plant = record old { state = now.1 }; opening = o; history = history ++ record { caller = caller; asked = asked; said = s } ∷ [] })) (sym went.said_is)
-      (record { graph = was.graph; run = more }))
+      (record { graph = was.graph; run = more; own = All-push (λ (n : Noted). MayAsk n.caller n.asked) history (note_of caller asked now.0) was.own may }))
 
   -- of entries
-  pub noted_entry : (es fs : List Entry) (e : Entry) (caller : CallerId) → map noted_by es ≡ history → fs ≡ es ++ e ∷ [] → (noted_by e).caller ≡ caller → (noted_by e).asked ≡ asked → Went now old new (noted_by e).said →
+  pub noted_entry : (es fs : List Entry) (e : Entry) (caller : CallerId) → map noted_by es ≡ history → fs ≡ es ++ e ∷ [] → (noted_by e).caller ≡ caller → (noted_by e).asked ≡ asked → MayAsk caller asked → Went now old new (noted_by e).said →
       IsRecord meaning (record { plant = new; opening = o; history = map noted_by fs })
-  noted_entry es fs e caller is more by same went =
+  noted_entry es fs e caller is more by same may went =
       let list : map noted_by fs ≡ history ++ record { caller = caller; asked = asked; said = (noted_by e).said } ∷ [] =
       ap (map noted_by) more ∙ map-append noted_by es (e ∷ []) ∙ ap (λ l. l ++ noted_by e ∷ []) is
       ∙ (λ k. history ++ record { caller = by k; asked = same k; said = (noted_by e).said } ∷ []) in
-      subst (λ l. IsRecord meaning (record { plant = new; opening = o; history = l })) (sym list) (noted caller (noted_by e).said went)
+      subst (λ l. IsRecord meaning (record { plant = new; opening = o; history = l })) (sym list) (noted caller (noted_by e).said may went)
 
   -- the same of an answer that a contract speaks of, with the count of claims in flight
   pub kept : (es mid fs : List Entry) (e : Entry) (caller : CallerId) → map noted_by es ≡ history → mid ≡ es → fs ≡ mid ++ e ∷ [] → (noted_by e).caller ≡ caller → (noted_by e).asked ≡ asked →
-      (r : Option Reply) → Answered now old new r → Some (noted_by e).said ≡ option_map said_of r → (n m : ℕ) → n ≡ flights_in old.state → flights_in now.1 + n ≡ flights_in old.state + m →
+      MayAsk caller asked → (r : Option Reply) → Answered now old new r → Some (noted_by e).said ≡ option_map said_of r → (n m : ℕ) → n ≡ flights_in old.state → flights_in now.1 + n ≡ flights_in old.state + m →
       IsRecord meaning (record { plant = new; opening = o; history = map noted_by fs }) × (m ≡ flights_in new.state)
-  kept es mid fs e caller is still more by same r answer said n m flights count =
+  kept es mid fs e caller is still more by same may r answer said n m flights count =
       let went = went now old new r answer (noted_by e).said said in
       let there = ap (λ (p : PlantState B). flights_in p.state) went.moved in
-      (noted_entry es fs e caller is (more ∙ ap (λ l. l ++ e ∷ []) still) by same went, omega (arith, there, flights, count))
+      (noted_entry es fs e caller is (more ∙ ap (λ l. l ++ e ∷ []) still) by same may went, omega (arith, there, flights, count))
 
 -- an answer that memory cannot fail is an answer
 pub always : {B : Type 0} (now : Reply × State) (old new : PlantState B) (r : Option Reply) → AnsweredAlways now old new r → Answered now old new r
@@ -78,7 +79,7 @@ always now old new r a = subst (Answered now old new) (sym a.0) (refl, a.1)
 pub begun : {B : Type 0} (meaning : B → Meaning) (p : PlantState B) (o : OpeningState B) (es : List Entry) → o.graph ≡ p.graph → o.state ≡ p.state → es ≡ [] →
     IsRecord meaning (record { plant = p; opening = o; history = map noted_by es })
 begun meaning p o es graph state none =
-    subst (λ l. IsRecord meaning (record { plant = p; opening = o; history = map noted_by l })) (sym none) (record { graph = sym graph; run = record { replies = refl; left = sym state } })
+    subst (λ l. IsRecord meaning (record { plant = p; opening = o; history = map noted_by l })) (sym none) (record { graph = sym graph; run = record { replies = refl; left = sym state }; own = All-nil (λ (n : Noted). MayAsk n.caller n.asked) })
 
 pub unmoved : {B : Type 0} (net : Network) (old new : PlantState B) (call : machine.Call) (r : Option Reply) → tells r ≡ false → Answered (next net old.capacities old.state call) old new r → new ≡ old
 unmoved net old new call None still a = a.1

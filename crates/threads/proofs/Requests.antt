@@ -1,5 +1,5 @@
 -- A plant responds to a request, and the record stays one.
-use Rattle.std.proofs.Common.{◌≡◌, map}
+use Rattle.std.proofs.Common.{◌≡◌, map, true, refl}
 use Rattle.std.specs.Arc.{arc_value}
 use Rattle.stream_model.specs.Network.{Network, State}
 use Rattle.stream_model.specs.Machine.{Capacities, next}
@@ -8,7 +8,7 @@ use Rattle.settings.specs.Values.{value_of}
 use Rattle.stores.specs.Stores.{mark_of}
 use Rattle.threads.specs.declared.request.Request.{Request}
 use Rattle.threads.specs.declared.request.Request.TheVariants as request
-use Rattle.threads.specs.History.{call_in}
+use Rattle.threads.specs.History.{call_in, is_at_desks}
 use Rattle.threads.specs.Recorded.{flights_in}
 use Rattle.threads.specs.Request.{asked_of}
 use Rattle.threads.proofs.Flights.{fed_same, closed_same, read_same, set_same}
@@ -19,3 +19,10 @@ asked_same net caps st (request.Feed f) = let feed = arc_value f in fed_same net
 asked_same net caps st (request.Close source) = closed_same net st source.0
 asked_same net caps st (request.Set s value) = let setting = arc_value s in set_same net st setting.block.0 setting.at (value_of setting.value)
 asked_same net caps st (request.Read sink from max) = read_same net st sink.0 from max
+
+-- a request is a call that is made at desks
+pub asked_at_desks : (r : Request) → is_at_desks (asked_of r) ≡ true
+asked_at_desks (request.Feed f) = refl
+asked_at_desks (request.Close source) = refl
+asked_at_desks (request.Set s value) = refl
+asked_at_desks (request.Read sink from max) = refl

@@ -1,5 +1,5 @@
 -- What is recorded of the calls that many callers make of one plant, and that it is a run of the machine.
-use Rattle.std.specs.Prelude.{ℕ, ◌≡◌, List, [], ◌∷◌, map, Option, Some, None, true}
+use Rattle.std.specs.Prelude.{ℕ, ◌≡◌, ◌⊎◌, List, [], ◌∷◌, map, All, Option, Some, None, Bool, true, false}
 use Rattle.std.specs.Arc.{arc_value}
 use Rattle.stream_model.specs.Network.{Network, State}
 use Rattle.stream_model.specs.Machine as machine
@@ -10,6 +10,7 @@ use Rattle.settings.specs.Values.{value_of}
 use Rattle.stores.specs.Stores.{mark_of}
 use Rattle.plant.specs.Answers.{piece_reply, refusal_of}
 use Rattle.threads.specs.declared.entry.CallerId.{CallerId}
+use Rattle.threads.specs.declared.entry.CallerId.TheVariants as caller
 use Rattle.threads.specs.declared.entry.Call.{Call}
 use Rattle.threads.specs.declared.entry.Call.TheVariants as call
 use Rattle.threads.specs.declared.entry.Answer.{Answer}
@@ -88,3 +89,23 @@ calls_from net caps st (n ∷ ns) = let call = call_in net st n.asked in call �
 pub record IsRunOf (net : Network) (caps : Capacities) (from : State) (history : List Noted) (last : State) : Type 0 where
   pub replies : map said_of (run_of net caps from (calls_from net caps from history)).0 ≡ map (λ n. n.said) history
   pub left : last ≡ (run_of net caps from (calls_from net caps from history)).1
+
+-- a call that is made at desks: it feeds, closes, sets or reads
+abbrev pub is_at_desks : Asked → Bool
+is_at_desks (Asks (machine.Feed b item numbers marks)) = true
+is_at_desks (Asks (machine.Close b)) = true
+is_at_desks (Asks (machine.Set b at value)) = true
+is_at_desks (Asks (machine.Claim b max)) = false
+is_at_desks (Asks (machine.Commit own job)) = false
+is_at_desks (Asks (machine.Abandon own job)) = false
+is_at_desks (Asks (machine.Read sink from max)) = true
+is_at_desks (Brings b) = false
+
+-- a call that its caller may make: a worker claims for its own block, or brings work of it, and nothing else
+abbrev pub MayAsk : CallerId → Asked → Type 0
+MayAsk (caller.Desk n) asked = is_at_desks asked ≡ true
+MayAsk (caller.Worker b) asked = ((max : ℕ) × (asked ≡ Asks (machine.Claim b.0 max))) ⊎ (asked ≡ Brings b.0)
+
+-- each call is one that its caller may make
+abbrev pub AreOwn : List Noted → Type 0
+AreOwn = All (λ (n : Noted). MayAsk n.caller n.asked)

@@ -15,19 +15,21 @@ use Rattle.threads.specs.declared.outcome.Outcome.TheVariants.{Done, Stopped, St
 use Rattle.threads.specs.declared.fault.RunFault.{RunFault}
 use Rattle.threads.specs.declared.fault.RunFault.TheVariants.{Memory, Thread, Foreign}
 use Rattle.threads.specs.Desk.{DeskState, opened_at}
-use Rattle.threads.specs.History.{Noted, IsRunOf}
+use Rattle.threads.specs.History.{Noted, AreOwn, IsRunOf}
 use Rattle.threads.specs.Outcomes.{IsDone}
 
 -- where a plant stands before the run
 abbrev pub opening_of : {B : Type 0} → PlantState B → OpeningState B
 opening_of p = record { graph = p.graph; state = p.state }
 
--- a plant came where a history leads from the opening: an equal graph, buffers as large as its rates ask, and no claim in flight
+-- a plant came where a history leads from the opening: an equal graph, buffers as large as its rates ask, and no claim in flight. Each call of the
+-- history is one that its caller may make
 pub record HasReached {B : Type 0} (meaning : B → Meaning) (eq : B → B → Bool) (o : OpeningState B) (history : List Noted) (p : PlantState B) : Type 0 where
   pub graph : graphs_agree eq p.graph o.graph ≡ true
   pub net : net_of meaning p.graph ≡ net_of meaning o.graph
   pub capacities : p.capacities ≡ capacities_of (net_of meaning p.graph) (balance_of (net_of meaning p.graph))
   pub run : IsRunOf (net_of meaning p.graph) p.capacities o.state history p.state
+  pub own : AreOwn history
   pub idle : is_idle p.state ≡ true
 
 -- some block is not done, and none can act. So the rates have no balance, or a tape is open

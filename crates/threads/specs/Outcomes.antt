@@ -55,6 +55,12 @@ RunEndsIn meaning eq h asked (Done p) = HasReturned meaning eq h p × IsDone mea
 RunEndsIn meaning eq h asked (Stopped p) = HasReturned meaning eq h p × IsStopped asked p
 RunEndsIn meaning eq h asked (Stalled p) = HasReturned meaning eq h p × IsStalled meaning asked p
 
+-- a run ends by a stop where one was asked for, and by a stall where none was
+abbrev pub IsAsAsked : {B P : Type 0} → Bool → Outcome B P → Type 0
+IsAsAsked asked (Done p) = ⊤
+IsAsAsked asked (Stopped p) = asked ≡ true
+IsAsAsked asked (Stalled p) = asked ≡ false
+
 -- a run that failed gives the plant back, with what was handed in
 abbrev pub GivesBack : {B P : Type 0} → (B → Meaning) → (B → B → Bool) → HandedState B → RunFault B P → Type 0
 GivesBack meaning eq h (Memory p) = HasReturned meaning eq h p

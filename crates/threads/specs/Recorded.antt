@@ -11,7 +11,7 @@ use Rattle.plant.specs.Plant.{PlantState}
 use Rattle.plant.specs.declared.answers.Did.{Did}
 use Rattle.threads.specs.declared.entry.CallerId.{CallerId}
 use Rattle.threads.specs.declared.entry.CallerId.TheVariants as caller
-use Rattle.threads.specs.History.{Asked, Asks, Brings, Says, Noted, IsRunOf, call_in, said_of}
+use Rattle.threads.specs.History.{Asked, Asks, Brings, Says, Noted, AreOwn, IsRunOf, call_in, said_of}
 
 -- the plant, where it began, and what was recorded since
 pub record RecordedState (B : Type 0) : Type 0 where
@@ -19,10 +19,11 @@ pub record RecordedState (B : Type 0) : Type 0 where
   pub opening : OpeningState B
   pub history : List Noted
 
--- what was recorded is a run of the machine from the opening to the plant's state
+-- what was recorded is a run of the machine from the opening to the plant's state, and each call is one that its caller may make
 pub record IsRecord {B : Type 0} (meaning : B → Meaning) (r : RecordedState B) : Type 0 where
   pub graph : r.plant.graph ≡ r.opening.graph
   pub run : IsRunOf (net_of meaning r.plant.graph) r.plant.capacities r.opening.state r.history r.plant.state
+  pub own : AreOwn r.history
 
 -- how many claims are in flight
 abbrev pub flights_in : State → ℕ

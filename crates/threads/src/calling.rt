@@ -6,7 +6,7 @@ ghost use Rattle.stream_model.specs.Machine.{is_idle};
 ghost use Rattle.threads.specs.Desks.{IsEmpty};
 ghost use Rattle.threads.specs.History.{noted_by};
 ghost use Rattle.threads.specs.Live.{AreLogs, HaveReturned, LiveRunEndsIn, GivesBackLive, opening_of};
-ghost use Rattle.threads.specs.Outcomes.{IsSo};
+ghost use Rattle.threads.specs.Outcomes.{IsAsAsked, IsSo};
 
 use crate::crew::Crew;
 use crate::desk::Caller;
@@ -189,6 +189,7 @@ fn ended<B: Block, C: Drop>(
     ensures ends { IfOk result (λ f. LiveRunEndsIn B.meaning B.eq opening.now (map noted_by f.history.items) f.outcome) }
     ensures logs { IfOk result (λ f. AreLogs (map (λ l. map noted_by l.items) f.logs.items) (map noted_by f.history.items)) }
     ensures callers { IfOk result (λ f. came ≡ Some (record { callers = f.callers; logs = f.logs })) }
+    ensures asked { IfOk result (λ f. IsAsAsked locked.asked f.outcome) }
     ensures turns { IfOk result (λ f. f.turns ≡ turns) }
     ensures err { IfErr result (GivesBackLive B.meaning B.eq opening.now) }
     ensures told { IfErr result (IsSo locked.starved (not (is_some came))) }

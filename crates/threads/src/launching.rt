@@ -1,6 +1,8 @@
 //! The start of a run in threads.
 
-ghost use Rattle.std.specs.Prelude.{◌≡◌, true, false, IfOk, IfErr};
+ghost use Rattle.std.specs.Prelude.{◌≡◌, true, false, Some, IfOk, IfErr};
+ghost use Rattle.std.specs.Arc.{arc_value};
+ghost use Rattle.std.specs.Option.{option_map};
 ghost use Rattle.stream_model.specs.Machine.{is_idle};
 ghost use Rattle.threads.specs.Outcomes.{GivesBack, IsSo, handed_of};
 
@@ -32,7 +34,7 @@ pub fn launch<
 where
     B::Places: Send + Sync + 'static,
     requires { is_idle plant.state ≡ true }
-    ensures ok { IfOk result (λ r. r ≡ record { handed = handed_of plant; asked = false; most = 1024 }) }
+    ensures ok { IfOk result (λ r. r ≡ record { handed = handed_of plant; asked = false; most = 1024; gate = Some (arc_value gate) }) }
     ensures err { IfErr result (GivesBack B.meaning B.eq (handed_of plant)) }
 {
     launch_with(rt, alloc, plant, RunOptions::per_block(Some(gate)))
@@ -54,7 +56,7 @@ pub fn launch_with<
 where
     B::Places: Send + Sync + 'static,
     requires { is_idle plant.state ≡ true }
-    ensures ok { IfOk result (λ r. r ≡ record { handed = handed_of plant; asked = false; most = options.turns.most }) }
+    ensures ok { IfOk result (λ r. r ≡ record { handed = handed_of plant; asked = false; most = options.turns.most; gate = option_map arc_value options.gate }) }
     ensures err { IfErr result (GivesBack B.meaning B.eq (handed_of plant)) }
 {
     let RunOptions {

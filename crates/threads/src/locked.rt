@@ -1,6 +1,6 @@
 //! What lies under the lock: the plant, and what its workers do.
 
-ghost use Rattle.std.specs.Prelude.{◌≡◌, ◌≤◌, ◌-◌, true, None};
+ghost use Rattle.std.specs.Prelude.{◌≡◌, ◌≤◌, ◌-◌, true, false, None};
 ghost use Rattle.threads.specs.declared.locked.Next.TheVariants as next;
 ghost use Rattle.threads.specs.Locked.{HasBrought, HasNext, HasTurned, IsOwn};
 
@@ -47,7 +47,7 @@ pub struct Locked<B: Block> {
 impl<B: Block> Locked<B> {
     /// All workers work, and so many callers have not returned.
     pub fn new(engine: Engine<B>, waiting: Waiting, pool: Pool, callers: usize) -> Locked<B>
-        ensures { result.engine ≡ engine }
+        ensures { result ≡ record { engine = engine; waiting = waiting; pool = pool; callers = callers; asked = false; ends = false; starved = false } }
     {
         Locked {
             engine,

@@ -1,6 +1,8 @@
 //! A run of which no thread was started yet, and how a plant is given back that could not run.
 
 ghost use Rattle.std.specs.Prelude.{◌≡◌, true, false, IfOk, IfErr, IfSome};
+ghost use Rattle.std.specs.Arc.{arc_value};
+ghost use Rattle.std.specs.Option.{option_map};
 ghost use Rattle.stream_model.specs.Machine.{is_idle};
 ghost use Rattle.threads.specs.Live.{GivesBackLive, opening_of};
 ghost use Rattle.threads.specs.Outcomes.{HasReturned, GivesBack, IsSo, handed_of};
@@ -30,7 +32,7 @@ pub fn prepare<B: Block, G: Gate + Drop>(
     crew: Crew,
 ) -> Result<Running<B, G>, RunFault<B>>
     requires { is_idle plant.state ≡ true }
-    ensures ok { IfOk result (λ r. r ≡ record { handed = handed_of plant; asked = false; most = turns.most }) }
+    ensures ok { IfOk result (λ r. r ≡ record { handed = handed_of plant; asked = false; most = turns.most; gate = option_map arc_value gate }) }
     ensures err { IfErr result (GivesBack B.meaning B.eq (handed_of plant)) }
     ensures told { IfErr result (IsSo true false) }
 {

@@ -25,8 +25,8 @@ use std::thread::{JoinHandle, Threads};
 use std::time::Clock;
 
 /// A plant at work in threads: one for each of its blocks, or a pool that acts for all. Where it is dropped the threads go on by themselves, and are cut
-/// off as the program ends; `wait` gives the plant back. A contract sees what was handed in, whether a stop was asked for, and how many firings are
-/// claimed at most at once.
+/// off as the program ends; `wait` gives the plant back. A contract sees what was handed in, whether a stop was asked for, how many firings are claimed
+/// at most at once, and the gate.
 #[derive(Drop)]
 pub struct Running<B: Block, G: Gate + Drop> {
     pub(crate) shared: Arc<Shared<B, G>, Global>,
@@ -43,11 +43,12 @@ impl<B: Block, G: Gate + Drop> fmt::Debug for Running<B, G> {
 
 impl<B: Block, G: Gate + Drop> Model for Running<B, G> {
     ghost use Rattle.std.specs.Arc.{arc_value};
+    ghost use Rattle.std.specs.Option.{option_map};
     ghost use Rattle.threads.specs.Running.{RunState};
 
-    ghost Value = { RunState B };
+    ghost Value = { RunState B G };
 
-    ghost view = { λ r. record { handed = r.handed; asked = r.asked; most = (arc_value r.shared).turns.most } };
+    ghost view = { λ r. record { handed = r.handed; asked = r.asked; most = (arc_value r.shared).turns.most; gate = option_map arc_value (arc_value r.shared).gate } };
 }
 
 impl<B: Block, G: Gate + Drop> Running<B, G> {

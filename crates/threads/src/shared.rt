@@ -50,7 +50,8 @@ impl<B: Block, G: Gate + Drop> Shared<B, G> {
         gate: Option<Arc<G, Global>>,
         turns: Turns,
     ) -> Shared<B, G>
-        ensures { result.turns ≡ turns }
+        ensures turns { result.turns ≡ turns }
+        ensures gate { result.gate ≡ gate }
     {
         Shared {
             locked: Mutex::new(locked),

@@ -1,6 +1,8 @@
 //! A graph of kinds, from its feeds to its end.
 
-ghost use Rattle.std.specs.Prelude.{◌≡◌, ◌≤◌, true, false, map, vec_len, IfOk, IfErr};
+ghost use Rattle.std.specs.Prelude.{◌≡◌, ◌≤◌, true, false, map, vec_len, None, IfOk, IfErr};
+ghost use Rattle.std.specs.Arc.{arc_value};
+ghost use Rattle.std.specs.Option.{option_map};
 ghost use Rattle.stream_model.specs.Machine as machine;
 ghost use Rattle.stream_model.specs.Machine.{close_of, feed_of, is_idle, set_of};
 ghost use Rattle.items.specs.Items.{type_of, numbers_of};
@@ -120,7 +122,7 @@ impl TopBlock {
         rt: R,
         alloc: Global,
     ) -> Result<Running<Kind, Open>, RunFault<Kind>>
-        ensures ok { IfOk result (λ r. r ≡ record { handed = handed_of (with_all_closed meaning_of self); asked = false; most = 1024 }) }
+        ensures ok { IfOk result (λ r. r ≡ record { handed = handed_of (with_all_closed meaning_of self); asked = false; most = 1024; gate = None }) }
         ensures err { IfErr result (GivesBack meaning_of ⟦<Kind as PartialEq>⟧.eq (handed_of (with_all_closed meaning_of self))) }
     {
         self.start_with(rt, alloc, RunOptions::per_block(None))
@@ -136,7 +138,7 @@ impl TopBlock {
         alloc: Global,
         options: RunOptions<G>,
     ) -> Result<Running<Kind, G>, RunFault<Kind>>
-        ensures ok { IfOk result (λ r. r ≡ record { handed = handed_of (with_all_closed meaning_of self); asked = false; most = options.turns.most }) }
+        ensures ok { IfOk result (λ r. r ≡ record { handed = handed_of (with_all_closed meaning_of self); asked = false; most = options.turns.most; gate = option_map arc_value options.gate }) }
         ensures err { IfErr result (GivesBack meaning_of ⟦<Kind as PartialEq>⟧.eq (handed_of (with_all_closed meaning_of self))) }
     {
         let TopBlock { mut plant } = self;

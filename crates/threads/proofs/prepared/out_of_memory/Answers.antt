@@ -1,4 +1,6 @@
 use Rattle.std.proofs.Common.{[], refl}
+use Rattle.std.proofs.lemmas.List.Elements.{All-nil}
+use Rattle.threads.specs.History.{Noted, MayAsk}
 use Rattle.threads.proofs.Agreeing.{graph_self}
 use Rattle.threads.proofs.prepared.out_of_memory.Goals as goal
 
@@ -19,6 +21,7 @@ returns-clause-live g c = (
     net = refl;
     capacities = c.recall.ensures.capacities;
     run = record { replies = refl; left = refl };
+    own = All-nil (λ (n : Noted). MayAsk n.caller n.asked);
     idle = c.requires;
   },
 )

@@ -6,7 +6,7 @@ use Rattle.threads.specs.declared.entry.Entry.{Entry}
 use Rattle.threads.specs.History.{call_in, noted_by}
 use Rattle.threads.specs.Request.{asked_of, response_reply}
 use Rattle.threads.proofs.Records.{kept, kept_still, listed, is_noted, unmoved}
-use Rattle.threads.proofs.Requests.{asked_same}
+use Rattle.threads.proofs.Requests.{asked_at_desks, asked_same}
 use Rattle.threads.proofs.recorded.Recorded.call.Goals as goal
 
 pub invariant_of-self-in_err-reply : goal.invariant_of-self-in_err-reply
@@ -30,7 +30,7 @@ invariant_of-self-2 g c =
     let old = c.self.inside.plant in
     let net = net_of g.B.Block.meaning old.graph in
     let rest = kept g.B.Block.meaning old c.ask-call.new.plant c.self.inside.opening _ c.self.invariant.0 (asked_of c.args.request) c.self.inside.history.items _ c.push_reserved.new.self.items
-    (record { caller = caller.Desk c.args.desk; call = c.ask-call.result.0; reply = c.in_ok-reply.reply }) (caller.Desk c.args.desk) refl c.in_ok-reserve.ensures.items c.push_reserved.ensures.items refl c.ask-call.ensures.call
+    (record { caller = caller.Desk c.args.desk; call = c.ask-call.result.0; reply = c.in_ok-reply.reply }) (caller.Desk c.args.desk) refl c.in_ok-reserve.ensures.items c.push_reserved.ensures.items refl c.ask-call.ensures.call (asked_at_desks c.args.request)
     (response_reply c.ask-call.result.1) c.ask-call.ensures.answered c.in_ok-reply.ensures.first c.self.inside.flights c.self.inside.flights c.self.invariant.1 (omega (arith, c.self.invariant.1, asked_same net old.capacities old.state c.args.request)) in
     (rest.0, rest.1, omega (arith, c.push_reserved.ensures.len, c.push_reserved.ensures.capacity, c.in_ok-reserve.ensures.ok, c.in_ok-reserve.ensures.len))
 

@@ -1,4 +1,4 @@
-use Rattle.std.proofs.Common.{◌+◌, Some, refl, sym, subst, arith}
+use Rattle.std.proofs.Common.{◌+◌, Some, inl, refl, sym, subst, arith}
 use Rattle.stream_model.specs.Machine as machine
 use Rattle.stream_model.specs.Machine.{next}
 use Rattle.flowgraph.specs.Flowgraph.{net_of}
@@ -30,7 +30,7 @@ invariant_of-self-in-Claimed g c =
     let more = one_more net old.capacities old.state c.recall.ensures.sound.progress_count c.args.block.0 c.args.max job (sym answered.0) in
     let rest = kept g.B.Block.meaning old new c.self.inside.opening _ c.self.invariant.0 (asked_by (call.Claim c.args.block c.args.max)) c.self.inside.history.items _ c.push_reserved.new.self.items
     (record { caller = caller.Worker c.args.block; call = call.Claim c.args.block c.args.max; reply = answer.Claimed c.first.result c.count.result }) (caller.Worker c.args.block) refl
-    c.in_ok-reserve.ensures.items c.push_reserved.ensures.items refl refl (Some (machine.Claimed job)) answered (λ k. Some (Hands (c.first.ensures k) (c.count.ensures k)))
+    c.in_ok-reserve.ensures.items c.push_reserved.ensures.items refl refl (inl (c.args.max, refl)) (Some (machine.Claimed job)) answered (λ k. Some (Hands (c.first.ensures k) (c.count.ensures k)))
     c.self.inside.flights (c.self.inside.flights + 1) c.self.invariant.1 (omega (arith, c.self.invariant.1, more)) in
     (rest.0, rest.1, omega (arith, c.push_reserved.ensures.len, c.push_reserved.ensures.capacity, c.in_ok-reserve.ensures.ok, c.in_ok-reserve.ensures.len))
 
@@ -45,7 +45,7 @@ invariant_of-self-in-Done g c =
     let same = none_more net old.capacities old.state c.recall.ensures.sound.progress_count c.args.block.0 c.args.max (not_handed (next net old.capacities old.state ask).0 answered.0) in
     let rest = kept g.B.Block.meaning old new c.self.inside.opening _ c.self.invariant.0 (asked_by (call.Claim c.args.block c.args.max)) c.self.inside.history.items _ c.push_reserved-in-Done.new.self.items
     (record { caller = caller.Worker c.args.block; call = call.Claim c.args.block c.args.max; reply = answer.Done }) (caller.Worker c.args.block) refl
-    c.in_ok-reserve.ensures.items c.push_reserved-in-Done.ensures.items refl refl (Some machine.Done) answered refl
+    c.in_ok-reserve.ensures.items c.push_reserved-in-Done.ensures.items refl refl (inl (c.args.max, refl)) (Some machine.Done) answered refl
     c.self.inside.flights c.self.inside.flights c.self.invariant.1 (omega (arith, c.self.invariant.1, same)) in
     (rest.0, rest.1, omega (arith, c.push_reserved-in-Done.ensures.len, c.push_reserved-in-Done.ensures.capacity, c.in_ok-reserve.ensures.ok, c.in_ok-reserve.ensures.len))
 

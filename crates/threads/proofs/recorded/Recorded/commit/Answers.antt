@@ -1,4 +1,4 @@
-use Rattle.std.proofs.Common.{◌++◌, map, [], ◌∷◌, ◌≡◌, ◌-◌, true, Some, refl, sym, ap, ◌∙◌, subst, arith}
+use Rattle.std.proofs.Common.{◌++◌, map, [], ◌∷◌, ◌≡◌, ◌-◌, true, Some, inr, refl, sym, ap, ◌∙◌, subst, arith}
 use mathlib.Core.List.{map-append}
 use Rattle.stream_model.specs.Network.{State}
 use Rattle.stream_model.specs.Machine as machine
@@ -44,7 +44,7 @@ invariant_of-self-2 g c =
     let less = ap (λ (x : Reply × State). flights_in x.1) same in
     let rest = kept g.B.Block.meaning old new c.self.inside.opening _ c.self.invariant.0 (asked_by (call.Commit b)) c.self.inside.history.items _ c.push_reserved.new.self.items
     (record { caller = caller.Worker b; call = call.Commit b; reply = answer.Did c.in_ok-did.did.0 }) (caller.Worker b) refl
-    refl c.push_reserved.ensures.items refl refl (Some (machine.Did c.in_ok-did.did.0)) answered refl
+    refl c.push_reserved.ensures.items refl refl (inr refl) (Some (machine.Did c.in_ok-did.did.0)) answered refl
     c.self.inside.flights (c.self.inside.flights - 1) c.self.invariant.1 (omega (arith, c.self.invariant.1, taken.less, less)) in
     (rest.0, rest.1, omega (arith, c.push_reserved.ensures.len, c.push_reserved.ensures.capacity, taken.less, c.self.invariant.1, c.self.invariant.2))
 
