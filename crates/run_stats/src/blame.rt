@@ -5,17 +5,52 @@ ghost use Rattle.std.specs.Prelude.{◌<◌, length};
 use crate::figures::{Figures, Stats};
 use flowgraph::{Block, BlockId, Valid};
 
-/// The block that was at work for the longest time, and the lowest of several; none where none was.
-pub(crate) fn limiting(stats: &Stats) -> Option<BlockId> {
+/// The block that was at work for the longest time, and the lowest of several, with that time; none where none was.
+pub(crate) fn longest_at_work(stats: &Stats) -> Option<(BlockId, u64)> {
     let mut longest = 0;
     let mut found = None;
     for (block, figures) in (0..u32::MAX).zip(&stats.blocks) {
         if longest < figures.nanos {
             longest = figures.nanos;
-            found = Some(BlockId(block));
+            found = Some((BlockId(block), longest));
         }
     }
     found
+}
+
+/// The block that limits the run: it was at work for more than half of it.
+pub(crate) fn limiting(stats: &Stats) -> Option<BlockId> {
+    match longest_at_work(stats) {
+        Some((block, nanos)) if stats.nanos / 2 < nanos => Some(block),
+        _ => None,
+    }
+}
+
+/// What the time of a run went to, in nanoseconds.
+#[derive(Clone, Copy)]
+pub(crate) struct Whole {
+    /// How long all blocks were at work together.
+    pub(crate) at_work: u64,
+    /// For how long their turns had no processor.
+    pub(crate) lacking: u64,
+    /// For how long at least no block had a turn.
+    pub(crate) between: u64,
+}
+
+impl Whole {
+    pub(crate) fn of(stats: &Stats) -> Whole {
+        let mut at_work = 0u64;
+        let mut lasted = 0u64;
+        for figures in &stats.blocks {
+            at_work = at_work.saturating_add(figures.nanos);
+            lasted = lasted.saturating_add(figures.lasted);
+        }
+        Whole {
+            at_work,
+            lacking: lasted.saturating_sub(at_work),
+            between: stats.nanos.saturating_sub(lasted),
+        }
+    }
 }
 
 /// Whether other blocks waited, and each time for this one.

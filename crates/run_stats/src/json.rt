@@ -52,6 +52,7 @@ fn push_block(
     push_count(out, b",\"items_in\":", items_in(graph, block, firings))?;
     push_count(out, b",\"items_out\":", items_out(graph, block, firings))?;
     push_count(out, b",\"nanoseconds_at_work\":", figures.nanos)?;
+    push_count(out, b",\"nanoseconds_in_turns\":", figures.lasted)?;
     push_count(
         out,
         b",\"per_mille_of_the_run\":",

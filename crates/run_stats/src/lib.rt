@@ -5,8 +5,8 @@
 mod blame;
 pub mod figures;
 mod flow_of_items;
-pub mod gated;
 mod json;
+pub mod measured;
 pub mod meter;
 pub mod observer;
 mod table;
@@ -16,8 +16,8 @@ pub mod tracer;
 mod units;
 
 pub use figures::{Figures, Stats, Waited};
-pub use gated::GatedWatch;
 pub use json::json_report;
+pub use measured::{Form, Looks, Measured};
 pub use meter::Meter;
 pub use observer::Observer;
 pub use text::text_report;

@@ -4,12 +4,14 @@ use crate::figures::{Figures, Stats, Waited};
 use flowgraph::{Block, BlockId, Valid};
 use plant::Need;
 use std::alloc::{AllocError, Global};
+use std::io;
 use std::sync::atomic::{AtomicU64, Ordering};
-use std::time::Clock;
+use std::time::{Clock, CpuClock, Duration};
 use threads::Gate;
 
-/// The gate that measures the turns and the waits of each block. It takes its memory before the run, and locks nothing. A clock that cannot be read
-/// measures times of 0. A wait that no turn ended is counted, and its time is not.
+/// The gate that measures the turns and the waits of each block. A block is at work for the processor time that its threads take in its turns, so that
+/// other work on the machine makes no block slow. It takes its memory before the run, and locks nothing. A clock that cannot be read measures times
+/// of 0. A wait that no turn ended is counted, and its time is not.
 #[derive(Drop)]
 pub struct Meter<R> {
     clock: R,
@@ -26,8 +28,11 @@ struct Counters {
     firings: AtomicU64,
     turns: AtomicU64,
     nanos: AtomicU64,
+    lasted: AtomicU64,
     // When its turn began.
     began: AtomicU64,
+    // How much processor time the thread of its turn had taken then.
+    used: AtomicU64,
     // For which of its ports it waits, counted from 1, outputs first; 0 for none.
     port: AtomicU64,
     // Since when.
@@ -43,7 +48,7 @@ struct Waits {
     nanos: AtomicU64,
 }
 
-impl<R: Clock + Drop> Meter<R> {
+impl<R: Drop> Meter<R> {
     /// A meter of the blocks of a graph that has measured nothing.
     pub fn new<B: Block>(
         alloc: Global,
@@ -74,33 +79,49 @@ impl<R: Clock + Drop> Meter<R> {
             blocks,
         })
     }
+}
 
-    // What the clock shows, in nanoseconds.
+impl<R: Clock + CpuClock + Drop> Meter<R> {
     fn time(&self) -> u64 {
-        match self.clock.monotonic() {
-            Ok(time) => u64::try_from(time.as_nanos()).unwrap_or(u64::MAX),
-            Err(_) => 0,
-        }
+        nanos_of(self.clock.monotonic())
+    }
+
+    // How much processor time the calling thread has taken, in nanoseconds.
+    fn used(&self) -> u64 {
+        nanos_of(self.clock.thread_cpu_time())
     }
 }
 
-impl<R: Clock + Drop> Gate for Meter<R> {
+// What a clock shows, in nanoseconds; 0 where it shows nothing.
+fn nanos_of(shown: io::Result<Duration>) -> u64 {
+    match shown {
+        Ok(time) => u64::try_from(time.as_nanos()).unwrap_or(u64::MAX),
+        Err(_) => 0,
+    }
+}
+
+impl<R: Clock + CpuClock + Drop> Gate for Meter<R> {
     fn pass(&self, _block: BlockId, _firing: u64) {}
 
+    // (of the two clocks that of the processor is read farther from the work, so that the reading of it passes for no want of a processor)
     fn begins(&self, block: BlockId) {
+        let used = self.used();
         let now = self.time();
         if now < read(&self.began) {
             self.began.fetch_min(now, Ordering::SeqCst);
         }
         if let Some(counters) = self.blocks.get(block.0 as usize) {
             write(&counters.began, now);
+            write(&counters.used, used);
         }
     }
 
+    // The thread is the one on which the turn began.
     fn worked(&self, block: BlockId, firings: u32) {
         let now = self.time();
+        let used = self.used();
         if let Some(counters) = self.blocks.get(block.0 as usize) {
-            counters.turn(firings, now);
+            counters.turn(firings, now, used);
         }
         self.ended.fetch_max(now, Ordering::SeqCst);
     }
@@ -118,7 +139,9 @@ impl Counters {
             firings: AtomicU64::new(0),
             turns: AtomicU64::new(0),
             nanos: AtomicU64::new(0),
+            lasted: AtomicU64::new(0),
             began: AtomicU64::new(0),
+            used: AtomicU64::new(0),
             port: AtomicU64::new(0),
             since: AtomicU64::new(0),
             inputs: no_waits(alloc, inputs)?,
@@ -126,13 +149,14 @@ impl Counters {
         })
     }
 
-    // A turn ended. It ended a wait too, as it began.
-    fn turn(&self, firings: u32, now: u64) {
+    // A turn ended, when its thread had taken so much processor time. It ended a wait too, as it began.
+    fn turn(&self, firings: u32, now: u64, used: u64) {
         let began = read(&self.began);
         self.ends_wait(began);
         add(&self.firings, u64::from(firings));
         add(&self.turns, 1);
-        add(&self.nanos, now.saturating_sub(began));
+        add(&self.nanos, used.saturating_sub(read(&self.used)));
+        add(&self.lasted, now.saturating_sub(began));
     }
 
     // A wait begins, unless it is the one that is on.
@@ -180,6 +204,7 @@ impl Counters {
             firings: read(&self.firings),
             turns: read(&self.turns),
             nanos: read(&self.nanos),
+            lasted: read(&self.lasted),
             inputs: waited(alloc, &self.inputs)?,
             outputs: waited(alloc, &self.outputs)?,
         })

@@ -4,7 +4,7 @@ use crate::meter::Meter;
 use crate::tracer::Tracer;
 use flowgraph::BlockId;
 use plant::Need;
-use std::time::Clock;
+use std::time::{Clock, CpuClock};
 use threads::Gate;
 
 /// The gate that is a meter, a tracer, or both.
@@ -14,7 +14,7 @@ pub struct Observer<R> {
     pub tracer: Option<Tracer<R>>,
 }
 
-impl<R: Clock + Drop> Gate for Observer<R> {
+impl<R: Clock + CpuClock + Drop> Gate for Observer<R> {
     fn pass(&self, _block: BlockId, _firing: u64) {}
 
     fn begins(&self, block: BlockId) {

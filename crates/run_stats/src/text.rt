@@ -5,7 +5,7 @@ ghost use Rattle.stream_model.specs.Network.{used_outputs};
 ghost use Rattle.flowgraph.specs.Flowgraph.{net_of};
 ghost use Rattle.kinds.specs.Kind.{meaning_of};
 
-use crate::blame::{all_wait_for, limiting};
+use crate::blame::{Whole, all_wait_for, limiting, longest_at_work};
 use crate::figures::{Figures, Stats, Waited};
 use crate::flow_of_items::{items_in, items_out};
 use crate::table::{Row, Table};
@@ -178,20 +178,43 @@ fn push_comma(out: &mut Vec<u8>) -> Result<(), AllocError> {
     Ok(())
 }
 
-// Writes which block limits the run.
+// Writes which block limits the run, or where no block does, what the time went to.
 fn push_limit(out: &mut Vec<u8>, graph: &Valid<Kind>, stats: &Stats) -> Result<(), AllocError> {
-    let Some(limit) = limiting(stats) else {
+    let Some((longest, nanos)) = longest_at_work(stats) else {
         return out.extend_from_slice(b"No block was at work.\n");
+    };
+    let Some(limit) = limiting(stats) else {
+        return push_whole(out, graph, stats, longest, nanos);
     };
     out.extend_from_slice(b"The run is limited by ")?;
     push_name(out, graph, limit)?;
     out.extend_from_slice(b", which was at work for ")?;
-    if let Some(figures) = stats.blocks.get(limit.0 as usize) {
-        push_share(out, figures.nanos, stats.nanos)?;
-    }
+    push_share(out, nanos, stats.nanos)?;
     out.extend_from_slice(b" of it")?;
     if all_wait_for(graph, stats, limit) {
         out.extend_from_slice(b", and each wait of another block was for it")?;
     }
     out.extend_from_slice(b".\n")
+}
+
+// Writes what the time of a run went to in which this block was at work the longest.
+fn push_whole(
+    out: &mut Vec<u8>,
+    graph: &Valid<Kind>,
+    stats: &Stats,
+    longest: BlockId,
+    nanos: u64,
+) -> Result<(), AllocError> {
+    let whole = Whole::of(stats);
+    out.extend_from_slice(b"No block was at work for more than half of the run: ")?;
+    push_name(out, graph, longest)?;
+    out.extend_from_slice(b" was the longest, for ")?;
+    push_share(out, nanos, stats.nanos)?;
+    out.extend_from_slice(b" of it, and all blocks together for ")?;
+    push_share(out, whole.at_work, stats.nanos)?;
+    out.extend_from_slice(b".\nTheir turns had no processor for ")?;
+    push_share(out, whole.lacking, stats.nanos)?;
+    out.extend_from_slice(b" of it, and for ")?;
+    push_share(out, whole.between, stats.nanos)?;
+    out.extend_from_slice(b" or more no block had a turn.\n")
 }
