@@ -10,6 +10,7 @@ pub mod Flying
 pub mod Sessions
 pub mod Settings
 pub mod Leaving
+pub mod Lines
 pub mod Naming
 pub mod Askable
 pub mod Claiming

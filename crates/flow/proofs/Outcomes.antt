@@ -1,5 +1,5 @@
 -- What a command does, from what it tells and whether that was written.
-use Rattle.std.proofs.Common.{◌≡◌, ℕ, ◌+◌, List, refl, ap, sym, ◌∙◌, subst, arith, Bool, true, false}
+use Rattle.std.proofs.Common.{inl, inr, ◌≡◌, ℕ, ◌+◌, List, refl, ap, sym, ◌∙◌, subst, arith, Bool, true, false}
 use Rattle.std.specs.Option.{option_map}
 use Rattle.std.specs.Prelude.{Option, Some, None, Result, Ok, Err, IsOk, IfOk, IfErr, if◌then◌else◌}
 use Rattle.std.specs.Io.KnownBytes.{Appends}
@@ -20,7 +20,7 @@ use Rattle.graph_file.specs.Opening.{Opened, opened_of}
 use Rattle.flowgraph.specs.Agreeing.{graphs_agree}
 use Rattle.threads.specs.Outcomes.{HasReturned, handed_of}
 use Rattle.threads.specs.History.{Noted, IsRunOf}
-use Rattle.threads.specs.Live.{LiveRunEndsIn, opening_of}
+use Rattle.threads.specs.Live.{HasReached, LiveRunEndsIn, opening_of}
 use Rattle.threads.specs.declared.outcome.Outcome.{Outcome}
 use Rattle.threads.specs.declared.outcome.Outcome.TheVariants as outcome
 use Rattle.plant.specs.Handed.{OpeningState}
@@ -31,7 +31,7 @@ use Rattle.flow.specs.Session.{in_state, turn}
 use Rattle.flow.specs.RawEnds.{StepsToRest}
 use Rattle.flow.specs.Reports.{run_text}
 use Rattle.flow.specs.Threads.{HasCome}
-use Rattle.flow.specs.Serve.{Becomes, Fails, IsNoFile, Refuses, RunsNot, StopsLive, Writes, WritesNot, IsAtRest, IsEnd, IsLiveTo, IsRunTo, IsRunAloneTo, plant_in, stalled_in, reads_in, reads_failed, writes_in, writes_failed}
+use Rattle.flow.specs.Serve.{AnswersLines, Becomes, Fails, Refuses, RunsNot, StopsLines, StopsLive, Writes, WritesNot, IsAtRest, IsEnd, IsLiveTo, IsRunTo, IsRunAloneTo, plant_in, stalled_in, reads_in, reads_failed, writes_in, writes_failed}
 use Rattle.flow.specs.declared.fault.Fault.{Fault}
 use Rattle.flow.specs.declared.fault.Fault.TheVariants.{File, Script, Run}
 use Rattle.flow.specs.declared.script.ScriptFault.TheVariants.{BadLine, Read, Write, Memory}
@@ -227,18 +227,21 @@ module _ (file text : List ℕ) (status : ℕ) (p r : PlantState Kind) (stalled 
         is.left ∙ ap (λ (x : Opened). stalled_in x r.state) same,
       )
 
-  -- calls were made meanwhile
-  pub ran_live : HasCome meaning_of eq (opening_of p) r → plant_in file ≡ Ok (opened_of p) →
-      p.capacities ≡ capacities_of (net_of meaning_of p.graph) (balance_of (net_of meaning_of p.graph)) → IsEnd (opened_of r) stalled text status → IsLiveTo file stalled text status
-  ran_live come opens fit is =
-      let back = come.1 in
+  -- lines were answered meanwhile
+  pub ran_live : (log : List Noted) (input out : Option (List ℕ)) → HasCome meaning_of eq (opening_of p) log r → AnswersLines p.graph log input out → plant_in file ≡ Ok (opened_of p) →
+      p.capacities ≡ capacities_of (net_of meaning_of p.graph) (balance_of (net_of meaning_of p.graph)) → IsEnd (opened_of r) stalled text status → IsLiveTo file input out stalled text status
+  ran_live log input out come lines opens fit is =
+      let back = come.reached in
       let same = same_plant p r eq back.graph back.net back.capacities fit in (
         record {
-          plant = opened_of p;
+          plant = p;
           opens = opens;
-          history = come.0;
+          log = log;
+          lines = lines;
+          history = come.history;
+          logs = come.logs;
           last = r.state;
-          run = subst (λ (x : Opened). IsRunOf x.draft.net x.capacities p.state come.0 r.state) same back.run;
+          run = subst (λ (x : Opened). IsRunOf x.draft.net x.capacities p.state come.history r.state) same back.run;
           rests = subst (λ (x : Opened). IsAtRest x.draft.net x.capacities x.state) same is.rests;
           told = is.told ∙ ap (λ (x : Opened). run_text x.draft r.state) same;
           well = is.well;
@@ -248,14 +251,24 @@ module _ (file text : List ℕ) (status : ℕ) (p r : PlantState Kind) (stalled 
 
 -- how a live run ended that came to rest
 module _ (eq : Kind → Kind → Bool) (o : OpeningState Kind) (history : List Noted) {P : Type 0} (out : Outcome Kind P) (p : PlantState Kind) where
-  pub ended_done : out ≡ outcome.Done p → LiveRunEndsIn meaning_of eq o history out → HasCome meaning_of eq o p × HasSettled (net_of meaning_of p.graph) p.capacities p.state Done
-  ended_done e h = let k = subst (LiveRunEndsIn meaning_of eq o history) e h in ((history, k.0), k.1.done)
+  pub ended_done : out ≡ outcome.Done p → LiveRunEndsIn meaning_of eq o history out → HasReached meaning_of eq o history p × HasSettled (net_of meaning_of p.graph) p.capacities p.state Done
+  ended_done e h = let k = subst (LiveRunEndsIn meaning_of eq o history) e h in (k.0, k.1.done)
 
-  pub ended_stalled : out ≡ outcome.Stalled p → LiveRunEndsIn meaning_of eq o history out → HasCome meaning_of eq o p × HasSettled (net_of meaning_of p.graph) p.capacities p.state Quiet
-  ended_stalled e h = let k = subst (LiveRunEndsIn meaning_of eq o history) e h in ((history, k.0), (k.1.undone, k.1.quiet))
+  pub ended_stalled : out ≡ outcome.Stalled p → LiveRunEndsIn meaning_of eq o history out → HasReached meaning_of eq o history p × HasSettled (net_of meaning_of p.graph) p.capacities p.state Quiet
+  ended_stalled e h = let k = subst (LiveRunEndsIn meaning_of eq o history) e h in (k.0, (k.1.undone, k.1.quiet))
 
--- what came of a live run of a file that is good
-pub live_failed : (file : List ℕ) (i i' o o' : Option (List ℕ)) (fault : Fault) (p : Opened) → plant_in file ≡ Ok p → IsNoFile fault → StopsLive file i i' o o' fault
-live_failed file i i' o o' (File fault) p opens h = absurd h
-live_failed file i i' o o' (Script fault) p opens h = subst IsOk (sym opens) refl
-live_failed file i i' o o' (Run fault) p opens h = subst IsOk (sym opens) refl
+-- a live run of a file that is good stopped by its lines, or came to no end
+module _ (file : List ℕ) (i i' o o' : Option (List ℕ)) (p : PlantState Kind) (opens : plant_in file ≡ Ok (opened_of p)) where
+  pub live_stopped : (fault : Fault) → StopsLines p.graph i o fault → StopsLive file i i' o o' fault
+  live_stopped (File fault) h = absurd h
+  live_stopped (Script fault) h = (p, opens, inl h)
+  live_stopped (Run fault) h = subst IsOk (sym opens) refl
+
+  -- no memory was there to report it
+  pub live_untold : (log : List Noted) → AnswersLines p.graph log i o → StopsLive file i i' o o' (Script Memory)
+  live_untold log h = (p, opens, inr (log, h))
+
+  -- its report was written in part
+  pub live_cut : (between : Option (List ℕ)) (stalled : Option Opened) (text : List ℕ) (status : ℕ) → IsLiveTo file i o stalled text status → AppendsBeginning between o' text →
+      StopsLive file i i' o o' (Script Write)
+  live_cut between stalled text status h cut = (p, opens, inr (between, stalled, text, status, h, cut))

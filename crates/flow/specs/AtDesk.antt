@@ -7,14 +7,14 @@ use Rattle.stream_model.specs.Meaning.{Meaning}
 use Rattle.stream_model.specs.Network.{Network, node_at, role_at, is_source}
 use Rattle.stream_model.specs.Machine as machine
 use Rattle.stream_model.specs.Machine.{Reply, Refused}
-use Rattle.flowgraph.specs.Flowgraph.{net_of}
+use Rattle.flowgraph.specs.Flowgraph.{Flowgraph, net_of}
 use Rattle.items.specs.Items.{type_of, numbers_of}
 use Rattle.items.specs.declared.stream_items.Items.{Items}
 use Rattle.plant.specs.declared.fault.PlantFault.{PlantFault}
 use Rattle.plant.specs.declared.fault.PlantFault.TheVariants as fault
 use Rattle.plant.specs.Feeding.{are_items, given_type}
-use Rattle.threads.specs.History.{Asks}
-use Rattle.threads.specs.Desk.{DeskState, IsLogged}
+use Rattle.threads.specs.History.{Asks, Noted}
+use Rattle.threads.specs.Desk.{DeskState, IsLogged, opened_at}
 use Rattle.script_text.specs.Grammar.{Command, Feed, Close, Set, Claim, Commit, Abandon, Step, Read, Why, Quiet, Settle}
 use Rattle.flow.specs.Session.{value_for, is_fit, reply_line, no_memory}
 
@@ -78,3 +78,11 @@ AtDesk meaning (Step name max) old new line = ⊥
 AtDesk meaning (Why name) old new line = ⊥
 AtDesk meaning Quiet old new line = ⊥
 AtDesk meaning Settle old new line = ⊥
+
+-- the same desk with another log
+abbrev pub with_log : {B : Type 0} → DeskState B → List Noted → DeskState B
+with_log desk log = record desk { log = log }
+
+-- the one desk of a live run, before its lines
+abbrev pub live_desk : {B : Type 0} → Flowgraph B → DeskState B
+live_desk graph = opened_at graph 0

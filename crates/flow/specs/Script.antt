@@ -130,6 +130,11 @@ pub record Breaks {S : Type 0} (A : Answering S) (st : S) (input input' out out'
   pub read : Consumes input input' given
   pub stops : Stops A st out out' (script_after given) 0 fault ⊎ ((IsAtEnd input' × Stops A st out out' (script_of given) 0 fault) ⊎ StopsAtNone given out out' fault)
 
+-- lines came to their end, or a fault stopped them
+abbrev pub Finishes : {S : Type 0} → Answering S → S → S → Option (List ℕ) → Option (List ℕ) → Option (List ℕ) → Option (List ℕ) → Result (Unit {0}) ScriptFault → Type 0
+Finishes A st last input input' out out' (Ok done) = Ends A st last input input' out out'
+Finishes A st last input input' out out' (Err fault) = Breaks A st input input' out out' fault
+
 -- how many reads failed, and how many writes
 abbrev pub failed_reads : {X : Type 0} → Result X ScriptFault → ℕ
 failed_reads (Ok x) = 0

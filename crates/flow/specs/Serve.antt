@@ -1,12 +1,12 @@
 -- What the program does with a graph file and its streams.
-use Rattle.std.specs.Prelude.{⊤, ℕ, ◌+◌, ◌≡◌, ◌⊎◌, List, Option, Some, None, Bool, true, false, Result, Ok, Err, IsOk, if◌then◌else◌}
+use Rattle.std.specs.Prelude.{⊤, ℕ, ◌+◌, ◌≡◌, ◌⊎◌, List, [], ◌∷◌, Option, Some, None, Bool, true, false, Result, Ok, Err, IsOk, if◌then◌else◌}
 use Rattle.std.specs.Str.{is_utf8}
 use Rattle.std.specs.Io.KnownBytes.{Appends}
 use Rattle.toml.specs.Parse.{parse_document}
 use Rattle.stream_model.specs.Network.{Network, State}
 use Rattle.stream_model.specs.Machine.{Capacities, is_all_done, is_quiet, IsWhole}
 use Rattle.machine_laws.specs.Sound.{Sound}
-use Rattle.flowgraph.specs.Flowgraph.{Flowgraph}
+use Rattle.flowgraph.specs.Flowgraph.{Flowgraph, net_of}
 use Rattle.kinds.specs.declared.kind.Kind.{Kind}
 use Rattle.kinds.specs.Kind.{meaning_of}
 use Rattle.plant.specs.Plant.{PlantState}
@@ -17,6 +17,7 @@ use Rattle.graph_file.specs.Blocks.{Draft, drafted}
 use Rattle.graph_file.specs.File.{Content, file_of}
 use Rattle.graph_file.specs.Opening.{Opened, opened, opened_of, streamed, validated}
 use Rattle.threads.specs.History.{Noted, IsRunOf}
+use Rattle.threads.specs.Live.{AreLogs}
 use Rattle.drawings.specs.Drawings.{drawn_text}
 use Rattle.drawings.specs.declared.drawing.Format.{Format}
 use Rattle.graph_model.specs.Rates.{balance_of}
@@ -24,12 +25,14 @@ use Rattle.reporting.specs.Ends.{AppendsBeginning}
 use Rattle.reporting.specs.declared.ends.Broken.{Broken}
 use Rattle.top_block.specs.Closing.{closed}
 use Rattle.flow.specs.Session.{Answers, graph_of, standing_of, none_kept, turn}
-use Rattle.flow.specs.Script.{RunEndsIn, Breaks, failed_reads, failed_writes}
+use Rattle.flow.specs.AtDesk.{AtDesk, live_desk, with_log}
+use Rattle.flow.specs.Script.{RunEndsIn, Ends, Breaks, failed_reads, failed_writes}
 use Rattle.flow.specs.Faults.{fault_line, status_of}
 use Rattle.flow.specs.Reports.{check_text, run_text}
 use Rattle.flow.specs.Stalls.{stall_text, uneven_line}
 use Rattle.flow.specs.declared.fault.Fault.{Fault}
 use Rattle.flow.specs.declared.fault.Fault.TheVariants.{File, Script, Run}
+use Rattle.flow.specs.declared.script.ScriptFault.{ScriptFault}
 use Rattle.flow.specs.declared.script.ScriptFault.TheVariants.{BadLine, Read, Write, Memory}
 use Rattle.flow.specs.declared.serve.Action.{Action}
 use Rattle.flow.specs.declared.serve.Action.TheVariants as action
@@ -122,16 +125,25 @@ pub record IsRunAlone (file text : List ℕ) (status : ℕ) : Type 0 where
   pub told : text ≡ run_text plant.draft last
   pub well : status ≡ (if is_all_done last then 0 else 3)
 
--- a run of a file in threads with its sources left open, of which calls were made meanwhile: its plant came where a history of calls leads, to rest, and
--- the report of it then
-pub record IsLive (file text : List ℕ) (status : ℕ) : Type 0 where
-  pub plant : Opened
-  pub opens : plant_in file ≡ Ok plant
+-- each line of an input was answered at a desk of a graph, with this log
+pub record AnswersLines (graph : Flowgraph Kind) (log : List Noted) (input out : Option (List ℕ)) : Type 0 where
+  pub left : Option (List ℕ)
+  pub replied : Option (List ℕ)
+  pub ends : Ends (AtDesk meaning_of) (live_desk graph) (with_log (live_desk graph) log) input left out replied
+
+-- a run of a file in threads with its sources left open, while each line of an input was answered: its plant came where a history leads in which the calls
+-- at the desk are those that the lines ask for, with the replies that were written, to rest, and the report of it then
+pub record IsLive (file : List ℕ) (input out : Option (List ℕ)) (text : List ℕ) (status : ℕ) : Type 0 where
+  pub plant : PlantState Kind
+  pub opens : plant_in file ≡ Ok (opened_of plant)
+  pub log : List Noted
+  pub lines : AnswersLines plant.graph log input out
   pub history : List Noted
+  pub logs : AreLogs (log ∷ []) history
   pub last : State
-  pub run : IsRunOf plant.draft.net plant.capacities plant.state history last
-  pub rests : IsAtRest plant.draft.net plant.capacities last
-  pub told : text ≡ run_text plant.draft last
+  pub run : IsRunOf (net_of meaning_of plant.graph) plant.capacities plant.state history last
+  pub rests : IsAtRest (net_of meaning_of plant.graph) plant.capacities last
+  pub told : text ≡ run_text (drafted plant.graph) last
   pub well : status ≡ (if is_all_done last then 0 else 3)
 
 -- the plant in which a run came to rest, if it stalled
@@ -152,8 +164,8 @@ IsRunTo file stalled text status = (run : IsRun file text status) × (stalled �
 abbrev pub IsRunAloneTo : List ℕ → Option Opened → List ℕ → ℕ → Type 0
 IsRunAloneTo file stalled text status = (run : IsRunAlone file text status) × (stalled ≡ stalled_in run.plant run.last)
 
-abbrev pub IsLiveTo : List ℕ → Option Opened → List ℕ → ℕ → Type 0
-IsLiveTo file stalled text status = (run : IsLive file text status) × (stalled ≡ stalled_in run.plant run.last)
+abbrev pub IsLiveTo : List ℕ → Option (List ℕ) → Option (List ℕ) → Option Opened → List ℕ → ℕ → Type 0
+IsLiveTo file input out stalled text status = (run : IsLive file input out text status) × (stalled ≡ stalled_in (opened_of run.plant) run.last)
 
 -- a text was written, with a status
 abbrev pub Writes : (List ℕ → ℕ → Type 0) → Option (List ℕ) → Option (List ℕ) → ℕ → Type 0
@@ -189,16 +201,27 @@ StopsScript file input input' out out' (Script fault) =
     × Breaks (Answers (graph_of meaning_of plant)) (standing_of plant (none_kept plant)) input input' out out' fault
 StopsScript file input input' out out' (Run fault) = ⊥
 
--- the file was not refused
-abbrev pub IsNoFile : Fault → Type 0
-IsNoFile (File fault) = ⊥
-IsNoFile (Script fault) = ⊤
-IsNoFile (Run fault) = ⊤
+-- lines at a desk stopped by a fault, or the run came to no end
+abbrev pub StopsLines : Flowgraph Kind → Option (List ℕ) → Option (List ℕ) → Fault → Type 0
+StopsLines graph input out (File fault) = ⊥
+StopsLines graph input out (Script fault) = (left : Option (List ℕ)) × (replied : Option (List ℕ)) × Breaks (AtDesk meaning_of) (live_desk graph) input left out replied fault
+StopsLines graph input out (Run fault) = ⊤
 
--- a file was refused, before anything was read or written; or it was not, and what came of its streams a thread of its own knows
+-- each line was answered, and memory ran out for the report, or its write failed and left a beginning of it
+abbrev pub StopsBehind : List ℕ → Flowgraph Kind → Option (List ℕ) → Option (List ℕ) → Option (List ℕ) → ScriptFault → Type 0
+StopsBehind file graph input out out' (BadLine n) = ⊥
+StopsBehind file graph input out out' Read = ⊥
+StopsBehind file graph input out out' Write =
+    (between : Option (List ℕ)) × (stalled : Option Opened) × (text : List ℕ) × (status : ℕ) × IsLiveTo file input out stalled text status × AppendsBeginning between out' text
+StopsBehind file graph input out out' Memory = (log : List Noted) × AnswersLines graph log input out
+
+-- a file was refused, before anything was read or written; or its lines stopped by a fault, or all were answered and their report was not written. Where
+-- threads came to no end, what came of its streams is not known
 abbrev pub StopsLive : List ℕ → Option (List ℕ) → Option (List ℕ) → Option (List ℕ) → Option (List ℕ) → Fault → Type 0
 StopsLive file input input' out out' (File fault) = IsRefused (plant_in file) fault × (input' ≡ input) × (out' ≡ out)
-StopsLive file input input' out out' (Script fault) = IsOk (plant_in file)
+StopsLive file input input' out out' (Script fault) =
+    (plant : PlantState Kind) × (plant_in file ≡ Ok (opened_of plant))
+    × (StopsLines plant.graph input out (Script fault) ⊎ StopsBehind file plant.graph input out out' fault)
 StopsLive file input input' out out' (Run fault) = IsOk (plant_in file)
 
 -- a command was done, with a status, and a run may have stalled; only a script and a live run read their input
@@ -208,7 +231,7 @@ Does action.CheckFeeds file input input' out out' status stalled = (input' ≡ i
 Does (action.Draw format) file input input' out out' status stalled = (input' ≡ input) × Writes (IsPicture format file) out out' status × (stalled ≡ None)
 Does (action.Run threading) file input input' out out' status stalled = (input' ≡ input) × Writes (IsRunTo file stalled) out out' status
 Does action.RunAlone file input input' out out' status stalled = (input' ≡ input) × Writes (IsRunAloneTo file stalled) out out' status
-Does action.Live file input input' out out' status stalled = (between : Option (List ℕ)) × Writes (IsLiveTo file stalled) between out' status
+Does action.Live file input input' out out' status stalled = (between : Option (List ℕ)) × Writes (IsLiveTo file input out stalled) between out' status
 Does action.Script file input input' out out' status stalled = IsScript file input input' out out' × (status ≡ 0) × (stalled ≡ None)
 
 -- a command was not done, for a fault

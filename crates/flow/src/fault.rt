@@ -14,7 +14,7 @@ use thiserror::Error;
 use threads::{RunError, RunFault};
 
 /// The number by which a file reports that memory ran out.
-pub(crate) const NO_MEMORY: u32 = 32;
+pub const NO_MEMORY: u32 = 32;
 
 /// Why a command stopped. Its text is the number of the refusal, its name, and what the name alone does not say.
 #[derive(Debug, Drop, Error)]

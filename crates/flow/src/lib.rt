@@ -1,7 +1,7 @@
 //! What the program `flow` does with a graph file and its standard streams, over any source and place of bytes.
 //!
 //! ```text
-//! let status = serve(rt, alloc, Action::Run(Threading::Adaptive), Verbosity::WithNotes, file, &mut input, &mut output, &mut errors, observer, &mut watch);
+//! let status = serve(rt, alloc, Action::Run(Threading::Adaptive), Verbosity::WithNotes, file, &mut input, &mut output, &mut errors, gate, &mut watch);
 //! ```
 //!
 //! `serve` is all of it: its contract says which bytes come out for which bytes of the file and the input, and which status. Below it:
@@ -11,10 +11,9 @@
 //!   has the lines make calls at the desk of a plant that runs.
 //! - `threading` runs a plant in threads, `turn` says how much is done at once, and `reports` has the texts.
 //! - `fault`, `raw_fault` and `start_fault` say why a command stopped, and `refusal_line` writes that, without memory; `stalls` explains why a run came to rest.
-//! - `measured` tells where the time of a run went.
 //! - `raw_input` and `raw_output` feed and write raw items in memory, for the library for C, and `tag_text` has tags as lines.
 //!
-//! Arguments, files and the terminal are those of `flow_program`.
+//! Arguments, files and the terminal are those of `flow_command`.
 #![tactic(auto)]
 
 mod answerer;
@@ -23,7 +22,6 @@ pub mod command_output;
 mod draw;
 pub mod fault;
 mod live;
-pub mod measured;
 pub mod opening;
 pub mod raw_fault;
 pub mod raw_input;

@@ -1,6 +1,6 @@
 //! The command `live`: the plant of a file runs in as many threads as its work is worth, while the lines of an input make calls of it.
 
-ghost use Rattle.std.specs.Prelude.{List, ℕ, Option, ◌≡◌, ◌≤◌, map, true, vec_len, IfOk, IfErr};
+ghost use Rattle.std.specs.Prelude.{◌≡◌, List, ℕ, Option, ◌<◌, ◌-◌, ◌^◌, true, get_or, vec_len, IfOk, IfErr};
 ghost use Rattle.std.specs.Option.{option_map};
 ghost use Rattle.stream_model.specs.Machine.{is_idle};
 ghost use Rattle.flowgraph.specs.Flowgraph.{net_of};
@@ -8,11 +8,11 @@ ghost use Rattle.kinds.specs.Kind.{meaning_of};
 ghost use Rattle.kinds.specs.declared.kind.Kind.{Kind};
 ghost use Rattle.plant.specs.Handed.{OpeningState};
 ghost use Rattle.plant.specs.Settling.{HasSettled};
-ghost use Rattle.threads.specs.History.{Noted, noted_by};
-ghost use Rattle.threads.specs.Live.{LiveRunEndsIn, opening_of};
+ghost use Rattle.threads.specs.History.{Noted};
+ghost use Rattle.threads.specs.Live.{HasReached, LiveRunEndsIn, opening_of};
 ghost use Rattle.graph_file.specs.Opening.{opened_of};
-ghost use Rattle.flow.specs.Serve.{IsLiveTo, IsNoFile, StopsLive, Writes};
-ghost use Rattle.flow.specs.Threads.{HasCome};
+ghost use Rattle.flow.specs.Serve.{AnswersLines, IsLiveTo, StopsLines, StopsLive, Writes};
+ghost use Rattle.flow.specs.Threads.{HasCome, IsCause, IsEndOf};
 
 mod desk_calls;
 mod line_caller;
@@ -48,7 +48,9 @@ pub(crate) fn run_live<
     output: &mut O,
     watch: &mut W,
 ) -> Result<CommandEnd, Fault>
-    ensures does { IfOk result (λ ended. (between : Option (List ℕ)) × Writes (IsLiveTo file.now (option_map opened_of ended.stalled)) between (O.contents output.new) ended.status) }
+    requires reads { I.failed input.old < 2 ^ 64 - 1 }
+    requires writes { O.failed output.old < 2 ^ 64 - 1 }
+    ensures does { IfOk result (λ ended. (between : Option (List ℕ)) × Writes (IsLiveTo file.now (I.remaining input.old) (O.contents output.old) (option_map opened_of ended.stalled)) between (O.contents output.new) ended.status) }
     ensures does_not { IfErr result (StopsLive file.now (I.remaining input.old) (I.remaining input.new) (O.contents output.old) (O.contents output.new)) }
 {
     let plant = match open_plant(alloc, file) {
@@ -76,10 +78,12 @@ fn live_plant<R: Threads + Wait + Clock + Sync, I: ByteIn + Send, O: ByteOut + S
     output: &mut O,
     watch: &mut W,
 ) -> Result<(Plant<Kind>, Settled), Fault>
-    requires { is_idle plant.state ≡ true }
-    ensures came { IfOk result (λ r. HasCome meaning_of ⟦<Kind as PartialEq>⟧.eq (opening_of plant) r.0) }
-    ensures no_file { IfErr result IsNoFile }
+    requires idle { is_idle plant.state ≡ true }
+    requires reads { I.failed input.old < 2 ^ 64 - 1 }
+    requires writes { O.failed output.old < 2 ^ 64 - 1 }
+    ensures came { IfOk result (λ r. (log : List Noted) × HasCome meaning_of ⟦<Kind as PartialEq>⟧.eq (opening_of plant) log r.0 × AnswersLines plant.graph log (I.remaining input.old) (O.contents output.old)) }
     ensures settled { IfOk result (λ r. HasSettled (net_of meaning_of r.0.graph) r.0.capacities r.0.state r.1) }
+    ensures stopped { IfErr result (StopsLines plant.graph (I.remaining input.old) (O.contents output.old)) }
 {
     let callers = one_caller(alloc, input, output)?;
     let options = RunOptions::new(Threading::Adaptive, turns());
@@ -95,13 +99,14 @@ fn one_caller<'a, I: ByteIn, O: ByteOut>(
     input: &'a mut I,
     output: &'a mut O,
 ) -> Result<Vec<LineCaller<'a, I, O>>, AllocError>
-    ensures { IfOk result (λ callers. vec_len callers ≤ 16) }
+    ensures one { IfOk result (λ callers. vec_len callers ≡ 1) }
+    ensures of { IfOk result (λ callers. (caller : _) → ((get_or callers.items 0 caller).input.now ≡ input.entry.now) × ((get_or callers.items 0 caller).output.now ≡ output.entry.now)) }
 {
     let mut callers = Vec::with_capacity(alloc, 1)?;
     callers.push_reserved(LineCaller {
         input,
         output,
-        fault: None,
+        ended: Ok(()),
     });
     Ok(callers)
 }
@@ -110,34 +115,36 @@ fn one_caller<'a, I: ByteIn, O: ByteOut>(
 fn came_to_rest<I: ByteIn, O: ByteOut>(
     finished: Finished<Kind, LineCaller<'_, I, O>>,
 ) -> Result<(Plant<Kind>, Settled), Fault>
-    ensures came { IfOk result (λ r. (o : OpeningState Kind) → LiveRunEndsIn meaning_of ⟦<Kind as PartialEq>⟧.eq o (map noted_by finished.entry.history.items) finished.entry.outcome →
-        HasCome meaning_of ⟦<Kind as PartialEq>⟧.eq o r.0 × HasSettled (net_of meaning_of r.0.graph) r.0.capacities r.0.state r.1) }
-    ensures no_file { IfErr result IsNoFile }
+    requires { vec_len finished.callers ≡ 1 }
+    ensures rested { IfOk result (λ r. (o : OpeningState Kind) (history : List Noted) → LiveRunEndsIn meaning_of ⟦<Kind as PartialEq>⟧.eq o history finished.entry.outcome →
+        HasReached meaning_of ⟦<Kind as PartialEq>⟧.eq o history r.0 × HasSettled (net_of meaning_of r.0.graph) r.0.capacities r.0.state r.1) }
+    ensures ended { (caller : _) → IsEndOf (get_or finished.entry.callers.items 0 caller).ended result }
 {
     let Finished {
         outcome,
         callers,
         ..
     } = finished;
-    match fault_of(callers) {
-        Some(fault) => Err(stopped_by(fault, &outcome)),
-        None => rested(outcome),
+    match end_of(callers) {
+        Err(fault) => Err(stopped_by(fault, &outcome)),
+        Ok(()) => rested(outcome),
     }
 }
 
-// Why the lines of the first of these callers stopped that were not answered to their end.
-fn fault_of<I: ByteIn, O: ByteOut>(callers: Vec<LineCaller<'_, I, O>>) -> Option<ScriptFault> {
-    for caller in callers {
-        if let Some(fault) = caller.fault {
-            return Some(fault);
-        }
+// How the lines of the one caller ended.
+fn end_of<I: ByteIn, O: ByteOut>(mut callers: Vec<LineCaller<'_, I, O>>) -> Result<(), ScriptFault>
+    requires { vec_len callers ≡ 1 }
+    ensures { (caller : _) → result ≡ (get_or callers.entry.items 0 caller).ended }
+{
+    match callers.pop() {
+        Some(caller) => caller.ended,
+        None => unreachable!(),
     }
-    None
 }
 
 // Why a run ended that lines asked to end.
 fn stopped_by(fault: ScriptFault, outcome: &Outcome<Kind>) -> Fault
-    ensures { IsNoFile result }
+    ensures { IsCause (Err fault) result }
 {
     match outcome {
         Outcome::Done(_) | Outcome::Stopped(_) => Fault::Script(fault),
@@ -148,9 +155,9 @@ fn stopped_by(fault: ScriptFault, outcome: &Outcome<Kind>) -> Fault
 
 // The plant of a run that nobody asked to end.
 fn rested(outcome: Outcome<Kind>) -> Result<(Plant<Kind>, Settled), Fault>
-    ensures came { IfOk result (λ r. (o : OpeningState Kind) (history : List Noted) → LiveRunEndsIn meaning_of ⟦<Kind as PartialEq>⟧.eq o history outcome →
-        HasCome meaning_of ⟦<Kind as PartialEq>⟧.eq o r.0 × HasSettled (net_of meaning_of r.0.graph) r.0.capacities r.0.state r.1) }
-    ensures no_file { IfErr result IsNoFile }
+    ensures rested { IfOk result (λ r. (o : OpeningState Kind) (history : List Noted) → LiveRunEndsIn meaning_of ⟦<Kind as PartialEq>⟧.eq o history outcome →
+        HasReached meaning_of ⟦<Kind as PartialEq>⟧.eq o history r.0 × HasSettled (net_of meaning_of r.0.graph) r.0.capacities r.0.state r.1) }
+    ensures ended { IsEndOf (Ok tt) result }
 {
     match outcome {
         Outcome::Done(plant) => Ok((plant, Settled::Done)),

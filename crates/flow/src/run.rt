@@ -18,21 +18,26 @@ use crate::turn::TURN;
 use kinds::Kind;
 use plant::{Plant, Settled, Watch};
 use reporting::ByteOut;
-use run_stats::Observer;
 use std::alloc::{AllocError, Global};
 use std::sync::{Arc, Wait};
 use std::thread::Threads;
 use std::time::Clock;
+use threads::Gate;
 use top_block::close_all;
 
 /// Runs the plant of a file in threads until it comes to rest, and writes what its sinks hold.
-pub(crate) fn run<R: Threads + Wait + Clock + Copy + Send + Sync + 'static, O: ByteOut, W: Watch>(
+pub(crate) fn run<
+    G: Gate + Drop + Send + Sync + 'static,
+    R: Threads + Wait + Clock + Copy + Send + Sync + 'static,
+    O: ByteOut,
+    W: Watch,
+>(
     rt: R,
     alloc: Global,
     threading: Threading,
     file: &[u8],
     output: &mut O,
-    observer: Option<Arc<Observer<R>, Global>>,
+    gate: Option<Arc<G, Global>>,
     watch: &mut W,
 ) -> Result<CommandEnd, Fault>
     requires writes { O.failed output.old < 2 ^ 64 - 1 }
@@ -40,7 +45,7 @@ pub(crate) fn run<R: Threads + Wait + Clock + Copy + Send + Sync + 'static, O: B
     ensures does_not { IfErr result (RunsNot (IsRun file.now) (plant_in file.now) (O.contents output.old) (O.contents output.new)) }
     ensures failed_writes { O.failed output.new ≡ O.failed output.old + writes_in result }
 {
-    match run_file(rt, alloc, threading, file, observer, watch) {
+    match run_file(rt, alloc, threading, file, gate, watch) {
         Ok(ran) => write_run(output, ran),
         Err(fault) => Err(fault),
     }
@@ -83,12 +88,16 @@ pub(crate) fn run_on_one<O: ByteOut, W: Watch>(
 }
 
 // Lets the plant of a file run in threads until it comes to rest, where its sources give no more, and tells what it holds then.
-fn run_file<R: Threads + Wait + Clock + Copy + Send + Sync + 'static, W: Watch>(
+fn run_file<
+    G: Gate + Drop + Send + Sync + 'static,
+    R: Threads + Wait + Clock + Copy + Send + Sync + 'static,
+    W: Watch,
+>(
     rt: R,
     alloc: Global,
     threading: Threading,
     file: &[u8],
-    observer: Option<Arc<Observer<R>, Global>>,
+    gate: Option<Arc<G, Global>>,
     watch: &mut W,
 ) -> Result<RunOutput, Fault>
     ensures ok { IfOk result (λ ran. IsRunTo file.now (option_map opened_of ran.stalled) ran.given.text.items ran.given.status) }
@@ -96,7 +105,7 @@ fn run_file<R: Threads + Wait + Clock + Copy + Send + Sync + 'static, W: Watch>(
 {
     let plant = open_plant(alloc, file)?;
     plant.recall();
-    let (plant, settled) = run_plant(rt, alloc, threading, plant, observer, watch)?;
+    let (plant, settled) = run_plant(rt, alloc, threading, plant, gate, watch)?;
     plant.recall();
     Ok(run_output(alloc, plant, settled)?)
 }

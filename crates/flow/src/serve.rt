@@ -18,11 +18,11 @@ use crate::threading::Threading;
 use drawings::Format;
 use plant::Watch;
 use reporting::{ByteIn, ByteOut};
-use run_stats::{GatedWatch, Observer};
 use std::alloc::Global;
 use std::sync::{Arc, Wait};
 use std::thread::Threads;
 use std::time::Clock;
+use threads::{Gate, GatedWatch};
 
 /// What the program is asked to do with a graph file.
 #[derive(Clone, Copy, Debug, PartialEq, Eq)]
@@ -52,9 +52,9 @@ pub enum Verbosity {
 
 /// Does an action. The status is 0 where all went well, 3 for a run that stalled, 1 for a refused file or line, and 4 for memory and devices; with
 /// 1 and 4 one line on `errors` says why. With 3, unless the program is to be quiet, lines say what the blocks wait for. Whether these writes succeed changes
-/// nothing. A run is shown to `watch` while it goes on, and is over for it before anything is written; where there is an observer, that
-/// looks at it.
+/// nothing. A run is shown to `watch` while it goes on, and is over for it before anything is written; where there is a gate, the run passes it.
 pub fn serve<
+    G: Gate + Drop + Send + Sync + 'static,
     R: Threads + Wait + Clock + Copy + Send + Sync + 'static,
     I: ByteIn + Send,
     O: ByteOut + Send,
@@ -69,7 +69,7 @@ pub fn serve<
     input: &mut I,
     output: &mut O,
     errors: &mut E,
-    observer: Option<Arc<Observer<R>, Global>>,
+    gate: Option<Arc<G, Global>>,
     watch: &mut W,
 ) -> u8
     requires reads { I.failed input.old < 2 ^ 64 - 1 }
@@ -77,7 +77,7 @@ pub fn serve<
     requires reports { E.failed errors.old < 2 ^ 64 - 1 }
     ensures { Serves verbosity action file.now (stream (I.remaining input.old) (I.failed input.old)) (stream (I.remaining input.new) (I.failed input.new)) (stream (O.contents output.old) (O.failed output.old)) (stream (O.contents output.new) (O.failed output.new)) (stream (E.contents errors.old) (E.failed errors.old)) (stream (E.contents errors.new) (E.failed errors.new)) result }
 {
-    match obey(rt, alloc, action, file, input, output, observer, watch) {
+    match obey(rt, alloc, action, file, input, output, gate, watch) {
         Ok(ended) => {
             note_stall(alloc, verbosity, &ended.stalled, errors);
             ended.status
@@ -92,6 +92,7 @@ pub fn serve<
 
 // Does an action.
 fn obey<
+    G: Gate + Drop + Send + Sync + 'static,
     R: Threads + Wait + Clock + Copy + Send + Sync + 'static,
     I: ByteIn + Send,
     O: ByteOut + Send,
@@ -103,7 +104,7 @@ fn obey<
     file: &[u8],
     input: &mut I,
     output: &mut O,
-    observer: Option<Arc<Observer<R>, Global>>,
+    gate: Option<Arc<G, Global>>,
     watch: &mut W,
 ) -> Result<CommandEnd, Fault>
     requires reads { I.failed input.old < 2 ^ 64 - 1 }
@@ -117,8 +118,8 @@ fn obey<
         Action::Check => unstalled(check(alloc, file, output)),
         Action::CheckFeeds => unstalled(check_feeds(alloc, file, output)),
         Action::Draw(format) => unstalled(draw(alloc, format, file, output)),
-        Action::Run(threading) => run(rt, alloc, threading, file, output, observer, watch),
-        Action::RunAlone => run_on_one(alloc, file, output, &mut GatedWatch::new(observer, watch)),
+        Action::Run(threading) => run(rt, alloc, threading, file, output, gate, watch),
+        Action::RunAlone => run_on_one(alloc, file, output, &mut GatedWatch::new(gate, watch)),
         Action::Live => run_live(&rt, alloc, file, input, output, watch),
         Action::Script => unstalled(run_script(alloc, file, input, output)),
     }

@@ -11,23 +11,26 @@ ghost use Rattle.top_block.specs.Closing.{with_all_closed};
 use crate::turn::TURN;
 use kinds::Kind;
 use plant::{Plant, Settled, Watch};
-use run_stats::Observer;
 use std::alloc::Global;
 use std::sync::{Arc, Wait};
 use std::thread::Threads;
 use std::time::Clock;
 pub use threads::Threading;
-use threads::{Outcome, RunFault, RunOptions, Turns};
+use threads::{Gate, Outcome, RunFault, RunOptions, Turns};
 use top_block::TopBlock;
 
-/// Closes the sources of a plant, runs it in threads, and shows it to `watch` until it comes to rest; where there is an observer, that looks. It gives
+/// Closes the sources of a plant, runs it in threads, and shows it to `watch` until it comes to rest; where there is a gate, it passes that. It gives
 /// the plant back as it is then, and a run that fails gives it back in its fault.
-pub(crate) fn run_plant<R: Threads + Wait + Clock + Copy + Send + Sync + 'static, W: Watch>(
+pub(crate) fn run_plant<
+    G: Gate + Drop + Send + Sync + 'static,
+    R: Threads + Wait + Clock + Copy + Send + Sync + 'static,
+    W: Watch,
+>(
     rt: R,
     alloc: Global,
     threading: Threading,
     plant: Plant<Kind>,
-    observer: Option<Arc<Observer<R>, Global>>,
+    gate: Option<Arc<G, Global>>,
     watch: &mut W,
 ) -> Result<(Plant<Kind>, Settled), RunFault<Kind>>
     requires { is_idle plant.state ≡ true }
@@ -38,7 +41,7 @@ pub(crate) fn run_plant<R: Threads + Wait + Clock + Copy + Send + Sync + 'static
     let options = RunOptions {
         threading,
         turns: turns(),
-        gate: observer,
+        gate,
     };
     match TopBlock::from_plant(plant).run_with(rt, alloc, options, watch) {
         Ok(Outcome::Done(plant)) => Ok((plant, Settled::Done)),
