@@ -14,6 +14,9 @@ pub(crate) const ANY_TYPE: &str = "\"byte\", \"short\" or \"int\"";
 
 pub(crate) const WIDE_TYPE: &str = "\"short\" or \"int\"";
 
+/// What the key of a tag is.
+pub(crate) const KEY_TEXT: &str = "1 to 16 letters, digits, `_`, `.` or `-`";
+
 /// What a table is, with its kind where that is known.
 pub(crate) fn owner(document: &Document<'_>, place: FilePlace) -> Result<String, AllocError> {
     let alloc = document.alloc;

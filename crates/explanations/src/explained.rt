@@ -3,6 +3,7 @@ ghost use Rattle.std.specs.Prelude.{◌↔◌, IfOk, IsNone};
 ghost use Rattle.graph_file.specs.Accepted.{IsAccepted};
 
 use crate::document::Document;
+use crate::entries::single_header;
 use crate::feed_faults::feed_finding;
 use crate::frame::{Finding, Source, framed};
 use crate::graph_faults::{graph_finding, negative_finding};
@@ -48,7 +49,7 @@ fn finding_of(alloc: Global, text: &[u8], fault: &FileFault) -> Result<Finding, 
     };
     let table = match toml::table_from_str(alloc, words) {
         Ok(table) => table,
-        Err(error) => return syntax_finding(alloc, &error),
+        Err(error) => return syntax_finding(alloc, text, &error),
     };
     let document = Document::new(alloc, text, table)?;
     match fault {
@@ -70,13 +71,22 @@ fn finding_of(alloc: Global, text: &[u8], fault: &FileFault) -> Result<Finding, 
     }
 }
 
-// What the reader of TOML says.
-fn syntax_finding(alloc: Global, error: &toml::de::Error) -> Result<Finding, AllocError> {
-    match error.span() {
-        Some(span) => Ok(Finding {
-            place: span.start,
-            message: String::from_str(alloc, error.message())?,
-        }),
-        None => Err(AllocError),
-    }
+// What the reader of TOML says, and of a header whether it lacks brackets.
+fn syntax_finding(
+    alloc: Global,
+    text: &[u8],
+    error: &toml::de::Error,
+) -> Result<Finding, AllocError> {
+    let Some(span) = error.span() else {
+        return Err(AllocError);
+    };
+    let said = error.message();
+    let message = match single_header(text, span.start) {
+        Some(name) => format!(in alloc; "{said}; is `[[{name}]]` meant?")?,
+        None => String::from_str(alloc, said)?,
+    };
+    Ok(Finding {
+        place: span.start,
+        message,
+    })
 }

@@ -5,6 +5,7 @@ use crate::expected::{item_range, item_text};
 use crate::frame::Finding;
 use crate::graph_faults::no_block;
 use crate::ports::sides_of;
+use crate::tag_faults::tag_value;
 use graph_file::FilePlace;
 use items::ItemType;
 use kind_keys::Key;
@@ -46,7 +47,7 @@ pub(crate) fn feed_finding(
             Ok(document.at_value(place, Key::Source, message))
         }
         PlantFault::ItemRange => item_range_finding(document, place, table),
-        PlantFault::TagPlace => tag_finding(document, number, table),
+        PlantFault::TagPlace => place_finding(document, number, table),
         PlantFault::Memory => Err(AllocError),
         _ => {
             let message = String::from_str(
@@ -94,8 +95,12 @@ pub(crate) fn is_in(item: ItemType, number: i64) -> bool {
     }
 }
 
-// The first tag that lies on none of the items of its feed.
-fn tag_finding(document: &Document<'_>, feed: usize, table: &Table) -> Result<Finding, AllocError> {
+// The first tag that lies on none of the items of its feed, at its offset.
+fn place_finding(
+    document: &Document<'_>,
+    feed: usize,
+    table: &Table,
+) -> Result<Finding, AllocError> {
     let alloc = document.alloc;
     let place = FilePlace::Feed(feed);
     let first = tape_before(document, feed, text_at(table, Key::Source));
@@ -120,8 +125,9 @@ fn tag_finding(document: &Document<'_>, feed: usize, table: &Table) -> Result<Fi
                 Err(_) => false,
             };
             if !is_on {
+                let tag = document.item_of(array, number);
                 return Ok(Finding {
-                    place: document.item_of(array, number),
+                    place: tag_value(document, tag, Key::MarkAt)?,
                     message,
                 });
             }

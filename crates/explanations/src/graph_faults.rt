@@ -4,6 +4,7 @@ use crate::document::Document;
 use crate::expected::item_text;
 use crate::frame::Finding;
 use crate::looks::shown;
+use crate::loops::loop_text;
 use crate::near::hint;
 use crate::ports::{joined_ports, port_of, ports_text, sides_of, used_ports};
 use flowgraph::{BlockOption, GraphFault, Limit, Side};
@@ -214,7 +215,8 @@ fn whole_finding(
             )?
         }
         GraphFault::Loop { .. } => {
-            format!(in alloc; "connections lead from `{name}` back to it")?
+            let way = loop_text(document, name)?;
+            format!(in alloc; "connections lead from `{name}` back to it: {way}")?
         }
         _ => {
             format!(in alloc;

@@ -9,7 +9,8 @@
 //! ```
 //!
 //! [`explain`] reads the file again, with the places of its tables and keys (`document`, `entries`, `tokens`), and finds what the fault is about: `table_faults`,
-//! `graph_faults` and `feed_faults` have a function for each. `expected` says what may stand at a key, `near` which name was meant, `frame` prints the place.
+//! `graph_faults`, `feed_faults` and `tag_faults` have a function for each. `expected` says what may stand at a key, `near` which name was meant, `gnu_radio` what
+//! stands here for a name of GNU Radio, `frame` prints the place.
 //! [`page_of_kinds`] prints what may stand at the parameters of all kinds, with a line on each kind (`about`). [`KeptLines`] keep the lines of a script for the same, and [`Noted`] a device with the reason why it failed. No contract says what it prints; that is tested.
 #![tactic(auto)]
 
@@ -21,18 +22,23 @@ mod expected;
 pub mod explained;
 mod feed_faults;
 mod frame;
+mod gnu_radio;
 mod graph_faults;
 pub mod kinds_page;
 pub mod lines;
 pub mod looks;
-mod near;
+mod loops;
+pub mod near;
 pub mod noted;
+mod pairs;
 mod ports;
 mod table_faults;
+mod tag_faults;
 mod tokens;
 
 pub use explained::explain;
 pub use kinds_page::page_of_kinds;
 pub use lines::KeptLines;
 pub use looks::shown;
+pub use near::near_name;
 pub use noted::{Noted, at_device};

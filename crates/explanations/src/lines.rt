@@ -1,7 +1,7 @@
 //! The lines of a script that are read, kept so that a bad one can be shown.
 ghost use Rattle.std.specs.Prelude.{◌≡◌};
 
-use crate::commands::{CALLS, COMMANDS, bad_place, field_from, grammar};
+use crate::commands::{Bad, CALLS, COMMANDS, bad_part, field_from, grammar};
 use crate::frame::{Finding, Source, framed};
 use crate::looks::{Look, put_shown};
 use crate::near::near_name;
@@ -160,12 +160,23 @@ fn put_fault(
         Some(text) if is_one_of(words, bytes) => {
             message.push_str("the line is: ")?;
             message.push_str(text)?;
-            return Ok(Some(bad_place(alloc, line)?));
+            return Ok(Some(put_part(message, bad_part(alloc, line)?)?));
         }
         Some(_) => put_no_call(message, bytes)?,
         None => put_no_command(alloc, message, bytes, words)?,
     }
     Ok(Some(word.start))
+}
+
+// Says what the part of a tag is that is bad, and gives the place.
+fn put_part(message: &mut String, bad: Bad) -> Result<usize, AllocError> {
+    if let Some((name, shape)) = bad.part {
+        message.push_str(", where ")?;
+        message.push_str(name)?;
+        message.push_str(" is ")?;
+        message.push_str(shape)?;
+    }
+    Ok(bad.place)
 }
 
 fn is_good(alloc: Global, line: &[u8], is_live: bool) -> Result<bool, AllocError> {

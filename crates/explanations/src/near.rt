@@ -7,7 +7,7 @@ use strsim::levenshtein;
 const LONGEST: usize = 40;
 
 /// The first of the names that the fewest edits make of a word, if they are few.
-pub(crate) fn near_name<'a>(
+pub fn near_name<'a>(
     alloc: Global,
     word: &str,
     names: &[&'a str],

@@ -76,15 +76,36 @@ pub(crate) fn used_ports(document: &Document<'_>, name: &str) -> (usize, usize) 
     (inputs, outputs)
 }
 
-/// How many ports of the block of a name have connections, and how many have to.
+/// How many ports of the block of a name have to have connections, and how many have, on each side where more have to.
 pub(crate) fn joined_ports(document: &Document<'_>, name: &str) -> Result<String, AllocError> {
-    let alloc = document.alloc;
     let (used_in, used_out) = used_ports(document, name);
-    let (least_in, least_out) = match sides_of(document, name)? {
-        Some((inputs, outputs)) => (inputs.least, outputs.least),
-        None => (0, 0),
+    let Some((inputs, outputs)) = sides_of(document, name)? else {
+        return String::from_str(document.alloc, "it needs more connections");
     };
-    format!(in alloc;
-        "`{name}` has connections at {used_in} of its inputs and {used_out} of its outputs, and needs them at {least_in} and {least_out} at least"
-    )
+    let taken = lacking(document, inputs, used_in, "input")?;
+    let given = lacking(document, outputs, used_out, "output")?;
+    let and = if taken.is_empty() || given.is_empty() {
+        ""
+    } else {
+        ", and "
+    };
+    format!(in document.alloc; "`{name}` needs {taken}{and}{given}")
+}
+
+// That connections lack on a side of a block; nothing where none does.
+fn lacking(
+    document: &Document<'_>,
+    side: Signature,
+    used: usize,
+    word: &str,
+) -> Result<String, AllocError> {
+    let alloc = document.alloc;
+    let (least, most) = (side.least as usize, side.most as usize);
+    let at_least = if least < most { "at least " } else { "" };
+    let plural = if least == 1 { "" } else { "s" };
+    match used {
+        _ if least <= used => Ok(String::new(alloc)),
+        0 => format!(in alloc; "{at_least}{least} connected {word}{plural} and has none"),
+        _ => format!(in alloc; "{at_least}{least} connected {word}{plural} and has {used}"),
+    }
 }

@@ -6,16 +6,18 @@ use crate::expected::{
 };
 use crate::feed_faults::is_in;
 use crate::frame::Finding;
+use crate::gnu_radio::{Stands, key_hint, stands_for};
 use crate::looks::shown;
 use crate::near::near_name;
+use crate::tag_faults::{is_tag, tag_finding};
 use crate::tokens::part;
 use graph_file::FilePlace;
-use items::{ItemType, TagKey};
-use kind_keys::table::{has_only, keys_fault, text_at, type_at, value_at, values_at};
+use items::ItemType;
+use kind_keys::table::{text_at, type_at, value_at, values_at};
 use kind_keys::{Key, KeyFault, ValueForm};
 use kinds::KindName;
 use parameters::Parameter;
-use std::alloc::AllocError;
+use std::alloc::{AllocError, Global};
 use toml::{Table, Value};
 
 /// Where a table is wrong, and what may stand there.
@@ -50,10 +52,14 @@ fn unknown_key(document: &Document<'_>, place: FilePlace) -> Result<Finding, All
         let word = part(document.text, span);
         // (with escapes it may be any key)
         if entry.table == place && !word.contains(&b'\\') && !is_known(&keys, word) {
+            let hint = match document.kind_at(place) {
+                Some(kind) => key_hint(alloc, kind, word)?,
+                None => String::new(alloc),
+            };
             let word = shown(alloc, word)?;
             return Ok(Finding {
                 place: entry.start,
-                message: format!(in alloc; "{owner} has no key `{word}`; it has: {list}")?,
+                message: format!(in alloc; "{owner} has no key `{word}`{hint}; it has: {list}")?,
             });
         }
     }
@@ -86,14 +92,14 @@ fn wrong_type(document: &Document<'_>, place: FilePlace, key: Key) -> Result<Fin
             message: format!(in alloc; "`{name}` takes {shape}; this item is {found}")?,
         });
     }
-    if let Some(number) = bad_tag(key, value) {
+    if let Some((number, tag)) = bad_tag(key, value) {
         let array = document.value_of(place, key);
-        return Ok(Finding {
-            place: document.item_of(array, number),
-            message: format!(in alloc; "`{name}` takes {shape}")?,
-        });
+        return tag_finding(document, document.item_of(array, number), tag);
     }
     let message = match key.form() {
+        ValueForm::Tables if value.is_table() && place == FilePlace::Top => format!(in alloc;
+            "`{name}` takes {shape}; this is a table: is `[[{name}]]` meant?"
+        )?,
         ValueForm::Choice | ValueForm::Tables if value.is_str() || value.is_array() =>
             format!(in alloc; "`{name}` takes {shape}")?,
         _ => {
@@ -125,25 +131,18 @@ fn misfit(key: Key, value: &Value) -> Option<(usize, &'static str)> {
 }
 
 // The first table of the tags of a feed that is no tag.
-fn bad_tag(key: Key, value: &Value) -> Option<usize> {
+fn bad_tag(key: Key, value: &Value) -> Option<(usize, &Table)> {
     if key != Key::Marks {
         return None;
     }
     for (number, item) in value.as_array()?.iter().enumerate() {
         if let Some(table) = item.as_table() {
             if !is_tag(table) {
-                return Some(number);
+                return Some((number, table));
             }
         }
     }
     None
-}
-
-fn is_tag(table: &Table) -> bool {
-    let keys = [Key::MarkAt, Key::MarkKey, Key::MarkValue];
-    has_only(table, &keys)
-        && keys_fault(table, &keys).is_none()
-        && TagKey::new(text_at(table, Key::MarkKey).as_bytes()).is_some()
 }
 
 fn unknown_kind(document: &Document<'_>, place: FilePlace) -> Result<Finding, AllocError> {
@@ -152,20 +151,35 @@ fn unknown_kind(document: &Document<'_>, place: FilePlace) -> Result<Finding, Al
         Some(table) => text_at(table, Key::Kind),
         None => "",
     };
+    let message = match stands_for(word.as_bytes()) {
+        Some(Stands::Kind(kind)) => {
+            let (word, kind) = (shown(alloc, word.as_bytes())?, kind.text());
+            format!(in alloc; "there is no kind `{word}`; GNU Radio's block is `{kind}` here")?
+        }
+        Some(Stands::Connection) => {
+            let word = shown(alloc, word.as_bytes())?;
+            format!(in alloc; "there is no kind `{word}`; GNU Radio's block is a connection here")?
+        }
+        None => no_kind(alloc, word)?,
+    };
+    Ok(document.at_value(place, Key::Kind, message))
+}
+
+// That a word is no kind, and which is like it, or which there are.
+fn no_kind(alloc: Global, word: &str) -> Result<String, AllocError> {
     let mut names = Vec::new(alloc);
     for kind in KindName::all() {
         names.push(kind.text())?;
     }
     let near = near_name(alloc, word, names.as_slice())?;
     let word = shown(alloc, word.as_bytes())?;
-    let message = match near {
-        Some(kind) => format!(in alloc; "there is no kind `{word}`; is `{kind}` meant?")?,
+    match near {
+        Some(kind) => format!(in alloc; "there is no kind `{word}`; is `{kind}` meant?"),
         None => {
             let list = listed_kinds(alloc)?;
-            format!(in alloc; "there is no kind `{word}`; there are: {list}")?
+            format!(in alloc; "there is no kind `{word}`; there are: {list}")
         }
-    };
-    Ok(document.at_value(place, Key::Kind, message))
+    }
 }
 
 fn bad_parameter(
