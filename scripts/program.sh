@@ -1,8 +1,9 @@
 # shellcheck shell=bash disable=SC2034
 # For ./flow, ./build and the scripts of tests/ to source: which crates are the program and the library for C, and which crates they stand on.
 
-# The crate of the program.
+# The crate of the program, and the one that has all that its main calls.
 program_crate=flow_program
+command_crate=flow_command
 # The crate of the static library for C.
 c_crate=magbelu_c
 # The minutes that a first ./build takes on four cores.

@@ -2,11 +2,12 @@
 """trace_picture.py TRACE [FIRST [LAST]]: draws a trace of `flow run --trace` as SVG: a row for each block, its turns dark, its waits pale, from FIRST to LAST microseconds."""
 
 import json
+import math
 import sys
 from xml.sax.saxutils import escape
 
-# In pixels: the width of a picture, of the names, and the height of a row.
-WIDTH, NAMES, ROW = 960, 90, 26
+# In pixels: the width of a picture, of the names, and of a letter, and the height of a row.
+WIDTH, NAMES, LETTER, ROW = 960, 90, 8, 26
 COLORS = {"turn": "#2c6fbb", "wait": "#f0d9b5"}
 
 
@@ -26,6 +27,15 @@ def rectangle(span, left, width):
     return f'<rect x="{left:.2f}" y="{top}" width="{max(width, 0.3):.2f}" height="{ROW - 8}" fill="{COLORS[span["cat"]]}"><title>{title}</title></rect>'
 
 
+def times(first, last):
+    """Round times, at most seven, with what they are called: multiples of 1, 2 or 5 of a unit."""
+    unit = 10.0 ** math.floor(math.log10((last - first) / 6))
+    step = next(it * unit for it in (1, 2, 5, 10) if (last - first) / 6 <= it * unit * (1 + 1e-9))
+    digits = max(0, -math.floor(math.log10(step) + 1e-9))
+    for count in range(math.ceil(first / step - 1e-9), math.floor(last / step + 1e-9) + 1):
+        yield count * step, f"{count * step:.{digits}f} us"
+
+
 def picture(names, spans, first, last):
     """The lines of the picture."""
     scale = (WIDTH - NAMES) / (last - first)
@@ -39,10 +49,11 @@ def picture(names, spans, first, last):
             yield rectangle(span, NAMES + (begin - first) * scale, (end - begin) * scale)
     for number, name in names.items():
         yield f'<text x="4" y="{number * ROW - 9}">{escape(name)}</text>'
-    for part in range(5):
-        time = first + (last - first) * part / 4
-        anchor = "end" if part == 4 else "middle"
-        yield f'<text x="{NAMES + (time - first) * scale:.0f}" y="{height - 8}" text-anchor="{anchor}">{time:.0f} us</text>'
+    for time, label in times(first, last):
+        left = NAMES + (time - first) * scale
+        # (the last one ends at its time where it would leave the picture)
+        anchor = "middle" if left + len(label) * LETTER / 2 <= WIDTH else "end"
+        yield f'<text x="{left:.0f}" y="{height - 8}" text-anchor="{anchor}">{label}</text>'
     yield "</svg>"
 
 

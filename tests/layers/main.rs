@@ -11,7 +11,7 @@ use std::io::{Eprint, Print};
 use std::process::{Abort, ExitCode};
 use std::sync::Wait;
 use std::thread::Threads;
-use std::time::Clock;
+use std::time::{Clock, CpuClock};
 use std::{env, fs, io};
 
 /// What a test may do.
@@ -20,6 +20,7 @@ pub trait Host:
     + Threads
     + Wait
     + Clock
+    + CpuClock
     + AllocGlobal
     + Env
     + Files
@@ -37,6 +38,7 @@ impl<
         + Threads
         + Wait
         + Clock
+        + CpuClock
         + AllocGlobal
         + Env
         + Files

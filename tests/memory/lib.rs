@@ -14,6 +14,7 @@ mod steady;
 mod streams;
 mod words_read;
 // (the program's own files)
+mod call;
 mod ends;
 mod words;
 

@@ -6,9 +6,10 @@ use flow::threading::Threading;
 use flow::serve::{Action, Verbosity, serve};
 use plant::Unwatched;
 use std::alloc::{AllocError, Global};
-use std::sync::Wait;
+use std::sync::{Arc, Wait};
 use std::thread::Threads;
 use std::time::Clock;
+use threads::Open;
 
 // A source goes to a filter, which has a setting, and on to a sink.
 const FILTER: &str = r#"
@@ -243,7 +244,7 @@ fn answer_of<R: Threads + Wait + Clock + Copy + Send + Sync + 'static>(
         &mut input,
         &mut output,
         &mut errors,
-        None,
+        None::<Arc<Open, Global>>,
         &mut Unwatched,
     );
     Written {

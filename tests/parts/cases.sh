@@ -1,17 +1,23 @@
 #!/usr/bin/env bash
 # Calls of the program: those of tests/cases, those of the folders of examples/, and those that pages show, all over one build of it, unproved; and runs between
-# pipes, and with a trace. A call is a folder as tests/README.md describes; those of examples and pages are made here. A run is made a second time on one thread,
-# and has to end in the same way.
+# pipes, behind redirections, on a terminal, and with a trace. A call is a folder as tests/README.md describes; those of examples and pages are made here. A run is
+# made a second time on one thread, and has to end in the same way.
 set -euo pipefail
 # shellcheck source=tests/part.sh
 source "$(dirname -- "$(readlink -f -- "${BASH_SOURCE[0]}")")/../part.sh"
 # shellcheck source=tests/parts/shown.sh
 source "$top/tests/parts/shown.sh"
+# shellcheck source=tests/parts/redirected.sh
+source "$top/tests/parts/redirected.sh"
 
 # Of each case the folder that describes it.
 declare -A folder_of=()
-# Those that are no calls with an input that is there: the program answers a producer that waits for it, and ends where nobody reads on.
-pipes=(pipes/slow_producer pipes/closed_output)
+# One that is no call with an input that is there: the program answers a producer that waits for it.
+pipes=(pipes/slow_producer)
+# Calls whose standard error is a terminal, which the command `script` makes.
+terminals=(terminals/explains terminals/never terminals/place)
+# What a program of Python asks, that has names of GNU Radio from flow-from-grc.
+names=(names/gnu_radio)
 # And runs whose trace a program of Python reads.
 traces=(traces/adaptive traces/one_thread traces/thread_per_block traces/first_events traces/picture traces/part_of_a_picture)
 
@@ -26,8 +32,8 @@ add() {
     if [[ ${words[0]-} == run && " ${words[*]} " != *" --one-thread "* && " ${words[*]} " != *" --thread-per-block "* ]]; then
         folder_of[$1/one_thread]=$2
         echo "$1/one_thread"
-        # (between raw files it asks for nothing else)
-        if [[ " ${words[*]} " != *=* ]]; then
+        # (between raw files it is refused)
+        if [[ " ${words[*]} " != *=* && ! " ${words[*]} " =~ " "(-i|-o|--tags|--marks)" " ]]; then
             folder_of[$1/thread_per_block]=$2
             echo "$1/thread_per_block"
         fi
@@ -45,7 +51,7 @@ list() {
     for folder in "${made[@]}"; do
         add "$folder" "$1/$folder"
     done
-    printf '%s\n' "${pipes[@]}" "${traces[@]}"
+    printf '%s\n' "${pipes[@]}" "${terminals[@]}" "${names[@]}" "${traces[@]}" "${redirected[@]/#/redirected/}"
 }
 
 # word_of FOLDER WORD: prints the word as the program gets it, which runs in a folder of its own: where it is a file, or NAME=FILE, of the case or of
@@ -98,6 +104,9 @@ call() {
     without "$folder/" <"$came/errors" | without "$top/" >"$came/stderr"
 }
 
+# is_own CASE: whether the case is a function here
+is_own() { [[ $1 == @(pipes|terminals|names|traces|redirected)/* ]]; }
+
 # call_all: as many side by side as there are processors
 call_all() {
     local it lanes
@@ -106,7 +115,7 @@ call_all() {
         while (($(jobs -rp | wc -l) >= lanes)); do
             wait -n || true
         done
-        if [[ $it != pipes/* && $it != traces/* ]]; then
+        if ! is_own "$it"; then
             call "$it" &
         fi
     done <"$room/wanted"
@@ -165,11 +174,30 @@ pipes_slow_producer() {
     differs stderr <(printf 'sink out 10\ndone\n') "$room/report"
 }
 
-# pipes_closed_output: an input without end, of which a thousand bytes are read
-pipes_closed_output() {
-    yes 2>/dev/null | { timeout 60 "${start[@]}" run -i src=- -o out=- "$top/tests/graphs/plain.toml" || echo "$?" >"$room/status"; } 2>"$room/report" | head -c 1000 >"$room/thousand"
-    differs stdout <(yes | head -c 1000 | tr 'y\n' '\203\024') "$room/thousand" && differs stderr <(echo 'flow: refused 52 Write output 0') "$room/report"
+# on_terminal WANTED WORD..: that a call with these words, whose standard error is a terminal, writes these lines there
+on_terminal() {
+    local wanted=$1 shown
+    shift
+    script -q -c "exec $(printf '%q ' "${start[@]}" "$@") >/dev/null" "$room/shown" </dev/null >/dev/null
+    # (`script` writes a first and a last line of its own)
+    shown=$(grep -v '^Script ' "$room/shown" | tr -d '\r')
+    differs stderr <(echo "$wanted") <(echo "$shown")
 }
+
+# A refusal is explained on a terminal, but where the words say no.
+terminals_explains() { on_terminal $'flow: refused 51 Read no/such/file\n --> no/such/file: No such file or directory (os error 2)' run no/such/file; }
+terminals_never() { on_terminal 'flow: refused 51 Read no/such/file' run --explain=never no/such/file; }
+terminals_place() {
+    printf '[[block]]\nname = "a"\nkind = "add_cnst"\n' >"$room/place.toml"
+    on_terminal "flow: refused 44 UnknownKind block 0
+ --> $room/place.toml:3:8
+  |
+3 | kind = \"add_cnst\"
+  |        ^ there is no kind \`add_cnst\`; is \`add_const\` meant?" check "$room/place.toml"
+}
+
+# names_gnu_radio: that names of GNU Radio are answered with those that flow-from-grc writes for them
+names_gnu_radio() { python3 "$top/tests/programs/gnu_radio_names.py" "${start[@]}"; }
 
 # traced MOST WORD..: a run with these words, whose trace has room for so many turns and waits and goes with the times of the same run; `said` has the lines before
 # these
@@ -230,6 +258,16 @@ traces_picture() {
 # traces_part_of_a_picture: what it draws from one time to another
 traces_part_of_a_picture() { python3 "$top/tests/programs/picture.py" "$top/scripts/trace_picture.py"; }
 
+# judge CASE WORD..: whether this command holds, which says what is wrong
+judge() {
+    local wrong
+    if wrong=$("${@:2}"); then
+        passed "$1"
+    else
+        failed "$1" <<<"$wrong"
+    fi
+}
+
 run() {
     local it wrong start=()
     mkdir -p "$room/made"
@@ -237,14 +275,14 @@ run() {
     build
     call_all
     while IFS= read -r it; do
-        if [[ $it == traces/* ]] && ! command -v python3 >/dev/null; then
+        if [[ $it == @(names|traces)/* ]] && ! command -v python3 >/dev/null; then
             left_out "$it" <<<"there is no python3 to read it"
-        elif [[ $it == pipes/* || $it == traces/* ]]; then
-            if wrong=$("${it/\//_}"); then
-                passed "$it"
-            else
-                failed "$it" <<<"$wrong"
-            fi
+        elif [[ $it == terminals/* ]] && ! command -v script >/dev/null; then
+            left_out "$it" <<<"there is no command script to make a terminal"
+        elif [[ $it == redirected/* ]]; then
+            judge "$it" redirected "${it#*/}"
+        elif is_own "$it"; then
+            judge "$it" "${it/\//_}"
         elif wrong=$(is_right "$it"); then
             passed "$it"
         else

@@ -8,6 +8,6 @@ source "$top/tests/memory.sh"
 
 # (Those whose tests take longest stand first.)
 # shellcheck disable=SC2034  # They are for the script that is sourced.
-folders=(threads streams graph_files terminal) libraries=(flow pipeline helper_threads clap) others=(memory)
+folders=(threads streams graph_files terminal) libraries=("${memory_libraries[@]}") others=(memory)
 
 "$1"

@@ -8,7 +8,7 @@ source "$(dirname -- "$(readlink -f -- "${BASH_SOURCE[0]}")")/../layers.sh"
 source "$top/tests/memory.sh"
 
 # shellcheck disable=SC2034  # They are for the script that is sourced.
-folders=() libraries=(flow pipeline helper_threads clap) others=(memory)
+folders=() libraries=("${memory_libraries[@]}") others=(memory)
 
 list() { echo no_threads/each_run_is_told_61; }
 

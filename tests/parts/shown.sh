@@ -1,6 +1,6 @@
 # shellcheck shell=bash disable=SC2154
-# For tests/parts/cases.sh to source: cases of what is shown elsewhere, each made as a folder like those of tests/cases: the files of examples/, and the calls
-# of `flow` on examples that README.md, docs/ and the examples show behind a `$`, each with what it writes.
+# For tests/parts/cases.sh to source: cases of what is shown elsewhere, each made as a folder like those of tests/cases: the files of examples/, the calls
+# of `flow` on examples that README.md, docs/ and the examples show behind a `$`, each with what it writes, and the graph of the man page.
 
 # Of each case that was made its name, which is its folder below that of all.
 made=()
@@ -19,11 +19,11 @@ make() {
 # end_of OUTPUT: prints the status of a call that writes this: one that stalls says so in its last line
 end_of() { [[ ${1##*$'\n'} == stalled ]] && echo 3 || echo 0; }
 
-# make_example FOLDER: what `check`, `run`, its script or its live run, whichever it has a file for, writes for its graph file
+# make_example FOLDER: what `check`, `draw`, `run`, its script or its live run, whichever it has a file for, writes for its graph file
 make_example() {
     local name file wanted errors it
     name=examples/$(basename -- "$1")
-    for it in check run script live; do
+    for it in check draw run script live; do
         file=$1/expected_$it
         if [[ $it == script ]]; then
             file=$1/expected
@@ -67,7 +67,7 @@ make_call() {
     while (($# > 0)); do
         case $1 in
         '<') input=$2 && shift ;;
-        examples/*.toml) graph=$1 && words+=(graph.toml) ;;
+        examples/*.toml | /usr/share/doc/magbelu/examples/*.toml) graph=${1#/usr/share/doc/magbelu/} && words+=(graph.toml) ;;
         *) words+=("$1") ;;
         esac
         shift
@@ -79,6 +79,31 @@ make_call() {
     if [[ -n $input ]]; then
         cp -- "$top/$input" "$shown/$name/stdin"
     fi
+}
+
+# make_raw_call CASE RECORDING OUTPUT WORD..: a call between raw files as a page shows it, behind a line that makes the recording: the items that it writes are those that
+# make.py computes, and the tags those that the example shows
+make_raw_call() {
+    local folder=$shown/$1 signal=$shown/examples/signal/recorded it file
+    if [[ ! -e $signal/filtered.s16 ]]; then
+        return
+    fi
+    make_call "$1" "${@:3}"
+    mkdir -p "$folder/made"
+    for it in "${@:4}"; do
+        file=${it#*=}
+        case $it in
+        adc=*)
+            if [[ $file != "$2" ]]; then
+                echo "$1: no line above the call makes $file" >&2
+                exit 1
+            fi
+            cp -- "$signal/recording.s16" "$folder/$file"
+            ;;
+        out=*.tags) printf '@0:rx_rate=480000/0\n@2:lead=20/0\n' >"$folder/made/$file" ;;
+        out=*) cp -- "$signal/filtered.s16" "$folder/made/$file" ;;
+        esac
+    done
 }
 
 # make_pipe CASE OUTPUT BYTES WORD..: a call between pipes as a page shows it, with what printf is given for its standard input; the numbers of the bytes that od
@@ -93,18 +118,23 @@ make_pipe() {
     grep -v '^ ' <<<"$2" >"$shown/$name/stderr"
 }
 
-# make_calls_of FILE: the calls that a page shows; in a fence without a language each runs from its `$` to the next, or to the end of the fence. (Those with
-# files of raw items are of examples/signal, whose recording is a case of its own.)
+# make_calls_of FILE: the calls that a page shows; in a fence without a language each runs from its `$` to the next, or to the end of the fence
 make_calls_of() {
-    local line page call='' words=() output='' in_fence=0 number=0
+    local line page call='' words=() output='' recording='' in_fence=0 number=0
     page=${1#"$top"/}
     page=pages/${page%.md}
     while IFS= read -r line || [[ -n $line ]]; do
         if [[ $line == '```'* || $line == '$ '* ]]; then
-            if [[ $call =~ ^(\./)?flow\ ([a-z].*)$ && $call == *examples/* && $call != *' -o '* ]]; then
+            if [[ $call =~ ^(\./)?flow\ ([a-z].*)$ && $call == *examples/* ]]; then
                 number=$((number + 1))
                 read -ra words <<<"${BASH_REMATCH[2]}"
-                make_call "$page/$number" "${output%$'\n'}" "${words[@]}"
+                if [[ $call == *' -o '* ]]; then
+                    make_raw_call "$page/$number" "$recording" "${output%$'\n'}" "${words[@]}"
+                else
+                    make_call "$page/$number" "${output%$'\n'}" "${words[@]}"
+                fi
+            elif [[ $call =~ ^examples/signal/make\.py\ recording\ ([^ /]+)$ ]]; then
+                recording=${BASH_REMATCH[1]}
             elif [[ $call =~ ^printf\ \'(.*)\'\ \|\ \./flow\ (run\ .*)\ \|\ od\ -An\ -tu1$ ]]; then
                 number=$((number + 1))
                 read -ra words <<<"${BASH_REMATCH[2]}"
@@ -113,7 +143,7 @@ make_calls_of() {
             call='' output=''
         fi
         if [[ $line == '```' ]]; then
-            in_fence=$((in_fence == 0))
+            in_fence=$((in_fence == 0)) recording=''
         elif [[ $line == '```'* ]]; then
             in_fence=2
         elif [[ $in_fence == 1 && $line == '$ '* ]]; then
@@ -126,6 +156,15 @@ make_calls_of() {
         echo "$1 shows no call of flow" >&2
         exit 1
     fi
+}
+
+# of_man_page N: prints the Nth of the texts of the man page's example
+of_man_page() { sed -n '/^\.SS An example$/,/^\.SH /p' "$top/share/man/man1/flow.1" | awk -v wanted="$1" '/^\.fi$/ { shows = 0 } shows && at == wanted; /^\.nf$/ { shows = 1; at++ }'; }
+
+# make_man_page: the graph that the man page shows, with what a run of it prints
+make_man_page() {
+    make pages/man "$(of_man_page 2)" '' 0 run graph.toml
+    of_man_page 1 >"$shown/pages/man/graph.toml"
 }
 
 # make_shown FOLDER: all of these, in the folder
@@ -142,6 +181,7 @@ make_shown() {
     else
         echo "left out: the recording of examples/signal, since there is no python3" >&2
     fi
+    make_man_page
     for page in "$top"/README.md "$top"/docs/*.md "$top"/examples/*/README.md; do
         make_calls_of "$page"
     done

@@ -7,6 +7,7 @@ import sys
 import tempfile
 import xml.etree.ElementTree
 
+SVG = "{http://www.w3.org/2000/svg}"
 # The blocks, of which one has a name that is a word of the format too; and their turns and waits: the track, the beginning and the length.
 BLOCKS = ["thread_name", "out", "a&b"]
 SPANS = [
@@ -39,16 +40,26 @@ def trace():
     return json.dumps({"traceEvents": events})
 
 
-def drawn(*words):
-    """The rectangles of a picture but for the ground: what each tells who points at it, and its left, its top and its width; and the texts."""
+def made(*words):
+    """The picture."""
     with tempfile.NamedTemporaryFile("w") as file:
         file.write(trace())
         file.flush()
         picture = subprocess.run([sys.executable, sys.argv[1], file.name, *words], stdout=subprocess.PIPE, check=True, text=True).stdout
-    svg = "{http://www.w3.org/2000/svg}"
-    top = xml.etree.ElementTree.fromstring(picture)
-    rectangles = [(it[0].text, it.get("x"), it.get("y"), it.get("width")) for it in top.iter(svg + "rect") if len(it)]
-    return rectangles, [it.text for it in top.iter(svg + "text")]
+    return xml.etree.ElementTree.fromstring(picture)
+
+
+def drawn(*words):
+    """The rectangles of a picture but for the ground: what each tells who points at it, and its left, its top and its width; and the texts."""
+    top = made(*words)
+    rectangles = [(it[0].text, it.get("x"), it.get("y"), it.get("width")) for it in top.iter(SVG + "rect") if len(it)]
+    return rectangles, [it.text for it in top.iter(SVG + "text")]
+
+
+def labels(*words):
+    """The times below a picture, with where each stands."""
+    texts = [it for it in made(*words).iter(SVG + "text") if it.text.endswith(" us")]
+    return [(it.text, float(it.get("x")), it.get("text-anchor")) for it in texts]
 
 
 def main():
@@ -56,6 +67,22 @@ def main():
     if rectangles != WANTED or texts[: len(BLOCKS)] != BLOCKS:
         print(f"wanted {WANTED} of {BLOCKS}, and there came {rectangles} of {texts}")
         sys.exit(1)
+    # Round times stand below, each within the picture: the last one of 20 ends at its edge.
+    for words, wanted in [
+        (["10", "20"], ["10 us", "12 us", "14 us", "16 us", "18 us", "20 us"]),
+        ([], ["0 us", "5 us", "10 us", "15 us", "20 us", "25 us", "30 us"]),
+        (["13", "1000"], ["200 us", "400 us", "600 us", "800 us", "1000 us"]),
+        (["0.1", "0.65"], ["0.1 us", "0.2 us", "0.3 us", "0.4 us", "0.5 us", "0.6 us"]),
+    ]:
+        if drawn(*words)[1][len(BLOCKS) :] != wanted:
+            print(f"wanted {wanted} below the picture of {words}, and there came {drawn(*words)[1][len(BLOCKS) :]}")
+            sys.exit(1)
+    for words in (["10", "20"], ["8000", "9000"], ["0", "199990"]):
+        for text, place, anchor in labels(*words):
+            half = 4 * len(text)
+            if place + {"middle": half, "end": 0}[anchor] > 960 or place - half < 0:
+                print(f"{text} is not within the picture of {words}: {place} {anchor}")
+                sys.exit(1)
     if len(drawn()[0]) != len(SPANS):
         print("not all is drawn where no times are said")
         sys.exit(1)

@@ -4,6 +4,7 @@ mod ends;
 mod fakes;
 mod lines;
 mod live;
+mod noted;
 mod raw;
 mod refusals;
 mod runs;

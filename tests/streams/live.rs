@@ -11,6 +11,7 @@ use std::sync::Arc;
 use std::sync::atomic::{AtomicU64, Ordering};
 use std::test::Fail;
 use std::time::Duration;
+use threads::Open;
 
 // A source of bytes, a block that adds ten, and a sink.
 const CHAIN: &str = r#"
@@ -128,7 +129,7 @@ fn each_line_is_answered_before_the_next_is_read(rt: HostRuntime) -> Result<(), 
         &mut input,
         &mut output,
         &mut errors,
-        None,
+        None::<Arc<Open, Global>>,
         &mut Unwatched,
     );
     assert_eq!(rt; (status, input.next, input.early), (0, LINES.len(), 0));
@@ -289,7 +290,7 @@ fn a_live_run_is_stopped_behind_a_fault(rt: HostRuntime) -> Result<(), Fail> {
             &mut input,
             &mut output,
             &mut errors,
-            None,
+            None::<Arc<Open, Global>>,
             &mut given,
         );
         assert_eq!(rt;

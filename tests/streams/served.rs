@@ -3,9 +3,10 @@ use super::fakes::{Pieces, Written};
 use flow::serve::{Action, Verbosity, serve};
 use plant::Unwatched;
 use std::alloc::Global;
-use std::sync::Wait;
+use std::sync::{Arc, Wait};
 use std::thread::Threads;
 use std::time::Clock;
+use threads::Open;
 
 /// How the input comes, and how much can be written.
 #[derive(Clone, Copy)]
@@ -90,7 +91,7 @@ pub fn served_with<R: Threads + Wait + Clock + Copy + Send + Sync + 'static>(
         &mut input,
         &mut output,
         &mut errors,
-        None,
+        None::<Arc<Open, Global>>,
         &mut Unwatched,
     );
     Left {

@@ -1,17 +1,17 @@
 //! The trace of a run: its text, byte for byte, by a clock that is set; and what the trace of a run of each way has.
 use super::fakes::{Pieces, Written};
-use flow::measured::{Form, Looks, Measured};
 use flow::threading::Threading;
 use flow::serve::{Action, Verbosity, serve};
 use flowgraph::{BlockId, Valid};
 use graph_file::read_graph;
 use kinds::Kind;
 use plant::{Need, Unwatched};
-use run_stats::{Deed, Tracer, write_trace};
+use run_stats::{Deed, Form, Looks, Measured, Tracer, write_trace};
 use std::alloc::Global;
 use std::cell::Cell;
 use std::io;
 use std::process::Abort;
+use std::sync::Arc;
 use std::test::Fail;
 use std::time::{Clock, Duration};
 use threads::Gate;
@@ -219,9 +219,7 @@ fn a_run_of_each_way_is_traced(rt: HostRuntime) -> Result<(), Fail> {
             at_times,
             at_events: Some(1_000),
         };
-        let Some(measured) = Measured::of_file(alloc, rt, looks, GRAPH.as_bytes())? else {
-            panic!(rt; "the file is refused");
-        };
+        let measured = Measured::new(alloc, rt, looks, Arc::new(alloc, graph(&rt, alloc))?)?;
         let observer = measured.observer()?;
         let mut input = Pieces {
             left: b"",

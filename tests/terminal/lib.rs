@@ -4,6 +4,7 @@
 mod lines;
 mod runs;
 // (the program's own files)
+mod call;
 mod ends;
 mod terminal;
 mod words;

@@ -8,10 +8,11 @@ use reporting::{ReadEnd, WriteEnd};
 use std::alloc::Global;
 use std::cell::Cell;
 use std::io;
-use std::sync::Wait;
+use std::sync::{Arc, Wait};
 use std::test::Fail;
 use std::thread::Threads;
 use std::time::{Clock, Duration};
+use threads::Open;
 
 const GRAPH: &str = r#"
 block = [
@@ -67,7 +68,7 @@ fn shown<R: Threads + Wait + Clock + Copy + Send + Sync + 'static>(
             &mut ReadEnd::new(b"".as_slice()),
             &mut output,
             &mut errors,
-            None,
+            None::<Arc<Open, Global>>,
             &mut terminal,
         )
     };
@@ -133,7 +134,7 @@ fn words_ask_for_calls(rt: HostRuntime) -> Result<(), Fail> {
         for word in words {
             owned.push(String::from_str(alloc, word)?)?;
         }
-        match asked_by(alloc, &owned) {
+        match asked_by(alloc, &owned, false) {
             Ok(Asked::Call(call)) => {
                 assert_eq!(rt;
                     (call.action, call.path, call.is_quiet),
@@ -148,9 +149,37 @@ fn words_ask_for_calls(rt: HostRuntime) -> Result<(), Fail> {
     }
     let mut owned = Vec::new(alloc);
     owned.push(String::from_str(alloc, "flow")?)?;
-    match asked_by(alloc, &owned) {
+    match asked_by(alloc, &owned, false) {
         Ok(_) => assert!(rt; false, "no words"),
         Err(error) => assert!(rt; error.kind() != ErrorKind::OutOfMemory, "no words"),
+    }
+    Ok(())
+}
+
+#[test]
+fn refusals_are_explained_on_a_terminal(rt: HostRuntime) -> Result<(), Fail> {
+    let alloc = rt.alloc();
+    let cases: [(Option<&str>, bool, bool); 5] = [
+        (None, false, true),
+        (Some("--explain"), true, true),
+        (Some("--explain=always"), true, true),
+        (Some("--explain=auto"), false, true),
+        (Some("--explain=never"), false, false),
+    ];
+    for (word, elsewhere, on_terminal) in cases {
+        for (is_terminal, wanted) in [(false, elsewhere), (true, on_terminal)] {
+            let mut owned = Vec::new(alloc);
+            for it in ["flow", "run", "a.toml"] {
+                owned.push(String::from_str(alloc, it)?)?;
+            }
+            if let Some(word) = word {
+                owned.push(String::from_str(alloc, word)?)?;
+            }
+            match asked_by(alloc, &owned, is_terminal) {
+                Ok(Asked::Call(call)) => assert_eq!(rt; call.explains, wanted),
+                Ok(Asked::Kinds) | Err(_) => assert!(rt; false, "{word:?}"),
+            }
+        }
     }
     Ok(())
 }

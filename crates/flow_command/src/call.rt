@@ -1,0 +1,134 @@
+//! What a call of a command on a graph file asks for.
+
+ghost use Rattle.std.specs.Prelude.{◌≡◌, ◌&&◌, not, if◌then◌else◌};
+ghost use Rattle.flow.specs.declared.serve.Verbosity.TheVariants.{WithNotes, Quiet};
+
+use super::ends::{Ends, EndsFault};
+use clap::ArgMatches;
+use drawings::Format;
+use flow::serve::{Action, Verbosity};
+use flow::threading::Threading;
+use run_stats::Form;
+use std::alloc::Global;
+
+/// What is asked for of a graph file.
+#[derive(Drop)]
+pub struct Call<'a> {
+    pub action: Action,
+    pub path: &'a str,
+    pub is_quiet: bool,
+    /// Whether a refusal is explained.
+    pub explains: bool,
+    /// How it is told where the time of the run went, if that is wanted.
+    pub stats: Option<Form>,
+    /// The trace of the run, if one is wanted.
+    pub trace: Option<Trace<'a>>,
+    pub ends: Ends<'a>,
+}
+
+/// Where a trace goes, and for how many turns and waits it has room.
+#[derive(Clone, Copy, Debug, PartialEq, Eq)]
+pub struct Trace<'a> {
+    pub path: &'a str,
+    pub size: usize,
+}
+
+impl Call<'_> {
+    /// Whether a run may show how far it is: on a terminal, unless the words say no.
+    pub fn may_show(&self, is_terminal: bool) -> bool
+        ensures { result ≡ (is_terminal && not self.now.is_quiet) }
+    {
+        is_terminal && !self.is_quiet
+    }
+
+    /// Whether lines are written that no command asks for, unless the words say no.
+    pub fn verbosity(&self) -> Verbosity
+        ensures { result ≡ (if self.now.is_quiet then Quiet else WithNotes) }
+    {
+        if self.is_quiet {
+            Verbosity::Quiet
+        } else {
+            Verbosity::WithNotes
+        }
+    }
+}
+
+/// The call of a command on a graph file that words ask for which `clap` took. On a terminal a refusal is explained, unless they say no.
+pub fn call_in<'a>(
+    alloc: Global,
+    name: &str,
+    inner: &ArgMatches<'a>,
+    is_terminal: bool,
+) -> Result<Call<'a>, EndsFault> {
+    let Some(path) = inner.get_str("FILE") else {
+        return Err(EndsFault::Memory);
+    };
+    let trace = trace_of(inner, path)?;
+    match Ends::of_words(alloc, inner, path) {
+        Ok(ends) => Ok(Call {
+            action: action_of(name, inner),
+            path,
+            is_quiet: inner.get_flag("quiet"),
+            explains: explains(inner.get_str("explain"), is_terminal),
+            stats: form_of(inner.get_str("stats")),
+            trace,
+            ends,
+        }),
+        Err(fault) => Err(fault),
+    }
+}
+
+// The trace that words ask for, if they do, beside the path of the graph file.
+fn trace_of<'a>(inner: &ArgMatches<'a>, file: &str) -> Result<Option<Trace<'a>>, EndsFault> {
+    let Some(path) = inner.get_str("trace") else {
+        return Ok(None);
+    };
+    if path == "-" {
+        return Err(EndsFault::TraceToStream);
+    }
+    if path == file {
+        return Err(EndsFault::FileTwice);
+    }
+    // (that it is a number is known of words that were taken)
+    let size = inner.get_one::<usize>("trace-size").unwrap_or(1);
+    Ok(Some(Trace { path, size }))
+}
+
+fn action_of(name: &str, inner: &ArgMatches<'_>) -> Action {
+    match name {
+        "check" if inner.get_flag("feeds") => Action::CheckFeeds,
+        "check" => Action::Check,
+        "draw" => Action::Draw(format_of(inner.get_str("format"))),
+        "run" if inner.get_flag("one-thread") => Action::RunAlone,
+        "run" if inner.get_flag("thread-per-block") => Action::Run(Threading::PerBlock),
+        "run" => Action::Run(Threading::Adaptive),
+        "live" => Action::Live,
+        _ => Action::Script,
+    }
+}
+
+// The format of a picture. No other words are taken.
+fn format_of(word: Option<&str>) -> Format {
+    match word {
+        Some("mermaid") => Format::Mermaid,
+        _ => Format::Dot,
+    }
+}
+
+// Whether a refusal is explained. No other words are taken.
+fn explains(word: Option<&str>, is_terminal: bool) -> bool {
+    match word {
+        Some("always") => true,
+        Some("never") => false,
+        _ => is_terminal,
+    }
+}
+
+// The form of a report of times, if one is asked for. No other words are taken.
+fn form_of(word: Option<&str>) -> Option<Form> {
+    match word {
+        Some("json") => Some(Form::Json),
+        Some(_) => Some(Form::Text),
+        None => None,
+    }
+}

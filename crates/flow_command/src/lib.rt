@@ -1,0 +1,160 @@
+//! The command `flow`: what the words of a call ask for, done between files and the standard streams.
+#![tactic(auto)]
+
+mod call;
+mod closed_streams;
+mod devices;
+mod ends;
+mod explaining;
+mod gone_reader;
+mod joins;
+mod listing;
+mod measuring;
+mod overwriting;
+mod raw;
+mod refusing;
+mod stops;
+mod terminal;
+mod tracing;
+mod words;
+
+use crate::closed_streams::hold_closed_streams;
+use crate::explaining::{REFUSED, explain_device, explain_file, explain_line};
+use crate::gone_reader::end_of;
+use crate::listing::{print_kinds, print_text};
+use crate::measuring::{measured_for, tell_times};
+use crate::overwriting::{ReportStream, report_stream};
+use crate::raw::run_raw;
+use crate::refusing::{begins_none, begins_none_of, buffered};
+use crate::terminal::Terminal;
+use crate::tracing::{tell_trace, trace_file_for};
+use crate::words::{Asked, Call, asked_by, refusal_of};
+use clap::error::ErrorKind;
+use explanations::{KeptLines, Noted};
+use flow::serve::serve;
+use flow::start_fault::StartFault;
+use plant::Watch;
+use reporting::{ReadEnd, WriteEnd};
+use std::io::IsTerminal;
+use std::sync::Wait;
+use std::thread::Threads;
+use std::time::{Clock, CpuClock};
+use std::{env, fs};
+
+/// Does what the words of the call ask for, and returns its exit status. `threads` is the same runtime as `rt`, with the leave to start
+/// threads, which only `main` may hand on.
+pub fn obey<R: Threads + Wait + Clock + CpuClock + Copy + Send + Sync + 'static>(
+    threads: R,
+    rt: &HostRuntime,
+) -> u8 {
+    hold_closed_streams(rt);
+    let arguments = match env::args(rt) {
+        Ok(arguments) => arguments,
+        Err(error) => return begins_none(rt, StartFault::of_words(error.kind())),
+    };
+    let Ok(words) = arguments.collect::<Vec<String>>(rt.alloc()) else {
+        return begins_none(rt, StartFault::Memory);
+    };
+    match asked_by(rt.alloc(), &words, rt.stderr().is_terminal()) {
+        Ok(Asked::Kinds) => print_kinds(rt),
+        Ok(Asked::Call(call)) => match report_stream(rt, &call) {
+            Ok(report) => run(threads, rt, call, report),
+            Err(fault) => refuse(rt, &refusal_of(rt.alloc(), fault)),
+        },
+        Err(error) => answer(rt, &error),
+    }
+}
+
+// Says what the words ask for that is no call: help, or the version. Or else what is wrong with them.
+fn answer(rt: &HostRuntime, error: &clap::Error) -> u8 {
+    if error.use_stderr() {
+        return refuse(rt, error);
+    }
+    match format!(in rt.alloc(); "{error}") {
+        Ok(text) => print_text(rt, text.as_str()),
+        Err(_) => begins_none(rt, StartFault::Memory),
+    }
+}
+
+// Says what is wrong with the words.
+fn refuse(rt: &HostRuntime, error: &clap::Error) -> u8 {
+    let fault = StartFault::of_call(error.kind() == ErrorKind::OutOfMemory);
+    if fault == StartFault::BadWords {
+        // Its text ends its last line.
+        let _ = eprint!(rt; "{error}");
+    }
+    begins_none(rt, fault)
+}
+
+fn run<R: Threads + Wait + Clock + CpuClock + Copy + Send + Sync + 'static>(
+    threads: R,
+    rt: &HostRuntime,
+    call: Call<'_>,
+    report: ReportStream,
+) -> u8 {
+    // (a run that writes items or tags to a terminal would write them into the line that shows it)
+    let is_shared = call.ends.use_output() && rt.stdout().is_terminal();
+    let may_show = call.may_show(rt.stderr().is_terminal() && !is_shared);
+    let mut terminal = Terminal::new(rt, rt.stderr(), may_show);
+    let file = match fs::read(rt, call.path) {
+        Ok(file) => file,
+        Err(error) => {
+            let status = begins_none_of(rt, StartFault::of_file(error.kind()), call.path);
+            if call.explains {
+                explain_device(rt, call.path, &error);
+            }
+            return status;
+        }
+    };
+    if !call.ends.are_none() {
+        return run_raw(threads, rt, &call, report, &file, &mut terminal);
+    }
+    serve_file(threads, rt, &call, &file, &mut terminal)
+}
+
+// Does what the words ask for with a file, between the standard streams.
+fn serve_file<R: Threads + Wait + Clock + CpuClock + Copy + Send + Sync + 'static, W: Watch>(
+    threads: R,
+    rt: &HostRuntime,
+    call: &Call<'_>,
+    file: &[u8],
+    watch: &mut W,
+) -> u8 {
+    let Ok((measured, observer)) = measured_for(threads, rt.alloc(), call, file) else {
+        return begins_none(rt, StartFault::Memory);
+    };
+    let trace_file = match trace_file_for(rt, call, &measured) {
+        Ok(trace_file) => trace_file,
+        Err(status) => return status,
+    };
+    let reader = ReadEnd::new(Noted::new(rt.reader()));
+    let mut input = KeptLines::new(rt.alloc(), reader, call.explains);
+    let mut output = WriteEnd::new(Noted::new(std::io::writer(rt)));
+    let mut errors = buffered(rt.alloc(), rt.stderr());
+    let status = serve(
+        threads,
+        rt.alloc(),
+        call.action,
+        call.verbosity(),
+        file,
+        &mut input,
+        &mut output,
+        &mut errors,
+        observer,
+        watch,
+    );
+    let status = end_of(rt, call, status, errors.writer, &output.writer.reason);
+    if call.explains {
+        if status == REFUSED && !explain_file(rt, call, file) {
+            explain_line(rt, call, &input);
+        }
+        if let Some(error) = &input.inner.reader.reason {
+            explain_device(rt, "standard input", error);
+        }
+        if let Some(error) = &output.writer.reason {
+            explain_device(rt, "standard output", error);
+        }
+    }
+    let status = tell_trace(rt, call, &measured, trace_file, status);
+    tell_times(rt, call, &measured, status)
+}

@@ -1,0 +1,26 @@
+//! What is printed without a graph file: the page of all kinds, help and the version.
+
+use crate::gone_reader::{NOBODY_READS, OUTPUT, is_gone, tell};
+use crate::refusing::begins_none;
+use explanations::page_of_kinds;
+use flow::start_fault::StartFault;
+
+/// Prints the page of all kinds, and returns the exit status.
+pub fn print_kinds(rt: &HostRuntime) -> u8 {
+    let Ok(page) = page_of_kinds(rt.alloc()) else {
+        return begins_none(rt, StartFault::Memory);
+    };
+    print_text(rt, page.as_str())
+}
+
+/// Prints a text, in one write, and returns the exit status.
+pub fn print_text(rt: &HostRuntime, text: &str) -> u8 {
+    match print!(rt; "{text}") {
+        Ok(()) => 0,
+        Err(error) if is_gone(&error) => {
+            tell(rt, OUTPUT);
+            NOBODY_READS
+        }
+        Err(_) => begins_none(rt, StartFault::NoOutput),
+    }
+}

@@ -1,0 +1,84 @@
+//! Where the time of a run went, if the words ask for it.
+
+use crate::gone_reader::NOBODY_READS;
+use crate::refusing::begins_none;
+use crate::words::Call;
+use flow::fault::NO_MEMORY;
+use flow::opening::open_plant;
+use flow::start_fault::StartFault;
+use flowgraph::Valid;
+use kinds::Kind;
+use reporting::Refusal;
+use run_stats::{Looks, Measured, Observer};
+use std::alloc::{AllocError, Global};
+use std::io::Write;
+use std::sync::Arc;
+use std::time::Clock;
+
+// The status of a run that came to rest before all blocks were done.
+const STALLED: u8 = 3;
+
+/// Whether a run came to rest, by the status in which it ended. Its report is written after that.
+pub fn came_to_rest(status: u8) -> bool {
+    status == 0 || status == STALLED || status == NOBODY_READS
+}
+
+/// What looks at the run of a call, and the part of it that the run has.
+pub type ForRun<R> = (Option<Measured<R>>, Option<Arc<Observer<R>, Global>>);
+
+/// What looks at the run of a call, where its words ask for that and the file is not refused.
+pub fn measured_for<R: Clock + Copy>(
+    clock: R,
+    alloc: Global,
+    call: &Call<'_>,
+    file: &[u8],
+) -> Result<ForRun<R>, AllocError> {
+    if call.stats.is_none() && call.trace.is_none() {
+        return Ok((None, None));
+    }
+    let looks = Looks {
+        at_times: call.stats.is_some(),
+        at_events: match call.trace {
+            Some(trace) => Some(trace.size),
+            None => None,
+        },
+    };
+    let Some(graph) = graph_of(alloc, file)? else {
+        return Ok((None, None));
+    };
+    let measured = Measured::new(alloc, clock, looks, graph)?;
+    let observer = measured.observer()?;
+    Ok((Some(measured), Some(observer)))
+}
+
+// The graph of a file; none where the file is refused, or one of its feeds, which the run tells.
+fn graph_of(alloc: Global, file: &[u8]) -> Result<Option<Arc<Valid<Kind>, Global>>, AllocError> {
+    match open_plant(alloc, file) {
+        Ok(plant) => Ok(Some(plant.share_graph()?)),
+        Err(fault) if fault.number() == NO_MEMORY => Err(AllocError),
+        Err(_) => Ok(None),
+    }
+}
+
+/// Writes what was measured of a run that came to rest with this status, and gives the status of the call.
+pub fn tell_times<R: Clock + Copy>(
+    rt: &HostRuntime,
+    call: &Call<'_>,
+    measured: &Option<Measured<R>>,
+    status: u8,
+) -> u8 {
+    let (Some(measured), Some(form)) = (measured, call.stats) else {
+        return status;
+    };
+    if !came_to_rest(status) {
+        return status;
+    }
+    match measured.report(rt.alloc(), form) {
+        Ok(text) => {
+            let mut errors = rt.stderr();
+            let _ = errors.write_all(&text);
+            status
+        }
+        Err(_) => begins_none(rt, StartFault::Memory),
+    }
+}

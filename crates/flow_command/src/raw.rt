@@ -1,0 +1,214 @@
+//! Runs between files and pipes of raw items, which are read and written as the items come.
+
+use crate::ends::Ends;
+use crate::gone_reader::tell_gone;
+use crate::joins::{Kept, join_inputs, join_marks, join_outputs};
+use crate::overwriting::ReportStream;
+use crate::refusing::buffered;
+use crate::stops::{Stop, Stream, explain, stop_of, unread_name};
+use crate::words::Call;
+use flow::command_output::status_of;
+use flow::fault::Fault;
+use flow::opening::open_stream;
+use flow::raw_fault::{EndFault, EndPlace, RawFault};
+use flow::refusal_line::report_raw;
+use flow::reports::stream_report;
+use flow::script::ScriptFault;
+use flow::serve::{Action, Verbosity};
+use flow::stalls::explain_stall;
+use flowgraph::BlockId;
+use helper_threads::HelperThreads;
+use kinds::Kind;
+use pipeline::{End, Pipeline, PipelineFault, Settled};
+use reporting::write_whole;
+use script_text::push_tag_lines;
+use std::alloc::{AllocError, Global};
+use std::io::Write;
+use std::sync::Wait;
+use std::thread::Threads;
+use std::time::Clock;
+use streaming::{Helpers, Job, NoHelpers, Watch, Worked};
+
+/// Runs a graph file between files. All of them are opened before the first is read.
+pub fn run_raw<R: Threads + Wait + Clock + Copy + Send + Sync + 'static, W: Watch>(
+    threads: R,
+    rt: &HostRuntime,
+    call: &Call<'_>,
+    report: ReportStream,
+    file: &[u8],
+    watch: &mut W,
+) -> u8 {
+    let mut errors = buffered(rt.alloc(), rt.stderr());
+    match stream(threads, rt, call, report, file, watch) {
+        Ok(None) => status_of(true),
+        Ok(Some(stalled)) => {
+            if call.verbosity() == Verbosity::WithNotes {
+                explain_stall(rt.alloc(), &stalled.plant, &mut errors);
+            }
+            status_of(false)
+        }
+        Err(Stop { fault, reason }) => {
+            let status = match unread_name(&fault, &reason, &call.ends) {
+                Some(name) => tell_gone(rt, call, name),
+                None => {
+                    report_raw(&fault, &mut errors);
+                    let _ = errors.writer.flush();
+                    fault.status()
+                }
+            };
+            if call.explains {
+                explain(rt, call, file, &fault, reason);
+            }
+            status
+        }
+    }
+}
+
+// The run, which is returned if it stalled. Where an input ended within an item that is told last, since all that came of the items before it stands.
+fn stream<'a, R: Threads + Wait + Clock + Copy + Send + Sync + 'static, W: Watch>(
+    threads: R,
+    rt: &'a HostRuntime,
+    call: &Call<'_>,
+    report: ReportStream,
+    file: &[u8],
+    watch: &mut W,
+) -> Result<Option<Stream<'a>>, Stop> {
+    let ends = &call.ends;
+    let mut run = opened(rt, file)?;
+    join_inputs(rt, &mut run, ends)?;
+    join_marks(rt, &mut run, ends)?;
+    let kept = join_outputs(rt, &mut run, ends)?;
+    close_others(&mut run);
+    let (settled, cut) = go(threads, rt, &mut run, call, watch)?;
+    write_kept(rt, &run, kept)?;
+    tell(rt, &run, report, settled)?;
+    match (cut, settled) {
+        (Some(stop), _) => Err(stop),
+        (None, Settled::Done) => Ok(None),
+        (None, Settled::Quiet) => Ok(Some(run)),
+    }
+}
+
+fn opened<'a>(rt: &'a HostRuntime, file: &[u8]) -> Result<Stream<'a>, Stop> {
+    let plant = match open_stream(rt.alloc(), file) {
+        Ok(plant) => plant,
+        Err(fault) => return Err(Stop::from(RawFault::Whole(Fault::File(fault)))),
+    };
+    match Pipeline::new(rt.alloc(), plant) {
+        Ok(run) => Ok(run),
+        Err((_, refusal)) => Err(Stop::from(refusal)),
+    }
+}
+
+// Closes the sources that no input feeds.
+fn close_others(run: &mut Stream<'_>) {
+    let mut block = 0u32;
+    for _ in 0..run.plant.graph().len() {
+        if let Some(End::Open) = run.ends.get(block as usize) {
+            // (what is no source is refused)
+            let _ = run.plant.close(BlockId(block));
+        }
+        block = block.saturating_add(1);
+    }
+}
+
+// Lets the run go on to its end, and shows how far it is. It returns how the run ended, and why the first input is refused that ended within an item, if one did.
+fn go<R: Threads + Wait + Clock + Copy + Send + Sync + 'static, W: Watch>(
+    threads: R,
+    rt: &HostRuntime,
+    run: &mut Stream<'_>,
+    call: &Call<'_>,
+    watch: &mut W,
+) -> Result<(Settled, Option<Stop>), Stop> {
+    let ended = match call.action {
+        Action::Run(_) => run_helped(threads, rt.alloc(), run, &call.ends, watch),
+        _ => run_cut(rt.alloc(), run, &call.ends, &mut NoHelpers, watch),
+    };
+    watch.end();
+    ended
+}
+
+// The run, with a thread for each other processor that does work where that pays.
+fn run_helped<R: Threads + Wait + Clock + Copy + Send + Sync + 'static, W: Watch>(
+    threads: R,
+    alloc: Global,
+    run: &mut Stream<'_>,
+    ends: &Ends<'_>,
+    watch: &mut W,
+) -> Result<(Settled, Option<Stop>), Stop> {
+    let mut helpers = HelperThreads::start(threads, alloc, run.plant.graph())?;
+    let ended = run_cut(alloc, run, ends, &mut helpers, watch);
+    helpers.finish();
+    ended
+}
+
+// The run, in which an input that ends within an item ends with the item before.
+fn run_cut<H: Helpers<Job<Kind>, Worked<Kind>>, W: Watch>(
+    alloc: Global,
+    run: &mut Stream<'_>,
+    ends: &Ends<'_>,
+    helpers: &mut H,
+    watch: &mut W,
+) -> Result<(Settled, Option<Stop>), Stop> {
+    let mut cut = None;
+    // (each time but the last a source is closed)
+    for _ in 0..=run.plant.graph().len() {
+        match run.run_with(alloc, helpers, watch) {
+            Ok(settled) => return Ok((settled, cut)),
+            Err(PipelineFault::CutItem(source)) => {
+                if cut.is_none() {
+                    cut = Some(stop_of(run, ends, PipelineFault::CutItem(source)));
+                }
+                // (it was open)
+                let _ = run.plant.close(source);
+            }
+            Err(fault) => return Err(stop_of(run, ends, fault)),
+        }
+    }
+    Err(Stop::from(AllocError))
+}
+
+// Writes the tags of sinks whose items were kept.
+fn write_kept(rt: &HostRuntime, run: &Stream<'_>, kept: Vec<Kept<'_>>) -> Result<(), Stop> {
+    let mut lines = Vec::new(rt.alloc());
+    for Kept {
+        sink,
+        number,
+        target,
+    } in kept {
+        let mut target = target;
+        let Ok(piece) = run.plant.peek(rt.alloc(), sink, u64::MAX) else {
+            return Err(Stop::from(AllocError));
+        };
+        lines.clear();
+        push_tag_lines(&mut lines, &piece.tags)?;
+        if let Err(error) = write_whole(&mut target, &lines) {
+            return Err(Stop {
+                fault: RawFault::End(EndPlace::Tags(number), EndFault::Write),
+                reason: Some(error),
+            });
+        }
+    }
+    Ok(())
+}
+
+// Tells how the run ended.
+fn tell(
+    rt: &HostRuntime,
+    run: &Stream<'_>,
+    report: ReportStream,
+    settled: Settled,
+) -> Result<(), Stop> {
+    let text = stream_report(rt.alloc(), &run.plant, settled)?;
+    let written = match report {
+        ReportStream::Output => write_whole(&mut std::io::writer(rt), &text),
+        ReportStream::Errors => write_whole(&mut rt.stderr(), &text),
+    };
+    match written {
+        Ok(()) => Ok(()),
+        Err(error) => Err(Stop {
+            fault: RawFault::Whole(Fault::Script(ScriptFault::Write)),
+            reason: Some(error),
+        }),
+    }
+}

@@ -1,0 +1,363 @@
+//! What the words of the program ask for.
+
+pub use super::call::Call;
+use super::call::call_in;
+use super::ends::EndsFault;
+use clap::builder::ValueParser;
+use clap::error::ErrorKind;
+use clap::{Arg, ArgAction, ArgMatches};
+use explanations::{near_name, shown};
+use std::alloc::{AllocError, Global};
+
+const VERSION: &str = "0.1.0";
+
+// For so many turns and waits a trace has room unless the words say another number, and for so many at most.
+const USUAL_TRACE: &str = "100000";
+
+const LONGEST_TRACE: u64 = 10_000_000;
+
+/// What the words ask for.
+#[derive(Drop)]
+pub enum Asked<'a> {
+    /// The page of all kinds.
+    Kinds,
+    /// Something of a graph file.
+    Call(Call<'a>),
+}
+
+/// What the words ask for; the first word is none of them. On a terminal a refusal is explained, unless the words say no.
+pub fn asked_by<'a>(
+    alloc: Global,
+    words: &'a [String],
+    is_terminal: bool,
+) -> Result<Asked<'a>, clap::Error> {
+    let mut flow = commands(alloc)?;
+    match flow.try_get_matches_from_mut(words) {
+        Ok(matches) => match asked_in(alloc, &matches, is_terminal) {
+            Ok(asked) => Ok(asked),
+            Err(fault) => Err(error_of(&mut flow, fault)),
+        },
+        Err(error) if error.kind() == ErrorKind::InvalidSubcommand => Err(unknown_command(
+            alloc, &mut flow, words, error,
+        )),
+        Err(error) => Err(error),
+    }
+}
+
+// What is said of a word that is no command: which command is like it, by fewer letters than `clap` asks for.
+fn unknown_command(
+    alloc: Global,
+    flow: &mut clap::Command<'_>,
+    words: &[String],
+    error: clap::Error,
+) -> clap::Error {
+    match tip(alloc, flow, words) {
+        Ok(Some(text)) => match flow.error(ErrorKind::InvalidSubcommand, text.as_str()) {
+            Ok(error) => error,
+            Err(refusal) => clap::Error::from(refusal),
+        },
+        Ok(None) => error,
+        Err(refusal) => clap::Error::from(refusal),
+    }
+}
+
+// What is said of the first word that is no command, where a command is like it.
+fn tip(
+    alloc: Global,
+    flow: &clap::Command<'_>,
+    words: &[String],
+) -> Result<Option<String>, AllocError> {
+    let mut names = Vec::new(alloc);
+    for command in flow.get_subcommands() {
+        names.push(command.get_name())?;
+    }
+    for word in words.iter().skip(1) {
+        let word = word.as_str();
+        if !names.contains(&word) {
+            let near = near_name(alloc, word, &names)?;
+            return match near {
+                Some(name) => tip_text(alloc, word, name),
+                None => Ok(None),
+            };
+        }
+    }
+    Ok(None)
+}
+
+// What is said of a word beside the name of the command that is like it.
+fn tip_text(alloc: Global, word: &str, name: &str) -> Result<Option<String>, AllocError> {
+    let word = shown(alloc, word.as_bytes())?;
+    let text = format!(in alloc;
+        "unrecognized subcommand '{word}'\n\n  tip: a similar subcommand exists: '{name}'"
+    )?;
+    Ok(Some(text))
+}
+
+// What is asked for by words that `clap` took.
+fn asked_in<'a>(
+    alloc: Global,
+    matches: &ArgMatches<'a>,
+    is_terminal: bool,
+) -> Result<Asked<'a>, EndsFault> {
+    // (that a command is there, and its file, is known of words that were taken)
+    match matches.subcommand() {
+        Some(("kinds", _)) => Ok(Asked::Kinds),
+        Some((name, inner)) => match call_in(alloc, name, inner, is_terminal) {
+            Ok(call) => Ok(Asked::Call(call)),
+            Err(fault) => Err(fault),
+        },
+        None => Err(EndsFault::Memory),
+    }
+}
+
+/// What is said of words whose ends are refused as this.
+pub fn refusal_of(alloc: Global, fault: EndsFault) -> clap::Error {
+    match commands(alloc) {
+        Ok(mut flow) => error_of(&mut flow, fault),
+        Err(error) => error,
+    }
+}
+
+// What `clap` says of words that name no ends.
+fn error_of(flow: &mut clap::Command<'_>, fault: EndsFault) -> clap::Error {
+    let said = match fault.text() {
+        Some(text) => flow.error(ErrorKind::ValueValidation, text),
+        None => Err(AllocError),
+    };
+    match said {
+        Ok(error) => error,
+        Err(refusal) => clap::Error::from(refusal),
+    }
+}
+
+// The words that the program knows. (Here and below a value is made where it is handed on, so that no early return has another to drop; and few follow one another.)
+fn commands<'a>(alloc: Global) -> Result<clap::Command<'a>, clap::Error> {
+    let flow = bare_flow(alloc)?;
+    let flow = with_reports(alloc, flow)?;
+    with_runs(alloc, flow)
+}
+
+fn bare_flow<'a>(alloc: Global) -> Result<clap::Command<'a>, clap::Error> {
+    // The name of the built file is another.
+    Ok(
+        clap::Command::new(alloc, "flow")
+            .bin_name("flow")?
+            .version(VERSION)
+            .about("Runs a flowgraph that a file describes")
+            .subcommand_required(true),
+    )
+}
+
+// The commands that run nothing.
+fn with_reports<'a>(
+    alloc: Global,
+    flow: clap::Command<'a>,
+) -> Result<clap::Command<'a>, clap::Error> {
+    let flow = with_command(flow, check_command(alloc))?;
+    let flow = with_command(flow, draw_command(alloc))?;
+    Ok(flow.subcommand(clap::Command::new(alloc, "kinds").about(
+        "Prints all kinds of blocks, with their parameters",
+    ))?)
+}
+
+// And those that do.
+fn with_runs<'a>(alloc: Global, flow: clap::Command<'a>) -> Result<clap::Command<'a>, clap::Error> {
+    let flow = with_command(flow, run_command(alloc))?;
+    let flow = with_command(flow, live_command(alloc))?;
+    with_command(flow, script_command(alloc))
+}
+
+fn with_command<'a>(
+    flow: clap::Command<'a>,
+    command: Result<clap::Command<'a>, clap::Error>,
+) -> Result<clap::Command<'a>, clap::Error> {
+    match command {
+        Ok(command) => Ok(flow.subcommand(command)?),
+        Err(error) => Err(error),
+    }
+}
+
+fn check_command<'a>(alloc: Global) -> Result<clap::Command<'a>, clap::Error> {
+    let check = subcommand(alloc, "check", "Reads the graph and reports on it")?;
+    let feeds = flag(alloc, "feeds", "Tests the feeds too, as a run would");
+    Ok(check.arg(feeds)?)
+}
+
+fn draw_command<'a>(alloc: Global) -> Result<clap::Command<'a>, clap::Error> {
+    let draw = subcommand(
+        alloc,
+        "draw",
+        "Writes the graph as text from which a picture is made",
+    )?;
+    let format = Arg::new(alloc, "format")
+        .long("format")
+        .value_name("FORMAT")
+        .value_parser(["dot", "mermaid"].as_slice())
+        .default_value("dot")
+        .help("The language of the text");
+    Ok(draw.arg(format)?)
+}
+
+fn run_command<'a>(alloc: Global) -> Result<clap::Command<'a>, clap::Error> {
+    let run = subcommand(
+        alloc,
+        "run",
+        "Runs the graph and prints what its sinks hold",
+    )?;
+    let run = run.arg(quiet(alloc))?;
+    let run = with_threading(alloc, run)?;
+    let run = run.arg(stats(alloc)?)?;
+    let run = with_trace(alloc, run)?;
+    with_ends(alloc, run)
+}
+
+// The words that say how many threads a run has, of which one is given at most. Between files a run has one, and helpers.
+fn with_threading<'a>(
+    alloc: Global,
+    run: clap::Command<'a>,
+) -> Result<clap::Command<'a>, clap::Error> {
+    let one = flag(alloc, "one-thread", "Runs all blocks on one thread");
+    let run = run.arg(one.conflicts_with("thread-per-block")?)?;
+    let each = flag(
+        alloc,
+        "thread-per-block",
+        "Runs each block in a thread of its own",
+    );
+    Ok(run.arg(without_ends(each)?)?)
+}
+
+// The word for a report of times, which no run between files has.
+fn stats<'a>(alloc: Global) -> Result<Arg<'a>, AllocError> {
+    let stats = Arg::new(alloc, "stats")
+        .long("stats")
+        .value_name("FORM")
+        .num_args(0..=1)
+        .require_equals(true)
+        .default_missing_value("text")
+        .value_parser(["text", "json"].as_slice())
+        .help("Tells where the time of the run went");
+    without_ends(stats)
+}
+
+// The words for a trace, which no run between files has either.
+fn with_trace<'a>(alloc: Global, run: clap::Command<'a>) -> Result<clap::Command<'a>, clap::Error> {
+    let trace = Arg::new(alloc, "trace")
+        .long("trace")
+        .action(ArgAction::Set)
+        .value_name("PATH")
+        .help("Writes each turn and each wait of a block to a file, as a trace");
+    let run = run.arg(without_ends(trace)?)?;
+    let size = Arg::new(alloc, "trace-size")
+        .long("trace-size")
+        .action(ArgAction::Set)
+        .value_name("N")
+        .value_parser(ValueParser::Unsigned(1, LONGEST_TRACE))
+        .default_value(USUAL_TRACE)
+        .help("Has room for so many turns and waits in the trace");
+    Ok(run.arg(size.requires_arg("trace")?)?)
+}
+
+// A word that goes with none of those for files of raw items.
+fn without_ends<'a>(word: Arg<'a>) -> Result<Arg<'a>, AllocError> {
+    let word = word.conflicts_with("input")?;
+    let word = word.conflicts_with("marks")?;
+    let word = word.conflicts_with("output")?;
+    word.conflicts_with("tags")
+}
+
+// The words for files of raw items.
+fn with_ends<'a>(alloc: Global, run: clap::Command<'a>) -> Result<clap::Command<'a>, clap::Error> {
+    let run = run.arg(flag(
+        alloc,
+        "big-endian",
+        "Takes the highest byte of a raw item as its first",
+    ))?;
+    let input = ends(alloc, "input", "Feeds the raw items of a file to a source").short('i');
+    let run = run.arg(input)?;
+    let marks = ends(
+        alloc,
+        "marks",
+        "Puts tags on the items of an input, a line each",
+    );
+    let run = run.arg(marks)?;
+    let output = ends(alloc, "output", "Writes the items of a sink to a file, raw").short('o');
+    let run = run.arg(output)?;
+    let tags = ends(
+        alloc,
+        "tags",
+        "Writes the tags of a sink to a file, a line each",
+    );
+    Ok(run.arg(tags)?)
+}
+
+// A word for files, each with its block, whose name may begin with a dash.
+fn ends<'a>(alloc: Global, name: &'a str, help: &'a str) -> Arg<'a> {
+    Arg::new(alloc, name)
+        .long(name)
+        .action(ArgAction::Append)
+        .allow_hyphen_values(true)
+        .value_name("BLOCK=PATH")
+        .help(help)
+}
+
+fn live_command<'a>(alloc: Global) -> Result<clap::Command<'a>, clap::Error> {
+    let live = subcommand(
+        alloc,
+        "live",
+        "Runs the graph while the commands of standard input are done",
+    )?;
+    Ok(live.arg(quiet(alloc))?)
+}
+
+fn script_command<'a>(alloc: Global) -> Result<clap::Command<'a>, clap::Error> {
+    subcommand(
+        alloc,
+        "script",
+        "Runs the commands of standard input on the graph",
+    )
+}
+
+// The word that turns off what is written beside the report.
+fn quiet<'a>(alloc: Global) -> Arg<'a> {
+    flag(
+        alloc,
+        "quiet",
+        "Shows neither progress nor why a run stalled",
+    )
+    .short('q')
+}
+
+// A word that stands for itself.
+fn flag<'a>(alloc: Global, name: &'a str, help: &'a str) -> Arg<'a> {
+    Arg::new(alloc, name)
+        .long(name)
+        .action(ArgAction::SetTrue)
+        .help(help)
+}
+
+// A subcommand that takes a graph file, with its line of help.
+fn subcommand<'a>(
+    alloc: Global,
+    name: &'a str,
+    help: &'a str,
+) -> Result<clap::Command<'a>, clap::Error> {
+    let file = Arg::new(alloc, "FILE")
+        .required(true)
+        .action(ArgAction::Set)
+        .help("The graph file");
+    let command = clap::Command::new(alloc, name).about(help).arg(file)?;
+    Ok(command.arg(explain(alloc))?)
+}
+
+// The word that says when a refusal is explained.
+fn explain<'a>(alloc: Global) -> Arg<'a> {
+    Arg::new(alloc, "explain")
+        .long("explain")
+        .value_name("WHEN")
+        .num_args(0..=1)
+        .require_equals(true)
+        .default_value("auto")
+        .default_missing_value("always")
+        .value_parser(["auto", "always", "never"].as_slice())
+        .help("Shows the place of what is refused, by itself on a terminal")
+}
