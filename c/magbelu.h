@@ -78,7 +78,8 @@ struct magbelu_stream {
 
 #define MAGBELU_NO_STREAM {MAGBELU_NO_PLANT}
 
-/* Refusals of calls of a held plant: none is held; one is held already; slices of a kernel differ in length; a tag's key is no key. */
+/* Refusals of calls of a held plant: a setting comes too late; none is held; one is held already; slices of a kernel differ in length; a tag's key is no key. */
+#define MAGBELU_LATE 27
 #define MAGBELU_NOT_OPEN 55
 #define MAGBELU_IS_OPEN 56
 #define MAGBELU_LENGTHS 57
@@ -207,6 +208,51 @@ uint32_t magbelu_kernel_xor_ints(const int32_t *a, size_t a_len, const int32_t *
 
 /* The number of a refusal that these functions alone give: a pointer is NULL, and its length is not 0. Its line is `magbelu: refused 54 Null`. */
 #define MAGBELU_NULL 54
+
+/* (not for callers) */
+struct magbelu_row {
+    uint32_t number;
+    const char *name;
+    const char *reason;
+};
+
+static inline const struct magbelu_row *magbelu_row_of(uint32_t number) {
+    static const struct magbelu_row rows[] = {
+        {20, "NoSuchBlock", "no block of the graph has this name"},
+        {21, "NotSource", "the block is no vector_source"},
+        {22, "NotSink", "the block is no vector_sink"},
+        {23, "Closed", "the source is closed"},
+        {24, "ItemRange", "an item is outside the range of the source's type"},
+        {25, "TagPlace", "a tag lies on none of the items that it is fed with"},
+        {26, "TapeFull", "the source would be fed more items than it takes"},
+        {27, "Late", "the setting begins before the first item that is open"},
+        {28, "NoSetting", "the block has no setting"},
+        {29, "WrongSetting", "the numbers are outside the setting's range, or of another count"},
+        {31, "BeyondEnd", "the read begins behind what the sink holds"},
+        {32, "Memory", "memory ran out"},
+        {50, "BadLine", "the line of this number is no command"},
+        {52, "Write", "memory for the output ran out"},
+        {53, "CutItem", "the bytes end in the midst of an item"},
+        {54, "Null", "a pointer is NULL, and its length is not 0"},
+        {55, "NotOpen", "no plant is held, or it was freed"},
+        {56, "IsOpen", "a plant is held already"},
+        {58, "BadKey", "the key of a tag is not 1 to 16 letters, digits, `_`, `.` or `-`"},
+        {0, "", ""},
+    };
+    const struct magbelu_row *row = rows;
+    while (row->number != 0 && row->number != number) {
+        row++;
+    }
+    return row;
+}
+
+/*
+ * The name of the refusal of this number by a call of a held plant, a script's line or raw items, as `Late`, and the reason, as `the setting begins before the
+ * first item that is open`. Both are empty of other numbers: why a file is refused shows magbelu_explain.
+ */
+static inline const char *magbelu_name(uint32_t number) { return magbelu_row_of(number)->name; }
+
+static inline const char *magbelu_reason(uint32_t number) { return magbelu_row_of(number)->reason; }
 
 /* (not for callers) */
 static inline int magbelu_is_null(const void *at, size_t len) { return at == NULL && len != 0; }

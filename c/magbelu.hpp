@@ -11,6 +11,7 @@
 #include <cstdlib>
 #include <initializer_list>
 #include <iterator>
+#include <optional>
 #include <stdexcept>
 #include <string>
 #include <string_view>
@@ -23,20 +24,25 @@
 namespace magbelu {
 
 /*
- * A call was not done. The text is the number and the name of the refusal, as docs/FORMATS.md lists them, and what it concerns; where a graph file is refused,
- * lines that show the place in it follow. `output` is what a script wrote before.
+ * A call was not done. The text is the number and the name of the refusal, as docs/FORMATS.md lists them, what it concerns, and the reason; where a graph file is
+ * refused, lines that show the place in it stand for the reason. `output` is what a script wrote before. Of a setting that comes too late (27), `first_open` is the
+ * first item from which it could be in force.
  */
 class error : public std::runtime_error {
 public:
-    error(std::uint32_t number, const std::string &text, std::string output = {}) : std::runtime_error(text), number_(number), output_(std::move(output)) {}
+    error(std::uint32_t number, const std::string &text, std::string output = {}, std::optional<std::uint64_t> first_open = {})
+        : std::runtime_error(text), number_(number), output_(std::move(output)), first_open_(first_open) {}
 
     std::uint32_t number() const noexcept { return number_; }
 
     const std::string &output() const noexcept { return output_; }
 
+    std::optional<std::uint64_t> first_open() const noexcept { return first_open_; }
+
 private:
     std::uint32_t number_;
     std::string output_;
+    std::optional<std::uint64_t> first_open_;
 };
 
 /* The graph file, a feed, a setting, a line or a name is refused, and nothing changed. */
@@ -81,33 +87,34 @@ struct piece {
 /* (not for callers) */
 namespace detail {
 
-/* The names of refusals that come without a line. */
-inline const char *name_of(std::uint32_t number) {
-    static constexpr std::pair<std::uint32_t, const char *> names[] = {
-        {20, "NoSuchBlock"}, {21, "NotSource"}, {22, "NotSink"},   {23, "Closed"},    {24, "ItemRange"}, {25, "TagPlace"}, {26, "TapeFull"},
-        {27, "Late"},        {28, "NoSetting"}, {29, "WrongSetting"}, {31, "BeyondEnd"}, {32, "Memory"},    {53, "CutItem"},  {54, "Null"},
-        {55, "NotOpen"},     {56, "IsOpen"},    {58, "BadKey"},
-    };
-    for (const auto &it : names) {
-        if (it.first == number) {
-            return it.second;
-        }
+[[noreturn]] inline void fail(std::uint32_t status, std::uint32_t number, const std::string &text, std::string output = {},
+                              std::optional<std::uint64_t> first_open = {}) {
+    if (status == 4) {
+        throw out_of_memory(number, text, std::move(output), first_open);
     }
-    return "";
+    throw refused(number, text, std::move(output), first_open);
 }
 
-[[noreturn]] inline void fail(std::uint32_t status, std::uint32_t number, const std::string &text, std::string output = {}) {
-    if (status == 4) {
-        throw out_of_memory(number, text, std::move(output));
-    }
-    throw refused(number, text, std::move(output));
+/* A refusal with its reason, where one is known. */
+inline std::string with_reason(std::string text, std::uint32_t number) {
+    const std::string reason = magbelu_reason(number);
+    return reason.empty() ? text : text + ": " + reason;
 }
+
+inline std::optional<std::uint64_t> first_open_of(const magbelu_reply &reply) {
+    return reply.number == MAGBELU_LATE ? std::optional<std::uint64_t>(reply.value) : std::nullopt;
+}
+
+inline std::optional<std::uint64_t> first_open_of(const magbelu_piece &) { return std::nullopt; }
 
 /* The answer of a call of a plant, which is refused for the block of this name. */
 template <class Reply>
 const Reply &tested(const Reply &reply, std::string_view block) {
     if (reply.number != 0) {
-        fail(reply.status, reply.number, std::to_string(reply.number) + " " + name_of(reply.number) + " " + std::string(block));
+        const std::string concerns = block.empty() ? "" : " " + std::string(block);
+        const auto first_open = first_open_of(reply);
+        const std::string text = with_reason(std::to_string(reply.number) + " " + magbelu_name(reply.number) + concerns, reply.number);
+        fail(reply.status, reply.number, first_open ? text + ", which is " + std::to_string(*first_open) : text, {}, first_open);
     }
     return reply;
 }
@@ -128,8 +135,8 @@ magbelu_answer with_room(Call call, std::string &output, std::string &line) {
     }
 }
 
-/* What is said of a refusal of the file of this path: its line from the number on, and its place in the file. */
-inline std::string text_of(std::string line, std::string_view file, std::string_view path) {
+/* What is said of the refusal of this number of a call that the file of this path goes into: its line from the number on, and its place in the file, or the reason. */
+inline std::string text_of(std::uint32_t number, std::string line, std::string_view file, std::string_view path) {
     static constexpr std::string_view before = " refused ";
     const auto at = line.find(before);
     std::string place, own;
@@ -139,7 +146,8 @@ inline std::string text_of(std::string line, std::string_view file, std::string_
         },
         place, own);
     line = (at == std::string::npos ? line : line.substr(at + before.size())) + place;
-    return line.substr(0, line.find_last_not_of('\n') + 1);
+    line = line.substr(0, line.find_last_not_of('\n') + 1);
+    return place.empty() ? with_reason(std::move(line), number) : line;
 }
 
 /* The output of a call that a file goes into, which writes a line where it is refused. */
@@ -148,7 +156,7 @@ report texts(Call call, std::string_view file) {
     std::string output, line;
     const magbelu_answer answer = with_room(call, output, line);
     if (answer.number != 0) {
-        fail(answer.status, answer.number, text_of(std::move(line), file, "<graph>"), std::move(output));
+        fail(answer.status, answer.number, text_of(answer.number, std::move(line), file, "<graph>"), std::move(output));
     }
     return {std::move(output), answer.status == 0};
 }
@@ -281,7 +289,7 @@ protected:
         std::string output, line;
         const magbelu_answer answer = with_room([&](std::string &, std::string &room) { return open(room.data(), room.size()); }, output, line);
         if (answer.number != 0) {
-            fail(answer.status, answer.number, text_of(std::move(line), file, path));
+            fail(answer.status, answer.number, text_of(answer.number, std::move(line), file, path));
         }
     }
 

@@ -5,6 +5,7 @@ from __future__ import annotations
 import array
 import collections.abc
 import operator
+import os
 from typing import Any, Iterable, Union
 
 from ._library import Lent, Mark
@@ -22,6 +23,15 @@ MOST = 2**64 - 1
 # The least and the greatest number of 64 bits with a sign. Neither is an item, nor the value of a setting.
 LOW, HIGH = -(2**63), 2**63 - 1
 BOOLS: set[type] = {bool} if numpy is None else {bool, numpy.bool_}
+# What may be a masked item: it lends the number behind its mask.
+MASKED: set[type] = set() if numpy is None else {numpy.ma.MaskedArray, type(numpy.ma.masked)}
+
+
+def unmasked(data: Any, what: str) -> Any:
+    """What is no masked array of numpy: such an array lends the numbers behind its mask too."""
+    if numpy is not None and isinstance(data, numpy.ma.MaskedArray):
+        raise TypeError("%s is no masked array, whose masked items have no value (its filled() or compressed() has one for each)" % what)
+    return data
 
 
 def bytes_of(text: Text) -> bytes:
@@ -30,11 +40,13 @@ def bytes_of(text: Text) -> bytes:
         return text.encode()
     if isinstance(text, (bytes, bytearray)):
         return bytes(text)
-    raise TypeError("a str or bytes is wanted, and not %r" % type(text).__name__)
+    hint = " (Graph.from_file and Stream.from_file open the file of a path)" if isinstance(text, os.PathLike) else ""
+    raise TypeError("a str or bytes is wanted, and not %r%s" % (type(text).__name__, hint))
 
 
 def index(it: Any, what: str) -> int:
     """An integer as one of Python."""
+    unmasked(it, what)
     if type(it) in BOOLS:
         raise TypeError("%s is an integer, and no truth value" % what)
     try:
@@ -88,10 +100,12 @@ def numbers_of(items: Any) -> array.array[int]:
     except NotImplementedError as error:
         # (of a memoryview with a format of its own, or with more than one dimension)
         raise TypeError(str(error)) from None
+    except TypeError:
+        raise TypeError("items are integers in a row, or bytes, and no %r" % type(items).__name__) from None
     types = set(map(type, items))
-    if not BOOLS.isdisjoint(types):
-        raise TypeError("an item is an integer, and no truth value")
-    if types != {int}:
+    if not (BOOLS | MASKED).isdisjoint(types):
+        items = [index(it, "an item") for it in items]
+    elif types != {int}:
         # (before Python 3.10 an array takes what has only `__int__`, and cuts it)
         items = list(map(operator.index, items))
     try:

@@ -3,8 +3,10 @@
 from __future__ import annotations
 
 import ctypes
+import functools
 import importlib
 import threading
+import weakref
 from typing import Any, Optional
 
 from ._gr_tags import Tags
@@ -21,6 +23,37 @@ try:
     BasicBlock, HierBlock = gr.basic_block, gr.hier_block2
 except ImportError as error:
     NO_GNU_RADIO = error
+
+
+class Input:
+    """An input port as it is told to people."""
+
+    def __init__(self, path: str, port: int, source: str) -> None:
+        self.text = "%s: nothing is connected to input %d of this Magbelu block, its source `%s`" % (path, port, source)
+
+
+# Of the blocks before input ports: by what GNU Radio calls each the port.
+INPUTS: weakref.WeakValueDictionary[str, Input] = weakref.WeakValueDictionary()
+
+
+def telling(call: Any) -> Any:
+    """A call of GNU Radio's top block that tells which input of a graph lacks a connection: it names the block before the port, as `copy(9)`, of which nobody knows."""
+
+    @functools.wraps(call)
+    def told(*words: Any, **named: Any) -> Any:
+        try:
+            return call(*words, **named)
+        except RuntimeError as error:
+            port = INPUTS.get(str(error).partition(":")[0])
+            if port is None:
+                raise
+            raise RuntimeError(port.text) from error
+
+    return told
+
+
+if NO_GNU_RADIO is None:
+    gr.top_block.start, gr.top_block.unlock = telling(gr.top_block.start), telling(gr.top_block.unlock)
 
 # The most items that a source is fed at a time.
 MOST_FED = 65536
@@ -56,12 +89,17 @@ class Block(BasicBlock):  # type: ignore[misc]
     def __init__(self, stream: Stream, names: list[str], ports: Any, ends: list[Any], tags: Tags) -> None:
         self._names, self._ends, self.tags = names, ends, tags
         self._inputs, self._outputs = ([port.name for port in side] for side in ports)
+        self._ports_told = [Input(stream.path, port, name) for port, name in enumerate(self._inputs)]
         # Of the blocks before the ports what this run has of them.
         self._details: list[Any] = []
         self._thread_state = ThreadState()
         self._begin(stream)
         super().__init__("magbelu_flowgraph", *([port.dtype for port in side] for side in ports))
         self.set_tag_propagation_policy(gr.TPP_DONT)
+
+    def names_end(self, port: int) -> None:
+        """Has GNU Radio name this port where it would name the block before it."""
+        INPUTS[self._ends[port].identifier()] = self._ports_told[port]
 
     def _begin(self, stream: Stream) -> None:
         self.stream = stream

@@ -9,6 +9,7 @@ from ._errors import refused
 from ._held import Tag
 
 KEY = re.compile(r"[A-Za-z0-9_.-]{1,16}")
+REASON = "the key is not 1 to 16 letters, digits, `_`, `.` or `-`, or the value is no long"
 
 
 class Tags:
@@ -34,7 +35,7 @@ class Tags:
             if word is not None:
                 taken.append((tag.offset + moved, *word))
             elif self._refuses:
-                raise refused(58, "%s: the tag %s=%s at item %d" % (source, tag.key, tag.value, tag.offset))
+                raise refused(58, "%s: the tag %s=%s at item %d" % (source, tag.key, tag.value, tag.offset), reason=REASON)
             else:
                 self.left_out += 1
         return taken

@@ -25,7 +25,7 @@ class Graph(Held):
     [4, 11]
     >>> graph.settle()
     Traceback (most recent call last):
-    magbelu._errors.Refused: 55 NotOpen
+    magbelu._errors.Refused: 55 NotOpen: no plant is held, or it was freed
     """
 
     _opens = "open"
@@ -90,7 +90,9 @@ class Graph(Held):
         return picture
 
     def _repr_svg_(self) -> Optional[str]:
-        return svg_of(dot_of(self._text.decode()))
+        picture = svg_of(dot_of(self._text.decode()))
+        # (a notebook puts it into its page, in which no declaration may stand)
+        return picture and picture[picture.index("<svg") :]
 
     def plot(self, sink: Text, start: SupportsIndex = 0, count: Optional[SupportsIndex] = None, spectrum: bool = False, axes: Any = None) -> Any:
         """Plots what `read` gives, by matplotlib: items over their numbers, with the tags as marks, or their spectrum. It draws on `axes`, or on new ones of pyplot,

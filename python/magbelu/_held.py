@@ -8,15 +8,18 @@ import ctypes
 import os
 import pathlib
 import threading
-from typing import Any, Iterable, NamedTuple, Optional, SupportsIndex, TypeVar, Union
+from typing import Any, Iterable, NamedTuple, NoReturn, Optional, SupportsIndex, TypeVar, Union
 
-from ._arguments import Text, bytes_of, flag, index, is_bytes, marks_of, numbers_of, numpy, place_of, taps_of, within
+from ._arguments import Text, bytes_of, flag, index, is_bytes, marks_of, numbers_of, numpy, place_of, taps_of, unmasked, within
 from ._errors import refused
 from ._library import Lent, Plant, Room, calls, lent_name
 from ._runs import NO_PATH, refusal
 
 # How arrays of items are called, by how many bytes an item has.
 CODES = {1: "B", 2: "h", 4: "i"}
+
+# The number of the refusal of a setting that comes too late: the library tells from which item it could be in force.
+LATE = 27
 
 #: What may be fed: integers, or the bytes of items.
 Items = Union[Iterable[SupportsIndex], bytes, bytearray, memoryview]
@@ -75,7 +78,7 @@ def tags_of(words: list[str]) -> list[Tag]:
 def tested(answer: Any, block: Text) -> Any:
     if answer.number:
         block = block if isinstance(block, str) else bytes(block).decode(errors="backslashreplace")
-        raise refused(answer.number, block, answer.status == 4)
+        raise refused(answer.number, block, answer.status == 4, first_open=answer.value if answer.number == LATE else None)
     return answer
 
 
@@ -147,9 +150,10 @@ class Held:
         4
         >>> graph.feed("src", [256])
         Traceback (most recent call last):
-        magbelu._errors.Refused: 24 ItemRange src
+        magbelu._errors.Refused: 24 ItemRange src: an item is outside the range of the source's type
         """
         name, big_endian = lent_name(bytes_of(source)), flag(big_endian, "big_endian")
+        unmasked(items, "what is fed")
         marks, kept = marks_of(tags)
         words = [ctypes.addressof(marks), len(kept)]
         is_raw = isinstance(items, (bytes, bytearray)) or (isinstance(items, memoryview) and is_bytes(items))
@@ -182,6 +186,7 @@ class Held:
         (3, False, [10, 10, 100])
         """
         name, place = lent_name(bytes_of(block)), place_of(at)
+        unmasked(value, "a setting")
         if isinstance(value, (str, bytes, bytearray, memoryview, collections.abc.Mapping, collections.abc.Set)):
             raise TypeError("a setting is an integer or a list of taps, and no %r" % type(value).__name__)
         try:
@@ -214,6 +219,10 @@ class Held:
         """Frees what the library holds. Each later call is refused."""
         with self._lock:
             self._calls.magbelu_bytes_free(ctypes.byref(self._plant))
+
+    def __reduce_ex__(self, protocol: SupportsIndex) -> NoReturn:
+        """Refuses `copy` and `pickle`: two objects would free one plant."""
+        raise TypeError("a %s is neither copied nor pickled, since it holds a plant of the library" % type(self).__name__)
 
     def __enter__(self: Own) -> Own:
         return self

@@ -2,17 +2,40 @@
 
 from __future__ import annotations
 
-from typing import Any, Sequence
+from typing import Any, Iterator, Sequence
+
+
+# In points: the size of a label's font, the least distance to its tag's line, and how much room a label takes with its edges.
+SIZE, BEHIND, WIDTH = 8, 3, 13
+
+
+def labels_of(axes: Any, tags: Sequence[Any]) -> Iterator[tuple[int, float, str]]:
+    """The labels of tags in their order: the item, how many points it is behind that, and the text. Where the one before it stands, a label goes behind that. Behind the
+    last for which there is room, the number of the others is told."""
+    points = 72 / axes.figure.dpi
+    edge, behind = axes.bbox.x1 * points, 0.0
+    for at, tag in enumerate(tags):
+        place = axes.transData.transform((tag.offset, 0))[0] * points
+        left = max(place + BEHIND, behind)
+        behind = left + WIDTH
+        if behind + WIDTH > edge and at + 1 < len(tags):
+            yield tag.offset, left - place, "%d more" % (len(tags) - at)
+            return
+        yield tag.offset, left - place, "%s=%d" % (tag.key, tag.value)
 
 
 def plot_items(axes: Any, start: int, items: Any, tags: Sequence[Any]) -> None:
     """Items over their numbers, and a line with its name at each tag."""
+    from matplotlib.ticker import MaxNLocator
+
     axes.plot(range(start, start + len(items)), items, marker="." if len(items) <= 100 else "", linewidth=1)
+    axes.xaxis.set_major_locator(MaxNLocator("auto", steps=[1, 2, 5, 10], integer=True))
     for tag in tags:
         axes.axvline(tag.offset, color="tab:red", linewidth=1, alpha=0.6)
+    for offset, shift, text in labels_of(axes, tags):
         axes.annotate(
-            "%s=%d" % (tag.key, tag.value), (tag.offset, 1), xycoords=("data", "axes fraction"), xytext=(3, -3), textcoords="offset points",
-            rotation=90, va="top", fontsize="small", bbox={"facecolor": "white", "edgecolor": "none", "alpha": 0.8, "pad": 1},
+            text, (offset, 1), xycoords=("data", "axes fraction"), xytext=(shift, -3), textcoords="offset points", rotation=90, va="top",
+            fontsize=SIZE, bbox={"facecolor": "white", "edgecolor": "none", "alpha": 0.8, "pad": 1}, annotation_clip=False,
         )
     axes.set_xlabel("item")
     axes.set_ylabel("value")

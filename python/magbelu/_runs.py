@@ -3,9 +3,10 @@
 from __future__ import annotations
 
 import ctypes
+import os
 from typing import Any, Iterable, Optional, Union
 
-from ._arguments import HIGH, Text, bytes_of, count_of, flag, is_bytes
+from ._arguments import HIGH, Text, bytes_of, count_of, flag, is_bytes, unmasked
 from ._errors import Error, OutOfMemory, Refused
 from ._library import Input, Lent, Output, Room, calls
 
@@ -29,12 +30,19 @@ def where(file: Lent, path: str) -> str:
         room = answer.output_len
 
 
+def hint_of(text: bytes) -> str:
+    """What is said where a path is given in place of a text."""
+    if b"\n" in text or not (text.endswith(b".toml") or os.path.isfile(text)):
+        return ""
+    return "(this is taken for the text of a graph file, which pathlib.Path(..).read_text() gives; Graph.from_file and Stream.from_file open the file of a path)"
+
+
 def refusal(answer: Any, error: Room, file: Lent, path: str = NO_PATH, output: str = "") -> Error:
     text = error.part(0, answer.error_len).decode().strip()
     text = text.partition(" refused ")[2] or str(answer.number)
     if answer.status == 4:
         return OutOfMemory(text, output)
-    return Refused(text, output, where(file, str(path)))
+    return Refused(text, output, where(file, str(path)), hint=hint_of(file.kept) if path == NO_PATH else "")
 
 
 def _texts(name: str, *given: Text, room: int = 65536) -> tuple[str, int]:
@@ -93,7 +101,7 @@ def script(file: Text, lines: Text) -> str:
 def input_of(pair: tuple[Text, Any]) -> tuple[Lent, Lent]:
     """The name and the bytes of an input."""
     name, data = pair
-    if not is_bytes(data):
+    if not is_bytes(unmasked(data, "the input %r" % (name,))):
         raise TypeError("the input %r is bytes, and no %r (of an array its tobytes())" % (name, type(data).__name__))
     return Lent(bytes_of(name)), Lent(data)
 

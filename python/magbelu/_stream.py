@@ -2,10 +2,11 @@
 
 from __future__ import annotations
 
+import array
 import ctypes
 from typing import Any, Iterable, Iterator, NamedTuple, Optional, SupportsIndex
 
-from ._arguments import MOST, Text, bytes_of, count_of
+from ._arguments import MOST, Text, bytes_of, count_of, numpy, unmasked
 from ._file import tables_of
 from ._held import CODES, Array, Held, Items, Tag, array_of, tags_of, tested
 from ._library import Lent, Room, lent_name
@@ -15,6 +16,15 @@ from ._runs import NO_PATH
 PIECE = 65536
 # What comes behind the last piece of a source. (None would be a wrong piece.)
 END = object()
+
+
+def pieces_of(source: str, pieces: Any) -> Iterator[Items]:
+    """The pieces that a source gets one by one. An array of items is a single piece, and has none in it."""
+    is_array = isinstance(pieces, array.array) or (numpy is not None and isinstance(pieces, numpy.ndarray) and pieces.ndim < 2)
+    is_row = isinstance(pieces, (list, tuple, range)) and len(pieces) and hasattr(pieces[0], "__index__")
+    if is_array or is_row or isinstance(pieces, (str, bytes, bytearray, memoryview)):
+        raise TypeError("the source %r gets an iterable of pieces, and not one piece: through(%s=[items])" % (source, source))
+    return iter(pieces)
 
 
 class Piece(NamedTuple):
@@ -42,7 +52,7 @@ class Stream(Held):
     [12, 4]
     >>> stream.settle()
     Traceback (most recent call last):
-    magbelu._errors.Refused: 55 NotOpen
+    magbelu._errors.Refused: 55 NotOpen: no plant is held, or it was freed
     """
 
     _opens = "open_stream"
@@ -91,7 +101,7 @@ class Stream(Held):
         >>> stream.drain_into("out", room), room.tolist()
         ((1, []), [12, 11])
         """
-        view = memoryview(room)
+        view = memoryview(unmasked(room, "what is drained into"))
         with self._lock:
             size = self._item_size(sink)
             if view.format != CODES[size] or view.ndim != 1 or not view.c_contiguous or view.readonly:
@@ -135,7 +145,7 @@ class Stream(Held):
         """
         for source in pieces:
             self._size(source)
-        return self._through({source: iter(it) for source, it in pieces.items()})
+        return self._through({source: pieces_of(source, it) for source, it in pieces.items()})
 
     def _through(self, pieces: dict[str, Iterator[Items]]) -> Iterator[Piece]:
         sinks = [it["name"] for it in tables_of(self._text.decode()).get("block", []) if it["kind"] == "vector_sink"]

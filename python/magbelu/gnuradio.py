@@ -14,7 +14,7 @@ The module can be imported where there is no GNU Radio; to make a `Flowgraph` is
 from __future__ import annotations
 
 import pathlib
-from typing import Iterable, Mapping, Optional, SupportsIndex, Union
+from typing import Iterable, Mapping, NoReturn, Optional, SupportsIndex, Union
 
 from ._arguments import Text, bytes_of
 from ._companion import has_port, has_ports, type_of
@@ -47,14 +47,16 @@ class Flowgraph(HierBlock):  # type: ignore[misc]
     Keep a reference to it as long as the flowgraph is there, as to every block in Python.
     """
 
-    def __init__(self, path: Path = NO_PATH, other_tags: str = "leave out", text: Optional[Text] = None) -> None:
+    def __init__(self, path: Optional[Path] = None, other_tags: str = "leave out", text: Optional[Text] = None) -> None:
         if NO_GNU_RADIO is not None:
             raise ImportError("magbelu.gnuradio needs GNU Radio 3.10 where this Python finds it: %s" % NO_GNU_RADIO)
         if other_tags not in ("leave out", "refuse"):
             raise ValueError('other tags are "leave out" or "refuse", and not %r' % (other_tags,))
-        file = pathlib.Path(path).read_bytes() if text is None else bytes_of(text)
+        if path is None and text is None:
+            raise TypeError('a Flowgraph is that of a graph file: Flowgraph("graph.toml"), or Flowgraph(text="...")')
+        file = pathlib.Path(path or NO_PATH).read_bytes() if text is None else bytes_of(text)
         # (it refuses what has no tables)
-        stream = Stream(file, str(path))
+        stream = Stream(file, NO_PATH if path is None else str(path))
         tables = tables_of(file.decode()).get("block", [])
         self.ports = ports_of(tables)
         if not self.ports.outputs:
@@ -65,8 +67,13 @@ class Flowgraph(HierBlock):  # type: ignore[misc]
         self._block = Block(stream, [it["name"] for it in tables], self.ports, ends, Tags(pmt, other_tags == "refuse"))
         for port, end in enumerate(ends):
             self.connect((self, port), end, (self._block, port))
+            self._block.names_end(port)
         for port in range(len(self.ports.outputs)):
             self.connect((self._block, port), (self, port))
+
+    def __reduce_ex__(self, protocol: SupportsIndex) -> NoReturn:
+        """Refuses `copy` and `pickle`: GNU Radio has no copies of blocks."""
+        raise TypeError("a Flowgraph is neither copied nor pickled")
 
     def set(self, block: Text, value: Setting, at: Optional[SupportsIndex] = None) -> int:
         """Sets a block's value as `Stream.set` does, at any time and from any thread: from its input item `at` on, or from the first that it has not taken. It gives that

@@ -1,12 +1,17 @@
 """What python/magbelu makes of its arguments before it calls the library, over a library that only notes its calls. tests/parts/c.sh calls it."""
 
 import array
+import copy
 import ctypes
 import decimal
 import fractions
+import pathlib
+import pickle
+import re
+import sys
 
 import magbelu
-from magbelu import _library
+from magbelu import _errors, _library
 
 try:
     import numpy
@@ -241,6 +246,76 @@ def pieces_are_items():
     _library._loaded = library
 
 
+def pieces_are_no_items():
+    """What is one piece is no iterable of pieces, and nothing of it is fed."""
+    lone = [array.array("h", [1, 2]), b"\1\2", bytearray(2), memoryview(b"\1\2"), "12", [1, 2], (1, 2), range(3)]
+    lone += [] if numpy is None else [numpy.zeros(2, "i2"), numpy.zeros(0, "i2"), numpy.array(1), [numpy.int16(1)]]
+    for pieces in lone + [5, None]:
+        raises(TypeError, lambda: stream.through(src=pieces))
+    for call in [lambda: graph.feed("src", 5), lambda: graph.feed("src", None)]:
+        assert said_by(call, TypeError).startswith("items are integers in a row, or bytes, and no "), said_by(call, TypeError)
+    assert "through(src=[items])" in said_by(lambda: stream.through(src=[1, 2]), TypeError)
+
+
+def said_by(call, kind):
+    """What is said where a call is refused so."""
+    try:
+        call()
+    except kind as error:
+        return str(error)
+    raise AssertionError("%s is not raised" % kind.__name__)
+
+
+class Refusing(Noting):
+    """The same of a graph whose calls are refused with this number and value."""
+
+    def __init__(self, number, value=0):
+        self.number, self.value = number, value
+
+    def note(self, *words):
+        return _library.Reply(1, self.number, 0, self.value)
+
+
+def refusals_have_reasons():
+    """And a setting that comes too late tells from which item it could be in force."""
+    for number, value, said, first_open in [
+        (27, 0, "27 Late a: the setting begins before the first item that is open, which is 0", 0),
+        (27, 2**40, "27 Late a: the setting begins before the first item that is open, which is 1099511627776", 2**40),
+        (28, 5, "28 NoSetting a: the block has no setting", None),
+        (99, 5, "99  a", None),
+    ]:
+        _library._loaded = Refusing(number, value)
+        for held in [magbelu.Graph(""), magbelu.Stream("")]:
+            for setting in [1, [1, 2]]:
+                try:
+                    held.set("a", setting)
+                except magbelu.Refused as error:
+                    assert (str(error), error.first_open, error.number, error.detail) == (said, first_open, number, "a"), error
+                else:
+                    raise AssertionError("%d is not raised" % number)
+    _library._loaded = library
+
+
+def paths_are_no_texts():
+    for call in [magbelu.Graph, magbelu.Stream, magbelu.check, magbelu.run]:
+        assert "from_file" in said_by(lambda: call(pathlib.Path("graph.toml")), TypeError)
+
+
+def header_has_the_rows():
+    """What python/magbelu says of a refusal is what c/magbelu.h says."""
+    text = (pathlib.Path(sys.argv[1]) / "c" / "magbelu.h").read_text()
+    found = {int(number): (name, reason) for number, name, reason in re.findall(r'\{(\d+), "(\w+)", "([^"]*)"\}', text)}
+    assert found == _errors.ROWS, set(found.items()) ^ set(_errors.ROWS.items())
+
+
+def nothing_held_is_copied():
+    """A copy would free the plant of the first."""
+    for held in [graph, stream]:
+        for call in [copy.copy, copy.deepcopy, lambda it: copy.deepcopy([it]), *(lambda it, n=n: pickle.dumps(it, n) for n in range(pickle.HIGHEST_PROTOCOL + 1))]:
+            raises(TypeError, lambda: call(held))
+    assert graph.close("src") == 0
+
+
 def numpy_items_are_integers():
     """An array whose items stand as those of the source, which has shorts, goes in as it is; the others as numbers, or not."""
     for items in [numpy.array([1, -2], "i2"), numpy.array([0, 1, -2], "i2")[1:], numpy.array([[1, -2], [3, 4]], "i2")[0]]:
@@ -268,6 +343,24 @@ def numpy_numbers_are_whole():
     raises(TypeError, lambda: magbelu.run_items("", [("src", numpy.array([1], "i2"))], []))
 
 
+def masked_items_are_none():
+    """A masked item has no value: the whole array is refused, also where no item of it is masked."""
+    for masked in [numpy.ma.array([1, 2], dtype="i2", mask=[False, True]), numpy.ma.array([1, 2], dtype="i8"), numpy.ma.array([1, 2], dtype="u1", mask=True)]:
+        for call in [
+            lambda: graph.feed("src", masked),
+            lambda: stream.feed("src", masked),
+            lambda: graph.set("a", masked),
+            lambda: stream.drain_into("o", masked),
+            lambda: magbelu.run_items("", [("src", masked)], []),
+        ]:
+            raises(TypeError, call)
+    for item in [numpy.ma.masked, numpy.ma.array(1, mask=True)]:
+        raises(TypeError, lambda: graph.feed("src", [1, item]))
+        raises(TypeError, lambda: graph.set("a", [1, item]))
+        raises(TypeError, lambda: graph.set("a", item))
+        raises(TypeError, lambda: graph.feed("src", b"", [(0, "k", item)]))
+
+
 def numpy_is_read():
     items = graph.read("o")[0]
     assert isinstance(items, numpy.ndarray) and items.dtype == numpy.dtype("i2"), items
@@ -287,7 +380,12 @@ tests = [
     names_are_text,
     raw_inputs_are_bytes,
     pieces_are_items,
-    *([arrays_are_read] if numpy is None else [numpy_items_are_integers, numpy_numbers_are_whole, numpy_is_read]),
+    pieces_are_no_items,
+    refusals_have_reasons,
+    paths_are_no_texts,
+    header_has_the_rows,
+    nothing_held_is_copied,
+    *([arrays_are_read] if numpy is None else [numpy_items_are_integers, numpy_numbers_are_whole, masked_items_are_none, numpy_is_read]),
 ]
 for test in tests:
     test()

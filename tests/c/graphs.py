@@ -285,7 +285,34 @@ def places_of_faults_are_shown():
         (22, "NotSink", lambda: magbelu.run_items(CHAIN % (3 * ("byte",)), [], ["src"])),
     ]:
         error = refuses(number, name, call)
-        assert error.place == "" and "\n" not in str(error), error
+        assert error.place == "" and "\n" not in str(error) and error.reason and str(error).endswith(": " + error.reason), error
+
+
+def late_settings_tell_what_is_open():
+    graph = chain("byte")
+    graph.feed("src", [1, 2, 3, 4])
+    graph.settle()
+    error = refuses(27, "Late", lambda: graph.set("add", 1, at=2))
+    assert (error.first_open, error.detail) == (4, "add") and str(error).endswith("the first item that is open, which is 4"), error
+    assert graph.set("add", 1, at=error.first_open) == 4
+    assert refuses(28, "NoSetting", lambda: graph.set("src", 1)).first_open is None
+
+
+def paths_are_told_from_texts():
+    """Who gives a path in place of a text is told what opens one."""
+    with tempfile.TemporaryDirectory() as folder:
+        path = pathlib.Path(folder) / "graph"
+        path.write_text(CHAIN % (3 * ("byte",)))
+        for text in ["no/such/graph.toml", "graph.toml", str(path)]:
+            for call in [magbelu.Graph, magbelu.Stream, magbelu.check, magbelu.run]:
+                assert "Graph.from_file" in str(refuses(40, "Syntax", lambda: call(text))), text
+        for text in ["graph", "x\ny.toml", "[[block]]"]:
+            try:
+                magbelu.Graph(text)
+            except magbelu.Refused as error:
+                assert "from_file" not in str(error), error
+        path.write_text("x.toml")
+        assert "from_file" not in str(refuses(40, "Syntax", lambda: magbelu.Graph.from_file(path)))
 
 
 def graphs_are_drawn_as_by_flow():
@@ -336,6 +363,8 @@ tests = [
     what_is_wrong_is_refused,
     nothing_is_cut,
     places_of_faults_are_shown,
+    late_settings_tell_what_is_open,
+    paths_are_told_from_texts,
     graphs_are_drawn_as_by_flow,
     threads_call_side_by_side,
     threads_call_one_graph,

@@ -33,14 +33,33 @@ static numbers items_of(magbelu::graph &graph, std::uint64_t from = 0, std::uint
     return numbers(items.begin(), items.end());
 }
 
-static void refuses(std::uint32_t number, const std::string &text, const std::function<void()> &call) {
+/* A call is refused with this text, behind which the reason stands where no place in a file is shown. */
+static void refuses(std::uint32_t number, const std::string &line, const std::function<void()> &call) {
+    const std::string text = line.find('\n') == std::string::npos ? line + ": " + magbelu_reason(number) : line;
     try {
         call();
     } catch (const magbelu::refused &error) {
         must(error.number() == number && error.what() == text, "wanted '" + text + "', and it is '" + error.what() + "'");
+        must(!error.first_open(), "a first item that is open");
         return;
     }
     must(false, "not refused: " + text);
+}
+
+static void reasons_are_told() {
+    must(std::string(magbelu_name(27)) == "Late" && std::string(magbelu_reason(28)) == "the block has no setting", "a name and a reason");
+    must(*magbelu_name(0) == 0 && *magbelu_reason(7) == 0 && *magbelu_name(UINT32_MAX) == 0, "of numbers that no call gives");
+    auto graph = chain("byte");
+    graph.feed("src", {1, 2, 3});
+    graph.settle();
+    try {
+        graph.set("add", 5, 2);
+    } catch (const magbelu::refused &error) {
+        must(error.what() == std::string("27 Late add: the setting begins before the first item that is open, which is 3"), error.what());
+        must(error.number() == MAGBELU_LATE && error.first_open() == 3, "the first item that is open");
+        return;
+    }
+    must(false, "a late setting is taken");
 }
 
 template <class Error>
@@ -166,6 +185,7 @@ static void streams_go_on() {
 }
 
 int main() {
+    reasons_are_told();
     streams_go_on();
     items_come_out();
     settings_and_tags_come_out();

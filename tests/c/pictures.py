@@ -176,8 +176,9 @@ def pictures_are_made():
         except FileNotFoundError:
             return
         raise AssertionError("an SVG without dot")
-    picture = echo().draw("svg")
-    assert picture == echo()._repr_svg_()
+    picture, shown = echo().draw("svg"), echo()._repr_svg_()
+    # A notebook puts what it is shown into its page, where no declaration may stand.
+    assert shown.startswith("<svg") and picture.startswith("<?xml") and picture.endswith(shown), shown[:200]
     names = [it.text for it in xml.etree.ElementTree.fromstring(picture).iter("{http://www.w3.org/2000/svg}title")]
     assert {"src", "late", "sum", "out", "dry"} < set(names), names
 
@@ -190,6 +191,33 @@ def items_are_plotted():
     own = pyplot.subplots()[1]
     assert graph_of("", "", ITEMS, "").plot("out", 2, 1, axes=own) is own
     assert list(own.lines[0].get_xdata()) == [2] and list(own.lines[0].get_ydata()) == [2] and len(own.lines) == 1
+
+
+def labels_cover_no_other():
+    """Labels of tags that are close, or on one item, stand beside one another, each behind its item, and items are numbered by whole numbers."""
+    for tags, count in [
+        ("@1:burst=7/0\n@1:end=-1/0\n@2:x=5/0\n", 4),
+        ("@100:burst=7/0\n@103:end=-1/0\n@105:packet_length=500/0\n@106:a=1/0\n@600:b=2/0\n@601:c=3/0\n", 1000),
+    ]:
+        axes = graph_of("", "", [1] * count, tags).plot("out")
+        axes.figure.canvas.draw()
+        boxes = [it.get_window_extent() for it in axes.texts]
+        assert sum(len(it.get_text().split("\n")) for it in axes.texts) == tags.count("\n")
+        assert not [1 for at, box in enumerate(boxes) for other in boxes[:at] if box.overlaps(other)], boxes
+        for text, box in zip(axes.texts, boxes):
+            assert box.x0 >= axes.transData.transform((text.xy[0], 0))[0] and box.x1 <= axes.figure.bbox.x1, text
+        assert all(it == int(it) for it in axes.get_xticks()), axes.get_xticks()
+
+
+def many_labels_are_counted():
+    """Those for which there is no room are told by their number."""
+    axes = graph_of("", "", [1] * 200, "".join("@%d:key=%d/0\n" % (at, at) for at in range(200))).plot("out")
+    axes.figure.canvas.draw()
+    boxes = [it.get_window_extent() for it in axes.texts]
+    assert not [1 for at, box in enumerate(boxes) for other in boxes[:at] if box.overlaps(other)], "labels cover one another"
+    assert all(it.x1 <= axes.figure.bbox.x1 for it in boxes) and len(axes.lines) == 201
+    *told, last = [it.get_text() for it in axes.texts]
+    assert told == ["key=%d" % at for at in range(len(told))] and last == "%d more" % (200 - len(told)) and len(told) > 20, last
 
 
 def spectra_are_plotted():
@@ -209,7 +237,7 @@ def spectra_are_plotted():
 
 
 tests = [graphs_are_drawn, values_are_those_of_the_file, pictures_are_made]
-tests += [items_are_plotted, spectra_are_plotted] if pyplot is not None else []
+tests += [items_are_plotted, labels_cover_no_other, many_labels_are_counted, spectra_are_plotted] if pyplot is not None else []
 for test in tests:
     test()
 print("c: %d tests of the pictures of python/magbelu passed%s" % (len(tests), "" if pyplot is not None else ", without matplotlib"))

@@ -181,6 +181,9 @@ magbelu_reply magbelu_bytes_set(magbelu_plant *held, const std::uint8_t *name, s
         return refuse(number);
     }
     at = at == MAGBELU_NOW ? in(held).sink.size() : at;
+    if (at < in(held).sink.size()) {
+        return {1, MAGBELU_LATE, 0, in(held).sink.size()};
+    }
     in(held).added[at] = value;
     return {0, 0, 0, at};
 }

@@ -2,11 +2,15 @@
 
 from __future__ import annotations
 
+import copy
 from typing import Any
 
 from joining import chain, equal
 from magbelu import _library
 from magbelu.gnuradio import Flowgraph
+
+
+TEXT = chain("short", '"add", kind = "add_const", value = 10')
 
 
 class Accepting:
@@ -24,10 +28,9 @@ class Accepting:
 
 def graphs_have_outputs() -> None:
     """A graph without an input is a block, but none without an output: GNU Radio would end that with the first of its inputs."""
-    text = chain("short", '"add", kind = "add_const", value = 10')
-    equal([len(it) for it in Flowgraph(text=text).ports], [1, 1])
+    equal([len(it) for it in Flowgraph(text=TEXT).ports], [1, 1])
     equal([len(it) for it in Flowgraph(text='[[block]]\nname = "out"\nkind = "vector_sink"\ntype = "byte"').ports], [0, 1])
-    for wrong in (text.replace("vector_sink", "null_sink"), ""):
+    for wrong in (TEXT.replace("vector_sink", "null_sink"), ""):
         try:
             Flowgraph(text=wrong)
         except ValueError as error:
@@ -36,5 +39,17 @@ def graphs_have_outputs() -> None:
             raise AssertionError("a block without an output")
 
 
+def files_are_named() -> None:
+    """A block without a file, and a copy of one, are refused by what is wrong with them."""
+    for call, part in ((Flowgraph, "graph file"), (lambda: copy.copy(Flowgraph(text=TEXT)), "copied"), (lambda: copy.deepcopy(Flowgraph(text=TEXT)), "copied")):
+        try:
+            call()
+        except TypeError as error:
+            equal(part in str(error), True, str(error))
+        else:
+            raise AssertionError("a block of no file, or a copy")
+
+
 _library._loaded = Accepting()
 graphs_have_outputs()
+files_are_named()

@@ -182,6 +182,34 @@ def refused() -> None:
     equal(list(sink.data()), [11, 12, 13])
 
 
+def inputs_lack() -> None:
+    """Where nothing is connected to an input, GNU Radio says which, and goes on naming its own blocks where one of these lacks an input."""
+    rows = ['{ name = "%s", kind = "vector_source", type = "byte" }' % it for it in ("left", "right")] + ['{ name = "sum", kind = "add", type = "byte" }']
+    rows += ['{ name = "out", kind = "vector_sink", type = "byte" }']
+    ends = '{ from = "left", to = "sum" }, { from = "right", to = "sum", to_port = 1 }, { from = "sum", to = "out" }'
+    graph, top, sink = Flowgraph(text="block = [%s]\nconnect = [%s]" % (", ".join(rows), ends), path="here.toml"), gr.top_block(), blocks.vector_sink_b()
+    top.connect(source("byte", [1, 2]), (graph, 0))
+    top.connect(graph, sink)
+    for call in (top.start, top.run):
+        said = said_by(call, RuntimeError)
+        equal(all(it in said for it in ("here.toml", "input 1", "`right`")) and "copy(" not in said, True, said)
+    top.connect(source("byte", [10, 20]), (graph, 1))
+    top.run()
+    equal((list(sink.data()), graph.outcome), ([11, 22], "done"))
+    other = gr.top_block()
+    other.connect(blocks.copy(1), blocks.null_sink(1))
+    equal(said_by(other.run, RuntimeError).startswith("copy("), True)
+
+
+def said_by(call: Callable[[], object], kind: type[Exception]) -> str:
+    """What is said where a call fails so."""
+    try:
+        call()
+    except kind as error:
+        return str(error)
+    raise AssertionError("%s is not raised" % kind.__name__)
+
+
 def tags() -> None:
     """Tags come in and go out, at the offsets that the graph gives them and with the name of their source; those that it cannot have are counted."""
     text = (TOP / "examples" / "echo" / "graph.toml").read_text().partition("feed = ")[0]

@@ -6,7 +6,7 @@ set -euo pipefail
 # shellcheck source=tests/part.sh
 source "$(dirname -- "$(readlink -f -- "${BASH_SOURCE[0]}")")/../part.sh"
 
-cases=(beside_flow beside_blocks inputs_end graph_ends output_ends stopped tags_after_a_stop stalls refused tags tag_refused settings taps fed_by_file memory companion pages)
+cases=(beside_flow beside_blocks inputs_end inputs_lack graph_ends output_ends stopped tags_after_a_stop stalls refused tags tag_refused settings taps fed_by_file memory companion pages)
 # (Debian's GNU Radio is there for its own Python alone.)
 python=$([[ -x /usr/bin/python3 ]] && echo /usr/bin/python3 || echo python3)
 export PYTHONDONTWRITEBYTECODE=1

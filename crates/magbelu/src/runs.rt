@@ -2,12 +2,12 @@
 //! meantime.
 
 pub use run_stats::{
-    Deed, Event, Figures, GatedWatch, Meter, Observer, Stats, Tracer, Waited, json_report,
-    text_report, write_trace,
+    Deed, Event, Figures, Form, Looks, Measured, Meter, Observer, Stats, Tracer, Waited,
+    json_report, text_report, write_trace,
 };
 pub use threads::{
-    Answer, Call, Caller, CallerId, Desk, Entry, Feed, Finished, Gate, Open, Outcome, RunError,
-    RunFault, RunOptions, Running, Setting, Threading, Turns, launch, launch_with, live, live_with,
-    run, run_with,
+    Answer, Call, Caller, CallerId, Desk, Entry, Feed, Finished, Gate, GatedWatch, Open, Outcome,
+    RunError, RunFault, RunOptions, Running, Setting, Threading, Turns, launch, launch_with, live,
+    live_with, run, run_with,
 };
 pub use top_block::{TopBlock, close_all};
