@@ -1,29 +1,39 @@
 # shellcheck shell=bash disable=SC2154,SC2164,SC2034
 # For ./build to source: has one crate proved, and made into a library, the program, or the library for C. It calls the toolchain's prover itself, as `rt ci` does, for libraries
 # that hold statements and no proofs. Those of `rt lib` hold both, which costs each crate above them dear. They stand in crates/X/out/built, each with a stamp
-# that tells what it was made of; rt reads none of it.
+# that tells what it was made of and what it came out as; rt reads none of it. A library that comes out as it was before, as after the edit of a comment or of a
+# proof, leaves what stands on it as it is.
 
 # Of each crate that was started: its process, and when it began; of each that runs: how many processors it was given.
 declare -A process_of=() began=() jobs_of=()
 # Of each crate whose turn has come: the sum of what its library is made of.
 declare -A sums=()
-# Of each that is proved: the stamp of its library, which is that sum and when it was made. No two libraries have the same.
+# Of each that is proved: the stamp of its library, which is that sum, and one of the library's own files.
 declare -A stamps=()
 
 # out_of CRATE: prints the folder in which what is made of the crate stands
 out_of() { echo "$top/crates/$1/out"; }
 
+# below CRATE: fills `lower_all` with all crates of this repository that it stands on, each after those that it uses
+below() {
+    # (put_in_order fills this one here)
+    local order=()
+    put_in_order "$1"
+    lower_all=("${order[@]:0:${#order[@]}-1}")
+}
+
 # sum_of CRATE: prints a sum of all that its library is made of: its own files, the libraries below, and the toolchain
 sum_of() {
-    local it
+    local it lower_all
+    below "$1"
     {
         echo "$toolchain"
         echo "${line_of[$1]}"
         if [[ $1 == "$c_crate" ]]; then
             shared_name
         fi
-        for it in ${lower[$1]}; do
-            echo "$it ${stamps[$it]}"
+        for it in "${lower_all[@]}"; do
+            echo "$it ${stamps[$it]#* }"
         done
         cd -- "$top/crates/$1"
         for it in src specs proofs; do
@@ -34,11 +44,12 @@ sum_of() {
     } | sha256sum | cut -d ' ' -f 1
 }
 
+# sum_of_made FOLDER: prints a sum of the files in it
+sum_of_made() { (cd -- "$1" && find . -type f -print0 | LC_ALL=C sort -z | xargs -0 sha256sum | sha256sum | cut -d ' ' -f 1); }
+
 # words_of CRATE: fills `words` with those that name the crate and all that it stands on to the prover
 words_of() {
-    local it root=lib
-    # (put_in_order fills this one here)
-    local order=()
+    local it root=lib lower_all
     if [[ $1 == "$program_crate" ]]; then
         root=main
     fi
@@ -50,11 +61,9 @@ words_of() {
             words+=(--extern "$it=$kit/rlibs/$it.rlib")
         fi
     done
-    put_in_order "$1"
-    for it in "${order[@]}"; do
-        if [[ $it != "$1" ]]; then
-            words+=(-L "dependency=$(out_of "$it")/built")
-        fi
+    below "$1"
+    for it in "${lower_all[@]}"; do
+        words+=(-L "dependency=$(out_of "$it")/built")
     done
     words+=(--antt-project "$kit/rattle/logic/antt-project.json" --logic-built "$kit/logic_built" --links "$1=")
 }
@@ -130,7 +139,7 @@ keep() {
         # (what was proved nobody knows)
         sum=edited
     fi
-    stamps[$1]="$sum $EPOCHREALTIME"
+    stamps[$1]="$sum $(sum_of_made "$out/part")"
     echo "${stamps[$1]}" >"$out/part/stamp"
     rm -rf -- "$out/built"
     mv -- "$out/part" "$out/built"

@@ -52,25 +52,36 @@ build_proves_each_crate_once() {
 # root_of CRATE: prints the file at its root
 root_of() { [[ $1 == "$program_crate" ]] && echo src/main.rt || echo src/lib.rt; }
 
+# builds_after CRATE FILE LINE: a line more in the file of this crate
+builds_after() {
+    begin_anew
+    mkdir -p "$(dirname -- "$tree/crates/$1/$2")"
+    echo "$3" >>"$tree/crates/$1/$2"
+    calls 0 ./build_by_link
+}
+
 # builds_after_edit CRATE FILE: an edit of the file of this crate leaves the others below and beside it as they are
 builds_after_edit() {
     local above
-    begin_anew
-    mkdir -p "$(dirname -- "$tree/crates/$1/$2")"
-    echo "// edited" >>"$tree/crates/$1/$2"
     with_those_above "$1"
-    calls 0 ./build_by_link
+    builds_after "$1" "$2" "edited"
     proved "${above[@]}"
 }
 
 edit_proves_what_stands_on_it() {
     local above low=${order[0]} middle=${order[${#order[@]} / 2]}
     builds_after_edit "$low" src/lib.rt
-    builds_after_edit "$middle" proofs/Added.antt
     builds_after_edit "$middle" specs/Added.antt
     builds_after_edit "$program_crate" src/main.rt
+    # What comes out as the same library leaves those above it as they are.
+    builds_after "$low" src/lib.rt "// edited"
+    proved "$low"
+    builds_after "$middle" proofs/Added.antt "edited"
+    proved "$middle"
+    calls 0 env PATH="$room/tools" ./flow_by_link after build
+    writes output "built: after,build"
     begin_anew
-    rm "$tree/crates/$middle/proofs/Added.antt"
+    rm "$tree/crates/$middle/specs/Added.antt"
     sed -i "s/^$program_crate:.*/& num_traits/" "$tree/crates.txt"
     touch "$tree/crates/$low/src/lib.rt" "$tree/HANDLES"
     with_those_above "$middle"
@@ -84,12 +95,10 @@ edit_proves_what_stands_on_it() {
     echo "another toolchain" >"$room/bin/version"
     calls 0 ./build_by_link
     proved "${order[@]}"
-    # (a library that is made again may be another)
     rm -r "$tree/crates/$middle/out"
-    with_those_above "$middle"
     begin_anew
     calls 0 ./build_by_link
-    proved "${above[@]}"
+    proved "$middle"
 }
 
 # The rattle in its place lets each of two crates that stand on the lowest alone wait until the other has begun.

@@ -22,6 +22,9 @@ install_puts_all_in_place() {
     while IFS= read -r file; do
         brings "share/$file" "$top/share/$file"
     done <"$room/files"
+    brings share/doc/magbelu/FORMATS.md "$top/docs/FORMATS.md"
+    brings share/doc/magbelu/examples/echo/graph.toml "$top/examples/echo/graph.toml"
+    [[ -x $elsewhere/a\ prefix/share/doc/magbelu/examples/signal/make.py ]] || wrong "--install brings a script of the examples that cannot be called"
     calls 0 env PATH="$room/tools" "$elsewhere/a prefix/bin/flow" by itself
     writes output "built: by,itself"
     if python3 -c 'import yaml' 2>/dev/null; then
@@ -159,6 +162,17 @@ has_files() {
     [[ -z $(dpkg-deb -c "$tree/out/$package"_*.deb | grep -v ' root/root ') ]] || wrong "$package has files that are not root's"
 }
 
+# program_files: prints those of the package of the program, but for its documents of Debian
+program_files() {
+    local it
+    printf 'usr/%s\n' bin/flow{,-from-grc} share/man/man1/flow{,-from-grc}.1.gz share/bash-completion/completions/flow{,-from-grc} \
+        share/zsh/vendor-completions/_flow{,-from-grc} share/fish/vendor_completions.d/flow{,-from-grc}.fish
+    (cd -- "$top/python" && find flow_from_grc -name '*.py' -printf 'usr/share/magbelu/%p\n')
+    # (dpkg wants long pages compressed, but for examples and pictures)
+    printf 'usr/share/doc/magbelu/%s\n' {C,FORMATS,FOR_GNU_RADIO_USERS,GLOSSARY,KINDS,SPEED}.md.gz {echo,trace}.svg
+    (cd -- "$top" && find examples -path examples/embed -prune -o -type f ! -name '*.pyc' -printf 'usr/share/doc/magbelu/%p\n')
+}
+
 # says PACKAGE FIELD TEXT: its control file
 says() { [[ $(dpkg-deb -f "$tree/out/$1"_*.deb "$2") == "$3" ]] || wrong "$1 has another $2: $(dpkg-deb -f "$tree/out/$1"_*.deb "$2")"; }
 
@@ -178,15 +192,14 @@ deb_makes_packages() {
     has_files libmagbelu1 "$lib/libmagbelu.so.1"
     cmp -s "$room/unpacked/$lib/libmagbelu.so.1" "$built/libmagbelu.so" || wrong "the package has another library"
     says libmagbelu1 Depends libc6
-    has_files libmagbelu-dev usr/include/magbelu.h{,pp} "$lib"/{libmagbelu.a,libmagbelu.so,pkgconfig/magbelu.pc}
+    has_files libmagbelu-dev usr/include/magbelu.h{,pp} "$lib"/{libmagbelu.a,libmagbelu.so,pkgconfig/magbelu.pc} usr/share/doc/libmagbelu-dev/C.md.gz
     grep -qx "prefix=/usr" "$room/unpacked/$lib/pkgconfig/magbelu.pc" || wrong "magbelu.pc has another prefix"
     says libmagbelu-dev Depends "libmagbelu1 (= $version), libc6-dev"
     mapfile -t files < <(cd -- "$top/python/magbelu" && find . -type f ! -name '*.pyc' -printf 'usr/lib/python3/dist-packages/magbelu/%P\n')
-    has_files python3-magbelu "${files[@]}" "usr/$companion"
+    has_files python3-magbelu "${files[@]}" "usr/$companion" usr/share/doc/python3-magbelu/C.md.gz
     says python3-magbelu Depends "libmagbelu1 (>= $version), python3:any (>= 3.9)"
-    mapfile -t files < <(cd -- "$top/python" && find flow_from_grc -name '*.py' -printf 'usr/share/magbelu/%p\n')
-    has_files magbelu usr/bin/flow{,-from-grc} usr/share/man/man1/flow{,-from-grc}.1.gz usr/share/bash-completion/completions/flow \
-        usr/share/zsh/vendor-completions/_flow "${files[@]}"
+    mapfile -t files < <(program_files)
+    has_files magbelu "${files[@]}"
     says magbelu Depends "libc6, python3:any (>= 3.9), python3-yaml"
     [[ $("$room/unpacked/usr/bin/flow" a b) == "built: a,b" ]] || wrong "the package has another program"
     gzip -dc "$room/unpacked/usr/share/man/man1/flow.1.gz" | cmp -s - "$top/share/man/man1/flow.1" || wrong "the package has another man page"

@@ -63,6 +63,19 @@ limits_are_told() {
     rm "$room"/bin/{says,no_answer}
 }
 
+# On a terminal a refusal is explained, unless the words say no, though the program itself sees none.
+terminals_show_places() {
+    local it
+    if ! command -v script >/dev/null; then
+        why_not="there is no command script to make a terminal"
+        return
+    fi
+    for it in "check:check --explain" "check --explain=never:check --explain=never" "run -q:run --explain -q"; do
+        calls 0 script -q -e -c "exec ./flow_by_link ${it%:*} 'a graph.toml' >'$room/words'" /dev/null </dev/null
+        grep -qx "words: ${it#*:} FILE" "$room/words" || wrong "a call of ${it%:*} on a terminal has other words: $(head -n 1 "$room/words")"
+    done
+}
+
 # The flag stands on either side of the file, whose name is shown and not that of its copy.
 places_are_shown() {
     calls 0 ./flow_by_link check "a graph.toml" --explain

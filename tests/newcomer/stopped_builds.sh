@@ -34,7 +34,7 @@ end_without_verdict_is_no_proof() {
     with_those_above "$crate"
     begin_anew
     echo "$crate" >"$room/bin/says_more"
-    echo "// edited" >>"$tree/crates/$crate/src/lib.rt"
+    echo "edited" >>"$tree/crates/$crate/src/lib.rt"
     fails_at "$crate" "and something is left"
     proved "$crate"
     rm "$room/bin/says_more"
@@ -43,7 +43,7 @@ end_without_verdict_is_no_proof() {
     proved "${above[@]}"
 }
 
-# (which of both texts was proved nobody knows, so the next ./build proves the crate again, and those above it)
+# (which of both texts was proved nobody knows, so the next ./build proves the crate again, and those above it where it comes out as another)
 edits_during_a_build_are_seen() {
     local crate above
     for crate in "$program_crate" "${order[1]}"; do
@@ -57,7 +57,7 @@ edits_during_a_build_are_seen() {
         rm "$room/bin/edits"
         begin_anew
         calls 0 ./build_by_link
-        proved "${above[@]}"
+        proved "$crate"
     done
 }
 
@@ -108,7 +108,7 @@ ends_by() {
 interrupted_build_leaves_nothing() {
     local above
     echo "${order[1]}" >"$room/bin/hangs"
-    echo "// edited" >>"$tree/crates/${order[1]}/src/lib.rt"
+    echo "edited" >>"$tree/crates/${order[1]}/src/lib.rt"
     ends_by TERM 143
     ends_by HUP 143
     ends_by INT 130

@@ -32,7 +32,7 @@ try() {
 thin_tree() {
     local it
     printf '%s\n' stream_model: "numbers: stream_model" "settings: stream_model" "items: stream_model numbers" "flow: items settings" \
-        "$program_crate: numbers flow" "$c_crate staticlib: items flow" >"$tree/crates.txt"
+        "$command_crate: numbers flow" "$program_crate: $command_crate" "$c_crate staticlib: items flow" >"$tree/crates.txt"
     cp "$tree/crates.txt" "$room/crates.txt"
     line_of=() uses=() order=()
     top=$tree read_crates

@@ -1,6 +1,6 @@
 #!/usr/bin/env bash
 # What a newcomer meets who calls ./flow and ./build: in a checkout that is not built, that was edited since, from another folder,
-# through a link, without the toolchain, where nothing can be written, beside another ./build, with a crate that is not proved.
+# through a link, without the toolchain, where nothing can be written, beside another ./build, with a crate that is not proved; and what scripts/vendor.sh copies.
 # tests/newcomer/rt_in_its_place stands in the place of the toolchain; tests/parts/toolchain.sh has what goes through that itself. Each case goes on from where
 # the one before it left off, so that all up to the last that is wanted are run.
 set -euo pipefail
@@ -8,11 +8,13 @@ set -euo pipefail
 source "$(dirname -- "$(readlink -f -- "${BASH_SOURCE[0]}")")/../part.sh"
 
 cases=(
+    vendor_brings_what_magbelu_needs
     unproved_runs_pass_all_on
     files_beside_are_refused
     failures_pass_on
     limits_are_told
     places_are_shown
+    terminals_show_places
     without_rt_nothing_is_lost_but_a_line
     edits_are_seen
     build_proves_each_crate_once
@@ -38,7 +40,7 @@ run() {
     local it last
     # shellcheck source=tests/newcomer/tree.sh
     source "$top/tests/newcomer/tree.sh"
-    for it in runs builds library_for_c installs stopped_builds; do
+    for it in runs builds library_for_c installs stopped_builds vendored; do
         # shellcheck source=tests/newcomer/runs.sh
         source "$top/tests/newcomer/$it.sh"
     done
