@@ -8,6 +8,8 @@ lib_folder=lib
 python_folder=
 zsh_folder=share/zsh/site-functions
 list=/dev/null
+# The pages of docs/ for users.
+pages=(C.md FORMATS.md FOR_GNU_RADIO_USERS.md GLOSSARY.md KINDS.md SPEED.md echo.svg trace.svg)
 # Whether places are only tested; and the file that has to go where the script ends now.
 only_tests=0
 half_made=
@@ -16,7 +18,7 @@ half_made=
 version_of_calls() { sed -n 's/^#define MAGBELU_VERSION //p' "$top/c/magbelu.h"; }
 
 # version_of_all: prints the version of the program, and of all that is installed with it
-version_of_all() { sed -n 's/^const VERSION: &str = "\(.*\)";$/\1/p' "$top/crates/$program_crate/src/words.rt"; }
+version_of_all() { sed -n 's/^const VERSION: &str = "\(.*\)";$/\1/p' "$top/crates/$command_crate/src/words.rt"; }
 
 # shared_name: prints the name of the library that programs load, by which those that were linked with it look for it
 shared_name() { echo "libmagbelu.so.$(version_of_calls)"; }
@@ -65,20 +67,40 @@ put_link() { put_by "$2" ln -s -- "$1"; }
 
 # put_all FOLDER PLACE: all files below the folder, but for what Python has compiled
 put_all() {
-    local file
+    local file mode
     while IFS= read -r file; do
-        put 644 "$1/$file" "$2/$file"
+        mode=644
+        if [[ -x $1/$file ]]; then
+            mode=755
+        fi
+        put "$mode" "$1/$file" "$2/$file"
     done < <(cd -- "$1" && find . -type f ! -name '*.pyc' -printf '%P\n' | LC_ALL=C sort)
 }
 
-# put_program: flow and flow-from-grc, with their man pages and completions
+# put_documents_of_all: the pages for users, and the examples but for the program in Rattle
+put_documents_of_all() {
+    local it
+    for it in "${pages[@]}"; do
+        put 644 "$top/docs/$it" "share/doc/magbelu/$it"
+    done
+    for it in "$top"/examples/*/; do
+        it=$(basename -- "$it")
+        if [[ $it != embed ]]; then
+            put_all "$top/examples/$it" "share/doc/magbelu/examples/$it"
+        fi
+    done
+}
+
+# put_program: flow and flow-from-grc, with their man pages, completions, documents and examples
 put_program() {
     put 755 "$program" bin/flow
     put 755 "$top/flow-from-grc" bin/flow-from-grc
     put_all "$top/share/man" share/man
     put_all "$top/share/bash-completion" share/bash-completion
     put_all "$top/share/zsh/site-functions" "$zsh_folder"
+    put_all "$top/share/fish" share/fish
     put_all "$top/python/flow_from_grc" share/magbelu/flow_from_grc
+    put_documents_of_all
 }
 
 # put_shared: the library that programs load

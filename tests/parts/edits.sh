@@ -1,6 +1,7 @@
 #!/usr/bin/env bash
 # What holds the edits that must fail: each can be made of the sources as they stand, `mutants/held` refuses an edit that names another clause than the log of `rt ci`,
-# and `mutants/try` ends as the prover does on the mutants that it lays into a copy, by a stand-in for `rt` that says which it was given.
+# `mutants/try` ends as the prover does on the mutants that it lays into a copy, by a stand-in for `rt` that says which it was given, and `mutants/bare` as it does without
+# the answers of a function.
 set -euo pipefail
 # shellcheck source=tests/part.sh
 source "$(dirname -- "$(readlink -f -- "${BASH_SOURCE[0]}")")/../part.sh"
@@ -142,3 +143,25 @@ tries 'a crate without mutants' 2 'there is no mutants/flow_program' 0 flow_prog
 git -C "$room/checkout" init -q
 git -C "$room/checkout" -c user.name=a -c user.email=a@b commit -q --allow-empty -m one
 tries 'in turn, of crates above few others' 0 'try: the mutants of small' 0 --in-turn
+
+# A checkout of a crate with an edit of a function that has answers of its own. The stand-in says what it finds, and proves the function where it is told to.
+mkdir -p "$room/bare/mutants/small" "$room/bare/crates/small/src" "$room/bare/crates/small/proofs/pair/PairAddsU8/sum"
+cp -- "$top/mutants/bare" "$room/bare/mutants"
+cp -- "$room/checkout/HANDLES" "$room/checkout/crates.txt" "$room/bare"
+cp -- "$room/checkout/crates/small/src/pair.rt" "$room/bare/crates/small/src"
+touch "$room/bare/crates/small/proofs/pair/PairAddsU8/sum/Answers.antt"
+printf 'file: src/pair.rt\nold: self.a + self.b\nnew: self.a\n' >"$room/bare/mutants/small/half.edit"
+cat >"$room/bin/rt" <<'END'
+#!/usr/bin/env bash
+echo "goal: rt $*, $(grep -c 'self.a$' src/pair.rt) edited, $(find proofs -name Answers.antt | wc -l) answers"
+exit "$REFUSES"
+END
+
+# bares NAME STATUS TEXT REFUSES: `bare` of that crate
+bares() {
+    expect "$1" "$2" "$3" env PATH="$room/bin:$PATH" REFUSES="$4" "$room/bare/mutants/bare" small
+}
+
+bares 'a wrong body without its answers' 0 'small/half.edit: refused: goal: rt check --only pair::PairAddsU8::sum, 1 edited, 0 answers' 1
+bares 'a wrong body that the clauses let through' 1 'small/half.edit: LET THROUGH' 0
+expect 'bare of no crate' 2 'it takes names of crates' "$room/bare/mutants/bare" none
