@@ -48,7 +48,7 @@ put_everything() {
 
 # tell_installed: what was put where
 tell_installed() {
-    echo "build: installed $root/bin/flow, with its man page and completions for bash and zsh" >&2
+    echo "build: installed $root/bin/flow, with its man page, completions for bash, zsh and fish, and examples in $root/share/doc/magbelu" >&2
     if [[ :$PATH: != *":$root/bin:"* ]]; then
         echo "build: $root/bin is not in PATH" >&2
     fi

@@ -30,26 +30,29 @@ libc_of_built() {
 # is_binary FILE: whether it is a program, a library or an archive
 is_binary() { head -c 7 -- "$1" | LC_ALL=C grep -qaE $'^(\x7fELF|!<arch>)'; }
 
-# finish_files: man pages are compressed, symbols that nobody calls go, and the script has the Python of the system
+# finish_files: man pages and long documents are compressed, symbols that nobody calls go, and scripts have the Python of the system
 finish_files() {
     local file
     while IFS= read -r file; do
         gzip -9n -- "$file"
-    done < <(find "$root/share/man" -type f 2>/dev/null)
+    done < <(find "$root" -type f \( -path "$root/share/man/*" -o -path "$root/share/doc/*.md" ! -path '*/examples/*' -size +4096c \))
     while IFS= read -r file; do
-        if is_binary "$file" && command -v strip >/dev/null; then
+        if ! is_binary "$file"; then
+            [[ ! -x $file ]] || sed -i '1s|^#!/usr/bin/env python3$|#!/usr/bin/python3|' "$file"
+        elif command -v strip >/dev/null; then
             strip --strip-unneeded --remove-section=.comment -- "$file"
         fi
     done < <(find "$root" -type f)
-    if [[ -e $root/bin/flow-from-grc ]]; then
-        sed -i '1s|.*|#!/usr/bin/python3|' "$root/bin/flow-from-grc"
-    fi
 }
 
-# put_documents PACKAGE: its copyright and its changelog
+# put_documents PACKAGE: its copyright and its changelog, and the page of the calls where they are made from another language
 put_documents() {
+    local at=$root/share/doc/$1
     put 644 "$debian/copyright" "share/doc/$1/copyright"
-    filled "$debian/changelog" | gzip -9n >"$root/share/doc/$1/changelog.gz"
+    filled "$debian/changelog" | gzip -9n >"$at/changelog.gz"
+    if [[ $1 == *-dev || $1 == python3-* ]]; then
+        gzip -9n <"$top/docs/C.md" >"$at/C.md.gz"
+    fi
 }
 
 # write_control PACKAGE: what dpkg reads of it

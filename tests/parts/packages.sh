@@ -1,7 +1,7 @@
 #!/usr/bin/env bash
-# The packages for Debian that ./build --deb has made of these sources, in a fresh Debian of their own without the toolchain: README's first command, the program of
-# docs/C.md in C, the package for Python, the block of GNU Radio, and that nothing of them stays. It takes root, debootstrap and some minutes of a network, so ./test tries it by its
-# name alone. What debootstrap brings is kept at $MAGBELU_DEBIAN for a next run, where that names a folder.
+# The packages for Debian that ./build --deb has made of these sources, in a fresh Debian of their own without the toolchain: README's first command on the example
+# that they bring, the program of docs/C.md in C, the package for Python, the block of GNU Radio, and that nothing of them stays. It takes root, debootstrap and some
+# minutes of a network, so ./test tries it by its name alone. What debootstrap brings is kept at $MAGBELU_DEBIAN for a next run, where that names a folder.
 set -euo pipefail
 # shellcheck source=tests/part.sh
 source "$(dirname -- "$(readlink -f -- "${BASH_SOURCE[0]}")")/../part.sh"
@@ -24,7 +24,7 @@ lacks() {
     fi
     for it in "$top"/out/*.deb; do
         if [[ ! -e $it ]] || ! is_fresh "$it" "$program_crate" || ! is_fresh "$it" "$c_crate" ||
-            [[ -n $(find "$top"/{c,python,scripts,share} -type f ! -name '*.pyc' -newer "$it") ]]; then
+            [[ -n $(find "$top"/{c,docs,examples,python,scripts,share} -type f ! -name '*.pyc' -newer "$it") ]]; then
             echo "./build --deb has made no packages of these sources"
             return
         fi
@@ -73,16 +73,19 @@ lintian_is_silent() {
     [[ -z $said ]] || { echo "$said" && return 1; }
 }
 
+# As docs/FOR_GNU_RADIO_USERS.md has it; and the script among the examples that makes a recording.
 first_command_runs() {
-    cp -- "$top/examples/echo/graph.toml" "$system/root"
-    gives "$(<"$top/examples/echo/expected_run")" flow run /root/graph.toml
+    local examples=/usr/share/doc/magbelu/examples
+    grep -qxF "\$ flow run $examples/echo/graph.toml" "$top/docs/FOR_GNU_RADIO_USERS.md"
+    gives "$(<"$top/examples/echo/expected_run")" flow run "$examples/echo/graph.toml"
+    gives "$(grep -h recording "$top/examples/signal/SHA256SUMS")" sh -c "cd /root && $examples/signal/make.py recording recording.s16 && sha256sum recording.s16"
 }
 
 program_in_c_runs() {
     first_program "$top/docs/C.md" >"$system/root/program.c"
     # shellcheck disable=SC2016
     inside sh -c 'cd /root && cc program.c $(pkg-config --cflags --libs magbelu) -o program'
-    gives "$(<"$top/examples/echo/expected_run")" sh -c '/root/program </root/graph.toml'
+    gives "$(<"$top/examples/echo/expected_run")" sh -c '/root/program </usr/share/doc/magbelu/examples/echo/graph.toml'
 }
 
 python_runs() {

@@ -1,10 +1,10 @@
 #!/usr/bin/env bash
-# What ./flow and ./build do with the toolchain itself: one run unproved, and one build of three crates. It takes minutes, so ./test tries it by its name alone.
+# What ./flow and ./build do with the toolchain itself: one run unproved, and one build of three crates; and a program in a repository of its own. It takes minutes, so ./test tries it by its name alone.
 set -euo pipefail
 # shellcheck source=tests/part.sh
 source "$(dirname -- "$(readlink -f -- "${BASH_SOURCE[0]}")")/../part.sh"
 
-cases=(real_run_is_unproved real_build_proves_and_links)
+cases=(real_run_is_unproved real_build_proves_and_links vendored_program_runs)
 
 list() { printf 'toolchain/%s\n' "${cases[@]}"; }
 
