@@ -240,6 +240,7 @@ fn answer_of<R: Threads + Wait + Clock + Copy + Send + Sync + 'static>(
         alloc,
         command,
         Verbosity::WithNotes,
+        "",
         file.as_bytes(),
         &mut input,
         &mut output,

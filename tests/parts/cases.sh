@@ -189,7 +189,7 @@ terminals_explains() { on_terminal $'flow: refused 51 Read no/such/file\n --> no
 terminals_never() { on_terminal 'flow: refused 51 Read no/such/file' run --explain=never no/such/file; }
 terminals_place() {
     printf '[[block]]\nname = "a"\nkind = "add_cnst"\n' >"$room/place.toml"
-    on_terminal "flow: refused 44 UnknownKind block 0
+    on_terminal "flow: refused 44 UnknownKind block 0 in $room/place.toml
  --> $room/place.toml:3:8
   |
 3 | kind = \"add_cnst\"

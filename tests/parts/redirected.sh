@@ -141,7 +141,7 @@ closed_streams() {
 }
 
 closed_input_is_no_empty_one() {
-    ends 4 run -i src=- -o out=o "$plain" <&- >so 2>errors && has errors 'flow: refused 51 Read input 0\n' && has so ''
+    ends 4 run -i src=- -o out=o "$plain" <&- >so 2>errors && has errors 'flow: refused 51 Read input 0 in src=-\n' && has so ''
 }
 
 links_to_no_file() {
@@ -157,7 +157,7 @@ links_to_no_file() {
         ends 2 run -i src=in -o out="$one" "$plain" >real 2>real && refused real 'items, tags or a trace would go to standard error, which tells how the run ended' || return
         rm real
     done
-    ends 4 run -i src=in -o out=round "$plain" >so 2>errors && has errors 'flow: refused 52 Write output 0\n'
+    ends 4 run -i src=in -o out=round "$plain" >so 2>errors && has errors 'flow: refused 52 Write output 0 in out=round\n'
 }
 
 link_to_a_file_that_is_made() {
@@ -216,6 +216,6 @@ nobody_reads_a_report_of_a_traced_run() {
 
 full_device() {
     ends 4 run -i src=in -o out=o "$plain" >/dev/full 2>errors && is o wanted && has errors 'flow: refused 52 Write\n' || return
-    ends 4 run -i src=in -o out=- "$plain" >/dev/full 2>errors && has errors 'flow: refused 52 Write output 0\n' || return
+    ends 4 run -i src=in -o out=- "$plain" >/dev/full 2>errors && has errors 'flow: refused 52 Write output 0 in out=-\n' || return
     ends 4 run -i src=in -o out=/dev/full "$plain" >so 2>/dev/full && has so ''
 }

@@ -248,10 +248,12 @@ fn is_reported(
 ) -> Result<(), Fail> {
     assert_eq!(rt; fault.to_string(alloc)?.as_str(), text);
     assert_eq!(rt; fault.status(), status, "{text}");
-    let mut errors = output(alloc, usize::MAX);
-    report_raw(&fault, &mut errors);
-    let line = format!(in alloc; "flow: refused {text}\n")?;
-    assert_eq!(rt; errors.bytes.as_slice(), line.as_bytes());
+    for (name, behind) in [("", ""), ("out=so", " in out=so")] {
+        let mut errors = output(alloc, usize::MAX);
+        report_raw(&fault, name, &mut errors);
+        let line = format!(in alloc; "flow: refused {text}{behind}\n")?;
+        assert_eq!(rt; errors.bytes.as_slice(), line.as_bytes());
+    }
     Ok(())
 }
 

@@ -70,7 +70,7 @@ fn is_refused<R: Threads + Wait + Clock + Copy + Send + Sync + 'static>(
     status: u8,
 ) -> bool {
     let left = served(rt, alloc, GOOD, command, file, "");
-    match format!(in alloc; "flow: refused {refusal}\n") {
+    match format!(in alloc; "flow: refused {refusal} in g.toml\n") {
         Ok(line) => left.is(b"", line.as_str(), status),
         Err(_) => false,
     }

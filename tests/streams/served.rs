@@ -87,6 +87,7 @@ pub fn served_with<R: Threads + Wait + Clock + Copy + Send + Sync + 'static>(
         alloc,
         command,
         verbosity,
+        "g.toml",
         file,
         &mut input,
         &mut output,

@@ -279,6 +279,7 @@ fn a_run_of_each_way_is_counted(rt: HostRuntime) -> Result<(), Fail> {
             alloc,
             action,
             Verbosity::WithNotes,
+            "",
             GRAPH.as_bytes(),
             &mut input,
             &mut output,

@@ -64,6 +64,7 @@ fn shown<R: Threads + Wait + Clock + Copy + Send + Sync + 'static>(
             alloc,
             Action::RunAlone,
             Verbosity::WithNotes,
+            "",
             GRAPH.as_bytes(),
             &mut ReadEnd::new(b"".as_slice()),
             &mut output,

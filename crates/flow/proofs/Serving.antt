@@ -1,6 +1,6 @@
 -- From a graph file to its plant, and the line that tells a fault.
 use Rattle.std.proofs.Common.{◌≡◌, ℕ, suc, ◌+◌, List, [], ◌∷◌, ◌++◌, length, length-append, take, drop, get_or, ◌<◌, append_assoc, arith, map, Some, None, Bool, true, refl, ap, sym, ◌∙◌, subst, inl, inr}
-use Rattle.std.specs.Prelude.{Option, Result, Ok, Err, position, bytes_eq, OnOk, OnErr, is_ok, if◌then◌else◌}
+use Rattle.std.specs.Prelude.{Option, Result, Ok, Err, position, bytes_eq, OnOk, OnErr, is_ok, codes, false, ◌==◌, if◌then◌else◌}
 use Rattle.std.specs.List.{flat_map}
 use Rattle.std.specs.Str.{IsUtf8, is_utf8}
 use Rattle.std.specs.Io.KnownBytes.{Appends}
@@ -25,6 +25,7 @@ use Rattle.reporting.specs.Ends.{AppendsBeginning}
 use Rattle.reporting.specs.declared.ends.Broken.{Broken}
 use Rattle.plant.proofs.Idles.{idle-same, opening-idle}
 use Rattle.streaming.proofs.Idles.{feed_numbers-progress}
+use Rattle.flow.specs.Faults.{found_in}
 use Rattle.flow.specs.Serve.{Stream, Tries, content_in}
 
 -- what is read of a text
@@ -124,3 +125,8 @@ module _ {X : Type 0} (f : X → List ℕ) (xs : List X) (i : ℕ) (x : X) (end 
   pub tries_no_more : i < length xs → AppendsBeginning a b (f (get_or xs i x)) → n ≡ m + 1 → Tries (record { bytes = a; failed = m }) (record { bytes = b; failed = n }) (flat_map f (drop i xs) ++ end)
   tries_no_more in' h e =
       subst (Tries (record { bytes = a; failed = m }) (record { bytes = b; failed = n })) (sym (split in')) (tries_not a b m n (f (get_or xs i x)) (flat_map f (drop (i + 1) xs) ++ end) h e)
+
+-- what has a name is named
+pub found_in-some : (name : List ℕ) → (length name == 0) ≡ false → found_in name ≡ codes " in " ++ name
+found_in-some [] none = cc
+found_in-some (c ∷ name) some = refl

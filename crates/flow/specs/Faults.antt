@@ -1,5 +1,5 @@
 -- How the program says why it stops.
-use Rattle.std.specs.Prelude.{ℕ, List, [], ◌++◌, ◌==◌, codes, if◌then◌else◌}
+use Rattle.std.specs.Prelude.{ℕ, List, [], ◌∷◌, ◌++◌, ◌==◌, codes, if◌then◌else◌}
 use Rattle.std.specs.Fmt.{decimal}
 use Rattle.graph_file.specs.declared.fault.FileFault.{FileFault}
 use Rattle.graph_file.specs.Refusals as files
@@ -40,9 +40,20 @@ fault_text (File fault) = file_text fault
 fault_text (Script fault) = script_fault_text fault
 fault_text (Run fault) = head (runs.row_of fault)
 
--- the line that tells a fault
-abbrev pub fault_line : Fault → List ℕ
-fault_line fault = line_text (codes "flow: refused " ++ fault_text fault)
+-- what stands behind a fault: the name of what it is found in, if that has one
+abbrev pub found_in : List ℕ → List ℕ
+found_in [] = []
+found_in (c ∷ name) = codes " in " ++ c ∷ name
+
+-- a fault of the graph file is found in the file of that name
+abbrev pub file_of : List ℕ → Fault → List ℕ
+file_of name (File fault) = name
+file_of name (Script fault) = []
+file_of name (Run fault) = []
+
+-- the line that tells a fault, where the graph file has that name
+abbrev pub fault_line : List ℕ → Fault → List ℕ
+fault_line name fault = line_text (codes "flow: refused " ++ fault_text fault ++ found_in (file_of name fault))
 
 -- the number of out of memory
 abbrev pub memory_number : ℕ

@@ -5,7 +5,7 @@ use Rattle.reporting.specs.Texts.{head}
 use Rattle.script_text.specs.Replies.{line_text}
 use Rattle.plant.specs.declared.fault.PlantFault.TheVariants as plant
 use Rattle.plant.specs.Fault as plants
-use Rattle.flow.specs.Faults.{row_of, fault_text, status_of}
+use Rattle.flow.specs.Faults.{row_of, fault_text, found_in, status_of}
 use Rattle.flow.specs.declared.raw_fault.EndFault.{EndFault}
 use Rattle.flow.specs.declared.raw_fault.EndFault.TheVariants.{NoSuchBlock, NotSource, NotSink, Closed, TapeFull, Read, Write, CutItem, BadLine, TagPlace}
 use Rattle.flow.specs.declared.raw_fault.EndPlace.{EndPlace}
@@ -58,9 +58,9 @@ abbrev pub raw_fault_text : RawFault → List ℕ
 raw_fault_text (Whole fault) = fault_text fault
 raw_fault_text (End place fault) = head (end_row fault) ++ place_text place ++ line_text_of fault
 
--- the line that tells a fault
-abbrev pub raw_fault_line : RawFault → List ℕ
-raw_fault_line fault = line_text (codes "flow: refused " ++ raw_fault_text fault)
+-- the line that tells a fault, found in what has that name
+abbrev pub raw_fault_line : List ℕ → RawFault → List ℕ
+raw_fault_line name fault = line_text (codes "flow: refused " ++ raw_fault_text fault ++ found_in name)
 
 -- the exit status that it brings: 4 for devices
 abbrev pub end_status_of : EndFault → ℕ

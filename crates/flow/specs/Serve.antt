@@ -301,11 +301,11 @@ Remarks WithNotes None old new = new ≡ old
 Remarks Quiet stalled old new = new ≡ old
 
 -- a command was done, and no fault is reported, but why a run stalled may be explained; or it was not, the fault is reported, and the status is the one
--- that it brings
-pub data Serves (verbosity : Verbosity) (c : Action) (file : List ℕ) (input input' output output' errors errors' : Stream) : ℕ → Type 0 where
+-- that it brings; the graph file has that name
+pub data Serves (verbosity : Verbosity) (c : Action) (name file : List ℕ) (input input' output output' errors errors' : Stream) : ℕ → Type 0 where
   Well : (status : ℕ) (stalled : Option Opened) → Does c file input.bytes input'.bytes output.bytes output'.bytes status stalled →
       Grows c input.failed input'.failed 0 → Grows c output.failed output'.failed 0 → Remarks verbosity stalled errors errors' →
-      Serves verbosity c file input input' output output' errors errors' status
+      Serves verbosity c name file input input' output output' errors errors' status
   Badly : (fault : Fault) → DoesNot c file input.bytes input'.bytes output.bytes output'.bytes fault →
-      Grows c input.failed input'.failed (reads_failed fault) → Grows c output.failed output'.failed (writes_failed fault) → Tries errors errors' (fault_line fault) →
-      Serves verbosity c file input input' output output' errors errors' (status_of fault)
+      Grows c input.failed input'.failed (reads_failed fault) → Grows c output.failed output'.failed (writes_failed fault) → Tries errors errors' (fault_line name fault) →
+      Serves verbosity c name file input input' output output' errors errors' (status_of fault)

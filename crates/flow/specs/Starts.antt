@@ -33,10 +33,10 @@ trace_fault _ = NoTrace
 abbrev pub start_text : StartFault → List ℕ
 start_text NoText = line_text (codes "error: a word is no UTF-8")
 start_text BadWords = []
-start_text NoFile = fault_line (Script script.Read)
+start_text NoFile = fault_line [] (Script script.Read)
 start_text NoTrace = line_text (codes "flow: refused 52 Write trace")
-start_text NoOutput = fault_line (Script script.Write)
-start_text Memory = fault_line (Script script.Memory)
+start_text NoOutput = fault_line [] (Script script.Write)
+start_text Memory = fault_line [] (Script script.Memory)
 
 -- the exit status: 2 for words
 abbrev pub start_status : StartFault → ℕ

@@ -43,7 +43,7 @@ impl Refusal for Fault {
 
 impl Fault {
     ghost use Rattle.reporting.specs.Texts.{refusal_text};
-    ghost use Rattle.flow.specs.Faults.{fault_text, status_of};
+    ghost use Rattle.flow.specs.Faults.{fault_text, file_of, status_of};
 
     /// The exit status that the fault brings: 4 for memory, devices and threads, 1 for every other refusal.
     pub fn status(&self) -> u8
@@ -54,6 +54,16 @@ impl Fault {
             Fault::File(_) | Fault::Script(ScriptFault::BadLine(_)) => 1,
             Fault::Script(ScriptFault::Read | ScriptFault::Write | ScriptFault::Memory)
             | Fault::Run(_) => 4,
+        }
+    }
+
+    /// What the fault is found in: the graph file, which has this name. It is empty where the file is not to blame.
+    pub fn found_in<'a>(&self, name: &'a str) -> &'a str
+        ensures { result.now ≡ file_of name.now self.now }
+    {
+        match self {
+            Fault::File(_) => name,
+            Fault::Script(_) | Fault::Run(_) => "",
         }
     }
 

@@ -1,7 +1,7 @@
 //! What the program `flow` does with a graph file and its standard streams, over any source and place of bytes.
 //!
 //! ```text
-//! let status = serve(rt, alloc, Action::Run(Threading::Adaptive), Verbosity::WithNotes, file, &mut input, &mut output, &mut errors, gate, &mut watch);
+//! let status = serve(rt, alloc, Action::Run(Threading::Adaptive), Verbosity::WithNotes, name, file, &mut input, &mut output, &mut errors, gate, &mut watch);
 //! ```
 //!
 //! `serve` is all of it: its contract says which bytes come out for which bytes of the file and the input, and which status. Below it:

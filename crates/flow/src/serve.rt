@@ -51,7 +51,7 @@ pub enum Verbosity {
 }
 
 /// Does an action. The status is 0 where all went well, 3 for a run that stalled, 1 for a refused file or line, and 4 for memory and devices; with
-/// 1 and 4 one line on `errors` says why. With 3, unless the program is to be quiet, lines say what the blocks wait for. Whether these writes succeed changes
+/// 1 and 4 one line on `errors` says why, with the `name` of the file, if it has one, where the file is refused. With 3, unless the program is to be quiet, lines say what the blocks wait for. Whether these writes succeed changes
 /// nothing. A run is shown to `watch` while it goes on, and is over for it before anything is written; where there is a gate, the run passes it.
 pub fn serve<
     G: Gate + Drop + Send + Sync + 'static,
@@ -65,6 +65,7 @@ pub fn serve<
     alloc: Global,
     action: Action,
     verbosity: Verbosity,
+    name: &str,
     file: &[u8],
     input: &mut I,
     output: &mut O,
@@ -75,7 +76,7 @@ pub fn serve<
     requires reads { I.failed input.old < 2 ^ 64 - 1 }
     requires writes { O.failed output.old < 2 ^ 64 - 1 }
     requires reports { E.failed errors.old < 2 ^ 64 - 1 }
-    ensures { Serves verbosity action file.now (stream (I.remaining input.old) (I.failed input.old)) (stream (I.remaining input.new) (I.failed input.new)) (stream (O.contents output.old) (O.failed output.old)) (stream (O.contents output.new) (O.failed output.new)) (stream (E.contents errors.old) (E.failed errors.old)) (stream (E.contents errors.new) (E.failed errors.new)) result }
+    ensures { Serves verbosity action name.now file.now (stream (I.remaining input.old) (I.failed input.old)) (stream (I.remaining input.new) (I.failed input.new)) (stream (O.contents output.old) (O.failed output.old)) (stream (O.contents output.new) (O.failed output.new)) (stream (E.contents errors.old) (E.failed errors.old)) (stream (E.contents errors.new) (E.failed errors.new)) result }
 {
     match obey(rt, alloc, action, file, input, output, gate, watch) {
         Ok(ended) => {
@@ -84,7 +85,7 @@ pub fn serve<
         }
         Err(fault) => {
             let status = fault.status();
-            report(&fault, errors);
+            report(&fault, name, errors);
             status
         }
     }

@@ -25,7 +25,7 @@ use crate::listing::{print_kinds, print_text};
 use crate::measuring::{measured_for, tell_times};
 use crate::overwriting::{ReportStream, report_stream};
 use crate::raw::run_raw;
-use crate::refusing::{begins_none, begins_none_of, buffered};
+use crate::refusing::{begins_none, begins_none_of, buffered, shown_name};
 use crate::terminal::Terminal;
 use crate::tracing::{tell_trace, trace_file_for};
 use crate::words::{Asked, Call, asked_by, refusal_of};
@@ -131,11 +131,13 @@ fn serve_file<R: Threads + Wait + Clock + CpuClock + Copy + Send + Sync + 'stati
     let mut input = KeptLines::new(rt.alloc(), reader, call.explains);
     let mut output = WriteEnd::new(Noted::new(std::io::writer(rt)));
     let mut errors = buffered(rt.alloc(), rt.stderr());
+    let name = shown_name(rt.alloc(), call.path);
     let status = serve(
         threads,
         rt.alloc(),
         call.action,
         call.verbosity(),
+        name.as_str(),
         file,
         &mut input,
         &mut output,

@@ -4,8 +4,8 @@ use crate::ends::Ends;
 use crate::gone_reader::tell_gone;
 use crate::joins::{Kept, join_inputs, join_marks, join_outputs};
 use crate::overwriting::ReportStream;
-use crate::refusing::buffered;
-use crate::stops::{Stop, Stream, explain, stop_of, unread_name};
+use crate::refusing::{buffered, shown_name};
+use crate::stops::{Stop, Stream, explain, found_in, stop_of, unread_name};
 use crate::words::Call;
 use flow::command_output::status_of;
 use flow::fault::Fault;
@@ -51,7 +51,9 @@ pub fn run_raw<R: Threads + Wait + Clock + Copy + Send + Sync + 'static, W: Watc
             let status = match unread_name(&fault, &reason, &call.ends) {
                 Some(name) => tell_gone(rt, call, name),
                 None => {
-                    report_raw(&fault, &mut errors);
+                    let place = found_in(rt, &call.ends, call.path, &fault);
+                    let name = shown_name(rt.alloc(), place.as_str());
+                    report_raw(&fault, name.as_str(), &mut errors);
                     let _ = errors.writer.flush();
                     fault.status()
                 }

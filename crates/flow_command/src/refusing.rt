@@ -56,6 +56,14 @@ pub fn begins_none_of(rt: &HostRuntime, fault: StartFault, path: &str) -> u8 {
     tell(rt, fault, named)
 }
 
+/// The name of a file as it is shown; empty where memory runs out.
+pub fn shown_name(alloc: Global, path: &str) -> String {
+    match shown(alloc, path.as_bytes()) {
+        Ok(name) => name,
+        Err(_) => String::new(alloc),
+    }
+}
+
 // Tells why no command is begun, by the line that names what keeps it, where there is one.
 fn tell(rt: &HostRuntime, fault: StartFault, named: Option<String>) -> u8 {
     match named {

@@ -161,6 +161,24 @@ pub fn unread_name<'a>(
     }
 }
 
+/// What a fault is found in: the graph file of that name, or the word for an end. It is empty where neither is to blame, or where memory runs out.
+pub fn found_in(rt: &HostRuntime, ends: &Ends<'_>, file: &str, fault: &RawFault) -> String {
+    let word = match fault {
+        RawFault::Whole(fault) => String::from_str(rt.alloc(), fault.found_in(file)).ok(),
+        RawFault::End(place, _) => word_at(rt, ends, *place),
+    };
+    match word {
+        Some(word) => word,
+        None => String::new(rt.alloc()),
+    }
+}
+
+// The word for an end; none where memory runs out.
+fn word_at(rt: &HostRuntime, ends: &Ends<'_>, place: EndPlace) -> Option<String> {
+    let NamedEnd { block, path } = end_at(ends, place)?;
+    format!(in rt.alloc(); "{block}={path}").ok()
+}
+
 // What the word for an end names.
 fn end_at<'a>(ends: &Ends<'a>, place: EndPlace) -> Option<NamedEnd<'a>> {
     let end = match place {
@@ -195,10 +213,7 @@ pub fn explain(
         RawFault::Whole(_) => return,
         RawFault::End(place, fault) => (*place, *fault),
     };
-    let Some(NamedEnd { block, path }) = end_at(&call.ends, place) else {
-        return;
-    };
-    let Ok(word) = format!(in rt.alloc(); "{block}={path}") else {
+    let Some(word) = word_at(rt, &call.ends, place) else {
         return;
     };
     match reason {

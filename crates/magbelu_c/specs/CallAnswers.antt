@@ -24,7 +24,7 @@ pub record ToldWell (text : List ℕ) (status : ℕ) (out out' : List ℕ) (a : 
 
 -- the line of a fault, or a beginning of it where memory ran out
 abbrev pub IsLineOf : Fault → List ℕ → Type 0
-IsLineOf fault line = (failed : ℕ) × Tries (stream (Some []) 0) (stream (Some line) failed) (fault_line fault)
+IsLineOf fault line = (failed : ℕ) × Tries (stream (Some []) 0) (stream (Some line) failed) (fault_line [] fault)
 
 -- a call was not done, for a fault; a text was made before
 pub record ToldBadly (text : List ℕ) (fault : Fault) (out out' err err' : List ℕ) (a : Answer) : Type 0 where
@@ -54,7 +54,7 @@ WasNotScripted file script text fault = (rest : Option (List ℕ)) × StopsScrip
 pub record ToldRaw (fault : RawFault) (err err' : List ℕ) (a : Answer) : Type 0 where
   pub line : List ℕ
   pub failed : ℕ
-  pub tells : Tries (stream (Some []) 0) (stream (Some line) failed) (raw_fault_line fault)
+  pub tells : Tries (stream (Some []) 0) (stream (Some line) failed) (raw_fault_line [] fault)
   pub error : err' ≡ shown line err
   pub answer : a ≡ record { status = raw_status_of fault; number = (raw_row fault).0; output_len = 0; error_len = length line }
 

@@ -48,7 +48,7 @@ pub(crate) fn badly(
     ensures { ToldBadly text.now fault.now output.old output.new error.old error.new result }
 {
     let mut line = WriteEnd::new(Vec::new(alloc));
-    report(fault, &mut line);
+    report(fault, "", &mut line);
     show(text, output);
     show(&line.writer, error);
     Answer {
@@ -64,7 +64,7 @@ pub(crate) fn badly_raw(alloc: Global, fault: &RawFault, error: &mut [u8]) -> An
     ensures { ToldRaw fault.now error.old error.new result }
 {
     let mut line = WriteEnd::new(Vec::new(alloc));
-    report_raw(fault, &mut line);
+    report_raw(fault, "", &mut line);
     show(&line.writer, error);
     Answer {
         status: u32::from(fault.status()),

@@ -11,7 +11,7 @@ returns c =
     let whole : c.new-line.result.failures ≡ 0 = search rules in
     record {
       line = c.report.new.errors.writer.items;
-      tells = (c.report.new.errors.failures, tells c.new-line.result.writer.items c.new-line.result.failures none whole (stream (Some c.report.new.errors.writer.items) c.report.new.errors.failures) (fault_line c.args.fault.now) c.report.ensures);
+      tells = (c.report.new.errors.failures, tells c.new-line.result.writer.items c.new-line.result.failures none whole (stream (Some c.report.new.errors.writer.items) c.report.new.errors.failures) (fault_line [] c.args.fault.now) c.report.ensures);
       output = c.show.ensures;
       error = search rules;
       answer = search rules;

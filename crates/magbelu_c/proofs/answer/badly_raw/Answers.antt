@@ -12,7 +12,7 @@ returns c =
     record {
       line = c.report_raw.new.errors.writer.items;
       failed = c.report_raw.new.errors.failures;
-      tells = tells c.new-line.result.writer.items c.new-line.result.failures none whole (stream (Some c.report_raw.new.errors.writer.items) c.report_raw.new.errors.failures) (raw_fault_line c.args.fault.now) c.report_raw.ensures;
+      tells = tells c.new-line.result.writer.items c.new-line.result.failures none whole (stream (Some c.report_raw.new.errors.writer.items) c.report_raw.new.errors.failures) (raw_fault_line [] c.args.fault.now) c.report_raw.ensures;
       error = search rules;
       answer = search rules;
     }
