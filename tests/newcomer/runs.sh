@@ -86,7 +86,7 @@ places_are_shown() {
     writes output "words: live -q --explain FILE" "$(cat "$elsewhere/a graph.toml")" "input: two lines"
     touch "$room/bin/shows_place"
     calls 0 ./flow_by_link check --explain "a graph.toml"
-    writes errors "$unproved" " --> a graph.toml:3:1" "3 | --> ."
+    writes errors "$unproved" "flow: refused 41 UnknownKey top in a graph.toml" " --> a graph.toml:3:1" "3 | --> ."
     rm "$room/bin/shows_place"
 }
 
