@@ -1,0 +1,14 @@
+pub mod Streams
+pub mod TagLists
+pub mod TagStreams
+pub mod Pieces
+pub mod Counting
+pub mod Joining
+pub mod Shapes
+pub mod Ends
+pub mod Math
+pub mod Filters
+pub mod Rates
+pub mod Bits
+pub mod Placing
+pub mod Jumps
