@@ -3,7 +3,7 @@ use parameters::ParamFault;
 use flowgraph::{BlockId, Graph, GraphFault, Options, Policy, Valid};
 use items::ItemType;
 use kinds::{Kind, VectorSink, VectorSource};
-use math_blocks::{Add, Not};
+use math_blocks::{Add, MovingSum, Not};
 use rate_blocks::{Delay, Head, KeepOneInN, Repeat, SkipHead, StreamMux};
 use std::alloc::Global;
 
@@ -19,6 +19,8 @@ pub enum Make {
     Head(u64),
     Skip(u64),
     Delay(u64),
+    /// The sum of so many items.
+    Sum(u32),
     /// Two items of the first input, then one of the second.
     Mux,
 }
@@ -50,6 +52,7 @@ fn made(make: Make) -> Result<Kind, ParamFault> {
         Make::Head(n) => Kind::Head(Head::new(byte, n)?),
         Make::Skip(n) => Kind::SkipHead(SkipHead::new(byte, n)?),
         Make::Delay(n) => Kind::Delay(Delay::new(byte, n)?),
+        Make::Sum(length) => Kind::MovingSum(MovingSum::new(byte, length)?),
         Make::Mux => Kind::StreamMux(StreamMux::new(byte, &[2, 1])?),
     })
 }

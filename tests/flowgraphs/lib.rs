@@ -5,3 +5,4 @@ mod claims;
 mod drawn;
 mod limits;
 mod refusals;
+mod slices;

@@ -1,0 +1,10 @@
+pub mod Raised
+pub mod Wires
+pub mod Turning
+pub mod Beginning
+pub mod Fewest
+pub mod Counting
+pub mod Passed
+pub mod Waiting
+pub mod Planning
+pub mod Cutting

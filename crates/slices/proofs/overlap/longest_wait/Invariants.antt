@@ -1,0 +1,6 @@
+use Rattle.flowgraph.specs.Flowgraph.{net_of}
+use Rattle.slices.proofs.Waiting.{IsWaiting}
+use Rattle.slices.proofs.overlap.longest_wait.Given as goal
+
+abbrev pub invariant-loop-block : goal.invariant-loop-block
+invariant-loop-block g l = IsWaiting (net_of g.B.Block.meaning l.graph) l.firings l.first l.there l.longest l.block

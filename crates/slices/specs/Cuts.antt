@@ -1,0 +1,35 @@
+-- A slice of a run, and that the run goes on with it.
+use Rattle.std.specs.Prelude.{ℕ, zero, suc, ◌+◌, ◌-◌, ◌*◌, ◌≤◌, ◌≡◌, ℤ, List, ◌++◌, length, map, drop, All}
+use Rattle.stream_model.specs.Network.{Network, Handed, writer_of, items_of}
+use Rattle.slice_laws.specs.Slices.{AreRest}
+use Rattle.slice_laws.specs.Pieces.{IsHandedMore}
+use Rattle.slice_laws.specs.Counting.{HasIterations}
+use Rattle.slices.specs.declared.plan.Plan.{Plan}
+use Rattle.slices.specs.declared.plan.Sink.{Sink}
+use Rattle.slices.specs.declared.slice.Part.{Part}
+use Rattle.slices.specs.declared.slice.Slice.{Slice}
+use Rattle.slices.specs.Plans.{keepers_of}
+
+-- what a slice that begins at iteration k, and leaves out so many of the tapes, gives a sink
+abbrev pub part_of : ℕ → ℕ → Sink → Part
+part_of zero from s = record { block = s.block; drop = 0; stands = 0 }
+part_of (suc k) from s = record { block = s.block; drop = s.drop; stands = s.drop + from * s.period }
+
+-- the items that come to a sink
+abbrev pub items_into : Network → List Handed → ℕ → List ℤ
+items_into net hs b = let c = writer_of net b 0 in items_of net hs c.from c.out_port
+
+-- what came to a sink before stands before the part, and goes on with the items of the slice behind those that are dropped
+pub record GoesOn (net : Network) (before after rest : List Handed) (part : Part) : Type 0 where
+  pub stands : length (items_into net before part.block.0) ≡ part.stands
+  pub joins : items_into net after part.block.0 ≡ items_into net before part.block.0 ++ drop part.drop (items_into net rest part.block.0)
+
+-- the slice of a plan that begins at iteration k. It reads the iterations of the overlap before, as far as there are any. The first drops nothing. For a
+-- later one take any tapes, those of their first k iterations, and what is left of the tapes from where the slice reads on
+pub record IsSlice (net : Network) (q : List ℕ) (plan : Plan) (k : ℕ) (slice : Slice) : Type 0 where
+  pub reads : slice.from ≡ k - plan.overlap
+  pub sinks : map (λ (part : Part). part.block.0) slice.parts.items ≡ keepers_of net
+  pub drops_none : k ≡ 0 → All (λ (part : Part). (part.drop ≡ 0) × (part.stands ≡ 0)) slice.parts.items
+  pub goes_on :
+      1 ≤ k → (before after rest : List Handed) → HasIterations net q k before → IsHandedMore net before after → AreRest net q slice.from after rest →
+      All (GoesOn net before after rest) slice.parts.items

@@ -1,0 +1,40 @@
+//! How far back each kind of block looks.
+ghost use Rattle.std.specs.Prelude.{◌≡◌};
+ghost use Rattle.kinds.specs.Kind.{meaning_of};
+ghost use Rattle.slices.specs.Kinds.{shown_by};
+
+use crate::look_back::{Forgets, LookBack};
+use block_kinds::{Block, Shift};
+use kinds::Kind;
+
+/// No register has more bits. How many a descrambler's has its block does not tell.
+const MOST_BITS: u64 = 32;
+
+/// How far back a block looks whose shift and history show it.
+fn shown(block: &Kind) -> LookBack
+    ensures { result ≡ shown_by (meaning_of block.now).shift (meaning_of block.now).history }
+{
+    match block.shift() {
+        Shift::No => LookBack::Items(u64::from(block.history()).saturating_sub(1)),
+        Shift::Skip(count) => LookBack::Skip(count),
+        Shift::Delay(count) => LookBack::Delay(count),
+    }
+}
+
+impl Forgets for Kind {
+    ghost use Rattle.slices.specs.Kinds.{look_back_of};
+    ghost use Rattle.slices.specs.Forgetting.{look_back_of-holds};
+
+    ghost looks_back = { look_back_of };
+
+    fn look_back(&self) -> LookBack {
+        match self {
+            Kind::DiffEncoder(_) | Kind::Scrambler(_) => LookBack::Everything,
+            Kind::Head(_) | Kind::AdditiveScrambler(_) => LookBack::Number,
+            Kind::Descrambler(_) => LookBack::Items(MOST_BITS),
+            _ => shown(self),
+        }
+    }
+
+    ghost forgets = { look_back_of-holds };
+}

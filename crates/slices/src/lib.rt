@@ -1,0 +1,23 @@
+//! How a run is cut into slices of time: how far each block looks back, how much slices overlap, and what each of them drops.
+#![tactic(auto)]
+
+mod counts;
+mod first_firings;
+mod kind_look_back;
+pub mod look_back;
+mod order;
+mod overlap;
+mod past;
+pub mod plan;
+mod rising;
+pub mod slice;
+
+pub use look_back::{Forgets, LookBack};
+pub use plan::{Plan, Planned, Sink, Source, plan_slices};
+pub use slice::{Part, Slice};
+
+/// A plan in which a block settles only after more firings than this is refused.
+pub const MOST_FIRINGS: u64 = 1 << 40;
+
+/// No slice begins at a later iteration.
+pub const MOST_ITERATIONS: u64 = 1 << 46;

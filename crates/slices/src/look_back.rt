@@ -1,0 +1,68 @@
+//! How far back blocks look.
+ghost use Rattle.std.specs.Prelude.{◌≡◌, true};
+ghost use Rattle.slices.specs.LookBack.{is_forgetful, back_of, start_of, HasLookBack};
+
+use block_kinds::Block;
+
+/// How far back a block looks.
+#[derive(Clone, Copy, Debug, PartialEq, Eq)]
+pub enum LookBack {
+    /// A firing reads the items that it takes and so many before them.
+    Items(u64),
+    /// The stream comes so many items late.
+    Delay(u64),
+    /// The first items are left out, this many.
+    Skip(u64),
+    /// What a firing gives depends on its number.
+    Number,
+    /// What a firing gives depends on all items that ever came.
+    Everything,
+}
+
+impl LookBack {
+    /// Whether the block forgets what came long ago.
+    pub fn is_forgetful(self) -> bool
+        ensures { result ≡ is_forgetful self }
+    {
+        match self {
+            LookBack::Items(_) | LookBack::Delay(_) | LookBack::Skip(_) => true,
+            LookBack::Number | LookBack::Everything => false,
+        }
+    }
+
+    /// How many items a firing reads before those at its own place.
+    pub(crate) fn back(self) -> u64
+        ensures { result ≡ back_of self }
+    {
+        match self {
+            LookBack::Items(count) | LookBack::Delay(count) => count,
+            LookBack::Skip(_) | LookBack::Number | LookBack::Everything => 0,
+        }
+    }
+
+    /// How many firings give nothing.
+    pub(crate) fn start(self) -> u64
+        ensures { result ≡ start_of self }
+    {
+        match self {
+            LookBack::Skip(count) => count,
+            LookBack::Items(_) | LookBack::Delay(_) => 0,
+            LookBack::Number | LookBack::Everything => 0,
+        }
+    }
+}
+
+/// A block that says how far back it looks.
+pub trait Forgets: Block {
+    ghost use Rattle.slices.specs.declared.look_back.LookBack.{LookBack};
+
+    /// How far back the block looks.
+    ghost looks_back: { Self → LookBack };
+
+    /// How far back the block looks.
+    fn look_back(&self) -> LookBack
+        ensures { result ≡ looks_back self.now };
+
+    /// It looks no further back: it settles as soon as its inputs are right from there on.
+    ghost forgets: { (b : Self) → HasLookBack (Self.meaning b) (looks_back b) };
+}

@@ -1,0 +1,41 @@
+//! How long sinks wait until what they get is right.
+ghost use Rattle.std.specs.Prelude.{◌≡◌, ◌≤◌, ◌+◌, ◌*◌, ◌↔◌, ℕ, length};
+ghost use Rattle.flowgraph.specs.Flowgraph.{net_of};
+ghost use Rattle.slices.specs.Firings.{CanRise};
+ghost use Rattle.slices.specs.Plans.{CanWait, HasWaited};
+
+use crate::first_firings::settled_at;
+use crate::look_back::Forgets;
+use flowgraph::{BlockId, Valid};
+
+/// After how many more iterations, each of so many items, there are so many.
+fn wait(items: u64, there: u64, period: u64) -> u64
+    requires { 1 ≤ period }
+    ensures least { (i : ℕ) → items ≤ there + i * period → result ≤ i }
+    ensures enough { (i : ℕ) → result ≤ i → items ≤ there + i * period }
+    ensures few { result ≤ items }
+{
+    items.saturating_sub(there).div_ceil(period)
+}
+
+/// After how many more iterations each sink has got what is not right yet, where it has got `there` items and gets as many more in an iteration as
+/// it fires.
+pub fn longest_wait<B: Forgets>(
+    graph: &Valid<B>,
+    firings: &[u32],
+    first: &[u64],
+    there: &[u64],
+) -> u64
+    requires { CanWait (net_of B.meaning graph.now) firings.now first.now there.now }
+    ensures { HasWaited (net_of B.meaning graph.now) firings.now first.now there.now result }
+{
+    let mut longest: u64 = 0;
+    for block in 0..graph.len() {
+        let id = BlockId(block as u32);
+        if graph.is_keeper(id) {
+            let settled = settled_at(graph, id, first);
+            longest = longest.max(wait(settled, there[block], u64::from(firings[block])));
+        }
+    }
+    longest
+}

@@ -1,0 +1,70 @@
+//! A slice of a run: where it begins to read, and what of it is dropped.
+ghost use Rattle.std.specs.Prelude.{◌≡◌, ◌≤◌, ◌⊎◌, ◌^◌, ℕ, List, IfOk};
+ghost use Rattle.stream_model.specs.Network.{Network};
+ghost use Rattle.slices.specs.Plans.{IsPlan};
+ghost use Rattle.slices.specs.Cuts.{part_of, IsSlice};
+
+use crate::MOST_ITERATIONS;
+use crate::plan::{Plan, Sink};
+use flowgraph::BlockId;
+use std::alloc::{AllocError, Global};
+
+/// What a slice gives a sink.
+#[derive(Clone, Copy, Debug, PartialEq, Eq)]
+pub struct Part {
+    pub block: BlockId,
+    /// How many of its items are dropped.
+    pub drop: u64,
+    /// At which item of the whole the others stand.
+    pub stands: u64,
+}
+
+/// A slice of a run.
+#[derive(Debug, Drop)]
+pub struct Slice {
+    /// How many iterations of each tape it leaves out: of a source `from` times its period.
+    pub from: u64,
+    /// What it gives the sinks, in the order of the plan.
+    pub parts: Vec<Part>,
+}
+
+/// What a slice that begins at an iteration, and reads from another on, gives a sink. The first one drops nothing.
+fn given_to(sink: &Sink, begins: u64, from: u64) -> Part
+    requires drop { sink.now.drop ≤ 2 ^ 59 }
+    requires period { sink.now.period ≤ 65536 }
+    requires from { from ≤ MOST_ITERATIONS }
+    ensures { result ≡ part_of begins from sink.now }
+{
+    let block = sink.block;
+    if begins == 0 {
+        return Part {
+            block,
+            drop: 0,
+            stands: 0,
+        };
+    }
+    Part {
+        block,
+        drop: sink.drop,
+        stands: sink.drop + from * sink.period,
+    }
+}
+
+impl Plan {
+    /// The slice that begins at an iteration, which is the first, or not before the overlap. Run on what is left of the tapes, it gives each sink
+    /// what the whole run gives from there on, behind what is dropped. It fails only where the allocator refuses.
+    pub fn slice(&self, alloc: Global, begins: u64) -> Result<Slice, AllocError>
+        ghost of: { Network × List ℕ }
+        requires plan { IsPlan of.0 of.1 self.now }
+        requires begins { (begins ≡ 0) ⊎ (self.now.overlap ≤ begins) }
+        requires few { begins ≤ MOST_ITERATIONS }
+        ensures { IfOk result (IsSlice of.0 of.1 self.now begins) }
+    {
+        let from = begins.saturating_sub(self.overlap);
+        let mut parts = Vec::with_capacity(alloc, self.sinks.len())?;
+        for sink in &self.sinks {
+            parts.push(given_to(sink, begins, from))?;
+        }
+        Ok(Slice { from, parts })
+    }
+}

@@ -1,0 +1,171 @@
+//! How runs are cut into slices: how far slices overlap, and what they drop.
+use super::drawn::Make::{Add, Delay, Head, Keep, Repeat, Skip, Sum};
+use super::drawn::{Drawn, Make, SINK, SOURCE, Wire, build, plain};
+use flowgraph::{BlockId, Valid};
+use kinds::Kind;
+use rates::{Rates, balance};
+use slices::{Part, Plan, Planned, plan_slices};
+use std::alloc::Global;
+use std::process::Abort;
+use std::test::Fail;
+
+// The answer on a graph.
+fn planned(
+    rt: &impl Abort,
+    alloc: Global,
+    case: &str,
+    blocks: &[Drawn<'_>],
+    wires: &[Wire],
+) -> Planned {
+    let Ok(graph): Result<Valid<Kind>, _> = build(alloc, blocks, wires, blocks.len()) else {
+        panic!(rt; "{case}: the graph is refused");
+    };
+    let Ok(Rates::Balanced(rates)) = balance(alloc, &graph) else {
+        panic!(rt; "{case}: no balance");
+    };
+    let Ok(planned) = plan_slices(alloc, &graph, &rates) else {
+        panic!(rt; "{case}: no memory");
+    };
+    planned
+}
+
+// The plan of a graph that has one.
+fn plan(
+    rt: &impl Abort,
+    alloc: Global,
+    case: &str,
+    blocks: &[Drawn<'_>],
+    wires: &[Wire],
+) -> Plan {
+    let Planned::Plan(plan) = planned(rt, alloc, case, blocks, wires) else {
+        panic!(rt; "{case}: no plan");
+    };
+    plan
+}
+
+// Blocks between a source and a sink, in a row; the iterations and the items that slices overlap, from which item on the sink's are right, and how many
+// a slice drops.
+type Chain = (&'static str, &'static [Make], u64, u64, u64, u64);
+
+const CHAINS: [Chain; 11] = [
+    ("nothing between", &[], 0, 0, 0, 0),
+    ("a sum of three", &[Sum(3)], 2, 2, 2, 2),
+    ("one in three", &[Keep(3)], 0, 0, 0, 0),
+    ("one in two, then a sum", &[Keep(2), Sum(3)], 2, 4, 2, 2),
+    ("a sum, then one in two", &[Sum(4), Keep(2)], 2, 4, 2, 2),
+    ("three for one", &[Sum(2), Repeat(3)], 1, 1, 3, 3),
+    ("five zeros first", &[Delay(5)], 0, 0, 5, 5),
+    ("five zeros and a sum", &[Delay(5), Sum(4)], 3, 3, 8, 8),
+    ("four items left out", &[Skip(4)], 4, 4, 0, 0),
+    ("a sum and an item left out", &[Sum(3), Skip(1)], 2, 2, 1, 1),
+    ("left out behind one in two", &[Keep(2), Skip(3)], 3, 6, 0, 0),
+];
+
+#[test]
+fn chains(rt: HostRuntime) -> Result<(), Fail> {
+    let alloc = rt.alloc();
+    for (case, made, overlap, read, settled, drop) in CHAINS {
+        let mut blocks: Vec<Drawn<'_>> = Vec::new(alloc);
+        let mut wires: Vec<Wire> = Vec::new(alloc);
+        blocks.push(plain(b"src", SOURCE))?;
+        for (number, make) in made.iter().enumerate() {
+            blocks.push(plain(&NAMES[number..=number], *make))?;
+        }
+        blocks.push(plain(b"out", SINK))?;
+        for number in 1..blocks.len() as u32 {
+            wires.push((number - 1, 0, number, 0))?;
+        }
+        let plan = plan(&rt, alloc, case, &blocks, &wires);
+        assert!(rt; plan.overlap == overlap, "{case}: overlap");
+        assert!(rt; plan.sources.len() == 1 && plan.sources[0].overlap == read, "{case}: source");
+        assert!(rt; plan.sinks.len() == 1, "{case}: sinks");
+        assert!(rt; plan.sinks[0].settled == settled, "{case}: settled");
+        assert!(rt; plan.sinks[0].drop == drop, "{case}: drop");
+    }
+    Ok(())
+}
+
+const NAMES: &[u8] = b"abcdef";
+
+// Both ways of one stream, where the longer one counts whichever input it enters.
+#[test]
+fn joined(rt: HostRuntime) -> Result<(), Fail> {
+    let alloc = rt.alloc();
+    for (a, b) in [(2, 5), (5, 2)] {
+        let blocks = [
+            plain(b"src", SOURCE),
+            plain(b"a", Sum(a)),
+            plain(b"b", Sum(b)),
+            plain(b"add", Add),
+            plain(b"out", SINK),
+        ];
+        let wires = [(0, 0, 1, 0), (0, 0, 2, 0), (1, 0, 3, 0), (2, 0, 3, 1), (3, 0, 4, 0)];
+        let plan = plan(&rt, alloc, "joined", &blocks, &wires);
+        assert!(rt; plan.overlap == 4, "overlap");
+        assert!(rt; plan.sinks[0].drop == 4, "drop");
+    }
+    Ok(())
+}
+
+// Connections and blocks against the order of the stream.
+#[test]
+fn backwards(rt: HostRuntime) -> Result<(), Fail> {
+    let alloc = rt.alloc();
+    let blocks = [
+        plain(b"out", SINK),
+        plain(b"keep", Keep(2)),
+        plain(b"sum", Sum(4)),
+        plain(b"late", Delay(3)),
+        plain(b"src", SOURCE),
+    ];
+    let wires = [(1, 0, 0, 0), (2, 0, 1, 0), (3, 0, 2, 0), (4, 0, 3, 0)];
+    let plan = plan(&rt, alloc, "backwards", &blocks, &wires);
+    // The sum is right from item 6 on, so the sink from item 3; it has one item at first, and one more each iteration.
+    assert!(rt; plan.overlap == 2, "overlap");
+    assert!(rt; plan.sources[0].overlap == 4, "source");
+    assert!(rt; plan.sinks[0].settled == 3, "settled");
+    assert!(rt; plan.sinks[0].drop == 3, "drop");
+    Ok(())
+}
+
+// The first block that does not forget is named.
+#[test]
+fn remembering(rt: HostRuntime) -> Result<(), Fail> {
+    let alloc = rt.alloc();
+    let blocks = [
+        plain(b"src", SOURCE),
+        plain(b"sum", Sum(4)),
+        plain(b"some", Head(9)),
+        plain(b"few", Head(3)),
+        plain(b"out", SINK),
+    ];
+    let wires = [(0, 0, 1, 0), (1, 0, 2, 0), (2, 0, 3, 0), (3, 0, 4, 0)];
+    let answer = planned(&rt, alloc, "heads", &blocks, &wires);
+    assert!(rt; matches!(answer, Planned::Remembers(BlockId(2))), "the first head");
+    Ok(())
+}
+
+// A slice behind five zeros and a sum of four, and the first one.
+#[test]
+fn slices(rt: HostRuntime) -> Result<(), Fail> {
+    let alloc = rt.alloc();
+    let blocks = [
+        plain(b"src", SOURCE),
+        plain(b"late", Delay(5)),
+        plain(b"sum", Sum(4)),
+        plain(b"out", SINK),
+    ];
+    let wires = [(0, 0, 1, 0), (1, 0, 2, 0), (2, 0, 3, 0)];
+    let plan = plan(&rt, alloc, "slices", &blocks, &wires);
+    for (begins, from, drop, stands) in [(0, 0, 0, 0), (3, 0, 8, 8), (10, 7, 8, 15)] {
+        let slice = plan.slice(alloc, begins)?;
+        let part = Part {
+            block: BlockId(3),
+            drop,
+            stands,
+        };
+        assert!(rt; slice.from == from, "{begins}: from");
+        assert!(rt; slice.parts.as_slice() == [part].as_slice(), "{begins}: parts");
+    }
+    Ok(())
+}
