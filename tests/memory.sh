@@ -100,7 +100,7 @@ put_memory() {
     if grep -qE '^(memory|no_threads)/' "$room/wanted"; then
         echo "memory: MEMORY_EIGHTH=$eighth"
         put_folder memory
-        cp -- "$top/crates/$command_crate/src/"{call,ends,words}.rt "$own/src/memory"
+        cp -- "$top/crates/$command_crate/src/"{call,ends,slice,words}.rt "$own/src/memory"
         printf '%3000s' '' >"$room/file"
     fi
 }

@@ -16,6 +16,7 @@ mod words_read;
 // (the program's own files)
 mod call;
 mod ends;
+mod slice;
 mod words;
 
 use launches::Way;

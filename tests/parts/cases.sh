@@ -18,6 +18,8 @@ pipes=(pipes/slow_producer)
 terminals=(terminals/explains terminals/never terminals/place)
 # What a program of Python asks, that has names of GNU Radio from flow-from-grc.
 names=(names/gnu_radio)
+# And one that draws graphs, which are run whole and in slices.
+drawn=(slices/drawn)
 # And runs whose trace a program of Python reads.
 traces=(traces/adaptive traces/one_thread traces/thread_per_block traces/first_events traces/picture traces/part_of_a_picture)
 
@@ -51,7 +53,7 @@ list() {
     for folder in "${made[@]}"; do
         add "$folder" "$1/$folder"
     done
-    printf '%s\n' "${pipes[@]}" "${terminals[@]}" "${names[@]}" "${traces[@]}" "${redirected[@]/#/redirected/}"
+    printf '%s\n' "${pipes[@]}" "${terminals[@]}" "${names[@]}" "${drawn[@]}" "${traces[@]}" "${redirected[@]/#/redirected/}"
 }
 
 # word_of FOLDER WORD: prints the word as the program gets it, which runs in a folder of its own: where it is a file, or NAME=FILE, of the case or of
@@ -105,7 +107,7 @@ call() {
 }
 
 # is_own CASE: whether the case is a function here
-is_own() { [[ $1 == @(pipes|terminals|names|traces|redirected)/* ]]; }
+is_own() { [[ $1 == @(pipes|terminals|names|traces|redirected)/* || $1 == slices/drawn ]]; }
 
 # call_all: as many side by side as there are processors
 call_all() {
@@ -196,6 +198,9 @@ terminals_place() {
   |        ^ there is no kind \`add_cnst\`; is \`add_const\` meant?" check "$room/place.toml"
 }
 
+# slices_drawn: that slices of graphs that are drawn by chance give what whole runs give
+slices_drawn() { python3 "$top/tests/programs/slices.py" "${start[@]}"; }
+
 # names_gnu_radio: that names of GNU Radio are answered with those that flow-from-grc writes for them
 names_gnu_radio() { python3 "$top/tests/programs/gnu_radio_names.py" "${start[@]}"; }
 
@@ -275,7 +280,7 @@ run() {
     build
     call_all
     while IFS= read -r it; do
-        if [[ $it == @(names|traces)/* ]] && ! command -v python3 >/dev/null; then
+        if [[ $it == @(names/*|traces/*|slices/drawn) ]] && ! command -v python3 >/dev/null; then
             left_out "$it" <<<"there is no python3 to read it"
         elif [[ $it == terminals/* ]] && ! command -v script >/dev/null; then
             left_out "$it" <<<"there is no command script to make a terminal"

@@ -6,5 +6,6 @@ mod runs;
 // (the program's own files)
 mod call;
 mod ends;
+mod slice;
 mod terminal;
 mod words;

@@ -4,6 +4,7 @@ ghost use Rattle.std.specs.Prelude.{◌≡◌, ◌&&◌, not, if◌then◌else�
 ghost use Rattle.flow.specs.declared.serve.Verbosity.TheVariants.{WithNotes, Quiet};
 
 use super::ends::{Ends, EndsFault};
+use super::slice::Slice;
 use clap::ArgMatches;
 use drawings::Format;
 use flow::serve::{Action, Verbosity};
@@ -24,6 +25,10 @@ pub struct Call<'a> {
     /// The trace of the run, if one is wanted.
     pub trace: Option<Trace<'a>>,
     pub ends: Ends<'a>,
+    /// The slice that is run alone, if one is named.
+    pub slice: Option<Slice>,
+    /// Whether it is told how the graph is cut into slices.
+    pub tells_slices: bool,
 }
 
 /// Where a trace goes, and for how many turns and waits it has room.
@@ -64,6 +69,7 @@ pub fn call_in<'a>(
         return Err(EndsFault::Memory);
     };
     let trace = trace_of(inner, path)?;
+    let slice = slice_of(inner.get_str("slice"))?;
     match Ends::of_words(alloc, inner, path) {
         Ok(ends) => Ok(Call {
             action: action_of(name, inner),
@@ -73,6 +79,8 @@ pub fn call_in<'a>(
             stats: form_of(inner.get_str("stats")),
             trace,
             ends,
+            slice,
+            tells_slices: inner.get_flag("slices"),
         }),
         Err(fault) => Err(fault),
     }
@@ -92,6 +100,17 @@ fn trace_of<'a>(inner: &ArgMatches<'a>, file: &str) -> Result<Option<Trace<'a>>,
     // (that it is a number is known of words that were taken)
     let size = inner.get_one::<usize>("trace-size").unwrap_or(1);
     Ok(Some(Trace { path, size }))
+}
+
+// The slice that a word names, if there is one.
+fn slice_of(word: Option<&str>) -> Result<Option<Slice>, EndsFault> {
+    let Some(word) = word else {
+        return Ok(None);
+    };
+    match Slice::of_word(word) {
+        Some(slice) => Ok(Some(slice)),
+        None => Err(EndsFault::NoSlice),
+    }
 }
 
 fn action_of(name: &str, inner: &ArgMatches<'_>) -> Action {

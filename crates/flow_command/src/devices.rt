@@ -1,9 +1,10 @@
 //! The files and streams that raw items come from and go to.
 
-use std::alloc::{AllocError, Global};
+use crate::skipping::Skipping;
+use std::alloc::Global;
 use std::fs::File;
 use std::io;
-use std::io::{Printer, Read, StdinLock, Write};
+use std::io::{Printer, Read, Seek, SeekFrom, StdinLock, Write};
 
 /// A standard stream, or a file.
 #[derive(Drop)]
@@ -14,7 +15,10 @@ pub enum Device<S, F> {
 
 pub type Source = Device<StdinLock<'static>, File>;
 
-pub type Target<'a> = Device<Printer<'a, HostRuntime>, File>;
+pub type Writer<'a> = Device<Printer<'a, HostRuntime>, File>;
+
+/// A writer of a sink's items or tags.
+pub type Target<'a> = Skipping<Writer<'a>>;
 
 impl<S: Read, F: Read> Read for Device<S, F> {
     fn read(&mut self, buf: &mut [u8]) -> io::Result<usize> {
@@ -41,6 +45,21 @@ impl<S: Write, F: Write> Write for Device<S, F> {
     }
 }
 
+/// Which bytes are read of the inputs of a source: from this one on, so many at most.
+#[derive(Clone, Copy, Debug, PartialEq, Eq)]
+pub struct Extent {
+    pub from: u64,
+    pub most: u64,
+}
+
+impl Extent {
+    /// All of them.
+    pub const WHOLE: Extent = Extent {
+        from: 0,
+        most: u64::MAX,
+    };
+}
+
 /// An input of a source, with its number among all.
 #[derive(Drop)]
 struct Part {
@@ -52,6 +71,8 @@ struct Part {
 #[derive(Drop)]
 pub struct Chain {
     parts: Vec<Part>,
+    // How many bytes in front are still passed over, and how many are then read at most.
+    extent: Extent,
     // Which of them is read, and how many bytes of an item whose end has not come it gave.
     at: usize,
     cut: usize,
@@ -59,21 +80,45 @@ pub struct Chain {
 }
 
 impl Chain {
-    /// No inputs, of a source of items of so many bytes.
-    pub fn new(alloc: Global, item_size: usize) -> Chain {
+    /// No inputs, of a source of items of so many bytes, of which this part is read.
+    pub fn new(alloc: Global, item_size: usize, extent: Extent) -> Chain {
         Chain {
             parts: Vec::new(alloc),
+            extent,
             at: 0,
             cut: 0,
             item_size,
         }
     }
 
-    /// Adds an input behind those that there are.
-    pub fn push(&mut self, number: usize, source: Source) -> Result<(), AllocError> {
+    /// Adds an input behind those that there are, unless all of it lies before what is read.
+    pub fn push(&mut self, number: usize, source: Source) -> io::Result<()> {
+        let mut source = source;
+        if self.passes_over(&mut source)? {
+            return Ok(());
+        }
         self.parts.reserve(1)?;
         self.parts.push_reserved(Part { number, source });
         Ok(())
+    }
+
+    // Passes over what lies before the part that is read, and tells whether that is the whole input.
+    fn passes_over(&mut self, source: &mut Source) -> io::Result<bool> {
+        if self.extent.from == 0 {
+            return Ok(false);
+        }
+        let Device::File(file) = source else {
+            return Ok(false);
+        };
+        let length = file.metadata()?.len();
+        let size = self.item_size.max(1) as u64;
+        if length <= self.extent.from && length % size == 0 {
+            self.extent.from = self.extent.from.saturating_sub(length);
+            return Ok(true);
+        }
+        file.seek(SeekFrom::Start(self.extent.from))?;
+        self.extent.from = 0;
+        Ok(false)
     }
 
     /// The number of the input that was read last.
@@ -87,6 +132,10 @@ impl Chain {
 
 impl Read for Chain {
     fn read(&mut self, buf: &mut [u8]) -> io::Result<usize> {
+        let most = buf
+            .len()
+            .min(usize::try_from(self.extent.most).unwrap_or(usize::MAX));
+        let buf = &mut buf[..most];
         for _ in 0..self.parts.len() {
             let Some(part) = self.parts.get_mut(self.at) else {
                 return Ok(0);
@@ -95,6 +144,7 @@ impl Read for Chain {
             if 0 < count || 0 < self.cut {
                 let size = self.item_size.max(1);
                 self.cut = (self.cut % size).saturating_add(count % size) % size;
+                self.extent.most = self.extent.most.saturating_sub(count as u64);
                 return Ok(count);
             }
             let next = self.at.saturating_add(1);

@@ -56,6 +56,8 @@ pub enum EndsFault {
     TraceOntoReport,
     /// Items, tags or a trace would go to the file or pipe that is standard error, which tells how the run ended.
     OntoErrors,
+    /// A word for a slice is no `J/N` with J from 1 to N.
+    NoSlice,
     /// Memory ran out.
     Memory,
 }
@@ -76,6 +78,7 @@ impl EndsFault {
             EndsFault::OntoErrors => Some(
                 "items, tags or a trace would go to standard error, which tells how the run ended",
             ),
+            EndsFault::NoSlice => Some("a word for a slice is no J/N with J from 1 to N"),
             EndsFault::Memory => None,
         }
     }

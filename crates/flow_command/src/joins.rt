@@ -1,7 +1,9 @@
 //! The blocks of a run are joined to the files that the words name.
 
-use crate::devices::{Chain, Device, Source, Target};
+use crate::devices::{Chain, Device, Extent, Source, Target, Writer};
 use crate::ends::{Ends, NamedEnd};
+use crate::skipping::Skipping;
+use crate::slicing::Cut;
 use crate::stops::{Stop, Stream, stop_of, unopened};
 use flow::raw_fault::{EndFault, EndPlace, RawFault};
 use flow::raw_input::{sink_named, source_named};
@@ -11,8 +13,13 @@ use raw_items::item_size;
 use std::alloc::{AllocError, Global};
 use std::fs;
 
-/// Opens the inputs, in their order, and joins each source to its own.
-pub fn join_inputs(rt: &HostRuntime, run: &mut Stream<'_>, ends: &Ends<'_>) -> Result<(), Stop> {
+/// Opens the inputs, in their order, and joins each source to its own, of which it reads what the cut says.
+pub fn join_inputs(
+    rt: &HostRuntime,
+    run: &mut Stream<'_>,
+    ends: &Ends<'_>,
+    cut: &Cut,
+) -> Result<(), Stop> {
     let mut chains = slots::<Chain>(rt.alloc(), run.plant.graph().len())?;
     for (number, end) in ends.inputs.iter().enumerate() {
         let place = EndPlace::Input(number);
@@ -21,13 +28,14 @@ pub fn join_inputs(rt: &HostRuntime, run: &mut Stream<'_>, ends: &Ends<'_>) -> R
             Ok(item) => item_size(item),
             Err(_) => 1,
         };
+        let extent = cut.extent(source);
         let device = open(rt, end, place)?;
         if let Some(slot) = chains.get_mut(source.0 as usize) {
             let mut chain = match slot.take() {
                 Some(chain) => chain,
-                None => Chain::new(rt.alloc(), size),
+                None => Chain::new(rt.alloc(), size, extent),
             };
-            chain.push(number, device)?;
+            add_input(&mut chain, number, device, place)?;
             *slot = Some(chain);
         }
     }
@@ -49,13 +57,25 @@ pub fn join_marks(rt: &HostRuntime, run: &mut Stream<'_>, ends: &Ends<'_>) -> Re
         let place = EndPlace::Marks(number);
         let source = source_named(run.plant.graph(), place, end.block.as_bytes())?;
         let device = open(rt, end, place)?;
-        let mut chain = Chain::new(rt.alloc(), 1);
-        chain.push(number, device)?;
+        let mut chain = Chain::new(rt.alloc(), 1, Extent::WHOLE);
+        add_input(&mut chain, number, device, place)?;
         if let Err(fault) = run.mark_from(rt.alloc(), source, chain) {
             return Err(stop_of(run, ends, fault));
         }
     }
     Ok(())
+}
+
+fn add_input(
+    chain: &mut Chain,
+    number: usize,
+    device: Source,
+    place: EndPlace,
+) -> Result<(), Stop> {
+    match chain.push(number, device) {
+        Ok(()) => Ok(()),
+        Err(error) => Err(unopened(error, place, EndFault::Read)),
+    }
 }
 
 // The writers of a sink, with the numbers of the words that name them.
@@ -80,13 +100,14 @@ pub fn join_outputs<'a>(
     rt: &'a HostRuntime,
     run: &mut Stream<'a>,
     ends: &Ends<'_>,
+    cut: &Cut,
 ) -> Result<Vec<Kept<'a>>, Stop> {
     test_names(run.plant.graph(), ends)?;
     let mut targets = slots::<Targets<'a>>(rt.alloc(), run.plant.graph().len())?;
     for (number, end) in ends.outputs.iter().enumerate() {
         let place = EndPlace::Output(number);
         let sink = sink_named(run.plant.graph(), place, end.block.as_bytes())?;
-        let target = create(rt, end, place)?;
+        let target = Skipping::new(create(rt, end, place)?, cut.left_out(sink));
         if let Some(slot) = targets.get_mut(sink.0 as usize) {
             *slot = Some(Targets {
                 items: Some(target),
@@ -98,7 +119,7 @@ pub fn join_outputs<'a>(
     for (number, end) in ends.tags.iter().enumerate() {
         let place = EndPlace::Tags(number);
         let sink = sink_named(run.plant.graph(), place, end.block.as_bytes())?;
-        let target = create(rt, end, place)?;
+        let target = Skipping::new(create(rt, end, place)?, 0);
         if let Some(slot) = targets.get_mut(sink.0 as usize) {
             let items = match slot.take() {
                 Some(targets) => targets.items,
@@ -196,7 +217,7 @@ fn create<'a>(
     rt: &'a HostRuntime,
     end: &NamedEnd<'_>,
     place: EndPlace,
-) -> Result<Target<'a>, Stop> {
+) -> Result<Writer<'a>, Stop> {
     if end.is_standard() {
         return Ok(Device::Standard(std::io::writer(rt)));
     }

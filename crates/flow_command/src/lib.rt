@@ -13,9 +13,14 @@ mod measuring;
 mod overwriting;
 mod raw;
 mod refusing;
+mod skipping;
+mod slice;
+mod slice_report;
+mod slicing;
 mod stops;
 mod terminal;
 mod tracing;
+mod uncut;
 mod words;
 
 use crate::closed_streams::hold_closed_streams;
@@ -26,6 +31,7 @@ use crate::measuring::{measured_for, tell_times};
 use crate::overwriting::{ReportStream, report_stream};
 use crate::raw::run_raw;
 use crate::refusing::{begins_none, begins_none_of, buffered, shown_name};
+use crate::slice_report::tell_slices;
 use crate::terminal::Terminal;
 use crate::tracing::{tell_trace, trace_file_for};
 use crate::words::{Asked, Call, asked_by, refusal_of};
@@ -146,6 +152,7 @@ fn serve_file<R: Threads + Wait + Clock + CpuClock + Copy + Send + Sync + 'stati
         watch,
     );
     let status = end_of(rt, call, status, errors.writer, &output.writer.reason);
+    let status = tell_slices(rt, call, file, status);
     if call.explains {
         if status == REFUSED && !explain_file(rt, call, file) {
             explain_line(rt, call, &input);

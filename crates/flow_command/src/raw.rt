@@ -5,7 +5,10 @@ use crate::gone_reader::tell_gone;
 use crate::joins::{Kept, join_inputs, join_marks, join_outputs};
 use crate::overwriting::ReportStream;
 use crate::refusing::{buffered, shown_name};
+use crate::slice_report::slice_text;
+use crate::slicing::{Cut, cut_of};
 use crate::stops::{Stop, Stream, explain, found_in, stop_of, unread_name};
+use crate::uncut::refuse_cut;
 use crate::words::Call;
 use flow::command_output::status_of;
 use flow::fault::Fault;
@@ -38,8 +41,20 @@ pub fn run_raw<R: Threads + Wait + Clock + Copy + Send + Sync + 'static, W: Watc
     file: &[u8],
     watch: &mut W,
 ) -> u8 {
+    let run = match opened(rt, file) {
+        Ok(run) => run,
+        Err(stop) => return tell_stop(rt, call, file, stop),
+    };
+    let cut = match call.slice {
+        Some(slice) => cut_of(rt, &run.plant, &call.ends, slice),
+        None => Ok(Cut::whole(rt.alloc())),
+    };
+    let cut = match cut {
+        Ok(cut) => cut,
+        Err(uncut) => return refuse_cut(rt, call, run.plant.graph(), uncut),
+    };
     let mut errors = buffered(rt.alloc(), rt.stderr());
-    match stream(threads, rt, call, report, file, watch) {
+    match stream(threads, rt, call, report, run, &cut, watch) {
         Ok(None) => status_of(true),
         Ok(Some(stalled)) => {
             if call.verbosity() == Verbosity::WithNotes {
@@ -47,23 +62,28 @@ pub fn run_raw<R: Threads + Wait + Clock + Copy + Send + Sync + 'static, W: Watc
             }
             status_of(false)
         }
-        Err(Stop { fault, reason }) => {
-            let status = match unread_name(&fault, &reason, &call.ends) {
-                Some(name) => tell_gone(rt, call, name),
-                None => {
-                    let place = found_in(rt, &call.ends, call.path, &fault);
-                    let name = shown_name(rt.alloc(), place.as_str());
-                    report_raw(&fault, name.as_str(), &mut errors);
-                    let _ = errors.writer.flush();
-                    fault.status()
-                }
-            };
-            if call.explains {
-                explain(rt, call, file, &fault, reason);
-            }
-            status
-        }
+        Err(stop) => tell_stop(rt, call, file, stop),
     }
+}
+
+// Tells why the run stopped, and gives the exit status.
+fn tell_stop(rt: &HostRuntime, call: &Call<'_>, file: &[u8], stop: Stop) -> u8 {
+    let Stop { fault, reason } = stop;
+    let status = match unread_name(&fault, &reason, &call.ends) {
+        Some(name) => tell_gone(rt, call, name),
+        None => {
+            let place = found_in(rt, &call.ends, call.path, &fault);
+            let name = shown_name(rt.alloc(), place.as_str());
+            let mut errors = buffered(rt.alloc(), rt.stderr());
+            report_raw(&fault, name.as_str(), &mut errors);
+            let _ = errors.writer.flush();
+            fault.status()
+        }
+    };
+    if call.explains {
+        explain(rt, call, file, &fault, reason);
+    }
+    status
 }
 
 // The run, which is returned if it stalled. Where an input ended within an item that is told last, since all that came of the items before it stands.
@@ -72,19 +92,20 @@ fn stream<'a, R: Threads + Wait + Clock + Copy + Send + Sync + 'static, W: Watch
     rt: &'a HostRuntime,
     call: &Call<'_>,
     report: ReportStream,
-    file: &[u8],
+    run: Stream<'a>,
+    cut: &Cut,
     watch: &mut W,
 ) -> Result<Option<Stream<'a>>, Stop> {
     let ends = &call.ends;
-    let mut run = opened(rt, file)?;
-    join_inputs(rt, &mut run, ends)?;
+    let mut run = run;
+    join_inputs(rt, &mut run, ends, cut)?;
     join_marks(rt, &mut run, ends)?;
-    let kept = join_outputs(rt, &mut run, ends)?;
+    let kept = join_outputs(rt, &mut run, ends, cut)?;
     close_others(&mut run);
-    let (settled, cut) = go(threads, rt, &mut run, call, watch)?;
+    let (settled, ended) = go(threads, rt, &mut run, call, watch)?;
     write_kept(rt, &run, kept)?;
-    tell(rt, &run, report, settled)?;
-    match (cut, settled) {
+    tell(rt, &run, call, cut, report, settled)?;
+    match (ended, settled) {
         (Some(stop), _) => Err(stop),
         (None, Settled::Done) => Ok(None),
         (None, Settled::Quiet) => Ok(Some(run)),
@@ -198,10 +219,15 @@ fn write_kept(rt: &HostRuntime, run: &Stream<'_>, kept: Vec<Kept<'_>>) -> Result
 fn tell(
     rt: &HostRuntime,
     run: &Stream<'_>,
+    call: &Call<'_>,
+    cut: &Cut,
     report: ReportStream,
     settled: Settled,
 ) -> Result<(), Stop> {
-    let text = stream_report(rt.alloc(), &run.plant, settled)?;
+    let text = match call.slice {
+        Some(_) => slice_text(rt.alloc(), &run.plant, cut, settled)?,
+        None => stream_report(rt.alloc(), &run.plant, settled)?,
+    };
     let written = match report {
         ReportStream::Output => write_whole(&mut std::io::writer(rt), &text),
         ReportStream::Errors => write_whole(&mut rt.stderr(), &text),

@@ -180,7 +180,13 @@ fn with_command<'a>(
 fn check_command<'a>(alloc: Global) -> Result<clap::Command<'a>, clap::Error> {
     let check = subcommand(alloc, "check", "Reads the graph and reports on it")?;
     let feeds = flag(alloc, "feeds", "Tests the feeds too, as a run would");
-    Ok(check.arg(feeds)?)
+    let check = check.arg(feeds)?;
+    let slices = flag(
+        alloc,
+        "slices",
+        "Tells how a run is cut into slices of time",
+    );
+    Ok(check.arg(slices)?)
 }
 
 fn draw_command<'a>(alloc: Global) -> Result<clap::Command<'a>, clap::Error> {
@@ -287,7 +293,20 @@ fn with_ends<'a>(alloc: Global, run: clap::Command<'a>) -> Result<clap::Command<
         "tags",
         "Writes the tags of a sink to a file, a line each",
     );
-    Ok(run.arg(tags)?)
+    let run = run.arg(tags)?;
+    Ok(run.arg(slice(alloc)?)?)
+}
+
+// The word for a slice, which has no tags.
+fn slice<'a>(alloc: Global) -> Result<Arg<'a>, AllocError> {
+    let slice = Arg::new(alloc, "slice")
+        .long("slice")
+        .action(ArgAction::Set)
+        .value_name("J/N")
+        .help("Runs slice J of N of the input alone");
+    let slice = slice.requires_arg("input")?;
+    let slice = slice.conflicts_with("marks")?;
+    slice.conflicts_with("tags")
 }
 
 // A word for files, each with its block, whose name may begin with a dash.
