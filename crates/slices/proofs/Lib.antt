@@ -8,3 +8,4 @@ pub mod Passed
 pub mod Waiting
 pub mod Planning
 pub mod Cutting
+pub mod Reaching

@@ -9,6 +9,7 @@ use Rattle.stream_model.specs.Meaning.{Meaning, IsLawful, KeepsRole, HasCounts}
 use Rattle.stream_model.specs.Firings.{taken_at}
 use Rattle.stream_model.specs.Network.{Network, node_at, role_at, is_source, is_keeper}
 use Rattle.slice_laws.specs.Slices.{settled}
+use Rattle.slice_laws.specs.Tags.{both_right}
 use Rattle.slices.specs.Firings.{firing_at}
 use Rattle.slices.specs.Plans.{CanWait, IsEnoughMore, HasWaited}
 
@@ -47,29 +48,34 @@ settled-sink net f b lawful keeps =
     cond-false (is_source (role_at net b)) 0 ((node_at net b).meaning.given (f b)) sink.work ∙ sink.given (f b)
 
 -- so many blocks were looked at
-pub record IsWaiting (net : Network) (q first there : List ℕ) (longest count : ℕ) : Type 0 where
+pub record IsWaiting (net : Network) (q first tagged there : List ℕ) (longest count : ℕ) : Type 0 where
   pub few : longest ≤ 2 ^ 41
-  pub enough : (b : ℕ) → b < count → is_keeper (role_at net b) ≡ true → settled net (firing_at first) b ≤ get_or there b 0 + longest * get_or q b 0
-  pub least : (i : ℕ) → IsEnoughMore net q first there i → longest ≤ i
+  pub enough : (b : ℕ) → b < count → is_keeper (role_at net b) ≡ true → both_right net (firing_at first) (firing_at tagged) b ≤ get_or there b 0 + longest * get_or q b 0
+  pub least : (i : ℕ) → IsEnoughMore net q first tagged there i → longest ≤ i
 
-module _ (net : Network) (q first there : List ℕ) (can : CanWait net q first there) where
+module _ (net : Network) (q first tagged there : List ℕ) (can : CanWait net q first tagged there) where
   pub some_period : (b : ℕ) → b < length net.nodes → 1 ≤ get_or q b 0
   some_period b in' = All-get_or (λ n. 1 ≤ n) q b 0 (let l = can.can.balanced.blocks in omega arith) can.can.balanced.some
 
-  pub settled-few : (b : ℕ) → is_keeper (role_at net b) ≡ true → settled net (firing_at first) b ≤ 2 ^ 40
-  settled-few b keeps = let e = settled-sink net (firing_at first) b (can.can.runs.sound b).lawful keeps in let f = can.few_first b in omega arith
+  pub right-few : (b : ℕ) → is_keeper (role_at net b) ≡ true → both_right net (firing_at first) (firing_at tagged) b ≤ 2 ^ 40
+  right-few b keeps =
+      let e = settled-sink net (firing_at first) b (can.can.runs.sound b).lawful keeps in
+      let g = settled-sink net (firing_at tagged) b (can.can.runs.sound b).lawful keeps in
+      let few = can.few_first b in
+      let tags = can.few_tagged b in
+      omega arith
 
-  module _ (longest count : ℕ) (waiting : IsWaiting net q first there longest count) (in' : count < length net.nodes) where
-    pub wait_none : is_keeper (role_at net count) ≡ false → IsWaiting net q first there longest (count + 1)
+  module _ (longest count : ℕ) (waiting : IsWaiting net q first tagged there longest count) (in' : count < length net.nodes) where
+    pub wait_none : is_keeper (role_at net count) ≡ false → IsWaiting net q first tagged there longest (count + 1)
     wait_none other = record { few = waiting.few; enough = below_more _ _ waiting.enough (λ keeps. absurd (cc)); least = waiting.least }
 
-    pub wait_one : (w more : ℕ) → is_keeper (role_at net count) ≡ true → w ≤ settled net (firing_at first) count →
-        ((i : ℕ) → settled net (firing_at first) count ≤ get_or there count 0 + i * get_or q count 0 → w ≤ i) →
-        ((i : ℕ) → w ≤ i → settled net (firing_at first) count ≤ get_or there count 0 + i * get_or q count 0) →
-        more ≡ max longest w → IsWaiting net q first there more (count + 1)
+    pub wait_one : (w more : ℕ) → is_keeper (role_at net count) ≡ true → w ≤ both_right net (firing_at first) (firing_at tagged) count →
+        ((i : ℕ) → both_right net (firing_at first) (firing_at tagged) count ≤ get_or there count 0 + i * get_or q count 0 → w ≤ i) →
+        ((i : ℕ) → w ≤ i → both_right net (firing_at first) (firing_at tagged) count ≤ get_or there count 0 + i * get_or q count 0) →
+        more ≡ max longest w → IsWaiting net q first tagged there more (count + 1)
     wait_one w more keeps few least enough is =
         record {
-          few = (let s = settled-few count keeps in let f = waiting.few in omega arith);
+          few = (let s = right-few count keeps in let f = waiting.few in omega arith);
           enough = below_more _ _
               (λ b lt k. let h = waiting.enough b lt k in
               let le : longest ≤ more = omega arith in
@@ -79,5 +85,5 @@ module _ (net : Network) (q first there : List ℕ) (can : CanWait net q first t
           least = λ i all. (let a = waiting.least i all in let b = least i (all count in' keeps) in omega arith);
         }
 
-  pub all_waited : (longest count : ℕ) → IsWaiting net q first there longest count → length net.nodes ≤ count → HasWaited net q first there longest
+  pub all_waited : (longest count : ℕ) → IsWaiting net q first tagged there longest count → length net.nodes ≤ count → HasWaited net q first tagged there longest
   all_waited longest count waiting all = record { few = waiting.few; enough = λ b in' keeps. waiting.enough b (omega arith) keeps; least = waiting.least }

@@ -1,9 +1,11 @@
 -- A slice of a run, and that the run goes on with it.
 use Rattle.std.specs.Prelude.{ℕ, zero, suc, ◌+◌, ◌-◌, ◌*◌, ◌≤◌, ◌≡◌, ℤ, List, ◌++◌, length, map, drop, All}
-use Rattle.stream_model.specs.Network.{Network, Handed, writer_of, items_of}
+use Rattle.stream_model.specs.Network.{Network, Handed, writer_of, items_of, tags_entering}
 use Rattle.slice_laws.specs.Slices.{AreRest}
+use Rattle.slice_laws.specs.Tags.{tags_from_item, ahead_by, AreRestTags}
 use Rattle.slice_laws.specs.Pieces.{IsHandedMore}
 use Rattle.slice_laws.specs.Counting.{HasIterations}
+use Rattle.slices.specs.declared.plan.Asks.TheVariants.{ItemsAndTags}
 use Rattle.slices.specs.declared.plan.Plan.{Plan}
 use Rattle.slices.specs.declared.plan.Sink.{Sink}
 use Rattle.slices.specs.declared.slice.Part.{Part}
@@ -24,8 +26,15 @@ pub record GoesOn (net : Network) (before after rest : List Handed) (part : Part
   pub stands : length (items_into net before part.block.0) ≡ part.stands
   pub joins : items_into net after part.block.0 ≡ items_into net before part.block.0 ++ drop part.drop (items_into net rest part.block.0)
 
+-- the tags that came to a sink before go on with those of the slice on items that are not dropped, as far ahead as these items stand
+abbrev pub TagsGoOn : Network → List Handed → List Handed → List Handed → Part → Type 0
+TagsGoOn net before after rest part =
+    tags_entering net after part.block.0 0
+    ≡ tags_entering net before part.block.0 0 ++ ahead_by (part.stands - part.drop) (tags_from_item part.drop (tags_entering net rest part.block.0 0))
+
 -- the slice of a plan that begins at iteration k. It reads the iterations of the overlap before, as far as there are any. The first drops nothing. For a
--- later one take any tapes, those of their first k iterations, and what is left of the tapes from where the slice reads on
+-- later one take any tapes, those of their first k iterations, and what is left of the tapes from where the slice reads on. A plan for tags says the same of
+-- them, where marks are left out likewise
 pub record IsSlice (net : Network) (q : List ℕ) (plan : Plan) (k : ℕ) (slice : Slice) : Type 0 where
   pub reads : slice.from ≡ k - plan.overlap
   pub sinks : map (λ (part : Part). part.block.0) slice.parts.items ≡ keepers_of net
@@ -33,3 +42,6 @@ pub record IsSlice (net : Network) (q : List ℕ) (plan : Plan) (k : ℕ) (slice
   pub goes_on :
       1 ≤ k → (before after rest : List Handed) → HasIterations net q k before → IsHandedMore net before after → AreRest net q slice.from after rest →
       All (GoesOn net before after rest) slice.parts.items
+  pub tags_go_on :
+      plan.asks ≡ ItemsAndTags → 1 ≤ k → (before after rest : List Handed) → HasIterations net q k before → IsHandedMore net before after → AreRest net q slice.from after rest →
+      AreRestTags net q slice.from after rest → All (TagsGoOn net before after rest) slice.parts.items

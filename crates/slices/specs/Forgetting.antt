@@ -21,14 +21,13 @@ use Rattle.slice_laws.proofs.Rates.{keep_one_in_n-settles, delay-settles, skiphe
 use Rattle.slice_laws.proofs.Filters.{fir-settles, interp_fir-settles}
 use Rattle.slice_laws.proofs.Ends.{vector_sink-settles, null_sink-settles}
 use Rattle.slice_laws.proofs.Bits.{descrambler-settles, diff_decoder-settles, pack_k_bits-settles, unpack_k_bits-settles, correlate_access_code-settles, repacking-settles}
-use Rattle.slices.specs.declared.look_back.LookBack.{LookBack}
 use Rattle.slices.specs.declared.look_back.LookBack.TheVariants.{Items}
-use Rattle.slices.specs.LookBack.{back_of, IsFarEnough, LooksBack, HasLookBack}
+use Rattle.slices.specs.LookBack.{IsFarEnough, LooksBack, HasLookBack}
 use Rattle.slices.specs.Kinds.{look_back_of}
 
 -- what holds of the used inputs holds of all, since the others are right from the first item on
-module _ (m : Meaning) (look : LookBack) (inputs : ℕ) (right : ℕ → ℕ) (f : ℕ) (far : IsFarEnough m look inputs right f) where
-  reached : (p : ℕ) → right p ≤ taken_at (m.rate p) * f
+module _ (m : Meaning) (start back inputs : ℕ) (right : ℕ → ℕ) (f : ℕ) (far : IsFarEnough m start back inputs right f) where
+  pub reached : (p : ℕ) → right p ≤ taken_at (m.rate p) * f
   reached p =
       elim (cases_lt p inputs) [
         | inl used ↦ (let h = far.used p used in omega arith)
@@ -36,7 +35,7 @@ module _ (m : Meaning) (look : LookBack) (inputs : ℕ) (right : ℕ → ℕ) (f
       ]
 
   -- and so many items before, where inputs are taken alike
-  behind : (d : ℕ) → ((p : ℕ) → taken_at (m.rate p) ≡ d) → (p : ℕ) → right p + back_of look ≤ d * f
+  pub behind : (d : ℕ) → ((p : ℕ) → taken_at (m.rate p) ≡ d) → (p : ℕ) → right p + back ≤ d * f
   behind d same p =
       elim (cases_lt p inputs) [
         | inl used ↦ (let h = far.used p used in let e = ap (λ n. n * f) (same p) in omega arith)
@@ -45,7 +44,7 @@ module _ (m : Meaning) (look : LookBack) (inputs : ℕ) (right : ℕ → ℕ) (f
 
 -- a block of which a firing reads what it takes of each input
 at_paces : (m : Meaning) → m.limit ≡ None → ((right : ℕ → ℕ) (f : ℕ) → ((p : ℕ) → right p ≤ taken_at (m.rate p) * f) → Settles m right f) → LooksBack m (Items 0)
-at_paces m endless settles = record { endless = endless; settles = λ work inputs right f far. settles right f (reached m (Items 0) inputs right f far) }
+at_paces m endless settles = record { endless = endless; settles = λ work inputs right f far. settles right f (reached m 0 0 inputs right f far) }
 
 -- the same number of each
 paced : (m : Meaning) (d : ℕ) → m.limit ≡ None → ((p : ℕ) → taken_at (m.rate p) ≡ d) → ((right : ℕ → ℕ) (f : ℕ) → ((p : ℕ) → right p ≤ d * f) → Settles m right f) → LooksBack m (Items 0)
@@ -57,7 +56,7 @@ sync m endless same settles = paced m 1 endless same (λ right f reached. settle
 
 -- and so many items before
 past : (m : Meaning) (back d : ℕ) → m.limit ≡ None → ((p : ℕ) → taken_at (m.rate p) ≡ d) → ((right : ℕ → ℕ) (f : ℕ) → ((p : ℕ) → right p + back ≤ d * f) → Settles m right f) → LooksBack m (Items back)
-past m back d endless same settles = record { endless = endless; settles = λ work inputs right f far. settles right f (behind m (Items back) inputs right f far d same) }
+past m back d endless same settles = record { endless = endless; settles = λ work inputs right f far. settles right f (behind m 0 back inputs right f far d same) }
 
 -- a round has some items
 some_in_round : (lengths : List ℕ) → 1 ≤ length lengths → All (λ l. (1 ≤ l) × (l ≤ 1024)) lengths → 1 ≤ sum lengths
@@ -106,9 +105,9 @@ look_back_of-holds (Deinterleave b) is = paced _ b.ports.value refl (λ p. refl)
 look_back_of-holds (StreamMux b) is = at_paces _ refl (λ right f reached. stream_mux-settles b.item (lengths_of b) right f (some_in_round (lengths_of b) b.is_mux.some b.is_mux.each) reached)
 look_back_of-holds (Head b) is = absurd (cc)
 look_back_of-holds (SkipHead b) is =
-    record { endless = refl; settles = λ work inputs right f far. skiphead-settles b.item b.n right f far.past (λ p. let r = reached _ _ inputs right f far p in omega arith) }
+    record { endless = refl; settles = λ work inputs right f far. skiphead-settles b.item b.n right f far.past (λ p. let r = reached _ _ _ inputs right f far p in omega arith) }
 look_back_of-holds (Delay b) is =
-    record { endless = refl; settles = λ work inputs right f far. delay-settles b.item b.n right f (λ p. let r = behind _ _ inputs right f far 1 (λ p. refl) p in omega arith) }
+    record { endless = refl; settles = λ work inputs right f far. delay-settles b.item b.n right f (λ p. let r = behind _ _ _ inputs right f far 1 (λ p. refl) p in omega arith) }
 look_back_of-holds (PackKBits b) is = paced _ b.k refl (λ p. refl) (pack_k_bits-settles b.k)
 look_back_of-holds (UnpackKBits b) is = sync _ refl (λ p. refl) (λ right f reached. unpack_k_bits-settles b.k right f b.some reached)
 look_back_of-holds (RepackBits b) is = repacks b

@@ -1,8 +1,11 @@
 pub mod LookBack
 pub mod Kinds
 pub mod Forgetting
+pub mod Placing
+pub mod Reaches
 pub mod Firings
 pub mod Counts
 pub mod Plans
 pub mod Cuts
 pub mod Order
+pub mod Wanted

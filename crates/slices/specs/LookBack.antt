@@ -1,11 +1,13 @@
 -- How far back a block looks, and what that says of it.
-use Rattle.std.specs.Prelude.{ℕ, ◌+◌, ◌*◌, ◌<◌, ◌≤◌, ◌≡◌, Bool, true, false, None}
+use Rattle.std.specs.Prelude.{ℕ, ◌+◌, ◌*◌, ◌/◌, ◌<◌, ◌≤◌, ◌≡◌, min, Bool, true, false, Option, None}
 use Rattle.stream_model.specs.Meaning.{Meaning}
-use Rattle.stream_model.specs.Firings.{taken_at}
+use Rattle.stream_model.specs.Firings.{taken_at, given_at}
 use Rattle.stream_model.specs.Network.{is_source}
 use Rattle.slice_laws.specs.Slices.{Settles}
+use Rattle.slice_laws.specs.Tags.{Places}
 use Rattle.slices.specs.declared.look_back.LookBack.{LookBack}
 use Rattle.slices.specs.declared.look_back.LookBack.TheVariants.{Items, Delay, Skip, Number, Everything}
+use Rattle.slices.specs.declared.TheConstants.{MOST_FIRINGS}
 
 -- a block that forgets what came long ago
 abbrev pub is_forgetful : LookBack → Bool
@@ -31,18 +33,46 @@ start_of (Skip n) = n
 start_of Number = 0
 start_of Everything = 0
 
--- firing f comes after those that give nothing, and reads no item of a used input p before its item `right p`
-pub record IsFarEnough (m : Meaning) (look : LookBack) (inputs : ℕ) (right : ℕ → ℕ) (f : ℕ) : Type 0 where
+-- how many items before those that a firing takes have tags that go to what it gives, at a rate of i items for d: places are the nearest, and ties go up, so those
+-- of the last d / (2 * i) items of the firing before do
+abbrev pub nearest_back : Option (ℕ × ℕ) → ℕ
+nearest_back rate = taken_at rate / (2 * given_at rate)
+
+-- the same of each block, where `nearest` is that of its rate
+abbrev pub tags_back_of : LookBack → ℕ → ℕ
+tags_back_of (Items n) nearest = nearest
+tags_back_of (Delay n) nearest = n
+tags_back_of (Skip n) nearest = 0
+tags_back_of Number nearest = 0
+tags_back_of Everything nearest = 0
+
+-- how many firings come before those whose tags may be right: where items are left out, one more than give nothing, since their tags go to the first
+-- item that is given. No firing of a plan comes later than `MOST_FIRINGS`
+abbrev pub tags_start_of : LookBack → ℕ
+tags_start_of (Items n) = 0
+tags_start_of (Delay n) = 0
+tags_start_of (Skip n) = min n MOST_FIRINGS + 1
+tags_start_of Number = 0
+tags_start_of Everything = 0
+
+-- firing f comes not before firing `start`, and with `back` items before those that it takes looks at no item of a used input p before its item `right p`
+pub record IsFarEnough (m : Meaning) (start back inputs : ℕ) (right : ℕ → ℕ) (f : ℕ) : Type 0 where
   pub some : 1 ≤ inputs
-  pub past : start_of look ≤ f
-  pub used : (p : ℕ) → p < inputs → right p + back_of look ≤ taken_at (m.rate p) * f
+  pub past : start ≤ f
+  pub used : (p : ℕ) → p < inputs → right p + back ≤ taken_at (m.rate p) * f
   pub others : (p : ℕ) → inputs ≤ p → right p ≡ 0
 
 -- the block has no end of its own, and settles at each firing that is far enough
 pub record LooksBack (m : Meaning) (look : LookBack) : Type 0 where
   pub endless : m.limit ≡ None
-  pub settles : is_source m.role ≡ false → (inputs : ℕ) (right : ℕ → ℕ) (f : ℕ) → IsFarEnough m look inputs right f → Settles m right f
+  pub settles : is_source m.role ≡ false → (inputs : ℕ) (right : ℕ → ℕ) (f : ℕ) → IsFarEnough m (start_of look) (back_of look) inputs right f → Settles m right f
 
 -- of a block that does not forget nothing is said
 abbrev pub HasLookBack : Meaning → LookBack → Type 0
 HasLookBack m look = is_forgetful look ≡ true → LooksBack m look
+
+-- and its tags are right from each firing on that is far enough for them
+abbrev pub HasPlaces : Meaning → LookBack → Type 0
+HasPlaces m look =
+    is_forgetful look ≡ true → is_source m.role ≡ false → (inputs : ℕ) (right : ℕ → ℕ) (f : ℕ) → IsFarEnough m (tags_start_of look) (tags_back_of look (nearest_back (m.rate 0))) inputs right f →
+    Places m right f

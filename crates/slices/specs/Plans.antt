@@ -1,17 +1,21 @@
 -- The plan by which runs of a network are cut into slices.
-use Rattle.std.specs.Prelude.{ℕ, ◌+◌, ◌*◌, ◌^◌, ◌<◌, ◌≤◌, ◌≡◌, List, length, map, filter, None, true, false, slice_index}
+use Rattle.std.specs.Prelude.{ℕ, ◌+◌, ◌*◌, ◌^◌, ◌<◌, ◌≤◌, ◌≡◌, ◌⊎◌, List, length, map, filter, None, true, false, slice_index}
 use Rattle.stream_model.specs.Lists.{below}
 use Rattle.stream_model.specs.Network.{Network, node_at, role_at, is_source, is_keeper}
 use Rattle.graph_model.specs.Rates.{count_after, is_past_skips}
-use Rattle.slice_laws.specs.Slices.{settled, AreSettled}
+use Rattle.slice_laws.specs.Slices.{right_of, AreSettled}
+use Rattle.slice_laws.specs.Tags.{ArePlaced, both_right}
 use Rattle.slices.specs.declared.look_back.LookBack.{LookBack}
+use Rattle.slices.specs.declared.plan.Asks.{Asks}
+use Rattle.slices.specs.declared.plan.Asks.TheVariants as asking
 use Rattle.slices.specs.declared.plan.Source.{Source}
 use Rattle.slices.specs.declared.plan.Sink.{Sink}
 use Rattle.slices.specs.declared.plan.Plan.{Plan}
 use Rattle.slices.specs.declared.plan.Planned.{Planned}
 use Rattle.slices.specs.declared.plan.Planned.TheVariants as answers
+use Rattle.slices.specs.declared.reach.Reach.{Reach}
 use Rattle.slices.specs.LookBack.{is_forgetful}
-use Rattle.slices.specs.Firings.{look_at, firing_at, CanRise, AreFar, AreLate}
+use Rattle.slices.specs.Firings.{look_at, firing_at, CanRise, AreFirst, AreLeast, AreLate}
 use Rattle.slices.specs.Counts.{CanCut}
 
 -- each block forgets what came long ago
@@ -36,18 +40,33 @@ abbrev pub source_of : List ℕ → ℕ → ℕ → Source
 source_of q w b = record { block = record { 0 = b }; period = slice_index q b; overlap = w * slice_index q b }
 
 -- a sink takes q items an iteration; it has `count_after` of them after w iterations, and a slice drops these
-abbrev pub sink_of : Network → List ℕ → (ℕ → ℕ) → ℕ → ℕ → Sink
-sink_of net q f w b = record { block = record { 0 = b }; period = slice_index q b; settled = settled net f b; drop = count_after net q b w }
+abbrev pub sink_of : Network → List ℕ → (ℕ → ℕ) → (ℕ → ℕ) → ℕ → ℕ → Sink
+sink_of net q f g w b = record { block = record { 0 = b }; period = slice_index q b; settled = both_right net f g b; drop = count_after net q b w }
 
 -- the same, from counts after some iterations and so many more
-abbrev pub sink_at : Network → List ℕ → List ℕ → List ℕ → ℕ → ℕ → Sink
-sink_at net q first there more b =
-    record { block = record { 0 = b }; period = slice_index q b; settled = settled net (firing_at first) b; drop = slice_index there b + more * slice_index q b }
+abbrev pub sink_at : Network → List ℕ → List ℕ → List ℕ → List ℕ → ℕ → ℕ → Sink
+sink_at net q first tagged there more b =
+    record { block = record { 0 = b }; period = slice_index q b; settled = both_right net (firing_at first) (firing_at tagged) b; drop = slice_index there b + more * slice_index q b }
 
--- after j iterations all skips are past, and each sink has got what is not right yet
-pub record IsEnoughOverlap (net : Network) (q : List ℕ) (f : ℕ → ℕ) (j : ℕ) : Type 0 where
+-- after j iterations all skips are past, and each sink has got what is not right yet: items by firings f, tags by firings g
+pub record IsEnoughOverlap (net : Network) (q : List ℕ) (f g : ℕ → ℕ) (j : ℕ) : Type 0 where
   pub past : is_past_skips net q j ≡ true
-  pub sinks : (b : ℕ) → b < length net.nodes → is_keeper (role_at net b) ≡ true → settled net f b ≤ count_after net q b j
+  pub sinks : (b : ℕ) → b < length net.nodes → is_keeper (role_at net b) ≡ true → both_right net f g b ≤ count_after net q b j
+
+-- from firings g on tags are right: each block places them so, and what comes to a sink is right
+pub record AreTagged (net : Network) (g : ℕ → ℕ) : Type 0 where
+  pub placed : ArePlaced net g
+  pub sinks : (b : ℕ) → b < length net.nodes → is_keeper (role_at net b) ≡ true → right_of net g b 0 ≤ g b
+
+-- what is asked of firings g, where blocks settle at firings f: without tags they are the same
+abbrev pub AreAskedFor : Network → Asks → (ℕ → ℕ) → (ℕ → ℕ) → Type 0
+AreAskedFor net asking.Items f g = (b : ℕ) → g b ≡ f b
+AreAskedFor net asking.ItemsAndTags f g = AreTagged net g
+
+-- the lists of these firings: the least for tags, or those for items once more
+abbrev pub AreAsked : Network → List Reach → Asks → List ℕ → List ℕ → Type 0
+AreAsked net tags asking.Items first tagged = tagged ≡ first
+AreAsked net tags asking.ItemsAndTags first tagged = AreFirst net tags tagged
 
 -- a plan: its overlap is the least that is enough
 pub record IsPlan (net : Network) (q : List ℕ) (plan : Plan) : Type 0 where
@@ -55,39 +74,44 @@ pub record IsPlan (net : Network) (q : List ℕ) (plan : Plan) : Type 0 where
   pub endless : (b : ℕ) → (node_at net b).meaning.limit ≡ None
   pub firing : ℕ → ℕ
   pub settle : AreSettled net firing
+  pub tagged : ℕ → ℕ
+  pub asked : AreAskedFor net plan.asks firing tagged
   pub few : plan.overlap ≤ 2 ^ 42
-  pub enough : IsEnoughOverlap net q firing plan.overlap
-  pub least : (j : ℕ) → IsEnoughOverlap net q firing j → plan.overlap ≤ j
+  pub enough : IsEnoughOverlap net q firing tagged plan.overlap
+  pub least : (j : ℕ) → IsEnoughOverlap net q firing tagged j → plan.overlap ≤ j
   pub sources : plan.sources.items ≡ map (source_of q plan.overlap) (sources_of net)
-  pub sinks : plan.sinks.items ≡ map (sink_of net q firing plan.overlap) (keepers_of net)
+  pub sinks : plan.sinks.items ≡ map (sink_of net q firing tagged plan.overlap) (keepers_of net)
 
--- and its blocks settle at the least firings that are far enough
-pub record IsLeastPlan (net : Network) (q : List ℕ) (ls : List LookBack) (plan : Plan) : Type 0 where
+-- the plan that is asked for: its firings are the least that are far enough, for items and for tags
+pub record IsLeastPlan (net : Network) (q : List ℕ) (for_items for_tags : List Reach) (asked : Asks) (plan : Plan) : Type 0 where
   pub is : IsPlan net q plan
-  pub far : AreFar net ls is.firing
-  pub first : (f : ℕ → ℕ) → AreFar net ls f → (b : ℕ) → b < length net.nodes → is.firing b ≤ f b
+  pub asks : plan.asks ≡ asked
+  pub items : AreLeast net for_items is.firing
+  pub tags : asked ≡ asking.ItemsAndTags → AreLeast net for_tags is.tagged
 
 -- a plan, or why there is none
-abbrev pub IsPlanned : Network → List ℕ → List LookBack → Planned → Type 0
-IsPlanned net q ls (answers.Plan p) = IsLeastPlan net q ls p
-IsPlanned net q ls (answers.Remembers b) = IsFirstToRemember ls b.0
-IsPlanned net q ls answers.TooLate = AreLate net ls
+abbrev pub IsPlanned : Network → List ℕ → List LookBack → List Reach → List Reach → Asks → Planned → Type 0
+IsPlanned net q ls items tags asked (answers.Plan p) = IsLeastPlan net q items tags asked p
+IsPlanned net q ls items tags asked (answers.Remembers b) = IsFirstToRemember ls b.0
+IsPlanned net q ls items tags asked answers.TooLate = AreLate net items ⊎ ((asked ≡ asking.ItemsAndTags) × AreLate net tags)
 
--- firings from which blocks are right, and how many items each sink has got
-pub record CanWait (net : Network) (q first there : List ℕ) : Type 0 where
+-- firings from which items and tags are right, and how many items each sink has got
+pub record CanWait (net : Network) (q first tagged there : List ℕ) : Type 0 where
   pub can : CanCut net q
   pub rises : CanRise net first
+  pub rises_tagged : CanRise net tagged
   pub few_first : (b : ℕ) → slice_index first b ≤ 2 ^ 40
+  pub few_tagged : (b : ℕ) → slice_index tagged b ≤ 2 ^ 40
   pub long : length there ≡ length net.nodes
   pub few : (b : ℕ) → b < length net.nodes → slice_index there b ≤ 8589934592
 
 -- after i more iterations each sink has got what is not right yet
-abbrev pub IsEnoughMore : Network → List ℕ → List ℕ → List ℕ → ℕ → Type 0
-IsEnoughMore net q first there i =
-    (b : ℕ) → b < length net.nodes → is_keeper (role_at net b) ≡ true → settled net (firing_at first) b ≤ slice_index there b + i * slice_index q b
+abbrev pub IsEnoughMore : Network → List ℕ → List ℕ → List ℕ → List ℕ → ℕ → Type 0
+IsEnoughMore net q first tagged there i =
+    (b : ℕ) → b < length net.nodes → is_keeper (role_at net b) ≡ true → both_right net (firing_at first) (firing_at tagged) b ≤ slice_index there b + i * slice_index q b
 
 -- the least such number
-pub record HasWaited (net : Network) (q first there : List ℕ) (more : ℕ) : Type 0 where
+pub record HasWaited (net : Network) (q first tagged there : List ℕ) (more : ℕ) : Type 0 where
   pub few : more ≤ 2 ^ 41
-  pub enough : IsEnoughMore net q first there more
-  pub least : (i : ℕ) → IsEnoughMore net q first there i → more ≤ i
+  pub enough : IsEnoughMore net q first tagged there more
+  pub least : (i : ℕ) → IsEnoughMore net q first tagged there i → more ≤ i

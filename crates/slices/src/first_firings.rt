@@ -1,28 +1,21 @@
-//! The firings from which on blocks give what they would have given, whatever came before their inputs.
-ghost use Rattle.std.specs.Prelude.{◌≡◌, ◌<◌, ◌≤◌, ◌+◌, ℕ, true, false, All, length, slice_index, IfOk, MatchOption};
+//! The firings from which on blocks give what they would have given, whatever came before their inputs, and from which on their tags are right.
+ghost use Rattle.std.specs.Prelude.{◌≡◌, ◌<◌, ◌≤◌, ◌+◌, ◌*◌, ℕ, true, false, All, length, slice_index, IfOk, MatchOption};
 ghost use Rattle.stream_model.specs.Network.{node_at};
 ghost use Rattle.stream_model.specs.Firings.{taken_at};
 ghost use Rattle.slice_laws.specs.Slices.{settled};
 ghost use Rattle.flowgraph.specs.Flowgraph.{net_of, connection_of};
-ghost use Rattle.slices.specs.Firings.{looks_of, look_at, firing_at, IsEnough, AreFar, CanRise, HasRisen, AreBegun, AreRisen, AreFirst, AreLate};
+ghost use Rattle.slices.specs.Firings.{firing_at, IsEnough, AreFar, CanRise, HasRisen, AreBegun, AreRisen, AreFirst, AreLate};
 ghost use Rattle.slices.specs.Order.{AreWithin};
 
 use crate::MOST_FIRINGS;
-use crate::look_back::{Forgets, LookBack};
+use crate::reach::Reach;
 use crate::rising::raise;
+use block_kinds::Block;
 use flowgraph::{BlockId, Connection, Valid};
 use std::alloc::{AllocError, Global};
 
-/// How far back a block looks.
-pub fn look_at<B: Forgets>(graph: &Valid<B>, block: BlockId) -> LookBack
-    requires { block.0 < length graph.now.blocks }
-    ensures { result ≡ look_at (looks_of B.looks_back graph.now) block.0 }
-{
-    graph.block(block).look_back()
-}
-
 /// How many items of an input a base firing of a block takes.
-fn taken<B: Forgets>(graph: &Valid<B>, block: BlockId, port: usize) -> u64
+fn taken<B: Block>(graph: &Valid<B>, block: BlockId, port: usize) -> u64
     requires { block.0 < length graph.now.blocks }
     ensures value { result ≡ taken_at ((node_at (net_of B.meaning graph.now) block.0).meaning.rate port) }
     ensures some { 1 ≤ result }
@@ -35,8 +28,8 @@ fn taken<B: Forgets>(graph: &Valid<B>, block: BlockId, port: usize) -> u64
     }
 }
 
-/// From which item on what a block gives is right.
-pub fn settled_at<B: Forgets>(graph: &Valid<B>, block: BlockId, first: &[u64]) -> u64
+/// From which item on what a block gives is right, if it is from these firings on.
+pub fn settled_at<B: Block>(graph: &Valid<B>, block: BlockId, first: &[u64]) -> u64
     requires there { block.0 < length graph.now.blocks }
     requires can { CanRise (net_of B.meaning graph.now) first.now }
     ensures { result ≡ settled (net_of B.meaning graph.now) (firing_at first.now) block.0 }
@@ -49,33 +42,55 @@ pub fn settled_at<B: Forgets>(graph: &Valid<B>, block: BlockId, first: &[u64]) -
     }
 }
 
-/// The first firing of a connection's reader that looks back at nothing before the item from which on its writer is right.
-fn needed<B: Forgets>(graph: &Valid<B>, connection: Connection, first: &[u64]) -> u64
-    requires from { connection.from.0 < length graph.now.blocks }
-    requires to { connection.to.0 < length graph.now.blocks }
-    requires can { CanRise (net_of B.meaning graph.now) first.now }
+/// The first firing that leaves so many items behind, and some more, where each takes some.
+fn first_behind(right: u64, back: u64, taken: u64) -> u64
+    requires some { 1 ≤ taken }
+    requires few { taken ≤ 1024 }
     ensures most { result ≤ MOST_FIRINGS + 1 }
-    ensures least { (x : ℕ) → IsEnough (net_of B.meaning graph.now) (looks_of B.looks_back graph.now) (firing_at first.now) (connection_of connection) x → result ≤ x }
-    ensures enough { (x : ℕ) → x ≤ MOST_FIRINGS → result ≤ x → IsEnough (net_of B.meaning graph.now) (looks_of B.looks_back graph.now) (firing_at first.now) (connection_of connection) x }
+    ensures least { (x : ℕ) → right + back ≤ taken * x → result ≤ x }
+    ensures enough { (x : ℕ) → x ≤ MOST_FIRINGS → result ≤ x → right + back ≤ taken * x }
 {
-    let right = settled_at(graph, connection.from, first);
-    let back = look_at(graph, connection.to).back();
-    let taken = taken(graph, connection.to, connection.in_port);
     right
         .saturating_add(back)
         .div_ceil(taken)
         .min(MOST_FIRINGS + 1)
 }
 
+/// The first firing of a connection's reader that looks at nothing before the item from which on its writer is right.
+fn needed<B: Block>(
+    graph: &Valid<B>,
+    reaches: &[Reach],
+    connection: Connection,
+    first: &[u64],
+) -> u64
+    requires from { connection.from.0 < length graph.now.blocks }
+    requires to { connection.to.0 < length graph.now.blocks }
+    requires reaches { length reaches.now ≡ length graph.now.blocks }
+    requires can { CanRise (net_of B.meaning graph.now) first.now }
+    ensures most { result ≤ MOST_FIRINGS + 1 }
+    ensures least { (x : ℕ) → IsEnough (net_of B.meaning graph.now) reaches.now (firing_at first.now) (connection_of connection) x → result ≤ x }
+    ensures enough { (x : ℕ) → x ≤ MOST_FIRINGS → result ≤ x → IsEnough (net_of B.meaning graph.now) reaches.now (firing_at first.now) (connection_of connection) x }
+{
+    match reaches[connection.to.0 as usize].back {
+        Some(back) => first_behind(
+            settled_at(graph, connection.from, first),
+            back,
+            taken(graph, connection.to, connection.in_port),
+        ),
+        None => 0,
+    }
+}
+
 /// Raises the first firing of each block to which a connection leads, where that needs a later one. It answers whether it raised one.
-fn turn<B: Forgets>(graph: &Valid<B>, first: &mut [u64]) -> bool
-    requires { CanRise (net_of B.meaning graph.now) first.old }
-    ensures { HasRisen (net_of B.meaning graph.now) (looks_of B.looks_back graph.now) first.old first.new result }
+fn turn<B: Block>(graph: &Valid<B>, reaches: &[Reach], first: &mut [u64]) -> bool
+    requires reaches { length reaches.now ≡ length graph.now.blocks }
+    requires can { CanRise (net_of B.meaning graph.now) first.old }
+    ensures { HasRisen (net_of B.meaning graph.now) reaches.now first.old first.new result }
 {
     graph.recall();
     let mut risen = false;
     for connection in graph.connections() {
-        let firing = needed(graph, *connection, first);
+        let firing = needed(graph, reaches, *connection, first);
         if raise(first, connection.to.0 as usize, firing) {
             risen = true;
         }
@@ -83,51 +98,58 @@ fn turn<B: Forgets>(graph: &Valid<B>, first: &mut [u64]) -> bool
     risen
 }
 
-/// The firings before which blocks give nothing.
-fn starts<B: Forgets>(alloc: Global, graph: &Valid<B>) -> Result<Vec<u64>, AllocError>
-    ensures { IfOk result (λ first. AreBegun (net_of B.meaning graph.now) (looks_of B.looks_back graph.now) first.items) }
+/// The firings before which no block is right.
+fn starts<B: Block>(
+    alloc: Global,
+    graph: &Valid<B>,
+    reaches: &[Reach],
+) -> Result<Vec<u64>, AllocError>
+    requires { length reaches.now ≡ length graph.now.blocks }
+    ensures { IfOk result (λ first. AreBegun (net_of B.meaning graph.now) reaches.now first.items) }
 {
     let mut first = Vec::with_capacity(alloc, graph.len())?;
     for block in 0..graph.len() {
-        let start = look_at(graph, BlockId(block as u32)).start();
-        first.push(start.min(MOST_FIRINGS + 1))?;
+        first.push(reaches[block].start.min(MOST_FIRINGS + 1))?;
     }
     Ok(first)
 }
 
 /// Raises the first firing of a block to what its inputs need.
-fn look_at_inputs<B: Forgets>(graph: &Valid<B>, block: BlockId, first: &mut [u64])
+fn look_at_inputs<B: Block>(graph: &Valid<B>, reaches: &[Reach], block: BlockId, first: &mut [u64])
     requires there { block.0 < length graph.now.blocks }
-    requires begun { AreBegun (net_of B.meaning graph.now) (looks_of B.looks_back graph.now) first.old }
-    ensures { AreBegun (net_of B.meaning graph.now) (looks_of B.looks_back graph.now) first.new }
+    requires reaches { length reaches.now ≡ length graph.now.blocks }
+    requires begun { AreBegun (net_of B.meaning graph.now) reaches.now first.old }
+    ensures { AreBegun (net_of B.meaning graph.now) reaches.now first.new }
 {
     graph.recall();
     for input in graph.inputs(block) {
-        let firing = needed(graph, input.connection, first);
+        let firing = needed(graph, reaches, input.connection, first);
         raise(first, block.0 as usize, firing);
     }
 }
 
 /// Does so block by block.
-fn pass<B: Forgets>(graph: &Valid<B>, order: &[BlockId], first: &mut [u64])
+fn pass<B: Block>(graph: &Valid<B>, reaches: &[Reach], order: &[BlockId], first: &mut [u64])
+    requires reaches { length reaches.now ≡ length graph.now.blocks }
     requires order { AreWithin (length graph.now.blocks) order.now }
-    requires begun { AreBegun (net_of B.meaning graph.now) (looks_of B.looks_back graph.now) first.old }
-    ensures { AreBegun (net_of B.meaning graph.now) (looks_of B.looks_back graph.now) first.new }
+    requires begun { AreBegun (net_of B.meaning graph.now) reaches.now first.old }
+    ensures { AreBegun (net_of B.meaning graph.now) reaches.now first.new }
 {
     for block in order {
-        look_at_inputs(graph, *block, first);
+        look_at_inputs(graph, reaches, *block, first);
     }
 }
 
 /// Raises firings until they are far enough along each connection: in a pass in the order of the stream, and then in turns over all connections until a
 /// turn raises none. The first turn finds none, if the order is right.
-fn rise<B: Forgets>(graph: &Valid<B>, order: &[BlockId], first: &mut [u64])
+fn rise<B: Block>(graph: &Valid<B>, reaches: &[Reach], order: &[BlockId], first: &mut [u64])
+    requires reaches { length reaches.now ≡ length graph.now.blocks }
     requires order { AreWithin (length graph.now.blocks) order.now }
-    requires begun { AreBegun (net_of B.meaning graph.now) (looks_of B.looks_back graph.now) first.old }
-    ensures { AreRisen (net_of B.meaning graph.now) (looks_of B.looks_back graph.now) first.new }
+    requires begun { AreBegun (net_of B.meaning graph.now) reaches.now first.old }
+    ensures { AreRisen (net_of B.meaning graph.now) reaches.now first.new }
 {
-    pass(graph, order, first);
-    'turns: while turn(graph, first) {}
+    pass(graph, reaches, order, first);
+    'turns: while turn(graph, reaches, first) {}
 }
 
 /// Whether none of these is later than `MOST_FIRINGS`.
@@ -143,30 +165,38 @@ fn are_early(first: &[u64]) -> bool
     true
 }
 
-/// Raises firings until they are the least from which on blocks settle, and answers whether none is too late.
-fn settle<B: Forgets>(graph: &Valid<B>, order: &[BlockId], first: &mut [u64]) -> bool
+/// Raises firings until they are the least that are far enough, and answers whether none is too late.
+fn settle<B: Block>(
+    graph: &Valid<B>,
+    reaches: &[Reach],
+    order: &[BlockId],
+    first: &mut [u64],
+) -> bool
+    requires reaches { length reaches.now ≡ length graph.now.blocks }
     requires order { AreWithin (length graph.now.blocks) order.now }
-    requires begun { AreBegun (net_of B.meaning graph.now) (looks_of B.looks_back graph.now) first.old }
-    ensures first { result ≡ true → AreFirst (net_of B.meaning graph.now) (looks_of B.looks_back graph.now) first.new }
-    ensures late { result ≡ false → AreLate (net_of B.meaning graph.now) (looks_of B.looks_back graph.now) }
+    requires begun { AreBegun (net_of B.meaning graph.now) reaches.now first.old }
+    ensures first { result ≡ true → AreFirst (net_of B.meaning graph.now) reaches.now first.new }
+    ensures late { result ≡ false → AreLate (net_of B.meaning graph.now) reaches.now }
 {
     graph.recall();
-    rise(graph, order, first);
+    rise(graph, reaches, order, first);
     are_early(first)
 }
 
-/// The least firings from which on blocks settle, one for each block; nothing where one is later than `MOST_FIRINGS`.
-pub fn first_firings<B: Forgets>(
+/// The least firings that are far enough where blocks look at these items, one for each block; nothing where one is later than `MOST_FIRINGS`.
+pub fn first_firings<B: Block>(
     alloc: Global,
     graph: &Valid<B>,
+    reaches: &[Reach],
     order: &[BlockId],
 ) -> Result<Option<Vec<u64>>, AllocError>
-    requires { AreWithin (length graph.now.blocks) order.now }
-    ensures { IfOk result (λ found. MatchOption found (AreLate (net_of B.meaning graph.now) (looks_of B.looks_back graph.now))
-        (λ first. AreFirst (net_of B.meaning graph.now) (looks_of B.looks_back graph.now) first.items)) }
+    requires reaches { length reaches.now ≡ length graph.now.blocks }
+    requires order { AreWithin (length graph.now.blocks) order.now }
+    ensures { IfOk result (λ found. MatchOption found (AreLate (net_of B.meaning graph.now) reaches.now)
+        (λ first. AreFirst (net_of B.meaning graph.now) reaches.now first.items)) }
 {
-    let mut first = starts(alloc, graph)?;
-    if settle(graph, order, &mut first) {
+    let mut first = starts(alloc, graph, reaches)?;
+    if settle(graph, reaches, order, &mut first) {
         Ok(Some(first))
     } else {
         Ok(None)

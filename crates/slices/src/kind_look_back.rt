@@ -24,6 +24,7 @@ fn shown(block: &Kind) -> LookBack
 impl Forgets for Kind {
     ghost use Rattle.slices.specs.Kinds.{look_back_of};
     ghost use Rattle.slices.specs.Forgetting.{look_back_of-holds};
+    ghost use Rattle.slices.specs.Placing.{look_back_of-places};
 
     ghost looks_back = { look_back_of };
 
@@ -37,4 +38,6 @@ impl Forgets for Kind {
     }
 
     ghost forgets = { look_back_of-holds };
+
+    ghost places = { look_back_of-places };
 }

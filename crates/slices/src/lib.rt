@@ -9,11 +9,13 @@ mod order;
 mod overlap;
 mod past;
 pub mod plan;
+pub mod reach;
 mod rising;
 pub mod slice;
+pub mod wanted;
 
 pub use look_back::{Forgets, LookBack};
-pub use plan::{Plan, Planned, Sink, Source, plan_slices};
+pub use plan::{Asks, Plan, Planned, Sink, Source, plan_slices};
 pub use slice::{Part, Slice};
 
 /// A plan in which a block settles only after more firings than this is refused.

@@ -1,7 +1,8 @@
 //! How far back blocks look.
 ghost use Rattle.std.specs.Prelude.{◌≡◌, true};
-ghost use Rattle.slices.specs.LookBack.{is_forgetful, back_of, start_of, HasLookBack};
+ghost use Rattle.slices.specs.LookBack.{is_forgetful, back_of, start_of, tags_back_of, tags_start_of, HasLookBack, HasPlaces};
 
+use crate::MOST_FIRINGS;
 use block_kinds::Block;
 
 /// How far back a block looks.
@@ -50,6 +51,28 @@ impl LookBack {
             LookBack::Number | LookBack::Everything => 0,
         }
     }
+
+    /// How many items before those at its own place have tags that go to what a firing gives, where so many do by the rate of the block.
+    pub(crate) fn tags_back(self, nearest: u64) -> u64
+        ensures { result ≡ tags_back_of self nearest }
+    {
+        match self {
+            LookBack::Items(_) => nearest,
+            LookBack::Delay(count) => count,
+            LookBack::Skip(_) | LookBack::Number | LookBack::Everything => 0,
+        }
+    }
+
+    /// How many firings come before those whose tags may be right. Tags on items that are left out go to the first that is given, so it is not right.
+    pub(crate) fn tags_start(self) -> u64
+        ensures { result ≡ tags_start_of self }
+    {
+        match self {
+            LookBack::Skip(count) => count.min(MOST_FIRINGS) + 1,
+            LookBack::Items(_) | LookBack::Delay(_) => 0,
+            LookBack::Number | LookBack::Everything => 0,
+        }
+    }
 }
 
 /// A block that says how far back it looks.
@@ -65,4 +88,7 @@ pub trait Forgets: Block {
 
     /// It looks no further back: it settles as soon as its inputs are right from there on.
     ghost forgets: { (b : Self) → HasLookBack (Self.meaning b) (looks_back b) };
+
+    /// Nor do its tags: they are right as soon as those of its inputs are right from there on.
+    ghost places: { (b : Self) → HasPlaces (Self.meaning b) (looks_back b) };
 }

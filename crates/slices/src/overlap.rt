@@ -1,11 +1,12 @@
 //! How long sinks wait until what they get is right.
-ghost use Rattle.std.specs.Prelude.{◌≡◌, ◌≤◌, ◌+◌, ◌*◌, ◌↔◌, ℕ, length};
+ghost use Rattle.std.specs.Prelude.{◌≡◌, ◌<◌, ◌≤◌, ◌+◌, ◌*◌, ◌↔◌, ℕ, length};
 ghost use Rattle.flowgraph.specs.Flowgraph.{net_of};
-ghost use Rattle.slices.specs.Firings.{CanRise};
+ghost use Rattle.slice_laws.specs.Tags.{both_right};
+ghost use Rattle.slices.specs.Firings.{CanRise, firing_at};
 ghost use Rattle.slices.specs.Plans.{CanWait, HasWaited};
 
 use crate::first_firings::settled_at;
-use crate::look_back::Forgets;
+use block_kinds::Block;
 use flowgraph::{BlockId, Valid};
 
 /// After how many more iterations, each of so many items, there are so many.
@@ -18,23 +19,34 @@ fn wait(items: u64, there: u64, period: u64) -> u64
     items.saturating_sub(there).div_ceil(period)
 }
 
+/// From which item on a block's items are right by some firings, and their tags by others.
+pub fn right_at<B: Block>(graph: &Valid<B>, block: BlockId, first: &[u64], tagged: &[u64]) -> u64
+    requires there { block.0 < length graph.now.blocks }
+    requires first { CanRise (net_of B.meaning graph.now) first.now }
+    requires tagged { CanRise (net_of B.meaning graph.now) tagged.now }
+    ensures { result ≡ both_right (net_of B.meaning graph.now) (firing_at first.now) (firing_at tagged.now) block.0 }
+{
+    settled_at(graph, block, first).max(settled_at(graph, block, tagged))
+}
+
 /// After how many more iterations each sink has got what is not right yet, where it has got `there` items and gets as many more in an iteration as
 /// it fires.
-pub fn longest_wait<B: Forgets>(
+pub fn longest_wait<B: Block>(
     graph: &Valid<B>,
     firings: &[u32],
     first: &[u64],
+    tagged: &[u64],
     there: &[u64],
 ) -> u64
-    requires { CanWait (net_of B.meaning graph.now) firings.now first.now there.now }
-    ensures { HasWaited (net_of B.meaning graph.now) firings.now first.now there.now result }
+    requires { CanWait (net_of B.meaning graph.now) firings.now first.now tagged.now there.now }
+    ensures { HasWaited (net_of B.meaning graph.now) firings.now first.now tagged.now there.now result }
 {
     let mut longest: u64 = 0;
     for block in 0..graph.len() {
         let id = BlockId(block as u32);
         if graph.is_keeper(id) {
-            let settled = settled_at(graph, id, first);
-            longest = longest.max(wait(settled, there[block], u64::from(firings[block])));
+            let right = right_at(graph, id, first, tagged);
+            longest = longest.max(wait(right, there[block], u64::from(firings[block])));
         }
     }
     longest

@@ -3,19 +3,31 @@ ghost use Rattle.std.specs.Prelude.{◌≡◌, ◌<◌, ◌≤◌, ◌*◌, ◌+
 ghost use Rattle.flowgraph.specs.Flowgraph.{net_of};
 ghost use Rattle.rates.specs.Answer.{AreRates};
 ghost use Rattle.rates.specs.declared.answers.Rates.TheVariants.{Balanced};
-ghost use Rattle.slices.specs.Firings.{looks_of, AreFirst};
+ghost use Rattle.slices.specs.declared.reach.Content.TheVariants as content;
+ghost use Rattle.slices.specs.Firings.{looks_of, AreFirst, AreLate};
+ghost use Rattle.slices.specs.Reaches.{reaches_of};
 ghost use Rattle.slices.specs.Counts.{CanCut};
-ghost use Rattle.slices.specs.Plans.{AllForget, IsFirstToRemember, source_of, sources_of, sink_at, keepers_of, CanWait, IsLeastPlan, IsPlanned};
+ghost use Rattle.slices.specs.Plans.{AllForget, IsFirstToRemember, AreAsked, source_of, sources_of, sink_at, keepers_of, CanWait, IsLeastPlan, IsPlanned};
 ghost use Rattle.slices.specs.Order.{AreWithin};
 
-use crate::first_firings::{first_firings, look_at, settled_at};
+use crate::first_firings::first_firings;
 use crate::look_back::Forgets;
 use crate::order::in_order;
-use crate::overlap::longest_wait;
+use crate::overlap::{longest_wait, right_at};
 use crate::past::first_past;
+use crate::reach::{Content, look_at, reaches};
 use flowgraph::{BlockId, Valid};
 use rates::Repetitions;
 use std::alloc::{AllocError, Global};
+
+/// What slices have to give as the whole run does.
+#[derive(Clone, Copy, Debug, PartialEq, Eq)]
+pub enum Asks {
+    /// The items of sinks.
+    Items,
+    /// And the tags that come to sinks.
+    ItemsAndTags,
+}
 
 /// How the tape of a source is cut.
 #[derive(Clone, Copy, Debug, PartialEq, Eq)]
@@ -33,7 +45,7 @@ pub struct Sink {
     pub block: BlockId,
     /// How many items it takes in an iteration.
     pub period: u64,
-    /// From which item on a slice gives it what the whole run does.
+    /// From which item on a slice gives it what the whole run does: items, and tags where they are asked for.
     pub settled: u64,
     /// How many items of a slice are dropped.
     pub drop: u64,
@@ -42,6 +54,8 @@ pub struct Sink {
 /// The numbers by which the runs of a graph are cut: a slice reads some iterations before its own, and drops what these give.
 #[derive(Debug, Drop)]
 pub struct Plan {
+    /// What it was asked for.
+    pub asks: Asks,
     /// How many iterations before its own a slice reads: the least after which all skips are past and each sink has got what is not right yet.
     pub overlap: u64,
     /// Those of the sources, in the order of the blocks.
@@ -106,12 +120,13 @@ fn sinks<B: Forgets>(
     graph: &Valid<B>,
     firings: &[u32],
     first: &[u64],
+    tagged: &[u64],
     there: &[u64],
     more: u64,
 ) -> Result<Vec<Sink>, AllocError>
-    requires can { CanWait (net_of B.meaning graph.now) firings.now first.now there.now }
+    requires can { CanWait (net_of B.meaning graph.now) firings.now first.now tagged.now there.now }
     requires few { more ≤ 2 ^ 41 }
-    ensures { IfOk result (λ v. v.items ≡ map (sink_at (net_of B.meaning graph.now) firings.now first.now there.now more) (keepers_of (net_of B.meaning graph.now))) }
+    ensures { IfOk result (λ v. v.items ≡ map (sink_at (net_of B.meaning graph.now) firings.now first.now tagged.now there.now more) (keepers_of (net_of B.meaning graph.now))) }
 {
     let mut sinks = Vec::new(alloc);
     for block in 0..graph.len() {
@@ -121,7 +136,7 @@ fn sinks<B: Forgets>(
             sinks.push(Sink {
                 block: id,
                 period,
-                settled: settled_at(graph, id, first),
+                settled: right_at(graph, id, first, tagged),
                 drop: there[block] + more * period,
             })?;
         }
@@ -129,28 +144,47 @@ fn sinks<B: Forgets>(
     Ok(sinks)
 }
 
-/// The plan, where each block forgets and settles from these firings on.
+/// The plan, where each block forgets, items are right from some firings on, and tags from others on.
 fn made<B: Forgets>(
     alloc: Global,
     graph: &Valid<B>,
     order: &[BlockId],
     firings: &[u32],
     first: &[u64],
+    tagged: &[u64],
+    asks: Asks,
 ) -> Result<Plan, AllocError>
     requires order { AreWithin (length graph.now.blocks) order.now }
     requires can { CanCut (net_of B.meaning graph.now) firings.now }
     requires forget { AllForget (looks_of B.looks_back graph.now) }
-    requires first { AreFirst (net_of B.meaning graph.now) (looks_of B.looks_back graph.now) first.now }
-    ensures { IfOk result (IsLeastPlan (net_of B.meaning graph.now) firings.now (looks_of B.looks_back graph.now)) }
+    requires first { AreFirst (net_of B.meaning graph.now) (reaches_of B.meaning B.looks_back content.Items graph.now) first.now }
+    requires tagged { AreAsked (net_of B.meaning graph.now) (reaches_of B.meaning B.looks_back content.Tags graph.now) asks first.now tagged.now }
+    ensures { IfOk result (IsLeastPlan (net_of B.meaning graph.now) firings.now (reaches_of B.meaning B.looks_back content.Items graph.now) (reaches_of B.meaning B.looks_back content.Tags graph.now) asks) }
 {
     let past = first_past(alloc, graph, order, firings)?;
-    let more = longest_wait(graph, firings, first, &past.counts);
+    let more = longest_wait(graph, firings, first, tagged, &past.counts);
     let overlap = past.iterations + more;
     Ok(Plan {
+        asks,
         overlap,
         sources: sources(alloc, graph, firings, overlap)?,
-        sinks: sinks(alloc, graph, firings, first, &past.counts, more)?,
+        sinks: sinks(alloc, graph, firings, first, tagged, &past.counts, more)?,
     })
+}
+
+/// The least firings that are far enough, for items or for tags.
+fn first_for<B: Forgets>(
+    alloc: Global,
+    graph: &Valid<B>,
+    order: &[BlockId],
+    content: Content,
+) -> Result<Option<Vec<u64>>, AllocError>
+    requires { AreWithin (length graph.now.blocks) order.now }
+    ensures { IfOk result (λ found. MatchOption found (AreLate (net_of B.meaning graph.now) (reaches_of B.meaning B.looks_back content graph.now))
+        (λ first. AreFirst (net_of B.meaning graph.now) (reaches_of B.meaning B.looks_back content graph.now) first.items)) }
+{
+    let reaches = reaches(alloc, graph, content)?;
+    first_firings(alloc, graph, &reaches, order)
 }
 
 /// The numbers by which the runs of a graph with these rates are cut into slices. It fails only where the allocator refuses.
@@ -158,17 +192,26 @@ pub fn plan_slices<B: Forgets>(
     alloc: Global,
     graph: &Valid<B>,
     rates: &Repetitions,
+    asks: Asks,
 ) -> Result<Planned, AllocError>
     requires { AreRates (net_of B.meaning graph.now) (Balanced rates.now) }
-    ensures { IfOk result (IsPlanned (net_of B.meaning graph.now) rates.now.firings.items (looks_of B.looks_back graph.now)) }
+    ensures { IfOk result (IsPlanned (net_of B.meaning graph.now) rates.now.firings.items (looks_of B.looks_back graph.now)
+        (reaches_of B.meaning B.looks_back content.Items graph.now) (reaches_of B.meaning B.looks_back content.Tags graph.now) asks) }
 {
     graph.recall();
     if let Some(block) = first_to_remember(graph) {
         return Ok(Planned::Remembers(block));
     }
     let order = in_order(alloc, graph)?;
-    match first_firings(alloc, graph, &order)? {
-        Some(first) => Ok(Planned::Plan(made(alloc, graph, &order, rates.firings(), &first)?)),
-        None => Ok(Planned::TooLate),
-    }
+    let Some(first) = first_for(alloc, graph, &order, Content::Items)? else {
+        return Ok(Planned::TooLate);
+    };
+    let plan = match asks {
+        Asks::Items => made(alloc, graph, &order, rates.firings(), &first, &first, asks)?,
+        Asks::ItemsAndTags => match first_for(alloc, graph, &order, Content::Tags)? {
+            Some(tagged) => made(alloc, graph, &order, rates.firings(), &first, &tagged, asks)?,
+            None => return Ok(Planned::TooLate),
+        },
+    };
+    Ok(Planned::Plan(plan))
 }

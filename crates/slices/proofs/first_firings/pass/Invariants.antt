@@ -1,6 +1,6 @@
 use Rattle.flowgraph.specs.Flowgraph.{net_of}
-use Rattle.slices.specs.Firings.{looks_of, AreBegun}
+use Rattle.slices.specs.Firings.{AreBegun}
 use Rattle.slices.proofs.first_firings.pass.Given as goal
 
 abbrev pub invariant-loop-block : goal.invariant-loop-block
-invariant-loop-block g l = AreBegun (net_of g.B.Block.meaning l.graph) (looks_of g.B.Forgets.looks_back l.graph) l.first
+invariant-loop-block g l = AreBegun (net_of g.B.Block.meaning l.graph) l.reaches l.first

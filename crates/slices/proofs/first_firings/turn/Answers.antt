@@ -1,7 +1,6 @@
 use Rattle.std.proofs.Common.{length, arith, ap, get_or, inl, inr}
 use Rattle.std.proofs.lemmas.List.{length-map}
 use Rattle.flowgraph.specs.Flowgraph.{net_of, connection_of}
-use Rattle.slices.specs.Firings.{looks_of}
 use Rattle.slices.proofs.Wires.{no_wire, wire_is, in_net, from_in, to_in}
 use Rattle.slices.proofs.Turning.{inside, turn_step, turned}
 use Rattle.slices.proofs.first_firings.turn.Goals as goal
@@ -17,14 +16,14 @@ needed-firing-requires-clause-to g c =
 
 pub raise-requires : goal.raise-requires
 raise-requires g c =
-    inside (net_of g.B.Block.meaning c.args.graph.now) c.recall.ensures.runs (looks_of g.B.Forgets.looks_back c.args.graph.now) c.args.first.now c.loop-connection.first c.loop-connection.risen c.loop-connection.connection-index c.loop-connection.invariant
+    inside (net_of g.B.Block.meaning c.args.graph.now) c.recall.ensures.runs c.args.reaches.now c.args.first.now c.loop-connection.first c.loop-connection.risen c.loop-connection.connection-index c.loop-connection.invariant
     (in_net g.B.Block.meaning c.args.graph.now c.recall.ensures.runs c.connections-connection-items.result.now c.connections-connection-items.ensures c.loop-connection.connection-index c.loop-connection-test.true)
     (connection_of (get_or c.connections-connection-items.result.now c.loop-connection.connection-index no_wire))
     (wire_is g.B.Block.meaning c.args.graph.now c.recall.ensures.runs c.connections-connection-items.result.now c.connections-connection-items.ensures c.loop-connection.connection-index c.loop-connection-test.true)
 
 pub loop-connection-preserved : goal.loop-connection-preserved
 loop-connection-preserved g c =
-    turn_step (net_of g.B.Block.meaning c.args.graph.now) c.recall.ensures.runs (looks_of g.B.Forgets.looks_back c.args.graph.now) c.args.first.now c.loop-connection.first c.loop-connection.risen c.loop-connection.connection-index c.loop-connection.invariant
+    turn_step (net_of g.B.Block.meaning c.args.graph.now) c.recall.ensures.runs c.args.reaches.now c.args.first.now c.loop-connection.first c.loop-connection.risen c.loop-connection.connection-index c.loop-connection.invariant
     (in_net g.B.Block.meaning c.args.graph.now c.recall.ensures.runs c.connections-connection-items.result.now c.connections-connection-items.ensures c.loop-connection.connection-index c.loop-connection-test.true)
     (connection_of (get_or c.connections-connection-items.result.now c.loop-connection.connection-index no_wire))
     (wire_is g.B.Block.meaning c.args.graph.now c.recall.ensures.runs c.connections-connection-items.result.now c.connections-connection-items.ensures c.loop-connection.connection-index c.loop-connection-test.true)
@@ -34,5 +33,5 @@ loop-connection-preserved g c =
 
 pub returns : goal.returns
 returns g c =
-    turned (net_of g.B.Block.meaning c.args.graph.now) (looks_of g.B.Forgets.looks_back c.args.graph.now) c.args.first.now c.loop-connection.first c.loop-connection.risen c.loop-connection.connection-index c.loop-connection.invariant
+    turned (net_of g.B.Block.meaning c.args.graph.now) c.args.reaches.now c.args.first.now c.loop-connection.first c.loop-connection.risen c.loop-connection.connection-index c.loop-connection.invariant
     (let m = length-map c.args.graph.now.connections connection_of in let e = ap length c.connections-connection-items.ensures in let end = c.loop-connection-test.false in omega arith)

@@ -7,4 +7,4 @@ use Rattle.slices.proofs.plan.sinks.Given as goal
 
 abbrev pub invariant-loop-block : goal.invariant-loop-block
 invariant-loop-block g l =
-    l.sinks.items ≡ map (sink_at (net_of g.B.Block.meaning l.graph) l.firings l.first l.there l.more) (filter (λ b. is_keeper (role_at (net_of g.B.Block.meaning l.graph) b)) (below l.block))
+    l.sinks.items ≡ map (sink_at (net_of g.B.Block.meaning l.graph) l.firings l.first l.tagged l.there l.more) (filter (λ b. is_keeper (role_at (net_of g.B.Block.meaning l.graph) b)) (below l.block))
