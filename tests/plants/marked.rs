@@ -4,7 +4,7 @@ use super::pipelines::{Pieces, Run, Whole, given, texts, told, whole, written};
 use super::streamed::{BLOCKS, SINKS, WIRES};
 use flowgraph::BlockId;
 use items::Mark;
-use pipeline::{ByteOrder, Pipeline, PipelineFault, Settled};
+use pipeline::{ByteOrder, Pipeline, PipelineFault, Settled, StreamPart, TapePart};
 use std::alloc::Global;
 use std::process::Abort;
 use std::test::Fail;
@@ -205,5 +205,64 @@ fn marks_are_read_no_further_than_the_items(rt: HostRuntime) -> Result<(), Fail>
     let (bytes, tags) = given(&rt, &run, BlockId(1));
     assert!(rt; bytes == b"sour".as_slice(), "four items");
     assert!(rt; tags == b"@0:k=1/0\n@2:k=1/0\n".as_slice(), "and their tags");
+    Ok(())
+}
+
+// The items `source` from item 10 of a whole tape on, with the marks of the tape; and each item three times, from item 30 of a whole stream on, of which the first
+// six are left out.
+fn part_run(rt: &impl Abort, alloc: Global, marks: &[u8], goes_on: bool, most: u64) -> Result<Run, Fail> {
+    let blocks = [Make::Source, Make::Repeat(3), Make::Sink];
+    let plant = streaming(rt, alloc, &blocks, &[(0, 0, 1, 0), (1, 0, 2, 0)], 64);
+    let Ok(mut run) = Pipeline::new(alloc, plant) else {
+        panic!(rt; "no memory");
+    };
+    let pieces = |bytes, chance| Pieces { bytes, most, chance, reads_left: u64::MAX };
+    let (items, marks) = (Vec::from_slice(alloc, b"source")?, Vec::from_slice(alloc, marks)?);
+    assert!(rt; run.read_from(alloc, SOURCE, ByteOrder::Little, pieces(items, 1)).is_ok(), "a reader");
+    let tape = TapePart { origin: 10, goes_on };
+    assert!(rt; run.mark_part(alloc, SOURCE, tape, pieces(marks, 2)).is_ok(), "one of marks");
+    let (items, tags) = (written(alloc, u64::MAX), written(alloc, u64::MAX));
+    let part = StreamPart { origin: 30, drop: 6 };
+    assert!(rt; run.write_part(alloc, BlockId(2), part, ByteOrder::Little, items, tags).is_ok(), "writers");
+    Ok(run)
+}
+
+#[test]
+fn lines_of_a_part_count_the_items_of_the_whole(rt: HostRuntime) -> Result<(), Fail> {
+    let alloc = rt.alloc();
+    // Item 12 of the tape is item 2 of the part, which gives item 6 of the sink, item 36 of the whole stream.
+    let rows: [(&[u8], bool, &[u8]); 2] = [
+        (b"@3:a=1\n@9:a=2\n@10:b=3\n@12:c=4\n@15:d=5\n", false, b"@36:c=4/0\n@45:d=5/0\n"),
+        (b"@11:b=3\n@13:c=4\n@16:d=5\nno mark\n", true, b"@39:c=4/0\n"),
+    ];
+    for (marks, goes_on, lines) in rows {
+        for most in [1, 4, 60] {
+            let mut run = part_run(&rt, alloc, marks, goes_on, most)?;
+            assert!(rt; matches!(run.run(alloc), Ok(Settled::Done)), "done, {most}");
+            let (bytes, tags) = given(&rt, &run, BlockId(2));
+            assert!(rt; bytes == b"uuurrrccceee".as_slice(), "the items, {most}");
+            assert!(rt; tags == lines, "the tags, {most}");
+        }
+    }
+    Ok(())
+}
+
+#[test]
+fn marks_before_a_part_have_to_be_right(rt: HostRuntime) -> Result<(), Fail> {
+    let alloc = rt.alloc();
+    let rows: [(&[u8], u64, bool); 4] = [
+        (b"@3:a=\n@12:c=4\n", 1, true),
+        (b"@9:a=1\n@8:a=2\n@12:c=4\n", 2, false),
+        (b"@10:a=1\n@9:a=2\n", 2, false),
+        (b"@9:a=1\n@12:c=4\n@16:d=5\n", 3, false),
+    ];
+    for (marks, number, is_bad) in rows {
+        let mut run = part_run(&rt, alloc, marks, false, 5)?;
+        match run.run(alloc) {
+            Err(PipelineFault::BadMark(SOURCE, line)) => assert!(rt; is_bad && line == number, "line {number}"),
+            Err(PipelineFault::MarkPlace(SOURCE, line)) => assert!(rt; !is_bad && line == number, "line {number}"),
+            _ => panic!(rt; "no such fault, {number}"),
+        }
+    }
     Ok(())
 }

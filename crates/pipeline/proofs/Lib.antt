@@ -2,6 +2,8 @@ pub mod Growing
 pub mod Telling
 pub mod Refusing
 pub mod Parting
+pub mod Leaving
+pub mod Whole
 pub mod Reading
 pub mod TakingIn
 pub mod Delivering

@@ -1,7 +1,8 @@
 -- A pipeline that goes on, and on.
 use Rattle.std.proofs.Common.{◌≡◌, ℕ, ◌<◌, ◌≤◌, List, [], ◌++◌, length, take, true, not, refl, ap, sym, ◌∙◌, subst, arith, inl, inr, get_or, set, get_or-set_same, get_or-set_other, length-set}
-use Rattle.std.specs.Prelude.{Option, slice_range, slice_index_or}
+use Rattle.std.specs.Prelude.{Option, slice_index_or}
 use Rattle.std.specs.List.{flat_map}
+use Rattle.pipeline.specs.declared.part.StreamPart.{StreamPart}
 use Rattle.std.specs.Io.KnownBytes.{Appends}
 use Rattle.std.proofs.lemmas.List.{get_or_default, set-get_or}
 use Rattle.reporting.specs.Ends.{AppendsBeginning}
@@ -14,7 +15,6 @@ use Rattle.stream_laws.proofs.Past.{take-fewer}
 use Rattle.items.specs.Items.{type_of}
 use Rattle.raw_items.specs.declared.byte_order.ByteOrder.{ByteOrder}
 use Rattle.raw_items.specs.Values.{all_bytes_of, bytes_of}
-use Rattle.script_text.specs.Replies.{tag_line}
 use Rattle.stream_model.specs.Meaning.{Meaning}
 use Rattle.flowgraph.specs.Flowgraph.{Flowgraph, net_of}
 use Rattle.plant.specs.Plant.{PlantState}
@@ -29,7 +29,9 @@ use Rattle.pipeline.proofs.Growing.{Follows, appends_none, appends_then, begins_
 use Rattle.pipeline.proofs.Reading.{may_read-same, may_read-then, read-same, read-then}
 use Rattle.pipeline.specs.Steps.{Delivers, TakesIn}
 use Rattle.pipeline.proofs.Delivering.{grows_as}
-use Rattle.pipeline.proofs.Parting.{part_none, part_same, parts_join, within_narrow, within_none}
+use Rattle.pipeline.specs.Parts.{items_of_part, lines_of_part}
+use Rattle.pipeline.proofs.Leaving.{items_join, items_none, items_same, lines_join, lines_none}
+use Rattle.pipeline.proofs.Parting.{within_narrow}
 
 -- what reads go on
 abbrev pub Continues : {R : Type 0} → (R → Option (List ℕ)) → Intake R → Type 0
@@ -49,30 +51,37 @@ module _ {B : Type 0} (net : Network) (p q r : StreamingState B) where
 
 module _ {W : Type 0} (Grows : Growth) (follows : Follows Grows) (contents : W → Option (List ℕ)) (net : Network) (old new : State) (b from mid to : ℕ) (in' : b < length net.nodes) (le : from ≤ mid) (le2 : mid ≤ to)
     (items_stay : take mid (stream_into net new b) ≡ take mid (stream_into net old b)) (tags_stay : tags_within 0 mid (tags_into net new b) ≡ tags_within 0 mid (tags_into net old b)) where
-  all_items : (t : ItemType) (order : ByteOrder) → all_bytes_of t order (slice_range (stream_into net old b) from mid) ++ all_bytes_of t order (slice_range (stream_into net new b) mid to) ≡ all_bytes_of t order (slice_range (stream_into net new b) from to)
-  all_items t order =
+  all_items : (part : StreamPart) (t : ItemType) (order : ByteOrder) →
+      all_bytes_of t order (items_of_part part (stream_into net old b) from mid) ++ all_bytes_of t order (items_of_part part (stream_into net new b) mid to) ≡ all_bytes_of t order (items_of_part part (stream_into net new b) from to)
+  all_items part t order =
       let S = stream_into net new b in
-      sym (ap (flat_map (bytes_of t order)) (parts_join S from mid to le le2) ∙ flat_map-append (bytes_of t order) (slice_range S from mid) (slice_range S mid to)
-      ∙ ap (λ xs. all_bytes_of t order xs ++ all_bytes_of t order (slice_range S mid to)) (part_same (stream_into net old b) S from mid le items_stay))
+      sym (ap (flat_map (bytes_of t order)) (items_join part S from mid to le le2) ∙ flat_map-append (bytes_of t order) (items_of_part part S from mid) (items_of_part part S mid to)
+      ∙ ap (λ xs. all_bytes_of t order xs ++ all_bytes_of t order (items_of_part part S mid to)) (items_same part (stream_into net old b) S from mid le items_stay))
 
-  all_tags : flat_map tag_line (tags_within from mid (tags_into net old b)) ++ flat_map tag_line (tags_within mid to (tags_into net new b)) ≡ flat_map tag_line (tags_within from to (tags_into net new b))
-  all_tags =
+  all_tags : (part : StreamPart) → lines_of_part part (tags_within from mid (tags_into net old b)) ++ lines_of_part part (tags_within mid to (tags_into net new b)) ≡ lines_of_part part (tags_within from to (tags_into net new b))
+  all_tags part =
       let T = tags_into net new b in
       let same : tags_within from mid T ≡ tags_within from mid (tags_into net old b) =
       sym (within_narrow from mid mid (omega arith) T) ∙ ap (tags_within from mid) tags_stay ∙ within_narrow from mid mid (omega arith) (tags_into net old b) in
-      sym (ap (flat_map tag_line) (tags_join from mid to le le2 T (ordered_into net new b in')) ∙ flat_map-append tag_line (tags_within from mid T) (tags_within mid to T)
-      ∙ ap (λ ts. flat_map tag_line ts ++ flat_map tag_line (tags_within mid to T)) same)
+      sym (ap (lines_of_part part) (tags_join from mid to le le2 T (ordered_into net new b in')) ∙ lines_join part (tags_within from mid T) (tags_within mid to T)
+      ∙ ap (λ ts. lines_of_part part ts ++ lines_of_part part (tags_within mid to T)) same)
 
   pub written-then : (o o1 o2 : Output W) → HasWritten Appends contents net old b from mid o o1 → HasWritten Grows contents net new b mid to o1 o2 → HasWritten Grows contents net new b from to o o2
   written-then o o1 o2 first second =
-      let told : all_bytes_of (type_of o1.items) o1.order (slice_range (stream_into net new b) mid to) ≡ all_bytes_of (type_of o.items) o.order (slice_range (stream_into net new b) mid to) =
-      ap (λ t. all_bytes_of t o1.order (slice_range (stream_into net new b) mid to)) first.item ∙ ap (λ r. all_bytes_of (type_of o.items) r (slice_range (stream_into net new b) mid to)) first.order in
+      let S = stream_into net new b in
+      let T = tags_within mid to (tags_into net new b) in
+      let told : all_bytes_of (type_of o1.items) o1.order (items_of_part o1.part S mid to) ≡ all_bytes_of (type_of o.items) o.order (items_of_part o.part S mid to) =
+      ap (λ t. all_bytes_of t o1.order (items_of_part o1.part S mid to)) first.item ∙ ap (λ r. all_bytes_of (type_of o.items) r (items_of_part o1.part S mid to)) first.order
+      ∙ ap (λ (part : StreamPart). all_bytes_of (type_of o.items) o.order (items_of_part part S mid to)) first.part in
+      let lines : lines_of_part o1.part T ≡ lines_of_part o.part T = ap (λ (part : StreamPart). lines_of_part part T) first.part in
       record {
         order = second.order ∙ first.order;
         item = second.item ∙ first.item;
-        items = grows_as Grows contents o.items_to o.items_to o2.items_to o2.items_to _ _ refl refl (all_items (type_of o.items) o.order)
+        part = second.part ∙ first.part;
+        items = grows_as Grows contents o.items_to o.items_to o2.items_to o2.items_to _ _ refl refl (all_items o.part (type_of o.items) o.order)
             (writer_then contents Grows follows o.items_to o1.items_to o2.items_to _ _ first.items (grows_as Grows contents o1.items_to o1.items_to o2.items_to o2.items_to _ _ refl refl told second.items));
-        tags = grows_as Grows contents o.tags_to o.tags_to o2.tags_to o2.tags_to _ _ refl refl all_tags (writer_then contents Grows follows o.tags_to o1.tags_to o2.tags_to _ _ first.tags second.tags);
+        tags = grows_as Grows contents o.tags_to o.tags_to o2.tags_to o2.tags_to _ _ refl refl (all_tags o.part)
+            (writer_then contents Grows follows o.tags_to o1.tags_to o2.tags_to _ _ first.tags (grows_as Grows contents o1.tags_to o1.tags_to o2.tags_to o2.tags_to _ _ refl refl lines second.tags));
       }
 
 module _ {R W B : Type 0} (Grows : Growth) (Reads : Intake R) (contents : W → Option (List ℕ)) (net : Network) where
@@ -86,8 +95,9 @@ module _ {R W B : Type 0} (Grows : Growth) (Reads : Intake R) (contents : W → 
       λ _ _. record {
         order = refl;
         item = refl;
-        items = rw (drained_is, part_none (stream_into net q.plant.state b) (drained p b)) (writer_none contents Grows none o.items_to);
-        tags = rw (drained_is, within_none (drained p b) (tags_into net q.plant.state b)) (writer_none contents Grows none o.tags_to);
+        part = refl;
+        items = rw (drained_is, items_none o.part (stream_into net q.plant.state b) (drained p b)) (writer_none contents Grows none o.items_to);
+        tags = rw (drained_is, lines_none o.part (drained p b) (tags_into net q.plant.state b)) (writer_none contents Grows none o.tags_to);
       },
     )
 
@@ -237,8 +247,9 @@ module _ {R W B : Type 0} (remaining : R → Option (List ℕ)) (contents : W �
     written = λ in' keeper. record {
       order = ap Output.order rest;
       item = ap (λ (x : Output W). type_of x.items) rest;
-      items = rw (part_none (stream_into net p.plant.state b) (drained p b)) items;
-      tags = rw (within_none (drained p b) (tags_into net p.plant.state b)) tags;
+      part = ap Output.part rest;
+      items = rw (items_none o.part (stream_into net p.plant.state b) (drained p b)) items;
+      tags = rw (lines_none o.part (drained p b) (tags_into net p.plant.state b)) tags;
     };
   }
 
@@ -247,7 +258,7 @@ module _ {R W B : Type 0} (remaining : R → Option (List ℕ)) (contents : W �
     plant = d.plant;
     rises = d.rises;
     others = d.others;
-    written = λ in' keeper. let w = d.written in' keeper in record { order = w.order; item = w.item; items = writer_begins contents _ _ _ w.items; tags = writer_begins contents _ _ _ w.tags };
+    written = λ in' keeper. let w = d.written in' keeper in record { order = w.order; item = w.item; part = w.part; items = writer_begins contents _ _ _ w.items; tags = writer_begins contents _ _ _ w.tags };
   }
 
 module _ {R W B : Type 0} (remaining : R → Option (List ℕ)) (contents : W → Option (List ℕ)) (meaning : B → Meaning) (p q r : StreamingState B) (es fs gs : List (End R W)) (first : GoesOn remaining contents (net_of meaning p.plant.graph) p q es fs) where

@@ -10,6 +10,9 @@ module _ {A : Type 0} where
   pub part_none : (xs : List A) (n : ℕ) → slice_range xs n n ≡ []
   part_none xs n = let is : n - n ≡ 0 = omega arith in rw is refl
 
+  pub part_past : (xs : List A) (from to : ℕ) → to ≤ from → slice_range xs from to ≡ []
+  part_past xs from to le = let is : to - from ≡ 0 = omega (arith, le) in rw is refl
+
   -- a part of streams that agree up to its end
   pub part_same : (xs ys : List A) (from to : ℕ) → from ≤ to → take to ys ≡ take to xs → slice_range ys from to ≡ slice_range xs from to
   part_same xs ys from to le same =

@@ -129,14 +129,14 @@ module _ {R : Type 0} (remaining : R → Option (List ℕ)) where
     names-then Memory first = tt
 
   -- a mark that is held is refused, since it is barred
-  pub held-names : (Barred : Mark → Type 0) (k m : Marking R) (mark : Mark) (b : BlockId) → Gives remaining k m [] → m.held ≡ Some mark → Barred mark → NamesFirst remaining Barred k m (MarkPlace b m.line)
-  held-names Barred k m mark b gives held barred = first-then k m m [] (IsOut Barred) m.line gives (held-first m mark (IsOut Barred) held (λ above. inr barred))
+  pub held-names : (Barred : Mark → Type 0) (k m : Marking R) (mark : Mark) (b : BlockId) (xs : List Mark) → Gives remaining k m xs → m.held ≡ Some mark → Barred mark → NamesFirst remaining Barred k m (MarkPlace b m.line)
+  held-names Barred k m mark b xs gives held barred = first-then k m m xs (IsOut Barred) m.line gives (held-first m mark (IsOut Barred) held (λ above. inr barred))
 
   -- or since all that may be given on was
-  pub left-names : (k m : Marking R) (b : BlockId) (left : Option Mark) → Gives remaining k m [] → m.held ≡ left → IsSome left → ((n : ℕ) → IsGivenTo n k → m ≡ k) → NamesFirst remaining (IsBehind k) k m (MarkPlace b m.line)
-  left-names k m b None gives held some same = absurd (cc some)
-  left-names k m b (Some mark) gives held some same =
-      held-names (IsBehind k) k m mark b gives held (λ n up. up.held mark (sym (ap Marking.held (same n up)) ∙ held))
+  pub left-names : (k m : Marking R) (b : BlockId) (left : Option Mark) (xs : List Mark) → Gives remaining k m xs → m.held ≡ left → IsSome left → ((n : ℕ) → IsGivenTo n k → m ≡ k) → NamesFirst remaining (IsBehind k) k m (MarkPlace b m.line)
+  left-names k m b None xs gives held some same = absurd (cc some)
+  left-names k m b (Some mark) xs gives held some same =
+      held-names (IsBehind k) k m mark b xs gives held (λ n up. up.held mark (sym (ap Marking.held (same n up)) ∙ held))
 
   -- the line that comes next is refused
   module _ (m m' : Marking R) (n : ℕ) (goes_on : m.is_over ≡ false) (none : m.held ≡ None) (at : m'.is_over ≡ true → IsAtEnd (remaining m'.reader))

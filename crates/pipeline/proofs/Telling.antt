@@ -10,8 +10,12 @@ use Rattle.script_text.specs.Lines.{lines_of}
 use Rattle.script_text.specs.Splits.{IsUnfinished, most_held}
 use Rattle.script_text.specs.MarkLines.{line_mark, marks_said}
 use Rattle.script_text.proofs.LineLemmas.{return_less}
+use Rattle.pipeline.specs.declared.part.TapePart.{TapePart}
+use Rattle.pipeline.specs.MarkFaults.{Passes}
+use Rattle.pipeline.specs.Parts.{mark_behind, marks_behind}
 use Rattle.pipeline.specs.Marks.{AreRead, AreTold, FindsMarks, Follows, Gives, GivesTo, HasTold, IsRead, Marking, ReadsMarks, Rise, RiseTo, last_item}
 use Rattle.pipeline.proofs.Growing.{consumes_none, consumes_then}
+use Rattle.pipeline.proofs.Leaving.{mark_before, mark_own, marks_join}
 
 -- one more mark that is not before the last
 rise-more : (n : ℕ) (marks : List Mark) (mark : Mark) → Rise n marks → last_item n marks ≤ mark.offset → Rise n (marks ++ mark ∷ [])
@@ -56,6 +60,7 @@ module _ {R : Type 0} (remaining : R → Option (List ℕ)) where
     told = λ before given told. told_as m before (before ++ []) given (given ++ []) (sym (append-nil before)) (sym (append-nil given)) told;
     over = λ e. refl;
     stays_over = λ e. e;
+    part = refl;
   }
 
   module _ (k l m : Marking R) (xs : List Mark) (first : Gives remaining k l xs) where
@@ -66,6 +71,7 @@ module _ {R : Type 0} (remaining : R → Option (List ℕ)) where
       told = λ before given told. told_as m _ _ _ _ (append_assoc before first.bytes second.bytes) (append_assoc given xs ys) (second.told (before ++ first.bytes) (given ++ xs) (first.told before given told));
       over = λ e. let none = first.over e in let more = second.over (first.stays_over e) in rw (none, more) refl;
       stays_over = λ e. second.stays_over (first.stays_over e);
+      part = second.part ∙ first.part;
     }
 
     pub gives-read-then : IsRead remaining l m → IsRead remaining k m
@@ -82,8 +88,16 @@ module _ {R : Type 0} (remaining : R → Option (List ℕ)) where
   gives_to-then k l m xs ys zs first second = (
     first.0 ++ second.0,
     gives-then k l m first.0 first.1 second.0 second.1,
-    second.2 ∙ ap (λ ws. ws ++ second.0) first.2 ∙ append_assoc xs first.0 second.0,
+    second.2 ∙ ap (λ (part : TapePart). ys ++ marks_behind part.origin second.0) first.1.part ∙ ap (λ ws. ws ++ marks_behind k.part.origin second.0) first.2
+        ∙ append_assoc xs (marks_behind k.part.origin first.0) (marks_behind k.part.origin second.0) ∙ ap (λ ws. xs ++ ws) (sym (marks_join k.part.origin first.0 second.0)),
   )
+
+  pub gives_to-none : (m : Marking R) (xs : List Mark) → GivesTo remaining m m xs xs
+  gives_to-none m xs = ([], gives-none m, sym (append-nil xs))
+
+  -- what gave nothing on gives nothing on behind what there is
+  pub gives_to-any : (k l : Marking R) (xs : List Mark) → GivesTo remaining k l [] [] → GivesTo remaining k l xs xs
+  gives_to-any k l xs none = (none.0, none.1, sym (append-nil xs) ∙ ap (λ ws. xs ++ ws) none.2)
 
   -- a line was taken that says a mark, which is held
   pub line-gives : (m m' : Marking R) (line : List ℕ) (mark : Mark) → m.is_over ≡ false → m.held ≡ None →
@@ -113,6 +127,7 @@ module _ {R : Type 0} (remaining : R → Option (List ℕ)) where
         };
         over = λ e. refl;
         stays_over = λ e. absurd (cc (e, goes_on));
+        part = ap Marking.part is;
       }
 
   -- a piece was read, of which no line was taken as yet
@@ -138,12 +153,13 @@ module _ {R : Type 0} (remaining : R → Option (List ℕ)) where
         };
         over = λ e. absurd (cc (e, goes_on));
         stays_over = λ e. absurd (cc (e, goes_on));
+        part = ap Marking.part is;
       }
 
   -- the reader was at its end, and the line that it ends, where there is one, says the mark that is held
   pub end-gives : (m m' : Marking R) → m.is_over ≡ false → m.held ≡ None → Consumes (remaining m.reader) (remaining m'.reader) [] → IsAtEnd (remaining m'.reader) → m'.is_over ≡ true → m'.rest ≡ [] →
-      marks_said m.rest ≡ map Some (option_to_list m'.held) → Follows m.least m'.held m'.least → (IsSome m'.held → m'.line ≡ suc m.taken) → Gives remaining m m' []
-  end-gives m m' goes_on none read at over rest says follows number = record {
+      marks_said m.rest ≡ map Some (option_to_list m'.held) → Follows m.least m'.held m'.least → (IsSome m'.held → m'.line ≡ suc m.taken) → m'.part ≡ m.part → Gives remaining m m' []
+  end-gives m m' goes_on none read at over rest says follows number part = record {
     bytes = [];
     read = read;
     told = λ before given told. record {
@@ -160,6 +176,7 @@ module _ {R : Type 0} (remaining : R → Option (List ℕ)) where
     };
     over = λ e. refl;
     stays_over = λ e. over;
+    part = part;
   }
 
   -- the mark that was held was given on
@@ -186,7 +203,16 @@ module _ {R : Type 0} (remaining : R → Option (List ℕ)) where
         };
         over = λ e. refl;
         stays_over = λ e. same ∙ e;
+        part = ap Marking.part is;
       }
+
+  -- to the end of a list, where it is on an item of the part that is read
+  pub held-gives_to : (m m' : Marking R) (mark : Mark) (xs : List Mark) → m.held ≡ Some mark → m' ≡ record m { held = None } → m.part.origin ≤ mark.offset → GivesTo remaining m m' xs (xs ++ mark_behind m.part.origin mark ∷ [])
+  held-gives_to m m' mark xs held is own = (mark ∷ [], held-gives m m' mark held is, ap (λ ws. xs ++ ws) (sym (mark_own m.part.origin mark own)))
+
+  -- one before the part is passed over
+  pub passes-gives : (m m' : Marking R) → Passes m m' → GivesTo remaining m m' [] []
+  passes-gives m m' passes = (passes.mark ∷ [], held-gives m m' passes.mark passes.held passes.passed, sym (mark_before m.part.origin passes.mark passes.before))
 
   -- what was given on stands behind the tags
   pub finds-told : (b : ℕ) (k l : Option (Marking R)) (marks : List Mark) → FindsMarks remaining k l marks →
@@ -195,24 +221,29 @@ module _ {R : Type 0} (remaining : R → Option (List ℕ)) where
   finds-told b None (Some m) marks finds = absurd finds
   finds-told b (Some k) None marks finds = absurd finds
   finds-told b (Some k) (Some l) marks finds = (
-    finds.bytes,
-    finds.read,
-    λ before start tags told. (
-      told.0 ++ marks,
-      finds.told before told.0 told.1,
-      ap (λ ts. ts ++ map (tag_of b) marks) told.2 ∙ append_assoc start (map (tag_of b) told.0) (map (tag_of b) marks) ∙ ap (λ ts. start ++ ts) (sym (map-append (tag_of b) told.0 marks)),
-    ),
+    finds.1.bytes,
+    finds.1.read,
+    λ before start tags told.
+        let n : ℕ = k.part.origin in
+        let given = marks_behind n told.0 in
+        let both = told.0 ++ finds.0 in (
+          both,
+          finds.1.told before told.0 told.1,
+          ap (λ ts. ts ++ map (tag_of b) marks) told.2 ∙ append_assoc start (map (tag_of b) given) (map (tag_of b) marks)
+              ∙ ap (λ ts. start ++ ts) (ap (λ ms. map (tag_of b) given ++ map (tag_of b) ms) finds.2 ∙ sym (map-append (tag_of b) given (marks_behind n finds.0)) ∙ ap (map (tag_of b)) (sym (marks_join n told.0 finds.0)))
+              ∙ ap (λ (part : TapePart). start ++ map (tag_of b) (marks_behind part.origin both)) (sym finds.1.part),
+        ),
   )
 
   pub finds-read : (k l : Option (Marking R)) (marks : List Mark) → FindsMarks remaining k l marks → AreRead remaining k l
   finds-read None None marks finds = tt
   finds-read None (Some m) marks finds = absurd finds
   finds-read (Some k) None marks finds = absurd finds
-  finds-read (Some k) (Some l) marks finds = gives-read k l l marks finds
+  finds-read (Some k) (Some l) marks finds = gives-read k l l finds.0 finds.1
 
   pub finds-none : (k : Option (Marking R)) → FindsMarks remaining k k []
   finds-none None = refl
-  finds-none (Some m) = gives-none m
+  finds-none (Some m) = gives_to-none m []
 
   pub are_read-none : (k : Option (Marking R)) → AreRead remaining k k
   are_read-none None = tt
@@ -241,18 +272,18 @@ module _ {R : Type 0} (remaining : R → Option (List ℕ)) where
   said-gives m m' line (Some mark) goes_on none is follows taken says some = line-gives m m' line mark goes_on none is follows taken (sym says)
 
   pub last-gives : (m m' : Marking R) (line : List ℕ) (said : Option Mark) → m.is_over ≡ false → m.held ≡ None → m'.reader ≡ m.reader → IsAtEnd (remaining m.reader) → m'.is_over ≡ true → m'.rest ≡ [] → m'.held ≡ said →
-      line ∷ [] ≡ lines_of m.rest → said ≡ line_mark line → IsSome said → Follows m.least said m'.least → m'.line ≡ suc m.taken → Gives remaining m m' []
-  last-gives m m' line None goes_on none reader at over rest held lines says some follows number = absurd (cc some)
-  last-gives m m' line (Some mark) goes_on none reader at over rest held lines says some follows number =
+      line ∷ [] ≡ lines_of m.rest → said ≡ line_mark line → IsSome said → Follows m.least said m'.least → m'.line ≡ suc m.taken → m'.part ≡ m.part → Gives remaining m m' []
+  last-gives m m' line None goes_on none reader at over rest held lines says some follows number part = absurd (cc some)
+  last-gives m m' line (Some mark) goes_on none reader at over rest held lines says some follows number part =
       end-gives m m' goes_on none (rw reader (consumes_none (remaining m.reader))) (rw reader at) over rest
-      (rw held (ap (map line_mark) (sym lines) ∙ ap (λ x. x ∷ []) (sym says))) (rw held follows) (λ _. number)
+      (rw held (ap (map line_mark) (sym lines) ∙ ap (λ x. x ∷ []) (sym says))) (rw held follows) (λ _. number) part
 
   pub none-gives : (m m' : Marking R) → m.is_over ≡ false → m.held ≡ None → m' ≡ record m { rest = []; is_over = true } → IsAtEnd (remaining m.reader) → [] ≡ lines_of m.rest → Gives remaining m m' []
   none-gives m m' goes_on none is at lines =
       let reader : m'.reader ≡ m.reader = ap Marking.reader is in
       let held : m'.held ≡ None = ap Marking.held is ∙ none in
       end-gives m m' goes_on none (rw reader (consumes_none (remaining m.reader))) (rw reader at) (ap Marking.is_over is) (ap Marking.rest is) (rw held (ap (map line_mark) (sym lines))) (rw held (ap Marking.least is))
-      (λ some. absurd (not-none m'.held held some))
+      (λ some. absurd (not-none m'.held held some)) (ap Marking.part is)
 
   pub nothing-gives : (m m' : Marking R) → m.is_over ≡ false → m' ≡ record m { reader = m'.reader } → Consumes (remaining m.reader) (remaining m'.reader) [] → Gives remaining m m' []
   nothing-gives m m' goes_on is read = piece-gives m m' [] goes_on (is ∙ ap (λ (xs : List ℕ). record m { reader = m'.reader; rest = xs }) (sym (append-nil m.rest))) read

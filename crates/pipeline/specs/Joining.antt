@@ -9,6 +9,8 @@ use Rattle.plant.specs.declared.fault.PlantFault.TheVariants.{NoSuchBlock, NotSi
 use Rattle.pipeline.specs.declared.end.End.{End}
 use Rattle.pipeline.specs.declared.end.End.TheVariants as ends
 use Rattle.pipeline.specs.declared.end.Output.{Output}
+use Rattle.pipeline.specs.declared.part.StreamPart.{StreamPart}
+use Rattle.pipeline.specs.declared.part.TapePart.{TapePart}
 use Rattle.pipeline.specs.Ends.{InputState}
 use Rattle.pipeline.specs.Marks.{unread}
 use Rattle.pipeline.specs.Pipeline.{end_at}
@@ -25,12 +27,12 @@ abbrev pub JoinsReader : {R W : Type 0} → Network → ℕ → ByteOrder → R 
 JoinsReader net b order reader es es' =
     es' ≡ slice_set es b (ends.Input (record { reader = reader; has_failed = false; decoder = record { item_type = (node_at net b).meaning.outputs.item; order = order; cut = [] }; marks = None; is_ended = false }))
 
--- the items of a reader are marked by another, of which nothing was read
-pub record JoinsMarks {R W : Type 0} (b : ℕ) (reader : R) (es es' : List (End R W)) : Type 0 where
+-- the items of a reader, which are this part of a whole tape, are marked by another, of which nothing was read
+pub record JoinsMarks {R W : Type 0} (b : ℕ) (part : TapePart) (reader : R) (es es' : List (End R W)) : Type 0 where
   pub input : InputState R
   pub was : end_at es b ≡ ends.Input input
   pub unmarked : input.marks ≡ None
-  pub joined : es' ≡ slice_set es b (ends.Input (record input { marks = Some (unread reader) }))
+  pub joined : es' ≡ slice_set es b (ends.Input (record input { marks = Some (unread part reader) }))
 
 -- a block has a reader of items, and none of marks
 abbrev pub IsUnmarked : {R W : Type 0} → End R W → Type 0
@@ -50,11 +52,12 @@ IsUnread (ends.Input i) = ⊥
 IsUnread ends.Open = ⊤
 IsUnread (ends.Output o) = ⊤
 
--- it is joined to writers
-pub record JoinsWriters {R W : Type 0} (net : Network) (b : ℕ) (order : ByteOrder) (items tags : Option W) (es es' : List (End R W)) : Type 0 where
+-- it is joined to writers of this part of a whole stream
+pub record JoinsWriters {R W : Type 0} (net : Network) (b : ℕ) (part : StreamPart) (order : ByteOrder) (items tags : Option W) (es es' : List (End R W)) : Type 0 where
   pub output : Output W
   pub joined : es' ≡ slice_set es b (ends.Output output)
   pub order_is : output.order ≡ order
   pub item_is : type_of output.items ≡ (node_at net b).meaning.inputs.item
   pub items_is : output.items_to ≡ items
   pub tags_is : output.tags_to ≡ tags
+  pub part_is : output.part ≡ part

@@ -1,5 +1,5 @@
 -- Which line of marks is refused, and why.
-use Rattle.std.specs.Prelude.{ℕ, suc, ◌≡◌, ◌<◌, ◌≤◌, ◌⊎◌, ⊤, List, [], ◌∷◌, ◌++◌, true, map, length, Option, Some, None}
+use Rattle.std.specs.Prelude.{ℕ, suc, ◌≡◌, ◌+◌, ◌<◌, ◌≤◌, ◌⊎◌, ⊤, List, [], ◌∷◌, ◌++◌, true, map, length, Option, Some, None}
 use Rattle.std.specs.Io.KnownBytes.{Consumes, IsAtEnd}
 use Rattle.stream_model.specs.Tags.{Mark}
 use Rattle.script_text.specs.MarkLines.{marks_said}
@@ -40,26 +40,33 @@ NamesFirst remaining Barred old new (BadMark b n) = IsFirst remaining old new Is
 NamesFirst remaining Barred old new (MarkPlace b n) = IsFirst remaining old new (IsOut Barred) n
 NamesFirst remaining Barred old new _ = ⊤
 
--- its item is before item n
-abbrev pub IsBefore : ℕ → Mark → Type 0
-IsBefore n mark = mark.offset < n
+-- its item is one of the part that is read, before item n of that
+abbrev pub IsBefore : {R : Type 0} → ℕ → Marking R → Mark → Type 0
+IsBefore n m mark = (m.part.origin ≤ mark.offset) × (mark.offset < m.part.origin + n)
 
 -- its item is one from `start` to below `end`
 abbrev pub IsWithin : (start end : ℕ) → Mark → Type 0
 IsWithin start end mark = (start ≤ mark.offset) × (mark.offset < end)
 
--- each mark on an item below n was given on: the one that is held is on none of these, and where none is held, none comes any more
+-- each mark on an item below n of the part was given on, or passed over: the one that is held is on none of these, and where none is held, none comes any more
 pub record IsGivenTo {R : Type 0} (n : ℕ) (m : Marking R) : Type 0 where
-  pub held : (mark : Mark) → m.held ≡ Some mark → n ≤ mark.offset
+  pub held : (mark : Mark) → m.held ≡ Some mark → m.part.origin + n ≤ mark.offset
   pub none : m.held ≡ None → m.is_over ≡ true
 
 -- its item is none of those up to which all marks were given on
 abbrev pub IsBehind : {R : Type 0} → Marking R → Mark → Type 0
-IsBehind m mark = (n : ℕ) → IsGivenTo n m → n ≤ mark.offset
+IsBehind m mark = (n : ℕ) → IsGivenTo n m → m.part.origin + n ≤ mark.offset
 
 -- no item
 abbrev pub Never : Mark → Type 0
 Never mark = ⊥
+
+-- the mark that was held is passed over, since its item is before the part that is read
+pub record Passes {R : Type 0} (old new : Marking R) : Type 0 where
+  pub mark : Mark
+  pub held : old.held ≡ Some mark
+  pub before : mark.offset < old.part.origin
+  pub passed : new ≡ record old { held = None }
 
 -- why the mark that line n says is not held
 abbrev pub Refuses : ℕ → ℕ → Option Mark → PipelineFault → Type 0
@@ -68,13 +75,10 @@ Refuses least n (Some mark) (MarkPlace b k) = (k ≡ n) × (mark.offset < least)
 Refuses least n said _ = ⊥
 
 -- the same of a reader of marks where there is one
-abbrev pub NameFirst : {R : Type 0} → (R → Option (List ℕ)) → (Mark → Type 0) → (old new : Option (Marking R)) → PipelineFault → Type 0
-NameFirst remaining Barred (Some m) (Some m') fault = NamesFirst remaining Barred m m' fault
+abbrev pub NameFirst : {R : Type 0} → (R → Option (List ℕ)) → (Marking R → Mark → Type 0) → (old new : Option (Marking R)) → PipelineFault → Type 0
+NameFirst remaining Barred (Some m) (Some m') fault = NamesFirst remaining (Barred m) m m' fault
 NameFirst remaining Barred _ _ fault = ⊤
 
 abbrev pub AreGivenTo : {R : Type 0} → ℕ → Option (Marking R) → Type 0
 AreGivenTo n None = ⊤
 AreGivenTo n (Some m) = IsGivenTo n m
-
-abbrev pub AreBehind : {R : Type 0} → Option (Marking R) → Mark → Type 0
-AreBehind m mark = (n : ℕ) → AreGivenTo n m → n ≤ mark.offset

@@ -1,6 +1,5 @@
 -- What the ends of a pipeline have read and written.
-use Rattle.std.specs.Prelude.{ℕ, ℤ, ◌≡◌, ◌<◌, ◌≤◌, List, [], ◌++◌, length, take, Bool, true, false, not, slice_range, slice_index_or, ⊤, Option, Some, None}
-use Rattle.std.specs.List.{flat_map}
+use Rattle.std.specs.Prelude.{ℕ, ℤ, ◌≡◌, ◌<◌, ◌≤◌, List, [], ◌++◌, length, take, Bool, true, false, not, slice_index_or, ⊤, Option, Some, None}
 use Rattle.std.specs.Io.KnownBytes.{Appends, Consumes, IsAtEnd}
 use Rattle.stream_model.specs.Tags.{Tag, tags_within}
 use Rattle.stream_model.specs.Network.{Network, Handed, State, handed_at, role_at, is_keeper}
@@ -10,11 +9,11 @@ use Rattle.items.specs.Items.{type_of}
 use Rattle.raw_items.specs.Values.{all_bytes_of}
 use Rattle.raw_items.specs.Decoding.{HasDecoded}
 use Rattle.reporting.specs.Ends.{AppendsBeginning}
-use Rattle.script_text.specs.Replies.{tag_line}
 use Rattle.streaming.specs.Streaming.{StreamingState, drained, stream_into, tags_into}
 use Rattle.pipeline.specs.declared.end.End.{End}
 use Rattle.pipeline.specs.declared.end.End.TheVariants as ends
 use Rattle.pipeline.specs.Ends.{InputState}
+use Rattle.pipeline.specs.Parts.{items_of_part, lines_of_part}
 use Rattle.pipeline.specs.Marks.{AreOver, AreRead, AreTold, ReadsMarks, have_failed}
 use Rattle.pipeline.specs.declared.end.Output.{Output}
 
@@ -29,12 +28,13 @@ WriterGrows Grows contents (Some w) (Some w') text = Grows (contents w) (content
 WriterGrows Grows contents None (Some w') text = ⊥
 WriterGrows Grows contents (Some w) None text = ⊥
 
--- the writers of sink b were given what was drained of it: items `from` to below `to` of the stream that enters it, and the tags on them
+-- the writers of sink b were given what was drained of it: items `from` to below `to` of the stream that enters it, and the tags on them, as far as they are of the part that is written
 pub record HasWritten {W : Type 0} (Grows : Growth) (contents : W → Option (List ℕ)) (net : Network) (st : State) (b from to : ℕ) (old new : Output W) : Type 0 where
   pub order : new.order ≡ old.order
   pub item : type_of new.items ≡ type_of old.items
-  pub items : WriterGrows Grows contents old.items_to new.items_to (all_bytes_of (type_of old.items) old.order (slice_range (stream_into net st b) from to))
-  pub tags : WriterGrows Grows contents old.tags_to new.tags_to (flat_map tag_line (tags_within from to (tags_into net st b)))
+  pub part : new.part ≡ old.part
+  pub items : WriterGrows Grows contents old.items_to new.items_to (all_bytes_of (type_of old.items) old.order (items_of_part old.part (stream_into net st b) from to))
+  pub tags : WriterGrows Grows contents old.tags_to new.tags_to (lines_of_part old.part (tags_within from to (tags_into net st b)))
 
 -- how a reader and what its source, block b, is handed change
 abbrev pub Intake : Type 0 → Type 1
@@ -42,7 +42,7 @@ Intake R = (b : ℕ) → InputState R → InputState R → Handed → Handed →
 
 -- what was read was fed: if the tape ended with the items of some bytes, it ends with those of these bytes and what was read. If its tags were those at some start
 -- and the marks that were given on of some bytes, they are those that were given on of these bytes and what was read of the reader of marks. The source is closed
--- only as its reader ends: it is then at its end, its bytes were whole items, and no mark is left. A reader that had ended is not read, nor its source fed. No read failed
+-- only as its reader ends: it is then at its end, its bytes were whole items, and no mark is left, unless the tape goes on behind its part. A reader that had ended is not read, nor its source fed. No read failed
 pub record HasRead {R : Type 0} (remaining : R → Option (List ℕ)) (b : ℕ) (old new : InputState R) (handed handed' : Handed) : Type 0 where
   pub bytes : List ℕ
   pub read : Consumes (remaining old.reader) (remaining new.reader) bytes

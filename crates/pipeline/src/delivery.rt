@@ -1,7 +1,6 @@
 //! What a sink has taken goes to its writers.
 
-ghost use Rattle.std.specs.Prelude.{◌≡◌, ◌<◌, ◌^◌, length, true, [], IfErr, OnOk, OnErr};
-ghost use Rattle.std.specs.List.{flat_map};
+ghost use Rattle.std.specs.Prelude.{◌≡◌, ◌<◌, ◌≤◌, ◌+◌, ◌^◌, length, drop, true, [], ◌∷◌, ◌++◌, IfErr, IfNone, IfSome, OnOk, OnErr};
 ghost use Rattle.std.specs.Io.KnownBytes.{Appends};
 ghost use Rattle.stream_model.specs.Network.{role_at, is_keeper};
 ghost use Rattle.machine_laws.specs.Sound.{fired};
@@ -9,23 +8,26 @@ ghost use Rattle.items.specs.Items.{numbers_of, type_of};
 ghost use Rattle.flowgraph.specs.Flowgraph.{net_of};
 ghost use Rattle.raw_items.specs.Values.{all_bytes_of};
 ghost use Rattle.reporting.specs.Ends.{AppendsBeginning};
-ghost use Rattle.script_text.specs.Printed.{tags_seen};
-ghost use Rattle.script_text.specs.Replies.{tag_line};
+ghost use Rattle.script_text.specs.Printed.{tag_seen, tags_seen};
 ghost use Rattle.streaming.specs.Streaming.{drained};
 ghost use Rattle.pipeline.specs.Faults.{IsNotOfItems, IsNotOfTags, IsOfWriters, LeavesTags};
+ghost use Rattle.pipeline.specs.Parts.{ahead_by, lines_of_part};
 ghost use Rattle.pipeline.specs.Pipeline.{WriterGrows};
 ghost use Rattle.pipeline.specs.Steps.{Delivers};
 
 use crate::end::Output;
 use crate::fault::PipelineFault;
+use crate::part::StreamPart;
 use flowgraph::{Block, BlockId};
 use raw_items::push_item_bytes;
 use reporting::write_whole;
 use script_text::push_tag_lines;
+use std::alloc::AllocError;
 use std::io::Write;
 use streaming::StreamingPlant;
+use tags::Tag;
 
-/// Drains a sink of all that it has taken, and writes that.
+/// Drains a sink of all that it has taken, and writes that, as far as it is of the part that is written.
 pub(crate) fn deliver<B: Block, W: Write>(
     plant: &mut StreamingPlant<B>,
     sink: BlockId,
@@ -45,7 +47,7 @@ pub(crate) fn deliver<B: Block, W: Write>(
         Err(fault) => return Err(PipelineFault::of_plant(sink, fault)),
     };
     let _held = counted(appended.held);
-    write_items(sink, output)?;
+    write_items(sink, output, output.part.drop.saturating_sub(appended.from))?;
     write_tags(sink, output)
 }
 
@@ -57,11 +59,15 @@ fn counted(number: u64) -> u64
     number
 }
 
-// Writes the items that were drained.
-fn write_items<W: Write>(sink: BlockId, output: &mut Output<W>) -> Result<(), PipelineFault>
+// Writes the items that were drained, but for so many of the first.
+fn write_items<W: Write>(
+    sink: BlockId,
+    output: &mut Output<W>,
+    left_out: u64,
+) -> Result<(), PipelineFault>
     ensures rest { output.new ≡ record output.old { items_to = output.new.items_to; bytes = output.new.bytes } }
-    ensures ok { OnOk result (WriterGrows Appends W.contents output.old.items_to output.new.items_to (all_bytes_of (type_of output.old.items) output.old.order (numbers_of output.old.items))) }
-    ensures err { OnErr result (WriterGrows AppendsBeginning W.contents output.old.items_to output.new.items_to (all_bytes_of (type_of output.old.items) output.old.order (numbers_of output.old.items))) }
+    ensures ok { OnOk result (WriterGrows Appends W.contents output.old.items_to output.new.items_to (all_bytes_of (type_of output.old.items) output.old.order (drop left_out (numbers_of output.old.items)))) }
+    ensures err { OnErr result (WriterGrows AppendsBeginning W.contents output.old.items_to output.new.items_to (all_bytes_of (type_of output.old.items) output.old.order (drop left_out (numbers_of output.old.items)))) }
     ensures fault { IfErr result (IsOfWriters sink output.new) }
     ensures own { IfErr result IsNotOfTags }
 {
@@ -69,24 +75,20 @@ fn write_items<W: Write>(sink: BlockId, output: &mut Output<W>) -> Result<(), Pi
         return Ok(());
     };
     output.bytes.clear();
-    push_item_bytes(
-        &mut output.bytes,
-        &output.items,
-        0,
-        output.items.len(),
-        output.order,
-    )?;
+    let count = output.items.len();
+    let first = left_out.min(count as u64) as usize;
+    push_item_bytes(&mut output.bytes, &output.items, first, count, output.order)?;
     match write_whole(writer, &output.bytes) {
         Ok(()) => Ok(()),
         Err(error) => Err(PipelineFault::WriteItems(sink, error)),
     }
 }
 
-// Writes the tags that were drained.
+// Writes the tags that were drained, as far as they are of the part that is written.
 fn write_tags<W: Write>(sink: BlockId, output: &mut Output<W>) -> Result<(), PipelineFault>
     ensures rest { output.new ≡ record output.old { tags_to = output.new.tags_to; bytes = output.new.bytes } }
-    ensures ok { OnOk result (WriterGrows Appends W.contents output.old.tags_to output.new.tags_to (flat_map tag_line (tags_seen output.old.tags.items))) }
-    ensures err { OnErr result (WriterGrows AppendsBeginning W.contents output.old.tags_to output.new.tags_to (flat_map tag_line (tags_seen output.old.tags.items))) }
+    ensures ok { OnOk result (WriterGrows Appends W.contents output.old.tags_to output.new.tags_to (lines_of_part output.old.part (tags_seen output.old.tags.items))) }
+    ensures err { OnErr result (WriterGrows AppendsBeginning W.contents output.old.tags_to output.new.tags_to (lines_of_part output.old.part (tags_seen output.old.tags.items))) }
     ensures fault { IfErr result (IsOfWriters sink output.new) }
     ensures own { IfErr result IsNotOfItems }
 {
@@ -94,11 +96,49 @@ fn write_tags<W: Write>(sink: BlockId, output: &mut Output<W>) -> Result<(), Pip
         return Ok(());
     };
     output.bytes.clear();
-    push_tag_lines(&mut output.bytes, &output.tags)?;
+    push_lines(&mut output.bytes, &output.tags, output.part)?;
     match write_whole(writer, &output.bytes) {
         Ok(()) => Ok(()),
         Err(error) => Err(PipelineFault::WriteTags(sink, error)),
     }
+}
+
+// Appends the lines of tags, as far as they are of the part that is written.
+fn push_lines(bytes: &mut Vec<u8>, tags: &[Tag], part: StreamPart) -> Result<(), AllocError>
+    ensures { OnOk result (bytes.new.items ≡ bytes.old.items ++ lines_of_part part (tags_seen tags.now)) }
+{
+    for tag in tags {
+        push_line(bytes, *tag, part)?;
+    }
+    Ok(())
+}
+
+// Appends that of one tag.
+fn push_line(bytes: &mut Vec<u8>, tag: Tag, part: StreamPart) -> Result<(), AllocError>
+    ensures { OnOk result (bytes.new.items ≡ bytes.old.items ++ lines_of_part part (tag_seen tag ∷ [])) }
+{
+    if tag.offset < part.drop {
+        return Ok(());
+    }
+    match ahead(part.origin, tag) {
+        Some(moved) => push_tag_lines(bytes, &[moved]),
+        // No stream is so long.
+        None => Err(AllocError),
+    }
+}
+
+// A tag so many items further on, where that number fits.
+fn ahead(origin: u64, tag: Tag) -> Option<Tag>
+    ensures moved { IfSome result (λ moved. tag_seen moved ≡ ahead_by origin (tag_seen tag)) }
+    ensures none { IfNone result (2 ^ 64 ≤ origin + tag.offset) }
+{
+    let offset = origin.checked_add(tag.offset)?;
+    Some(Tag {
+        offset,
+        key: tag.key,
+        value: tag.value,
+        source: tag.source,
+    })
 }
 
 /// Has its writers hand on what they hold back.

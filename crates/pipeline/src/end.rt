@@ -8,6 +8,7 @@ ghost use Rattle.pipeline.specs.Pipeline.{has_more};
 
 use crate::fault::PipelineFault;
 use crate::marks::MarkReader;
+use crate::part::{StreamPart, TapePart};
 use crate::tracked::Tracked;
 use flowgraph::BlockId;
 use items::{ItemType, Items, Mark};
@@ -67,23 +68,24 @@ impl<R> Input<R> {
 }
 
 impl<R: Drop> Input<R> {
-    /// Joins a reader of marks, where there is none.
+    /// Joins a reader of marks of this part of a tape, where there is none.
     pub(crate) fn join_marks(
         &mut self,
         alloc: Global,
         source: BlockId,
+        part: TapePart,
         reader: R,
     ) -> Result<(), PipelineFault>
         ensures joined { (self.old.marks ≡ None → ⊥) → result ≡ Err (Joined source) }
         ensures free { self.old.marks ≡ None → IfErr result (λ fault. fault ≡ Memory) }
-        ensures ok { OnOk result (self.new ≡ record self.old { marks = Some (unread reader) }) }
+        ensures ok { OnOk result (self.new ≡ record self.old { marks = Some (unread part reader) }) }
         ensures unmarked { OnOk result (self.old.marks ≡ None) }
         ensures err { OnErr result (self.new ≡ self.old) }
     {
         if self.marks.is_some() {
             return Err(PipelineFault::Joined(source));
         }
-        self.marks = Some(MarkReader::new(alloc, reader)?);
+        self.marks = Some(MarkReader::new(alloc, part, reader)?);
         Ok(())
     }
 }
@@ -93,6 +95,8 @@ impl<R: Drop> Input<R> {
 pub struct Output<W> {
     /// The order of the bytes of an item.
     pub order: ByteOrder,
+    /// Where its items stand in the whole stream, and which of them are written.
+    pub part: StreamPart,
     /// The writer of the items as raw bytes.
     pub items_to: Option<W>,
     /// The writer of the tags, of which each is a line.
@@ -110,16 +114,19 @@ impl<W> Output<W> {
         alloc: Global,
         item: ItemType,
         order: ByteOrder,
+        part: StreamPart,
         items_to: Option<W>,
         tags_to: Option<W>,
     ) -> Output<W>
         ensures order { result.order ≡ order }
+        ensures part { result.part ≡ part }
         ensures item { type_of result.items ≡ item }
         ensures items_to { result.items_to ≡ items_to }
         ensures tags_to { result.tags_to ≡ tags_to }
     {
         Output {
             order,
+            part,
             items_to,
             tags_to,
             items: Items::empty(alloc, item),

@@ -7,11 +7,13 @@ ghost use Rattle.plant.specs.Answers.{source_type_of};
 ghost use Rattle.pipeline.specs.declared.end.End.TheVariants.{Open};
 ghost use Rattle.pipeline.specs.declared.fault.PipelineFault.TheVariants.{Joined, Memory, NotJoined, Plant};
 ghost use Rattle.pipeline.specs.Joining.{IsMarked, IsUnmarked, IsUnread, JoinsMarks, JoinsReader, JoinsWriters, sink_type_of};
+ghost use Rattle.pipeline.specs.Parts.{whole_stream, whole_tape};
 ghost use Rattle.pipeline.specs.Pipeline.{end_at};
 
 use crate::end::{End, Input, Output};
 use crate::fault::PipelineFault;
 use crate::intake::PIECE;
+use crate::part::{StreamPart, TapePart};
 use crate::pipeline::Pipeline;
 use flowgraph::{Block, BlockId};
 use items::ItemType;
@@ -80,7 +82,25 @@ impl<B: Block, R: Read + Drop, W: Write + Drop> Pipeline<B, R, W> {
         ensures joined { IsMarked (end_at self.old.ends.items source.0) → result ≡ Err (Joined source) }
         ensures unread { IsUnread (end_at self.old.ends.items source.0) → result ≡ Err (NotJoined source) }
         ensures free { IsUnmarked (end_at self.old.ends.items source.0) → IfErr result (λ fault. fault ≡ Memory) }
-        ensures joins { OnOk result (JoinsMarks source.0 reader self.old.ends.items self.new.ends.items) }
+        ensures joins { OnOk result (JoinsMarks source.0 whole_tape reader self.old.ends.items self.new.ends.items) }
+        ensures err { OnErr result (self.new.ends.items ≡ self.old.ends.items) }
+    {
+        self.mark_part(alloc, source, TapePart::whole(), reader)
+    }
+
+    /// As `mark_from`, where the source is fed a part of a whole tape: a mark on item n of the whole is on item n - `part.origin` of the plant's tape.
+    pub fn mark_part(
+        &mut self,
+        alloc: Global,
+        source: BlockId,
+        part: TapePart,
+        reader: R,
+    ) -> Result<(), PipelineFault>
+        ensures plant { self.new.plant ≡ self.old.plant }
+        ensures joined { IsMarked (end_at self.old.ends.items source.0) → result ≡ Err (Joined source) }
+        ensures unread { IsUnread (end_at self.old.ends.items source.0) → result ≡ Err (NotJoined source) }
+        ensures free { IsUnmarked (end_at self.old.ends.items source.0) → IfErr result (λ fault. fault ≡ Memory) }
+        ensures joins { OnOk result (JoinsMarks source.0 part reader self.old.ends.items self.new.ends.items) }
         ensures err { OnErr result (self.new.ends.items ≡ self.old.ends.items) }
     {
         let at = source.0 as usize;
@@ -88,7 +108,7 @@ impl<B: Block, R: Read + Drop, W: Write + Drop> Pipeline<B, R, W> {
             return Err(PipelineFault::NotJoined(source));
         }
         match &mut self.ends[at] {
-            End::Input(input) => input.join_marks(alloc, source, reader),
+            End::Input(input) => input.join_marks(alloc, source, part, reader),
             End::Open | End::Output(_) => Err(PipelineFault::NotJoined(source)),
         }
     }
@@ -107,7 +127,28 @@ impl<B: Block, R: Read + Drop, W: Write + Drop> Pipeline<B, R, W> {
         ensures other { IfErr (sink_type_of (net_of B.meaning self.old.plant.plant.graph) sink.0) (λ fault. result ≡ Err (Plant sink fault)) }
         ensures free { IsOk (sink_type_of (net_of B.meaning self.old.plant.plant.graph) sink.0) → sink.0 < length self.old.ends.items → end_at self.old.ends.items sink.0 ≡ Open → IsOk result }
         ensures joined { IsOk (sink_type_of (net_of B.meaning self.old.plant.plant.graph) sink.0) → (end_at self.old.ends.items sink.0 ≡ Open → ⊥) → result ≡ Err (Joined sink) }
-        ensures joins { OnOk result (JoinsWriters (net_of B.meaning self.old.plant.plant.graph) sink.0 order items tags self.old.ends.items self.new.ends.items) }
+        ensures joins { OnOk result (JoinsWriters (net_of B.meaning self.old.plant.plant.graph) sink.0 whole_stream order items tags self.old.ends.items self.new.ends.items) }
+        ensures err { OnErr result (self.new.ends.items ≡ self.old.ends.items) }
+    {
+        self.write_part(alloc, sink, StreamPart::whole(), order, items, tags)
+    }
+
+    /// As `write_to`, where the sink takes a part of a whole stream: its first `part.drop` items are not written, nor the tags on them, and a tag on item n
+    /// of the sink is written as one on item `part.origin` + n.
+    pub fn write_part(
+        &mut self,
+        alloc: Global,
+        sink: BlockId,
+        part: StreamPart,
+        order: ByteOrder,
+        items: Option<W>,
+        tags: Option<W>,
+    ) -> Result<(), PipelineFault>
+        ensures plant { self.new.plant ≡ self.old.plant }
+        ensures other { IfErr (sink_type_of (net_of B.meaning self.old.plant.plant.graph) sink.0) (λ fault. result ≡ Err (Plant sink fault)) }
+        ensures free { IsOk (sink_type_of (net_of B.meaning self.old.plant.plant.graph) sink.0) → sink.0 < length self.old.ends.items → end_at self.old.ends.items sink.0 ≡ Open → IsOk result }
+        ensures joined { IsOk (sink_type_of (net_of B.meaning self.old.plant.plant.graph) sink.0) → (end_at self.old.ends.items sink.0 ≡ Open → ⊥) → result ≡ Err (Joined sink) }
+        ensures joins { OnOk result (JoinsWriters (net_of B.meaning self.old.plant.plant.graph) sink.0 part order items tags self.old.ends.items self.new.ends.items) }
         ensures err { OnErr result (self.new.ends.items ≡ self.old.ends.items) }
     {
         let item = match sink_type(&self.plant, sink) {
@@ -116,7 +157,7 @@ impl<B: Block, R: Read + Drop, W: Write + Drop> Pipeline<B, R, W> {
         };
         self.join(
             sink,
-            End::Output(Output::new(alloc, item, order, items, tags)),
+            End::Output(Output::new(alloc, item, order, part, items, tags)),
         )
     }
 

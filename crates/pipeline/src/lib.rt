@@ -11,6 +11,9 @@
 //! Memory is constant, however long the streams are, where each sink that keeps items has an output. What a writer was given is, at any time and also after a
 //! fault, a beginning of what the equations of the blocks give for all that was read, and all of it where the run is done. A run that ended by a fault is not to
 //! be gone on with: what was read or drained last may be lost. Behind a cut item alone it may, once its source is closed.
+//!
+//! Streams may be parts of whole ones (`TapePart`, `StreamPart`): then the lines of marks and of tags count the items of the whole, and a sink's first items
+//! may be left out.
 #![tactic(auto)]
 
 mod delivery;
@@ -19,12 +22,14 @@ pub mod fault;
 mod intake;
 mod joining;
 mod marks;
+pub mod part;
 pub mod pipeline;
 mod tracked;
 
 pub use end::{End, Input, Output};
 pub use fault::PipelineFault;
 pub use marks::MarkReader;
+pub use part::{StreamPart, TapePart};
 pub use pipeline::Pipeline;
 pub use raw_items::ByteOrder;
 pub use streaming::{Block, BlockId, PlantFault, Settled, StreamingPlant};

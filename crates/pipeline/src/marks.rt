@@ -1,17 +1,20 @@
 //! The marks of a source, which come as lines.
 
-ghost use Rattle.std.specs.Prelude.{◌≡◌, ℕ, suc, ◌+◌, ◌-◌, ◌^◌, ◌<◌, ◌≤◌, true, false, [], ◌++◌, map, length, None, IsSome, IfErr, IfOk, OnOk, OnErr};
+ghost use Rattle.std.specs.Prelude.{◌≡◌, ℕ, suc, ◌+◌, ◌-◌, ◌^◌, ◌<◌, ◌≤◌, true, false, [], ◌++◌, map, length, None, Some, IsSome, IfErr, IfOk, OnOk, OnErr};
 ghost use Rattle.std.specs.List.{All};
 ghost use Rattle.std.specs.Option.{option_map};
 ghost use Rattle.std.specs.Io.KnownBytes.{IsAtEnd};
+ghost use Rattle.stream_model.specs.Tags as model;
 ghost use Rattle.script_text.specs.Commands.{mark_seen, marks_seen};
 ghost use Rattle.script_text.specs.Splits.{IsUnfinished};
 ghost use Rattle.pipeline.specs.Faults.{IsOfMarks, NotesMarks};
-ghost use Rattle.pipeline.specs.MarkFaults.{AreBehind, AreGivenTo, IsBefore, IsBehind, IsGivenTo, IsWithin, NameFirst, NamesFirst, Never, Refuses};
+ghost use Rattle.pipeline.specs.MarkFaults.{AreGivenTo, IsBefore, IsBehind, IsGivenTo, IsWithin, NameFirst, NamesFirst, Never, Passes, Refuses};
 ghost use Rattle.pipeline.specs.Marks.{AreOver, AreRead, FindsMarks, Follows, Gives, GivesTo, IsOver, IsRead, have_failed, unread};
+ghost use Rattle.pipeline.specs.Parts.{mark_behind};
 
 use crate::fault::PipelineFault;
 use crate::intake::PIECE;
+use crate::part::TapePart;
 use crate::tracked::Tracked;
 use flowgraph::BlockId;
 use items::Mark;
@@ -34,8 +37,10 @@ pub struct MarkReader<R> {
     is_over: bool,
     // The number of the line of the mark that was read last, from 1.
     line: u64,
-    // Its item, which the next mark may not be before.
+    // Its item on the whole tape, which the next mark may not be before.
     least: u64,
+    // The part of the whole tape that the source is fed.
+    part: TapePart,
 }
 
 impl<R> Model for MarkReader<R> {
@@ -57,13 +62,14 @@ impl<R> Model for MarkReader<R> {
       is_over = m.is_over;
       line = m.line;
       least = m.least;
+      part = m.part;
     } };
 }
 
 impl<R: Drop> MarkReader<R> {
-    /// A reader of which nothing was read.
-    pub(crate) fn new(alloc: Global, reader: R) -> Result<MarkReader<R>, AllocError>
-        ensures { IfOk result (λ marks. marks ≡ unread reader) }
+    /// A reader of which nothing was read, for the marks of this part of a whole tape.
+    pub(crate) fn new(alloc: Global, part: TapePart, reader: R) -> Result<MarkReader<R>, AllocError>
+        ensures { IfOk result (λ marks. marks ≡ unread part reader) }
     {
         let piece = Box::new(alloc, [0; PIECE])?;
         let lines = LineSplitter::new(alloc)?;
@@ -75,12 +81,13 @@ impl<R: Drop> MarkReader<R> {
             is_over: false,
             line: 0,
             least: 0,
+            part,
         })
     }
 }
 
 impl<R: Read> MarkReader<R> {
-    // Appends the marks on items below `end` that were not given yet, of which none may be on an item below `start`. It reads as far as it has to.
+    // Appends the marks on items of the part below `end` that were not given yet, of which none may be on an item below `start`. It reads as far as it has to.
     fn take_below(
         &mut self,
         source: BlockId,
@@ -95,7 +102,7 @@ impl<R: Read> MarkReader<R> {
         ensures fault { IfErr result (IsOfMarks source) }
         ensures stays { OnOk result (self.new.has_failed ≡ self.old.has_failed) }
         ensures noted { IfErr result (NotesMarks self.old.has_failed self.new.has_failed) }
-        ensures first { IfErr result (NamesFirst R.remaining (IsBefore start) self.old self.new) }
+        ensures first { IfErr result (NamesFirst R.remaining (IsBefore start self.old) self.old self.new) }
     {
         for _marks in 0..u64::MAX {
             if !self.take_one(source, start, end, marks)? {
@@ -121,39 +128,81 @@ impl<R: Read> MarkReader<R> {
         ensures fault { IfErr result (IsOfMarks source) }
         ensures stays { OnOk result (self.new.has_failed ≡ self.old.has_failed) }
         ensures noted { IfErr result (NotesMarks self.old.has_failed self.new.has_failed) }
-        ensures first { IfErr result (NamesFirst R.remaining (IsBefore start) self.old self.new) }
+        ensures first { IfErr result (NamesFirst R.remaining (IsBefore start self.old) self.old self.new) }
     {
-        self.find(source)?;
+        self.find_own(source)?;
         let Some(mark) = self.held else {
             return Ok(false);
         };
-        if mark.offset < start {
+        let own = behind(self.part.origin, mark);
+        if own.offset < start {
             return Err(PipelineFault::MarkPlace(source, self.line));
         }
-        if end <= mark.offset {
+        if end <= own.offset {
             return Ok(false);
         }
         marks.reserve(1)?;
-        marks.push_reserved(mark);
+        marks.push_reserved(own);
         self.held = None;
         Ok(true)
     }
 
-    // Refuses a mark that is left behind the last item.
+    // Refuses a mark that is left behind the last item, where the tape does not go on there.
     fn end(&mut self, source: BlockId) -> Result<(), PipelineFault>
-        ensures ok { OnOk result (Gives R.remaining self.old self.new []) }
-        ensures over { OnOk result (IsOver self.new) }
+        ensures ok { OnOk result (GivesTo R.remaining self.old self.new [] []) }
+        ensures over { OnOk result (self.new.part.goes_on ≡ false → IsOver self.new) }
         ensures err { OnErr result (IsRead R.remaining self.old self.new) }
         ensures fault { IfErr result (IsOfMarks source) }
         ensures stays { OnOk result (self.new.has_failed ≡ self.old.has_failed) }
         ensures noted { IfErr result (NotesMarks self.old.has_failed self.new.has_failed) }
         ensures first { IfErr result (NamesFirst R.remaining (IsBehind self.old) self.old self.new) }
     {
-        self.find(source)?;
+        if self.part.goes_on {
+            return Ok(());
+        }
+        self.find_own(source)?;
         if self.held.is_some() {
             return Err(PipelineFault::MarkPlace(source, self.line));
         }
         Ok(())
+    }
+
+    // Reads up to the next mark that is not before the part, or to the end of the reader, where none is held. Marks before it are passed over.
+    fn find_own(&mut self, source: BlockId) -> Result<(), PipelineFault>
+        ensures ok { OnOk result (GivesTo R.remaining self.old self.new [] []) }
+        ensures over { OnOk result (self.new.held ≡ None → IsOver self.new) }
+        ensures own { OnOk result (IsGivenTo 0 self.new) }
+        ensures same { (n : ℕ) → IsGivenTo n self.old → self.new ≡ self.old }
+        ensures err { OnErr result (IsRead R.remaining self.old self.new) }
+        ensures fault { IfErr result (IsOfMarks source) }
+        ensures stays { OnOk result (self.new.has_failed ≡ self.old.has_failed) }
+        ensures noted { IfErr result (NotesMarks self.old.has_failed self.new.has_failed) }
+        ensures first { IfErr result (NamesFirst R.remaining Never self.old self.new) }
+    {
+        for _marks in 0..u64::MAX {
+            self.find(source)?;
+            if !self.pass() {
+                return Ok(());
+            }
+        }
+        // No reader gives so many marks.
+        Err(PipelineFault::Memory)
+    }
+
+    // Passes over the mark that is held where it is before the part, and tells whether it is.
+    fn pass(&mut self) -> bool
+        ensures passed { result ≡ true → Passes self.old self.new }
+        ensures own { result ≡ false → (mark : model.Mark) → self.old.held ≡ Some mark → self.old.part.origin ≤ mark.offset }
+        ensures same { result ≡ false → self.new ≡ self.old }
+    {
+        let Some(mark) = self.held else {
+            return false;
+        };
+        if self.part.origin <= mark.offset {
+            return false;
+        }
+        self.held = None;
+        true
     }
 
     // Reads up to the next mark, or to the end of the reader, where none is held.
@@ -274,7 +323,18 @@ impl<R: Read> MarkReader<R> {
     }
 }
 
-/// Appends the marks on items from `start` to below `end` that were not given yet, where there is a reader of marks.
+// A mark, by the number of its item from item `origin` on.
+fn behind(origin: u64, mark: Mark) -> Mark
+    ensures { mark_seen result ≡ mark_behind origin (mark_seen mark) }
+{
+    Mark {
+        offset: mark.offset.saturating_sub(origin),
+        key: mark.key,
+        value: mark.value,
+    }
+}
+
+/// Appends the marks on items of the part from `start` to below `end` that were not given yet, where there is a reader of marks.
 pub(crate) fn find_marks<R: Read>(
     marks: &mut Option<MarkReader<R>>,
     source: BlockId,
@@ -299,7 +359,7 @@ pub(crate) fn find_marks<R: Read>(
     }
 }
 
-/// Refuses a mark that is left behind the last item, where there is a reader of marks.
+/// Refuses a mark that is left behind the last item, where there is a reader of marks, and the tape does not go on there.
 pub(crate) fn end_marks<R: Read>(
     marks: &mut Option<MarkReader<R>>,
     source: BlockId,
@@ -311,7 +371,7 @@ pub(crate) fn end_marks<R: Read>(
     ensures fault { IfErr result (IsOfMarks source) }
     ensures stays { OnOk result (have_failed marks.new ≡ have_failed marks.old) }
     ensures noted { IfErr result (NotesMarks (have_failed marks.old) (have_failed marks.new)) }
-    ensures first { IfErr result (NameFirst R.remaining (AreBehind marks.old) marks.old marks.new) }
+    ensures first { IfErr result (NameFirst R.remaining IsBehind marks.old marks.new) }
 {
     match marks {
         Some(reader) => reader.end(source),

@@ -1,14 +1,14 @@
 use Rattle.std.proofs.Common.{◌^◌, ◌-◌, map, refl, arith, ap, sym, ◌∙◌}
 use Rattle.std.proofs.lemmas.Result.{on_ok_weaker, on_err_weaker}
-use Rattle.std.specs.List.{flat_map}
 use Rattle.std.specs.Io.KnownBytes.{Appends}
 use Rattle.flowgraph.specs.Flowgraph.{net_of}
 use Rattle.items.specs.Items.{type_of, numbers_of}
 use Rattle.items.specs.Tags.{tag_of}
 use Rattle.reporting.specs.Ends.{AppendsBeginning}
 use Rattle.script_text.specs.Printed.{tags_seen}
-use Rattle.script_text.specs.Replies.{tag_line}
-use Rattle.streaming.specs.Draining.{items_taken, tags_taken}
+use Rattle.streaming.specs.Streaming.{stream_into}
+use Rattle.pipeline.specs.Parts.{lines_of_part}
+use Rattle.streaming.specs.Draining.{end_of, tags_taken}
 use Rattle.pipeline.specs.declared.end.Output.{Output}
 use Rattle.pipeline.proofs.Delivering.{all_drained, bytes_as, delivers, drains_sink, grows_as, lines_as, on_err, on_ok}
 use Rattle.pipeline.proofs.Growing.{writer_begins, writer_begins_none}
@@ -26,10 +26,10 @@ returns-in_err-write_items-clause-err g c =
     let sink = drains_sink net b _ d c.in-Ok.ensures.refused in
     on_err c.from_residual.result
     (delivers AppendsBeginning g.W.Write.contents net p c.drain_into.new.self b o c.write_items.new.output d max c.recall.ensures.sinks sink.0 (c.recall.ensures.taken b sink.0 sink.1) c.in-Ok.ensures.at c.in-Ok.ensures.drains
-    (ap Output.order rest) (ap (λ (x : Output _). type_of x.items) rest ∙ c.drain_into.ensures.item_type ∙ c.clear.ensures.item_type)
+    (ap Output.order rest) (ap (λ (x : Output _). type_of x.items) rest ∙ c.drain_into.ensures.item_type ∙ c.clear.ensures.item_type) (ap Output.part rest)
     (grows_as AppendsBeginning g.W.Write.contents o.items_to o.items_to c.write_items.new.output.items_to c.write_items.new.output.items_to _ _ refl refl
-    (bytes_as (type_of c.drain_into.new.items) (type_of c.clear.new.self) (type_of o.items) o.order (numbers_of c.drain_into.new.items) (numbers_of c.clear.new.self) (items_taken net p.plant.state b d max)
-    c.drain_into.ensures.item_type c.clear.ensures.item_type c.in-Ok.ensures.items c.clear.ensures.numbers) c.in_err-write_items.ensures.err)
+    (bytes_as o.part (type_of c.drain_into.new.items) (type_of c.clear.new.self) (type_of o.items) o.order (numbers_of c.drain_into.new.items) (numbers_of c.clear.new.self) (stream_into net p.plant.state b) c.saturating_sub.result d.from (end_of d max)
+    c.drain_into.ensures.item_type c.clear.ensures.item_type c.in-Ok.ensures.items c.clear.ensures.numbers c.saturating_sub.ensures) c.in_err-write_items.ensures.err)
     (grows_as AppendsBeginning g.W.Write.contents o.tags_to o.tags_to o.tags_to c.write_items.new.output.tags_to _ _ refl (ap Output.tags_to rest) refl (writer_begins_none g.W.Write.contents o.tags_to _)))
 
 pub returns-clause-ok : goal.returns-clause-ok
@@ -46,12 +46,12 @@ returns-clause-ok g c =
     let contents = g.W.Write.contents in
     on_ok_weaker c.write_tags.result
     (λ tags. delivers Appends contents net p c.drain_into.new.self b o c.write_tags.new.output d max c.recall.ensures.sinks sink.0 (c.recall.ensures.taken b sink.0 sink.1) c.in-Ok.ensures.at c.in-Ok.ensures.drains
-    (ap Output.order rest2 ∙ ap Output.order rest) (ap (λ (x : Output _). type_of x.items) rest2 ∙ ap (λ (x : Output _). type_of x.items) rest ∙ c.drain_into.ensures.item_type ∙ c.clear.ensures.item_type)
+    (ap Output.order rest2 ∙ ap Output.order rest) (ap (λ (x : Output _). type_of x.items) rest2 ∙ ap (λ (x : Output _). type_of x.items) rest ∙ c.drain_into.ensures.item_type ∙ c.clear.ensures.item_type) (ap Output.part rest2 ∙ ap Output.part rest)
     (grows_as Appends contents o.items_to o.items_to c.write_items.new.output.items_to c.write_tags.new.output.items_to _ _ refl (ap Output.items_to rest2)
-    (bytes_as (type_of c.drain_into.new.items) (type_of c.clear.new.self) (type_of o.items) o.order (numbers_of c.drain_into.new.items) (numbers_of c.clear.new.self) (items_taken net p.plant.state b d max)
-    c.drain_into.ensures.item_type c.clear.ensures.item_type c.in-Ok.ensures.items c.clear.ensures.numbers) c.in_ok-write_items.ensures.ok)
+    (bytes_as o.part (type_of c.drain_into.new.items) (type_of c.clear.new.self) (type_of o.items) o.order (numbers_of c.drain_into.new.items) (numbers_of c.clear.new.self) (stream_into net p.plant.state b) c.saturating_sub.result d.from (end_of d max)
+    c.drain_into.ensures.item_type c.clear.ensures.item_type c.in-Ok.ensures.items c.clear.ensures.numbers c.saturating_sub.ensures) c.in_ok-write_items.ensures.ok)
     (grows_as Appends contents c.write_items.new.output.tags_to o.tags_to c.write_tags.new.output.tags_to c.write_tags.new.output.tags_to _ _ (sym (ap Output.tags_to rest)) refl
-    (ap (λ (x : Output _). flat_map tag_line (tags_seen x.tags.items)) rest ∙ lines_as (map tag_of c.drain_into.new.tags.items) (map tag_of c.clear-2.new.self.items) (tags_taken net p.plant.state b d max) c.in-Ok.ensures.tags (ap (map tag_of) c.clear-2.ensures.items)) tags))
+    (ap (λ (x : Output _). lines_of_part x.part (tags_seen x.tags.items)) rest ∙ lines_as o.part (map tag_of c.drain_into.new.tags.items) (map tag_of c.clear-2.new.self.items) (tags_taken net p.plant.state b d max) c.in-Ok.ensures.tags (ap (map tag_of) c.clear-2.ensures.items)) tags))
     c.write_tags.ensures.ok
 
 pub returns-clause-all : goal.returns-clause-all
@@ -77,10 +77,10 @@ returns-clause-err g c =
     let contents = g.W.Write.contents in
     on_err_weaker c.write_tags.result
     (λ tags. delivers AppendsBeginning contents net p c.drain_into.new.self b o c.write_tags.new.output d max c.recall.ensures.sinks sink.0 (c.recall.ensures.taken b sink.0 sink.1) c.in-Ok.ensures.at c.in-Ok.ensures.drains
-    (ap Output.order rest2 ∙ ap Output.order rest) (ap (λ (x : Output _). type_of x.items) rest2 ∙ ap (λ (x : Output _). type_of x.items) rest ∙ c.drain_into.ensures.item_type ∙ c.clear.ensures.item_type)
+    (ap Output.order rest2 ∙ ap Output.order rest) (ap (λ (x : Output _). type_of x.items) rest2 ∙ ap (λ (x : Output _). type_of x.items) rest ∙ c.drain_into.ensures.item_type ∙ c.clear.ensures.item_type) (ap Output.part rest2 ∙ ap Output.part rest)
     (grows_as AppendsBeginning contents o.items_to o.items_to c.write_items.new.output.items_to c.write_tags.new.output.items_to _ _ refl (ap Output.items_to rest2)
-    (bytes_as (type_of c.drain_into.new.items) (type_of c.clear.new.self) (type_of o.items) o.order (numbers_of c.drain_into.new.items) (numbers_of c.clear.new.self) (items_taken net p.plant.state b d max)
-    c.drain_into.ensures.item_type c.clear.ensures.item_type c.in-Ok.ensures.items c.clear.ensures.numbers) (writer_begins contents _ _ _ c.in_ok-write_items.ensures.ok))
+    (bytes_as o.part (type_of c.drain_into.new.items) (type_of c.clear.new.self) (type_of o.items) o.order (numbers_of c.drain_into.new.items) (numbers_of c.clear.new.self) (stream_into net p.plant.state b) c.saturating_sub.result d.from (end_of d max)
+    c.drain_into.ensures.item_type c.clear.ensures.item_type c.in-Ok.ensures.items c.clear.ensures.numbers c.saturating_sub.ensures) (writer_begins contents _ _ _ c.in_ok-write_items.ensures.ok))
     (grows_as AppendsBeginning contents c.write_items.new.output.tags_to o.tags_to c.write_tags.new.output.tags_to c.write_tags.new.output.tags_to _ _ (sym (ap Output.tags_to rest)) refl
-    (ap (λ (x : Output _). flat_map tag_line (tags_seen x.tags.items)) rest ∙ lines_as (map tag_of c.drain_into.new.tags.items) (map tag_of c.clear-2.new.self.items) (tags_taken net p.plant.state b d max) c.in-Ok.ensures.tags (ap (map tag_of) c.clear-2.ensures.items)) tags))
+    (ap (λ (x : Output _). lines_of_part x.part (tags_seen x.tags.items)) rest ∙ lines_as o.part (map tag_of c.drain_into.new.tags.items) (map tag_of c.clear-2.new.self.items) (tags_taken net p.plant.state b d max) c.in-Ok.ensures.tags (ap (map tag_of) c.clear-2.ensures.items)) tags))
     c.write_tags.ensures.err

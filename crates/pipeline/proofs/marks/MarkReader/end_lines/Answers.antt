@@ -20,13 +20,13 @@ returns-in-Some-clause-ok g c =
     (λ some held follows. last-gives g.R.Read.remaining c.args.self.now c.hold.new.self c.in-Some.line.now (option_map mark_seen c.parse_mark_line-mark.result) c.requires.goes_on c.requires.none
     (ap Marking.reader held ∙ ap Marking.reader c.self.view_is) c.requires.at_end (ap Marking.is_over held) (ap Marking.rest held) (ap Marking.held held)
     (rw rest c.in-Some.ensures) c.parse_mark_line-mark.ensures (some_seen mark_seen _ some) (rw (← ap Marking.least c.self.view_is) follows)
-    (ap Marking.line held ∙ c.requires.next))
+    (ap Marking.line held ∙ c.requires.next) (ap Marking.part held ∙ ap Marking.part c.self.view_is))
 
 pub returns-in-None-clause-ok : goal.returns-in-None-clause-ok
 returns-in-None-clause-ok g c =
     let s = c.self.inside in
     let open0 : s.is_over ≡ false = ap Marking.is_over c.self.view_is ∙ c.requires.goes_on in
-    let m : Marking _ = record { reader = s.reader.reader; has_failed = s.reader.has_failed; rest = cond s.is_over [] s.lines.rest; taken = s.lines.taken; held = option_map mark_seen s.held; is_over = s.is_over; line = s.line; least = s.least } in
+    let m : Marking _ = record { reader = s.reader.reader; has_failed = s.reader.has_failed; rest = cond s.is_over [] s.lines.rest; taken = s.lines.taken; held = option_map mark_seen s.held; is_over = s.is_over; line = s.line; least = s.least; part = s.part } in
     let m' : Marking _ = record m { rest = []; is_over = true } in
     let none : m.held ≡ None = ap Marking.held c.self.view_is ∙ c.requires.none in
     rw (← c.self.view_is)
@@ -37,7 +37,7 @@ returns-in-Some-clause-first g c =
     let remaining = g.R.Read.remaining in
     let s = c.self.inside in
     let open0 : s.is_over ≡ false = ap Marking.is_over c.self.view_is ∙ c.requires.goes_on in
-    let m : Marking _ = record { reader = s.reader.reader; has_failed = s.reader.has_failed; rest = cond s.is_over [] s.lines.rest; taken = s.lines.taken; held = option_map mark_seen s.held; is_over = s.is_over; line = s.line; least = s.least } in
+    let m : Marking _ = record { reader = s.reader.reader; has_failed = s.reader.has_failed; rest = cond s.is_over [] s.lines.rest; taken = s.lines.taken; held = option_map mark_seen s.held; is_over = s.is_over; line = s.line; least = s.least; part = s.part } in
     let m' : Marking _ = record m { rest = []; is_over = true } in
     let said = option_map mark_seen c.parse_mark_line-mark.result in
     let lines : c.in-Some.line.now ∷ [] ≡ lines_of m.rest = rw open0 c.in-Some.ensures in

@@ -14,7 +14,7 @@ pub returns-in-Whole-clause-ok : goal.returns-in-Whole-clause-ok
 returns-in-Whole-clause-ok g c =
     let s = c.self.inside in
     let open0 : s.is_over ≡ false = ap Marking.is_over c.self.view_is ∙ c.requires.goes_on in
-    let m : Marking _ = record { reader = s.reader.reader; has_failed = s.reader.has_failed; rest = cond s.is_over [] s.lines.rest; taken = s.lines.taken; held = option_map mark_seen s.held; is_over = s.is_over; line = s.line; least = s.least } in
+    let m : Marking _ = record { reader = s.reader.reader; has_failed = s.reader.has_failed; rest = cond s.is_over [] s.lines.rest; taken = s.lines.taken; held = option_map mark_seen s.held; is_over = s.is_over; line = s.line; least = s.least; part = s.part } in
     let said = option_map mark_seen c.parse_mark_line-mark.result in
     let new = c.hold.new.self in
     let was = c.taken-taken.ensures in
@@ -32,7 +32,7 @@ returns-in-Whole-clause-first g c =
     let remaining = g.R.Read.remaining in
     let s = c.self.inside in
     let open0 : s.is_over ≡ false = ap Marking.is_over c.self.view_is ∙ c.requires.goes_on in
-    let m : Marking _ = record { reader = s.reader.reader; has_failed = s.reader.has_failed; rest = cond s.is_over [] s.lines.rest; taken = s.lines.taken; held = option_map mark_seen s.held; is_over = s.is_over; line = s.line; least = s.least } in
+    let m : Marking _ = record { reader = s.reader.reader; has_failed = s.reader.has_failed; rest = cond s.is_over [] s.lines.rest; taken = s.lines.taken; held = option_map mark_seen s.held; is_over = s.is_over; line = s.line; least = s.least; part = s.part } in
     let m' : Marking _ = record m { rest = cond s.is_over [] c.take_line.new.self.rest; taken = c.take_line.new.self.taken } in
     let said = option_map mark_seen c.parse_mark_line-mark.result in
     let was = c.taken-taken.ensures in
@@ -48,7 +48,7 @@ returns-in-TooLong-clause-first g c =
     let remaining = g.R.Read.remaining in
     let s = c.self.inside in
     let open0 : s.is_over ≡ false = ap Marking.is_over c.self.view_is ∙ c.requires.goes_on in
-    let m : Marking _ = record { reader = s.reader.reader; has_failed = s.reader.has_failed; rest = cond s.is_over [] s.lines.rest; taken = s.lines.taken; held = option_map mark_seen s.held; is_over = s.is_over; line = s.line; least = s.least } in
+    let m : Marking _ = record { reader = s.reader.reader; has_failed = s.reader.has_failed; rest = cond s.is_over [] s.lines.rest; taken = s.lines.taken; held = option_map mark_seen s.held; is_over = s.is_over; line = s.line; least = s.least; part = s.part } in
     let m' : Marking _ = record m { rest = cond s.is_over [] c.take_line.new.self.rest; taken = c.take_line.new.self.taken } in
     let was = c.taken-taken.ensures in
     let number : c.taken-taken.result + 1 ≡ suc s.lines.taken = omega (arith, was) in

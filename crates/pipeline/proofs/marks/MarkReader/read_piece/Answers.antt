@@ -28,7 +28,7 @@ returns-then-count-eq0-clause-ok g c =
     let remaining = g.R.Read.remaining in
     let s = c.self.inside in
     let open0 : s.is_over ≡ false = ap Marking.is_over c.self.view_is ∙ c.requires.goes_on in
-    let m : Marking _ = record { reader = s.reader.reader; has_failed = s.reader.has_failed; rest = cond s.is_over [] s.lines.rest; taken = s.lines.taken; held = option_map mark_seen s.held; is_over = s.is_over; line = s.line; least = s.least } in
+    let m : Marking _ = record { reader = s.reader.reader; has_failed = s.reader.has_failed; rest = cond s.is_over [] s.lines.rest; taken = s.lines.taken; held = option_map mark_seen s.held; is_over = s.is_over; line = s.line; least = s.least; part = s.part } in
     let k : Marking _ = record m { reader = c.read.new.self.reader; has_failed = c.read.new.self.has_failed } in
     let same : k ≡ record m { reader = c.read.new.self.reader } = ap (λ (f : Bool). record m { reader = c.read.new.self.reader; has_failed = f }) c.in-Ok.ensures.noted in
     let read : Consumes (remaining s.reader.reader) (remaining c.read.new.self.reader) [] = subst (λ n. Consumes (remaining s.reader.reader) (remaining c.read.new.self.reader) (take n c.read.new.buf)) c.if-count-eq0.true c.in-Ok.ensures.bytes.0 in
@@ -40,7 +40,7 @@ returns-then-count-eq0-clause-err g c =
     let remaining = g.R.Read.remaining in
     let s = c.self.inside in
     let open0 : s.is_over ≡ false = ap Marking.is_over c.self.view_is ∙ c.requires.goes_on in
-    let m : Marking _ = record { reader = s.reader.reader; has_failed = s.reader.has_failed; rest = cond s.is_over [] s.lines.rest; taken = s.lines.taken; held = option_map mark_seen s.held; is_over = s.is_over; line = s.line; least = s.least } in
+    let m : Marking _ = record { reader = s.reader.reader; has_failed = s.reader.has_failed; rest = cond s.is_over [] s.lines.rest; taken = s.lines.taken; held = option_map mark_seen s.held; is_over = s.is_over; line = s.line; least = s.least; part = s.part } in
     let k : Marking _ = record m { reader = c.read.new.self.reader; has_failed = c.read.new.self.has_failed } in
     let same : k ≡ record m { reader = c.read.new.self.reader } = ap (λ (f : Bool). record m { reader = c.read.new.self.reader; has_failed = f }) c.in-Ok.ensures.noted in
     let read : Consumes (remaining s.reader.reader) (remaining c.read.new.self.reader) [] = subst (λ n. Consumes (remaining s.reader.reader) (remaining c.read.new.self.reader) (take n c.read.new.buf)) c.if-count-eq0.true c.in-Ok.ensures.bytes.0 in
@@ -51,8 +51,8 @@ pub returns-clause-ok : goal.returns-clause-ok
 returns-clause-ok g c =
     let s = c.self.inside in
     let open0 : s.is_over ≡ false = ap Marking.is_over c.self.view_is ∙ c.requires.goes_on in
-    let m : Marking _ = record { reader = s.reader.reader; has_failed = s.reader.has_failed; rest = cond s.is_over [] s.lines.rest; taken = s.lines.taken; held = option_map mark_seen s.held; is_over = s.is_over; line = s.line; least = s.least } in
-    let m' : Marking _ = record { reader = c.read.new.self.reader; has_failed = c.read.new.self.has_failed; rest = cond s.is_over [] c.push.new.self.rest; taken = c.push.new.self.taken; held = option_map mark_seen s.held; is_over = s.is_over; line = s.line; least = s.least } in
+    let m : Marking _ = record { reader = s.reader.reader; has_failed = s.reader.has_failed; rest = cond s.is_over [] s.lines.rest; taken = s.lines.taken; held = option_map mark_seen s.held; is_over = s.is_over; line = s.line; least = s.least; part = s.part } in
+    let m' : Marking _ = record { reader = c.read.new.self.reader; has_failed = c.read.new.self.has_failed; rest = cond s.is_over [] c.push.new.self.rest; taken = c.push.new.self.taken; held = option_map mark_seen s.held; is_over = s.is_over; line = s.line; least = s.least; part = s.part } in
     rw (← c.self.view_is)
     (piece-gives g.R.Read.remaining m m' (take c.in-Ok.count c.read.new.buf) open0 (rw (open0, c.push.ensures.rest, c.push.ensures.taken, c.in-Ok.ensures.noted) refl) c.in-Ok.ensures.bytes.0)
 
@@ -61,7 +61,7 @@ returns-then-count-eq0-clause-first g c =
     let remaining = g.R.Read.remaining in
     let s = c.self.inside in
     let open0 : s.is_over ≡ false = ap Marking.is_over c.self.view_is ∙ c.requires.goes_on in
-    let m : Marking _ = record { reader = s.reader.reader; has_failed = s.reader.has_failed; rest = cond s.is_over [] s.lines.rest; taken = s.lines.taken; held = option_map mark_seen s.held; is_over = s.is_over; line = s.line; least = s.least } in
+    let m : Marking _ = record { reader = s.reader.reader; has_failed = s.reader.has_failed; rest = cond s.is_over [] s.lines.rest; taken = s.lines.taken; held = option_map mark_seen s.held; is_over = s.is_over; line = s.line; least = s.least; part = s.part } in
     let k : Marking _ = record m { reader = c.read.new.self.reader; has_failed = c.read.new.self.has_failed } in
     let same : k ≡ record m { reader = c.read.new.self.reader } = ap (λ (f : Bool). record m { reader = c.read.new.self.reader; has_failed = f }) c.in-Ok.ensures.noted in
     let read : Consumes (remaining s.reader.reader) (remaining c.read.new.self.reader) [] = subst (λ n. Consumes (remaining s.reader.reader) (remaining c.read.new.self.reader) (take n c.read.new.buf)) c.if-count-eq0.true c.in-Ok.ensures.bytes.0 in

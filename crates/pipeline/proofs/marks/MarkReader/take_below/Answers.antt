@@ -1,12 +1,12 @@
-use Rattle.std.proofs.Common.{rules, [], refl, sym, ◌∙◌}
-use Rattle.std.proofs.lemmas.List.{append-nil}
+use Rattle.std.proofs.Common.{rules, ◌+◌, ◌<◌, ◌≤◌, refl, ◌∙◌, subst}
 use Rattle.std.proofs.lemmas.Result.{IfErr-weaker}
 use Rattle.std.specs.Prelude.{IfErr}
 use Rattle.script_text.specs.Commands.{marks_seen}
+use Rattle.pipeline.specs.declared.part.TapePart.{TapePart}
 use Rattle.pipeline.specs.MarkFaults.{IsBefore, NamesFirst}
 use Rattle.pipeline.proofs.Delivering.{on_err}
 use Rattle.pipeline.proofs.Refusing.{names-then}
-use Rattle.pipeline.proofs.Telling.{gives-none, gives-read-then, gives_to-then}
+use Rattle.pipeline.proofs.Telling.{gives-read-then, gives_to-none, gives_to-then}
 use Rattle.pipeline.specs.Faults.{NotesMarks}
 use Rattle.pipeline.proofs.Noting.{marks_noted_from}
 use Rattle.pipeline.proofs.marks.MarkReader.take_below.Goals as goal
@@ -17,10 +17,12 @@ returns-in_err-take_one-clause-err g c =
 
 pub returns-in_err-take_one-clause-first : goal.returns-in_err-take_one-clause-first
 returns-in_err-take_one-clause-first g c =
-    let P = IsBefore c.args.start in
+    let gives = c.loop-marks.invariant.gives in
+    let P = IsBefore c.args.start c.loop-marks.self in
+    let Q = IsBefore c.args.start c.args.self.now in
     let told : IfErr c.from_residual.result (NamesFirst g.R.Read.remaining P c.loop-marks.self c.take_one.new.self) = search rules in
     IfErr-weaker c.from_residual.result _ _
-    (names-then g.R.Read.remaining P P (λ _ before. before) c.args.self.now c.loop-marks.self c.take_one.new.self c.loop-marks.invariant.gives.0 c.loop-marks.invariant.gives.1) told
+    (names-then g.R.Read.remaining P Q (λ mark before. subst (λ (part : TapePart). (part.origin ≤ mark.offset) × (mark.offset < part.origin + c.args.start)) gives.1.part before) c.args.self.now c.loop-marks.self c.take_one.new.self gives.0 gives.1) told
 
 pub returns-then-not-branch-clause-ok : goal.returns-then-not-branch-clause-ok
 returns-then-not-branch-clause-ok g c =
@@ -38,7 +40,7 @@ loop-marks-preserved g c = record {
 
 pub loop-marks-init : goal.loop-marks-init
 loop-marks-init g c = record {
-  gives = ([], gives-none g.R.Read.remaining _, sym (append-nil (marks_seen c.args.marks.now.items)));
+  gives = gives_to-none g.R.Read.remaining _ (marks_seen c.args.marks.now.items);
   within = λ all. all;
   stays = refl;
 }

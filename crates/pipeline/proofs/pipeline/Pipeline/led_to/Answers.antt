@@ -1,4 +1,4 @@
-use Rattle.std.proofs.Common.{◌≡◌, ◌<◌, ◌≤◌, ◌-◌, length, arith, refl, sym, ap, ◌∙◌}
+use Rattle.std.proofs.Common.{◌≡◌, ◌<◌, ◌≤◌, ◌-◌, length, arith, sym, ap, ◌∙◌}
 use Rattle.flowgraph.specs.Flowgraph.{net_of}
 use Rattle.machine_laws.specs.Waits.{repeated}
 use Rattle.pipeline.specs.Asking.{needed_by}
