@@ -107,7 +107,10 @@ def numbers_of(items: Any) -> array.array[int]:
         items = [index(it, "an item") for it in items]
     elif types != {int}:
         # (before Python 3.10 an array takes what has only `__int__`, and cuts it)
-        items = list(map(operator.index, items))
+        try:
+            items = list(map(operator.index, items))
+        except TypeError:
+            items = [index(it, "an item") for it in items]
     try:
         return array.array("q", items)
     except OverflowError:
@@ -118,12 +121,22 @@ def numbers_of(items: Any) -> array.array[int]:
 NO_MARKS = (Mark * 1)()
 
 
+def parts_of(tag: Any) -> tuple[Any, Any, Any]:
+    """The offset, the key and the value of a tag."""
+    try:
+        offset, key, value = tag
+    except (TypeError, ValueError) as error:
+        kind = TypeError if isinstance(error, TypeError) else ValueError
+        raise kind("a tag is (offset, key, value), and not %r" % (tag,)) from None
+    return offset, key, value
+
+
 def marks_of(tags: Iterable[tuple[Any, Any, Any]]) -> tuple[Any, list[Lent]]:
     """Tags of a feed as C has them, and their keys, which have to be kept. (An offset beyond 64 bits is on no item, as the greatest is.)"""
     if isinstance(tags, (tuple, list)) and not tags:
         return NO_MARKS, []
     kept, marks = [], []
-    for offset, key, value in tags:
+    for offset, key, value in map(parts_of, tags):
         offset, value, lent = index(offset, "the offset of a tag"), index(value, "the value of a tag"), Lent(bytes_of(key))
         if not LOW <= value <= HIGH:
             raise ValueError("the value of a tag has 64 bits with its sign: %d" % value)

@@ -6,14 +6,13 @@ import array
 import collections.abc
 import ctypes
 import os
-import pathlib
 import threading
 from typing import Any, Iterable, NamedTuple, NoReturn, Optional, SupportsIndex, TypeVar, Union
 
 from ._arguments import Text, bytes_of, flag, index, is_bytes, marks_of, numbers_of, numpy, place_of, taps_of, unmasked, within
 from ._errors import refused
 from ._library import Lent, Plant, Room, calls, lent_name
-from ._runs import NO_PATH, refusal
+from ._runs import NO_PATH, read_file, refusal
 
 # How arrays of items are called, by how many bytes an item has.
 CODES = {1: "B", 2: "h", 4: "i"}
@@ -111,8 +110,7 @@ class Held:
     @classmethod
     def from_file(cls: type[Own], path: Union[str, os.PathLike[str]]) -> Own:
         """What a graph file opens."""
-        path = pathlib.Path(path)
-        return cls(path.read_bytes(), str(path))
+        return cls(read_file(path), str(path))
 
     def _call(self, name: str, block: Text, *words: Any) -> Any:
         with self._lock:

@@ -29,7 +29,9 @@ def plot_items(axes: Any, start: int, items: Any, tags: Sequence[Any]) -> None:
     from matplotlib.ticker import MaxNLocator
 
     axes.plot(range(start, start + len(items)), items, marker="." if len(items) <= 100 else "", linewidth=1)
-    axes.xaxis.set_major_locator(MaxNLocator("auto", steps=[1, 2, 5, 10], integer=True))
+    # (of one item, or of none, two numbers would not be whole)
+    axes.xaxis.set_major_locator(MaxNLocator("auto", steps=[1, 2, 5, 10], integer=True, min_n_ticks=1))
+    axes.xaxis.set_major_formatter("{x:.0f}")
     for tag in tags:
         axes.axvline(tag.offset, color="tab:red", linewidth=1, alpha=0.6)
     for offset, shift, text in labels_of(axes, tags):

@@ -3,11 +3,10 @@
 from __future__ import annotations
 
 import os
-import pathlib
 from typing import Any, NamedTuple, Union
 
 from ._file import tables_of
-from ._runs import check
+from ._runs import read_file, texts
 
 Path = Union[str, "os.PathLike[str]"]
 
@@ -56,6 +55,6 @@ def ports(path: Path) -> Ports:
     >>> ports("examples/echo/graph.toml").outputs
     [Port(name='out', type='byte'), Port(name='dry', type='byte')]
     """
-    text = pathlib.Path(path).read_bytes()
-    check(text)
+    text = read_file(path)
+    texts("check", text, path=str(path))
     return ports_of(tables_of(text.decode()).get("block", []))

@@ -4,6 +4,7 @@ from __future__ import annotations
 
 import ctypes
 import os
+import pathlib
 from typing import Any, Iterable, Optional, Union
 
 from ._arguments import HIGH, Text, bytes_of, count_of, flag, is_bytes, unmasked
@@ -30,6 +31,16 @@ def where(file: Lent, path: str) -> str:
         room = answer.output_len
 
 
+def read_file(path: Union[str, os.PathLike[str]]) -> bytes:
+    """The graph file of a path."""
+    try:
+        return pathlib.Path(path).read_bytes()
+    except OSError:
+        if "\n" not in str(path):
+            raise
+        raise ValueError("this is the text of a graph file and no path: Graph(..) and Stream(..) take it, and Flowgraph(text=..) of GNU Radio") from None
+
+
 def hint_of(text: bytes) -> str:
     """What is said where a path is given in place of a text."""
     if b"\n" in text or not (text.endswith(b".toml") or os.path.isfile(text)):
@@ -45,8 +56,8 @@ def refusal(answer: Any, error: Room, file: Lent, path: str = NO_PATH, output: s
     return Refused(text, output, where(file, str(path)), hint=hint_of(file.kept) if path == NO_PATH else "")
 
 
-def _texts(name: str, *given: Text, room: int = 65536) -> tuple[str, int]:
-    """Calls until the output fits, and gives it with the status."""
+def texts(name: str, *given: Text, room: int = 65536, path: str = NO_PATH) -> tuple[str, int]:
+    """Calls until the output fits, and gives it with the status. The first text is a graph file's, which is called `path` where it is refused."""
     lent = [Lent(bytes_of(it)) for it in given]
     words = [word for it in lent for word in (it.at, it.len)]
     error = Room(4096)
@@ -58,7 +69,7 @@ def _texts(name: str, *given: Text, room: int = 65536) -> tuple[str, int]:
         room = answer.output_len
     text = output.part(0, answer.output_len).decode()
     if answer.error_len:
-        raise refusal(answer, error, lent[0], output=text)
+        raise refusal(answer, error, lent[0], path, text)
     return text, answer.status
 
 
@@ -73,7 +84,7 @@ def check(file: Text) -> str:
     q add 1
     q out 1
     """
-    return _texts("check", file)[0]
+    return texts("check", file)[0]
 
 
 def run(file: Text) -> tuple[str, bool]:
@@ -83,7 +94,7 @@ def run(file: Text) -> tuple[str, bool]:
     >>> magbelu.run(magbelu.EXAMPLE + "\\n" + feed)
     ('sink out 2 4 11 @1:burst=7/0\\ndone\\n', True)
     """
-    text, status = _texts("run", file)
+    text, status = texts("run", file)
     return text, status == 0
 
 
@@ -95,7 +106,7 @@ def script(file: Text, lines: Text) -> str:
     settled quiet
     read 2 4 11
     """
-    return _texts("script", file, lines)[0]
+    return texts("script", file, lines)[0]
 
 
 def input_of(pair: tuple[Text, Any]) -> tuple[Lent, Lent]:

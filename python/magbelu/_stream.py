@@ -24,7 +24,10 @@ def pieces_of(source: str, pieces: Any) -> Iterator[Items]:
     is_row = isinstance(pieces, (list, tuple, range)) and len(pieces) and hasattr(pieces[0], "__index__")
     if is_array or is_row or isinstance(pieces, (str, bytes, bytearray, memoryview)):
         raise TypeError("the source %r gets an iterable of pieces, and not one piece: through(%s=[items])" % (source, source))
-    return iter(pieces)
+    try:
+        return iter(pieces)
+    except TypeError:
+        raise TypeError("the source %r gets an iterable of pieces, and no %r: through(%s=[items])" % (source, type(pieces).__name__, source)) from None
 
 
 class Piece(NamedTuple):

@@ -13,7 +13,6 @@ The module can be imported where there is no GNU Radio; to make a `Flowgraph` is
 
 from __future__ import annotations
 
-import pathlib
 from typing import Iterable, Mapping, NoReturn, Optional, SupportsIndex, Union
 
 from ._arguments import Text, bytes_of
@@ -23,7 +22,7 @@ from ._gr_block import NO_GNU_RADIO, Block, HierBlock, blocks, gr, pmt
 from ._gr_tags import Tags
 from ._held import Need
 from ._ports import Path, Port, Ports, ports, ports_of
-from ._runs import NO_PATH
+from ._runs import NO_PATH, read_file
 from ._stream import Stream
 
 __all__ = ["Flowgraph", "Port", "Ports", "has_port", "has_ports", "ports", "type_of"]
@@ -54,7 +53,7 @@ class Flowgraph(HierBlock):  # type: ignore[misc]
             raise ValueError('other tags are "leave out" or "refuse", and not %r' % (other_tags,))
         if path is None and text is None:
             raise TypeError('a Flowgraph is that of a graph file: Flowgraph("graph.toml"), or Flowgraph(text="...")')
-        file = pathlib.Path(path or NO_PATH).read_bytes() if text is None else bytes_of(text)
+        file = read_file(path or NO_PATH) if text is None else bytes_of(text)
         # (it refuses what has no tables)
         stream = Stream(file, NO_PATH if path is None else str(path))
         tables = tables_of(file.decode()).get("block", [])

@@ -132,7 +132,7 @@ def raises(kind, call):
 
 def items_are_integers():
     for item in [0.9, 1.0, 1j, "1", b"1", None, True, False, fractions.Fraction(1), decimal.Decimal("1.5"), decimal.Decimal(1), [1]]:
-        raises(TypeError, lambda: graph.feed("src", [1, item]))
+        assert said_by(lambda: graph.feed("src", [1, item]), TypeError).startswith("an item is an integer, and no "), item
     for items in ["12", "", 5, None, {1: 2}, {1}, frozenset(), array.array("f", [1]), array.array("d", [0.9]), array.array("u", "1")]:
         raises(TypeError, lambda: graph.feed("src", items))
     for items in [[1, 2], (1, 2), range(1, 3), iter([1, 2]), [Number(1), Number(2)], array.array("q", [1, 2]), array.array("B", [1, 2]), memoryview(array.array("h", [1, 2]))]:
@@ -163,7 +163,8 @@ def tags_are_whole():
     for offset, key, value in [(0.0, "k", 1), (0, "k", 1.5), (True, "k", 1), (0, "k", False), ("0", "k", 1), (0, 5, 1), (0, None, 1), (0, "k", None)]:
         raises(TypeError, lambda: graph.feed("src", b"", [(offset, key, value)]))
     for tags in [[(0, "k")], [(0, "k", 1, 0)]]:
-        raises(ValueError, lambda: graph.feed("src", b"", tags))
+        assert said_by(lambda: graph.feed("src", b"", tags), ValueError) == "a tag is (offset, key, value), and not %r" % (tags[0],)
+    assert said_by(lambda: graph.feed("src", b"", (0, "k", 1)), TypeError) == "a tag is (offset, key, value), and not 0"
 
 
 def settings_are_whole():
@@ -254,7 +255,8 @@ def pieces_are_no_items():
         raises(TypeError, lambda: stream.through(src=pieces))
     for call in [lambda: graph.feed("src", 5), lambda: graph.feed("src", None)]:
         assert said_by(call, TypeError).startswith("items are integers in a row, or bytes, and no "), said_by(call, TypeError)
-    assert "through(src=[items])" in said_by(lambda: stream.through(src=[1, 2]), TypeError)
+    for pieces in [[1, 2], 5, None]:
+        assert "through(src=[items])" in said_by(lambda: stream.through(src=pieces), TypeError)
 
 
 def said_by(call, kind):
@@ -299,6 +301,14 @@ def refusals_have_reasons():
 def paths_are_no_texts():
     for call in [magbelu.Graph, magbelu.Stream, magbelu.check, magbelu.run]:
         assert "from_file" in said_by(lambda: call(pathlib.Path("graph.toml")), TypeError)
+
+
+def texts_are_no_paths():
+    """Who gives a text in place of a path is told what takes it."""
+    for call in [magbelu.Graph.from_file, magbelu.Stream.from_file]:
+        for text in [magbelu.EXAMPLE, "block = [\n]"]:
+            assert "Graph(..)" in said_by(lambda: call(text), ValueError)
+        raises(FileNotFoundError, lambda: call("no/such/graph.toml"))
 
 
 def header_has_the_rows():
@@ -383,6 +393,7 @@ tests = [
     pieces_are_no_items,
     refusals_have_reasons,
     paths_are_no_texts,
+    texts_are_no_paths,
     header_has_the_rows,
     nothing_held_is_copied,
     *([arrays_are_read] if numpy is None else [numpy_items_are_integers, numpy_numbers_are_whole, masked_items_are_none, numpy_is_read]),

@@ -8,6 +8,7 @@ import tempfile
 import threading
 
 import magbelu
+from magbelu._ports import ports
 from shared import CHAIN, chain, generated, raises, refuses, tomllib
 
 top = pathlib.Path(sys.argv[1])
@@ -312,6 +313,8 @@ def paths_are_told_from_texts():
             except magbelu.Refused as error:
                 assert "from_file" not in str(error), error
         path.write_text("x.toml")
+        for call in [magbelu.Graph.from_file, magbelu.Stream.from_file, ports]:
+            assert refuses(40, "Syntax", lambda: call(path)).place.startswith(" --> %s:1:" % path)
         assert "from_file" not in str(refuses(40, "Syntax", lambda: magbelu.Graph.from_file(path)))
 
 

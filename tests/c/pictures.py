@@ -1,12 +1,14 @@
 """Drawings and plots of python/magbelu, over a stand-in for the library that reports a graph and holds items. tests/parts/c.sh calls it."""
 
 import ctypes
+import re
 import shutil
 import xml.etree.ElementTree
 
 import magbelu
 from magbelu import _library
 from magbelu._file import tables_of
+from magbelu._plot import plot
 
 try:
     from matplotlib import pyplot
@@ -209,6 +211,19 @@ def labels_cover_no_other():
         assert all(it == int(it) for it in axes.get_xticks()), axes.get_xticks()
 
 
+def items_are_numbered():
+    """By whole numbers written out, whether there are none or many, and wherever they begin; no number covers another."""
+    for start, count in [(0, 0), (0, 1), (7, 1), (0, 2), (0, 100), (10**9, 50), (2**32 - 10, 10), (123456, 20_000_000)]:
+        axes = plot("out", start, range(count), [], False, None)
+        axes.figure.canvas.draw()
+        shown = [it for it in axes.get_xticklabels() if axes.get_xlim()[0] <= it.get_position()[0] <= axes.get_xlim()[1]]
+        assert shown and all(re.fullmatch("[0-9]+", it.get_text()) for it in shown), (start, count, shown)
+        assert axes.xaxis.get_offset_text().get_text() == "", axes.xaxis.get_offset_text()
+        boxes = [it.get_window_extent() for it in shown]
+        assert not [1 for one, other in zip(boxes, boxes[1:]) if one.overlaps(other)], (start, count, shown)
+        pyplot.close(axes.figure)
+
+
 def many_labels_are_counted():
     """Those for which there is no room are told by their number."""
     axes = graph_of("", "", [1] * 200, "".join("@%d:key=%d/0\n" % (at, at) for at in range(200))).plot("out")
@@ -237,7 +252,7 @@ def spectra_are_plotted():
 
 
 tests = [graphs_are_drawn, values_are_those_of_the_file, pictures_are_made]
-tests += [items_are_plotted, labels_cover_no_other, many_labels_are_counted, spectra_are_plotted] if pyplot is not None else []
+tests += [items_are_plotted, labels_cover_no_other, items_are_numbered, many_labels_are_counted, spectra_are_plotted] if pyplot is not None else []
 for test in tests:
     test()
 print("c: %d tests of the pictures of python/magbelu passed%s" % (len(tests), "" if pyplot is not None else ", without matplotlib"))

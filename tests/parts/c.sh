@@ -35,12 +35,15 @@ calls() {
     [[ $status == "$wanted" ]] || wrong "${calls##*/} $*: status $status in place of $wanted: $(head -n 5 "$room/errors")"
 }
 
-# as_flow WORD..: the call just made wrote what ./flow writes with these words, where that is built, but for the lines that explain a stall
+# as_flow WORD.. FILE: the call just made wrote what ./flow writes with these words, where that is built, but for the name of the file, which no library knows, and the
+# lines that explain a stall
 as_flow() {
-    local status=0
+    local line status=0
     if is_fresh; then
         "$program" "$@" >"$room/flow_output" 2>"$room/flow_said" || status=$?
-        grep -v '^flow: stalled: ' "$room/flow_said" >"$room/flow_errors" || true
+        while IFS= read -r line; do
+            [[ $line == "flow: stalled: "* ]] || printf '%s\n' "${line%" in ${*: -1}"}"
+        done <"$room/flow_said" >"$room/flow_errors"
         if ! cmp -s "$room/output" "$room/flow_output" || ! cmp -s "$room/errors" "$room/flow_errors"; then
             wrong "flow $* writes something else"
         fi
