@@ -5,7 +5,7 @@ from __future__ import annotations
 from .entries import ANY, MOST_PORTS, WIDE
 from .faults import Code
 from .graph import ItemType
-from .nodes import Node, Part
+from .nodes import End, Node, Part
 from .settings import Settings
 
 _MOST_LENGTH = 1024
@@ -62,6 +62,57 @@ def char_to_short(settings: Settings) -> Node:
     byte, short = ItemType.BYTE, ItemType.SHORT
     parts = [Part("convert", {"type": str(byte), "to": str(short)}), Part("multiply_const", {"type": str(short), "value": 256})]
     return Node(settings.block, [byte], [short], parts)
+
+
+def short_to_char(settings: Settings) -> Node:
+    """The lowest byte is cleared, so that the highest is what comes to 256 times."""
+    settings.ones("vlen")
+    byte, short = ItemType.BYTE, ItemType.SHORT
+    parts = [Part("and_const", {"type": str(short), "value": -256}), Part("scale", {"type": str(short), "factor": 1, "shift": 8})]
+    return Node(settings.block, [short], [byte], [*parts, Part("convert", {"type": str(short), "to": str(byte)})])
+
+
+def endian_swap(settings: Settings) -> Node:
+    """The bytes of an item, the highest first, in reverse order."""
+    item = {"s16": ItemType.SHORT, "s32": ItemType.INT}.get(settings.choice("type"))
+    if item is None:
+        raise settings.refused("type", Code.WRONG_TYPE, "its type is %s; a kind for it takes s16 or s32" % settings.choice("type"))
+    keys = {"type": str(item), "order": "msb_first", "bits": ItemType.BYTE.bits}
+    order = list(reversed(range(item.bits // ItemType.BYTE.bits)))
+    parts = [Part("packed_to_unpacked", {**keys}), Part("permute", {"type": str(item), "order": order}), Part("unpacked_to_packed", {**keys})]
+    return Node(settings.block, [item], [item], parts)
+
+
+def selector(settings: Settings) -> Node:
+    """All inputs but one are mute, and the sum is that one. An output that is not chosen has no items."""
+    item = settings.item_type(ANY)
+    settings.ones("vlen")
+    inputs, outputs = (settings.whole(key, 1, MOST_PORTS) for key in ("num_inputs", "num_outputs"))
+    chosen, given = settings.whole("input_index", 0, inputs - 1), settings.whole("output_index", 0, outputs - 1)
+    parts = [Part("mute", {"type": str(item), "on": int(at != chosen), **({"tags": "none"} if at != chosen else {})}) for at in range(inputs)]
+    parts.append(Part("add", {"type": str(item)}))
+    inner, gives = [(End(at), End(inputs, at)) for at in range(inputs)], []
+    for at in range(outputs):
+        gives.append(End(inputs))
+        if at != given or not settings.truth("enabled"):
+            gives[-1] = End(len(parts))
+            inner.append((End(inputs), gives[-1]))
+            parts.append(Part("head", {"type": str(item), "n": 0}))
+    if inputs > 1:
+        settings.note("ends with the shortest of its inputs; GNU Radio's ends with the chosen one")
+    return Node(settings.block, [item] * inputs, [item] * outputs, parts, takes=[[End(at)] for at in range(inputs)], gives=gives, inner=inner)
+
+
+def tag_share(settings: Settings) -> Node:
+    """The second input is mute and adds its tags alone, as items of the type of the first."""
+    settings.ones("vlen")
+    item, shared = (settings.item_type(ANY, key) for key in ("io_type", "share_type"))
+    parts = [Part("add", {"type": str(item)}), Part("mute", {"type": str(item), "on": 1})]
+    inner = [(End(1), End(0, 1))]
+    if shared is not item:
+        parts.append(Part("convert", {"type": str(shared), "to": str(item)}))
+        inner.append((End(2), End(1)))
+    return Node(settings.block, [item, shared], [item], parts, takes=[[End(0)], [End(len(parts) - 1)]], gives=[End(0)], inner=inner)
 
 
 def tag_gate(settings: Settings) -> Node:

@@ -75,7 +75,8 @@ def _node(block: DrawnBlock, variables: Variables, report: Report) -> Optional[N
         if node.parts and node.outputs:
             capacity = settings.capacity()
             if capacity is not None:
-                node.parts[-1].settings["capacity"] = capacity
+                for part in node.givers():
+                    part.settings["capacity"] = capacity
         _test_names(node)
         return node
     except Refused as fault:

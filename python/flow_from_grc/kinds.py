@@ -4,7 +4,7 @@ from __future__ import annotations
 
 from typing import Mapping
 
-from . import bits, chains, endings, filters, periods, scramblers
+from . import bits, chains, companding, endings, filters, frames, periods, scramblers
 from .entries import ANY, BYTES, MOST_PORTS, WIDE, Choice, Entry, Number, Numbers, Truth, block, wire
 from .faults import Code
 from .graph import Setting
@@ -23,8 +23,8 @@ def _keeps_no_time(settings: Settings) -> None:
     settings.note("is left out: a graph here runs as fast as it can")
 
 
-def _delay_note(found: Mapping[str, Setting]) -> str:
-    return "gives its zeros and then all of its input; GNU Radio's leaves out as many items at the end" if found["n"] else ""
+def _probe_note(_: Mapping[str, Setting]) -> str:
+    return "keeps all items; the last of them is the level"
 
 
 def _decoder_note(found: Mapping[str, Setting]) -> str:
@@ -43,6 +43,10 @@ _CODING = (Choice("coding", "digital.DIFF_DIFFERENTIAL", "only DIFF_DIFFERENTIAL
 _PACE = {"samples_per_second": "samp_rate", "ignoretag": "True"}
 _REGISTER = {"mask": "0x8A", "seed": "0x7F", "len": "7"}
 _PACKING = {"type": "int", "bits_per_chunk": "2", "endianness": "gr.GR_MSB_FIRST", "num_ports": "1"}
+_IN_TURN = {"type": "complex", "num_streams": "2", "blocksize": "1", "vlen": "1"}
+_PUNCTURE = {"puncsize": "", "puncpat": "", "delay": "0"}
+_CHOICE = {"type": "complex", "enabled": "True", "input_index": "0", "output_index": "0"}
+_ORDER = {"type": "byte", "interleaver_indices": "[1, 2, 0]", "interleaver_mode": "interleave", "is_packed": "False"}
 _VECTORS = ("vlen", "vlen_out")
 _FILTER = {"type": "ccc", "taps": "", "samp_delay": "0"}
 
@@ -55,6 +59,7 @@ TABLE: Mapping[str, Entry] = {
     "blocks_file_sink": Entry({"type": "complex", "file": "", "vlen": "1", "unbuffered": "False", "append": "False"}, endings.file_sink),
     "blocks_vector_sink_x": block("vector_sink", ANY, outputs=0, ignored=("reserve_items",)),
     "blocks_null_sink": block("null_sink", ANY, outputs=0, ones=("vlen", "num_inputs"), ignored=("bus_structure_sink",)),
+    "blocks_probe_signal_x": block("vector_sink", ANY, outputs=0, ones=(), note=_probe_note),
     # An item for each item.
     "blocks_add_const_vxx": block("add_const", ANY, Number("value", "const", "0")),
     "blocks_multiply_const_vxx": block("multiply_const", WIDE, Number("value", "const", "1")),
@@ -72,6 +77,10 @@ TABLE: Mapping[str, Entry] = {
     "blocks_xor_xx": block("xor", ANY, inputs="num_inputs", ones=(), first_type="int"),
     "blocks_not_xx": block("not", ANY, ones=(), first_type="int"),
     "blocks_char_to_short": Entry({"vlen": "1"}, chains.char_to_short),
+    "blocks_short_to_char": Entry({"vlen": "1"}, chains.short_to_char),
+    "blocks_endian_swap": Entry({"type": "complex"}, chains.endian_swap),
+    "vocoder_ulaw_decode_bs": companding.decoder(companding.ulaw_sample),
+    "vocoder_alaw_decode_bs": companding.decoder(companding.alaw_sample),
     "blocks_moving_average_xx": Entry({"type": "complex", "length": "1000", "scale": "1", "max_iter": "4000", "vlen": "1"}, chains.moving_average),
     "digital_map_bb": block("map_bb", BYTES, Numbers("map", "map", "", 0, 255, 256), ones=()),
     # Filters.
@@ -87,13 +96,23 @@ TABLE: Mapping[str, Entry] = {
     "blocks_integrate_xx": block("integrate", WIDE, Number("n", "decim", "", 1, 1024)),
     "blocks_head": block("head", ANY, _ITEMS),
     "blocks_skiphead": block("skiphead", ANY, _ITEMS),
-    "blocks_delay": block("delay", ANY, Number("n", "delay", "0", 0, 65536), ones=("vlen", "num_ports"), note=_delay_note),
+    "blocks_delay": block("delay", ANY, Number("n", "delay", "0", 0, 65536), ones=("vlen", "num_ports")),
     # Several ports.
-    "blocks_interleave": Entry({"type": "complex", "num_streams": "2", "blocksize": "1", "vlen": "1"}, chains.interleave),
-    "blocks_deinterleave": block("deinterleave", ANY, _STREAMS, outputs="num_streams", ones=("vlen", "blocksize")),
+    "blocks_interleave": Entry(_IN_TURN, chains.interleave),
+    "blocks_deinterleave": Entry(_IN_TURN, periods.deinterleave),
     "blocks_streams_to_stream": block("interleave", ANY, _STREAMS, inputs="num_streams"),
     "blocks_stream_to_streams": block("deinterleave", ANY, _STREAMS, outputs="num_streams"),
     "blocks_stream_mux": Entry({"type": "complex", "lengths": "(1, 1)", "num_inputs": "2", "vlen": "1"}, chains.stream_mux),
+    "blocks_stream_demux": Entry({"type": "complex", "lengths": "(1, 1)", "num_outputs": "2", "vlen": "1"}, periods.stream_demux),
+    "blocks_patterned_interleaver": Entry({"type": "complex", "pattern": "[0,0,1,2]", "vlen": "1"}, frames.patterned_interleaver),
+    "blocks_selector": Entry({**_CHOICE, "num_inputs": "2", "num_outputs": "2", "vlen": "1", "showports": "True"}, chains.selector),
+    "blocks_tag_share": Entry({"io_type": "complex", "share_type": "complex", "vlen": "1"}, chains.tag_share),
+    # Orders of the items of a frame.
+    "blocks_blockinterleaver_xx": Entry(_ORDER, frames.block_interleaver),
+    "blocks_matrix_interleaver": Entry({"type": "complex", "vlen": "1", "rows": "1", "cols": "1", "deint": "False"}, frames.matrix_interleaver),
+    "trellis_permutation": Entry({"type": "complex", "interleaver_size": "", "table": "", "syms_per_block": "", "vlen": "1"}, frames.permutation),
+    "fec_puncture_xx": Entry({"type": "byte", **_PUNCTURE}, frames.puncture),
+    "fec_depuncture_bb": Entry({**_PUNCTURE, "sym": "127"}, frames.depuncture),
     # Bits.
     "blocks_pack_k_bits_bb": block("pack_k_bits", BYTES, _BITS, ones=()),
     "blocks_unpack_k_bits_bb": block("unpack_k_bits", BYTES, _BITS, ones=()),

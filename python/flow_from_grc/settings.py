@@ -112,14 +112,14 @@ class Settings:
             raise self.refused(key, Code.BAD_PARAMETER, "%s has %d values or more; a list here has at most %d" % (key, count, most_count))
         return listed
 
-    def item_type(self, types: Sequence[ItemType]) -> ItemType:
+    def item_type(self, types: Sequence[ItemType], key: str = "type") -> ItemType:
         """The type of the block's items."""
-        text = self.choice("type")
+        text = self.choice(key)
         for it in types:
             if text == str(it):
                 return it
         names = ", ".join(map(str, types))
-        raise self.refused("type", Code.WRONG_TYPE, "its items are %s; a kind for it takes %s" % (shown(text or "of no type"), names))
+        raise self.refused(key, Code.WRONG_TYPE, "its items are %s; a kind for it takes %s" % (shown(text or "of no type"), names))
 
     def string(self, key: str) -> str:
         """A text."""

@@ -16,12 +16,8 @@ _INNER = "there are no hierarchical blocks: draw what is in it"
 
 # By the id of the block, or by how it begins where there is a star.
 _STAND_INS: Sequence[Tuple[str, str]] = (
-    ("blocks_short_to_char", "nothing takes the highest byte: with the kind `convert`, which a graph file may have, the lowest is kept"),
-    ("blocks_patterned_interleaver", "of a pattern in which each input stands, the kinds `stream_mux` and `permute`, which a graph file may have"),
-    ("blocks_stream_demux", "with equal lengths of 1, a Deinterleave"),
-    ("blocks_selector", "connect the input and the output that are chosen"),
     ("blocks_null_source", _MADE),
-    ("blocks_nop", "a Copy"),
+    ("blocks_nop", "it gives items that nothing wrote; a Copy passes its input on"),
     ("blocks_tag_debug", "a Vector Sink shows its tags"),
     ("blocks_tags_strobe", "a Vector Source with Tag Objects"),
     ("blocks_stream_to_tagged_stream", _TAGGED),

@@ -58,7 +58,7 @@ class Wiring:
             except AlreadyReported:
                 continue
             if node.parts:
-                made.append(Connection(origin.node.last_name, origin.port, node.block.name, int(connection.sink_port)))
+                made += [Connection(*origin.node.writer(origin.port), *it) for it in node.readers(int(connection.sink_port))]
         for name, shift in shifts.items():
             if shift:
                 self._nodes[name].parts[-1].settings["shift"] = shift

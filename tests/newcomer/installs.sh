@@ -169,7 +169,7 @@ program_files() {
         share/zsh/vendor-completions/_flow{,-from-grc} share/fish/vendor_completions.d/flow{,-from-grc}.fish
     (cd -- "$top/python" && find flow_from_grc -name '*.py' -printf 'usr/share/magbelu/%p\n')
     # (dpkg wants long pages compressed, but for examples and pictures)
-    printf 'usr/share/doc/magbelu/%s\n' {C,FORMATS,FOR_GNU_RADIO_USERS,GLOSSARY,KINDS,SPEED}.md.gz {echo,trace}.svg
+    printf 'usr/share/doc/magbelu/%s\n' {C,COVERAGE,FORMATS,FOR_GNU_RADIO_USERS,GLOSSARY,KINDS,SPEED}.md.gz {echo,trace}.svg
     (cd -- "$top" && find examples -path examples/embed -prune -o -type f ! -name '*.pyc' -printf 'usr/share/doc/magbelu/%p\n')
 }
 

@@ -1,5 +1,6 @@
 #!/usr/bin/env bash
 # python/magbelu/gnuradio.py inside GNU Radio, where that is installed and ./build --c has built the library from these sources: tests/gnuradio/cases.py has the cases.
+# tests/gnuradio/own.py holds what stands for GNU Radio's blocks against these, and coverage.py holds the table of all blocks against those that are installed.
 # Graphs that are drawn by chance run beside `flow run`, which is compiled here, unproved, where ./build has not built it. Which graphs are a block is tried over a
 # stand-in for the library too; and that the module says what it lacks where there is no GNU Radio, everywhere.
 set -euo pipefail
@@ -7,11 +8,13 @@ set -euo pipefail
 source "$(dirname -- "$(readlink -f -- "${BASH_SOURCE[0]}")")/../part.sh"
 
 cases=(beside_flow beside_blocks inputs_end inputs_lack graph_ends output_ends stopped tags_after_a_stop stalls refused tags tag_refused settings taps fed_by_file memory companion pages)
+own=(block_interleaver matrix_interleaver permutation patterned_interleaver stream_demux deinterleave puncture depuncture endian_swap short_to_char companding selector
+    tag_share tag_gate delay probe_signal ccsds_encoder encoders bit_orders access_code vectors)
 # (Debian's GNU Radio is there for its own Python alone.)
 python=$([[ -x /usr/bin/python3 ]] && echo /usr/bin/python3 || echo python3)
 export PYTHONDONTWRITEBYTECODE=1
 
-list() { printf 'gnuradio/%s\n' without_gnuradio without_library "${cases[@]}"; }
+list() { printf 'gnuradio/%s\n' without_gnuradio without_library coverage "${own[@]/#/own/}" "${cases[@]}"; }
 
 # lacks_gnuradio: says so where it is not here
 lacks_gnuradio() {
@@ -27,17 +30,22 @@ lacks_library() {
     fi
 }
 
-# in_gnuradio CASE: tries a case
+# in_gnuradio FILE WORD..: a file of tests/gnuradio
 in_gnuradio() {
-    local words=("$1")
-    if [[ $1 == beside_flow ]]; then
-        start=("$program")
-        if ! is_fresh; then
+    HOME=$room MAGBELU_LIBRARY=$c_folder/libmagbelu.so PYTHONPATH=$top/python timeout 300 "$python" "$top/tests/gnuradio/$1" "${@:2}"
+}
+
+# with_program COMMAND..: the command, and behind it the words that start the program, which is compiled here where ./build has not built it
+with_program() {
+    start=("$program")
+    if ! is_fresh; then
+        if [[ ! -s $room/start ]]; then
             build_copy "$top/crates/$program_crate" -- run --one-thread -i from=program -o "to=$room/program" "$top/tests/parts/copy.toml"
+            printf '%s\n' "${start[@]}" >"$room/start"
         fi
-        words+=("${start[@]}")
+        mapfile -t start <"$room/start"
     fi
-    HOME=$room MAGBELU_LIBRARY=$c_folder/libmagbelu.so PYTHONPATH=$top/python timeout 300 "$python" "$top/tests/gnuradio/cases.py" "${words[@]}"
+    "$@" "${start[@]}"
 }
 
 # without_library: which graphs are a block
@@ -72,18 +80,25 @@ try() {
     if [[ $status == 0 ]]; then
         passed "$2"
     else
-        tail -n 40 "$room/said" | failed "$2"
+        # (`timeout` ends in this status, and says nothing)
+        { tail -n 40 "$room/said" && { [[ $status != 124 ]] || echo "it did not end within 300 seconds"; }; } | failed "$2"
     fi
 }
 
 run() {
-    local it why start=()
+    local it why start=() words
     try '' gnuradio/without_gnuradio without_gnuradio
     why=$(lacks_gnuradio)
     try "$why" gnuradio/without_library without_library
+    try "$why" gnuradio/coverage in_gnuradio coverage.py
+    for it in "${own[@]}"; do
+        try "$why" "gnuradio/own/$it" with_program in_gnuradio own.py "$it"
+    done
     why=${why:-$(lacks_library)}
     for it in "${cases[@]}"; do
-        try "$why" "gnuradio/$it" in_gnuradio "$it"
+        words=(in_gnuradio cases.py "$it")
+        [[ $it != beside_flow ]] || words=(with_program "${words[@]}")
+        try "$why" "gnuradio/$it" "${words[@]}"
     done
 }
 

@@ -13,6 +13,23 @@ from flow_from_grc.kinds import TABLE  # noqa: E402
 
 # Those that stand beside a filter of floats alone, and one that is another block by what is set.
 BESIDE_OTHERS = ("blocks_short_to_float", "blocks_float_to_short", "blocks_tag_gate")
+# Those for which kinds in a row stand, or a table: the program answers with one kind, and has no name of them.
+IN_A_ROW = (
+    "blocks_blockinterleaver_xx",
+    "blocks_endian_swap",
+    "blocks_matrix_interleaver",
+    "blocks_patterned_interleaver",
+    "blocks_probe_signal_x",
+    "blocks_selector",
+    "blocks_short_to_char",
+    "blocks_stream_demux",
+    "blocks_tag_share",
+    "fec_depuncture_bb",
+    "fec_puncture_xx",
+    "trellis_permutation",
+    "vocoder_alaw_decode_bs",
+    "vocoder_ulaw_decode_bs",
+)
 # What is not just any number.
 VALUES = {"enabled": True, "append": False, "bits_per_byte": 1, "num_inputs": 1}
 
@@ -86,7 +103,7 @@ def main(start):
     """Tries all blocks, and says which are answered otherwise."""
     wrong, count = [], 0
     for name, entry in TABLE.items():
-        if name in BESIDE_OTHERS:
+        if name in BESIDE_OTHERS or name in IN_A_ROW:
             continue
         settings = AnySettings()
         node = entry.make(settings)
