@@ -1,32 +1,38 @@
 //! How runs are cut into slices: how far slices overlap, and what they drop.
 use super::drawn::Make::{Add, Delay, Head, Keep, Repeat, Skip, Sum};
-use super::drawn::{Drawn, Make, SINK, SOURCE, Wire, build, plain};
-use flowgraph::{BlockId, Valid};
+use super::drawn::{Drawn, Make, SINK, SOURCE, Wire, add, build, plain};
+use flowgraph::{BlockId, Graph, Policy, Valid};
 use kinds::Kind;
 use rates::{Rates, balance};
-use slices::{Part, Plan, Planned, plan_slices};
+use slices::{Asks, Part, Plan, Planned, plan_slices};
 use std::alloc::Global;
 use std::process::Abort;
 use std::test::Fail;
 
 // The answer on a graph.
+fn answer(rt: &impl Abort, alloc: Global, case: &str, graph: &Valid<Kind>, asks: Asks) -> Planned {
+    let Ok(Rates::Balanced(rates)) = balance(alloc, graph) else {
+        panic!(rt; "{case}: no balance");
+    };
+    let Ok(planned) = plan_slices(alloc, graph, &rates, asks) else {
+        panic!(rt; "{case}: no memory");
+    };
+    planned
+}
+
+// That on a graph of these blocks, all of which send all tags.
 fn planned(
     rt: &impl Abort,
     alloc: Global,
     case: &str,
     blocks: &[Drawn<'_>],
     wires: &[Wire],
+    asks: Asks,
 ) -> Planned {
     let Ok(graph): Result<Valid<Kind>, _> = build(alloc, blocks, wires, blocks.len()) else {
         panic!(rt; "{case}: the graph is refused");
     };
-    let Ok(Rates::Balanced(rates)) = balance(alloc, &graph) else {
-        panic!(rt; "{case}: no balance");
-    };
-    let Ok(planned) = plan_slices(alloc, &graph, &rates) else {
-        panic!(rt; "{case}: no memory");
-    };
-    planned
+    answer(rt, alloc, case, &graph, asks)
 }
 
 // The plan of a graph that has one.
@@ -36,8 +42,9 @@ fn plan(
     case: &str,
     blocks: &[Drawn<'_>],
     wires: &[Wire],
+    asks: Asks,
 ) -> Plan {
-    let Planned::Plan(plan) = planned(rt, alloc, case, blocks, wires) else {
+    let Planned::Plan(plan) = planned(rt, alloc, case, blocks, wires, asks) else {
         panic!(rt; "{case}: no plan");
     };
     plan
@@ -61,10 +68,37 @@ const CHAINS: [Chain; 11] = [
     ("left out behind one in two", &[Keep(2), Skip(3)], 3, 6, 0, 0),
 ];
 
+// The same where tags are asked for.
+const TAGGED: [Chain; 11] = [
+    ("nothing between", &[], 0, 0, 0, 0),
+    // A tag on item 2 goes to item 2 / 3 to the nearest, which is 1.
+    ("one in three", &[Keep(3)], 1, 3, 1, 1),
+    // From there, one on item 0 to item 0.
+    ("one in three, twice", &[Keep(3), Keep(3)], 1, 9, 1, 1),
+    // Ties go up: a tag on item 1 goes to item 1.
+    ("one in two", &[Keep(2)], 1, 2, 1, 1),
+    ("a sum, then one in two", &[Sum(4), Keep(2)], 2, 4, 2, 2),
+    ("one in two, then a sum", &[Keep(2), Sum(3)], 2, 4, 2, 2),
+    ("three for one", &[Repeat(3)], 0, 0, 0, 0),
+    ("five zeros first", &[Delay(5)], 0, 0, 5, 5),
+    ("one in three, then zeros", &[Keep(3), Delay(5)], 1, 3, 6, 6),
+    // The tags on them go to the first item behind.
+    ("four items left out", &[Skip(4)], 5, 5, 1, 1),
+    ("left out behind one in two", &[Keep(2), Skip(3)], 4, 8, 1, 1),
+];
+
 #[test]
 fn chains(rt: HostRuntime) -> Result<(), Fail> {
-    let alloc = rt.alloc();
-    for (case, made, overlap, read, settled, drop) in CHAINS {
+    test_chains(&rt, rt.alloc(), &CHAINS, Asks::Items)
+}
+
+#[test]
+fn tagged_chains(rt: HostRuntime) -> Result<(), Fail> {
+    test_chains(&rt, rt.alloc(), &TAGGED, Asks::ItemsAndTags)
+}
+
+fn test_chains(rt: &impl Abort, alloc: Global, chains: &[Chain], asks: Asks) -> Result<(), Fail> {
+    for (case, made, overlap, read, settled, drop) in chains {
         let mut blocks: Vec<Drawn<'_>> = Vec::new(alloc);
         let mut wires: Vec<Wire> = Vec::new(alloc);
         blocks.push(plain(b"src", SOURCE))?;
@@ -75,17 +109,46 @@ fn chains(rt: HostRuntime) -> Result<(), Fail> {
         for number in 1..blocks.len() as u32 {
             wires.push((number - 1, 0, number, 0))?;
         }
-        let plan = plan(&rt, alloc, case, &blocks, &wires);
-        assert!(rt; plan.overlap == overlap, "{case}: overlap");
-        assert!(rt; plan.sources.len() == 1 && plan.sources[0].overlap == read, "{case}: source");
+        let plan = plan(rt, alloc, case, &blocks, &wires, asks);
+        assert!(rt; plan.asks == asks, "{case}: asks");
+        assert!(rt; plan.overlap == *overlap, "{case}: overlap");
+        assert!(rt; plan.sources.len() == 1 && plan.sources[0].overlap == *read, "{case}: source");
         assert!(rt; plan.sinks.len() == 1, "{case}: sinks");
-        assert!(rt; plan.sinks[0].settled == settled, "{case}: settled");
-        assert!(rt; plan.sinks[0].drop == drop, "{case}: drop");
+        assert!(rt; plan.sinks[0].settled == *settled, "{case}: settled");
+        assert!(rt; plan.sinks[0].drop == *drop, "{case}: drop");
     }
     Ok(())
 }
 
 const NAMES: &[u8] = b"abcdef";
+
+// A block that lets no tag through: what comes to it need not be right, but what comes to a sink.
+#[test]
+fn policies(rt: HostRuntime) -> Result<(), Fail> {
+    let alloc = rt.alloc();
+    let cases = [
+        ("all", Policy::All, Policy::All, 1),
+        ("none at the block", Policy::None, Policy::All, 0),
+        ("none at the sink", Policy::All, Policy::None, 1),
+    ];
+    for (case, keep, sink, overlap) in cases {
+        let mut graph: Graph<Kind> = Graph::new(alloc);
+        add(alloc, &mut graph, plain(b"src", SOURCE), Policy::All)?;
+        add(alloc, &mut graph, plain(b"keep", Keep(3)), keep)?;
+        add(alloc, &mut graph, plain(b"out", SINK), sink)?;
+        graph.connect(BlockId(0), 0, BlockId(1), 0)?;
+        graph.connect(BlockId(1), 0, BlockId(2), 0)?;
+        let Ok(graph) = graph.validate(alloc) else {
+            panic!(rt; "{case}: the graph is refused");
+        };
+        let Planned::Plan(plan) = answer(&rt, alloc, case, &graph, Asks::ItemsAndTags) else {
+            panic!(rt; "{case}: no plan");
+        };
+        assert!(rt; plan.overlap == overlap, "{case}: overlap");
+        assert!(rt; plan.sinks[0].drop == overlap, "{case}: drop");
+    }
+    Ok(())
+}
 
 // Both ways of one stream, where the longer one counts whichever input it enters.
 #[test]
@@ -100,7 +163,7 @@ fn joined(rt: HostRuntime) -> Result<(), Fail> {
             plain(b"out", SINK),
         ];
         let wires = [(0, 0, 1, 0), (0, 0, 2, 0), (1, 0, 3, 0), (2, 0, 3, 1), (3, 0, 4, 0)];
-        let plan = plan(&rt, alloc, "joined", &blocks, &wires);
+        let plan = plan(&rt, alloc, "joined", &blocks, &wires, Asks::Items);
         assert!(rt; plan.overlap == 4, "overlap");
         assert!(rt; plan.sinks[0].drop == 4, "drop");
     }
@@ -119,7 +182,7 @@ fn backwards(rt: HostRuntime) -> Result<(), Fail> {
         plain(b"src", SOURCE),
     ];
     let wires = [(1, 0, 0, 0), (2, 0, 1, 0), (3, 0, 2, 0), (4, 0, 3, 0)];
-    let plan = plan(&rt, alloc, "backwards", &blocks, &wires);
+    let plan = plan(&rt, alloc, "backwards", &blocks, &wires, Asks::Items);
     // The sum is right from item 6 on, so the sink from item 3; it has one item at first, and one more each iteration.
     assert!(rt; plan.overlap == 2, "overlap");
     assert!(rt; plan.sources[0].overlap == 4, "source");
@@ -140,8 +203,8 @@ fn remembering(rt: HostRuntime) -> Result<(), Fail> {
         plain(b"out", SINK),
     ];
     let wires = [(0, 0, 1, 0), (1, 0, 2, 0), (2, 0, 3, 0), (3, 0, 4, 0)];
-    let answer = planned(&rt, alloc, "heads", &blocks, &wires);
-    assert!(rt; matches!(answer, Planned::Remembers(BlockId(2))), "the first head");
+    let found = planned(&rt, alloc, "heads", &blocks, &wires, Asks::Items);
+    assert!(rt; matches!(found, Planned::Remembers(BlockId(2))), "the first head");
     Ok(())
 }
 
@@ -156,7 +219,7 @@ fn slices(rt: HostRuntime) -> Result<(), Fail> {
         plain(b"out", SINK),
     ];
     let wires = [(0, 0, 1, 0), (1, 0, 2, 0), (2, 0, 3, 0)];
-    let plan = plan(&rt, alloc, "slices", &blocks, &wires);
+    let plan = plan(&rt, alloc, "slices", &blocks, &wires, Asks::Items);
     for (begins, from, drop, stands) in [(0, 0, 0, 0), (3, 0, 8, 8), (10, 7, 8, 15)] {
         let slice = plan.slice(alloc, begins)?;
         let part = Part {

@@ -17,6 +17,7 @@ mod words_read;
 mod call;
 mod ends;
 mod slice;
+mod stretch;
 mod words;
 
 use launches::Way;

@@ -1,5 +1,5 @@
 //! Tests of plants through their public calls: each call once, jobs that are copied and brought back, what blocks wait for and what
-//! buffers store, long runs in any order, balanced graphs that never stall, plants that stream, alone and with helpers, for long, and pipelines; and calls that have
+//! buffers store, long runs in any order, balanced graphs that never stall, plants that stream, alone and with helpers, for long, and pipelines; slices on threads; and calls that have
 //! memory enough.
 
 mod ample;
@@ -15,5 +15,6 @@ mod needs;
 mod orders;
 mod piped;
 mod pipelines;
+mod sliced;
 mod stores;
 mod streamed;

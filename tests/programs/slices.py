@@ -1,6 +1,7 @@
 #!/usr/bin/env python3
-"""Runs graphs that are drawn by chance whole and in slices, by the program whose words are given: what the slices write, one behind the other, is what the whole run
-writes, and a graph that is not cut is refused. Prints what differs."""
+"""Runs graphs that are drawn by chance whole and in parts, by the program whose words are given. What slices write, one behind the other, is what the whole run writes.
+So is a run from an item on, one that goes on with cut outputs, and one in pieces, also where it is killed and goes on. A graph that is not cut is refused. Prints what
+differs."""
 
 import pathlib
 import random
@@ -8,6 +9,7 @@ import struct
 import subprocess
 import sys
 import tempfile
+import time
 
 sys.path.insert(0, str(pathlib.Path(__file__).parent.parent / "gnuradio"))
 
@@ -15,6 +17,9 @@ import drawn  # noqa: E402
 
 GRAPHS = 30
 FORMATS = {"byte": "B", "short": "h", "int": "i"}
+SIZES = {"byte": 1, "short": 2, "int": 4}
+# A run in pieces is killed so often, before it is done or behind.
+KILLS = 3
 
 
 def call(folder, *words):
@@ -24,14 +29,27 @@ def call(folder, *words):
 
 
 def write(folder, graph, rng):
-    """The files of a graph: its own, and that of each source, of which some end early. Returns the words that name the inputs."""
+    """The files of a graph: its own, and that of each source, of which some end early, with its marks. Returns the words that name the inputs."""
     folder.joinpath("graph.toml").write_text(graph.text, encoding="utf-8")
     words = []
     for name, fed in graph.feeds.items():
         items = fed.items[: rng.choice([len(fed.items), len(fed.items) // 3])]
         folder.joinpath(name).write_bytes(struct.pack("<%d%s" % (len(items), FORMATS[fed.type]), *items))
+        marks = [tag for tag in sorted(fed.tags, key=lambda tag: tag[0]) if tag[0] < len(items)]
+        folder.joinpath("%s.marks" % name).write_text("".join("@%d:%s=%d\n" % mark for mark in marks), encoding="utf-8")
         words += ["-i", "%s=%s" % (name, name)]
     return words
+
+
+def tagged(graph, place):
+    """The words that name the marks of a run, and where its tags go."""
+    marks = [word for name in graph.feeds for word in ("--marks", "%s=%s.marks" % (name, name))]
+    return marks + [word for name in graph.sinks for word in ("--tags", "%s=%s.%s.tags" % (name, name, place))]
+
+
+def tags(folder, graph, place):
+    """What a run wrote of the tags of each sink."""
+    return {name: folder.joinpath("%s.%s.tags" % (name, place)).read_text(encoding="utf-8") for name in graph.sinks}
 
 
 def run(folder, inputs, graph, place, *words):
@@ -43,26 +61,102 @@ def run(folder, inputs, graph, place, *words):
     return {name: folder.joinpath("%s.%s" % (name, place)).read_bytes() for name in graph.sinks}
 
 
+def slices_differ(folder, graph, inputs, whole, rng):
+    """What is wrong with the slices of a graph."""
+    count = rng.randint(1, 6)
+    run(folder, inputs, graph, "whole", *tagged(graph, "whole"))
+    items, lines = {name: b"" for name in whole}, {name: "" for name in whole}
+    for at in range(count):
+        part = run(folder, inputs, graph, "part", "--slice", "%d/%d" % (at + 1, count), *tagged(graph, "part"))
+        for name, text in tags(folder, graph, "part").items():
+            items[name] += part[name]
+            lines[name] += text
+    for name, text in tags(folder, graph, "whole").items():
+        if items[name] != whole[name]:
+            return "%s in %d slices has %d bytes, and %d in the whole run" % (name, count, len(items[name]), len(whole[name]))
+        if lines[name] != text:
+            return "%s in %d slices has the tags %s, and %s in the whole run" % (name, count, lines[name], text)
+    return None
+
+
+def items_differ(folder, graph, inputs, whole, rng):
+    """What is wrong with runs from an item on."""
+    longest = max(len(items) // SIZES[graph.sinks[name]] for name, items in whole.items())
+    start, count = rng.randint(0, longest + 5), rng.randint(0, longest + 5)
+    for words, end in [(["--from", str(start)], None), (["--from", str(start), "--items", str(count)], start + count), (["--items", str(count)], count)]:
+        part = run(folder, inputs, graph, "part", *words)
+        for name, items in whole.items():
+            size = SIZES[graph.sinks[name]]
+            wanted = items[(start if "--from" in words else 0) * size : None if end is None else end * size]
+            if part[name] != wanted:
+                return "%s by %s has %d bytes, and not %d" % (name, " ".join(words), len(part[name]), len(wanted))
+    return None
+
+
+def resumed_differs(folder, graph, inputs, whole, rng):
+    """What is wrong with a run that goes on with outputs that were cut anywhere."""
+    for name, items in whole.items():
+        path = folder.joinpath("%s.part" % name)
+        path.unlink(missing_ok=True)
+        if rng.random() < 0.8:
+            path.write_bytes(items[: rng.randint(0, len(items))])
+    part = run(folder, inputs, graph, "part", "--resume")
+    for name, items in whole.items():
+        if part[name] != items:
+            return "%s, gone on with, has %d bytes, and not %d" % (name, len(part[name]), len(items))
+    return None
+
+
+def pieces_differ(folder, graph, inputs, whole, rng):
+    """What is wrong with runs in pieces."""
+    start = rng.randint(0, 50)
+    for words in (["--jobs", "1"], ["--jobs", str(rng.randint(2, 5))], ["--jobs", "2", "--from", str(start)], ["--jobs", "2", "--slice", "1/1"]):
+        part = run(folder, inputs, graph, "part", *words)
+        for name, items in whole.items():
+            wanted = items[(start if "--from" in words else 0) * SIZES[graph.sinks[name]] :]
+            if part[name] != wanted:
+                return "%s by %s has %d bytes, and not %d" % (name, " ".join(words), len(part[name]), len(wanted))
+    return None
+
+
+def killed_differs(folder, graph, inputs, whole, rng):
+    """What is wrong with what killed runs in pieces left, and with the runs that go on with it."""
+    outputs = [word for name in graph.sinks for word in ("-o", "%s=%s.part" % (name, name))]
+    words = [*sys.argv[1:], "run", "--jobs", "3", *inputs, *outputs, "graph.toml"]
+    for _ in range(KILLS):
+        for name in whole:
+            folder.joinpath("%s.part" % name).unlink(missing_ok=True)
+        with subprocess.Popen(words, cwd=folder, stdin=subprocess.DEVNULL, stdout=subprocess.DEVNULL, stderr=subprocess.DEVNULL) as killed:
+            time.sleep(rng.uniform(0, 0.4))
+            killed.kill()
+        for name, items in whole.items():
+            path = folder.joinpath("%s.part" % name)
+            if path.exists() and not items.startswith(path.read_bytes()):
+                return "%s: what a killed run left is no beginning of the whole" % name
+        part = run(folder, inputs, graph, "part", "--resume", "--jobs", "2")
+        for name, items in whole.items():
+            if part[name] != items:
+                return "%s, gone on with behind a kill, has %d bytes, and not %d" % (name, len(part[name]), len(items))
+    return None
+
+
 def differs(folder, seed):
-    """What is wrong with the slices of the graph of this number, and whether it is cut."""
+    """What is wrong with the parts of the graph of this number, and whether it is cut."""
     graph, rng = drawn.draw(seed), random.Random(seed)
     inputs = write(folder, graph, rng)
     status, report, _ = call(folder, "check", "--slices", "graph.toml")
     if status != 0:
         return "check: %d" % status, False
-    is_cut = "slices none" not in report
-    if not is_cut:
-        status, _, errors = call(folder, "run", "--slice", "1/2", *inputs, "graph.toml")
-        is_refused = status == 1 and errors.startswith("flow: refused 63 NoSlices ")
-        return None if is_refused else "not refused: %d %s" % (status, errors), False
+    if "slices none" in report:
+        for words in (["--slice", "1/2"], ["--from", "0"], ["--jobs", "2"]):
+            status, _, errors = call(folder, "run", *words, *inputs, "graph.toml")
+            if status != 1 or not errors.startswith("flow: refused 63 NoSlices "):
+                return "%s is not refused: %d %s" % (" ".join(words), status, errors), False
+        return None, False
     whole = run(folder, inputs, graph, "whole")
-    count = rng.randint(1, 6)
-    parts = [run(folder, inputs, graph, "part", "--slice", "%d/%d" % (at + 1, count)) for at in range(count)]
-    for name, items in whole.items():
-        joined = b"".join(part[name] for part in parts)
-        if joined != items:
-            return "%s in %d slices has %d bytes, and %d in the whole run" % (name, count, len(joined), len(items)), True
-    return None, True
+    # (each call of the program is slow where it is built with checks)
+    another = [items_differ, resumed_differs, pieces_differ, killed_differs][seed % 4]
+    return slices_differ(folder, graph, inputs, whole, rng) or another(folder, graph, inputs, whole, rng), True
 
 
 def main():

@@ -7,5 +7,6 @@ mod runs;
 mod call;
 mod ends;
 mod slice;
+mod stretch;
 mod terminal;
 mod words;

@@ -5,6 +5,7 @@ ghost use Rattle.flow.specs.declared.serve.Verbosity.TheVariants.{WithNotes, Qui
 
 use super::ends::{Ends, EndsFault};
 use super::slice::Slice;
+use super::stretch::Stretch;
 use clap::ArgMatches;
 use drawings::Format;
 use flow::serve::{Action, Verbosity};
@@ -25,8 +26,10 @@ pub struct Call<'a> {
     /// The trace of the run, if one is wanted.
     pub trace: Option<Trace<'a>>,
     pub ends: Ends<'a>,
-    /// The slice that is run alone, if one is named.
-    pub slice: Option<Slice>,
+    /// Which part of a run is done.
+    pub stretch: Stretch,
+    /// On how many threads slices are run, if the words say.
+    pub jobs: Option<usize>,
     /// Whether it is told how the graph is cut into slices.
     pub tells_slices: bool,
 }
@@ -69,7 +72,7 @@ pub fn call_in<'a>(
         return Err(EndsFault::Memory);
     };
     let trace = trace_of(inner, path)?;
-    let slice = slice_of(inner.get_str("slice"))?;
+    let stretch = stretch_of(inner)?;
     match Ends::of_words(alloc, inner, path) {
         Ok(ends) => Ok(Call {
             action: action_of(name, inner),
@@ -79,7 +82,8 @@ pub fn call_in<'a>(
             stats: form_of(inner.get_str("stats")),
             trace,
             ends,
-            slice,
+            stretch,
+            jobs: inner.get_one::<usize>("jobs"),
             tells_slices: inner.get_flag("slices"),
         }),
         Err(fault) => Err(fault),
@@ -102,14 +106,23 @@ fn trace_of<'a>(inner: &ArgMatches<'a>, file: &str) -> Result<Option<Trace<'a>>,
     Ok(Some(Trace { path, size }))
 }
 
-// The slice that a word names, if there is one.
-fn slice_of(word: Option<&str>) -> Result<Option<Slice>, EndsFault> {
-    let Some(word) = word else {
-        return Ok(None);
-    };
-    match Slice::of_word(word) {
-        Some(slice) => Ok(Some(slice)),
-        None => Err(EndsFault::NoSlice),
+// Which part of a run the words name.
+fn stretch_of(inner: &ArgMatches<'_>) -> Result<Stretch, EndsFault> {
+    if let Some(word) = inner.get_str("slice") {
+        return match Slice::of_word(word) {
+            Some(slice) => Ok(Stretch::Slice(slice)),
+            None => Err(EndsFault::NoSlice),
+        };
+    }
+    if inner.get_flag("resume") {
+        return Ok(Stretch::Resumed);
+    }
+    match (inner.get_one::<u64>("from"), inner.get_one::<u64>("items")) {
+        (None, None) => Ok(Stretch::Whole),
+        (from, most) => Ok(Stretch::Items {
+            from: from.unwrap_or(0),
+            most: most.unwrap_or(u64::MAX),
+        }),
     }
 }
 

@@ -1,7 +1,8 @@
 //! The files and streams that raw items come from and go to.
 
-use crate::skipping::Skipping;
+use slice_threads::Skipping;
 use std::alloc::Global;
+use std::collections::VecDeque;
 use std::fs::File;
 use std::io;
 use std::io::{Printer, Read, Seek, SeekFrom, StdinLock, Write};
@@ -70,6 +71,8 @@ struct Part {
 /// The inputs of a source, one behind the other. One that ends within an item is the last.
 #[derive(Drop)]
 pub struct Chain {
+    // What was read and given back, which is read again first.
+    unread: VecDeque<u8>,
     parts: Vec<Part>,
     // How many bytes in front are still passed over, and how many are then read at most.
     extent: Extent,
@@ -83,6 +86,7 @@ impl Chain {
     /// No inputs, of a source of items of so many bytes, of which this part is read.
     pub fn new(alloc: Global, item_size: usize, extent: Extent) -> Chain {
         Chain {
+            unread: VecDeque::new(alloc),
             parts: Vec::new(alloc),
             extent,
             at: 0,
@@ -100,6 +104,11 @@ impl Chain {
         self.parts.reserve(1)?;
         self.parts.push_reserved(Part { number, source });
         Ok(())
+    }
+
+    /// Gives back what was read last, to be read again.
+    pub fn give_back(&mut self, bytes: VecDeque<u8>) {
+        self.unread = bytes;
     }
 
     // Passes over what lies before the part that is read, and tells whether that is the whole input.
@@ -132,6 +141,9 @@ impl Chain {
 
 impl Read for Chain {
     fn read(&mut self, buf: &mut [u8]) -> io::Result<usize> {
+        if !self.unread.is_empty() {
+            return self.unread.read(buf);
+        }
         let most = buf
             .len()
             .min(usize::try_from(self.extent.most).unwrap_or(usize::MAX));

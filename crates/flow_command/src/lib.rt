@@ -3,21 +3,24 @@
 
 mod call;
 mod closed_streams;
+mod cut;
 mod devices;
 mod ends;
 mod explaining;
 mod gone_reader;
 mod joins;
+mod lengths;
 mod listing;
 mod measuring;
 mod overwriting;
+mod pieces;
 mod raw;
 mod refusing;
-mod skipping;
 mod slice;
 mod slice_report;
 mod slicing;
 mod stops;
+mod stretch;
 mod terminal;
 mod tracing;
 mod uncut;

@@ -1,14 +1,19 @@
 //! Runs between files and pipes of raw items, which are read and written as the items come.
 
+use crate::cut::Cut;
 use crate::ends::Ends;
 use crate::gone_reader::tell_gone;
-use crate::joins::{Kept, join_inputs, join_marks, join_outputs};
+use crate::joins::{
+    Kept, join_inputs, join_marks, join_outputs, make_outputs, open_inputs, open_marks,
+};
 use crate::overwriting::ReportStream;
+use crate::pieces::{Before, Team, run_pieces, team_for};
 use crate::refusing::{buffered, shown_name};
-use crate::slice_report::slice_text;
-use crate::slicing::{Cut, cut_of};
+use crate::slice_report::part_text;
+use crate::slicing::cut_of;
 use crate::stops::{Stop, Stream, explain, found_in, stop_of, unread_name};
-use crate::uncut::refuse_cut;
+use crate::stretch::Stretch;
+use crate::uncut::{Uncut, refuse_cut};
 use crate::words::Call;
 use flow::command_output::status_of;
 use flow::fault::Fault;
@@ -45,16 +50,12 @@ pub fn run_raw<R: Threads + Wait + Clock + Copy + Send + Sync + 'static, W: Watc
         Ok(run) => run,
         Err(stop) => return tell_stop(rt, call, file, stop),
     };
-    let cut = match call.slice {
-        Some(slice) => cut_of(rt, &run.plant, &call.ends, slice),
-        None => Ok(Cut::whole(rt.alloc())),
-    };
-    let cut = match cut {
-        Ok(cut) => cut,
+    let part = match part_of(threads, rt, call, file, &run) {
+        Ok(part) => part,
         Err(uncut) => return refuse_cut(rt, call, run.plant.graph(), uncut),
     };
     let mut errors = buffered(rt.alloc(), rt.stderr());
-    match stream(threads, rt, call, report, run, &cut, watch) {
+    match stream(threads, rt, call, report, run, &part, watch) {
         Ok(None) => status_of(true),
         Ok(Some(stalled)) => {
             if call.verbosity() == Verbosity::WithNotes {
@@ -64,6 +65,26 @@ pub fn run_raw<R: Threads + Wait + Clock + Copy + Send + Sync + 'static, W: Watc
         }
         Err(stop) => tell_stop(rt, call, file, stop),
     }
+}
+
+// Which part of a run is done, and how it is done in pieces, if it is.
+#[derive(Drop)]
+struct Part<'a> {
+    file: &'a [u8],
+    cut: Cut,
+    team: Option<Team>,
+}
+
+fn part_of<'a, R: Threads + Copy>(
+    threads: R,
+    rt: &HostRuntime,
+    call: &Call<'_>,
+    file: &'a [u8],
+    run: &Stream<'_>,
+) -> Result<Part<'a>, Uncut> {
+    let cut = cut_of(rt, &run.plant, &call.ends, call.stretch)?;
+    let team = team_for(threads, rt, call, &run.plant)?;
+    Ok(Part { file, cut, team })
 }
 
 // Tells why the run stopped, and gives the exit status.
@@ -93,23 +114,54 @@ fn stream<'a, R: Threads + Wait + Clock + Copy + Send + Sync + 'static, W: Watch
     call: &Call<'_>,
     report: ReportStream,
     run: Stream<'a>,
-    cut: &Cut,
+    part: &Part<'_>,
     watch: &mut W,
 ) -> Result<Option<Stream<'a>>, Stop> {
-    let ends = &call.ends;
     let mut run = run;
-    join_inputs(rt, &mut run, ends, cut)?;
-    join_marks(rt, &mut run, ends)?;
-    let kept = join_outputs(rt, &mut run, ends, cut)?;
+    let (before, kept) = join(threads, rt, call, &mut run, part, watch)?;
     close_others(&mut run);
     let (settled, ended) = go(threads, rt, &mut run, call, watch)?;
     write_kept(rt, &run, kept)?;
-    tell(rt, &run, call, cut, report, settled)?;
+    tell(rt, &run, call, &part.cut, &before, report, settled)?;
     match (ended, settled) {
         (Some(stop), _) => Err(stop),
         (None, Settled::Done) => Ok(None),
         (None, Settled::Quiet) => Ok(Some(run)),
     }
+}
+
+// Opens all ends, runs the pieces of a run that has some, and joins the blocks to what is left.
+fn join<'a, R: Threads + Wait + Clock + Copy + Send + Sync + 'static, W: Watch>(
+    threads: R,
+    rt: &'a HostRuntime,
+    call: &Call<'_>,
+    run: &mut Stream<'a>,
+    part: &Part<'_>,
+    watch: &mut W,
+) -> Result<(Before, Vec<Kept<'a>>), Stop> {
+    let ends = &call.ends;
+    let mut chains = open_inputs(rt, run, ends, &part.cut)?;
+    let marks = open_marks(rt, run, ends)?;
+    let mut targets = make_outputs(rt, run, ends, &part.cut, part.team.is_some())?;
+    let before = match &part.team {
+        Some(team) => run_pieces(
+            threads,
+            rt.alloc(),
+            part.file,
+            run.plant.graph(),
+            ends,
+            &part.cut,
+            team,
+            &mut chains,
+            &mut targets,
+            watch,
+        )?,
+        None => Before::none(rt.alloc()),
+    };
+    join_inputs(rt.alloc(), run, ends, chains)?;
+    join_marks(rt.alloc(), run, ends, &part.cut, marks)?;
+    let kept = join_outputs(rt.alloc(), run, ends, &part.cut, &before, targets)?;
+    Ok((before, kept))
 }
 
 fn opened<'a>(rt: &'a HostRuntime, file: &[u8]) -> Result<Stream<'a>, Stop> {
@@ -221,12 +273,14 @@ fn tell(
     run: &Stream<'_>,
     call: &Call<'_>,
     cut: &Cut,
+    before: &Before,
     report: ReportStream,
     settled: Settled,
 ) -> Result<(), Stop> {
-    let text = match call.slice {
-        Some(_) => slice_text(rt.alloc(), &run.plant, cut, settled)?,
-        None => stream_report(rt.alloc(), &run.plant, settled)?,
+    let text = if call.stretch == Stretch::Whole && before.is_none() {
+        stream_report(rt.alloc(), &run.plant, settled)?
+    } else {
+        part_text(rt.alloc(), &run.plant, cut, before, settled)?
     };
     let written = match report {
         ReportStream::Output => write_whole(&mut std::io::writer(rt), &text),

@@ -1,8 +1,11 @@
 //! What is told of slices: how a graph is cut, and how the run of a slice ended.
 
+use crate::cut::Cut;
 use crate::listing::print_text;
+use crate::pieces::Before;
 use crate::refusing::begins_none;
-use crate::slicing::{Cut, plan_of, size_at};
+use crate::slicing::plan_of;
+use crate::stops::name_of;
 use crate::uncut::{Uncut, text_of};
 use crate::words::Call;
 use flow::start_fault::StartFault;
@@ -11,7 +14,7 @@ use graph_file::read_graph;
 use kinds::Kind;
 use pipeline::Settled;
 use script_text::Report;
-use slices::Plan;
+use slices::{Asks, Plan};
 use std::alloc::{AllocError, Global};
 use streaming::StreamingPlant;
 
@@ -37,7 +40,7 @@ fn graph_of(alloc: Global, file: &[u8]) -> Option<Valid<Kind>> {
 }
 
 fn text(alloc: Global, graph: &Valid<Kind>) -> Result<String, AllocError> {
-    match plan_of(alloc, graph) {
+    match plan_of(alloc, graph, Asks::Items) {
         Ok((_rates, plan)) => plan_text(alloc, graph, &plan),
         Err(Uncut::Memory) => Err(AllocError),
         Err(Uncut::Remembers(block)) => {
@@ -64,17 +67,18 @@ fn plan_text(alloc: Global, graph: &Valid<Kind>, plan: &Plan) -> Result<String, 
     Ok(text)
 }
 
-/// The report on the run of a slice: how many items each sink was given of it, and how it ended.
-pub fn slice_text(
+/// The report on a part of a run: how many items each sink was given of it, in pieces before and then, and how it ended.
+pub fn part_text(
     alloc: Global,
     plant: &StreamingPlant<Kind>,
     cut: &Cut,
+    before: &Before,
     settled: Settled,
 ) -> Result<Vec<u8>, AllocError> {
     let mut text = Vec::new(alloc);
     let mut block = 0u32;
     for _ in 0..plant.graph().len() {
-        add_sink(alloc, &mut text, plant, cut, BlockId(block))?;
+        add_sink(alloc, &mut text, plant, cut, before, BlockId(block))?;
         block = block.saturating_add(1);
     }
     let end = match settled {
@@ -85,26 +89,24 @@ pub fn slice_text(
     Ok(text)
 }
 
-// What the slice gave a block that keeps items.
+// What was given to a block that keeps items.
 fn add_sink(
     alloc: Global,
     text: &mut Vec<u8>,
     plant: &StreamingPlant<Kind>,
     cut: &Cut,
+    before: &Before,
     block: BlockId,
 ) -> Result<(), AllocError> {
     let Ok(piece) = plant.peek(alloc, block, u64::MAX) else {
         return Ok(());
     };
-    let left_out = cut.left_out(block) / size_at(plant.graph(), block).max(1);
-    let name = if (block.0 as usize) < plant.graph().len() {
-        plant.graph().name(block)
-    } else {
-        b""
-    };
+    let part = cut.written(block);
+    let given = before.with(block, piece.held);
+    let written = given.saturating_sub(part.left_out).min(part.most);
     let line = Report::Sink {
-        name,
-        held: piece.held.saturating_sub(left_out),
+        name: name_of(plant.graph(), block),
+        held: written,
         items: &piece.items,
         tags: &piece.tags,
     };

@@ -1,4 +1,4 @@
-//! A slice of a run between files: which part of each input it reads, and what each output leaves out.
+//! Parts of a run between files: which part of each input one reads, and what each output leaves out.
 
 ghost use Rattle.std.specs.Prelude.{◌≡◌, ◌≤◌, ◌⊎◌, List, ℕ, IfOk};
 ghost use Rattle.stream_model.specs.Network.{Network};
@@ -6,80 +6,52 @@ ghost use Rattle.flowgraph.specs.Flowgraph.{net_of};
 ghost use Rattle.kinds.specs.Kind.{meaning_of};
 ghost use Rattle.slices.specs.Plans.{IsPlan};
 
+use crate::cut::{Cut, Written};
 use crate::devices::Extent;
 use crate::ends::Ends;
+use crate::lengths::{length_of_output, lengths_of_inputs, output_of, size_at};
 use crate::slice::Slice;
+use crate::stretch::Stretch;
 use crate::uncut::Uncut;
-use flow::raw_fault::EndPlace;
-use flow::raw_input::source_named;
-use flowgraph::{BlockId, Valid};
+use flowgraph::Valid;
 use kinds::Kind;
 use rates::{Rates, Repetitions, balance};
-use raw_items::item_size;
-use slices::{MOST_ITERATIONS, Plan, Planned, plan_slices};
-use std::alloc::{AllocError, Global};
-use std::fs;
+use slices::{Asks, MOST_ITERATIONS, Plan, Planned, plan_slices};
+use std::alloc::Global;
 use streaming::StreamingPlant;
 
-/// What a run reads of each source, and leaves out of each sink, by block.
-#[derive(Drop)]
-pub struct Cut {
-    extents: Vec<Extent>,
-    left_out: Vec<u64>,
-}
-
-impl Cut {
-    /// That of a whole run.
-    pub fn whole(alloc: Global) -> Cut {
-        Cut {
-            extents: Vec::new(alloc),
-            left_out: Vec::new(alloc),
-        }
-    }
-
-    /// Which bytes of its inputs a source reads.
-    pub fn extent(&self, source: BlockId) -> Extent {
-        match self.extents.get(source.0 as usize) {
-            Some(extent) => *extent,
-            None => Extent::WHOLE,
-        }
-    }
-
-    /// How many bytes of what a sink takes are left out.
-    pub fn left_out(&self, sink: BlockId) -> u64 {
-        match self.left_out.get(sink.0 as usize) {
-            Some(count) => *count,
-            None => 0,
-        }
-    }
-}
-
-/// What the run of a slice reads and leaves out.
+/// What the run of this part reads and writes.
 pub fn cut_of(
     rt: &HostRuntime,
     plant: &StreamingPlant<Kind>,
     ends: &Ends<'_>,
-    slice: Slice,
+    stretch: Stretch,
 ) -> Result<Cut, Uncut> {
-    let graph = plant.graph();
-    let (rates, plan) = plan_of(rt.alloc(), graph)?;
-    test_sources(plant, &plan)?;
-    test_sinks(graph, ends, &plan)?;
-    let lengths = lengths(rt, plant, ends)?;
-    let all = iterations(graph, &plan, &lengths);
-    let (begin, end) = stretch(slice, all, plan.overlap);
-    if end == Some(begin) {
-        return nothing(rt.alloc(), graph);
+    if stretch == Stretch::Whole {
+        return Ok(Cut::whole(rt.alloc()));
     }
-    cut_at(rt.alloc(), graph, &rates, &plan, begin, end)
+    let graph = plant.graph();
+    let asks = if ends.tags.is_empty() {
+        Asks::Items
+    } else {
+        Asks::ItemsAndTags
+    };
+    let (rates, plan) = plan_of(rt.alloc(), graph, asks)?;
+    test_ends(plant, ends, &plan)?;
+    let lengths = lengths_of_inputs(rt, graph, ends)?;
+    match stretch {
+        Stretch::Slice(slice) => slice_cut(rt.alloc(), graph, &rates, &plan, &lengths, slice),
+        Stretch::Items { from, most } => items_cut(rt.alloc(), graph, &rates, &plan, from, most),
+        Stretch::Whole | Stretch::Resumed => resumed_cut(rt, graph, ends, &rates, &plan),
+    }
 }
 
-/// The numbers by which the runs of a graph are cut, with the rates that they rest on.
-pub fn plan_of(alloc: Global, graph: &Valid<Kind>) -> Result<(Repetitions, Plan), Uncut>
+/// The numbers by which the runs of a graph are cut, for items or for tags too, with the rates that they rest on.
+pub fn plan_of(alloc: Global, graph: &Valid<Kind>, asks: Asks) -> Result<(Repetitions, Plan), Uncut>
     ensures { IfOk result (λ made. IsPlan (net_of meaning_of graph.now) made.0.firings.items made.1) }
 {
     match balance(alloc, graph)? {
-        Rates::Balanced(rates) => match plan_slices(alloc, graph, &rates)? {
+        Rates::Balanced(rates) => match plan_slices(alloc, graph, &rates, asks)? {
             Planned::Plan(plan) => Ok((rates, plan)),
             Planned::Remembers(block) => Err(Uncut::Remembers(block)),
             Planned::TooLate => Err(Uncut::Rates),
@@ -88,86 +60,98 @@ pub fn plan_of(alloc: Global, graph: &Valid<Kind>) -> Result<(Repetitions, Plan)
     }
 }
 
-// Whether no source is fed by the graph file, which each slice would feed to it once more.
-fn test_sources(plant: &StreamingPlant<Kind>, plan: &Plan) -> Result<(), Uncut> {
+/// Whether no source is fed by the graph file, which each slice would feed to it once more, and each sink has an output: what it keeps in memory is no part of
+/// what others keep.
+pub fn test_ends(plant: &StreamingPlant<Kind>, ends: &Ends<'_>, plan: &Plan) -> Result<(), Uncut> {
     for source in &plan.sources {
         if plant.items_in_memory(source.block) != 0 {
             return Err(Uncut::Fed(source.block));
         }
     }
-    Ok(())
-}
-
-// Whether each sink has an output: what it keeps in memory is no part of what others keep.
-fn test_sinks(graph: &Valid<Kind>, ends: &Ends<'_>, plan: &Plan) -> Result<(), Uncut> {
     for sink in &plan.sinks {
-        let is_written = ends
-            .outputs
-            .iter()
-            .any(|end| is_block(graph, sink.block, end.block.as_bytes()));
-        if !is_written {
+        if output_of(plant.graph(), ends, sink.block).is_none() {
             return Err(Uncut::NoOutput(sink.block));
         }
     }
     Ok(())
 }
 
-fn is_block(graph: &Valid<Kind>, block: BlockId, name: &[u8]) -> bool {
-    (block.0 as usize) < graph.len() && graph.name(block) == name
-}
-
-// How many bytes the inputs of each block have, up to the first that ends within an item.
-fn lengths(
-    rt: &HostRuntime,
-    plant: &StreamingPlant<Kind>,
-    ends: &Ends<'_>,
-) -> Result<Vec<u64>, Uncut> {
-    let mut lengths = zeros(rt.alloc(), plant.graph().len())?;
-    for (number, end) in ends.inputs.iter().enumerate() {
-        // (a name or a file that is refused is refused where it is opened)
-        let Ok(source) = source_named(plant.graph(), EndPlace::Input(number), end.block.as_bytes())
-        else {
-            continue;
-        };
-        if end.is_standard() {
-            return Err(Uncut::NoFile(source));
-        }
-        let Ok(found) = fs::metadata(rt, end.path) else {
-            continue;
-        };
-        if !found.is_file() {
-            return Err(Uncut::NoFile(source));
-        }
-        if let Some(length) = lengths.get_mut(source.0 as usize) {
-            if *length % size_at(plant.graph(), source).max(1) == 0 {
-                *length = length.saturating_add(found.len());
-            }
-        }
+// One of so many slices of inputs of these lengths.
+fn slice_cut(
+    alloc: Global,
+    graph: &Valid<Kind>,
+    rates: &Repetitions,
+    plan: &Plan,
+    lengths: &[u64],
+    slice: Slice,
+) -> Result<Cut, Uncut>
+    requires { IsPlan (net_of meaning_of graph.now) rates.now.firings.items plan.now }
+{
+    let all = iterations(graph, plan, lengths);
+    let (begin, end) = slice_between(slice, all, plan.overlap);
+    if end == Some(begin) {
+        return nothing(alloc, graph);
     }
-    Ok(lengths)
+    cut_at(alloc, graph, rates, plan, begin, end, &[])
 }
 
-// So many numbers, all 0.
-fn zeros(alloc: Global, count: usize) -> Result<Vec<u64>, AllocError> {
-    vec![in alloc; 0; count]
-}
-
-/// How many bytes an item of a block has.
-pub fn size_at(graph: &Valid<Kind>, block: BlockId) -> u64 {
-    if (block.0 as usize) < graph.len() {
-        let item = if graph.is_source(block) {
-            graph.output_type(block)
-        } else {
-            graph.input_type(block)
-        };
-        item_size(item) as u64
+// Of each sink its items from this one on.
+fn items_cut(
+    alloc: Global,
+    graph: &Valid<Kind>,
+    rates: &Repetitions,
+    plan: &Plan,
+    from: u64,
+    most: u64,
+) -> Result<Cut, Uncut>
+    requires { IsPlan (net_of meaning_of graph.now) rates.now.firings.items plan.now }
+{
+    let starts = vec![in alloc; from; plan.sinks.len()]?;
+    let ends = vec![in alloc; from.saturating_add(most); plan.sinks.len()]?;
+    let begin = plan.last_begin(&starts);
+    let end = if most < u64::MAX {
+        Some(plan.first_end(&ends))
     } else {
-        1
+        None
+    };
+    let mut cut = cut_at(alloc, graph, rates, plan, begin, end, &starts)?;
+    for sink in &plan.sinks {
+        if let Some(own) = cut.written.get_mut(sink.block.0 as usize) {
+            own.most = most;
+        }
     }
+    Ok(cut)
+}
+
+// What the outputs lack.
+fn resumed_cut(
+    rt: &HostRuntime,
+    graph: &Valid<Kind>,
+    ends: &Ends<'_>,
+    rates: &Repetitions,
+    plan: &Plan,
+) -> Result<Cut, Uncut>
+    requires { IsPlan (net_of meaning_of graph.now) rates.now.firings.items plan.now }
+{
+    let mut starts = Vec::new(rt.alloc());
+    for sink in &plan.sinks {
+        let size = size_at(graph, sink.block).max(1);
+        let length = length_of_output(rt, graph, ends, sink.block)?;
+        starts.reserve(1)?;
+        starts.push_reserved(length / size);
+    }
+    let begin = plan.last_begin(&starts);
+    let mut cut = cut_at(rt.alloc(), graph, rates, plan, begin, None, &starts)?;
+    for (at, sink) in plan.sinks.iter().enumerate() {
+        if let Some(own) = cut.written.get_mut(sink.block.0 as usize) {
+            own.standing = starts.get(at).copied();
+        }
+    }
+    Ok(cut)
 }
 
 // The iteration at which a slice begins, of so many, and that at which it ends; the last goes on to the end. None begins in the midst of the first overlap.
-fn stretch(slice: Slice, all: u64, overlap: u64) -> (u64, Option<u64>)
+fn slice_between(slice: Slice, all: u64, overlap: u64) -> (u64, Option<u64>)
     ensures begins { (result.0 ≡ 0) ⊎ (overlap ≤ result.0) }
     ensures few { result.0 ≤ MOST_ITERATIONS }
 {
@@ -206,11 +190,23 @@ fn iterations(graph: &Valid<Kind>, plan: &Plan, lengths: &[u64]) -> u64 {
 // A run that reads nothing, and writes nothing.
 fn nothing(alloc: Global, graph: &Valid<Kind>) -> Result<Cut, Uncut> {
     let extents = vec![in alloc; Extent { from: 0, most: 0 }; graph.len()]?;
-    let left_out = vec![in alloc; u64::MAX; graph.len()]?;
-    Ok(Cut { extents, left_out })
+    let none = Written {
+        origin: 0,
+        left_out: u64::MAX,
+        most: 0,
+        standing: None,
+    };
+    let written = vec![in alloc; none; graph.len()]?;
+    Ok(Cut {
+        extents,
+        written,
+        begins: 0,
+        goes_on: true,
+    })
 }
 
-// The run of what stands between two iterations, or behind the first of them, by a plan that rests on these rates.
+// The run of what stands between two iterations, or behind the first of them, by a plan that rests on these rates. Of each sink it writes the items from these on, where there is a number for it: none
+// lies before what the run gives.
 fn cut_at(
     alloc: Global,
     graph: &Valid<Kind>,
@@ -218,6 +214,7 @@ fn cut_at(
     plan: &Plan,
     begin: u64,
     end: Option<u64>,
+    starts: &[u64],
 ) -> Result<Cut, Uncut>
     ghost of: { Network × List ℕ }
     requires plan { IsPlan of.0 of.1 plan.now }
@@ -235,12 +232,18 @@ fn cut_at(
             }
         }
     }
-    let mut left_out = zeros(alloc, graph.len())?;
-    for part in &slice.parts {
-        let bytes = part.drop.saturating_mul(size_at(graph, part.block));
-        if let Some(count) = left_out.get_mut(part.block.0 as usize) {
-            *count = bytes;
+    let mut written = vec![in alloc; Written::WHOLE; graph.len()]?;
+    for (at, part) in slice.parts.iter().enumerate() {
+        let start = starts.get(at).copied().unwrap_or(part.stands);
+        if let Some(own) = written.get_mut(part.block.0 as usize) {
+            own.origin = part.stands.saturating_sub(part.drop);
+            own.left_out = part.drop.saturating_add(start.saturating_sub(part.stands));
         }
     }
-    Ok(Cut { extents, left_out })
+    Ok(Cut {
+        extents,
+        written,
+        begins: begin,
+        goes_on: end.is_some(),
+    })
 }

@@ -108,8 +108,8 @@ fn marks_place(graph: &Valid<Kind>, ends: &Ends<'_>, block: BlockId) -> EndPlace
     EndPlace::Marks(number_of(&ends.marks, name_of(graph, block)))
 }
 
-// The name of a block, where there is such a block.
-fn name_of(graph: &Valid<Kind>, block: BlockId) -> &[u8] {
+/// The name of a block; empty where there is no such block.
+pub fn name_of(graph: &Valid<Kind>, block: BlockId) -> &[u8] {
     if (block.0 as usize) < graph.len() {
         graph.name(block)
     } else {

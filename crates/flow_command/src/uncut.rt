@@ -2,6 +2,7 @@
 
 use crate::explaining::{REFUSED, explain_end};
 use crate::refusing::{begins_none, buffered, shown_name};
+use crate::stops::name_of;
 use crate::words::Call;
 use flow::start_fault::StartFault;
 use flowgraph::{BlockId, Valid};
@@ -20,6 +21,8 @@ pub enum Uncut {
     Fed(BlockId),
     /// An input of the source is no regular file.
     NoFile(BlockId),
+    /// The output of the sink is no regular file, and is to be gone on with.
+    NoFileOut(BlockId),
     /// The sink has no output.
     NoOutput(BlockId),
     /// Memory ran out.
@@ -37,7 +40,8 @@ impl Uncut {
     fn head(self) -> &'static str {
         match self {
             Uncut::Remembers(_) | Uncut::Rates | Uncut::Memory => "63 NoSlices",
-            Uncut::Fed(_) | Uncut::NoFile(_) | Uncut::NoOutput(_) => "64 NoCut",
+            Uncut::Fed(_) | Uncut::NoFile(_) | Uncut::NoFileOut(_) | Uncut::NoOutput(_) =>
+                "64 NoCut",
         }
     }
 
@@ -47,6 +51,7 @@ impl Uncut {
             Uncut::Remembers(block)
             | Uncut::Fed(block)
             | Uncut::NoFile(block)
+            | Uncut::NoFileOut(block)
             | Uncut::NoOutput(block) => text_of(graph, block),
             Uncut::Rates | Uncut::Memory => "rates",
         }
@@ -60,18 +65,15 @@ impl Uncut {
             Uncut::Rates | Uncut::Memory => "they have no balance, or slices would overlap too far",
             Uncut::Fed(_) => "the graph file feeds it",
             Uncut::NoFile(_) => "an input of it is no regular file",
+            Uncut::NoFileOut(_) => "its output is no regular file, which alone can be gone on with",
             Uncut::NoOutput(_) => "it has no output, and a slice is written to files",
         }
     }
 }
 
-/// The name of a block; empty where there is no such block.
+/// The name of a block as text; empty where there is no such block.
 pub fn text_of(graph: &Valid<Kind>, block: BlockId) -> &str {
-    if (block.0 as usize) < graph.len() {
-        std::str::from_utf8(graph.name(block)).unwrap_or("")
-    } else {
-        ""
-    }
+    std::str::from_utf8(name_of(graph, block)).unwrap_or("")
 }
 
 /// Says why the run of a graph is not cut, and gives the exit status.

@@ -16,6 +16,9 @@ const USUAL_TRACE: &str = "100000";
 
 const LONGEST_TRACE: u64 = 10_000_000;
 
+// So many threads run slices at most.
+const MOST_JOBS: u64 = 1024;
+
 /// What the words ask for.
 #[derive(Drop)]
 pub enum Asked<'a> {
@@ -294,19 +297,56 @@ fn with_ends<'a>(alloc: Global, run: clap::Command<'a>) -> Result<clap::Command<
         "Writes the tags of a sink to a file, a line each",
     );
     let run = run.arg(tags)?;
-    Ok(run.arg(slice(alloc)?)?)
+    with_parts(alloc, run)
 }
 
-// The word for a slice, which has no tags.
-fn slice<'a>(alloc: Global) -> Result<Arg<'a>, AllocError> {
-    let slice = Arg::new(alloc, "slice")
-        .long("slice")
+// The words for a part of a run, of which one is given, and for runs in pieces.
+fn with_parts<'a>(alloc: Global, run: clap::Command<'a>) -> Result<clap::Command<'a>, clap::Error> {
+    let slice = part(alloc, "slice", "Runs slice J of N of the input alone")?;
+    let slice = slice.value_name("J/N").conflicts_with("from")?;
+    let slice = slice.conflicts_with("items")?.conflicts_with("resume")?;
+    let run = run.arg(slice)?;
+    let from = part(
+        alloc,
+        "from",
+        "Writes the items of each output from this one on",
+    )?;
+    let from = from
+        .value_name("ITEM")
+        .value_parser(ValueParser::Unsigned(0, u64::MAX));
+    let run = run.arg(from.conflicts_with("resume")?)?;
+    let items = part(alloc, "items", "Writes so many items of each output")?;
+    let items = without_tags(items)?
+        .value_name("COUNT")
+        .value_parser(ValueParser::Unsigned(0, u64::MAX));
+    let run = run.arg(items.conflicts_with("resume")?)?;
+    let resume = part(alloc, "resume", "Goes on with what the outputs hold")?;
+    let run = run.arg(without_tags(resume)?.action(ArgAction::SetTrue))?;
+    Ok(run.arg(jobs(alloc)?)?)
+}
+
+// A word for a part of a run.
+fn part<'a>(alloc: Global, name: &'a str, help: &'a str) -> Result<Arg<'a>, AllocError> {
+    let part = Arg::new(alloc, name)
+        .long(name)
         .action(ArgAction::Set)
-        .value_name("J/N")
-        .help("Runs slice J of N of the input alone");
-    let slice = slice.requires_arg("input")?;
-    let slice = slice.conflicts_with("marks")?;
-    slice.conflicts_with("tags")
+        .help(help);
+    part.requires_arg("input")
+}
+
+// A word that goes with no tags.
+fn without_tags<'a>(word: Arg<'a>) -> Result<Arg<'a>, AllocError> {
+    let word = word.conflicts_with("marks")?;
+    word.conflicts_with("tags")
+}
+
+// The word that says on how many threads slices are run.
+fn jobs<'a>(alloc: Global) -> Result<Arg<'a>, AllocError> {
+    let jobs = part(alloc, "jobs", "Runs slices on so many threads")?;
+    let jobs = without_tags(jobs)?
+        .value_name("N")
+        .value_parser(ValueParser::Unsigned(1, MOST_JOBS));
+    jobs.conflicts_with("one-thread")
 }
 
 // A word for files, each with its block, whose name may begin with a dash.

@@ -1,6 +1,6 @@
 use Rattle.flowgraph.specs.Flowgraph.{net_of}
 use Rattle.kinds.specs.Kind.{meaning_of}
-use Rattle.flow_command.proofs.slicing.cut_of.Given as goal
+use Rattle.flow_command.proofs.slicing.slice_cut.Given as goal
 
 -- the network of the graph, with its rates
 abbrev pub ghost-cut_at : goal.ghost-cut_at

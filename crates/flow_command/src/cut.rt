@@ -1,0 +1,67 @@
+//! Which part of a run is done: what it reads of each source, and what it writes of each sink.
+
+use crate::devices::Extent;
+use flowgraph::BlockId;
+use std::alloc::Global;
+
+/// What a run reads of each source, and writes of each sink, by block.
+#[derive(Drop)]
+pub struct Cut {
+    pub extents: Vec<Extent>,
+    pub written: Vec<Written>,
+    /// The iteration from which on the items are the run's own. It reads the overlap before it too.
+    pub begins: u64,
+    /// Whether the tapes go on behind what is read of them.
+    pub goes_on: bool,
+}
+
+/// What is written of a sink, in items.
+#[derive(Clone, Copy, Debug, PartialEq, Eq)]
+pub struct Written {
+    /// The item of the whole stream that the sink takes first.
+    pub origin: u64,
+    /// So many are left out in front.
+    pub left_out: u64,
+    /// So many are written behind these at most.
+    pub most: u64,
+    /// The output has so many already, and what is written stands behind them.
+    pub standing: Option<u64>,
+}
+
+impl Written {
+    /// All that the sink takes, into an output that is made anew.
+    pub const WHOLE: Written = Written {
+        origin: 0,
+        left_out: 0,
+        most: u64::MAX,
+        standing: None,
+    };
+}
+
+impl Cut {
+    /// That of a whole run.
+    pub fn whole(alloc: Global) -> Cut {
+        Cut {
+            extents: Vec::new(alloc),
+            written: Vec::new(alloc),
+            begins: 0,
+            goes_on: false,
+        }
+    }
+
+    /// Which bytes of its inputs a source reads.
+    pub fn extent(&self, source: BlockId) -> Extent {
+        match self.extents.get(source.0 as usize) {
+            Some(extent) => *extent,
+            None => Extent::WHOLE,
+        }
+    }
+
+    /// What is written of a sink.
+    pub fn written(&self, sink: BlockId) -> Written {
+        match self.written.get(sink.0 as usize) {
+            Some(written) => *written,
+            None => Written::WHOLE,
+        }
+    }
+}
