@@ -1,8 +1,8 @@
 # shellcheck shell=bash disable=SC2154,SC2164,SC2034
 # For ./build to source: has one crate proved, and made into a library, the program, or the library for C. It calls the toolchain's prover itself, as `rt ci` does, for libraries
 # that hold statements and no proofs. Those of `rt lib` hold both, which costs each crate above them dear. They stand in crates/X/out/built, each with a stamp
-# that tells what it was made of and what it came out as; rt reads none of it. A library that comes out as it was before, as after the edit of a comment or of a
-# proof, leaves what stands on it as it is.
+# that tells what it was made of and what it came out as; rt reads none of it. A library that comes out as it was before, as after the edit of a comment in
+# its code, leaves what stands on it as it is; the files of its proofs are part of it.
 
 # Of each crate that was started: its process, and when it began; of each that runs: how many processors it was given.
 declare -A process_of=() began=() jobs_of=()
