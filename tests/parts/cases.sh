@@ -1,7 +1,7 @@
 #!/usr/bin/env bash
 # Calls of the program: those of tests/cases, those of the folders of examples/, and those that pages show, all over one build of it, unproved; and runs between
-# pipes, behind redirections, on a terminal, and with a trace. A call is a folder as tests/README.md describes; those of examples and pages are made here. A run is
-# made a second time on one thread, and has to end in the same way.
+# pipes, behind redirections, on a terminal, and with a trace; and runs in slices by the scripts of examples/cluster. A call is a folder as tests/README.md describes;
+# those of examples and pages are made here. A run is made a second time on one thread, and has to end in the same way.
 set -euo pipefail
 # shellcheck source=tests/part.sh
 source "$(dirname -- "$(readlink -f -- "${BASH_SOURCE[0]}")")/../part.sh"
@@ -9,6 +9,8 @@ source "$(dirname -- "$(readlink -f -- "${BASH_SOURCE[0]}")")/../part.sh"
 source "$top/tests/parts/shown.sh"
 # shellcheck source=tests/parts/redirected.sh
 source "$top/tests/parts/redirected.sh"
+# shellcheck source=tests/parts/clustered.sh
+source "$top/tests/parts/clustered.sh"
 
 # Of each case the folder that describes it.
 declare -A folder_of=()
@@ -31,7 +33,7 @@ add() {
     if [[ -e $2/args ]]; then
         mapfile -t words <"$2/args"
     fi
-    if [[ ${words[0]-} == run && " ${words[*]} " != *" --one-thread "* && " ${words[*]} " != *" --thread-per-block "* ]]; then
+    if [[ ${words[0]-} == run && " ${words[*]} " != *" --one-thread "* && " ${words[*]} " != *" --thread-per-block "* && " ${words[*]} " != *" --jobs "* ]]; then
         folder_of[$1/one_thread]=$2
         echo "$1/one_thread"
         # (between raw files it is refused)
@@ -53,7 +55,7 @@ list() {
     for folder in "${made[@]}"; do
         add "$folder" "$1/$folder"
     done
-    printf '%s\n' "${pipes[@]}" "${terminals[@]}" "${names[@]}" "${drawn[@]}" "${traces[@]}" "${redirected[@]/#/redirected/}"
+    printf '%s\n' "${pipes[@]}" "${terminals[@]}" "${names[@]}" "${drawn[@]}" "${traces[@]}" "${redirected[@]/#/redirected/}" "${clustered[@]/#/cluster/}"
 }
 
 # word_of FOLDER WORD: prints the word as the program gets it, which runs in a folder of its own: where it is a file, or NAME=FILE, of the case or of
@@ -117,7 +119,9 @@ call_all() {
         while (($(jobs -rp | wc -l) >= lanes)); do
             wait -n || true
         done
-        if ! is_own "$it"; then
+        if [[ $it == cluster/* ]]; then
+            clustered "$it" &
+        elif ! is_own "$it"; then
             call "$it" &
         fi
     done <"$room/wanted"
@@ -284,6 +288,8 @@ run() {
             left_out "$it" <<<"there is no python3 to read it"
         elif [[ $it == terminals/* ]] && ! command -v script >/dev/null; then
             left_out "$it" <<<"there is no command script to make a terminal"
+        elif [[ $it == cluster/* ]]; then
+            tell_clustered "$it"
         elif [[ $it == redirected/* ]]; then
             judge "$it" redirected "${it#*/}"
         elif is_own "$it"; then
