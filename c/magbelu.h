@@ -78,12 +78,46 @@ struct magbelu_stream {
 
 #define MAGBELU_NO_STREAM {MAGBELU_NO_PLANT}
 
-/* Refusals of calls of a held plant: a setting comes too late; none is held; one is held already; slices of a kernel differ in length; a tag's key is no key. */
+/* The numbers of refusals, of which magbelu_reason tells when each comes. */
+/* scripts/generate writes these lines from refusals.toml: numbers */
+#define MAGBELU_DUPLICATE_NAME 1
+#define MAGBELU_UNKNOWN_BLOCK 2
+#define MAGBELU_PORT_RANGE 3
+#define MAGBELU_INPUT_TAKEN 4
+#define MAGBELU_PORT_GAP 5
+#define MAGBELU_TYPE_MISMATCH 6
+#define MAGBELU_LOOP 7
+#define MAGBELU_TOO_FEW_PORTS 8
+#define MAGBELU_TOO_LARGE 9
+#define MAGBELU_BAD_PARAMETER 10
+#define MAGBELU_ONE_TO_ONE 11
+#define MAGBELU_GAIN 12
+#define MAGBELU_NO_SUCH_BLOCK 20
+#define MAGBELU_NOT_SOURCE 21
+#define MAGBELU_NOT_SINK 22
+#define MAGBELU_CLOSED 23
+#define MAGBELU_ITEM_RANGE 24
+#define MAGBELU_TAG_PLACE 25
+#define MAGBELU_TAPE_FULL 26
 #define MAGBELU_LATE 27
+#define MAGBELU_NO_SETTING 28
+#define MAGBELU_WRONG_SETTING 29
+#define MAGBELU_BEYOND_END 31
+#define MAGBELU_MEMORY 32
+#define MAGBELU_SYNTAX 40
+#define MAGBELU_UNKNOWN_KEY 41
+#define MAGBELU_MISSING_KEY 42
+#define MAGBELU_WRONG_TYPE 43
+#define MAGBELU_UNKNOWN_KIND 44
+#define MAGBELU_BAD_LINE 50
+#define MAGBELU_WRITE 52
+#define MAGBELU_CUT_ITEM 53
+#define MAGBELU_NULL 54
 #define MAGBELU_NOT_OPEN 55
 #define MAGBELU_IS_OPEN 56
 #define MAGBELU_LENGTHS 57
 #define MAGBELU_BAD_KEY 58
+/* end of these lines: numbers */
 
 /*
  * What came of a call of a held plant.
@@ -206,9 +240,6 @@ uint32_t magbelu_kernel_xor_bytes(const uint8_t *a, size_t a_len, const uint8_t 
 uint32_t magbelu_kernel_xor_shorts(const int16_t *a, size_t a_len, const int16_t *b, size_t b_len, int16_t *out, size_t out_len);
 uint32_t magbelu_kernel_xor_ints(const int32_t *a, size_t a_len, const int32_t *b, size_t b_len, int32_t *out, size_t out_len);
 
-/* The number of a refusal that these functions alone give: a pointer is NULL, and its length is not 0. Its line is `magbelu: refused 54 Null`. */
-#define MAGBELU_NULL 54
-
 /* (not for callers) */
 struct magbelu_row {
     uint32_t number;
@@ -218,6 +249,19 @@ struct magbelu_row {
 
 static inline const struct magbelu_row *magbelu_row_of(uint32_t number) {
     static const struct magbelu_row rows[] = {
+        /* scripts/generate writes these lines from refusals.toml: rows */
+        {1, "DuplicateName", "two blocks have the name"},
+        {2, "UnknownBlock", "the connection names no block"},
+        {3, "PortRange", "the block's kind has no such port, or it is negative"},
+        {4, "InputTaken", "the input has a connection already"},
+        {5, "PortGap", "the port is not used and a higher one is"},
+        {6, "TypeMismatch", "the ends of the connection to this input have different types"},
+        {7, "Loop", "the block reaches itself"},
+        {8, "TooFewPorts", "the block uses fewer ports than its kind needs"},
+        {9, "TooLarge", "there are too many"},
+        {10, "BadParameter", "its value is outside its range"},
+        {11, "OneToOne", "`tags = \"one\"`, with different numbers of inputs and outputs"},
+        {12, "Gain", "at this block the product of the interpolations along a path exceeds 2^24"},
         {20, "NoSuchBlock", "no block of the graph has this name"},
         {21, "NotSource", "the block is no vector_source"},
         {22, "NotSink", "the block is no vector_sink"},
@@ -230,13 +274,20 @@ static inline const struct magbelu_row *magbelu_row_of(uint32_t number) {
         {29, "WrongSetting", "the numbers are outside the setting's range, or of another count"},
         {31, "BeyondEnd", "the read begins behind what the sink holds"},
         {32, "Memory", "memory ran out"},
+        {40, "Syntax", "the text is not TOML in UTF-8"},
+        {41, "UnknownKey", "the table has a key that such a table does not have"},
+        {42, "MissingKey", "the key is missing"},
+        {43, "WrongType", "the value at the key has another type"},
+        {44, "UnknownKind", "there is no such kind"},
         {50, "BadLine", "the line of this number is no command"},
         {52, "Write", "memory for the output ran out"},
         {53, "CutItem", "the bytes end in the midst of an item"},
         {54, "Null", "a pointer is NULL, and its length is not 0"},
         {55, "NotOpen", "no plant is held, or it was freed"},
         {56, "IsOpen", "a plant is held already"},
+        {57, "Lengths", "the slices of a kernel differ in length"},
         {58, "BadKey", "the key of a tag is not 1 to 16 letters, digits, `_`, `.` or `-`"},
+        /* end of these lines: rows */
         {0, "", ""},
     };
     const struct magbelu_row *row = rows;
@@ -247,8 +298,8 @@ static inline const struct magbelu_row *magbelu_row_of(uint32_t number) {
 }
 
 /*
- * The name of the refusal of this number by a call of a held plant, a script's line or raw items, as `Late`, and the reason, as `the setting begins before the
- * first item that is open`. Both are empty of other numbers: why a file is refused shows magbelu_explain.
+ * The name of the refusal of this number, as `Late`, and the reason, as `the setting begins before the first item that is open`. Both are empty of a number that no
+ * call here gives. magbelu_explain shows the place in a file that is refused.
  */
 static inline const char *magbelu_name(uint32_t number) { return magbelu_row_of(number)->name; }
 

@@ -12,6 +12,7 @@ _MOST_SHOWN = 60
 class Code(enum.Enum):
     """Causes, with the numbers and names that `flow` has for them."""
 
+    # scripts/generate writes these lines from refusals.toml: causes
     DUPLICATE_NAME = (1, "DuplicateName")
     UNKNOWN_BLOCK = (2, "UnknownBlock")
     PORT_RANGE = (3, "PortRange")
@@ -30,6 +31,7 @@ class Code(enum.Enum):
     UNKNOWN_KIND = (44, "UnknownKind")
     READ = (51, "Read")
     WRITE = (52, "Write")
+    # end of these lines: causes
 
     def __str__(self) -> str:
         return "%d %s" % self.value

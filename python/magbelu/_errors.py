@@ -4,8 +4,21 @@ from __future__ import annotations
 
 from typing import Optional
 
-# Of the refusals that no place in a file explains: the names, and the reasons. (c/magbelu.h has those of them that come without a line.)
+# The names of refusals, and the reasons.
+# scripts/generate writes these lines from refusals.toml: ROWS
 ROWS = {
+    1: ("DuplicateName", "two blocks have the name"),
+    2: ("UnknownBlock", "the connection names no block"),
+    3: ("PortRange", "the block's kind has no such port, or it is negative"),
+    4: ("InputTaken", "the input has a connection already"),
+    5: ("PortGap", "the port is not used and a higher one is"),
+    6: ("TypeMismatch", "the ends of the connection to this input have different types"),
+    7: ("Loop", "the block reaches itself"),
+    8: ("TooFewPorts", "the block uses fewer ports than its kind needs"),
+    9: ("TooLarge", "there are too many"),
+    10: ("BadParameter", "its value is outside its range"),
+    11: ("OneToOne", "`tags = \"one\"`, with different numbers of inputs and outputs"),
+    12: ("Gain", "at this block the product of the interpolations along a path exceeds 2^24"),
     20: ("NoSuchBlock", "no block of the graph has this name"),
     21: ("NotSource", "the block is no vector_source"),
     22: ("NotSink", "the block is no vector_sink"),
@@ -18,14 +31,21 @@ ROWS = {
     29: ("WrongSetting", "the numbers are outside the setting's range, or of another count"),
     31: ("BeyondEnd", "the read begins behind what the sink holds"),
     32: ("Memory", "memory ran out"),
+    40: ("Syntax", "the text is not TOML in UTF-8"),
+    41: ("UnknownKey", "the table has a key that such a table does not have"),
+    42: ("MissingKey", "the key is missing"),
+    43: ("WrongType", "the value at the key has another type"),
+    44: ("UnknownKind", "there is no such kind"),
     50: ("BadLine", "the line of this number is no command"),
     52: ("Write", "memory for the output ran out"),
     53: ("CutItem", "the bytes end in the midst of an item"),
     54: ("Null", "a pointer is NULL, and its length is not 0"),
     55: ("NotOpen", "no plant is held, or it was freed"),
     56: ("IsOpen", "a plant is held already"),
+    57: ("Lengths", "the slices of a kernel differ in length"),
     58: ("BadKey", "the key of a tag is not 1 to 16 letters, digits, `_`, `.` or `-`"),
 }
+# end of these lines: ROWS
 
 
 class Error(Exception):

@@ -7,11 +7,10 @@ import decimal
 import fractions
 import pathlib
 import pickle
-import re
 import sys
 
 import magbelu
-from magbelu import _errors, _library
+from magbelu import _library
 
 try:
     import numpy
@@ -311,13 +310,6 @@ def texts_are_no_paths():
         raises(FileNotFoundError, lambda: call("no/such/graph.toml"))
 
 
-def header_has_the_rows():
-    """What python/magbelu says of a refusal is what c/magbelu.h says."""
-    text = (pathlib.Path(sys.argv[1]) / "c" / "magbelu.h").read_text()
-    found = {int(number): (name, reason) for number, name, reason in re.findall(r'\{(\d+), "(\w+)", "([^"]*)"\}', text)}
-    assert found == _errors.ROWS, set(found.items()) ^ set(_errors.ROWS.items())
-
-
 def nothing_held_is_copied():
     """A copy would free the plant of the first."""
     for held in [graph, stream]:
@@ -394,7 +386,6 @@ tests = [
     refusals_have_reasons,
     paths_are_no_texts,
     texts_are_no_paths,
-    header_has_the_rows,
     nothing_held_is_copied,
     *([arrays_are_read] if numpy is None else [numpy_items_are_integers, numpy_numbers_are_whole, masked_items_are_none, numpy_is_read]),
 ]

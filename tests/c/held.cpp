@@ -48,7 +48,8 @@ static void refuses(std::uint32_t number, const std::string &line, const std::fu
 
 static void reasons_are_told() {
     must(std::string(magbelu_name(27)) == "Late" && std::string(magbelu_reason(28)) == "the block has no setting", "a name and a reason");
-    must(*magbelu_name(0) == 0 && *magbelu_reason(7) == 0 && *magbelu_name(UINT32_MAX) == 0, "of numbers that no call gives");
+    must(std::string(magbelu_name(7)) == "Loop" && std::string(magbelu_reason(7)) == "the block reaches itself", "those of a file");
+    must(*magbelu_name(0) == 0 && *magbelu_reason(30) == 0 && *magbelu_name(UINT32_MAX) == 0, "of numbers that no call gives");
     auto graph = chain("byte");
     graph.feed("src", {1, 2, 3});
     graph.settle();

@@ -86,7 +86,7 @@ void held(void) {
     shows(&plant, 3, 9, "", 0, 3, "");
     replied(magbelu_set(&plant, "add", 3, 0, 10), 1, MAGBELU_LATE, 0, 3, "a late setting");
     must(strcmp(magbelu_name(27), "Late") == 0 && strcmp(magbelu_reason(27), "the setting begins before the first item that is open") == 0, "a name and a reason");
-    must(strcmp(magbelu_name(7), "") == 0 && strcmp(magbelu_reason(0), "") == 0, "the name and the reason of no refusal");
+    must(strcmp(magbelu_name(0), "") == 0 && strcmp(magbelu_reason(30), "") == 0, "the name and the reason of no refusal");
     replied(magbelu_feed(&plant, "src", 3, 1, "\0\1", 2, NULL, 0), 0, 0, 0, 4, "the highest byte first");
     replied(magbelu_feed_numbers(&plant, "src", 3, numbers, 2, NULL, 0), 0, 0, 0, 6, "a feed of numbers");
     replied(magbelu_feed(&plant, "src", 3, 0, NULL, 0, NULL, 0), 0, 0, 0, 6, "a feed of nothing");

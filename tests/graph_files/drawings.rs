@@ -141,6 +141,7 @@ const UNEVEN_DOT: &str = "digraph {
 ";
 
 // Each kind that may stand between a source and a sink, with its keys and the types of both.
+// scripts/generate writes these lines from kinds.toml: KINDS
 const KINDS: [(&str, &str, &str, &str, &str); 47] = [
     ("add_const", "type = \"int\"\nvalue = 1", "int", "int", "value 1<br/>"),
     ("multiply_const", "type = \"int\"\nvalue = 1", "int", "int", "value 1<br/>"),
@@ -186,22 +187,11 @@ const KINDS: [(&str, &str, &str, &str, &str); 47] = [
     ("diff_encoder", "modulus = 2", "byte", "byte", ""),
     ("diff_decoder", "modulus = 2", "byte", "byte", ""),
     ("scrambler", "bits = 2\nmask = 1\ninit = 1", "byte", "byte", ""),
-    (
-        "descrambler",
-        "bits = 2\nmask = 1\ninit = 1",
-        "byte",
-        "byte",
-        "",
-    ),
-    (
-        "additive_scrambler",
-        "bits = 2\nmask = 1\ninit = 1",
-        "byte",
-        "byte",
-        "",
-    ),
+    ("descrambler", "bits = 2\nmask = 1\ninit = 1", "byte", "byte", ""),
+    ("additive_scrambler", "bits = 2\nmask = 1\ninit = 1", "byte", "byte", ""),
     ("correlate_access_code", "code = \"1\"\nthreshold = 0", "byte", "byte", ""),
 ];
+// end of these lines: KINDS
 
 // The text from which the graph of a file is drawn.
 fn drawing(alloc: Global, file: &str, format: Format) -> Result<String, Fail> {

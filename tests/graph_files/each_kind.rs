@@ -6,30 +6,19 @@ use std::alloc::Global;
 use std::test::Fail;
 
 // Each kind with all its keys.
+// scripts/generate writes these lines from kinds.toml: KINDS
 const KINDS: [(&str, &str); 50] = [
     ("vector_source", "type = \"short\"\ncapacity = 8\n"),
     ("vector_sink", "type = \"short\"\n"),
     ("null_sink", "type = \"short\"\n"),
-    (
-        "add_const",
-        "type = \"short\"\nvalue = -300\ntags = \"one\"\nmultiple = 2\ncapacity = 8\n",
-    ),
+    ("add_const", "type = \"short\"\nvalue = -300\ntags = \"one\"\nmultiple = 2\ncapacity = 8\n"),
     (
         "multiply_const",
         "type = \"short\"\nvalue = -300\ntags = \"one\"\nmultiple = 2\ncapacity = 8\n",
     ),
-    (
-        "and_const",
-        "type = \"short\"\nvalue = -300\ntags = \"one\"\nmultiple = 2\ncapacity = 8\n",
-    ),
-    (
-        "or_const",
-        "type = \"short\"\nvalue = -300\ntags = \"one\"\nmultiple = 2\ncapacity = 8\n",
-    ),
-    (
-        "xor_const",
-        "type = \"short\"\nvalue = -300\ntags = \"one\"\nmultiple = 2\ncapacity = 8\n",
-    ),
+    ("and_const", "type = \"short\"\nvalue = -300\ntags = \"one\"\nmultiple = 2\ncapacity = 8\n"),
+    ("or_const", "type = \"short\"\nvalue = -300\ntags = \"one\"\nmultiple = 2\ncapacity = 8\n"),
+    ("xor_const", "type = \"short\"\nvalue = -300\ntags = \"one\"\nmultiple = 2\ncapacity = 8\n"),
     (
         "scale",
         "type = \"short\"\nfactor = -32768\nshift = 31\ntags = \"one\"\nmultiple = 2\ncapacity = 8\n",
@@ -38,66 +27,24 @@ const KINDS: [(&str, &str); 50] = [
         "clip",
         "type = \"short\"\nlow = -300\nhigh = 300\ntags = \"one\"\nmultiple = 2\ncapacity = 8\n",
     ),
-    (
-        "abs",
-        "type = \"short\"\ntags = \"one\"\nmultiple = 2\ncapacity = 8\n",
-    ),
-    (
-        "not",
-        "type = \"short\"\ntags = \"one\"\nmultiple = 2\ncapacity = 8\n",
-    ),
-    (
-        "mute",
-        "type = \"short\"\non = 1\ntags = \"one\"\nmultiple = 2\ncapacity = 8\n",
-    ),
-    (
-        "add",
-        "type = \"short\"\ntags = \"one\"\nmultiple = 2\ncapacity = 8\n",
-    ),
-    (
-        "sub",
-        "type = \"short\"\ntags = \"one\"\nmultiple = 2\ncapacity = 8\n",
-    ),
-    (
-        "multiply",
-        "type = \"short\"\ntags = \"one\"\nmultiple = 2\ncapacity = 8\n",
-    ),
-    (
-        "minimum",
-        "type = \"short\"\ntags = \"one\"\nmultiple = 2\ncapacity = 8\n",
-    ),
-    (
-        "maximum",
-        "type = \"short\"\ntags = \"one\"\nmultiple = 2\ncapacity = 8\n",
-    ),
-    (
-        "and",
-        "type = \"short\"\ntags = \"one\"\nmultiple = 2\ncapacity = 8\n",
-    ),
-    (
-        "or",
-        "type = \"short\"\ntags = \"one\"\nmultiple = 2\ncapacity = 8\n",
-    ),
-    (
-        "xor",
-        "type = \"short\"\ntags = \"one\"\nmultiple = 2\ncapacity = 8\n",
-    ),
-    (
-        "map_bb",
-        "map = [0, 255]\ntags = \"one\"\nmultiple = 2\ncapacity = 8\n",
-    ),
+    ("abs", "type = \"short\"\ntags = \"one\"\nmultiple = 2\ncapacity = 8\n"),
+    ("not", "type = \"short\"\ntags = \"one\"\nmultiple = 2\ncapacity = 8\n"),
+    ("mute", "type = \"short\"\non = 1\ntags = \"one\"\nmultiple = 2\ncapacity = 8\n"),
+    ("add", "type = \"short\"\ntags = \"one\"\nmultiple = 2\ncapacity = 8\n"),
+    ("sub", "type = \"short\"\ntags = \"one\"\nmultiple = 2\ncapacity = 8\n"),
+    ("multiply", "type = \"short\"\ntags = \"one\"\nmultiple = 2\ncapacity = 8\n"),
+    ("minimum", "type = \"short\"\ntags = \"one\"\nmultiple = 2\ncapacity = 8\n"),
+    ("maximum", "type = \"short\"\ntags = \"one\"\nmultiple = 2\ncapacity = 8\n"),
+    ("and", "type = \"short\"\ntags = \"one\"\nmultiple = 2\ncapacity = 8\n"),
+    ("or", "type = \"short\"\ntags = \"one\"\nmultiple = 2\ncapacity = 8\n"),
+    ("xor", "type = \"short\"\ntags = \"one\"\nmultiple = 2\ncapacity = 8\n"),
+    ("map_bb", "map = [0, 255]\ntags = \"one\"\nmultiple = 2\ncapacity = 8\n"),
     (
         "table",
         "to = \"short\"\nvalues = [-32768, 32767]\ntags = \"one\"\nmultiple = 2\ncapacity = 8\n",
     ),
-    (
-        "convert",
-        "type = \"short\"\nto = \"int\"\ntags = \"one\"\nmultiple = 2\ncapacity = 8\n",
-    ),
-    (
-        "moving_sum",
-        "type = \"short\"\nlength = 1024\ntags = \"one\"\nmultiple = 2\ncapacity = 8\n",
-    ),
+    ("convert", "type = \"short\"\nto = \"int\"\ntags = \"one\"\nmultiple = 2\ncapacity = 8\n"),
+    ("moving_sum", "type = \"short\"\nlength = 1024\ntags = \"one\"\nmultiple = 2\ncapacity = 8\n"),
     (
         "fir",
         "type = \"short\"\ntaps = [1, -2]\ndecimation = 2\nshift = 3\ntags = \"one\"\nmultiple = 2\ncapacity = 8\n",
@@ -106,22 +53,13 @@ const KINDS: [(&str, &str); 50] = [
         "interp_fir",
         "type = \"short\"\ntaps = [1, -2]\ninterpolation = 2\nshift = 3\ntags = \"one\"\nmultiple = 2\ncapacity = 8\n",
     ),
-    (
-        "keep_one_in_n",
-        "type = \"short\"\nn = 1024\ntags = \"one\"\nmultiple = 2\ncapacity = 8\n",
-    ),
+    ("keep_one_in_n", "type = \"short\"\nn = 1024\ntags = \"one\"\nmultiple = 2\ncapacity = 8\n"),
     (
         "keep_m_in_n",
         "type = \"short\"\nm = 1023\nn = 1024\noffset = 1\ntags = \"one\"\nmultiple = 2\ncapacity = 8\n",
     ),
-    (
-        "integrate",
-        "type = \"short\"\nn = 1024\ntags = \"one\"\nmultiple = 2\ncapacity = 8\n",
-    ),
-    (
-        "repeat",
-        "type = \"short\"\nn = 1024\ntags = \"one\"\nmultiple = 2\ncapacity = 8\n",
-    ),
+    ("integrate", "type = \"short\"\nn = 1024\ntags = \"one\"\nmultiple = 2\ncapacity = 8\n"),
+    ("repeat", "type = \"short\"\nn = 1024\ntags = \"one\"\nmultiple = 2\ncapacity = 8\n"),
     (
         "insert",
         "type = \"short\"\nvalues = [-32768, 32767]\nperiod = 1024\noffset = 1022\ntags = \"one\"\nmultiple = 2\ncapacity = 8\n",
@@ -130,66 +68,33 @@ const KINDS: [(&str, &str); 50] = [
         "permute",
         "type = \"short\"\norder = [1, 2, 0]\ntags = \"one\"\nmultiple = 2\ncapacity = 8\n",
     ),
-    (
-        "interleave",
-        "type = \"short\"\nports = 16\ntags = \"one\"\nmultiple = 2\ncapacity = 8\n",
-    ),
-    (
-        "deinterleave",
-        "type = \"short\"\nports = 16\ntags = \"one\"\nmultiple = 2\ncapacity = 8\n",
-    ),
+    ("interleave", "type = \"short\"\nports = 16\ntags = \"one\"\nmultiple = 2\ncapacity = 8\n"),
+    ("deinterleave", "type = \"short\"\nports = 16\ntags = \"one\"\nmultiple = 2\ncapacity = 8\n"),
     (
         "stream_mux",
         "type = \"short\"\nlengths = [2, 1]\ntags = \"one\"\nmultiple = 2\ncapacity = 8\n",
     ),
-    (
-        "head",
-        "type = \"short\"\nn = 4294967296\ntags = \"none\"\nmultiple = 1\ncapacity = 8\n",
-    ),
-    (
-        "skiphead",
-        "type = \"short\"\nn = 4294967296\ntags = \"none\"\nmultiple = 1\ncapacity = 8\n",
-    ),
-    (
-        "delay",
-        "type = \"short\"\nn = 65536\ntags = \"none\"\nmultiple = 1\ncapacity = 8\n",
-    ),
-    (
-        "pack_k_bits",
-        "k = 8\ntags = \"one\"\nmultiple = 2\ncapacity = 8\n",
-    ),
-    (
-        "unpack_k_bits",
-        "k = 8\ntags = \"one\"\nmultiple = 2\ncapacity = 8\n",
-    ),
+    ("head", "type = \"short\"\nn = 4294967296\ntags = \"none\"\nmultiple = 1\ncapacity = 8\n"),
+    ("skiphead", "type = \"short\"\nn = 4294967296\ntags = \"none\"\nmultiple = 1\ncapacity = 8\n"),
+    ("delay", "type = \"short\"\nn = 65536\ntags = \"none\"\nmultiple = 1\ncapacity = 8\n"),
+    ("pack_k_bits", "k = 8\ntags = \"one\"\nmultiple = 2\ncapacity = 8\n"),
+    ("unpack_k_bits", "k = 8\ntags = \"one\"\nmultiple = 2\ncapacity = 8\n"),
     (
         "repack_bits",
-        "k = 1\nl = 8\norder = \"lsb_first\"\ntags = \"one\"\nmultiple = 2\ncapacity = 8\n",
+        "order = \"lsb_first\"\nk = 1\nl = 8\ntags = \"one\"\nmultiple = 2\ncapacity = 8\n",
     ),
     (
         "packed_to_unpacked",
-        "type = \"short\"\nbits = 16\norder = \"msb_first\"\ntags = \"one\"\nmultiple = 2\ncapacity = 8\n",
+        "type = \"short\"\norder = \"msb_first\"\nbits = 16\ntags = \"one\"\nmultiple = 2\ncapacity = 8\n",
     ),
     (
         "unpacked_to_packed",
-        "type = \"short\"\nbits = 1\norder = \"lsb_first\"\ntags = \"one\"\nmultiple = 2\ncapacity = 8\n",
+        "type = \"short\"\norder = \"lsb_first\"\nbits = 1\ntags = \"one\"\nmultiple = 2\ncapacity = 8\n",
     ),
-    (
-        "diff_encoder",
-        "modulus = 256\ntags = \"one\"\nmultiple = 2\ncapacity = 8\n",
-    ),
-    (
-        "diff_decoder",
-        "modulus = 256\ntags = \"one\"\nmultiple = 2\ncapacity = 8\n",
-    ),
-    (
-        "scrambler",
-        "bits = 3\nmask = 5\ninit = 1\ntags = \"one\"\nmultiple = 2\ncapacity = 8\n",
-    ),
-    (
-        "descrambler",
-        "bits = 3\nmask = 5\ninit = 1\ntags = \"one\"\nmultiple = 2\ncapacity = 8\n",
-    ),
+    ("diff_encoder", "modulus = 256\ntags = \"one\"\nmultiple = 2\ncapacity = 8\n"),
+    ("diff_decoder", "modulus = 256\ntags = \"one\"\nmultiple = 2\ncapacity = 8\n"),
+    ("scrambler", "bits = 3\nmask = 5\ninit = 1\ntags = \"one\"\nmultiple = 2\ncapacity = 8\n"),
+    ("descrambler", "bits = 3\nmask = 5\ninit = 1\ntags = \"one\"\nmultiple = 2\ncapacity = 8\n"),
     (
         "additive_scrambler",
         "bits = 3\nmask = 5\ninit = 1\ntags = \"one\"\nmultiple = 2\ncapacity = 8\n",
@@ -199,6 +104,7 @@ const KINDS: [(&str, &str); 50] = [
         "code = \"1011\"\nthreshold = 4\ntags = \"one\"\nmultiple = 2\ncapacity = 8\n",
     ),
 ];
+// end of these lines: KINDS
 
 // Kinds whose missing keys have defaults, which stand behind the others, and a key in which a block differs from that.
 const DEFAULTS: [(&str, &str, &str, &str); 4] = [
