@@ -8,6 +8,7 @@ from .entries import ANY
 from .faults import Code
 from .graph import ItemType
 from .nodes import Node, Part
+from .ranges import limit
 from .settings import Settings
 
 _ORDERS = {"gr.GR_MSB_FIRST": "msb_first", "gr.GR_LSB_FIRST": "lsb_first"}
@@ -16,7 +17,7 @@ _ORDERS = {"gr.GR_MSB_FIRST": "msb_first", "gr.GR_LSB_FIRST": "lsb_first"}
 def repack_bits(settings: Settings) -> Node:
     """From so many bits in a byte to so many."""
     order = settings.word("endianness", _ORDERS)
-    taken, given = (settings.whole(key, 1, ItemType.BYTE.bits) for key in ("k", "l"))
+    taken, given = (settings.whole(key, 1, limit("repack_bits", key)) for key in ("k", "l"))
     if settings.string("len_tag_key"):
         raise settings.refused("len_tag_key", Code.BAD_PARAMETER, "no tag gives the length of a packet here")
     settings.needs("align_output", "False", "a stream here has no packets whose ends could be aligned")

@@ -6,9 +6,11 @@ from .entries import ANY, MOST_PORTS, WIDE
 from .faults import Code
 from .graph import ItemType
 from .nodes import End, Node, Part
+from .ranges import limit
 from .settings import Settings
 
-_MOST_LENGTH = 1024
+# How many items a round of `stream_mux` has.
+_MOST_ROUND = limit("stream_mux", "lengths", "together")
 
 
 def interleave(settings: Settings) -> Node:
@@ -16,7 +18,7 @@ def interleave(settings: Settings) -> Node:
     item = settings.item_type(ANY)
     settings.ones("vlen")
     ports = settings.whole("num_streams", 1, MOST_PORTS)
-    size = settings.whole("blocksize", 1, _MOST_LENGTH // ports)
+    size = settings.whole("blocksize", 1, _MOST_ROUND // ports)
     part = Part("interleave", {"type": str(item), "ports": ports})
     if size > 1:
         part = Part("stream_mux", {"type": str(item), "lengths": [size] * ports})
@@ -27,11 +29,11 @@ def stream_mux(settings: Settings) -> Node:
     """The lengths say how many inputs there are, and so does a number."""
     item = settings.item_type(ANY)
     settings.ones("vlen")
-    lengths = settings.wholes("lengths", 1, _MOST_LENGTH, MOST_PORTS)
+    lengths = settings.wholes("lengths", 1, _MOST_ROUND, MOST_PORTS)
     if len(lengths) != settings.value("num_inputs"):
         raise settings.refused("lengths", Code.BAD_PARAMETER, "it has %d lengths, and not one for each of its inputs" % len(lengths))
-    if sum(lengths) > _MOST_LENGTH:
-        raise settings.refused("lengths", Code.BAD_PARAMETER, "its lengths come to %d together; a kind takes %d" % (sum(lengths), _MOST_LENGTH))
+    if sum(lengths) > _MOST_ROUND:
+        raise settings.refused("lengths", Code.BAD_PARAMETER, "its lengths come to %d together; a kind takes %d" % (sum(lengths), _MOST_ROUND))
     settings.note("gives whole rounds only; GNU Radio's also gives the beginning of the last")
     return Node(settings.block, [item] * len(lengths), [item], [Part("stream_mux", {"type": str(item), "lengths": lengths})])
 
@@ -40,7 +42,7 @@ def moving_average(settings: Settings) -> Node:
     """The sum of the last items, and behind it the scale."""
     item = settings.item_type(WIDE)
     settings.ones("vlen")
-    parts = [Part("moving_sum", {"type": str(item), "length": settings.whole("length", 1, _MOST_LENGTH)})]
+    parts = [Part("moving_sum", {"type": str(item), "length": settings.whole("length", 1, limit("moving_sum", "length"))})]
     scale = settings.whole("scale", item.least, item.most)
     if scale != 1:
         parts.append(Part("multiply_const", {"type": str(item), "value": scale}))

@@ -3,17 +3,19 @@
 from __future__ import annotations
 
 from dataclasses import dataclass
-from typing import Callable, Mapping, Optional, Sequence, Union
+from typing import Callable, Mapping, Sequence, Union
 
 from .graph import ItemType, Setting
+from .kind_ranges import RANGES
 from .nodes import Node, Part, Port
+from .ranges import limit
 from .settings import Settings
 
 ANY = (ItemType.BYTE, ItemType.SHORT, ItemType.INT)
 WIDE = (ItemType.SHORT, ItemType.INT)
 BYTES = (ItemType.BYTE,)
 
-MOST_PORTS = 16
+MOST_PORTS = limit("interleave", "ports")
 
 
 @dataclass(frozen=True)
@@ -26,35 +28,29 @@ class Entry:
 
 @dataclass(frozen=True)
 class Number:
-    """A parameter that is a whole number: its names here and there, its default there, and its range, which is the type's if none is given."""
+    """A parameter that is a whole number: its names here and there, and its default there."""
 
     key: str
     key_there: str
     default: str
-    least: Optional[int] = None
-    most: Optional[int] = None
 
-    def read(self, settings: Settings, item: ItemType) -> Setting:
-        """The number that the drawing gives."""
-        least = item.least if self.least is None else self.least
-        most = item.most if self.most is None else self.most
-        return settings.whole(self.key_there, least, most)
+    def read(self, settings: Settings, kind: str, item: ItemType) -> Setting:
+        """The number that the drawing gives, in the range of the type where that of the parameter has no numbers."""
+        numbers = RANGES[kind][self.key]
+        return settings.whole(self.key_there, numbers.get("least", item.least), numbers.get("most", item.most))
 
 
 @dataclass(frozen=True)
 class Numbers:
-    """A parameter that is a list of at most so many whole numbers in a range."""
+    """A parameter that is a list of whole numbers: its names here and there, and its default there."""
 
     key: str
     key_there: str
     default: str
-    least: int
-    most: int
-    most_count: int
 
-    def read(self, settings: Settings, _: ItemType) -> Setting:
+    def read(self, settings: Settings, kind: str, _: ItemType) -> Setting:
         """The list that the drawing gives."""
-        return settings.wholes(self.key_there, self.least, self.most, self.most_count)
+        return settings.wholes(self.key_there, *(limit(kind, self.key, it) for it in ("least", "most", "most_count")))
 
 
 @dataclass(frozen=True)
@@ -65,7 +61,7 @@ class Truth:
     key_there: str
     default: str
 
-    def read(self, settings: Settings, _: ItemType) -> Setting:
+    def read(self, settings: Settings, _: str, __: ItemType) -> Setting:
         """The number that stands for what the drawing gives."""
         return int(settings.truth(self.key_there))
 
@@ -116,7 +112,7 @@ def block(
         for it in choices:
             settings.needs(it.key_there, it.wanted, it.why)
         part = Part(kind, {"type": str(item)} if is_typed else {})
-        part.settings.update({it.key: it.read(settings, item) for it in parameters})
+        part.settings.update({it.key: it.read(settings, kind, item) for it in parameters})
         counts = [it if isinstance(it, int) else settings.whole(it, 1, MOST_PORTS) for it in (inputs, outputs)]
         settings.note(note(part.settings))
         return Node(settings.block, [item] * counts[0], [item] * counts[1], [part])

@@ -5,11 +5,11 @@ from __future__ import annotations
 from .faults import Code
 from .graph import ItemType
 from .nodes import Floats, Node, Part
+from .ranges import limit
 from .settings import Settings
 
-_MOST_RATE = 1024
-_MOST_TAPS = 256
-_MOST_SHIFT = 31
+_MOST_TAPS = limit("fir", "taps", "most_count")
+_MOST_SHIFT = limit("fir", "shift")
 # Floats hold each sum of shorts exactly if the taps come to no more than this together.
 _MOST_EXACT = (1 << 24) // (1 << 15)
 
@@ -55,5 +55,5 @@ def _filter(settings: Settings, kind: str, rate: str, rate_there: str) -> Node:
         settings.note("has exact sums; GNU Radio's are floats, which these taps may take beyond 24 bits")
     if form == "fsf":
         settings.note("clamps what exceeds 16 bits; GNU Radio's keeps the lowest bits")
-    part = Part(kind, {"type": str(ItemType.SHORT), "taps": taps, rate: settings.whole(rate_there, 1, _MOST_RATE)})
+    part = Part(kind, {"type": str(ItemType.SHORT), "taps": taps, rate: settings.whole(rate_there, 1, limit(kind, rate))})
     return Node(settings.block, [Floats.SHORTS], [ItemType.SHORT if form == "fsf" else Floats.SUMS], [part])

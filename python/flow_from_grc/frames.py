@@ -8,9 +8,10 @@ from .entries import ANY, BYTES, MOST_PORTS
 from .faults import Code
 from .graph import ItemType
 from .nodes import Node, Part
+from .ranges import limit
 from .settings import Settings
 
-_MOST_FRAME = 256
+_MOST_FRAME = limit("permute", "order", "most_count")
 # (GNU Radio turns a pattern of 32 bits round in a number with a sign, so that it becomes another.)
 _MOST_PUNCTURED = 31
 

@@ -4,11 +4,11 @@ from __future__ import annotations
 
 from typing import Mapping
 
-from . import bits, chains, companding, endings, filters, frames, periods, scramblers
-from .entries import ANY, BYTES, MOST_PORTS, WIDE, Choice, Entry, Number, Numbers, Truth, block, wire
+from . import bits, chains, companding, endings, filters, frames, notes, periods, scramblers
+from .entries import ANY, Entry, block, wire
 from .faults import Code
-from .graph import Setting
 from .settings import Settings
+from .single_kinds import SINGLE_KINDS
 
 # What a drawing has besides blocks of items: what it is called, how it is shown, and Python that only variables read.
 PASSED_OVER = frozenset(("options", "import", "note", "epy_module", "qtgui_appbackground", "qtgui_grbackground", "qtgui_graphicoverlay", "qtgui_tab_widget"))
@@ -23,23 +23,6 @@ def _keeps_no_time(settings: Settings) -> None:
     settings.note("is left out: a graph here runs as fast as it can")
 
 
-def _probe_note(_: Mapping[str, Setting]) -> str:
-    return "keeps all items; the last of them is the level"
-
-
-def _decoder_note(found: Mapping[str, Setting]) -> str:
-    modulus = found["modulus"]
-    assert isinstance(modulus, int)
-    if modulus & (modulus - 1) == 0:
-        return ""
-    return "gives (x[n] - x[n-1]) mod %d; GNU Radio's gives something else where x[n] is the less, as with each modulus that is no power of two" % modulus
-
-
-_ITEMS = Number("n", "num_items", "1024", 0, 1 << 32)
-_STREAMS = Number("ports", "num_streams", "2", 1, MOST_PORTS)
-_BITS = Number("k", "k", "", 1, 8)
-_MODULUS = Number("modulus", "modulus", "", 2, 256)
-_CODING = (Choice("coding", "digital.DIFF_DIFFERENTIAL", "only DIFF_DIFFERENTIAL has a kind"),)
 _PACE = {"samples_per_second": "samp_rate", "ignoretag": "True"}
 _REGISTER = {"mask": "0x8A", "seed": "0x7F", "len": "7"}
 _PACKING = {"type": "int", "bits_per_chunk": "2", "endianness": "gr.GR_MSB_FIRST", "num_ports": "1"}
@@ -47,61 +30,36 @@ _IN_TURN = {"type": "complex", "num_streams": "2", "blocksize": "1", "vlen": "1"
 _PUNCTURE = {"puncsize": "", "puncpat": "", "delay": "0"}
 _CHOICE = {"type": "complex", "enabled": "True", "input_index": "0", "output_index": "0"}
 _ORDER = {"type": "byte", "interleaver_indices": "[1, 2, 0]", "interleaver_mode": "interleave", "is_packed": "False"}
-_VECTORS = ("vlen", "vlen_out")
 _FILTER = {"type": "ccc", "taps": "", "samp_delay": "0"}
 
 TABLE: Mapping[str, Entry] = {
+    **SINGLE_KINDS,
     # Sources and sinks.
     "blocks_vector_source_x": Entry({"type": "complex", "vector": "(0, 0, 0)", "tags": "[]", "repeat": "True", "vlen": "1"}, endings.vector_source),
     "blocks_file_source": Entry(
         {"type": "complex", "file": "", "repeat": "True", "vlen": "1", "begin_tag": "pmt.PMT_NIL", "offset": "0", "length": "0"}, endings.file_source
     ),
     "blocks_file_sink": Entry({"type": "complex", "file": "", "vlen": "1", "unbuffered": "False", "append": "False"}, endings.file_sink),
-    "blocks_vector_sink_x": block("vector_sink", ANY, outputs=0, ignored=("reserve_items",)),
-    "blocks_null_sink": block("null_sink", ANY, outputs=0, ones=("vlen", "num_inputs"), ignored=("bus_structure_sink",)),
-    "blocks_probe_signal_x": block("vector_sink", ANY, outputs=0, ones=(), note=_probe_note),
+    "blocks_probe_signal_x": block("vector_sink", ANY, outputs=0, ones=(), note=notes.probe),
     # An item for each item.
-    "blocks_add_const_vxx": block("add_const", ANY, Number("value", "const", "0")),
-    "blocks_multiply_const_vxx": block("multiply_const", WIDE, Number("value", "const", "1")),
-    "blocks_multiply_const_xx": block("multiply_const", WIDE, Number("value", "const", "0")),
-    "blocks_and_const_xx": block("and_const", ANY, Number("value", "const", "0"), ones=(), first_type="int"),
-    "blocks_abs_xx": block("abs", WIDE, first_type="int"),
-    "blocks_mute_xx": block("mute", WIDE, Truth("on", "mute", "False"), ones=()),
-    "blocks_add_xx": block("add", WIDE, inputs="num_inputs"),
     "blocks_sub_xx": Entry({"type": "complex", "vlen": "1", "num_inputs": "2"}, chains.sub),
-    "blocks_multiply_xx": block("multiply", WIDE, inputs="num_inputs"),
-    "blocks_min_xx": block("minimum", WIDE, inputs="num_inputs", ones=_VECTORS, first_type="float", first_count="1"),
-    "blocks_max_xx": block("maximum", WIDE, inputs="num_inputs", ones=_VECTORS, first_type="float", first_count="1"),
-    "blocks_and_xx": block("and", ANY, inputs="num_inputs", ones=(), first_type="int"),
-    "blocks_or_xx": block("or", ANY, inputs="num_inputs", ones=(), first_type="int"),
-    "blocks_xor_xx": block("xor", ANY, inputs="num_inputs", ones=(), first_type="int"),
-    "blocks_not_xx": block("not", ANY, ones=(), first_type="int"),
     "blocks_char_to_short": Entry({"vlen": "1"}, chains.char_to_short),
     "blocks_short_to_char": Entry({"vlen": "1"}, chains.short_to_char),
     "blocks_endian_swap": Entry({"type": "complex"}, chains.endian_swap),
     "vocoder_ulaw_decode_bs": companding.decoder(companding.ulaw_sample),
     "vocoder_alaw_decode_bs": companding.decoder(companding.alaw_sample),
     "blocks_moving_average_xx": Entry({"type": "complex", "length": "1000", "scale": "1", "max_iter": "4000", "vlen": "1"}, chains.moving_average),
-    "digital_map_bb": block("map_bb", BYTES, Numbers("map", "map", "", 0, 255, 256), ones=()),
     # Filters.
     "fir_filter_xxx": Entry({**_FILTER, "decim": "1"}, filters.fir),
     "interp_fir_filter_xxx": Entry({**_FILTER, "interp": "1"}, filters.interp_fir),
     "blocks_short_to_float": Entry({"vlen": "1", "scale": "1"}, filters.short_to_float),
     "blocks_float_to_short": Entry({"vlen": "1", "scale": "1"}, filters.float_to_short),
     # Changes of rate and place.
-    "blocks_keep_one_in_n": block("keep_one_in_n", ANY, Number("n", "n", "1", 1, 1024)),
     "blocks_keep_m_in_n": Entry({"type": "complex", "m": "1", "n": "2", "offset": "0"}, periods.keep_m_in_n),
     "blocks_vector_insert_x": Entry({"type": "byte", "vector": "0, 0, 0", "period": "100", "offset": "0"}, periods.vector_insert),
-    "blocks_repeat": block("repeat", ANY, Number("n", "interp", "", 1, 1024)),
-    "blocks_integrate_xx": block("integrate", WIDE, Number("n", "decim", "", 1, 1024)),
-    "blocks_head": block("head", ANY, _ITEMS),
-    "blocks_skiphead": block("skiphead", ANY, _ITEMS),
-    "blocks_delay": block("delay", ANY, Number("n", "delay", "0", 0, 65536), ones=("vlen", "num_ports")),
     # Several ports.
     "blocks_interleave": Entry(_IN_TURN, chains.interleave),
     "blocks_deinterleave": Entry(_IN_TURN, periods.deinterleave),
-    "blocks_streams_to_stream": block("interleave", ANY, _STREAMS, inputs="num_streams"),
-    "blocks_stream_to_streams": block("deinterleave", ANY, _STREAMS, outputs="num_streams"),
     "blocks_stream_mux": Entry({"type": "complex", "lengths": "(1, 1)", "num_inputs": "2", "vlen": "1"}, chains.stream_mux),
     "blocks_stream_demux": Entry({"type": "complex", "lengths": "(1, 1)", "num_outputs": "2", "vlen": "1"}, periods.stream_demux),
     "blocks_patterned_interleaver": Entry({"type": "complex", "pattern": "[0,0,1,2]", "vlen": "1"}, frames.patterned_interleaver),
@@ -114,15 +72,11 @@ TABLE: Mapping[str, Entry] = {
     "fec_puncture_xx": Entry({"type": "byte", **_PUNCTURE}, frames.puncture),
     "fec_depuncture_bb": Entry({**_PUNCTURE, "sym": "127"}, frames.depuncture),
     # Bits.
-    "blocks_pack_k_bits_bb": block("pack_k_bits", BYTES, _BITS, ones=()),
-    "blocks_unpack_k_bits_bb": block("unpack_k_bits", BYTES, _BITS, ones=()),
     "blocks_repack_bits_bb": Entry(
         {"k": "1", "l": "8", "len_tag_key": '""', "align_output": "False", "endianness": "gr.GR_LSB_FIRST"}, bits.repack_bits
     ),
     "blocks_packed_to_unpacked_xx": Entry(_PACKING, bits.packed_to_unpacked),
     "blocks_unpacked_to_packed_xx": Entry(_PACKING, bits.unpacked_to_packed),
-    "digital_diff_encoder_bb": block("diff_encoder", BYTES, _MODULUS, ones=(), choices=_CODING),
-    "digital_diff_decoder_bb": block("diff_decoder", BYTES, _MODULUS, ones=(), choices=_CODING, note=_decoder_note),
     "digital_scrambler_bb": Entry(_REGISTER, scramblers.scrambler),
     "digital_descrambler_bb": Entry(_REGISTER, scramblers.descrambler),
     "digital_additive_scrambler_bb": Entry({**_REGISTER, "count": "0", "bits_per_byte": "1", "reset_tag_key": '""'}, scramblers.additive_scrambler),

@@ -8,10 +8,11 @@ from .entries import ANY, MOST_PORTS
 from .faults import Code
 from .graph import ItemType
 from .nodes import End, Node, Part
+from .ranges import limit
 from .settings import Settings
 
-_MOST_PERIOD = 1024
-_MOST_VALUES = 256
+# How many items a period of `keep_m_in_n` has.
+_MOST_PERIOD = limit("keep_m_in_n", "n")
 
 
 def keep_m_in_n(settings: Settings) -> Node:
@@ -61,10 +62,10 @@ def vector_insert(settings: Settings) -> Node:
     """In GNU Radio a period begins with the values, and the offset is the place in it at which the output begins; here it is that of the values in what
     comes out."""
     item = settings.item_type(ANY)
-    values = settings.wholes("vector", item.least, item.most, _MOST_VALUES)
+    values = settings.wholes("vector", item.least, item.most, limit("insert", "values", "most_count"))
     if not values:
         raise settings.refused("vector", Code.BAD_PARAMETER, "it has no values")
-    period = settings.whole("period", len(values) + 1, _MOST_PERIOD)
+    period = settings.whole("period", len(values) + 1, limit("insert", "period"))
     offset = settings.whole("offset", 0, period - 1)
     if 0 < offset < len(values):
         text = "its output begins amid its values: offset is 0, or %d to %d" % (len(values), period - 1)

@@ -7,10 +7,11 @@ from typing import Tuple
 from .faults import Code
 from .graph import ItemType
 from .nodes import Node, Part
+from .ranges import limit
 from .registers import init_before, reversed_bits, seed_that_goes_on
 from .settings import Settings
 
-_MOST_BITS = 32
+_MOST_BITS = limit("scrambler", "bits")
 
 
 def scrambler(settings: Settings) -> Node:
