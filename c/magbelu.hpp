@@ -25,24 +25,32 @@ namespace magbelu {
 
 /*
  * A call was not done. The text is the number and the name of the refusal, as docs/FORMATS.md lists them, what it concerns, and the reason; where a graph file is
- * refused, lines that show the place in it stand for the reason. `output` is what a script wrote before. Of a setting that comes too late (27), `first_open` is the
- * first item from which it could be in force.
+ * refused, lines that show the place in it stand for the reason.
  */
 class error : public std::runtime_error {
 public:
-    error(std::uint32_t number, const std::string &text, std::string output = {}, std::optional<std::uint64_t> first_open = {})
-        : std::runtime_error(text), number_(number), output_(std::move(output)), first_open_(first_open) {}
+    error(std::uint32_t number, std::string detail, const std::string &text, std::string output = {}, std::optional<std::uint64_t> floor = {})
+        : std::runtime_error(text), number_(number), detail_(std::move(detail)), output_(std::move(output)), floor_(floor) {}
 
     std::uint32_t number() const noexcept { return number_; }
 
+    /* The name of the refusal, as `Late`. */
+    const char *name() const noexcept { return magbelu_name(number_); }
+
+    /* What it concerns: a block by its name, or what stands behind the name in the line of a refusal, as `block 0 name`. */
+    const std::string &detail() const noexcept { return detail_; }
+
+    /* What a script wrote before. */
     const std::string &output() const noexcept { return output_; }
 
-    std::optional<std::uint64_t> first_open() const noexcept { return first_open_; }
+    /* Of a setting that comes too late (27), the first item from which it could be in force. */
+    std::optional<std::uint64_t> floor() const noexcept { return floor_; }
 
 private:
     std::uint32_t number_;
+    std::string detail_;
     std::string output_;
-    std::optional<std::uint64_t> first_open_;
+    std::optional<std::uint64_t> floor_;
 };
 
 /* The graph file, a feed, a setting, a line or a name is refused, and nothing changed. */
@@ -87,12 +95,12 @@ struct piece {
 /* (not for callers) */
 namespace detail {
 
-[[noreturn]] inline void fail(std::uint32_t status, std::uint32_t number, const std::string &text, std::string output = {},
-                              std::optional<std::uint64_t> first_open = {}) {
+[[noreturn]] inline void fail(std::uint32_t status, std::uint32_t number, std::string detail, const std::string &text, std::string output = {},
+                              std::optional<std::uint64_t> floor = {}) {
     if (status == 4) {
-        throw out_of_memory(number, text, std::move(output), first_open);
+        throw out_of_memory(number, std::move(detail), text, std::move(output), floor);
     }
-    throw refused(number, text, std::move(output), first_open);
+    throw refused(number, std::move(detail), text, std::move(output), floor);
 }
 
 /* A refusal with its reason, where one is known. */
@@ -101,20 +109,20 @@ inline std::string with_reason(std::string text, std::uint32_t number) {
     return reason.empty() ? text : text + ": " + reason;
 }
 
-inline std::optional<std::uint64_t> first_open_of(const magbelu_reply &reply) {
+inline std::optional<std::uint64_t> floor_of(const magbelu_reply &reply) {
     return reply.number == MAGBELU_LATE ? std::optional<std::uint64_t>(reply.value) : std::nullopt;
 }
 
-inline std::optional<std::uint64_t> first_open_of(const magbelu_piece &) { return std::nullopt; }
+inline std::optional<std::uint64_t> floor_of(const magbelu_piece &) { return std::nullopt; }
 
 /* The answer of a call of a plant, which is refused for the block of this name. */
 template <class Reply>
 const Reply &tested(const Reply &reply, std::string_view block) {
     if (reply.number != 0) {
         const std::string concerns = block.empty() ? "" : " " + std::string(block);
-        const auto first_open = first_open_of(reply);
+        const auto floor = floor_of(reply);
         const std::string text = with_reason(std::to_string(reply.number) + " " + magbelu_name(reply.number) + concerns, reply.number);
-        fail(reply.status, reply.number, first_open ? text + ", which is " + std::to_string(*first_open) : text, {}, first_open);
+        fail(reply.status, reply.number, std::string(block), floor ? text + ", which is " + std::to_string(*floor) : text, {}, floor);
     }
     return reply;
 }
@@ -135,19 +143,36 @@ magbelu_answer with_room(Call call, std::string &output, std::string &line) {
     }
 }
 
-/* What is said of the refusal of this number of a call that the file of this path goes into: its line from the number on, and its place in the file, or the reason. */
-inline std::string text_of(std::uint32_t number, std::string line, std::string_view file, std::string_view path) {
+/* The line of a refusal from its number on, without the end of the line. */
+inline std::string refusal_in(const std::string &line) {
     static constexpr std::string_view before = " refused ";
     const auto at = line.find(before);
+    const auto refusal = at == std::string::npos ? line : line.substr(at + before.size());
+    return refusal.substr(0, refusal.find_last_not_of('\n') + 1);
+}
+
+/* What stands behind the number and the name of a refusal. */
+inline std::string detail_of(const std::string &refusal) {
+    const auto name = std::min(refusal.find(' '), refusal.size());
+    const auto detail = refusal.find(' ', std::min(name + 1, refusal.size()));
+    return detail == std::string::npos ? "" : refusal.substr(detail + 1);
+}
+
+/* What is said of a refusal of a call that the file of this path goes into: the refusal, and its place in the file, or the reason. */
+inline std::string text_of(std::uint32_t number, const std::string &refusal, std::string_view file, std::string_view path) {
     std::string place, own;
     with_room(
         [&](std::string &output, std::string &room) {
             return magbelu_explain(path.data(), path.size(), file.data(), file.size(), output.data(), output.size(), room.data(), room.size());
         },
         place, own);
-    line = (at == std::string::npos ? line : line.substr(at + before.size())) + place;
-    line = line.substr(0, line.find_last_not_of('\n') + 1);
-    return place.empty() ? with_reason(std::move(line), number) : line;
+    return place.empty() ? with_reason(refusal, number) : refusal + "\n" + place.substr(0, place.find_last_not_of('\n') + 1);
+}
+
+/* Fails with the refusal of a call that the file of this path goes into. */
+[[noreturn]] inline void fail_in(const magbelu_answer &answer, const std::string &line, std::string_view file, std::string_view path, std::string output) {
+    const std::string refusal = refusal_in(line);
+    fail(answer.status, answer.number, detail_of(refusal), text_of(answer.number, refusal, file, path), std::move(output));
 }
 
 /* The output of a call that a file goes into, which writes a line where it is refused. */
@@ -156,7 +181,7 @@ report texts(Call call, std::string_view file) {
     std::string output, line;
     const magbelu_answer answer = with_room(call, output, line);
     if (answer.number != 0) {
-        fail(answer.status, answer.number, text_of(answer.number, std::move(line), file, "<graph>"), std::move(output));
+        fail_in(answer, line, file, "<graph>", std::move(output));
     }
     return {std::move(output), answer.status == 0};
 }
@@ -289,7 +314,7 @@ protected:
         std::string output, line;
         const magbelu_answer answer = with_room([&](std::string &, std::string &room) { return open(room.data(), room.size()); }, output, line);
         if (answer.number != 0) {
-            fail(answer.status, answer.number, text_of(answer.number, std::move(line), file, path));
+            fail_in(answer, line, file, path, {});
         }
     }
 

@@ -51,7 +51,7 @@ ROWS = {
 class Error(Exception):
     """A call was not done. `number`, `name` and `detail` are those of its refusal, as docs/FORMATS.md lists them; `output` is what was written before. Where the
     graph file is refused, `place` shows where and why, as `flow --explain` does, and the text of the exception has it; else `reason` is a sentence. Of a setting that
-    comes too late (27), `first_open` is the first item from which it could be in force.
+    comes too late (27), `floor` is the first item from which it could be in force.
 
     >>> magbelu.check("[[block]]")
     Traceback (most recent call last):
@@ -62,16 +62,16 @@ class Error(Exception):
       | ^ a block needs the key `name`: a text
     """
 
-    def __init__(self, text: str, output: str = "", place: str = "", reason: str = "", first_open: Optional[int] = None, hint: str = "") -> None:
+    def __init__(self, text: str, output: str = "", place: str = "", reason: str = "", floor: Optional[int] = None, hint: str = "") -> None:
         super().__init__(text)
         words = text.split(" ", 2) + ["", "", ""]
         self.number = int(words[0]) if words[0].isdigit() else 0
         self.name, self.detail = words[1], words[2]
         self.output = output
-        self.place, self.first_open, self.hint = place, first_open, hint
+        self.place, self.floor, self.hint = place, floor, hint
         self.reason = reason or ("" if place else ROWS.get(self.number, ("", ""))[1])
-        if first_open is not None:
-            self.reason += ", which is %d" % first_open
+        if floor is not None:
+            self.reason += ", which is %d" % floor
 
     def __str__(self) -> str:
         line = ": ".join(filter(None, [super().__str__(), self.reason]))
@@ -86,7 +86,7 @@ class OutOfMemory(Error, MemoryError):
     """Memory ran out."""
 
 
-def refused(number: int, detail: str, is_memory: bool = False, reason: str = "", first_open: Optional[int] = None) -> Error:
+def refused(number: int, detail: str, is_memory: bool = False, reason: str = "", floor: Optional[int] = None) -> Error:
     """The exception of a refusal that has no line."""
     text = ("%d %s %s" % (number, ROWS.get(number, ("", ""))[0], detail)).rstrip(" ")
-    return (OutOfMemory if is_memory else Refused)(text, reason=reason, first_open=first_open)
+    return (OutOfMemory if is_memory else Refused)(text, reason=reason, floor=floor)

@@ -77,7 +77,7 @@ def tags_of(words: list[str]) -> list[Tag]:
 def tested(answer: Any, block: Text) -> Any:
     if answer.number:
         block = block if isinstance(block, str) else bytes(block).decode(errors="backslashreplace")
-        raise refused(answer.number, block, answer.status == 4, first_open=answer.value if answer.number == LATE else None)
+        raise refused(answer.number, block, answer.status == 4, floor=answer.value if answer.number == LATE else None)
     return answer
 
 

@@ -279,7 +279,7 @@ class Refusing(Noting):
 
 def refusals_have_reasons():
     """And a setting that comes too late tells from which item it could be in force."""
-    for number, value, said, first_open in [
+    for number, value, said, floor in [
         (27, 0, "27 Late a: the setting begins before the first item that is open, which is 0", 0),
         (27, 2**40, "27 Late a: the setting begins before the first item that is open, which is 1099511627776", 2**40),
         (28, 5, "28 NoSetting a: the block has no setting", None),
@@ -291,7 +291,8 @@ def refusals_have_reasons():
                 try:
                     held.set("a", setting)
                 except magbelu.Refused as error:
-                    assert (str(error), error.first_open, error.number, error.detail) == (said, first_open, number, "a"), error
+                    assert (str(error), error.floor, error.number, error.detail) == (said, floor, number, "a"), error
+                    assert error.name == said.split(" ")[1].rstrip(":"), error.name
                 else:
                     raise AssertionError("%d is not raised" % number)
     _library._loaded = library

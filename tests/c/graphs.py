@@ -294,9 +294,9 @@ def late_settings_tell_what_is_open():
     graph.feed("src", [1, 2, 3, 4])
     graph.settle()
     error = refuses(27, "Late", lambda: graph.set("add", 1, at=2))
-    assert (error.first_open, error.detail) == (4, "add") and str(error).endswith("the first item that is open, which is 4"), error
-    assert graph.set("add", 1, at=error.first_open) == 4
-    assert refuses(28, "NoSetting", lambda: graph.set("src", 1)).first_open is None
+    assert (error.floor, error.detail) == (4, "add") and str(error).endswith("the first item that is open, which is 4"), error
+    assert graph.set("add", 1, at=error.floor) == 4
+    assert refuses(28, "NoSetting", lambda: graph.set("src", 1)).floor is None
 
 
 def paths_are_told_from_texts():

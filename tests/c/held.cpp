@@ -40,7 +40,9 @@ static void refuses(std::uint32_t number, const std::string &line, const std::fu
         call();
     } catch (const magbelu::refused &error) {
         must(error.number() == number && error.what() == text, "wanted '" + text + "', and it is '" + error.what() + "'");
-        must(!error.first_open(), "a first item that is open");
+        must(!error.floor(), "a first item that is open");
+        const std::string head = std::to_string(number) + " " + error.name() + (error.detail().empty() ? "" : " " + error.detail());
+        must(head == line.substr(0, line.find('\n')), "wanted the name and the detail of '" + line + "', and they are '" + head + "'");
         return;
     }
     must(false, "not refused: " + text);
@@ -57,7 +59,7 @@ static void reasons_are_told() {
         graph.set("add", 5, 2);
     } catch (const magbelu::refused &error) {
         must(error.what() == std::string("27 Late add: the setting begins before the first item that is open, which is 3"), error.what());
-        must(error.number() == MAGBELU_LATE && error.first_open() == 3, "the first item that is open");
+        must(error.number() == MAGBELU_LATE && error.floor() == 3, "the first item that is open");
         return;
     }
     must(false, "a late setting is taken");
