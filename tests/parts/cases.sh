@@ -15,7 +15,7 @@ source "$top/tests/parts/clustered.sh"
 # Of each case the folder that describes it.
 declare -A folder_of=()
 # One that is no call with an input that is there: the program answers a producer that waits for it.
-pipes=(pipes/slow_producer)
+pipes=(pipes/slow_producer pipes/slow_producer_in_pieces pipes/fifos_in_pieces pipes/slow_marks_in_pieces)
 # Calls whose standard error is a terminal, which the command `script` makes.
 terminals=(terminals/explains terminals/never terminals/place)
 # What a program of Python asks, that has names of GNU Radio from flow-from-grc.
@@ -160,10 +160,10 @@ has_lines() {
 # has_made WANTED FOLDER: whether the call made the files of the folder WANTED, where there is one, and no others there
 has_made() { [[ ! -e $1 ]] || diff --text --recursive -U 3 -- "$1" "$2"; }
 
-# pipes_slow_producer: each line is answered, with each byte ten more, before the next is written
-pipes_slow_producer() {
+# answers WORD..: that a run with these words answers each line, with each byte ten more, before the next is written
+answers() {
     local it answer
-    coproc flow { "${start[@]}" run -i src=- -o out=- "$top/tests/graphs/plain.toml" 2>"$room/report"; }
+    coproc flow { "${start[@]}" run "$@" -i src=- -o out=- "$top/tests/graphs/plain.toml" 2>"$room/report"; }
     for it in A B C D E; do
         printf '%s\n' "$it" >&"${flow[1]}"
         if ! IFS= read -r -t 10 -N 2 -u "${flow[0]}" answer; then
@@ -178,6 +178,44 @@ pipes_slow_producer() {
     exec {flow[1]}>&-
     wait "$flow_PID"
     differs stderr <(printf 'sink out 10\ndone\n') "$room/report"
+}
+
+pipes_slow_producer() { answers; }
+pipes_slow_producer_in_pieces() { answers --jobs 2; }
+
+# pipes_fifos_in_pieces: two sources that one sender writes to in turn, somewhat less at a time than a pipe holds: a run that read far ahead of one would never come to
+# the other
+pipes_fifos_in_pieces() {
+    local folder=$room/fifos count=100000
+    mkdir "$folder"
+    mkfifo "$folder/a" "$folder/b" "$folder/sum"
+    head -c "$count" /dev/urandom | LC_ALL=C tr '\200-\377' '\000-\177' >"$folder/left"
+    head -c "$count" /dev/zero | tr '\0' '\1' >"$folder/right"
+    python3 "$top/tests/programs/in_turn.py" 30000 "$folder/left" "$folder/a" "$folder/right" "$folder/b" &
+    cat "$folder/sum" >"$folder/came" &
+    (cd -- "$folder" && timeout 120 "${start[@]}" run --jobs 3 -i s=a -i t=b -o out=sum "$top/tests/graphs/two_sources.toml") >"$folder/report" 2>&1 || return
+    wait
+    differs stdout <(printf 'sink out %d\ndone\n' "$count") "$folder/report" || return
+    # (each byte is one more)
+    cmp -- "$folder/came" <(LC_ALL=C tr '\000-\177' '\001-\200' <"$folder/left")
+}
+
+# pipes_slow_marks_in_pieces: tags are out before the next mark is waited for
+pipes_slow_marks_in_pieces() {
+    local folder=$room/slow_marks answer
+    mkdir "$folder"
+    mkfifo "$folder/marks" "$folder/tags"
+    head -c 100000 /dev/zero >"$folder/in"
+    (cd -- "$folder" && timeout 60 "${start[@]}" run --jobs 2 -i src=in --marks src=marks -o out=/dev/null --tags out=tags "$top/tests/graphs/plain.toml") >"$folder/report" 2>&1 &
+    exec 7>"$folder/marks" 8<"$folder/tags"
+    printf '@1:a=1\n@90000:b=2\n' >&7
+    IFS= read -r -t 30 -u 8 answer || answer=none
+    exec 7>&-
+    cat <&8 >"$folder/more"
+    exec 8<&-
+    wait
+    differs tags <(printf '@1:a=1/0\n@90000:b=2/0\n') <(printf '%s\n' "$answer" && cat "$folder/more") || return
+    differs stdout <(printf 'sink out 100000\ndone\n') "$folder/report"
 }
 
 # on_terminal WANTED WORD..: that a call with these words, whose standard error is a terminal, writes these lines there

@@ -20,6 +20,9 @@ redirected=(
     link_to_a_file_that_is_made
     nobody_reads_items
     nobody_reads_a_fifo
+    nobody_reads_pieces
+    full_device_for_pieces
+    pieces_of_a_broken_pipe
     nobody_reads_a_report
     nobody_reads_a_report_of_a_traced_run
     full_device
@@ -193,6 +196,36 @@ nobody_reads_a_fifo() {
     yes 2>/dev/null | ends 141 run -i src=- -o out=fifo "$plain" >report 2>errors
     wait "$reader"
     is so wanted && has errors 'flow: nobody reads fifo any more\n' && has report ''
+}
+
+# It ends at once, also where its sender waits, so that the read that is under way does not end.
+nobody_reads_pieces() {
+    local status=0 sender
+    # (more than a pipe holds, and no more, since a slice of a full piece is slow in a program with checks)
+    yes 2>/dev/null | head -c 150000 | { timeout 60 "${start[@]}" run --jobs 2 -i src=- -o out=- "$plain" || echo "$?" >status; } 2>errors | head -c 1000 >so
+    is so wanted && has errors 'flow: nobody reads standard output any more\n' && has status '141\n' || return
+    unread
+    mkfifo slow
+    (cat in && exec sleep 50) >slow &
+    sender=$!
+    timeout 20 "${start[@]}" run --jobs 2 --quiet -i src=- -o out=- "$plain" <slow >&"$nobody" 2>errors || status=$?
+    kill "$sender"
+    echo "$status" >status
+    has status '141\n' && has errors ''
+}
+
+full_device_for_pieces() {
+    ends 4 run --jobs 2 -i src=in -o out=- "$plain" >/dev/full 2>errors && has errors 'flow: refused 52 Write output 0 in out=-\n' || return
+    ends 4 run --jobs 2 -i src=in --marks src=marks -o out=o --tags out=/dev/full "$plain" >so 2>errors && has so '' || return
+    has errors 'flow: refused 52 Write tags 0 in out=/dev/full\n'
+}
+
+# A sender that ends in the midst of an item: what came before it is written, and then it is told, as without pieces.
+pieces_of_a_broken_pipe() {
+    sed 's/"byte"/"short"/' "$plain" >shorts.toml
+    printf 'a\0b\0c' | ends 1 run -i src=- -o out=whole shorts.toml >report 2>wanted_errors || return
+    { printf 'a\0' && sleep 0.2 && printf 'b\0c'; } | ends 1 run --jobs 2 -i src=- -o out=o shorts.toml >so 2>errors || return
+    is o whole && has so 'sink out 2\ndone\n' && is errors wanted_errors && has o 'k\0l\0'
 }
 
 nobody_reads_a_report() {

@@ -1,8 +1,9 @@
 #!/usr/bin/env python3
 """Runs graphs that are drawn by chance whole and in parts, by the program whose words are given. What slices write, one behind the other, is what the whole run writes.
-So is a run from an item on, one that goes on with cut outputs, and one in pieces, also where it is killed and goes on. A graph that is not cut is refused. Prints what
-differs."""
+So is a run from an item on, one that goes on with cut outputs, and one in pieces, of files and of pipes, also where it is killed and goes on. A graph that is not cut is
+refused. Prints what differs."""
 
+import os
 import pathlib
 import random
 import struct
@@ -111,11 +112,56 @@ def pieces_differ(folder, graph, inputs, whole, rng):
     """What is wrong with runs in pieces."""
     start = rng.randint(0, 50)
     for words in (["--jobs", "1"], ["--jobs", str(rng.randint(2, 5))], ["--jobs", "2", "--from", str(start)], ["--jobs", "2", "--slice", "1/1"]):
-        part = run(folder, inputs, graph, "part", *words)
-        for name, items in whole.items():
-            wanted = items[(start if "--from" in words else 0) * SIZES[graph.sinks[name]] :]
+        part = run(folder, inputs, graph, "part", *words, *tagged(graph, "part"))
+        first = start if "--from" in words else 0
+        for name, text in tags(folder, graph, "part").items():
+            wanted = whole[name][first * SIZES[graph.sinks[name]] :]
             if part[name] != wanted:
                 return "%s by %s has %d bytes, and not %d" % (name, " ".join(words), len(part[name]), len(wanted))
+            lines = [line for line in tags(folder, graph, "whole")[name].splitlines(keepends=True) if first <= int(line[1 : line.index(":")])]
+            if text != "".join(lines):
+                return "%s by %s has the tags %s, and not %s" % (name, " ".join(words), text, "".join(lines))
+    return None
+
+
+def send(folder, names, rng):
+    """Writes files to pipes of their names with `.pipe` behind, some bytes of each in turn, and pauses now and then. Those whose files are at their end are closed."""
+    rest = {name: folder.joinpath(name).read_bytes() for name in names}
+    pipes = {name: open(folder.joinpath("%s.pipe" % name), "wb", buffering=0) for name in names}
+    # (a pipe holds the whole of a file, so that it matters to no write which source is read)
+    while pipes:
+        for name in list(pipes):
+            count = rng.choice([1, 3, 40, 1000])
+            try:
+                pipes[name].write(rest[name][:count])
+            except BrokenPipeError:
+                rest[name] = b""
+            rest[name] = rest[name][count:]
+            if not rest[name]:
+                pipes.pop(name).close()
+        if rng.random() < 0.02:
+            time.sleep(0.002)
+
+
+def piped_differ(folder, graph, inputs, whole, rng):
+    """What is wrong with runs in pieces of what comes through pipes."""
+    words, sent = ["run", "--jobs", str(rng.randint(2, 4)), *tagged(graph, "part")], [*graph.feeds]
+    for name in sent:
+        os.mkfifo(folder.joinpath("%s.pipe" % name))
+        words += ["-i", "%s=%s.pipe" % (name, name)]
+    for name in whole:
+        words += ["-o", "%s=%s.part" % (name, name)]
+    with subprocess.Popen([*sys.argv[1:], *words, "graph.toml"], cwd=folder, stdin=subprocess.DEVNULL, stdout=subprocess.PIPE, stderr=subprocess.STDOUT, text=True) as piped:
+        send(folder, sent, rng)
+        said, _ = piped.communicate(timeout=60)
+    if piped.returncode != 0:
+        return "%s: %d %s" % (" ".join(words), piped.returncode, said)
+    for name, text in tags(folder, graph, "part").items():
+        part = folder.joinpath("%s.part" % name).read_bytes()
+        if part != whole[name]:
+            return "%s through pipes has %d bytes, and not %d" % (name, len(part), len(whole[name]))
+        if text != tags(folder, graph, "whole")[name]:
+            return "%s through pipes has the tags %s" % (name, text)
     return None
 
 
@@ -155,7 +201,7 @@ def differs(folder, seed):
         return None, False
     whole = run(folder, inputs, graph, "whole")
     # (each call of the program is slow where it is built with checks)
-    another = [items_differ, resumed_differs, pieces_differ, killed_differs][seed % 4]
+    another = [items_differ, resumed_differs, pieces_differ, killed_differs, piped_differ][seed % 5]
     return slices_differ(folder, graph, inputs, whole, rng) or another(folder, graph, inputs, whole, rng), True
 
 

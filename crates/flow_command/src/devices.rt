@@ -1,6 +1,7 @@
 //! The files and streams that raw items come from and go to.
 
-use slice_threads::Skipping;
+use crate::limited::Limited;
+use slice_threads::Unread;
 use std::alloc::Global;
 use std::collections::VecDeque;
 use std::fs::File;
@@ -19,7 +20,7 @@ pub type Source = Device<StdinLock<'static>, File>;
 pub type Writer<'a> = Device<Printer<'a, HostRuntime>, File>;
 
 /// A writer of a sink's items or tags.
-pub type Target<'a> = Skipping<Writer<'a>>;
+pub type Target<'a> = Limited<Writer<'a>>;
 
 impl<S: Read, F: Read> Read for Device<S, F> {
     fn read(&mut self, buf: &mut [u8]) -> io::Result<usize> {
@@ -71,8 +72,9 @@ struct Part {
 /// The inputs of a source, one behind the other. One that ends within an item is the last.
 #[derive(Drop)]
 pub struct Chain {
-    // What was read and given back, which is read again first.
+    // What was read and given back, which is read again first, and the failure of the read behind it, if that failed.
     unread: VecDeque<u8>,
+    failure: Option<io::Error>,
     parts: Vec<Part>,
     // How many bytes in front are still passed over, and how many are then read at most.
     extent: Extent,
@@ -87,6 +89,7 @@ impl Chain {
     pub fn new(alloc: Global, item_size: usize, extent: Extent) -> Chain {
         Chain {
             unread: VecDeque::new(alloc),
+            failure: None,
             parts: Vec::new(alloc),
             extent,
             at: 0,
@@ -106,9 +109,11 @@ impl Chain {
         Ok(())
     }
 
-    /// Gives back what was read last, to be read again.
-    pub fn give_back(&mut self, bytes: VecDeque<u8>) {
-        self.unread = bytes;
+    /// Gives back what was read last, to be read again, and to fail again where it failed.
+    pub fn give_back(&mut self, unread: Unread) {
+        let Unread { bytes, failure } = unread;
+        self.unread = VecDeque::from(bytes);
+        self.failure = failure;
     }
 
     // Passes over what lies before the part that is read, and tells whether that is the whole input.
@@ -143,6 +148,9 @@ impl Read for Chain {
     fn read(&mut self, buf: &mut [u8]) -> io::Result<usize> {
         if !self.unread.is_empty() {
             return self.unread.read(buf);
+        }
+        if let Some(error) = self.failure.take() {
+            return Err(error);
         }
         let most = buf
             .len()

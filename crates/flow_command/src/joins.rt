@@ -4,22 +4,50 @@ use crate::cut::Cut;
 use crate::devices::{Chain, Device, Extent, Source, Target, Writer};
 use crate::ends::{Ends, NamedEnd};
 use crate::lengths::size_at;
-use crate::pieces::Before;
+use crate::limited::Limited;
+use crate::rest::Rest;
 use crate::stops::{Stop, Stream, stop_of, unopened};
 use flow::raw_fault::{EndFault, EndPlace, RawFault};
 use flow::raw_input::{sink_named, source_named};
 use flowgraph::{BlockId, Valid};
 use kinds::Kind;
-use pipeline::{StreamPart, TapePart};
+use pipeline::TapePart;
 use raw_items::item_size;
-use slice_threads::Skipping;
+use reporting::write_whole;
 use std::alloc::{AllocError, Global};
 use std::fs::{File, OpenOptions};
-use std::io::{Seek, SeekFrom, Write};
+use std::io::{Seek, SeekFrom};
 use std::{fs, io};
 
-/// Opens the inputs, in their order: of each source its own, by block, of which it reads what the cut says.
-pub fn open_inputs(
+/// What a run reads and writes, by block.
+#[derive(Drop)]
+pub struct Opened<'a> {
+    pub tapes: Vec<Option<Chain>>,
+    pub marks: Vec<Option<Chain>>,
+    pub targets: Vec<Option<Targets<'a>>>,
+}
+
+impl<'a> Opened<'a> {
+    /// Opens what the words name, the inputs, those of marks, and then the outputs.
+    pub fn of_words(
+        rt: &'a HostRuntime,
+        run: &Stream<'a>,
+        ends: &Ends<'_>,
+        cut: &Cut,
+    ) -> Result<Opened<'a>, Stop> {
+        let tapes = open_inputs(rt, run, ends, cut)?;
+        let marks = open_marks(rt, run, ends)?;
+        let targets = make_outputs(rt, run, ends, cut)?;
+        Ok(Opened {
+            tapes,
+            marks,
+            targets,
+        })
+    }
+}
+
+// Opens the inputs, in their order: of each source its own, of which it reads what the cut says.
+fn open_inputs(
     rt: &HostRuntime,
     run: &Stream<'_>,
     ends: &Ends<'_>,
@@ -66,21 +94,22 @@ pub fn join_inputs(
     Ok(())
 }
 
-/// Opens the inputs of marks, in their order, each with the source whose items it marks.
-pub fn open_marks(
+// Opens the inputs of marks, in their order: of each source its own.
+fn open_marks(
     rt: &HostRuntime,
     run: &Stream<'_>,
     ends: &Ends<'_>,
-) -> Result<Vec<(BlockId, Chain)>, Stop> {
-    let mut marks = Vec::new(rt.alloc());
+) -> Result<Vec<Option<Chain>>, Stop> {
+    let mut marks = slots::<Chain>(rt.alloc(), run.plant.graph().len())?;
     for (number, end) in ends.marks.iter().enumerate() {
         let place = EndPlace::Marks(number);
         let source = source_named(run.plant.graph(), place, end.block.as_bytes())?;
         let device = open(rt, end, place)?;
         let mut chain = Chain::new(rt.alloc(), 1, Extent::WHOLE);
         add_input(&mut chain, number, device, place)?;
-        marks.reserve(1)?;
-        marks.push_reserved((source, chain));
+        if let Some(slot) = marks.get_mut(source.0 as usize) {
+            *slot = Some(chain);
+        }
     }
     Ok(marks)
 }
@@ -91,12 +120,18 @@ pub fn join_marks(
     run: &mut Stream<'_>,
     ends: &Ends<'_>,
     cut: &Cut,
-    marks: Vec<(BlockId, Chain)>,
+    rest: &Rest,
+    marks: Vec<Option<Chain>>,
 ) -> Result<(), Stop> {
-    for (source, chain) in marks {
-        let size = size_at(run.plant.graph(), source).max(1);
+    let mut block = 0u32;
+    for chain in marks {
+        let source = BlockId(block);
+        block = block.saturating_add(1);
+        let Some(chain) = chain else {
+            continue;
+        };
         let part = TapePart {
-            origin: cut.extent(source).from / size,
+            origin: rest.origin(source),
             goes_on: cut.goes_on,
         };
         if let Err(fault) = run.mark_part(alloc, source, part, chain) {
@@ -128,19 +163,27 @@ pub struct Targets<'a> {
 }
 
 impl Targets<'_> {
-    /// Writes items, as far as there is an output for them.
-    pub fn write(&mut self, bytes: &[u8]) -> Result<(), Stop> {
-        let place = EndPlace::Output(self.number);
-        let Some(items) = &mut self.items else {
-            return Ok(());
-        };
-        match items.write_all(bytes) {
-            Ok(()) => Ok(()),
-            Err(error) => Err(Stop {
-                fault: RawFault::End(place, EndFault::Write),
-                reason: Some(error),
-            }),
+    /// Writes items and the lines of tags, as far as there are outputs for them.
+    pub fn write(&mut self, items: &[u8], tags: &[u8]) -> Result<(), Stop> {
+        if let Some(target) = &mut self.items {
+            if let Err(error) = write_whole(target, items) {
+                return Err(unwritten(EndPlace::Output(self.number), error));
+            }
         }
+        if let Some(target) = &mut self.tags {
+            if let Err(error) = write_whole(target, tags) {
+                return Err(unwritten(EndPlace::Tags(self.tags_number), error));
+            }
+        }
+        Ok(())
+    }
+}
+
+// Why a run stops whose write to the output at this place failed.
+fn unwritten(place: EndPlace, error: io::Error) -> Stop {
+    Stop {
+        fault: RawFault::End(place, EndFault::Write),
+        reason: Some(error),
     }
 }
 
@@ -152,14 +195,12 @@ pub struct Kept<'a> {
     pub target: Target<'a>,
 }
 
-/// Makes the outputs, in their order: of each sink its own, by block. Where a name is refused no file is made, and so none is emptied. Behind pieces they leave out
-/// what is left out of the first.
-pub fn make_outputs<'a>(
+// Makes the outputs, in their order: of each sink its own. Where a name is refused no file is made, and so none is emptied.
+fn make_outputs<'a>(
     rt: &'a HostRuntime,
     run: &Stream<'a>,
     ends: &Ends<'_>,
     cut: &Cut,
-    has_pieces: bool,
 ) -> Result<Vec<Option<Targets<'a>>>, Stop> {
     test_names(run.plant.graph(), ends)?;
     let mut targets = slots::<Targets<'a>>(rt.alloc(), run.plant.graph().len())?;
@@ -172,12 +213,7 @@ pub fn make_outputs<'a>(
             Some(items) => resume(rt, end, place, items.saturating_mul(size))?,
             None => create(rt, end, place)?,
         };
-        let left_out = if has_pieces {
-            written.left_out.saturating_mul(size)
-        } else {
-            0
-        };
-        let target = Skipping::new(writer, left_out, written.most.saturating_mul(size));
+        let target = Limited::new(writer, written.most.saturating_mul(size));
         if let Some(slot) = targets.get_mut(sink.0 as usize) {
             *slot = Some(Targets {
                 items: Some(target),
@@ -190,7 +226,7 @@ pub fn make_outputs<'a>(
     for (number, end) in ends.tags.iter().enumerate() {
         let place = EndPlace::Tags(number);
         let sink = sink_named(run.plant.graph(), place, end.block.as_bytes())?;
-        let target = Skipping::new(create(rt, end, place)?, 0, u64::MAX);
+        let target = Limited::new(create(rt, end, place)?, u64::MAX);
         if let Some(slot) = targets.get_mut(sink.0 as usize) {
             let (items, items_number) = match slot.take() {
                 Some(targets) => (targets.items, targets.number),
@@ -224,13 +260,12 @@ fn test_names(graph: &Valid<Kind>, ends: &Ends<'_>) -> Result<(), RawFault> {
     Ok(())
 }
 
-/// Joins each sink with an output of its items to its own, where pieces of the run have given so much before. The others are returned.
+/// Joins each sink with an output of its items to its own. The others are returned.
 pub fn join_outputs<'a>(
     alloc: Global,
     run: &mut Stream<'a>,
     ends: &Ends<'_>,
-    cut: &Cut,
-    before: &Before,
+    rest: &Rest,
     targets: Vec<Option<Targets<'a>>>,
 ) -> Result<Vec<Kept<'a>>, Stop> {
     let mut kept = Vec::new(alloc);
@@ -260,7 +295,7 @@ pub fn join_outputs<'a>(
                 });
             }
             (items, tags) => {
-                let part = part_of(cut, before, sink);
+                let part = rest.part(sink);
                 if let Err(fault) = run.write_part(alloc, sink, part, ends.order, items, tags) {
                     return Err(stop_of(run, ends, fault));
                 }
@@ -268,19 +303,6 @@ pub fn join_outputs<'a>(
         }
     }
     Ok(kept)
-}
-
-// Which part of its stream a sink is given, behind pieces.
-fn part_of(cut: &Cut, before: &Before, sink: BlockId) -> StreamPart {
-    let written = cut.written(sink);
-    StreamPart {
-        origin: written.origin,
-        drop: if before.is_none() {
-            written.left_out
-        } else {
-            before.again(sink)
-        },
-    }
 }
 
 // So many places with nothing.

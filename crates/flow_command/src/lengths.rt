@@ -34,6 +34,14 @@ pub fn lengths_of_inputs(
     Ok(lengths)
 }
 
+/// Whether all ends are regular files, as far as they are there.
+pub fn are_files(rt: &HostRuntime, ends: &[NamedEnd<'_>]) -> bool {
+    ends.iter().all(|end| match fs::metadata(rt, end.path) {
+        Ok(found) => found.is_file() && !end.is_standard(),
+        Err(_) => !end.is_standard(),
+    })
+}
+
 /// How many bytes of whole items the output of a sink has; none if it is not there.
 pub fn length_of_output(
     rt: &HostRuntime,
@@ -60,6 +68,12 @@ pub fn output_of<'a, 'b>(
     ends.outputs
         .iter()
         .find(|end| is_block(graph, sink, end.block.as_bytes()))
+}
+
+/// Whether a source has an input.
+pub fn has_input(graph: &Valid<Kind>, ends: &Ends<'_>, source: BlockId) -> bool {
+    let mut inputs = ends.inputs.iter();
+    inputs.any(|end| is_block(graph, source, end.block.as_bytes()))
 }
 
 // How long the file at an end is, if it is there. One that is no regular file is refused as this.

@@ -3,16 +3,16 @@
 use crate::cut::Cut;
 use crate::ends::Ends;
 use crate::gone_reader::tell_gone;
-use crate::joins::{
-    Kept, join_inputs, join_marks, join_outputs, make_outputs, open_inputs, open_marks,
-};
+use crate::joins::{Kept, Opened, join_inputs, join_marks, join_outputs};
 use crate::overwriting::ReportStream;
-use crate::pieces::{Before, Team, run_pieces, team_for};
+use crate::pieces::run_pieces;
 use crate::refusing::{buffered, shown_name};
+use crate::rest::Rest;
 use crate::slice_report::part_text;
 use crate::slicing::cut_of;
 use crate::stops::{Stop, Stream, explain, found_in, stop_of, unread_name};
 use crate::stretch::Stretch;
+use crate::team::{Team, team_for};
 use crate::uncut::{Uncut, refuse_cut};
 use crate::words::Call;
 use flow::command_output::status_of;
@@ -118,11 +118,11 @@ fn stream<'a, R: Threads + Wait + Clock + Copy + Send + Sync + 'static, W: Watch
     watch: &mut W,
 ) -> Result<Option<Stream<'a>>, Stop> {
     let mut run = run;
-    let (before, kept) = join(threads, rt, call, &mut run, part, watch)?;
+    let (rest, kept) = join(threads, rt, call, &mut run, part, watch)?;
     close_others(&mut run);
-    let (settled, ended) = go(threads, rt, &mut run, call, watch)?;
+    let (settled, ended) = go(threads, rt, &mut run, call, &rest, watch)?;
     write_kept(rt, &run, kept)?;
-    tell(rt, &run, call, &part.cut, &before, report, settled)?;
+    tell(rt, &run, call, &part.cut, &rest, report, settled)?;
     match (ended, settled) {
         (Some(stop), _) => Err(stop),
         (None, Settled::Done) => Ok(None),
@@ -138,12 +138,10 @@ fn join<'a, R: Threads + Wait + Clock + Copy + Send + Sync + 'static, W: Watch>(
     run: &mut Stream<'a>,
     part: &Part<'_>,
     watch: &mut W,
-) -> Result<(Before, Vec<Kept<'a>>), Stop> {
+) -> Result<(Rest, Vec<Kept<'a>>), Stop> {
     let ends = &call.ends;
-    let mut chains = open_inputs(rt, run, ends, &part.cut)?;
-    let marks = open_marks(rt, run, ends)?;
-    let mut targets = make_outputs(rt, run, ends, &part.cut, part.team.is_some())?;
-    let before = match &part.team {
+    let mut opened = Opened::of_words(rt, run, ends, &part.cut)?;
+    let rest = match &part.team {
         Some(team) => run_pieces(
             threads,
             rt.alloc(),
@@ -152,16 +150,20 @@ fn join<'a, R: Threads + Wait + Clock + Copy + Send + Sync + 'static, W: Watch>(
             ends,
             &part.cut,
             team,
-            &mut chains,
-            &mut targets,
+            &mut opened,
             watch,
         )?,
-        None => Before::none(rt.alloc()),
+        None => Rest::whole(rt.alloc(), run.plant.graph(), &part.cut)?,
     };
-    join_inputs(rt.alloc(), run, ends, chains)?;
-    join_marks(rt.alloc(), run, ends, &part.cut, marks)?;
-    let kept = join_outputs(rt.alloc(), run, ends, &part.cut, &before, targets)?;
-    Ok((before, kept))
+    let Opened {
+        tapes,
+        marks,
+        targets,
+    } = opened;
+    join_inputs(rt.alloc(), run, ends, tapes)?;
+    join_marks(rt.alloc(), run, ends, &part.cut, &rest, marks)?;
+    let kept = join_outputs(rt.alloc(), run, ends, &rest, targets)?;
+    Ok((rest, kept))
 }
 
 fn opened<'a>(rt: &'a HostRuntime, file: &[u8]) -> Result<Stream<'a>, Stop> {
@@ -193,11 +195,12 @@ fn go<R: Threads + Wait + Clock + Copy + Send + Sync + 'static, W: Watch>(
     rt: &HostRuntime,
     run: &mut Stream<'_>,
     call: &Call<'_>,
+    rest: &Rest,
     watch: &mut W,
 ) -> Result<(Settled, Option<Stop>), Stop> {
     let ended = match call.action {
-        Action::Run(_) => run_helped(threads, rt.alloc(), run, &call.ends, watch),
-        _ => run_cut(rt.alloc(), run, &call.ends, &mut NoHelpers, watch),
+        Action::Run(_) => run_helped(threads, rt.alloc(), run, &call.ends, rest, watch),
+        _ => run_cut(rt.alloc(), run, &call.ends, rest, &mut NoHelpers, watch),
     };
     watch.end();
     ended
@@ -209,10 +212,11 @@ fn run_helped<R: Threads + Wait + Clock + Copy + Send + Sync + 'static, W: Watch
     alloc: Global,
     run: &mut Stream<'_>,
     ends: &Ends<'_>,
+    rest: &Rest,
     watch: &mut W,
 ) -> Result<(Settled, Option<Stop>), Stop> {
     let mut helpers = HelperThreads::start(threads, alloc, run.plant.graph())?;
-    let ended = run_cut(alloc, run, ends, &mut helpers, watch);
+    let ended = run_cut(alloc, run, ends, rest, &mut helpers, watch);
     helpers.finish();
     ended
 }
@@ -222,6 +226,7 @@ fn run_cut<H: Helpers<Job<Kind>, Worked<Kind>>, W: Watch>(
     alloc: Global,
     run: &mut Stream<'_>,
     ends: &Ends<'_>,
+    rest: &Rest,
     helpers: &mut H,
     watch: &mut W,
 ) -> Result<(Settled, Option<Stop>), Stop> {
@@ -237,7 +242,7 @@ fn run_cut<H: Helpers<Job<Kind>, Worked<Kind>>, W: Watch>(
                 // (it was open)
                 let _ = run.plant.close(source);
             }
-            Err(fault) => return Err(stop_of(run, ends, fault)),
+            Err(fault) => return Err(stop_of(run, ends, rest.counted(fault))),
         }
     }
     Err(Stop::from(AllocError))
@@ -273,14 +278,14 @@ fn tell(
     run: &Stream<'_>,
     call: &Call<'_>,
     cut: &Cut,
-    before: &Before,
+    rest: &Rest,
     report: ReportStream,
     settled: Settled,
 ) -> Result<(), Stop> {
-    let text = if call.stretch == Stretch::Whole && before.is_none() {
+    let text = if call.stretch == Stretch::Whole && !rest.has_pieces() {
         stream_report(rt.alloc(), &run.plant, settled)?
     } else {
-        part_text(rt.alloc(), &run.plant, cut, before, settled)?
+        part_text(rt.alloc(), &run.plant, cut, rest, settled)?
     };
     let written = match report {
         ReportStream::Output => write_whole(&mut std::io::writer(rt), &text),

@@ -2,8 +2,8 @@
 
 use crate::cut::Cut;
 use crate::listing::print_text;
-use crate::pieces::Before;
 use crate::refusing::begins_none;
+use crate::rest::Rest;
 use crate::slicing::plan_of;
 use crate::stops::name_of;
 use crate::uncut::{Uncut, text_of};
@@ -67,18 +67,18 @@ fn plan_text(alloc: Global, graph: &Valid<Kind>, plan: &Plan) -> Result<String, 
     Ok(text)
 }
 
-/// The report on a part of a run: how many items each sink was given of it, in pieces before and then, and how it ended.
+/// The report on a part of a run: how many items each sink was given of it, of pieces and of the rest, and how it ended.
 pub fn part_text(
     alloc: Global,
     plant: &StreamingPlant<Kind>,
     cut: &Cut,
-    before: &Before,
+    rest: &Rest,
     settled: Settled,
 ) -> Result<Vec<u8>, AllocError> {
     let mut text = Vec::new(alloc);
     let mut block = 0u32;
     for _ in 0..plant.graph().len() {
-        add_sink(alloc, &mut text, plant, cut, before, BlockId(block))?;
+        add_sink(alloc, &mut text, plant, cut, rest, BlockId(block))?;
         block = block.saturating_add(1);
     }
     let end = match settled {
@@ -95,15 +95,13 @@ fn add_sink(
     text: &mut Vec<u8>,
     plant: &StreamingPlant<Kind>,
     cut: &Cut,
-    before: &Before,
+    rest: &Rest,
     block: BlockId,
 ) -> Result<(), AllocError> {
     let Ok(piece) = plant.peek(alloc, block, u64::MAX) else {
         return Ok(());
     };
-    let part = cut.written(block);
-    let given = before.with(block, piece.held);
-    let written = given.saturating_sub(part.left_out).min(part.most);
+    let written = rest.given(block, piece.held).min(cut.written(block).most);
     let line = Report::Sink {
         name: name_of(plant.graph(), block),
         held: written,

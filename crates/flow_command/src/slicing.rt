@@ -31,18 +31,22 @@ pub fn cut_of(
         return Ok(Cut::whole(rt.alloc()));
     }
     let graph = plant.graph();
-    let asks = if ends.tags.is_empty() {
-        Asks::Items
-    } else {
-        Asks::ItemsAndTags
-    };
-    let (rates, plan) = plan_of(rt.alloc(), graph, asks)?;
+    let (rates, plan) = plan_of(rt.alloc(), graph, asks_for(ends))?;
     test_ends(plant, ends, &plan)?;
     let lengths = lengths_of_inputs(rt, graph, ends)?;
     match stretch {
         Stretch::Slice(slice) => slice_cut(rt.alloc(), graph, &rates, &plan, &lengths, slice),
         Stretch::Items { from, most } => items_cut(rt.alloc(), graph, &rates, &plan, from, most),
         Stretch::Whole | Stretch::Resumed => resumed_cut(rt, graph, ends, &rates, &plan),
+    }
+}
+
+/// What the parts of a run between these ends have to give as the whole run does.
+pub fn asks_for(ends: &Ends<'_>) -> Asks {
+    if ends.tags.is_empty() {
+        Asks::Items
+    } else {
+        Asks::ItemsAndTags
     }
 }
 

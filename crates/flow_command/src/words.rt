@@ -343,7 +343,7 @@ fn without_tags<'a>(word: Arg<'a>) -> Result<Arg<'a>, AllocError> {
 // The word that says on how many threads slices are run.
 fn jobs<'a>(alloc: Global) -> Result<Arg<'a>, AllocError> {
     let jobs = part(alloc, "jobs", "Runs slices on so many threads")?;
-    let jobs = without_tags(jobs)?
+    let jobs = jobs
         .value_name("N")
         .value_parser(ValueParser::Unsigned(1, MOST_JOBS));
     jobs.conflicts_with("one-thread")

@@ -1,8 +1,7 @@
 //! A slice that is run on a piece of the tapes.
 
-use crate::skipping::Skipping;
 use flowgraph::{Block, BlockId};
-use pipeline::{End, Pipeline};
+use pipeline::{End, Pipeline, StreamPart, TapePart};
 use raw_items::ByteOrder;
 use std::alloc::{AllocError, Global};
 use std::collections::VecDeque;
@@ -16,14 +15,20 @@ pub trait Opens {
     fn open(&self, alloc: Global) -> Result<StreamingPlant<Self::Block>, AllocError>;
 }
 
-/// What a slice gives a sink.
+/// What the slices give a sink.
 #[derive(Clone, Copy, Debug, PartialEq, Eq)]
 pub struct Share {
     pub sink: BlockId,
-    /// How many bytes it drops, where a piece has an overlap in front.
+    /// How many bytes an item has.
+    pub item_size: u64,
+    /// How many items the sink takes in an iteration.
+    pub period: u64,
+    /// How many items come of the overlap in front of a piece.
     pub drop: u64,
-    /// How many bytes it gives behind these, at most.
-    pub bytes: usize,
+    /// The item of the whole stream from which on items and tags are given.
+    pub from: u64,
+    /// Whether it is given the tags too.
+    pub has_tags: bool,
 }
 
 /// What is the same for all pieces.
@@ -35,13 +40,32 @@ pub struct Job {
     pub shares: Vec<Share>,
 }
 
+/// What a piece has of the tape of a source.
+#[derive(Drop)]
+pub struct Tape {
+    pub source: BlockId,
+    pub bytes: Vec<u8>,
+    /// The item of the whole tape at which it begins.
+    pub origin: u64,
+    /// The lines of the marks on its items, where the source has marks.
+    pub marks: Option<Vec<u8>>,
+}
+
 /// A piece of the tapes.
 #[derive(Drop)]
 pub struct Piece {
-    /// The bytes of each source.
-    pub tapes: Vec<(BlockId, Vec<u8>)>,
-    /// Whether what comes of the overlap in front is dropped.
-    pub has_overlap: bool,
+    pub tapes: Vec<Tape>,
+    /// Which part of its stream each sink is given, in the order of the shares.
+    pub parts: Vec<StreamPart>,
+}
+
+/// What a slice gives a sink.
+#[derive(Drop)]
+pub struct Given {
+    /// The items, as raw bytes.
+    pub items: Vec<u8>,
+    /// The tags, as lines.
+    pub tags: Vec<u8>,
 }
 
 impl Job {
@@ -61,10 +85,10 @@ impl Job {
         alloc: Global,
         opener: &O,
         piece: Piece,
-    ) -> Result<Vec<Vec<u8>>, AllocError> {
+    ) -> Result<Vec<Given>, AllocError> {
         let mut run = self.joined(alloc, opener, piece)?;
         if run.run(alloc).is_err() {
-            // (it reads and writes memory alone)
+            // (it reads and writes memory alone, and the marks are in order)
             return Err(AllocError);
         }
         let mut given = Vec::with_capacity(alloc, self.shares.len())?;
@@ -85,23 +109,50 @@ impl Job {
             Ok(run) => run,
             Err((_plant, refusal)) => return Err(refusal),
         };
-        let Piece { tapes, has_overlap } = piece;
-        for (source, bytes) in tapes {
-            join(run.read_from(alloc, source, self.order, VecDeque::from(bytes)))?;
+        let Piece { tapes, parts } = piece;
+        for tape in tapes {
+            self.read(alloc, &mut run, tape)?;
         }
-        for share in &self.shares {
-            let left_out = if has_overlap { share.drop } else { 0 };
-            let room = Vec::with_capacity(alloc, share.bytes)?;
-            let writer = Skipping::new(room, left_out, u64::MAX);
-            join(run.write_to(alloc, share.sink, self.order, Some(writer), None))?;
+        for (share, part) in self.shares.iter().zip(parts) {
+            let items = Some(Vec::new(alloc));
+            let tags = if share.has_tags {
+                Some(Vec::new(alloc))
+            } else {
+                None
+            };
+            join(run.write_part(alloc, share.sink, part, self.order, items, tags))?;
         }
         close_others(&mut run);
         Ok(run)
     }
+
+    // Joins a source to its tape, and to the marks on it.
+    fn read<B: Block>(
+        &self,
+        alloc: Global,
+        run: &mut InMemory<B>,
+        tape: Tape,
+    ) -> Result<(), AllocError> {
+        let Tape {
+            source,
+            bytes,
+            origin,
+            marks,
+        } = tape;
+        join(run.read_from(alloc, source, self.order, VecDeque::from(bytes)))?;
+        let Some(marks) = marks else {
+            return Ok(());
+        };
+        let part = TapePart {
+            origin,
+            goes_on: true,
+        };
+        join(run.mark_part(alloc, source, part, VecDeque::from(marks)))
+    }
 }
 
 // A run between bytes in memory.
-type InMemory<B> = Pipeline<B, VecDeque<u8>, Skipping<Vec<u8>>>;
+type InMemory<B> = Pipeline<B, VecDeque<u8>, Vec<u8>>;
 
 // (an end that is there is refused only where memory runs out)
 fn join<E: Drop>(joined: Result<(), E>) -> Result<(), AllocError> {
@@ -124,12 +175,15 @@ fn close_others<B: Block>(run: &mut InMemory<B>) {
 }
 
 // What a sink was given.
-fn taken<B: Block>(alloc: Global, run: &mut InMemory<B>, sink: BlockId) -> Vec<u8> {
+fn taken<B: Block>(alloc: Global, run: &mut InMemory<B>, sink: BlockId) -> Given {
     match run.ends.get_mut(sink.0 as usize) {
-        Some(End::Output(output)) => match output.items_to.take() {
-            Some(writer) => writer.into_inner(),
-            None => Vec::new(alloc),
+        Some(End::Output(output)) => Given {
+            items: output.items_to.take().unwrap_or(Vec::new(alloc)),
+            tags: output.tags_to.take().unwrap_or(Vec::new(alloc)),
         },
-        _ => Vec::new(alloc),
+        _ => Given {
+            items: Vec::new(alloc),
+            tags: Vec::new(alloc),
+        },
     }
 }

@@ -1,50 +1,48 @@
 //! Threads that run slices.
 
-use crate::feed::Feed;
+use crate::course::{Course, Outlet};
+use crate::event::Event;
+use crate::feeds::{Feeds, Want};
 use crate::piece::{Job, Opens, Piece};
+use crate::reading::{Readers, Reading};
 use crossbeam_channel::{Receiver, Sender, bounded};
-use flowgraph::{Block, BlockId};
+use flowgraph::Block;
+use pipeline::StreamPart;
 use std::alloc::{AllocError, Global};
 use std::io::Read;
 use std::sync::Wait;
 use std::thread;
 use std::thread::{JoinHandle, Threads};
 
-/// What a thread made of a piece: the bytes for each sink.
-type Made = Result<Vec<Vec<u8>>, AllocError>;
+// A piece with its number.
+type Numbered = (u64, Piece);
 
-/// Where that goes.
-pub trait Outlet {
-    type Fault: From<AllocError>;
-
-    /// Writes what comes next of a sink.
-    fn write(&mut self, sink: BlockId, bytes: &[u8]) -> Result<(), Self::Fault>;
-
-    /// So many pieces were read, and what came of so many is written.
-    fn show(&mut self, read: u64, written: u64);
-}
-
-// A thread, with the pieces that go to it and what comes back.
-#[derive(Drop)]
-struct Worker {
-    pieces: Sender<Piece, Global>,
-    made: Receiver<Made, Global>,
-    handle: JoinHandle<()>,
-}
-
-/// Threads that run slices, a piece at a time each, in turn.
+/// Threads that run slices, each on the next piece.
 #[derive(Drop)]
 pub struct SliceThreads<R: Drop> {
     rt: R,
-    workers: Vec<Worker>,
-    sinks: Vec<BlockId>,
+    job: Job,
+    // What the threads do next. They end once it is gone.
+    pieces: Sender<Numbered, Global>,
+    // What they, and the thread that reads, have done.
+    events: Receiver<Event, Global>,
+    tell: Sender<Event, Global>,
+    threads: Vec<JoinHandle<()>>,
 }
 
-// So many pieces wait for a thread, and so many wait that it made.
-const WAITING: usize = 1;
+/// What is left of a run behind its pieces.
+#[derive(Drop)]
+pub struct Left<F> {
+    /// What reads on, in the order of the feeds, which hold what was read before.
+    pub readers: Vec<Readers<F>>,
+    /// Which parts of their streams a run on the rest gives the sinks, in the order of the job.
+    pub parts: Vec<StreamPart>,
+    /// How many items each of them was given.
+    pub given: Vec<u64>,
+}
 
-// So many pieces a thread has, with the one in hand.
-const MOST_OUT: u64 = 2;
+// So many pieces are cut for a thread before what came of the first is written.
+const MOST_OUT: usize = 2;
 
 impl<R: Threads + Wait + Copy + Send + 'static> SliceThreads<R> {
     /// Starts a thread for each opener. Where one cannot be started, those before it run slices. It fails only where the allocator refuses what is asked of it
@@ -53,166 +51,165 @@ impl<R: Threads + Wait + Copy + Send + 'static> SliceThreads<R> {
         rt: R,
         alloc: Global,
         openers: Vec<O>,
-        job: &Job,
+        job: Job,
     ) -> Result<SliceThreads<R>, AllocError>
     where
         O::Block: Send + Sync + 'static,
         <O::Block as Block>::Places: Send + Sync + 'static,
     {
-        let mut sinks = Vec::with_capacity(alloc, job.shares.len())?;
-        for share in &job.shares {
-            sinks.push(share.sink)?;
-        }
-        let mut workers = Vec::with_capacity(alloc, openers.len())?;
+        let most = openers.len().saturating_mul(MOST_OUT);
+        let (pieces, todo) = bounded(alloc, most)?;
+        // (with room for what each of them has to tell, and for the thread that reads)
+        let (tell, events) = bounded(alloc, most.saturating_add(1))?;
+        let mut threads = Vec::with_capacity(alloc, openers.len())?;
         for opener in openers {
-            match started(rt, alloc, opener, job.copy(alloc)?)? {
-                Some(worker) => workers.push(worker)?,
-                None => break,
+            let crew = Crew {
+                opener,
+                job: job.copy(alloc)?,
+                todo: todo.clone()?,
+                tell: tell.clone()?,
+            };
+            match thread::spawn(&rt, move || serve(&rt, alloc, &crew)) {
+                Ok(handle) => threads.push(handle)?,
+                Err(_) => break,
             }
         }
-        Ok(SliceThreads { rt, workers, sinks })
+        Ok(SliceThreads {
+            rt,
+            job,
+            pieces,
+            events,
+            tell,
+            threads,
+        })
     }
 
-    /// Cuts pieces off the feeds as long as each has one, and writes what the slices give, in their order: of the first piece all of it, of the others what is
-    /// behind the overlap. It returns how many pieces there were. Where it fails, what was written is a beginning.
-    pub fn run<F: Read + Drop, O: Outlet>(
+    /// Has one more thread read the tapes, cuts pieces off what it reads, and writes what the slices give, in the order of the pieces: what follows what the pieces
+    /// before gave. A piece has as many iterations as it may, or those that are there while no slice is run; the rest is left. Where it fails, what was
+    /// written is a beginning, and the thread that reads ends with its next read.
+    pub fn run<F: Read + Send + Drop + 'static, O: Outlet>(
         &mut self,
         alloc: Global,
-        feeds: &mut [Feed<F>],
+        feeds: &mut Feeds,
+        readers: Vec<Readers<F>>,
         outlet: &mut O,
-    ) -> Result<u64, O::Fault> {
-        let most = (self.workers.len() as u64).saturating_mul(MOST_OUT);
-        let mut read: u64 = 0;
-        let mut written: u64 = 0;
+    ) -> Result<Left<F>, O::Fault> {
+        let mut course = Course::new(alloc, self.job.shares.len())?;
+        let mut readers = readers;
+        if !self.threads.is_empty() {
+            readers = match Reading::start(self.rt, alloc, readers, self.tell.clone()?)? {
+                Ok(reading) => {
+                    let mut reading = reading;
+                    self.go_on(alloc, feeds, &mut reading, &mut course, outlet)?;
+                    reading.finish(&self.rt)
+                }
+                Err(readers) => readers,
+            };
+        }
+        let Course { given, .. } = course;
+        Ok(Left {
+            readers,
+            parts: feeds.parts(alloc, &self.job.shares, &given)?,
+            given,
+        })
+    }
+
+    // Goes on until there is no more whole piece, and all is written that came of those before.
+    fn go_on<F: Drop, O: Outlet>(
+        &mut self,
+        alloc: Global,
+        feeds: &mut Feeds,
+        reading: &mut Reading<F>,
+        course: &mut Course,
+        outlet: &mut O,
+    ) -> Result<(), O::Fault> {
         for _ in 0..u64::MAX {
-            if most == 0 || !fill(feeds) {
-                break;
+            self.cut_pieces(alloc, feeds, course)?;
+            reading.ask(&self.rt, feeds.want()?)?;
+            if reading.is_idle() && course.out() == 0 {
+                return Ok(());
             }
-            if most <= read.saturating_sub(written) {
-                self.write_made(written, outlet)?;
-                written = written.saturating_add(1);
-            }
-            self.give(read, cut(alloc, feeds, 0 < read)?)?;
-            read = read.saturating_add(1);
-            outlet.show(read, written);
-        }
-        for number in written..read {
-            self.write_made(number, outlet)?;
-            outlet.show(read, number.saturating_add(1));
-        }
-        Ok(read)
-    }
-
-    // The thread that has the piece of this number.
-    fn worker(&self, number: u64) -> Option<&Worker> {
-        let at = number.checked_rem(self.workers.len() as u64)?;
-        self.workers.get(at as usize)
-    }
-
-    fn give(&self, number: u64, piece: Piece) -> Result<(), AllocError> {
-        match self.worker(number) {
-            Some(worker) => match worker.pieces.send(&self.rt, piece) {
-                Ok(()) => Ok(()),
-                Err(_) => Err(AllocError),
-            },
-            None => Err(AllocError),
-        }
-    }
-
-    // Writes what came of the piece of this number, for which it waits.
-    fn write_made<O: Outlet>(&self, number: u64, outlet: &mut O) -> Result<(), O::Fault> {
-        let made = match self.worker(number) {
-            Some(worker) => match worker.made.recv(&self.rt) {
-                Ok(made) => made?,
+            match self.events.recv(&self.rt) {
+                Ok(Event::Read(taken)) => reading.take_in(feeds, taken)?,
+                Ok(Event::Made(number, made)) => {
+                    course.take(number, made, &self.job.shares, outlet)?;
+                }
                 Err(_) => return Err(AllocError.into()),
-            },
-            None => return Err(AllocError.into()),
-        };
-        for (at, bytes) in made.iter().enumerate() {
-            if let Some(sink) = self.sinks.get(at) {
-                outlet.write(*sink, bytes)?;
             }
         }
         Ok(())
     }
 
-    /// Has the threads end, and waits for that.
+    // Cuts pieces off the feeds, and hands them on.
+    fn cut_pieces(
+        &self,
+        alloc: Global,
+        feeds: &mut Feeds,
+        course: &mut Course,
+    ) -> Result<(), AllocError> {
+        for _ in 0..self.most_out() {
+            let iterations = self.next(feeds, course)?;
+            if iterations == 0 {
+                return Ok(());
+            }
+            let piece = feeds.cut(alloc, iterations, &self.job.shares, &course.given)?;
+            let number = course.begin(iterations)?;
+            if self.pieces.send(&self.rt, (number, piece)).is_err() {
+                return Err(AllocError);
+            }
+        }
+        Ok(())
+    }
+
+    fn most_out(&self) -> usize {
+        self.threads.len().saturating_mul(MOST_OUT)
+    }
+
+    // How many iterations the next piece has; none where none is cut yet.
+    fn next(&self, feeds: &mut Feeds, course: &Course) -> Result<u64, AllocError> {
+        let may_begin = course.out() == 0 || !feeds.awaits_all() && course.out() < self.most_out();
+        match feeds.want()? {
+            Want::Nothing if may_begin => Ok(feeds.there()),
+            // (nobody knows when more comes)
+            Want::Tape(_) if may_begin && course.is_idle() => Ok(feeds.there()),
+            _ => Ok(0),
+        }
+    }
+
+    /// Has the threads end that run slices, and waits for that.
     pub fn finish(self) {
-        let SliceThreads { rt, workers, .. } = self;
-        for worker in workers {
-            let Worker {
-                pieces,
-                made,
-                handle,
-            } = worker;
-            drop(pieces);
-            drop(made);
+        let SliceThreads {
+            rt,
+            pieces,
+            events,
+            threads,
+            ..
+        } = self;
+        drop(pieces);
+        // (a thread that can tell nobody takes no further piece)
+        drop(events);
+        for handle in threads {
             handle.join(&rt);
         }
     }
 }
 
-// Whether each feed has a whole piece; so they have none where there are no feeds.
-fn fill<F: Read + Drop>(feeds: &mut [Feed<F>]) -> bool {
-    let mut are_full = !feeds.is_empty();
-    for feed in feeds {
-        are_full = are_full && feed.fill();
-    }
-    are_full
-}
-
-// The piece that the feeds have.
-fn cut<F: Read + Drop>(
-    alloc: Global,
-    feeds: &mut [Feed<F>],
-    has_overlap: bool,
-) -> Result<Piece, AllocError> {
-    let mut tapes = Vec::with_capacity(alloc, feeds.len())?;
-    for feed in feeds {
-        tapes.push((feed.source, feed.cut(alloc)?))?;
-    }
-    Ok(Piece { tapes, has_overlap })
-}
-
-// One more thread, where one can be started.
-fn started<O: Opens + Send + Drop + 'static, R: Threads + Wait + Copy + Send + 'static>(
-    rt: R,
-    alloc: Global,
+// What a thread needs that runs slices.
+#[derive(Drop)]
+struct Crew<O> {
     opener: O,
     job: Job,
-) -> Result<Option<Worker>, AllocError>
-where
-    O::Block: Send + Sync + 'static,
-    <O::Block as Block>::Places: Send + Sync + 'static,
-{
-    let (pieces, todo) = bounded(alloc, WAITING)?;
-    let (sender, made) = bounded(alloc, WAITING)?;
-    match thread::spawn(
-        &rt,
-        move || serve(&rt, alloc, &opener, &job, &todo, &sender),
-    ) {
-        Ok(handle) => Ok(Some(Worker {
-            pieces,
-            made,
-            handle,
-        })),
-        Err(_) => Ok(None),
-    }
+    todo: Receiver<Numbered, Global>,
+    tell: Sender<Event, Global>,
 }
 
 // Runs slices on pieces until no more can come.
-fn serve<O: Opens, R: Wait>(
-    rt: &R,
-    alloc: Global,
-    opener: &O,
-    job: &Job,
-    todo: &Receiver<Piece, Global>,
-    made: &Sender<Made, Global>,
-) {
+fn serve<O: Opens, R: Wait>(rt: &R, alloc: Global, crew: &Crew<O>) {
     for _ in rt.forever() {
-        match todo.recv(rt) {
-            Ok(piece) => {
-                if made.send(rt, job.run(alloc, opener, piece)).is_err() {
+        match crew.todo.recv(rt) {
+            Ok((number, piece)) => {
+                let made = crew.job.run(alloc, &crew.opener, piece);
+                if crew.tell.send(rt, Event::Made(number, made)).is_err() {
                     return;
                 }
             }

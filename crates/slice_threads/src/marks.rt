@@ -1,0 +1,216 @@
+//! The marks of a source, of which each piece has those on its items.
+
+use crate::unread::Unread;
+use script_text::parse_mark_line;
+use std::alloc::{AllocError, Global};
+use std::io;
+
+// A line with more bytes is no mark.
+const LONGEST_LINE: usize = 65_536;
+
+// So many bytes are held at most. Where the marks on the items of a piece have more, the rest of the run reads them.
+const MOST: usize = 1 << 26;
+
+/// How far the marks are known that a piece needs.
+#[derive(Clone, Copy, Debug, PartialEq, Eq)]
+pub enum Known {
+    /// All of them are.
+    All,
+    /// More has to be read.
+    Some,
+    /// They cannot be: a line is no mark, or on an item before that of the line above it, or a read failed. Who goes on reading learns which.
+    Never,
+}
+
+// How far the lines were read.
+#[derive(Clone, Copy, PartialEq, Eq)]
+enum Reading {
+    GoesOn,
+    IsOver,
+    IsStopped,
+}
+
+// A line that is a mark.
+#[derive(Clone, Copy)]
+struct MarkLine {
+    // The item of the whole tape that it is on.
+    item: u64,
+    // Where it ends among the bytes that are held.
+    end: usize,
+}
+
+/// What was read of the marks of a source, from the first on that a later piece may need. They are lines, as those of a `MarkReader`.
+#[derive(Drop)]
+pub struct Marks {
+    bytes: Vec<u8>,
+    // The marks of which the lines stand at the front of these bytes, and how many lines stood before.
+    lines: Vec<MarkLine>,
+    passed: u64,
+    reading: Reading,
+    failure: Option<io::Error>,
+}
+
+impl Marks {
+    /// Nothing was read.
+    pub fn new(alloc: Global) -> Marks {
+        Marks {
+            bytes: Vec::new(alloc),
+            lines: Vec::new(alloc),
+            passed: 0,
+            reading: Reading::GoesOn,
+            failure: None,
+        }
+    }
+
+    /// These bytes were read. It fails only where the allocator refuses.
+    pub(crate) fn push(&mut self, bytes: &[u8]) -> Result<(), AllocError> {
+        self.bytes.extend_from_slice(bytes)
+    }
+
+    /// No more can be read, as a read failed where there is a failure.
+    pub(crate) fn end(&mut self, failure: Option<io::Error>) -> Result<(), AllocError> {
+        if failure.is_some() {
+            self.failure = failure;
+            self.reading = Reading::IsStopped;
+            return Ok(());
+        }
+        let (start, end) = (self.looked_at(), self.bytes.len());
+        if start < end {
+            self.take(start, end, end)?;
+        }
+        if self.reading == Reading::GoesOn {
+            self.reading = Reading::IsOver;
+        }
+        Ok(())
+    }
+
+    /// Whether all marks on items before this one are known: it looks at the lines that were read up to the first that is on a later one.
+    pub(crate) fn known(&mut self, item: u64) -> Result<Known, AllocError> {
+        for _ in 0..u64::MAX {
+            match self.reading {
+                Reading::IsStopped => return Ok(Known::Never),
+                Reading::IsOver => return Ok(Known::All),
+                Reading::GoesOn => {}
+            }
+            if item <= self.least() && !self.lines.is_empty() {
+                return Ok(Known::All);
+            }
+            if !self.take_next()? {
+                return Ok(self.unfinished());
+            }
+        }
+        Ok(Known::Never)
+    }
+
+    // What an unfinished line at the end of the bytes leaves to be known.
+    fn unfinished(&mut self) -> Known {
+        let length = self.bytes.len().saturating_sub(self.looked_at());
+        if LONGEST_LINE < length || MOST <= self.bytes.len() {
+            self.reading = Reading::IsStopped;
+            return Known::Never;
+        }
+        Known::Some
+    }
+
+    // Looks at the next line, where its end was read, and tells whether it was.
+    fn take_next(&mut self) -> Result<bool, AllocError> {
+        let start = self.looked_at();
+        let rest = between(&self.bytes, start, usize::MAX);
+        let Some(length) = rest.iter().position(|byte| *byte == b'\n') else {
+            return Ok(false);
+        };
+        let line_end = start.saturating_add(length);
+        self.take(start, line_end, line_end.saturating_add(1))?;
+        Ok(true)
+    }
+
+    // Looks at a line, behind which the bytes go on at `next`.
+    fn take(&mut self, start: usize, end: usize, next: usize) -> Result<(), AllocError> {
+        let line = between(&self.bytes, start, end);
+        let line = match line.split_last() {
+            Some((b'\r', line)) if end < next => line,
+            _ => line,
+        };
+        match parse_mark_line(line) {
+            Some(mark) if self.least() <= mark.offset => self.lines.push(MarkLine {
+                item: mark.offset,
+                end: next,
+            })?,
+            _ => self.reading = Reading::IsStopped,
+        }
+        Ok(())
+    }
+
+    // The item before which the next mark may not be.
+    fn least(&self) -> u64 {
+        match self.lines.last() {
+            Some(line) => line.item,
+            None => 0,
+        }
+    }
+
+    // Where the lines end that were looked at.
+    fn looked_at(&self) -> usize {
+        self.end_of(self.lines.len())
+    }
+
+    // Where so many lines end.
+    fn end_of(&self, count: usize) -> usize {
+        match count.checked_sub(1) {
+            Some(last) => match self.lines.get(last) {
+                Some(line) => line.end,
+                None => 0,
+            },
+            None => 0,
+        }
+    }
+
+    // How many marks are on items before this one.
+    fn before(&self, item: u64) -> usize {
+        self.lines.partition_point(|line| line.item < item)
+    }
+
+    /// The lines of the marks on items from `from` to below `end`.
+    pub(crate) fn lines(&self, alloc: Global, from: u64, end: u64) -> Result<Vec<u8>, AllocError> {
+        let (from, end) = (
+            self.end_of(self.before(from)),
+            self.end_of(self.before(end)),
+        );
+        let mut lines = Vec::new(alloc);
+        lines.extend_from_slice(between(&self.bytes, from, end))?;
+        Ok(lines)
+    }
+
+    /// Lets go of the marks on items before this one, but for the last, before which the next may not be.
+    pub(crate) fn forget(&mut self, item: u64) {
+        let count = self.before(item).saturating_sub(1).min(self.lines.len());
+        if count == 0 {
+            return;
+        }
+        let end = self.end_of(count).min(self.bytes.len());
+        self.bytes.drain(..end);
+        self.lines.drain(..count);
+        for line in &mut self.lines {
+            line.end = line.end.saturating_sub(end);
+        }
+        self.passed = self.passed.saturating_add(count as u64);
+    }
+
+    /// What was read and let go of by none, and how many lines stood before it.
+    pub fn into_rest(self) -> (Unread, u64) {
+        let Marks {
+            bytes,
+            passed,
+            failure,
+            ..
+        } = self;
+        (Unread { bytes, failure }, passed)
+    }
+}
+
+// The bytes from one place to another, as far as there are any.
+fn between(bytes: &[u8], from: usize, to: usize) -> &[u8] {
+    let to = to.min(bytes.len());
+    let from = from.min(to);
+    &bytes[from..to]
+}
