@@ -4,7 +4,7 @@ use flow::opening::open_stream;
 use graph_file::FileFault;
 use helper_threads::HelperThreads;
 use kinds::Kind;
-use pipeline::{BlockId, ByteOrder, End, Output, Pipeline, PipelineFault, Settled};
+use pipeline::{AllReady, BlockId, ByteOrder, End, Output, Pipeline, PipelineFault, Settled};
 use reporting::Refusal;
 use std::alloc::Global;
 use std::io::{Read, Write};
@@ -169,7 +169,7 @@ fn go<H: Helpers<Job<Kind>, Worked<Kind>>>(
     left: &mut Left,
 ) {
     let ended = match join(alloc, &mut run) {
-        Ok(()) => run.run_with(alloc, helpers, &mut Unwatched),
+        Ok(()) => run.run_with(alloc, helpers, &mut AllReady, &mut Unwatched),
         Err(fault) => Err(fault),
     };
     left.fault = match ended {

@@ -1,6 +1,6 @@
 #!/usr/bin/env bash
 # Calls of the program: those of tests/cases, those of the folders of examples/, and those that pages show, all over one build of it, unproved; and runs between
-# pipes, behind redirections, on a terminal, and with a trace; and runs in slices by the scripts of examples/cluster. A call is a folder as tests/README.md describes;
+# pipes, behind redirections, beside a silent input, on a terminal, and with a trace; and runs in slices by the scripts of examples/cluster. A call is a folder as tests/README.md describes;
 # those of examples and pages are made here. A run is made a second time on one thread, and has to end in the same way.
 set -euo pipefail
 # shellcheck source=tests/part.sh
@@ -9,6 +9,8 @@ source "$(dirname -- "$(readlink -f -- "${BASH_SOURCE[0]}")")/../part.sh"
 source "$top/tests/parts/shown.sh"
 # shellcheck source=tests/parts/redirected.sh
 source "$top/tests/parts/redirected.sh"
+# shellcheck source=tests/parts/silent.sh
+source "$top/tests/parts/silent.sh"
 # shellcheck source=tests/parts/clustered.sh
 source "$top/tests/parts/clustered.sh"
 
@@ -55,7 +57,7 @@ list() {
     for folder in "${made[@]}"; do
         add "$folder" "$1/$folder"
     done
-    printf '%s\n' "${pipes[@]}" "${terminals[@]}" "${names[@]}" "${drawn[@]}" "${traces[@]}" "${redirected[@]/#/redirected/}" "${clustered[@]/#/cluster/}"
+    printf '%s\n' "${pipes[@]}" "${terminals[@]}" "${names[@]}" "${drawn[@]}" "${traces[@]}" "${redirected[@]/#/redirected/}" "${silent[@]/#/silent/}" "${clustered[@]/#/cluster/}"
 }
 
 # word_of FOLDER WORD: prints the word as the program gets it, which runs in a folder of its own: where it is a file, or NAME=FILE, of the case or of
@@ -109,7 +111,7 @@ call() {
 }
 
 # is_own CASE: whether the case is a function here
-is_own() { [[ $1 == @(pipes|terminals|names|traces|redirected)/* || $1 == slices/drawn ]]; }
+is_own() { [[ $1 == @(pipes|terminals|names|traces|redirected|silent)/* || $1 == slices/drawn ]]; }
 
 # call_all: as many side by side as there are processors
 call_all() {
@@ -330,6 +332,8 @@ run() {
             tell_clustered "$it"
         elif [[ $it == redirected/* ]]; then
             judge "$it" redirected "${it#*/}"
+        elif [[ $it == silent/* ]]; then
+            judge "$it" silent "${it#*/}"
         elif is_own "$it"; then
             judge "$it" "${it/\//_}"
         elif wrong=$(is_right "$it"); then

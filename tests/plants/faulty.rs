@@ -2,7 +2,7 @@
 use super::drawn::{Make, Wire, streaming};
 use flowgraph::BlockId;
 use kinds::Kind;
-use pipeline::{ByteOrder, End, Pipeline, PipelineFault, Settled};
+use pipeline::{AllReady, ByteOrder, End, Pipeline, PipelineFault, Settled};
 use std::alloc::Global;
 use std::io::{ErrorKind, Read, Write};
 use std::io;
@@ -199,7 +199,7 @@ fn a_source_that_a_sink_waits_for_is_read_first(rt: HostRuntime) -> Result<(), F
         assert!(rt; run.read_from(alloc, source, ByteOrder::Big, reader).is_ok(), "a reader");
     }
     for _turn in 0..20 {
-        assert!(rt; run.turn(alloc, &mut NoHelpers).is_ok(), "a turn");
+        assert!(rt; run.turn(alloc, &mut NoHelpers, &mut AllReady).is_ok(), "a turn");
         let (first, second) = (reads(&rt, &run, BlockId(0)), reads(&rt, &run, BlockId(1)));
         assert!(rt; first.abs_diff(second) <= 1, "in turn: {first} and {second}");
     }

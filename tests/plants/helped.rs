@@ -6,7 +6,7 @@ use super::pipelines::{given, joined, texts, whole};
 use super::streamed::SINKS;
 use flowgraph::BlockId;
 use kinds::Kind;
-use pipeline::Settled;
+use pipeline::{AllReady, Settled};
 use plant::Claim;
 use std::alloc::Global;
 use std::process::Abort;
@@ -108,7 +108,7 @@ fn whatever_helpers_do_all_is_written(rt: HostRuntime) -> Result<(), Fail> {
     for (seed, loses) in (0..24).zip([0, 0, 3, 0, 2, 5].iter().cycle()) {
         let mut run = joined(&rt, alloc, &whole, seed, u64::MAX, u64::MAX)?;
         let mut helpers = Chancy::new(alloc, seed, *loses);
-        let ended = run.run_with(alloc, &mut helpers, &mut Unwatched);
+        let ended = run.run_with(alloc, &mut helpers, &mut AllReady, &mut Unwatched);
         assert!(rt; matches!(ended, Ok(Settled::Done)), "done, seed {seed}");
         assert!(rt; 100 < helpers.given && 100 < helpers.steps, "they had work, and were told of steps");
         assert!(rt; helpers.jobs.is_empty(), "all of it was fetched");

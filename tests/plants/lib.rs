@@ -15,6 +15,7 @@ mod needs;
 mod orders;
 mod piped;
 mod pipelines;
+mod ready;
 mod sliced;
 mod stores;
 mod streamed;

@@ -2,7 +2,7 @@
 use super::drawn::{Make, streaming};
 use super::pipelines::{Pieces, Run, joined, whole, written};
 use flowgraph::BlockId;
-use pipeline::{ByteOrder, Pipeline, Settled};
+use pipeline::{AllReady, ByteOrder, Pipeline, Settled};
 use plant::{Headway, Watch};
 use std::alloc::Global;
 use std::process::Abort;
@@ -46,7 +46,7 @@ fn how_far_it_is_is_shown_as_it_goes_on(rt: HostRuntime) -> Result<(), Fail> {
         times: 0,
         rises: true,
     };
-    let ended = run.run_with(alloc, &mut NoHelpers, &mut shown);
+    let ended = run.run_with(alloc, &mut NoHelpers, &mut AllReady, &mut shown);
     assert!(rt; matches!(ended, Ok(Settled::Done)), "done");
     assert!(rt; shown.rises && 1 < shown.times, "shown {} times", shown.times);
     // 200 items were on the tape, and 500 came from the reader.
@@ -80,7 +80,7 @@ fn a_piece_that_grows_is_written_as_it_grows(rt: HostRuntime) -> Result<(), Fail
     let mut most = 0;
     // A turn gives the sink a buffer of items at most, so 256 of them come before the last, and a few read.
     for _ in 0..1_000 {
-        let ended = run.turn(alloc, &mut NoHelpers);
+        let ended = run.turn(alloc, &mut NoHelpers, &mut AllReady);
         most = run.plant.items_in_memory(SINK).max(most);
         match ended {
             Ok(None) => {}

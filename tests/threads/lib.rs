@@ -18,6 +18,7 @@ mod overlaps;
 mod probes;
 mod random;
 mod random_callers;
+mod readers;
 mod refusals;
 mod replays;
 mod runs;

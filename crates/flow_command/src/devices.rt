@@ -1,6 +1,8 @@
 //! The files and streams that raw items come from and go to.
 
+use crate::late_file::LateFile;
 use crate::limited::Limited;
+use reader_threads::Inputs;
 use slice_threads::Unread;
 use std::alloc::Global;
 use std::collections::VecDeque;
@@ -15,7 +17,7 @@ pub enum Device<S, F> {
     File(F),
 }
 
-pub type Source = Device<StdinLock<'static>, File>;
+pub type Source = Device<StdinLock<'static>, LateFile>;
 
 pub type Writer<'a> = Device<Printer<'a, HostRuntime>, File>;
 
@@ -121,7 +123,7 @@ impl Chain {
         if self.extent.from == 0 {
             return Ok(false);
         }
-        let Device::File(file) = source else {
+        let Device::File(LateFile::Open(file)) = source else {
             return Ok(false);
         };
         let length = file.metadata()?.len();
@@ -135,8 +137,17 @@ impl Chain {
         Ok(false)
     }
 
-    /// The number of the input that was read last.
-    pub fn number(&self) -> usize {
+    /// Whether a read of one of them may wait.
+    pub fn may_be_silent(&self) -> bool {
+        self.parts.iter().any(|part| match &part.source {
+            Device::Standard(_) => true,
+            Device::File(file) => file.may_be_silent(),
+        })
+    }
+}
+
+impl Inputs for Chain {
+    fn number(&self) -> usize {
         match self.parts.get(self.at) {
             Some(part) => part.number,
             None => 0,

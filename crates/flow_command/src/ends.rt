@@ -188,6 +188,14 @@ impl<'a> Ends<'a> {
             && self.tags.is_empty()
     }
 
+    /// Whether more than one source has inputs.
+    pub fn feed_several(&self) -> bool {
+        match self.inputs.first() {
+            Some(first) => self.inputs.iter().any(|end| end.block != first.block),
+            None => false,
+        }
+    }
+
     /// Whether standard output has items or tags.
     pub fn use_output(&self) -> bool {
         0 < self.standard_outputs()

@@ -3,6 +3,7 @@
 use crate::cut::Cut;
 use crate::devices::{Chain, Device, Extent, Source, Target, Writer};
 use crate::ends::{Ends, NamedEnd};
+use crate::late_file::LateFile;
 use crate::lengths::size_at;
 use crate::limited::Limited;
 use crate::rest::Rest;
@@ -13,11 +14,24 @@ use flowgraph::{BlockId, Valid};
 use kinds::Kind;
 use pipeline::TapePart;
 use raw_items::item_size;
+use reader_threads::{ApartReader, ReaderThreads};
 use reporting::write_whole;
 use std::alloc::{AllocError, Global};
 use std::fs::{File, OpenOptions};
 use std::io::{Seek, SeekFrom};
+use std::os::unix::fs::FileTypeExt;
+use std::sync::Wait;
+use std::thread::Threads;
 use std::{fs, io};
+
+/// When a pipe is opened that is read.
+#[derive(Clone, Copy, Debug, PartialEq, Eq)]
+pub enum PipesOpen {
+    /// With the other inputs: a pipe that no program has opened to write holds up the run.
+    AtOnce,
+    /// When it is first read.
+    AtFirstRead,
+}
 
 /// What a run reads and writes, by block.
 #[derive(Drop)]
@@ -29,14 +43,15 @@ pub struct Opened<'a> {
 
 impl<'a> Opened<'a> {
     /// Opens what the words name, the inputs, those of marks, and then the outputs.
-    pub fn of_words(
+    pub fn of_words<R: Drop>(
         rt: &'a HostRuntime,
-        run: &Stream<'a>,
+        run: &Stream<'a, R>,
         ends: &Ends<'_>,
         cut: &Cut,
+        pipes: PipesOpen,
     ) -> Result<Opened<'a>, Stop> {
-        let tapes = open_inputs(rt, run, ends, cut)?;
-        let marks = open_marks(rt, run, ends)?;
+        let tapes = open_inputs(rt, run, ends, cut, pipes)?;
+        let marks = open_marks(rt, run, ends, pipes)?;
         let targets = make_outputs(rt, run, ends, cut)?;
         Ok(Opened {
             tapes,
@@ -47,11 +62,12 @@ impl<'a> Opened<'a> {
 }
 
 // Opens the inputs, in their order: of each source its own, of which it reads what the cut says.
-fn open_inputs(
+fn open_inputs<R: Drop>(
     rt: &HostRuntime,
-    run: &Stream<'_>,
+    run: &Stream<'_, R>,
     ends: &Ends<'_>,
     cut: &Cut,
+    pipes: PipesOpen,
 ) -> Result<Vec<Option<Chain>>, Stop> {
     let mut chains = slots::<Chain>(rt.alloc(), run.plant.graph().len())?;
     for (number, end) in ends.inputs.iter().enumerate() {
@@ -62,7 +78,13 @@ fn open_inputs(
             Err(_) => 1,
         };
         let extent = cut.extent(source);
-        let device = open(rt, end, place)?;
+        // (what lies before the extent is passed over as the input is opened)
+        let pipes = if extent.from == 0 {
+            pipes
+        } else {
+            PipesOpen::AtOnce
+        };
+        let device = open(rt, end, place, pipes)?;
         if let Some(slot) = chains.get_mut(source.0 as usize) {
             let mut chain = match slot.take() {
                 Some(chain) => chain,
@@ -75,36 +97,44 @@ fn open_inputs(
     Ok(chains)
 }
 
-/// Joins each source to its inputs.
-pub fn join_inputs(
+/// Joins each source to its inputs. Where there are threads for that, one reads those of a source that may be silent.
+pub fn join_inputs<R: Threads + Wait + Copy + Send + 'static>(
     alloc: Global,
-    run: &mut Stream<'_>,
+    run: &mut Stream<'_, R>,
     ends: &Ends<'_>,
     chains: Vec<Option<Chain>>,
+    readers: &mut Option<ReaderThreads<Chain, R>>,
 ) -> Result<(), Stop> {
     let mut block = 0u32;
     for chain in chains {
-        if let Some(chain) = chain {
-            if let Err(fault) = run.read_from(alloc, BlockId(block), ends.order, chain) {
-                return Err(stop_of(run, ends, fault));
-            }
-        }
+        let source = BlockId(block);
         block = block.saturating_add(1);
+        let Some(chain) = chain else {
+            continue;
+        };
+        let reader = match readers {
+            Some(readers) if chain.may_be_silent() => readers.start(alloc, source, chain)?,
+            _ => ApartReader::Here(chain),
+        };
+        if let Err(fault) = run.read_from(alloc, source, ends.order, reader) {
+            return Err(stop_of(run, ends, fault));
+        }
     }
     Ok(())
 }
 
 // Opens the inputs of marks, in their order: of each source its own.
-fn open_marks(
+fn open_marks<R: Drop>(
     rt: &HostRuntime,
-    run: &Stream<'_>,
+    run: &Stream<'_, R>,
     ends: &Ends<'_>,
+    pipes: PipesOpen,
 ) -> Result<Vec<Option<Chain>>, Stop> {
     let mut marks = slots::<Chain>(rt.alloc(), run.plant.graph().len())?;
     for (number, end) in ends.marks.iter().enumerate() {
         let place = EndPlace::Marks(number);
         let source = source_named(run.plant.graph(), place, end.block.as_bytes())?;
-        let device = open(rt, end, place)?;
+        let device = open(rt, end, place, pipes)?;
         let mut chain = Chain::new(rt.alloc(), 1, Extent::WHOLE);
         add_input(&mut chain, number, device, place)?;
         if let Some(slot) = marks.get_mut(source.0 as usize) {
@@ -115,9 +145,9 @@ fn open_marks(
 }
 
 /// Joins each source to the input of its marks. These sources have inputs.
-pub fn join_marks(
+pub fn join_marks<R: Wait + Drop>(
     alloc: Global,
-    run: &mut Stream<'_>,
+    run: &mut Stream<'_, R>,
     ends: &Ends<'_>,
     cut: &Cut,
     rest: &Rest,
@@ -134,7 +164,7 @@ pub fn join_marks(
             origin: rest.origin(source),
             goes_on: cut.goes_on,
         };
-        if let Err(fault) = run.mark_part(alloc, source, part, chain) {
+        if let Err(fault) = run.mark_part(alloc, source, part, ApartReader::Here(chain)) {
             return Err(stop_of(run, ends, fault));
         }
     }
@@ -196,9 +226,9 @@ pub struct Kept<'a> {
 }
 
 // Makes the outputs, in their order: of each sink its own. Where a name is refused no file is made, and so none is emptied.
-fn make_outputs<'a>(
+fn make_outputs<'a, R: Drop>(
     rt: &'a HostRuntime,
-    run: &Stream<'a>,
+    run: &Stream<'a, R>,
     ends: &Ends<'_>,
     cut: &Cut,
 ) -> Result<Vec<Option<Targets<'a>>>, Stop> {
@@ -261,9 +291,9 @@ fn test_names(graph: &Valid<Kind>, ends: &Ends<'_>) -> Result<(), RawFault> {
 }
 
 /// Joins each sink with an output of its items to its own. The others are returned.
-pub fn join_outputs<'a>(
+pub fn join_outputs<'a, R: Wait + Drop>(
     alloc: Global,
-    run: &mut Stream<'a>,
+    run: &mut Stream<'a, R>,
     ends: &Ends<'_>,
     rest: &Rest,
     targets: Vec<Option<Targets<'a>>>,
@@ -315,13 +345,29 @@ fn slots<T: Drop>(alloc: Global, count: usize) -> Result<Vec<Option<T>>, AllocEr
     Ok(slots)
 }
 
-fn open(rt: &HostRuntime, end: &NamedEnd<'_>, place: EndPlace) -> Result<Source, Stop> {
+fn open(
+    rt: &HostRuntime,
+    end: &NamedEnd<'_>,
+    place: EndPlace,
+    pipes: PipesOpen,
+) -> Result<Source, Stop> {
     if end.is_standard() {
         return Ok(Device::Standard(rt.reader()));
     }
+    if pipes == PipesOpen::AtFirstRead && is_pipe(rt, end.path) {
+        let path = String::from_str(rt.alloc(), end.path)?;
+        return Ok(Device::File(LateFile::Pipe(*rt, path)));
+    }
     match fs::open(rt, end.path) {
-        Ok(file) => Ok(Device::File(file)),
+        Ok(file) => Ok(Device::File(LateFile::Open(file))),
         Err(error) => Err(unopened(error, place, EndFault::Read)),
+    }
+}
+
+fn is_pipe(rt: &HostRuntime, path: &str) -> bool {
+    match fs::metadata(rt, path) {
+        Ok(found) => found.file_type().is_fifo(),
+        Err(_) => false,
     }
 }
 

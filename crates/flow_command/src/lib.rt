@@ -9,6 +9,7 @@ mod ends;
 mod explaining;
 mod gone_reader;
 mod joins;
+mod late_file;
 mod lengths;
 mod limited;
 mod listing;

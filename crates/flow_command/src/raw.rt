@@ -1,9 +1,10 @@
 //! Runs between files and pipes of raw items, which are read and written as the items come.
 
 use crate::cut::Cut;
+use crate::devices::Chain;
 use crate::ends::Ends;
 use crate::gone_reader::tell_gone;
-use crate::joins::{Kept, Opened, join_inputs, join_marks, join_outputs};
+use crate::joins::{Kept, Opened, PipesOpen, join_inputs, join_marks, join_outputs};
 use crate::overwriting::ReportStream;
 use crate::pieces::run_pieces;
 use crate::refusing::{buffered, shown_name};
@@ -27,7 +28,8 @@ use flow::stalls::explain_stall;
 use flowgraph::BlockId;
 use helper_threads::HelperThreads;
 use kinds::Kind;
-use pipeline::{End, Pipeline, PipelineFault, Settled};
+use pipeline::{AllReady, End, Pipeline, PipelineFault, Readiness, Settled};
+use reader_threads::ReaderThreads;
 use reporting::write_whole;
 use script_text::push_tag_lines;
 use std::alloc::{AllocError, Global};
@@ -46,7 +48,7 @@ pub fn run_raw<R: Threads + Wait + Clock + Copy + Send + Sync + 'static, W: Watc
     file: &[u8],
     watch: &mut W,
 ) -> u8 {
-    let run = match opened(rt, file) {
+    let run = match opened::<R>(rt, file) {
         Ok(run) => run,
         Err(stop) => return tell_stop(rt, call, file, stop),
     };
@@ -80,7 +82,7 @@ fn part_of<'a, R: Threads + Copy>(
     rt: &HostRuntime,
     call: &Call<'_>,
     file: &'a [u8],
-    run: &Stream<'_>,
+    run: &Stream<'_, R>,
 ) -> Result<Part<'a>, Uncut> {
     let cut = cut_of(rt, &run.plant, &call.ends, call.stretch)?;
     let team = team_for(threads, rt, call, &run.plant)?;
@@ -113,14 +115,15 @@ fn stream<'a, R: Threads + Wait + Clock + Copy + Send + Sync + 'static, W: Watch
     rt: &'a HostRuntime,
     call: &Call<'_>,
     report: ReportStream,
-    run: Stream<'a>,
+    run: Stream<'a, R>,
     part: &Part<'_>,
     watch: &mut W,
-) -> Result<Option<Stream<'a>>, Stop> {
+) -> Result<Option<Stream<'a, R>>, Stop> {
     let mut run = run;
-    let (rest, kept) = join(threads, rt, call, &mut run, part, watch)?;
+    let mut readers = readers_for(threads, rt.alloc(), call, run.plant.graph().len())?;
+    let (rest, kept) = join(threads, rt, call, &mut run, part, &mut readers, watch)?;
     close_others(&mut run);
-    let (settled, ended) = go(threads, rt, &mut run, call, &rest, watch)?;
+    let (settled, ended) = go(threads, rt, &mut run, call, &rest, readers, watch)?;
     write_kept(rt, &run, kept)?;
     tell(rt, &run, call, &part.cut, &rest, report, settled)?;
     match (ended, settled) {
@@ -130,17 +133,38 @@ fn stream<'a, R: Threads + Wait + Clock + Copy + Send + Sync + 'static, W: Watch
     }
 }
 
+// What reads inputs that may be silent: in a run of several sources that may have threads, so that none of them holds up the others.
+fn readers_for<R: Threads + Wait + Copy + Send + 'static>(
+    threads: R,
+    alloc: Global,
+    call: &Call<'_>,
+    blocks: usize,
+) -> Result<Option<ReaderThreads<Chain, R>>, AllocError> {
+    match call.action {
+        Action::Run(_) if call.ends.feed_several() => {
+            Ok(Some(ReaderThreads::new(threads, alloc, blocks)?))
+        }
+        _ => Ok(None),
+    }
+}
+
 // Opens all ends, runs the pieces of a run that has some, and joins the blocks to what is left.
 fn join<'a, R: Threads + Wait + Clock + Copy + Send + Sync + 'static, W: Watch>(
     threads: R,
     rt: &'a HostRuntime,
     call: &Call<'_>,
-    run: &mut Stream<'a>,
+    run: &mut Stream<'a, R>,
     part: &Part<'_>,
+    readers: &mut Option<ReaderThreads<Chain, R>>,
     watch: &mut W,
 ) -> Result<(Rest, Vec<Kept<'a>>), Stop> {
     let ends = &call.ends;
-    let mut opened = Opened::of_words(rt, run, ends, &part.cut)?;
+    let pipes = if readers.is_some() {
+        PipesOpen::AtFirstRead
+    } else {
+        PipesOpen::AtOnce
+    };
+    let mut opened = Opened::of_words(rt, run, ends, &part.cut, pipes)?;
     let rest = match &part.team {
         Some(team) => run_pieces(
             threads,
@@ -160,13 +184,13 @@ fn join<'a, R: Threads + Wait + Clock + Copy + Send + Sync + 'static, W: Watch>(
         marks,
         targets,
     } = opened;
-    join_inputs(rt.alloc(), run, ends, tapes)?;
+    join_inputs(rt.alloc(), run, ends, tapes, readers)?;
     join_marks(rt.alloc(), run, ends, &part.cut, &rest, marks)?;
     let kept = join_outputs(rt.alloc(), run, ends, &rest, targets)?;
     Ok((rest, kept))
 }
 
-fn opened<'a>(rt: &'a HostRuntime, file: &[u8]) -> Result<Stream<'a>, Stop> {
+fn opened<'a, R: Wait + Drop>(rt: &'a HostRuntime, file: &[u8]) -> Result<Stream<'a, R>, Stop> {
     let plant = match open_stream(rt.alloc(), file) {
         Ok(plant) => plant,
         Err(fault) => return Err(Stop::from(RawFault::Whole(Fault::File(fault)))),
@@ -178,7 +202,7 @@ fn opened<'a>(rt: &'a HostRuntime, file: &[u8]) -> Result<Stream<'a>, Stop> {
 }
 
 // Closes the sources that no input feeds.
-fn close_others(run: &mut Stream<'_>) {
+fn close_others<R: Drop>(run: &mut Stream<'_, R>) {
     let mut block = 0u32;
     for _ in 0..run.plant.graph().len() {
         if let Some(End::Open) = run.ends.get(block as usize) {
@@ -193,47 +217,59 @@ fn close_others(run: &mut Stream<'_>) {
 fn go<R: Threads + Wait + Clock + Copy + Send + Sync + 'static, W: Watch>(
     threads: R,
     rt: &HostRuntime,
-    run: &mut Stream<'_>,
+    run: &mut Stream<'_, R>,
     call: &Call<'_>,
     rest: &Rest,
+    readers: Option<ReaderThreads<Chain, R>>,
     watch: &mut W,
 ) -> Result<(Settled, Option<Stop>), Stop> {
-    let ended = match call.action {
-        Action::Run(_) => run_helped(threads, rt.alloc(), run, &call.ends, rest, watch),
-        _ => run_cut(rt.alloc(), run, &call.ends, rest, &mut NoHelpers, watch),
+    let (alloc, ends) = (rt.alloc(), &call.ends);
+    let ended = match (call.action, readers) {
+        (Action::Run(_), Some(readers)) => {
+            let mut readers = readers;
+            let ended = run_helped(threads, alloc, run, ends, rest, &mut readers, watch);
+            readers.finish();
+            ended
+        }
+        (Action::Run(_), None) => {
+            run_helped(threads, alloc, run, ends, rest, &mut AllReady, watch)
+        }
+        _ => run_cut(alloc, run, ends, rest, &mut NoHelpers, &mut AllReady, watch),
     };
     watch.end();
     ended
 }
 
 // The run, with a thread for each other processor that does work where that pays.
-fn run_helped<R: Threads + Wait + Clock + Copy + Send + Sync + 'static, W: Watch>(
+fn run_helped<R: Threads + Wait + Clock + Copy + Send + Sync + 'static, Q: Readiness, W: Watch>(
     threads: R,
     alloc: Global,
-    run: &mut Stream<'_>,
+    run: &mut Stream<'_, R>,
     ends: &Ends<'_>,
     rest: &Rest,
+    readiness: &mut Q,
     watch: &mut W,
 ) -> Result<(Settled, Option<Stop>), Stop> {
     let mut helpers = HelperThreads::start(threads, alloc, run.plant.graph())?;
-    let ended = run_cut(alloc, run, ends, rest, &mut helpers, watch);
+    let ended = run_cut(alloc, run, ends, rest, &mut helpers, readiness, watch);
     helpers.finish();
     ended
 }
 
 // The run, in which an input that ends within an item ends with the item before.
-fn run_cut<H: Helpers<Job<Kind>, Worked<Kind>>, W: Watch>(
+fn run_cut<R: Wait + Drop, H: Helpers<Job<Kind>, Worked<Kind>>, Q: Readiness, W: Watch>(
     alloc: Global,
-    run: &mut Stream<'_>,
+    run: &mut Stream<'_, R>,
     ends: &Ends<'_>,
     rest: &Rest,
     helpers: &mut H,
+    readiness: &mut Q,
     watch: &mut W,
 ) -> Result<(Settled, Option<Stop>), Stop> {
     let mut cut = None;
     // (each time but the last a source is closed)
     for _ in 0..=run.plant.graph().len() {
-        match run.run_with(alloc, helpers, watch) {
+        match run.run_with(alloc, helpers, readiness, watch) {
             Ok(settled) => return Ok((settled, cut)),
             Err(PipelineFault::CutItem(source)) => {
                 if cut.is_none() {
@@ -249,7 +285,11 @@ fn run_cut<H: Helpers<Job<Kind>, Worked<Kind>>, W: Watch>(
 }
 
 // Writes the tags of sinks whose items were kept.
-fn write_kept(rt: &HostRuntime, run: &Stream<'_>, kept: Vec<Kept<'_>>) -> Result<(), Stop> {
+fn write_kept<R: Drop>(
+    rt: &HostRuntime,
+    run: &Stream<'_, R>,
+    kept: Vec<Kept<'_>>,
+) -> Result<(), Stop> {
     let mut lines = Vec::new(rt.alloc());
     for Kept {
         sink,
@@ -273,9 +313,9 @@ fn write_kept(rt: &HostRuntime, run: &Stream<'_>, kept: Vec<Kept<'_>>) -> Result
 }
 
 // Tells how the run ended.
-fn tell(
+fn tell<R: Drop>(
     rt: &HostRuntime,
-    run: &Stream<'_>,
+    run: &Stream<'_, R>,
     call: &Call<'_>,
     cut: &Cut,
     rest: &Rest,

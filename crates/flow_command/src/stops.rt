@@ -11,11 +11,12 @@ use flow::script::ScriptFault;
 use flowgraph::{BlockId, Valid};
 use kinds::Kind;
 use pipeline::{End, Pipeline, PipelineFault, PlantFault};
+use reader_threads::ApartReader;
 use std::alloc::AllocError;
 use std::io::{Error, ErrorKind};
 
 /// A run between files.
-pub type Stream<'a> = Pipeline<Kind, Chain, Target<'a>>;
+pub type Stream<'a, R> = Pipeline<Kind, ApartReader<Chain, R>, Target<'a>>;
 
 /// Why a run stops, and why a device failed at it.
 #[derive(Drop)]
@@ -52,7 +53,7 @@ pub fn unopened(error: Error, place: EndPlace, fault: EndFault) -> Stop {
 }
 
 /// Why a run stops by a fault of its pipeline.
-pub fn stop_of(run: &Stream<'_>, ends: &Ends<'_>, fault: PipelineFault) -> Stop {
+pub fn stop_of<R: Drop>(run: &Stream<'_, R>, ends: &Ends<'_>, fault: PipelineFault) -> Stop {
     let graph = run.plant.graph();
     let (place, fault, reason) = match fault {
         PipelineFault::Memory | PipelineFault::Joined(_) | PipelineFault::NotJoined(_) =>
@@ -96,7 +97,7 @@ pub fn stop_of(run: &Stream<'_>, ends: &Ends<'_>, fault: PipelineFault) -> Stop 
 }
 
 // The input of a source that was read last.
-fn input_place(run: &Stream<'_>, block: BlockId) -> EndPlace {
+fn input_place<R: Drop>(run: &Stream<'_, R>, block: BlockId) -> EndPlace {
     match run.ends.get(block.0 as usize) {
         Some(End::Input(input)) => EndPlace::Input(input.reader().number()),
         _ => EndPlace::Input(0),

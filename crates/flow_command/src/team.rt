@@ -97,8 +97,10 @@ fn team_of(
     }
     let all = match lengths_of_inputs(rt, graph, &call.ends) {
         Ok(lengths) => whole_iterations(graph, &plan, &lengths),
-        // (nobody knows how long they are)
-        Err(Uncut::NoFile(_)) => u64::MAX,
+        // (nobody knows how long it is)
+        Err(Uncut::NoFile(_)) if plan.sources.len() == 1 => u64::MAX,
+        // (whoever sends them may write all of one before the next, and a piece needs something of each)
+        Err(Uncut::NoFile(_)) => return Ok(None),
         Err(uncut) => return Err(uncut),
     };
     let widest = widest(graph, &plan).max(1);

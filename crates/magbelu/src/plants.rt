@@ -2,7 +2,7 @@
 //! forgets what was taken of it, so that it runs in constant memory for as long as it is fed; a pipeline does so between readers and writers, and threads may help.
 
 pub use helper_threads::HelperThreads;
-pub use pipeline::{End, Input, Output, Pipeline, PipelineFault};
+pub use pipeline::{AllReady, End, Input, Output, Pipeline, PipelineFault, Readiness};
 pub use plant::{
     BlockNeed, Claim, Closed, Did, Fed, Handed, Headway, Job, Need, Opening, Piece, Plant,
     PlantFault, Settled, SinkView, Step, Stored, Taken, Unwatched, Watch, Worked, source_type,

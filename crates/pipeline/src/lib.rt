@@ -16,6 +16,7 @@
 //! may be left out.
 #![tactic(auto)]
 
+mod asking;
 mod delivery;
 pub mod end;
 pub mod fault;
@@ -24,6 +25,7 @@ mod joining;
 mod marks;
 pub mod part;
 pub mod pipeline;
+pub mod readiness;
 mod tracked;
 
 pub use end::{End, Input, Output};
@@ -32,4 +34,5 @@ pub use marks::MarkReader;
 pub use part::{StreamPart, TapePart};
 pub use pipeline::Pipeline;
 pub use raw_items::ByteOrder;
+pub use readiness::{AllReady, Readiness};
 pub use streaming::{Block, BlockId, PlantFault, Settled, StreamingPlant};

@@ -1,0 +1,38 @@
+//! Files that are opened when they are first read.
+
+use std::fs::File;
+use std::io::Read;
+use std::{fs, io};
+
+/// A file, or a pipe of this path that is not opened yet: that waits until a program opens it to write, and so it is left to the first read.
+#[derive(Drop)]
+pub enum LateFile {
+    Open(File),
+    Pipe(HostRuntime, String),
+}
+
+impl LateFile {
+    /// Whether a read may wait, as that of a pipe or of a terminal: it is not known to be of a regular file.
+    pub fn may_be_silent(&self) -> bool {
+        match self {
+            LateFile::Open(file) => match file.metadata() {
+                Ok(found) => !found.is_file(),
+                Err(_) => true,
+            },
+            LateFile::Pipe(..) => true,
+        }
+    }
+}
+
+impl Read for LateFile {
+    fn read(&mut self, buf: &mut [u8]) -> io::Result<usize> {
+        let opened = match self {
+            LateFile::Open(file) => return file.read(buf),
+            LateFile::Pipe(rt, path) => fs::open(rt, path.as_str())?,
+        };
+        let mut file = opened;
+        let read = file.read(buf);
+        *self = LateFile::Open(file);
+        read
+    }
+}

@@ -1,0 +1,19 @@
+//! Readers that threads of their own read, a piece ahead, so that a pipeline goes on with what has something while others are silent.
+//!
+//! ```text
+//! let mut threads = ReaderThreads::new(rt, alloc, pipeline.plant.graph().len())?;
+//! pipeline.read_from(alloc, source, order, threads.start(alloc, source, reader)?)?;
+//! let ended = pipeline.run_with(alloc, &mut NoHelpers, &mut threads, &mut Unwatched);
+//! threads.finish();
+//! ```
+//!
+//! A thread hands on what each read of its reader gave, in their order, and reads once more only when that was taken. So who takes it gets what the reader gives, and
+//! memory is constant. Nothing is known of a thread that waits in a read: it is not waited for, and ends with the program or when the read returns.
+#![tactic(auto)]
+
+mod bell;
+mod reader_threads;
+mod reading;
+
+pub use reader_threads::{ApartReader, ReaderThreads, Taker};
+pub use reading::Inputs;
