@@ -117,6 +117,8 @@ struct magbelu_stream {
 #define MAGBELU_IS_OPEN 56
 #define MAGBELU_LENGTHS 57
 #define MAGBELU_BAD_KEY 58
+#define MAGBELU_NO_SLICES 63
+#define MAGBELU_NO_CUT 64
 /* end of these lines: numbers */
 
 /*
@@ -167,6 +169,51 @@ struct magbelu_tag {
 
 /* The place of a setting that is to be in force at once. */
 #define MAGBELU_NOW UINT64_MAX
+
+/* Stands for no block. */
+#define MAGBELU_NO_BLOCK UINT32_MAX
+
+/*
+ * What came of a call about slices of time, which are parts of a run that are run for themselves. A slice begins at an iteration: each source gives its `period`
+ * items in one. So that it gives what the whole run does, it reads some iterations before its own, and what these give is dropped.
+ *
+ * status      0: done. 1: refused. 4: out of memory. The plant stays as it is.
+ * number      that of the refusal; 0 with status 0.
+ * block       with MAGBELU_NO_SLICES the number of the first block whose items rest on all that it was given or on how much that was, or MAGBELU_NO_BLOCK where the
+ *             rates have no balance, or slices would overlap too far; else MAGBELU_NO_BLOCK. Blocks are numbered from 0, in the order of the file.
+ * iterations  of magbelu_slices: how many iterations before its own a slice reads. Of magbelu_slice: how many iterations of each tape the slice leaves out.
+ * source_count, sink_count  how many rows there are for sources, and for sinks that keep their items; magbelu_slice has none for sources. The rows of each table are
+ *             written where all of them fit, in the order of the blocks.
+ */
+struct magbelu_slicing {
+    uint32_t status;
+    uint32_t number;
+    uint32_t block;
+    uint64_t iterations;
+    size_t source_count;
+    size_t sink_count;
+};
+
+/* How the tape of a source is cut: how many items it gives in an iteration, and how many items before its own a slice reads. */
+struct magbelu_cut_source {
+    uint32_t block;
+    uint64_t period;
+    uint64_t overlap;
+};
+
+/* How the items of a sink are put together: how many it takes in an iteration, and how many a slice drops that does not begin the run. */
+struct magbelu_cut_sink {
+    uint32_t block;
+    uint64_t period;
+    uint64_t drop;
+};
+
+/* What a slice gives a sink: how many of its items are dropped, and at which item of the whole stream the others stand. */
+struct magbelu_cut_part {
+    uint32_t block;
+    uint64_t drop;
+    uint64_t stands;
+};
 
 /*
  * What the library exports. Here no pointer may be NULL, even where its length is 0: call these through the functions below, which see to that. A pointer
@@ -219,6 +266,11 @@ struct magbelu_piece magbelu_bytes_read(struct magbelu_plant *plant, const uint8
 
 struct magbelu_piece magbelu_bytes_drain(struct magbelu_plant *plant, const uint8_t *sink, size_t sink_len, uint64_t max, uint32_t big_endian, uint8_t *bytes,
                                          size_t bytes_room, uint8_t *tags, size_t tags_room);
+
+struct magbelu_slicing magbelu_bytes_slices(struct magbelu_plant *plant, uint32_t tags, struct magbelu_cut_source *sources, size_t source_room,
+                                            struct magbelu_cut_sink *sinks, size_t sink_room);
+
+struct magbelu_slicing magbelu_bytes_slice(struct magbelu_plant *plant, uint32_t tags, uint64_t begins, struct magbelu_cut_part *parts, size_t part_room);
 
 /*
  * Kernels over slices: each pointer with its number of items, `out` too. They answer 0; or MAGBELU_LENGTHS, where the numbers differ, and then write nothing.
@@ -287,6 +339,8 @@ static inline const struct magbelu_row *magbelu_row_of(uint32_t number) {
         {56, "IsOpen", "a plant is held already"},
         {57, "Lengths", "the slices of a kernel differ in length"},
         {58, "BadKey", "the key of a tag is not 1 to 16 letters, digits, `_`, `.` or `-`"},
+        {63, "NoSlices", "a block keeps all that it was given, the rates have no balance, or slices would overlap too far"},
+        {64, "NoCut", "a slice begins at the first iteration, or from the overlap on"},
         /* end of these lines: rows */
         {0, "", ""},
     };
@@ -553,6 +607,41 @@ static inline struct magbelu_reply magbelu_need(struct magbelu_plant *plant, con
 }
 
 /* (not for callers) */
+static inline struct magbelu_slicing magbelu_null_slicing(void) {
+    struct magbelu_slicing slicing = {1, MAGBELU_NULL, MAGBELU_NO_BLOCK, 0, 0, 0};
+    return slicing;
+}
+
+/*
+ * Tells how the runs of the graph are cut into slices of time: in `sources` how each source is cut, in `sinks` each sink that keeps its items. A slice gives the items
+ * of the whole run, and with `tags` other than 0 its tags too, for which it may have to overlap further.
+ */
+static inline struct magbelu_slicing magbelu_slices(struct magbelu_plant *plant, uint32_t tags, struct magbelu_cut_source *sources, size_t source_room,
+                                                    struct magbelu_cut_sink *sinks, size_t sink_room) {
+    struct magbelu_cut_source no_source = {0, 0, 0};
+    struct magbelu_cut_sink no_sink = {0, 0, 0};
+    if (plant == NULL || magbelu_is_null(sources, source_room) || magbelu_is_null(sinks, sink_room)) {
+        return magbelu_null_slicing();
+    }
+    return magbelu_bytes_slices(plant, tags, sources != NULL ? sources : &no_source, source_room, sinks != NULL ? sinks : &no_sink, sink_room);
+}
+
+/*
+ * Tells of the slice that begins at an iteration what it leaves out: `iterations` of each tape, and in `parts` of each sink that keeps its items how many are dropped.
+ * The slice that ends where another begins is a plant, or a stream, of the same file, whose sources are fed their items from iteration `iterations` up to that one,
+ * and closed there; the last is fed to the end. Behind what is dropped, each sink gives what the whole run gives from item `stands` on, up to where the next slice
+ * stands. An offset of a tag is less by what was left out of the tape, and one that comes to a sink less by `stands - drop`. An iteration within the first
+ * overlap, or behind the 2^46th, is refused with MAGBELU_NO_CUT.
+ */
+static inline struct magbelu_slicing magbelu_slice(struct magbelu_plant *plant, uint32_t tags, uint64_t begins, struct magbelu_cut_part *parts, size_t part_room) {
+    struct magbelu_cut_part no_part = {0, 0, 0};
+    if (plant == NULL || magbelu_is_null(parts, part_room)) {
+        return magbelu_null_slicing();
+    }
+    return magbelu_bytes_slice(plant, tags, begins, parts != NULL ? parts : &no_part, part_room);
+}
+
+/* (not for callers) */
 static inline struct magbelu_plant *magbelu_streaming(struct magbelu_stream *stream) { return stream != NULL ? &stream->plant : NULL; }
 
 /*
@@ -600,6 +689,16 @@ static inline struct magbelu_reply magbelu_stream_settle(struct magbelu_stream *
 
 static inline struct magbelu_reply magbelu_stream_need(struct magbelu_stream *stream, const void *block, size_t block_len) {
     return magbelu_need(magbelu_streaming(stream), block, block_len);
+}
+
+static inline struct magbelu_slicing magbelu_stream_slices(struct magbelu_stream *stream, uint32_t tags, struct magbelu_cut_source *sources, size_t source_room,
+                                                           struct magbelu_cut_sink *sinks, size_t sink_room) {
+    return magbelu_slices(magbelu_streaming(stream), tags, sources, source_room, sinks, sink_room);
+}
+
+static inline struct magbelu_slicing magbelu_stream_slice(struct magbelu_stream *stream, uint32_t tags, uint64_t begins, struct magbelu_cut_part *parts,
+                                                          size_t part_room) {
+    return magbelu_slice(magbelu_streaming(stream), tags, begins, parts, part_room);
 }
 
 /*

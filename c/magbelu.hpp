@@ -92,6 +92,19 @@ struct piece {
     std::uint64_t held;
 };
 
+/* How the runs of a graph are cut into slices of time: how many iterations before its own a slice reads, each source, and each sink that keeps its items. */
+struct slice_plan {
+    std::uint64_t overlap;
+    std::vector<magbelu_cut_source> sources;
+    std::vector<magbelu_cut_sink> sinks;
+};
+
+/* Where a slice begins: how many iterations it leaves out of each tape, and what it gives each sink that keeps its items. */
+struct slice_start {
+    std::uint64_t leaves_out;
+    std::vector<magbelu_cut_part> parts;
+};
+
 /* (not for callers) */
 namespace detail {
 
@@ -113,7 +126,10 @@ inline std::optional<std::uint64_t> floor_of(const magbelu_reply &reply) {
     return reply.number == MAGBELU_LATE ? std::optional<std::uint64_t>(reply.value) : std::nullopt;
 }
 
-inline std::optional<std::uint64_t> floor_of(const magbelu_piece &) { return std::nullopt; }
+template <class Other>
+std::optional<std::uint64_t> floor_of(const Other &) {
+    return std::nullopt;
+}
 
 /* The answer of a call of a plant, which is refused for the block of this name. */
 template <class Reply>
@@ -289,6 +305,36 @@ public:
     /* What a block waits for: MAGBELU_READY, MAGBELU_DONE, MAGBELU_WAITS_ITEMS, MAGBELU_WAITS_ROOM or, of a source that is to be fed, MAGBELU_WAITS_FEED. */
     std::uint32_t need(std::string_view block) { return tested(magbelu_need(plant(), block.data(), block.size()), block).what; }
 
+    /* How the runs of the graph are cut into slices that give the items of the whole run, and its tags too where these are asked for. */
+    slice_plan slices(bool tags = false) {
+        slice_plan plan{};
+        for (;;) {
+            const magbelu_slicing got =
+                tested_slicing(magbelu_slices(plant(), tags, plan.sources.data(), plan.sources.size(), plan.sinks.data(), plan.sinks.size()));
+            const bool fits = got.source_count == plan.sources.size() && got.sink_count == plan.sinks.size();
+            plan.overlap = got.iterations;
+            plan.sources.resize(got.source_count);
+            plan.sinks.resize(got.sink_count);
+            if (fits) {
+                return plan;
+            }
+        }
+    }
+
+    /* The slice that begins at an iteration, which is the first, or none within the first overlap. */
+    slice_start slice(std::uint64_t begins, bool tags = false) {
+        slice_start start{};
+        for (;;) {
+            const magbelu_slicing got = tested_slicing(magbelu_slice(plant(), tags, begins, start.parts.data(), start.parts.size()));
+            const bool fits = got.sink_count == start.parts.size();
+            start.leaves_out = got.iterations;
+            start.parts.resize(got.sink_count);
+            if (fits) {
+                return start;
+            }
+        }
+    }
+
     /* How many bytes an item of a source has. */
     std::size_t item_size(std::string_view source) { return static_cast<std::size_t>(reply(magbelu_item_size(plant(), source.data(), source.size()), source)); }
 
@@ -321,6 +367,10 @@ protected:
     static std::uint64_t reply(const magbelu_reply &got, std::string_view block) { return tested(got, block).value; }
 
 private:
+    static const magbelu_slicing &tested_slicing(const magbelu_slicing &got) {
+        return tested(got, got.block == MAGBELU_NO_BLOCK ? std::string() : "block " + std::to_string(got.block));
+    }
+
     /* (a tag has the place of its mark's key) */
     static std::vector<magbelu_tag> tags_of(const std::vector<mark> &marks) {
         std::vector<magbelu_tag> tags;

@@ -44,6 +44,8 @@ ROWS = {
     56: ("IsOpen", "a plant is held already"),
     57: ("Lengths", "the slices of a kernel differ in length"),
     58: ("BadKey", "the key of a tag is not 1 to 16 letters, digits, `_`, `.` or `-`"),
+    63: ("NoSlices", "a block keeps all that it was given, the rates have no balance, or slices would overlap too far"),
+    64: ("NoCut", "a slice begins at the first iteration, or from the overlap on"),
 }
 # end of these lines: ROWS
 

@@ -13,6 +13,7 @@ from ._arguments import Text, bytes_of, flag, index, is_bytes, marks_of, numbers
 from ._errors import refused
 from ._library import Lent, Plant, Room, calls, lent_name
 from ._runs import NO_PATH, read_file, refusal
+from ._slices import Slice, Slices, plan_of, slice_of
 
 # How arrays of items are called, by how many bytes an item has.
 CODES = {1: "B", 2: "h", 4: "i"}
@@ -212,6 +213,26 @@ class Held:
         reply = self._call("need", block, name.at, name.len)
         what = WAITS[reply.what]
         return Need(what, int(reply.value) if what in ("items", "room") else None)
+
+    def slices(self, tags: bool = False) -> Slices:
+        """How the runs of the graph are cut into slices of time that give the items of the whole run, and its tags too where these are asked for. A graph is refused
+        (63) of which a block keeps all that it was given.
+
+        >>> graph = magbelu.Graph(magbelu.EXAMPLE.replace("add_const", "moving_sum").replace("value = 10", "length = 4"))
+        >>> graph.slices()
+        Slices(overlap=3, sources=[SourceSlices(source='src', period=1, overlap=3)], sinks=[SinkSlices(sink='out', period=1, drop=3)])
+        """
+        return plan_of(self, tags)
+
+    def slice(self, begins: SupportsIndex, tags: bool = False) -> Slice:
+        """The slice that begins at an iteration, of which none lies within the first overlap (64): run on what it does not leave out of its sources, it gives each sink
+        what the whole run gives from there on, behind what is dropped.
+
+        >>> graph = magbelu.Graph(magbelu.EXAMPLE.replace("add_const", "moving_sum").replace("value = 10", "length = 4"))
+        >>> graph.slice(100)
+        Slice(leaves_out=97, parts=[SinkPart(sink='out', drop=3, stands=100)])
+        """
+        return slice_of(self, begins, tags)
 
     def free(self) -> None:
         """Frees what the library holds. Each later call is refused."""

@@ -45,6 +45,25 @@ class Mark(ctypes.Structure):
     _fields_ = [("offset", ctypes.c_uint64), ("value", ctypes.c_int64), ("key", ctypes.c_void_p), ("key_len", ctypes.c_size_t)]
 
 
+class Slicing(ctypes.Structure):
+    _fields_ = [
+        ("status", ctypes.c_uint32), ("number", ctypes.c_uint32), ("block", ctypes.c_uint32), ("iterations", ctypes.c_uint64),
+        ("source_count", ctypes.c_size_t), ("sink_count", ctypes.c_size_t),
+    ]
+
+
+class CutSource(ctypes.Structure):
+    _fields_ = [("block", ctypes.c_uint32), ("period", ctypes.c_uint64), ("overlap", ctypes.c_uint64)]
+
+
+class CutSink(ctypes.Structure):
+    _fields_ = [("block", ctypes.c_uint32), ("period", ctypes.c_uint64), ("drop", ctypes.c_uint64)]
+
+
+class CutPart(ctypes.Structure):
+    _fields_ = [("block", ctypes.c_uint32), ("drop", ctypes.c_uint64), ("stands", ctypes.c_uint64)]
+
+
 def _places() -> list[str]:
     if os.environ.get("MAGBELU_LIBRARY"):
         return [os.environ["MAGBELU_LIBRARY"]]
@@ -108,6 +127,9 @@ def _with_types(library: ctypes.CDLL) -> ctypes.CDLL:
         call.restype, call.argtypes = Answer, plant + 2 * pair
     library.magbelu_bytes_drain.restype, library.magbelu_bytes_drain.argtypes = Piece, plant + pair + u64 + [ctypes.c_uint32] + 2 * pair
     library.magbelu_bytes_read.restype, library.magbelu_bytes_read.argtypes = Piece, plant + pair + 2 * u64 + [ctypes.c_uint32] + 2 * pair
+    for name, types in {"slices": 2 * pair, "slice": u64 + pair}.items():
+        call = getattr(library, "magbelu_bytes_" + name)
+        call.restype, call.argtypes = Slicing, plant + [ctypes.c_uint32] + types
     return library
 
 

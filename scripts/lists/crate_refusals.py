@@ -15,7 +15,8 @@ _ARM = re.compile(r'(?m)^ *(?:\| )?(\w+)::.*=>\s*\((\d+), "(\w+)"\)')
 _TEXT = re.compile(r'"(?:flow: refused )?(\d+) ([A-Z]\w+)[ "\\]')
 _ROW = re.compile(r'\((\d+), codes "(\w+)"\)')
 _CONST = re.compile(r"(?m)^const ([A-Z_]+): u32 = (\d+);")
-_REPLY = re.compile(r"\brefused\((\d+), ")
+# (a status has one digit)
+_REPLY = re.compile(r"\brefused\((\d\d+), ")
 
 # The files that have the refusals of a type, or of a crate, with their names and numbers.
 Given = Dict[str, Tuple[List[str], List[Tuple[str, str]]]]

@@ -267,6 +267,7 @@ int main(int count, char **words) {
     if (count == 2 && strcmp(words[1], "held") == 0) {
         held();
         streams();
+        slices();
         threads();
         kernels();
         return 0;

@@ -187,7 +187,24 @@ static void streams_go_on() {
     refuses(42, "42 MissingKey block 0 name\n --> <graph>:1:1\n  |\n1 | [[block]]\n  | ^ a block needs the key `name`: a text", [] { magbelu::stream("[[block]]"); });
 }
 
+static void slices_are_told() {
+    auto graph = chain("short");
+    const auto plan = graph.slices();
+    must(plan.overlap == 0 && plan.sources.size() == 1 && plan.sinks.size() == 1, "a plan");
+    must(plan.sources[0].block == 0 && plan.sources[0].period == 1 && plan.sources[0].overlap == 0, "how a source is cut");
+    must(plan.sinks[0].block == 2 && plan.sinks[0].period == 1 && plan.sinks[0].drop == 0, "how a sink is cut");
+    const auto start = magbelu::stream(chain_file("short")).slice(5, true);
+    must(start.leaves_out == 5 && start.parts.size() == 1 && start.parts[0].block == 2 && start.parts[0].drop == 0 && start.parts[0].stands == 5, "a slice");
+    refuses(64, "64 NoCut", [&] { graph.slice((std::uint64_t(1) << 46) + 1); });
+    magbelu::graph coded("block = [{ name = \"src\", kind = \"vector_source\", type = \"byte\" }, { name = \"code\", kind = \"diff_encoder\", modulus = 2 },\n"
+                         "    { name = \"out\", kind = \"vector_sink\", type = \"byte\" }]\n"
+                         "connect = [{ from = \"src\", to = \"code\" }, { from = \"code\", to = \"out\" }]\n");
+    refuses(63, "63 NoSlices block 1", [&] { coded.slices(); });
+    refuses(63, "63 NoSlices block 1", [&] { coded.slice(0); });
+}
+
 int main() {
+    slices_are_told();
     reasons_are_told();
     streams_go_on();
     items_come_out();

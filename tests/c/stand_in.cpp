@@ -26,7 +26,7 @@ struct plant {
     std::vector<mark> marks;
     std::map<std::uint64_t, std::int64_t> added{{0, 10}};
     std::map<std::string, std::uint64_t> fired;
-    bool is_closed = false;
+    bool is_closed = false, keeps_all = false;
     std::uint64_t drained = 0;
 };
 
@@ -127,6 +127,7 @@ magbelu_answer magbelu_bytes_open(magbelu_plant *held, const std::uint8_t *file,
         return {1, 42, 0, put("flow: refused 42 MissingKey block 0 name\n", error, error_room)};
     }
     held->at = new plant(text.find("\"short\"") != std::string::npos ? 2 : text.find("\"int\"") != std::string::npos ? 4 : 1);
+    in(held).keeps_all = text.find("diff_encoder") != std::string::npos;
     held->is_open = true;
     return {0, 0, 0, 0};
 }
@@ -242,6 +243,31 @@ magbelu_piece magbelu_bytes_drain(magbelu_plant *held, const std::uint8_t *name,
         own.drained += shown.bytes_len / own.size;
     }
     return shown;
+}
+
+/* (an item comes of the item of the same number alone) */
+magbelu_slicing magbelu_bytes_slices(magbelu_plant *held, std::uint32_t, magbelu_cut_source *sources, std::size_t source_room, magbelu_cut_sink *sinks,
+                                     std::size_t sink_room) {
+    if (in(held).keeps_all) {
+        return {1, MAGBELU_NO_SLICES, 1, 0, 0, 0};
+    }
+    if (source_room != 0) {
+        sources[0] = {0, 1, 0};
+    }
+    if (sink_room != 0) {
+        sinks[0] = {2, 1, 0};
+    }
+    return {0, 0, MAGBELU_NO_BLOCK, 0, 1, 1};
+}
+
+magbelu_slicing magbelu_bytes_slice(magbelu_plant *held, std::uint32_t, std::uint64_t begins, magbelu_cut_part *parts, std::size_t room) {
+    if (in(held).keeps_all || begins > std::uint64_t(1) << 46) {
+        return {1, in(held).keeps_all ? 63u : 64u, in(held).keeps_all ? 1 : MAGBELU_NO_BLOCK, 0, 0, 0};
+    }
+    if (room != 0) {
+        parts[0] = {2, 0, begins};
+    }
+    return {0, 0, MAGBELU_NO_BLOCK, begins, 0, 1};
 }
 
 } // extern "C"

@@ -120,7 +120,7 @@ files() {
 
 # tells_calls: the calls from C
 tells_calls() {
-    cc -std=c99 "${warnings[@]}" "${sanitizers[@]}" -pthread -I"$top/c" "$top"/tests/c/{calls,plants,streams,kernels}.c "$c_folder/libmagbelu.a" -o "$calls"
+    cc -std=c99 "${warnings[@]}" "${sanitizers[@]}" -pthread -I"$top/c" "$top"/tests/c/{calls,plants,streams,slices,kernels}.c "$c_folder/libmagbelu.a" -o "$calls"
     calls 0 wrong
     calls 0 held
     files
@@ -197,7 +197,7 @@ list() {
         printf 'c/%s\n' plus_alone plus
     fi
     if command -v cc >/dev/null && command -v python3 >/dev/null; then
-        printf 'c/%s\n' python python_numpy python_streams python_streams_numpy doctests doctests_matplotlib notebook
+        printf 'c/%s\n' python python_numpy python_streams python_streams_numpy python_slices python_slices_numpy doctests doctests_matplotlib notebook
     fi
 }
 
@@ -258,6 +258,8 @@ run() {
     try_with "libmagbelu.so numpy" c/python_numpy over_library python_tests graphs
     try_with libmagbelu.so c/python_streams over_library without_numpy streams
     try_with "libmagbelu.so numpy" c/python_streams_numpy over_library python_tests streams
+    try_with libmagbelu.so c/python_slices over_library without_numpy slices
+    try_with "libmagbelu.so numpy" c/python_slices_numpy over_library python_tests slices
     try_with libmagbelu.so c/doctests over_library without_numpy doctests
     try_with "libmagbelu.so matplotlib" c/doctests_matplotlib over_library python_tests doctests
     try_with "libmagbelu.so matplotlib" c/notebook over_library tells_notebook

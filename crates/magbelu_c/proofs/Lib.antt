@@ -5,4 +5,5 @@ mod HandleValues
 mod LooseValues
 pub mod Showing
 pub mod Variants
+mod TableRows
 mod Texts

@@ -1,6 +1,7 @@
 pub mod CallAnswers
 pub mod AnyPlants
 pub mod Between
+pub mod Cuts
 pub mod Draining
 pub mod Explaining
 pub mod Handles
@@ -9,5 +10,6 @@ pub mod Kernels
 pub mod Pieces
 pub mod Replies
 pub mod Settling
+pub mod Slicing
 pub mod Tagging
 pub mod Waiting

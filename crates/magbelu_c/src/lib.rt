@@ -6,7 +6,8 @@
 //!
 //! A call takes pointers with their lengths, refuses what they may not be (54 and on), and does one call of the libraries below: `calls` whole runs of a file,
 //! `raw_calls` and `between` runs between raw items, `held_calls` those of a plant that is held behind a `handle`, `draining` those of one that
-//! streams, `kernels` arithmetic over slices. It starts no thread, and keeps nothing between two calls but what a handle holds.
+//! streams, `slice_calls` how runs of its graph are cut into slices of time, `kernels` arithmetic over slices of memory. It starts no thread, and keeps nothing
+//! between two calls but what a handle holds.
 #![tactic(auto)]
 
 pub mod answer;
@@ -14,6 +15,7 @@ mod any_plant;
 mod between;
 mod block_calls;
 pub mod calls;
+pub mod cuts;
 mod draining;
 pub mod explaining;
 pub mod handle;
@@ -26,5 +28,8 @@ pub mod piece;
 pub mod raw_calls;
 pub mod reply;
 mod shows;
+pub mod slice_calls;
+mod slice_plans;
+pub mod slicing;
 pub mod tables;
 mod tagging;
