@@ -34,7 +34,7 @@ install_puts_all_in_place() {
     calls 0 env HOME="$room/home" ./build_by_link --install
     [[ -x $room/home/.local/bin/flow ]] || wrong "--install without a prefix brings nothing to ~/.local"
     calls 2 ./build_by_link --fast
-    writes errors "build: its words are: [--install [PREFIX] | --uninstall [PREFIX] | --c | --deb]"
+    writes errors "build: its words are: [--install [PREFIX] | --uninstall [PREFIX] | --c | --deb | --docs]"
 }
 
 # Over what was installed without it. (What is built for C here is no library, so that nothing is linked or loaded.)

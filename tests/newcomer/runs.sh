@@ -97,6 +97,17 @@ without_rt_nothing_is_lost_but_a_line() {
     writes errors "build: $lacks"
 }
 
+# It needs no rt, and nothing is made where mkdocs, or the Python that calls it, is not there.
+manual_says_what_it_needs() {
+    calls 127 env PATH="$room/tools" ./build_by_link --docs
+    writes errors "build: --docs needs python3: install Debian's package python3"
+    mkdir "$room/python"
+    ln -s "$(command -v cat)" "$room/python/python3"
+    calls 127 env PATH="$room/tools:$room/python" ./build_by_link --docs
+    writes errors "build: --docs needs mkdocs: install Debian's package mkdocs"
+    [[ ! -e $tree/out/site ]] || wrong "--docs makes something without mkdocs"
+}
+
 # is_fresh_after WHAT, is_stale_after WHAT: whether ./flow runs the program that is built, or would run the sources
 is_fresh_after() {
     calls 0 env PATH="$room/tools" ./flow_by_link "$1" "a b"

@@ -16,6 +16,7 @@ cases=(
     places_are_shown
     terminals_show_places
     without_rt_nothing_is_lost_but_a_line
+    manual_says_what_it_needs
     edits_are_seen
     build_proves_each_crate_once
     build_makes_the_library_for_c
