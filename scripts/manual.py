@@ -11,6 +11,7 @@ from typing import Any, Dict, Iterable, List
 
 from manual_options import options_page
 from manual_pages import Stage
+from manual_rattle import Pages
 from manual_refusals import refusals_page
 from spec_files import TOP
 
@@ -48,9 +49,11 @@ def put_pages(stage: Stage) -> List[Any]:
     for page in [FIRST, *examples, *(page for pages in SHELVES.values() for page in pages)]:
         if page not in (OPTIONS, REFUSALS):
             stage.want(Path(page))
+    rattle = Pages(stage).write()
     stage.put_wanted()
     shelves = {name: titled(pages) for name, pages in SHELVES.items()}
     shelves["Use"].append({"Examples": examples})
+    shelves["Reference"] = [{"Rattle": rattle}]
     return [*titled([FIRST]), *({name: pages} for name, pages in shelves.items())]
 
 

@@ -169,16 +169,18 @@ class Names:
                 return member
         return Library("of types", f"{parameter}.{name}")
 
+    def in_clauses(self, contract: Contract, members: Iterable[str] = ()) -> Iterator[Tuple[str, Found]]:
+        """The names in the clauses of a contract, each with what it means; of a trait's function with the members of the trait."""
+        file = self.sources.at(contract.path)
+        heads = "\n".join([contract.owner, *contract.signature])
+        clauses = tuple(re.sub(r"^\s+(requires|ensures)( \w+)? ", "    ", line) for line in contract.clauses)
+        own = {*re.findall(r"\b([a-z_]+):", heads), *members}
+        yield from zip(mentioned(tokens_of(clauses)), self.of_clause(file, clauses, contract.scope, bounds_in(heads), own))
+
     def of_contract(self, contract: Contract) -> Iterator[Found]:
         """What a signature and its clauses name."""
-        file = self.sources.at(contract.path)
-        first = next(i for i, line in enumerate(contract.text) if re.match(r"\s+(requires|ensures)\b", line))
-        signature = [line for line in contract.text[:first] if not line.startswith("///")]
-        clauses = tuple(re.sub(r"^\s+(requires|ensures)( \w+)? ", "    ", line) for line in contract.text[first:])
-        heads = f"{contract.owner}\n" + "\n".join(signature)
-        own = set(re.findall(r"\b([a-z_]+):", heads))
-        yield from self.of_words(file, [contract.owner, *signature])
-        yield from self.of_clause(file, clauses, contract.scope, bounds_in(heads), own)
+        yield from self.of_words(self.sources.at(contract.path), [contract.owner, *contract.signature])
+        yield from (found for _, found in self.in_clauses(contract))
 
     def of_type(self, entry: Entry) -> Iterator[Found]:
         """What a type of src/, or a member of a trait, names."""

@@ -14,13 +14,19 @@ MEMBER = re.compile(r"    (?:ghost|const) (\w+): ")
 
 @dataclass(frozen=True)
 class Contract:
-    """A function with its clauses, as it stands in its file."""
+    """A function with its doc comment and its clauses, as it stands in its file."""
 
     path: str
-    text: Tuple[str, ...]
+    docs: Tuple[str, ...]
+    signature: Tuple[str, ...]
+    clauses: Tuple[str, ...]
     # The head of the `impl` that it stands in, if it does, and what names mean there.
     owner: str
     scope: Scope
+
+    @property
+    def text(self) -> Tuple[str, ...]:
+        return self.docs + self.signature + self.clauses
 
 
 @dataclass(frozen=True)
@@ -56,6 +62,15 @@ def docs_above(lines: List[str], start: int) -> List[str]:
     return docs
 
 
+def type_of(head: str) -> str:
+    """The name of the type that an `impl` is of."""
+    text, count = head.replace("->", ""), 1
+    while count:
+        text, count = re.subn(r"<[^<>]*>", "", text)
+    found = re.match(r"impl (?:.* for )?(?:\w+::)*(\w+)", text)
+    return found.group(1) if found else ""
+
+
 def dedented(lines: List[str]) -> List[str]:
     """The lines without the spaces that the first begins with."""
     indent = len(lines[0]) - len(lines[0].lstrip())
@@ -87,7 +102,8 @@ class SourceFile:
     def __init__(self, path: Path) -> None:
         self.path = str(path.relative_to(TOP))
         self.crate = path.relative_to(CRATES).parts[0]
-        self.lines = path.read_text().splitlines()
+        self.text = path.read_text()
+        self.lines = self.text.splitlines()
         self.scope = Scope()
         for use in ghost_uses(self.lines):
             self.scope.add_use(use)
@@ -173,17 +189,69 @@ class SourceFile:
                 return Entry(self.path, f"{trait}.{name}", tuple(docs_above(self.lines, at)), tuple(shown), "rust")
         return None
 
-    def contract(self, owner: str, name: str) -> Contract:
-        """The function of this name, with its doc comment and its clauses, in an `impl` of this type or in none."""
-        head, scope = "", self.scope
+    def head_at(self, at: int) -> List[str]:
+        """The signature and the clauses of the function that begins at this line, without what opens its body or ends it."""
+        indent = self.lines[at][: -len(self.lines[at].lstrip())]
+        for end in range(at, len(self.lines)):
+            line = self.lines[end]
+            if line in (indent + "{", indent + "{}"):
+                return self.lines[at:end]
+            if line.endswith(";") or (line.endswith(" {") and (end == at or line.startswith(indent + ")"))):
+                return [*self.lines[at:end], re.sub(r"(;| \{)$", "", line)]
+        raise ValueError(f"{self.path} ends within {self.lines[at]}")
+
+    def contract_at(self, at: int, owner: str, scope: Scope) -> Contract:
+        """The function that begins at this line."""
+        docs, head = docs_above(self.lines, at), self.head_at(at)
+        clauses = next((i for i, line in enumerate(head) if re.match(r"\s+(requires|ensures)\b", line)), len(head))
+        text = tuple(dedented(docs + head))
+        signature, behind = len(docs), len(docs) + clauses
+        return Contract(self.path, text[:signature], text[signature:behind], text[behind:], owner, scope)
+
+    def impls(self) -> Iterator[Tuple[str, int, List[str]]]:
+        """Each `impl`: its head on one line, and the number of its first line with all of them."""
         for at, line in enumerate(self.lines):
-            if owner and line.startswith("impl"):
-                head, scope = line, self.scope_with(block_at(self.lines, at))
-            found = re.match(r"(\s*)pub fn " + name + r"\b", line)
-            if found and bool(owner) == bool(found.group(1)) and (not owner or re.search(rf"\b{owner}\b", head)):
-                end = next(i for i in range(at, len(self.lines)) if self.lines[i] == found.group(1) + "{")
-                text = docs_above(self.lines, at) + self.lines[at:end]
-                return Contract(self.path, tuple(dedented(text)), head, scope)
+            if re.match(r"impl\b", line):
+                block = self.lines[at : self.lines.index("}", at)] if not line.endswith("}") else [line]
+                head = block[: next(i for i, text in enumerate(block, 1) if "{" in text)]
+                yield " ".join(text.strip() for text in head), at, block
+
+    def traits_of(self, name: str) -> Iterator[str]:
+        """The traits that this file implements for a type, or has derived of it."""
+        if name in self.types:
+            for line in reversed(self.lines[: self.types[name]]):
+                if not re.match(r"\s*(#\[|///)", line):
+                    break
+                derived = re.match(r"#\[derive\((.*)\)\]", line)
+                yield from derived.group(1).split(", ") if derived else []
+        for head, _, _ in self.impls():
+            trait = re.match(r"impl(?:<.*?>)? ([\w:]+(?:<.*>)?) for ", head)
+            if trait and type_of(head) == name:
+                yield trait.group(1)
+
+    def members(self, trait: str) -> Iterator[Tuple[str, Contract]]:
+        """The functions, the types and the ghost members of a trait, by their names."""
+        at = self.types[trait]
+        for line in range(at, self.lines.index("}", at)):
+            found = re.match(r"    (?:final )?(?:fn|type|const|ghost) (\w+)", self.lines[line])
+            if found and not self.lines[line].startswith("    ghost use"):
+                yield found.group(1), self.contract_at(line, self.lines[at], self.scope)
+
+    def contracts(self, owner: str) -> Iterator[Tuple[str, Contract]]:
+        """The public functions in the `impl`s of this type, or without one those in none, by their names."""
+        blocks = [it for it in self.impls() if type_of(it[0]) == owner] if owner else [("", 0, self.lines)]
+        for head, at, block in blocks:
+            scope = self.scope_with(block) if owner else self.scope
+            for line, text in enumerate(block, at):
+                found = re.match(r"( *)pub fn (\w+)", text)
+                if found and bool(owner) == bool(found.group(1)):
+                    yield found.group(2), self.contract_at(line, head, scope)
+
+    def contract(self, owner: str, name: str) -> Contract:
+        """The function of this name in an `impl` of this type or in none."""
+        for found, contract in self.contracts(owner):
+            if found == name:
+                return contract
         raise ValueError(f"{self.path} has no function {owner}::{name}")
 
 

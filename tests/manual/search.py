@@ -15,19 +15,20 @@ LOOKED_AT = 3
 
 
 def words_of(text: str) -> str:
-    """A text as the search takes it: its words alone."""
-    return re.sub(r"[\W_]+", " ", text, flags=re.ASCII)
+    """A text as the search takes it: its words alone, and behind the parts of a name, as of Plant::feed, the whole as one word."""
+    named = re.sub(r"\w+(?:::|_)[\w:]+", lambda name: name.group() + " " + re.sub("[:_]", "", name.group()), text, flags=re.ASCII)
+    return re.sub(r"[\W_]+", " ", named, flags=re.ASCII)
 
 
 def index_of(folder: Path) -> Any:
     """The index of a site, as its worker makes it."""
-    boost = re.search(r"const TITLE_BOOST = (\d+);", (folder / "worker.js").read_text())
-    if not boost:
-        raise ValueError("the worker of the search has no boost of titles")
-    documents = json.loads((folder / "search_index.json").read_text())["docs"]
-    for document in documents:
-        document.update(title=words_of(document["title"]), text=words_of(document["text"]))
-    return lunr(ref="location", fields=({"field_name": "title", "boost": int(boost.group(1))}, "text"), documents=documents)
+    boosts = dict(re.findall(r"const (\w+)_BOOST = ([\d.]+);", (folder / "worker.js").read_text()))
+    documents = []
+    for it in json.loads((folder / "search_index.json").read_text())["docs"]:
+        document = {"location": it["location"], "title": words_of(it["title"]), "text": words_of(it["text"])}
+        boost = float(boosts["REFERENCE"]) if it["location"].startswith("reference/") else 1
+        documents.append((document, {"boost": boost}))
+    return lunr(ref="location", fields=({"field_name": "title", "boost": float(boosts["TITLE"])}, "text"), documents=documents)
 
 
 def pages_for(index: Any, question: str) -> List[str]:

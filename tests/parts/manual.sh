@@ -1,6 +1,6 @@
 #!/usr/bin/env bash
-# That the manual which `./build --docs` makes has each page of its shelves, that its links lead to a page and a heading of it and that it loads nothing from elsewhere, and
-# that its search answers each question of tests/manual/questions.txt with the page that answers it. It needs Debian's package mkdocs.
+# That the manual which `./build --docs` makes has each page of its shelves and each public name, that its links lead to a page and a heading of it, that it loads nothing
+# from elsewhere, and that its search answers each question of tests/manual/questions.txt with the page that answers it. It needs Debian's package mkdocs.
 set -euo pipefail
 # shellcheck source=tests/part.sh
 source "$(dirname -- "$(readlink -f -- "${BASH_SOURCE[0]}")")/../part.sh"
@@ -8,7 +8,7 @@ source "$(dirname -- "$(readlink -f -- "${BASH_SOURCE[0]}")")/../part.sh"
 python=$([[ -x /usr/bin/python3 ]] && echo /usr/bin/python3 || echo python3)
 site=$room/site
 
-list() { printf 'manual/%s\n' made links search; }
+list() { printf 'manual/%s\n' made links reference search; }
 
 # made: mkdocs has nothing to say, and each page for readers is on a shelf
 made() {
@@ -22,6 +22,8 @@ made() {
 
 links() { python3 "$top/tests/links.py" "$site" .html .css; }
 
+reference() { python3 "$top/tests/manual/reference.py" "$top" "$site"; }
+
 search() { "$python" "$top/tests/manual/search.py" "$site" "$top/tests/manual/questions.txt"; }
 
 run() {
@@ -33,7 +35,7 @@ run() {
         return
     fi
     # (all cases look at the site)
-    for it in made links search; do
+    for it in made links reference search; do
         "$it" >"$room/said" 2>&1 || echo "$it ends with a status that is not 0" >>"$room/said"
         if ! is_wanted "manual/$it"; then
             continue

@@ -1,13 +1,16 @@
-// The search, in the place of that of mkdocs, whose search/main.js hands on what is asked. A word counts more in a title than in a text, and signs part words: so
-// `--jobs` asks for jobs, and `set taps` finds `magbelu_set_taps`. It is a worker of search/main.js, or where files.js says so a script beside it.
-const TITLE_BOOST = 10;
+// The search, in the place of that of mkdocs, whose search/main.js hands on what is asked. A word counts more in a title than in a text, and less in the reference, which
+// is asked for names that nothing else has. Signs part words: so `--jobs` asks for jobs, and `set taps` finds `magbelu_set_taps`. It is a worker of search/main.js, or
+// where files.js says so a script beside it.
+const TITLE_BOOST = 3;
+const REFERENCE_BOOST = 0.5;
 const MOST_RESULTS = 30;
 const SUMMARY_LENGTH = 200;
 const documents = new Map();
 let index;
 
+// The words of a text, and behind the parts of a name, as of Plant::feed, the whole as one word.
 function words(text) {
-    return text.replace(/[\W_]+/g, " ");
+    return text.replace(/\w+(?:::|_)[\w:]+/g, (name) => name + " " + name.replace(/[:_]/g, "")).replace(/[\W_]+/g, " ");
 }
 
 function begin(data) {
@@ -17,7 +20,8 @@ function begin(data) {
         this.field("text");
         for (const it of data.docs) {
             documents.set(it.location, it);
-            this.add({ location: it.location, title: words(it.title), text: words(it.text) });
+            const boost = it.location.startsWith("reference/") ? REFERENCE_BOOST : 1;
+            this.add({ location: it.location, title: words(it.title), text: words(it.text) }, { boost });
         }
     });
     return [{ config: data.config }, { allowSearch: true }];
