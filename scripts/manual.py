@@ -9,9 +9,11 @@ import tempfile
 from pathlib import Path
 from typing import Any, Dict, Iterable, List
 
+import manual_c
+import manual_python
+import manual_rattle
 from manual_options import options_page
 from manual_pages import Stage
-from manual_rattle import Pages
 from manual_refusals import refusals_page
 from spec_files import TOP
 
@@ -49,11 +51,11 @@ def put_pages(stage: Stage) -> List[Any]:
     for page in [FIRST, *examples, *(page for pages in SHELVES.values() for page in pages)]:
         if page not in (OPTIONS, REFUSALS):
             stage.want(Path(page))
-    rattle = Pages(stage).write()
+    rattle, others = manual_rattle.write(stage), [*manual_c.write(stage), *manual_python.write(stage)]
     stage.put_wanted()
     shelves = {name: titled(pages) for name, pages in SHELVES.items()}
     shelves["Use"].append({"Examples": examples})
-    shelves["Reference"] = [{"Rattle": rattle}]
+    shelves["Reference"] = [{"Rattle": rattle}, *others]
     return [*titled([FIRST]), *({name: pages} for name, pages in shelves.items())]
 
 

@@ -9,8 +9,12 @@ from typing import List, Set
 
 from spec_files import TOP
 
+# A block of code, or code in a paragraph.
+CODE = r"^```.*?^```$|`(?:[^`\n]|\n(?!\n))*`"
 # Code, in which nothing is a link, or the target of a link.
-CODE_OR_LINK = re.compile(r"(?ms)(^```.*?^```$|`[^`\n]*`)|(?<=\]\()([^)\s]+)(?=\))")
+CODE_OR_LINK = re.compile(rf"(?ms)({CODE})|(?<=\]\()([^)\s]+)(?=\))")
+# Code, in which nothing is a page, or a page that is named.
+PAGE_NAMED = re.compile(rf"(?ms)({CODE})|\b(docs/\w+\.md)\b")
 # What a browser shows as it is.
 PICTURES = {".svg", ".png"}
 # What is made, and stands in no listing.
@@ -19,28 +23,38 @@ MADE = {"out", "__pycache__"}
 
 def place_of(path: Path) -> Path:
     """Where a file or a folder of the repository stands in the manual, as a path from the top of either."""
-    if (TOP / path).is_dir():
+    if (TOP / path / "README.md").is_file():
         return path / "README.md"
+    if (TOP / path).is_dir():
+        return path / "index.html"
     if path.suffix in {".md", *PICTURES}:
         return path
     return path.with_name(path.name + ".html")
 
 
-def text_page(path: Path, text: str) -> str:
-    """A file's text as a page of its own, whose lines have names as `L12`."""
-    style = os.path.relpath("manual.css", path.parent)
-    lines = "\n".join(f'<span id="L{number}">{html.escape(line)}</span>' for number, line in enumerate(text.splitlines(), 1))
+def bare_page(path: Path, body: str, page: Path) -> str:
+    """A page outside of the navigation and the search, of a file or a folder."""
+    style = os.path.relpath("manual.css", page.parent)
     head = f'<meta charset="utf-8"><title>{html.escape(str(path))}</title><link rel="stylesheet" href="{style}">'
-    return f'<!DOCTYPE html>\n<html lang="en"><head>{head}</head><body class="text"><h1>{html.escape(str(path))}</h1>\n<pre>{lines}\n</pre></body></html>\n'
+    return f'<!DOCTYPE html>\n<html lang="en"><head>{head}</head><body class="bare"><h1>{html.escape(str(path))}</h1>\n{body}\n</body></html>\n'
 
 
-def listing(folder: Path) -> str:
-    """The files of a folder, below its own page where it has one."""
-    own = TOP / folder / "README.md"
+def text_of(path: Path) -> str:
+    """The text of a file, whose lines have names as `L12`."""
+    lines = (TOP / path).read_text(errors="replace").splitlines()
+    shown = "\n".join(f'<span id="L{number}">{html.escape(line)}</span>' for number, line in enumerate(lines, 1))
+    return f"<pre>{shown}\n</pre>"
+
+
+def files_in(folder: Path) -> List[Path]:
+    """The files of a folder and of those in it, but for its own page."""
     files = [path.relative_to(TOP / folder) for path in sorted((TOP / folder).rglob("*")) if path.is_file()]
-    rows = [f"- [`{file}`]({file})" for file in files if file.name != "README.md" and not MADE & set(file.parts)]
-    head = own.read_text() + "\n## Files" if own.is_file() else f"# {folder}"
-    return "\n".join([head, "", *rows]) + "\n"
+    return [file for file in files if file != Path("README.md") and not MADE & set(file.parts)]
+
+
+def with_pages(text: str) -> str:
+    """A text of a header or a docstring on a page of reference/X, with the pages that it names as links."""
+    return PAGE_NAMED.sub(lambda found: found.group(1) or f"[{found.group(2)}](../../{found.group(2)})", text)
 
 
 class Stage:
@@ -63,18 +77,23 @@ class Stage:
             self.put(self.wanted.pop())
 
     def put(self, path: Path) -> None:
-        """Puts it there; what it links to is wanted then."""
+        """Puts it there; what it links to is wanted then. An example's page lists its files."""
         source, place = TOP / path, place_of(path)
-        if source.is_dir():
-            self.write(place, self.linked(place, listing(path)))
-        elif path.suffix == ".md":
-            is_listed = path.name == "README.md" and path.parts[0] == "examples"
-            self.write(place, self.linked(place, listing(path.parent) if is_listed else source.read_text()))
+        if place.suffix == ".md":
+            is_example = path.parts[0] == "examples"
+            rows = [f"- [`{file}`]({file})" for file in files_in(place.parent)] if is_example else []
+            self.write(place, self.linked(place, "\n".join([(TOP / place).read_text(), *(["## Files", "", *rows, ""] if rows else [])])))
+        elif source.is_dir():
+            files = files_in(path)
+            for file in files:
+                self.want(path / file)
+            rows = [f'<li><a href="{os.path.relpath(place_of(path / file), path)}">{html.escape(str(file))}</a></li>' for file in files]
+            self.write(place, bare_page(path, "<ul>\n" + "\n".join(rows) + "\n</ul>", place))
         elif path.suffix in PICTURES:
             (self.folder / place).parent.mkdir(parents=True, exist_ok=True)
             shutil.copyfile(source, self.folder / place)
         else:
-            self.write(place, text_page(path, source.read_text(errors="replace")))
+            self.write(place, bare_page(path, text_of(path), place))
 
     def write(self, place: Path, text: str) -> None:
         """Writes a page."""

@@ -33,7 +33,7 @@ def first_sentence(docs: List[str]) -> str:
 
 
 class Pages:
-    """Writes the pages."""
+    """Makes the pages."""
 
     def __init__(self, stage: Stage) -> None:
         self.stage = stage
@@ -147,11 +147,10 @@ class Pages:
         sections = [part for item in self.items.of_page(module) for part in self.section(item)]
         return "\n".join([f"# {module.title}\n", self.text(module.docs), *rows, "", *sections])
 
-    def write(self) -> List[str]:
-        """Writes all pages, and gives their places."""
-        places: List[str] = []
-        for module in self.items.modules:
-            place = FOLDER / f"{module.page}.md"
-            self.stage.write(place, self.page(module))
-            places.append(str(place))
-        return places
+
+def write(stage: Stage) -> List[str]:
+    """Writes all pages, and gives their places."""
+    pages = Pages(stage)
+    for module in pages.items.modules:
+        stage.write(FOLDER / f"{module.page}.md", pages.page(module))
+    return [str(FOLDER / f"{module.page}.md") for module in pages.items.modules]
