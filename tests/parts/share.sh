@@ -2,14 +2,14 @@
 # That the man pages and the completions of share/ have the words of `flow` and `flow-from-grc`: of each command the options that its help has, with the words that may
 # stand behind one, and no others, and what the help says of them; that the man page has the keys of a graph file and the commands of a script; and what bash, zsh and
 # fish offer for a line. The help is that of tests/cases/words, which are held against the program. And that all places that name a version name the same, and that
-# docs/echo.svg shows what the program draws.
+# docs/echo.svg shows what the program draws, and docs/crates.svg the crates.
 set -euo pipefail
 # shellcheck source=tests/part.sh
 source "$(dirname -- "$(readlink -f -- "${BASH_SOURCE[0]}")")/../part.sh"
 commands=(check draw kinds run live script)
 share=$top/share
 # The cases beside those of the commands, each a function.
-others=(flow_from_grc graph_file script_lines man_pages lines_in_bash lines_in_zsh lines_in_fish versions picture)
+others=(flow_from_grc graph_file script_lines man_pages lines_in_bash lines_in_zsh lines_in_fish versions picture picture_of_crates)
 
 # options TEXT: prints the options that stand in a text, each once
 options() { grep -oE -- '(^|[^a-z-])(-[a-zA-Z]|--[a-z-]+[a-z])' <<<"$1" | grep -oE -- '-+[a-zA-Z-]+' | LC_ALL=C sort -u | paste -sd ' '; }
@@ -224,6 +224,17 @@ picture() {
         why_not="there is no python3 to read it"
     elif ! said=$(python3 "$top/tests/drawn.py" "$top/examples/echo/expected_draw" "$top/docs/echo.svg" 2>&1); then
         wrong "$said"
+    fi
+}
+
+# picture_of_crates: that of docs/ARCHITECTURE.md is that of crates.txt, in which no crate uses one of a layer above
+picture_of_crates() {
+    local said
+    if ! command -v python3 >/dev/null; then
+        why_not="there is no python3 to read it"
+    elif ! said=$("$top/scripts/crates_picture.py" --text 2>&1 >"$room/crates.dot" && python3 "$top/tests/drawn.py" "$room/crates.dot" "$top/docs/crates.svg" 2>&1); then
+        wrong "$said"
+        wrong "scripts/crates_picture.py draws docs/crates.svg"
     fi
 }
 
