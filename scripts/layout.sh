@@ -9,7 +9,7 @@ python_folder=
 zsh_folder=share/zsh/site-functions
 list=/dev/null
 # The pages of docs/ for users.
-pages=(C.md COVERAGE.md FORMATS.md FOR_GNU_RADIO_USERS.md GLOSSARY.md KINDS.md SPEED.md echo.svg trace.svg)
+pages=(C.md COVERAGE.md FORMATS.md FOR_GNU_RADIO_USERS.md GLOSSARY.md KINDS.md SPEED.md STUDIO.md echo.svg trace.svg)
 # Whether places are only tested; and the file that has to go where the script ends now.
 only_tests=0
 half_made=
@@ -91,10 +91,11 @@ put_documents_of_all() {
     done
 }
 
-# put_program: flow and flow-from-grc, with their man pages, completions, documents and examples
+# put_program: flow, flow-from-grc and magbelu-studio, with their man pages, completions, documents and examples
 put_program() {
     put 755 "$program" bin/flow
     put 755 "$top/flow-from-grc" bin/flow-from-grc
+    put 755 "$top/magbelu-studio" bin/magbelu-studio
     put_all "$top/share/man" share/man
     put_all "$top/share/bash-completion" share/bash-completion
     put_all "$top/share/zsh/site-functions" "$zsh_folder"

@@ -24,7 +24,7 @@ ASSETS = ["manual.css", "files.js"]
 FIRST, REFUSALS, OPTIONS = "README.md", "docs/refusals.md", "docs/options.md"
 SHELVES: Dict[str, List[str]] = {
     "Use": [
-        "docs/FORMATS.md", OPTIONS, REFUSALS, "docs/KINDS.md", "docs/C.md", "docs/EMBED.md", "docs/FOR_GNU_RADIO_USERS.md", "docs/COVERAGE.md",
+        "docs/FORMATS.md", OPTIONS, REFUSALS, "docs/KINDS.md", "docs/C.md", "docs/EMBED.md", "docs/STUDIO.md", "docs/FOR_GNU_RADIO_USERS.md", "docs/COVERAGE.md",
         "docs/SPEED.md", "docs/GLOSSARY.md", "CHANGELOG.md",
     ],
     "Contribute": [

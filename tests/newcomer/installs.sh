@@ -165,11 +165,11 @@ has_files() {
 # program_files: prints those of the package of the program, but for its documents of Debian
 program_files() {
     local it
-    printf 'usr/%s\n' bin/flow{,-from-grc} share/man/man1/flow{,-from-grc}.1.gz share/bash-completion/completions/flow{,-from-grc} \
+    printf 'usr/%s\n' bin/{flow{,-from-grc},magbelu-studio} share/man/man1/{flow{,-from-grc},magbelu-studio}.1.gz share/bash-completion/completions/flow{,-from-grc} \
         share/zsh/vendor-completions/_flow{,-from-grc} share/fish/vendor_completions.d/flow{,-from-grc}.fish
     (cd -- "$top/python" && find flow_from_grc -name '*.py' -printf 'usr/share/magbelu/%p\n')
     # (dpkg wants long pages compressed, but for examples and pictures)
-    printf 'usr/share/doc/magbelu/%s\n' {C,COVERAGE,FORMATS,FOR_GNU_RADIO_USERS,GLOSSARY,KINDS,SPEED}.md.gz {echo,trace}.svg
+    printf 'usr/share/doc/magbelu/%s\n' {C,COVERAGE,FORMATS,FOR_GNU_RADIO_USERS,GLOSSARY,KINDS,SPEED,STUDIO}.md.gz {echo,trace}.svg studio_{file,signal}.png
     (cd -- "$top" && find examples -path examples/embed -prune -o -type f ! -name '*.pyc' -printf 'usr/share/doc/magbelu/%p\n')
 }
 

@@ -1,0 +1,60 @@
+"""A graph file as the page shows it."""
+
+from __future__ import annotations
+
+from dataclasses import dataclass
+from typing import Any
+
+from .._drawing import firings_of
+from .._file import tables_of
+from .kinds import setting_of
+
+#: How many bytes an item of a type has.
+SIZES = {"byte": 1, "short": 2, "int": 4}
+# The keys of a block that are no parameters of its kind.
+OWN_KEYS = ("name", "kind")
+
+
+@dataclass(frozen=True)
+class GraphFile:
+    """A text that the library has accepted, with its tables."""
+
+    text: str
+    blocks: list[dict[str, Any]]
+    connects: list[dict[str, Any]]
+    firings: dict[str, str]
+
+    @classmethod
+    def of(cls, text: str) -> GraphFile:
+        """Of a text. One that `check` refuses is refused as it does."""
+        firings = firings_of(text)
+        tables = tables_of(text)
+        return cls(text, tables.get("block", []), tables.get("connect", []), firings)
+
+    def named(self, kind: str) -> list[str]:
+        """The blocks of a kind, in the order of the file."""
+        return [it["name"] for it in self.blocks if it["kind"] == kind]
+
+    def item_size(self, name: str) -> int:
+        """How many bytes an item of a source or of a sink has."""
+        return SIZES[next(it for it in self.blocks if it["name"] == name)["type"]]
+
+    def shown(self) -> dict[str, Any]:
+        """What the page draws."""
+        return {"blocks": [self._block(it) for it in self.blocks], "connects": [self._connect(it) for it in self.connects], "text": self.text}
+
+    def _block(self, block: dict[str, Any]) -> dict[str, Any]:
+        setting = setting_of(block)
+        return {
+            "name": block["name"],
+            "kind": block["kind"],
+            "parameters": {key: value for key, value in block.items() if key not in OWN_KEYS},
+            "firings": self.firings.get(block["name"]),
+            "setting": setting and {**setting._asdict(), "value": block[setting.key]},
+        }
+
+    def _connect(self, it: dict[str, Any]) -> dict[str, Any]:
+        block = next(block for block in self.blocks if block["name"] == it["from"])
+        # (a kind without a type is one of bytes, and one with a type `to` gives items of that)
+        item = block.get("to", block.get("type", "byte"))
+        return {"from": it["from"], "from_port": it.get("from_port", 0), "to": it["to"], "to_port": it.get("to_port", 0), "type": item}

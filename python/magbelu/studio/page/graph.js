@@ -1,0 +1,116 @@
+// The graph, drawn in the page.
+
+import { drawn, element, grouped } from "./elements.js";
+import { layout, portAt } from "./layout.js";
+
+const LEAST_ZOOM = 0.02, READABLE = 0.7, MOST_ZOOM = 3, LINE = 15;
+const NOTED = ["value", "factor", "on", "n", "decimation", "interpolation", "to"];
+
+/** The lines in a block's box. */
+function linesOf(block) {
+    const lines = [block.name, block.kind];
+    const taps = block.parameters.taps;
+    if (taps) lines.push(`${taps.length} taps`);
+    for (const key of NOTED) if (key in block.parameters) lines.push(`${key} ${block.parameters[key]}`);
+    return lines;
+}
+
+export class GraphView {
+    /** `chosen` is called with the name of a block that is chosen. */
+    constructor(at, chosen) {
+        this.at = at;
+        this.chosen = chosen;
+        this.zoom = 1;
+        this.blocks = new Map();
+    }
+
+    draw(graph) {
+        const blocks = graph.blocks.map((it) => ({ ...it, lines: linesOf(it) }));
+        const { boxes, ways, width, height } = layout(blocks, graph.connects);
+        this.graph = graph;
+        this.size = { width, height };
+        this.blocks.clear();
+        this.svg = drawn("svg", { role: "group", viewBox: `0 0 ${width} ${height}` });
+        graph.connects.forEach((it, number) => this.svg.append(this.line(it, ways[number])));
+        for (const box of boxes.values()) this.svg.append(this.box(box));
+        this.at.replaceChildren(this.svg);
+        this.fit(READABLE);
+    }
+
+    /** A line from port to port, through the gaps on its way. */
+    line(connect, way) {
+        const between = way.slice(1, -1).map((it) => ({ x: it.x, y: it.y + it.height / 2 }));
+        const points = [portAt(way[0], "out", connect.from_port), ...between, portAt(way.at(-1), "in", connect.to_port)];
+        const curves = points.slice(1).map((to, place) => {
+            const from = points[place], bend = Math.max(24, (to.x - from.x) / 2);
+            return `C${from.x + bend},${from.y} ${to.x - bend},${to.y} ${to.x},${to.y}`;
+        });
+        const title = drawn("title", {}, `${connect.from} ${connect.from_port} to ${connect.to} ${connect.to_port}: ${connect.type}`);
+        return drawn("path", { d: `M${points[0].x},${points[0].y} ${curves.join(" ")}`, class: `line ${connect.type}` }, title);
+    }
+
+    box(box) {
+        const { block, x, y, width, height } = box;
+        const group = drawn("g", { class: "block", tabindex: 0, role: "button", "aria-label": `${block.name}, ${block.kind}` });
+        group.dataset.block = block.name;
+        group.append(drawn("rect", { x, y, width, height, rx: 5 }));
+        const top = y + (height - block.lines.length * LINE) / 2 + 11;
+        block.lines.forEach((line, row) =>
+            group.append(drawn("text", { x: x + width / 2, y: top + row * LINE, class: row === 0 ? "name" : "" }, line)));
+        for (const [side, count] of [["in", box.inputs], ["out", box.outputs]]) {
+            for (let port = 0; port < count; port++) {
+                const at = portAt(box, side, port);
+                group.append(drawn("circle", { cx: at.x, cy: at.y, r: 4, class: "port", "data-side": side, "data-port": port }));
+            }
+        }
+        const note = drawn("text", { x: x + width / 2, y: y + height + 13, class: "note" });
+        group.append(note);
+        group.addEventListener("click", () => this.choose(block.name));
+        group.addEventListener("keydown", (event) => event.key === "Enter" && this.choose(block.name));
+        this.blocks.set(block.name, { group, note });
+        return group;
+    }
+
+    choose(name) {
+        for (const [other, { group }] of this.blocks) group.classList.toggle("chosen", other === name);
+        this.chosen(name);
+    }
+
+    /** Shows what each block waits for, and how many items come a second where the run tells. */
+    show(run, rates) {
+        for (const [name, { group, note }] of this.blocks) {
+            const [what, port] = run.needs[name] ?? [];
+            const rate = rates[name];
+            group.dataset.need = what ?? "";
+            note.textContent = [rate ? `${grouped(Math.round(rate))}/s` : "", this.wait(name, what, port)].filter(Boolean).join(", ");
+        }
+    }
+
+    /** For whom a block waits. */
+    wait(name, what, port) {
+        if (what === "feed") return "waits for input";
+        if (what === "items") return `waits for ${this.graph.connects.find((it) => it.to === name && it.to_port === port)?.from}`;
+        if (what === "room") return `waits for room: ${this.graph.connects.filter((it) => it.from === name && it.from_port === port).map((it) => it.to).join(", ")}`;
+        return "";
+    }
+
+    /** Shows the whole graph, but for what would be smaller than `least`. */
+    fit(least = LEAST_ZOOM) {
+        const room = this.at.clientWidth - 4;
+        this.zoomTo(Math.max(least, Math.min(1, room / this.size.width)));
+    }
+
+    zoomTo(zoom) {
+        this.zoom = Math.min(Math.max(zoom, LEAST_ZOOM), MOST_ZOOM);
+        this.svg.setAttribute("width", this.size.width * this.zoom);
+        this.svg.setAttribute("height", this.size.height * this.zoom);
+    }
+}
+
+/** What the page says of a block: its parameters, as they stand in the file. */
+export function blockTable(block) {
+    const rows = Object.entries(block.parameters).map(([key, value]) =>
+        element("tr", {}, element("th", {}, key), element("td", {}, Array.isArray(value) ? value.join(" ") : String(value))));
+    const fires = block.firings ? `fires ${block.firings === "1" ? "once" : `${grouped(block.firings)} times`} in an iteration` : "";
+    return [element("h2", {}, block.name), element("p", {}, block.kind), element("p", { class: "note" }, fires), element("table", {}, ...rows)];
+}

@@ -1,0 +1,105 @@
+"""What a page shows of a sink, and the frames that it gets of it."""
+
+from __future__ import annotations
+
+import array
+import json
+import struct
+from dataclasses import dataclass
+from typing import Any, Optional
+
+from .._held import Tag
+from .trace import Trace
+
+#: The least and the greatest width of a view in columns, and how many tags a frame has at most.
+WIDTHS, MOST_TAGS = (1, 4096), 200
+# How many items a frame has at most where it has each of them.
+MOST_ITEMS = 8192
+
+
+class BadView(ValueError):
+    """A page asked for what no view is."""
+
+
+def number(asked: dict[str, Any], key: str, low: int, high: int) -> int:
+    """A whole number that a page asked for."""
+    value = asked.get(key)
+    if isinstance(value, bool) or not isinstance(value, int) or not low <= value <= high:
+        raise BadView("%s is a whole number from %d to %d" % (key, low, high))
+    return value
+
+
+@dataclass
+class View:
+    """What is shown of a sink: `span` items in so many columns, from an item on, or up to the last one, or about the last tag with a key. Where `is_whole` is said, each
+    item is wanted, and not the least and the greatest of a column."""
+
+    sink: str
+    span: int
+    width: int
+    start: Optional[int] = None
+    key: Optional[str] = None
+    is_whole: bool = False
+    #: The end of what was shown last, if anything was, and how many items went by since then that were never shown.
+    shown: Optional[int] = None
+    missed: int = 0
+
+    @classmethod
+    def of(cls, asked: dict[str, Any]) -> View:
+        start = None if asked.get("start") is None else number(asked, "start", 0, 2**62)
+        key = asked.get("key")
+        if key is not None and not isinstance(key, str):
+            raise BadView("key is a text")
+        return cls(str(asked.get("sink")), number(asked, "span", 1, 2**31), number(asked, "width", *WIDTHS), start, key, asked.get("whole") is True)
+
+    def window(self, trace: Trace) -> tuple[int, int]:
+        """The items that are shown now, of those that there are."""
+        low, end = trace.start, trace.end
+        if self.start is not None:
+            start = self.start
+        else:
+            # (a tag stands a quarter behind the left side, once what is right of it is there)
+            tag = trace.last_tag(self.key, end - self.span * 3 // 4 + 1) if self.key is not None else None
+            start = tag.offset - self.span // 4 if tag else end - self.span
+        start = min(max(start, low), end)
+        return start, min(start + self.span, end)
+
+    def frame(self, name: str, trace: Trace) -> Optional[bytes]:
+        """What is shown now, or None where that was written over meanwhile."""
+        start, end = self.window(trace)
+        head: dict[str, Any] = {"view": name, "sink": self.sink, "start": start, "end": end, "low": trace.start, "held": trace.end}
+        if self.is_whole or end - start <= max(2 * self.width, 64):
+            start = max(start, end - MOST_ITEMS) if self.is_whole and self.start is None else start
+            items = trace.items(start, min(end, start + MOST_ITEMS))
+            if items is None:
+                return None
+            head["first"] = start
+            payload = array.array("i", items)
+        else:
+            columns = trace.columns(start, end, self.width)
+            if columns is None:
+                return None
+            head.update(first=columns.start, step=columns.step)
+            payload = array.array("i", columns.least + columns.greatest)
+        self._count(head, start)
+        tags = trace.tags(start, end)
+        head.update(tags=[shown_tag(it) for it in tags[-MOST_TAGS:]], tags_more=max(0, len(tags) - MOST_TAGS), missed=self.missed, keys=trace.keys())
+        return packed(head, payload)
+
+    def _count(self, head: dict[str, Any], first: int) -> None:
+        """Counts the items that went by between the last frame and this one, where the view follows the stream."""
+        if self.start is None and self.key is None and self.shown is not None:
+            self.missed += max(0, first - self.shown)
+        self.shown = max(self.shown or 0, head["end"])
+
+
+def shown_tag(tag: Tag) -> list[Any]:
+    """A tag as the page takes it. (A number of 64 bits is no number of JavaScript's.)"""
+    return [tag.offset, tag.key, str(tag.value), tag.source]
+
+
+def packed(head: dict[str, Any], payload: array.array[int]) -> bytes:
+    """A frame: the length of its head, the head as JSON, filled with spaces to whole words, and numbers of 32 bits."""
+    text = json.dumps(head).encode()
+    text += b" " * (-len(text) % 4)
+    return struct.pack("<I", len(text)) + text + payload.tobytes()

@@ -1,0 +1,71 @@
+#!/usr/bin/env bash
+# magbelu-studio: tests/studio/cases.py has the cases. Those of `guard` and `runs` need ./build --c's library and Python's aiohttp, those of `shown` and `turned` a browser
+# too: chromium with its driver, and Python's selenium. That the table of kinds is what `flow kinds` prints, which docs/KINDS.md has, is tried everywhere.
+set -euo pipefail
+# shellcheck source=tests/part.sh
+source "$(dirname -- "$(readlink -f -- "${BASH_SOURCE[0]}")")/../part.sh"
+
+without_browser=(wrong_token other_origin this_machine_alone refused_graphs columns slow_page pipes cut_item steps pages_come_and_go memory)
+in_browser=(sinks_as_run controls markup many_blocks server_killed)
+# (Debian's modules are there for its own Python alone.)
+python=$([[ -x /usr/bin/python3 ]] && echo /usr/bin/python3 || echo python3)
+export PYTHONDONTWRITEBYTECODE=1
+
+list() { printf 'studio/%s\n' kinds "${without_browser[@]}" "${in_browser[@]}"; }
+
+# lacks NEED..: prints what is not here of these: the library, programs, modules of Python
+lacks() {
+    local it
+    for it; do
+        case $it in
+        library) is_fresh "$c_folder/libmagbelu.so" "$c_crate" || echo "./build --c has not built libmagbelu.so from these sources" ;;
+        chromium | chromedriver) [[ -x /usr/bin/$it ]] || echo "there is no $it" ;;
+        *) "$python" -c "import $it" 2>/dev/null || echo "python3 has no module $it" ;;
+        esac
+    done
+}
+
+# tells_kinds: the package's table of kinds is that of the page, which holds what the program prints
+tells_kinds() { sed -n '/^\$ .\/flow kinds$/,/^```$/{//d;p}' "$top/docs/KINDS.md" | diff -U 1 - "$top/python/magbelu/studio/kinds.txt"; }
+
+# case_of NAME
+case_of() {
+    HOME=$room MAGBELU_LIBRARY=$c_folder/libmagbelu.so PYTHONPATH=$top/python timeout 300 "$python" "$top/tests/studio/cases.py" "$1"
+}
+
+# try WHY CASE COMMAND..: the command is the case, if it is wanted, and unless there is a reason why it cannot be tried here
+try() {
+    local status=0
+    if ! is_wanted "$2"; then
+        return
+    elif [[ -n $1 ]]; then
+        left_out "$2" <<<"${1//$'\n'/, }"
+        return
+    fi
+    # (in a condition a command would go on where it fails)
+    set +e
+    (set -e && "${@:3}") >"$room/said" 2>&1
+    status=$?
+    set -e
+    if [[ $status == 0 ]]; then
+        passed "$2"
+    else
+        # (`timeout` ends in this status, and says nothing)
+        { tail -n 40 "$room/said" && { [[ $status != 124 ]] || echo "it did not end within 300 seconds"; }; } | failed "$2"
+    fi
+}
+
+run() {
+    local it why
+    try '' studio/kinds tells_kinds
+    why=$(lacks library aiohttp)
+    for it in "${without_browser[@]}"; do
+        try "$why" "studio/$it" case_of "$it"
+    done
+    why=$(lacks library aiohttp selenium chromium chromedriver)
+    for it in "${in_browser[@]}"; do
+        try "$why" "studio/$it" case_of "$it"
+    done
+}
+
+"$1"

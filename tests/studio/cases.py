@@ -1,0 +1,14 @@
+"""The cases of magbelu.studio: `cases.py NAME` tries one."""
+
+from __future__ import annotations
+
+import sys
+
+import guard
+import runs
+import shown
+
+CASES = {it.__name__: it for it in [*guard.CASES, *runs.CASES, *shown.CASES]}
+
+if __name__ == "__main__":
+    CASES[sys.argv[1]]()
