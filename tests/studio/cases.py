@@ -7,8 +7,9 @@ import sys
 import guard
 import runs
 import shown
+import turned
 
-CASES = {it.__name__: it for it in [*guard.CASES, *runs.CASES, *shown.CASES]}
+CASES = {it.__name__: it for it in [*guard.CASES, *runs.CASES, *shown.CASES, *turned.CASES]}
 
 if __name__ == "__main__":
     CASES[sys.argv[1]]()

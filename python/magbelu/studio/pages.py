@@ -29,7 +29,7 @@ class Page:
         self._free: set[str] = set()
         self._sent: dict[str, Any] = {}
         self._told: Any = None
-        self._number = 0
+        self._number, self._logged = 0, 0
 
     async def serve(self) -> None:
         """Serves the page until it goes."""
@@ -88,10 +88,14 @@ class Page:
         while True:
             run = self._studio.run
             if run.number != self._number:
-                self._number, self._told = run.number, None
+                self._number, self._told, self._logged = run.number, None, 0
                 for it in self._views.values():
                     it.shown, it.missed = None, 0
                 await self._socket.send_str(json.dumps({"path": str(self._studio.path), "graph": run.graph.shown()}))
+            made = run.log[self._logged :]
+            if made:
+                self._logged += len(made)
+                await self._socket.send_str(json.dumps({"log": made}))
             shown = run.shown()
             if shown != self._told:
                 self._told = shown
@@ -120,7 +124,7 @@ class Page:
         shown = (run.number, trace.end, trace.start if view.start is not None else 0, view.start)
         if self._sent.get(name) == shown:
             return None
-        data = view.frame(name, trace)
+        data = view.frame(name, run.traces)
         if data is not None:
             self._sent[name] = shown
         return data

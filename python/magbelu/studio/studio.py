@@ -33,7 +33,7 @@ class Studio:
     def __init__(self, path: Union[str, os.PathLike[str]], ways: Ways, rate: Optional[int] = None) -> None:
         self.path, self.ways = pathlib.Path(path), ways
         self.run = self._new(read_file(path).decode(), 1, rate)
-        self._does = {"run": self._go_on, "pause": self._pause, "rate": self._set_rate, "again": self._again}
+        self._does = {"run": self._go_on, "pause": self._pause, "rate": self._set_rate, "again": self._again, "set": self._set}
 
     def _new(self, text: str, number: int, rate: Optional[int]) -> Run:
         run = Run(GraphFile.of(text), str(self.path), self.ways, number)
@@ -62,6 +62,14 @@ class Studio:
     async def _set_rate(self, asked: dict[str, Any]) -> None:
         rate = whole(asked, "rate", 1)
         await self._in_run(lambda: self.run.set_rate(rate))
+
+    async def _set(self, asked: dict[str, Any]) -> int:
+        """Sets a block, and gives the item from which that is in force."""
+        block, value, at = asked.get("block"), asked.get("value"), whole(asked, "at")
+        numbers = value if isinstance(value, list) else [value]
+        if not isinstance(block, str) or not all(type(it) is int for it in numbers):
+            raise Wrong("a block is set to a whole number or to a list of them")
+        return int(await self._in_run(lambda: self.run.set(block, value, at)))
 
     async def _again(self, asked: dict[str, Any]) -> None:
         """Begins anew, which a pipe cannot."""

@@ -3,6 +3,7 @@
 from __future__ import annotations
 
 import array
+import itertools
 import json
 import struct
 from dataclasses import dataclass
@@ -32,7 +33,7 @@ def number(asked: dict[str, Any], key: str, low: int, high: int) -> int:
 @dataclass
 class View:
     """What is shown of a sink: `span` items in so many columns, from an item on, or up to the last one, or about the last tag with a key. Where `is_whole` is said, each
-    item is wanted, and not the least and the greatest of a column."""
+    item is wanted, and not the least and the greatest of a column; and behind them, where there is an `other` sink, its items of the same numbers."""
 
     sink: str
     span: int
@@ -40,6 +41,7 @@ class View:
     start: Optional[int] = None
     key: Optional[str] = None
     is_whole: bool = False
+    other: Optional[str] = None
     #: The end of what was shown last, if anything was, and how many items went by since then that were never shown.
     shown: Optional[int] = None
     missed: int = 0
@@ -47,14 +49,14 @@ class View:
     @classmethod
     def of(cls, asked: dict[str, Any]) -> View:
         start = None if asked.get("start") is None else number(asked, "start", 0, 2**62)
-        key = asked.get("key")
-        if key is not None and not isinstance(key, str):
-            raise BadView("key is a text")
-        return cls(str(asked.get("sink")), number(asked, "span", 1, 2**31), number(asked, "width", *WIDTHS), start, key, asked.get("whole") is True)
+        key, other = asked.get("key"), asked.get("other")
+        if not all(it is None or isinstance(it, str) for it in (key, other)):
+            raise BadView("key and other are texts")
+        is_whole = asked.get("whole") is True or other is not None
+        return cls(str(asked.get("sink")), number(asked, "span", 1, 2**31), number(asked, "width", *WIDTHS), start, key, is_whole, other)
 
-    def window(self, trace: Trace) -> tuple[int, int]:
-        """The items that are shown now, of those that there are."""
-        low, end = trace.start, trace.end
+    def window(self, trace: Trace, low: int, end: int) -> tuple[int, int]:
+        """The items that are shown now, of those from `low` to `end`."""
         if self.start is not None:
             start = self.start
         else:
@@ -64,33 +66,46 @@ class View:
         start = min(max(start, low), end)
         return start, min(start + self.span, end)
 
-    def frame(self, name: str, trace: Trace) -> Optional[bytes]:
-        """What is shown now, or None where that was written over meanwhile."""
-        start, end = self.window(trace)
-        head: dict[str, Any] = {"view": name, "sink": self.sink, "start": start, "end": end, "low": trace.start, "held": trace.end}
+    def frame(self, name: str, traces: dict[str, Trace]) -> Optional[bytes]:
+        """What is shown now, or None where a sink is not there, or its items were written over meanwhile."""
+        shown = [traces.get(it) for it in (self.sink, self.other) if it is not None]
+        both = [it for it in shown if it is not None]
+        if len(both) < len(shown):
+            return None
+        trace = both[0]
+        low, held = max(it.start for it in both), min(it.end for it in both)
+        start, end = self.window(trace, low, held)
+        head: dict[str, Any] = {"view": name, "sink": self.sink, "low": low, "held": held}
         if self.is_whole or end - start <= max(2 * self.width, 64):
-            start = max(start, end - MOST_ITEMS) if self.is_whole and self.start is None else start
-            items = trace.items(start, min(end, start + MOST_ITEMS))
-            if items is None:
+            start, end = self._cut(start, end)
+            items = [it.items(start, end) for it in both]
+            if None in items:
                 return None
             head["first"] = start
-            payload = array.array("i", items)
+            payload = array.array("i", itertools.chain.from_iterable(it for it in items if it is not None))
         else:
             columns = trace.columns(start, end, self.width)
             if columns is None:
                 return None
             head.update(first=columns.start, step=columns.step)
             payload = array.array("i", columns.least + columns.greatest)
-        self._count(head, start)
+        self._count(start, end)
         tags = trace.tags(start, end)
-        head.update(tags=[shown_tag(it) for it in tags[-MOST_TAGS:]], tags_more=max(0, len(tags) - MOST_TAGS), missed=self.missed, keys=trace.keys())
+        head.update(start=start, end=end, missed=self.missed, keys=trace.keys())
+        head.update(tags=[shown_tag(it) for it in tags[-MOST_TAGS:]], tags_more=max(0, len(tags) - MOST_TAGS))
         return packed(head, payload)
 
-    def _count(self, head: dict[str, Any], first: int) -> None:
+    def _cut(self, start: int, end: int) -> tuple[int, int]:
+        """As many of the items as a frame may have: the first, or where the view follows the stream the last."""
+        if self.start is None and self.key is None:
+            return max(start, end - MOST_ITEMS), end
+        return start, min(end, start + MOST_ITEMS)
+
+    def _count(self, start: int, end: int) -> None:
         """Counts the items that went by between the last frame and this one, where the view follows the stream."""
         if self.start is None and self.key is None and self.shown is not None:
-            self.missed += max(0, first - self.shown)
-        self.shown = max(self.shown or 0, head["end"])
+            self.missed += max(0, start - self.shown)
+        self.shown = max(self.shown or 0, end)
 
 
 def shown_tag(tag: Tag) -> list[Any]:

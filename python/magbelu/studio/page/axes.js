@@ -27,8 +27,8 @@ export function areaOf(canvas) {
     return { context, colour, width, height, left: LEFT, right: width - RIGHT, top: TOP, bottom: height - BOTTOM };
 }
 
-/** How many columns a canvas has room for. */
-export const columnsOf = (canvas) => Math.max(1, Math.min(4096, Math.round(canvas.clientWidth - LEFT - RIGHT)));
+/** How many columns a canvas has room for: up to two a pixel, since they come in powers of two of items. */
+export const columnsOf = (canvas) => Math.max(1, Math.min(4096, Math.round(2 * (canvas.clientWidth - LEFT - RIGHT))));
 
 /** Steps of 1, 2 or 5 times a power of ten, of which about `count` lie between two numbers. */
 export function ticks(low, high, count) {
@@ -48,7 +48,7 @@ export function shortened(number) {
     return String(Number(number.toPrecision(4)));
 }
 
-/** The axes, with the numbers at them. `suffix` stands behind the last number below. */
+/** The axes, with the numbers at them: whole ones alone where `wholeX` or `wholeY` says so, and none at the left with `noY`. */
 export function drawAxes(area, [low, high], [least, greatest], labels = {}) {
     const { context, colour } = area;
     const x = scale(low, high, area.left, area.right), y = scale(least, greatest, area.bottom, area.top);
@@ -57,7 +57,7 @@ export function drawAxes(area, [low, high], [least, greatest], labels = {}) {
     context.fillStyle = colour.faint;
     context.textBaseline = "middle";
     context.textAlign = "right";
-    for (const at of ticks(least, greatest, (area.bottom - area.top) / TICK_Y)) {
+    for (const at of labels.noY ? [] : ticks(least, greatest, (area.bottom - area.top) / TICK_Y)) {
         if (labels.wholeY && !Number.isInteger(at)) continue;
         line(context, area.left, y(at), area.right, y(at));
         context.fillText(shortened(at), area.left - 6, y(at));

@@ -4,10 +4,12 @@ import { grouped, wholeIn } from "./elements.js";
 import { GraphView, blockTable } from "./graph.js";
 import { Link } from "./link.js";
 import { Plot } from "./plot.js";
+import { Settings } from "./settings.js";
 
 const by = (id) => document.getElementById(id);
 const plots = new Map();
-const page = { graph: null, run: null, before: null };
+const page = { graph: null, run: null, before: null, plots: 0 };
+const settings = new Settings(by("settings"), by("log"), ask);
 const graphView = new GraphView(by("graph"), chooseBlock);
 
 const link = new Link({
@@ -20,6 +22,7 @@ const link = new Link({
         document.title = `${path.split("/").pop()} \u2013 magbelu studio`;
     },
     run: takeRun,
+    log: (made) => settings.take(made),
     frame: (head, numbers) => plots.get(head.view)?.take(head, numbers),
 });
 
@@ -59,13 +62,25 @@ function takeGraph(graph) {
     const sinks = graph.blocks.filter((it) => it.kind === "vector_sink").map((it) => it.name);
     for (const [name, it] of plots) if (!sinks.includes(it.sink)) (it.close(), plots.delete(name));
     for (const sink of sinks) if (![...plots.values()].some((it) => it.sink === sink)) addPlot(sink);
+    settings.draw(graph);
 }
 
-function addPlot(sink) {
-    const name = `v${plots.size}:${sink}`;
-    const plot = new Plot(link, name, sink);
+/** Adds a plot of a sink, behind another one where that is said. */
+function addPlot(sink, behind = null) {
+    const all = page.graph.blocks.filter((it) => it.kind === "vector_sink");
+    const type = all.find((it) => it.name === sink).parameters.type;
+    const others = all.filter((it) => it.name !== sink && it.parameters.type === type).map((it) => it.name);
+    const name = `v${++page.plots}`;
+    const plot = new Plot(link, name, { sink, type, others }, behind ? "spectrum" : "levels", morePlots);
+    plot.closes.hidden = !behind;
     plots.set(name, plot);
-    by("plots").append(plot.figure);
+    if (behind) behind.figure.after(plot.figure);
+    else by("plots").append(plot.figure);
+}
+
+function morePlots(plot, isClosed = false) {
+    if (!isClosed) addPlot(plot.sink, plot);
+    else (plots.delete(plot.name), plot.close());
 }
 
 /** How many items a second went through sources and sinks since the last time. */
@@ -120,6 +135,7 @@ function turnTheme() {
     const isDark = (root.dataset.theme ?? (matchMedia("(prefers-color-scheme: dark)").matches ? "dark" : "light")) === "dark";
     root.dataset.theme = isDark ? "light" : "dark";
     for (const it of plots.values()) if (it.frame) it.paint();
+    settings.look();
 }
 
 by("run").addEventListener("click", toggleRun);

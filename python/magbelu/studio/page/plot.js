@@ -1,16 +1,20 @@
 // A plot of what a sink takes, which moves along.
 
 import { areaOf, columnsOf } from "./axes.js";
+import { bits } from "./bits.js";
 import { element, grouped } from "./elements.js";
 import { levels } from "./levels.js";
 import { numbers } from "./numbers.js";
+import { scatter } from "./scatter.js";
+import { spectrum, waterfall } from "./spectrum.js";
 
-const KINDS = { levels, numbers };
+const KINDS = { levels, bits, spectrum, waterfall, scatter, numbers };
 const FIRST_SPAN = 4096, LEAST_SPAN = 8, MOST_SPAN = 2 ** 22, NEAR = 5;
 
 export class Plot {
-    constructor(link, name, sink, kind = "levels") {
-        Object.assign(this, { link, name, sink, span: FIRST_SPAN, start: null, key: null, frame: null });
+    /** A plot of a sink, whose items have a type, or of it and one of the `others`. `more` is called for another plot of the same sink, where it may be closed too. */
+    constructor(link, name, { sink, type, others }, kind = "levels", more = null) {
+        Object.assign(this, { link, name, sink, type, others, more, other: others[0], span: FIRST_SPAN, start: null, key: null, frame: null });
         this.kind = KINDS[kind];
         this.canvas = element("canvas", { tabindex: 0, "aria-label": `plot of ${sink}` });
         this.text = element("div", { class: "numbers", tabindex: 0 });
@@ -24,13 +28,18 @@ export class Plot {
 
     bar(kind) {
         const button = (text, title, does) => element("button", { type: "button", title, onclick: does }, text);
-        this.select = element("select", { title: "how it is shown", onchange: () => this.show(this.select.value) },
-            ...Object.entries(KINDS).map(([key, it]) => element("option", { value: key, selected: key === kind }, it.title)));
+        const option = (value, text, selected) => element("option", { value, selected }, text);
+        const kinds = Object.entries(KINDS).filter(([, it]) => !it.needsOther || this.others.length);
+        this.select = element("select", { class: "kind", title: "how it is shown", onchange: () => this.show(this.select.value) },
+            ...kinds.map(([key, it]) => option(key, it.title, key === kind)));
         this.holds = button("Hold", "hold or follow (h)", () => this.hold(this.start === null));
-        this.keys = element("select", { title: "shows the last tag with this key", onchange: () => this.trigger(this.keys.value || null) },
-            element("option", { value: "" }, "no trigger"));
-        return element("div", { class: "bar" }, element("h2", {}, this.sink), this.select, button("\u2212", "more items (-)", () => this.zoom(2)),
-            button("+", "fewer items (+)", () => this.zoom(0.5)), this.holds, this.keys);
+        this.keys = element("select", { class: "key", title: "shows the last tag with this key", onchange: () => this.trigger(this.keys.value || null) },
+            option("", "no trigger"));
+        this.second = element("select", { class: "other", title: "the sink for Q", hidden: true, onchange: () => ((this.other = this.second.value), this.ask()) },
+            ...this.others.map((it) => option(it, `Q: ${it}`)));
+        return element("div", { class: "bar" }, element("h2", {}, this.sink), this.select, this.second, button("\u2212", "more items (-)", () => this.zoom(2)),
+            button("+", "fewer items (+)", () => this.zoom(0.5)), this.holds, this.keys, button("Another", "another plot of this sink", () => this.more?.(this)),
+            (this.closes = button("Close", "close this plot", () => this.more?.(this, true))));
     }
 
     listen() {
@@ -61,16 +70,19 @@ export class Plot {
         const isText = Boolean(this.kind.write);
         this.canvas.hidden = isText;
         this.text.hidden = !isText;
+        this.second.hidden = !this.kind.needsOther;
         const span = Math.min(this.span, this.kind.most ?? MOST_SPAN);
         this.link.say({
             do: "view", view: this.name, sink: this.sink, span, width: isText ? 1 : columnsOf(this.canvas), whole: Boolean(this.kind.isWhole),
-            start: this.start, key: this.key,
+            start: this.start, key: this.key, other: this.kind.needsOther ? this.other : null,
         });
         this.holds.setAttribute("aria-pressed", this.start !== null);
     }
 
     show(kind) {
         this.kind = KINDS[kind];
+        this.frame = this.items = null;
+        this.pointed.replaceChildren();
         this.ask();
     }
 
@@ -121,6 +133,7 @@ export class Plot {
 
     /** Says which item the pointer is at, and which tags are near. */
     point(x) {
+        if (this.frame && this.kind.point) this.pointed.textContent = this.kind.point(this, x);
         if (!this.frame || !this.items) return;
         const { head, numbers: values } = this.frame;
         const item = this.itemAt(x), count = values.length / 2;
@@ -145,7 +158,7 @@ export class Plot {
         if (!this.frame) return;
         const { head } = this.frame;
         if (this.kind.write) this.kind.write(this.text, this.frame);
-        else this.items = this.kind.paint(areaOf(this.canvas), this.frame, this);
+        else this.items = this.kind.paint((this.area = areaOf(this.canvas)), this.frame, this);
         const more = head.tags_more ? `, ${grouped(head.tags_more)} more tags` : "";
         const range = head.end > head.start ? `items ${grouped(head.start)} to ${grouped(head.end - 1)} of ${grouped(head.held)}` : "no items yet";
         this.told.textContent = range + more;
