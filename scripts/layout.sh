@@ -9,7 +9,7 @@ python_folder=
 zsh_folder=share/zsh/site-functions
 list=/dev/null
 # The pages of docs/ for users.
-pages=(C.md COVERAGE.md FORMATS.md FOR_GNU_RADIO_USERS.md GLOSSARY.md KINDS.md SPEED.md STUDIO.md echo.svg studio_signal.png trace.svg)
+pages=(C.md COVERAGE.md FORMATS.md FOR_GNU_RADIO_USERS.md GLOSSARY.md KINDS.md SPEED.md STUDIO.md echo.svg studio_file.png studio_signal.png trace.svg)
 # Whether places are only tested; and the file that has to go where the script ends now.
 only_tests=0
 half_made=

@@ -5,8 +5,9 @@ set -euo pipefail
 # shellcheck source=tests/part.sh
 source "$(dirname -- "$(readlink -f -- "${BASH_SOURCE[0]}")")/../part.sh"
 
-without_browser=(wrong_token other_origin this_machine_alone refused_graphs columns slow_page pipes cut_item steps pages_come_and_go memory script items_over_items trigger)
-in_browser=(sinks_as_run controls markup many_blocks server_killed dragged taps transforms all_views)
+without_browser=(wrong_token other_origin this_machine_alone refused_graphs columns slow_page pipes cut_item steps pages_come_and_go memory script items_over_items trigger saved texts)
+in_browser=(sinks_as_run controls markup many_blocks server_killed dragged taps transforms all_views faults added_and_joined dropped
+    keys_and_contrast)
 # (Debian's modules are there for its own Python alone.)
 python=$([[ -x /usr/bin/python3 ]] && echo /usr/bin/python3 || echo python3)
 export PYTHONDONTWRITEBYTECODE=1

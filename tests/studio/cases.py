@@ -4,12 +4,13 @@ from __future__ import annotations
 
 import sys
 
+import edited
 import guard
 import runs
 import shown
 import turned
 
-CASES = {it.__name__: it for it in [*guard.CASES, *runs.CASES, *shown.CASES, *turned.CASES]}
+CASES = {it.__name__: it for it in [*guard.CASES, *runs.CASES, *shown.CASES, *turned.CASES, *edited.CASES]}
 
 if __name__ == "__main__":
     CASES[sys.argv[1]]()

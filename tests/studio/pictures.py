@@ -36,5 +36,21 @@ def signal(at: pathlib.Path) -> None:
             driver.save_screenshot(str(at / "studio_signal.png"))
 
 
+def file(at: pathlib.Path) -> None:
+    """A fault in a graph file, in the dark."""
+    with Server(str(TOP / "examples/echo/graph.toml")) as server, browser(1280, 900) as driver:
+        driver.get(server.address)
+        comes_to(driver, "done")
+        driver.find_element("css selector", "#theme").click()
+        driver.find_element("css selector", "[data-shows=file]").click()
+        field = driver.find_element("css selector", "#editor textarea")
+        field.click()
+        driver.execute_script("const at = arguments[0].value.indexOf('delay') + 3; arguments[0].setSelectionRange(at, at)", field)
+        field.send_keys("l")
+        time.sleep(2)
+        driver.save_screenshot(str(at / "studio_file.png"))
+
+
 if __name__ == "__main__":
-    signal(pathlib.Path(sys.argv[1]))
+    for picture in (signal, file):
+        picture(pathlib.Path(sys.argv[1]))

@@ -6,7 +6,7 @@ import pathlib
 import tempfile
 from typing import Any
 
-from browser import Server, TOP, as_numbers, browser, click, comes_to, fill, numbers_of, tags_of, text_of, until
+from browser import Server, TOP, as_numbers, browser, choose, click, comes_to, fill, numbers_of, tags_of, text_of, until
 from runs import SAW, folder_with
 
 ECHO = TOP / "examples/echo"
@@ -57,8 +57,10 @@ def controls() -> None:
         until("the end", lambda: text_of(driver, told) == "items 95,904 to 99,999 of 100,000")
         as_numbers(driver, "out")
         until("the last items", lambda: numbers_of(driver, "out") == list(SAW[-512:]))
+        choose(driver, "figure[data-sink='out'] select.kind", "levels")
+        fill(driver, "#rate", "1")
         click(driver, "#again")
-        until("the beginning", lambda: text_of(driver, told) == "no items yet")
+        until("the beginning", lambda: text_of(driver, told).startswith("items 0 to "))
         fill(driver, "#to", "x")
         click(driver, "#do-to")
         until("a fault", lambda: text_of(driver, "#fault") == "x is no whole number")

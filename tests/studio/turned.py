@@ -134,7 +134,11 @@ def taps() -> None:
     with folder, Server("--paused", "-i", "src=" + items, "-o", "out=" + out, graph) as server, browser() as driver:
         driver.get(server.address)
         comes_to(driver, "paused")
-        for typed, told in (("1 2", "there are 2 numbers: this filter has 3 taps"), ("1 2 x", "x is no whole number from -32,768 to 32,767"), ("1 2 40000", "40000 is no whole number from -32,768 to 32,767")):
+        for typed, told in (
+            ("1 2", "there are 2 numbers: this filter has 3 taps"),
+            ("1 2 x", "x is no whole number from -32,768 to 32,767"),
+            ("1 2 40000", "40000 is no whole number from -32,768 to 32,767"),
+        ):
             fill(driver, row + "textarea", typed)
             assert text_of(driver, row + "output") == told, text_of(driver, row + "output")
         fill(driver, "#at", "50,000")

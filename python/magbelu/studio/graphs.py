@@ -3,16 +3,20 @@
 from __future__ import annotations
 
 from dataclasses import dataclass
-from typing import Any
+from typing import Any, Optional
 
 from .._drawing import firings_of
+from .._errors import Refused
 from .._file import tables_of
+from .._stream import Stream
 from .kinds import setting_of
 
 #: How many bytes an item of a type has.
 SIZES = {"byte": 1, "short": 2, "int": 4}
 # The keys of a block that are no parameters of its kind.
 OWN_KEYS = ("name", "kind")
+# The refusals that come only once all blocks and connections of a file were found to be right: of ports that are not used, of the graph as a whole, and of feeds.
+DRAWN = (5, 7, 8, 11, 12, 20, 21, 24, 25, 26)
 
 
 @dataclass(frozen=True)
@@ -27,7 +31,19 @@ class GraphFile:
     @classmethod
     def of(cls, text: str) -> GraphFile:
         """Of a text. One that `check` refuses is refused as it does."""
-        firings = firings_of(text)
+        return cls._with(text, firings_of(text))
+
+    @classmethod
+    def draft(cls, text: str) -> tuple[Optional[GraphFile], Optional[Refused]]:
+        """Of a text that may be refused: the graph, where its blocks and connections can be drawn, and the refusal."""
+        try:
+            Stream(text).free()
+            return cls.of(text), None
+        except Refused as refused:
+            return (cls._with(text, {}) if refused.number in DRAWN else None), refused
+
+    @classmethod
+    def _with(cls, text: str, firings: dict[str, str]) -> GraphFile:
         tables = tables_of(text)
         return cls(text, tables.get("block", []), tables.get("connect", []), firings)
 

@@ -10,6 +10,7 @@ from typing import Any, Optional
 from aiohttp import WSMsgType, web
 
 from .._errors import Error
+from .kinds import kinds
 from .studio import Studio, Wrong
 from .views import BadView, View
 
@@ -84,14 +85,15 @@ class Page:
             raise BadView("a page has %d views at most" % MOST_VIEWS)
 
     async def _tell(self) -> None:
-        """Tells what graph it is, and time after time how far the run is."""
+        """Tells which kinds there are and what graph it is, and time after time how far the run is."""
+        await self._socket.send_str(json.dumps({"kinds": [it._asdict() for it in kinds().values()]}))
         while True:
             run = self._studio.run
             if run.number != self._number:
                 self._number, self._told, self._logged = run.number, None, 0
                 for it in self._views.values():
                     it.shown, it.missed = None, 0
-                await self._socket.send_str(json.dumps({"path": str(self._studio.path), "graph": run.graph.shown()}))
+                await self._socket.send_str(json.dumps({"path": str(self._studio.path), "saved": self._studio.saved, "graph": run.graph.shown()}))
             made = run.log[self._logged :]
             if made:
                 self._logged += len(made)

@@ -48,7 +48,8 @@ class Run(threading.Thread):
         self.needs: dict[str, list[Any]] = {}
         self._stream = Stream(graph.text, path)
         self._asked: queue.SimpleQueue[tuple[Callable[[], Any], concurrent.futures.Future[Any]]] = queue.SimpleQueue()
-        self._is_ended, self._looked = False, 0.0
+        # Whether the thread is to end, and whether it takes nothing more; and when it looked last.
+        self._is_ended, self._is_over, self._looked = False, False, 0.0
         # Where a paused run goes on to, and from when on and from which items of the inputs its pace counts.
         self._goals: dict[str, int] = {}
         self._paced_from, self._paced_counts = 0.0, dict.fromkeys(ways.inputs, 0)
@@ -73,7 +74,18 @@ class Run(threading.Thread):
         """Has the run's thread do something, and gives what comes of it."""
         future: concurrent.futures.Future[Any] = concurrent.futures.Future()
         self._asked.put((asked, future))
+        if self._is_over:
+            self._refuse()
         return future
+
+    def _refuse(self) -> None:
+        """Refuses all that was asked for too late."""
+        while True:
+            try:
+                _, future = self._asked.get_nowait()
+            except queue.Empty:
+                return
+            future.set_exception(ValueError("the run has ended"))
 
     def go_on(self, items: Optional[int] = None, to: Optional[int] = None) -> None:
         """Goes on to the end, or until each input has given so many items more, or has given all up to one."""
@@ -103,6 +115,7 @@ class Run(threading.Thread):
     def end(self) -> None:
         """Ends the thread, and with it the run where it is."""
         self._is_ended = True
+        # (it may wait for something to be asked)
         self.call(lambda: None)
 
     def run(self) -> None:
@@ -114,6 +127,8 @@ class Run(threading.Thread):
                 except (OSError, Error, CutItem, ValueError) as error:
                     self._come_to(FAILED, str(error))
         self._close()
+        self._is_over = True
+        self._refuse()
 
     def _obey(self) -> None:
         """Does all that is asked for; while nothing runs, it waits for that."""

@@ -5,11 +5,17 @@ from __future__ import annotations
 import asyncio
 import os
 import pathlib
+import re
+import tempfile
 from typing import Any, Callable, Optional, Union
 
+from .._errors import Refused
 from .._runs import read_file
+from .._stream import Stream
+from . import companion, edit
 from .graphs import GraphFile
-from .run import Run, Ways
+from .kinds import kinds
+from .run import FAILED, PAUSED, Run, Ways
 
 #: The greatest number that a page names an item or a rate with: all below are whole numbers in JavaScript.
 MOST = 2**53
@@ -27,13 +33,45 @@ def whole(asked: dict[str, Any], key: str, low: int = 0) -> Optional[int]:
     return value
 
 
+def text_in(asked: dict[str, Any], key: str) -> str:
+    """A text that a page has to give."""
+    value = asked.get(key)
+    if not isinstance(value, str):
+        raise Wrong("%s is a text" % key)
+    return value
+
+
+def fault_of(refused: Refused) -> dict[str, Any]:
+    """What is wrong with a text, and at which line and column. (The library shows a place as ` --> PATH:LINE:COLUMN`, then the line, and below it `^` and why.)"""
+    place = re.match(r"\s*--> .*:(\d+):(\d+)\n", refused.place)
+    if place is None:
+        return {"line": 1, "column": 1, "says": str(refused)}
+    why = refused.place.rpartition("^ ")[2].strip()
+    return {"line": int(place[1]), "column": int(place[2]), "says": "%s\nline %s, column %s: %s" % (Exception.__str__(refused), place[1], place[2], why)}
+
+
+def looked(text: str) -> dict[str, Any]:
+    """The graph of a text as the page draws it, and what is wrong with it."""
+    graph, refused = GraphFile.draft(text)
+    return {"graph": graph and graph.shown(), "fault": refused and fault_of(refused)}
+
+
 class Studio:
     """A graph file and its run."""
 
     def __init__(self, path: Union[str, os.PathLike[str]], ways: Ways, rate: Optional[int] = None) -> None:
         self.path, self.ways = pathlib.Path(path), ways
-        self.run = self._new(read_file(path).decode(), 1, rate)
-        self._does = {"run": self._go_on, "pause": self._pause, "rate": self._set_rate, "again": self._again, "set": self._set}
+        self._saved = read_file(path)
+        self.run = self._new(self._saved.decode(), 1, rate)
+        self._does = {
+            "run": self._go_on, "pause": self._pause, "rate": self._set_rate, "again": self._again, "set": self._set,
+            "look": self._look, "add": self._add, "connect": self._connect, "apply": self._apply, "save": self._save, "companion": self._companion,
+        }
+
+    @property
+    def saved(self) -> str:
+        """The text of the file, as it was read or written last."""
+        return self._saved.decode()
 
     def _new(self, text: str, number: int, rate: Optional[int]) -> Run:
         run = Run(GraphFile.of(text), str(self.path), self.ways, number)
@@ -73,17 +111,71 @@ class Studio:
 
     async def _again(self, asked: dict[str, Any]) -> None:
         """Begins anew, which a pipe cannot."""
-        if any(not it.is_file for it in self.run.inputs.values()):
-            raise Wrong("a run that is fed by a pipe cannot begin anew")
         await self._replace(self.run.graph.text)
 
     async def _replace(self, text: str) -> None:
-        """Ends the run, and begins one of a text. A text that is refused leaves the run as it is."""
-        GraphFile.of(text)
+        """Ends the run, and begins one of a text, which is paused if the one before was. A text that is refused leaves the run as it is."""
+        if any(not it.is_file for it in self.run.inputs.values()):
+            raise Wrong("a run that is fed by a pipe cannot begin anew")
+        with Stream(text, str(self.path)) as stream:
+            for source in self.ways.inputs:
+                stream.close(source)
+            for sink in self.ways.outputs:
+                stream.drain(sink, 0)
         old = self.run
+        goes_on = old.state != PAUSED
         old.end()
         await asyncio.get_running_loop().run_in_executor(None, old.join)
-        self.run = self._new(text, old.number + 1, old.rate)
+        try:
+            self.run = self._new(text, old.number + 1, old.rate)
+        except OSError as error:
+            old.state, old.fault = FAILED, str(error)
+            raise
+        if goes_on:
+            await self._in_run(self.run.go_on)
+
+    async def _apply(self, asked: dict[str, Any]) -> None:
+        """Begins a run of another text."""
+        await self._replace(text_in(asked, "text"))
+
+    async def _look(self, asked: dict[str, Any]) -> dict[str, Any]:
+        """Looks at a text as it is typed."""
+        return await asyncio.get_running_loop().run_in_executor(None, looked, text_in(asked, "text"))
+
+    async def _add(self, asked: dict[str, Any]) -> str:
+        """The text with a block of a kind more."""
+        text, kind = text_in(asked, "text"), kinds().get(text_in(asked, "kind"))
+        if kind is None:
+            raise Wrong("there is no kind %r" % asked["kind"])
+        graph, refused = GraphFile.draft(text)
+        if graph is None:
+            raise Wrong("the text has a fault that has to be mended first: %s" % refused)
+        names = [it["name"] for it in graph.blocks]
+        return edit.with_table(text, "block", edit.table_of(edit.free_name(kind.name, names), kind, text_in(asked, "type")))
+
+    async def _connect(self, asked: dict[str, Any]) -> str:
+        """The text with a connection more."""
+        ports = (whole(asked, "from_port") or 0, whole(asked, "to_port") or 0)
+        return edit.with_table(text_in(asked, "text"), "connect", edit.connect_of(text_in(asked, "from"), ports[0], text_in(asked, "to"), ports[1]))
+
+    async def _companion(self, asked: dict[str, Any]) -> dict[str, str]:
+        """The text that a drawing becomes."""
+        text, said = await asyncio.get_running_loop().run_in_executor(None, companion.graph_of, text_in(asked, "text"))
+        return {"text": text, "said": said}
+
+    async def _save(self, asked: dict[str, Any]) -> None:
+        """Writes a text to the file, unless another program has written there since."""
+        data = text_in(asked, "text").encode()
+        if self.path.exists() and self.path.read_bytes() not in (self._saved, data):
+            raise Wrong("%s was written by another program meanwhile: it is not replaced" % self.path)
+        # (a file that is half written is never seen; a link stays one)
+        at = self.path.resolve()
+        with tempfile.NamedTemporaryFile(dir=at.parent, prefix=at.name, delete=False) as file:
+            file.write(data)
+        if at.exists():
+            os.chmod(file.name, at.stat().st_mode & 0o7777)
+        os.replace(file.name, at)
+        self._saved = data
 
     def end(self) -> None:
         """Ends the run where it is; what its sinks have taken is written."""

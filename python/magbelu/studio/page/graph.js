@@ -3,6 +3,7 @@
 import { drawn, element, grouped } from "./elements.js";
 import { layout, portAt } from "./layout.js";
 
+const LEAST_HEIGHT = 120, SCROLLBAR = 24, MOST_PART = 0.42;
 const LEAST_ZOOM = 0.02, READABLE = 0.7, MOST_ZOOM = 3, LINE = 15;
 const NOTED = ["value", "factor", "on", "n", "decimation", "interpolation", "to"];
 
@@ -16,12 +17,10 @@ function linesOf(block) {
 }
 
 export class GraphView {
-    /** `chosen` is called with the name of a block that is chosen. */
-    constructor(at, chosen) {
-        this.at = at;
-        this.chosen = chosen;
-        this.zoom = 1;
-        this.blocks = new Map();
+    /** `chosen` is called with the name of a block that is chosen, and `joined` with a connection that is drawn from one port to another block. */
+    constructor(at, chosen, joined) {
+        Object.assign(this, { at, chosen, joined, zoom: 1, blocks: new Map() });
+        at.addEventListener("pointerdown", (event) => this.drag(event));
     }
 
     draw(graph) {
@@ -34,7 +33,10 @@ export class GraphView {
         graph.connects.forEach((it, number) => this.svg.append(this.line(it, ways[number])));
         for (const box of boxes.values()) this.svg.append(this.box(box));
         this.at.replaceChildren(this.svg);
-        this.fit(READABLE);
+        // (while a graph is edited it keeps its size)
+        if (blocks.length === this.count) this.zoomTo(this.zoom);
+        else this.fit(READABLE);
+        this.count = blocks.length;
     }
 
     /** A line from port to port, through the gaps on its way. */
@@ -71,6 +73,38 @@ export class GraphView {
         return group;
     }
 
+    /** Draws a line from an output to where it is let go. */
+    drag(down) {
+        const port = down.target.closest?.(".port[data-side=out]");
+        if (!port) return;
+        down.preventDefault();
+        const from = { from: port.closest("[data-block]").dataset.block, from_port: Number(port.dataset.port) };
+        const start = { x: Number(port.getAttribute("cx")), y: Number(port.getAttribute("cy")) };
+        const line = drawn("path", { class: "line drawn" });
+        this.svg.append(line);
+        const move = (event) => {
+            const box = this.svg.getBoundingClientRect();
+            line.setAttribute("d", `M${start.x},${start.y} L${(event.clientX - box.left) / this.zoom},${(event.clientY - box.top) / this.zoom}`);
+        };
+        const end = (event) => {
+            removeEventListener("pointermove", move);
+            line.remove();
+            const at = document.elementFromPoint(event.clientX, event.clientY);
+            const to = at?.closest("[data-block]")?.dataset.block;
+            if (to && to !== from.from) this.joined({ ...from, to, to_port: this.freeInput(to, at.dataset.side === "in" ? Number(at.dataset.port) : 0) });
+        };
+        addEventListener("pointermove", move);
+        addEventListener("pointerup", end, { once: true });
+    }
+
+    /** The lowest input of a block from one on that is not joined. */
+    freeInput(name, from = 0) {
+        const taken = new Set(this.graph.connects.filter((it) => it.to === name).map((it) => it.to_port));
+        let port = from;
+        while (taken.has(port)) port++;
+        return port;
+    }
+
     choose(name) {
         for (const [other, { group }] of this.blocks) group.classList.toggle("chosen", other === name);
         this.chosen(name);
@@ -92,6 +126,11 @@ export class GraphView {
         if (what === "items") return `waits for ${this.graph.connects.find((it) => it.to === name && it.to_port === port)?.from}`;
         if (what === "room") return `waits for room: ${this.graph.connects.filter((it) => it.from === name && it.from_port === port).map((it) => it.to).join(", ")}`;
         return "";
+    }
+
+    /** Gives the graph as much height as it takes, up to a part of the page. It stays so while the graph is edited. */
+    settle() {
+        this.at.style.height = `${Math.max(LEAST_HEIGHT, Math.min(this.size.height * this.zoom + SCROLLBAR, innerHeight * MOST_PART))}px`;
     }
 
     /** Shows the whole graph, but for what would be smaller than `least`. */

@@ -19,8 +19,9 @@ function columnsOf(blocks, connects) {
 }
 
 function boxOf(block, connects) {
-    const inputs = Math.max(0, ...connects.filter((it) => it.to === block.name).map((it) => it.to_port + 1));
-    const outputs = Math.max(0, ...connects.filter((it) => it.from === block.name).map((it) => it.from_port + 1));
+    // (a port that is not joined yet can be joined by drawing a line)
+    const inputs = Math.max(block.kind === "vector_source" ? 0 : 1, ...connects.filter((it) => it.to === block.name).map((it) => it.to_port + 1));
+    const outputs = Math.max(block.kind.endsWith("_sink") ? 0 : 1, ...connects.filter((it) => it.from === block.name).map((it) => it.from_port + 1));
     const letters = Math.max(...block.lines.map((it) => it.length));
     const height = Math.max(block.lines.length * LINE + 14, Math.max(inputs, outputs) * PORT + 10);
     return { block, inputs, outputs, width: Math.max(64, letters * LETTER + 20), height, space: GAP_Y, near: [], x: 0, y: 0 };

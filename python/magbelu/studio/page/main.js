@@ -1,6 +1,7 @@
 // The page: joins what the server tells to what is seen, and what is pressed to what the server is asked for.
 
 import { grouped, wholeIn } from "./elements.js";
+import { FilePane } from "./file.js";
 import { GraphView, blockTable } from "./graph.js";
 import { Link } from "./link.js";
 import { Plot } from "./plot.js";
@@ -10,7 +11,8 @@ const by = (id) => document.getElementById(id);
 const plots = new Map();
 const page = { graph: null, run: null, before: null, plots: 0 };
 const settings = new Settings(by("settings"), by("log"), ask);
-const graphView = new GraphView(by("graph"), chooseBlock);
+const graphView = new GraphView(by("graph"), chooseBlock, (connect) => file.connect(connect));
+const file = new FilePane(ask, drawGraph);
 
 const link = new Link({
     open: askAgain,
@@ -22,7 +24,9 @@ const link = new Link({
         document.title = `${path.split("/").pop()} \u2013 magbelu studio`;
     },
     run: takeRun,
+    saved: (text) => file.takeSaved(text),
     log: (made) => settings.take(made),
+    kinds: (kinds) => file.takeKinds(kinds),
     frame: (head, numbers) => plots.get(head.view)?.take(head, numbers),
 });
 
@@ -46,7 +50,8 @@ function fault(text) {
 async function ask(what) {
     try {
         const answer = await link.ask(what);
-        fault("");
+        // (what is looked at by itself, as one types, is nothing that one did)
+        if (what.do !== "look") fault("");
         return answer;
     } catch (error) {
         fault(error.message);
@@ -57,8 +62,10 @@ async function ask(what) {
 function takeGraph(graph) {
     page.graph = graph;
     page.before = null;
-    graphView.draw(graph);
-    chooseBlock(graph.blocks[0]?.name);
+    fault("");
+    drawGraph(graph);
+    graphView.settle();
+    file.take(graph.text);
     const sinks = graph.blocks.filter((it) => it.kind === "vector_sink").map((it) => it.name);
     for (const [name, it] of plots) if (!sinks.includes(it.sink)) (it.close(), plots.delete(name));
     for (const sink of sinks) if (![...plots.values()].some((it) => it.sink === sink)) addPlot(sink);
@@ -95,7 +102,7 @@ function ratesOf(run, before) {
 
 function takeRun(run) {
     tell(run.state);
-    fault(run.fault);
+    if (run.fault) fault(run.fault);
     graphView.show(run, ratesOf(run, page.before));
     page.before = page.run = run;
     const isRunning = run.state === "running", isOver = !isRunning && run.state !== "paused";
@@ -106,10 +113,25 @@ function takeRun(run) {
     by("state").title = fed.length ? `${fed.map(grouped).join(", ")} items were fed` : "";
 }
 
+/** Draws a graph, the one that runs or the one that the file has now. */
+function drawGraph(graph) {
+    page.drawn = graph;
+    graphView.draw(graph);
+    graphView.choose(graph.blocks.some((it) => it.name === page.chosen) ? page.chosen : graph.blocks[0]?.name);
+}
+
 function chooseBlock(name) {
-    const block = page.graph.blocks.find((it) => it.name === name);
+    const block = page.drawn.blocks.find((it) => it.name === name);
     page.chosen = name;
     by("block").replaceChildren(...(block ? blockTable(block) : []));
+}
+
+/** Shows the plots or the file. */
+function showTab(name) {
+    for (const it of by("tabs").querySelectorAll("button")) {
+        it.setAttribute("aria-selected", it.dataset.shows === name);
+        by(it.dataset.shows).hidden = it.dataset.shows !== name;
+    }
 }
 
 function whole(field) {
@@ -154,11 +176,12 @@ by("smaller").addEventListener("click", () => graphView.zoomTo(graphView.zoom / 
 by("larger").addEventListener("click", () => graphView.zoomTo(graphView.zoom * 1.25));
 by("fit").addEventListener("click", () => graphView.fit());
 by("controls").addEventListener("submit", (event) => event.preventDefault());
+by("tabs").addEventListener("click", (event) => event.target.dataset.shows && showTab(event.target.dataset.shows));
 
 addEventListener("keydown", (event) => {
     const isWritten = event.target.closest?.("input, textarea, select, button, [contenteditable]");
     if (isWritten || event.ctrlKey || event.metaKey || event.altKey) return;
-    const does = { " ": toggleRun, s: step, d: turnTheme }[event.key];
+    const does = { " ": toggleRun, s: step, d: turnTheme, p: () => showTab("plots"), f: () => showTab("file") }[event.key];
     if (!does) return;
     event.preventDefault();
     does();

@@ -1,0 +1,87 @@
+"""Edits of a graph file's text: a block or a connection more, in the manner in which the file has its others."""
+
+from __future__ import annotations
+
+import re
+from typing import Any, Optional, Union
+
+from .._file import TOKEN
+from .kinds import Kind
+
+Value = Union[int, str, list[int]]
+
+
+def default_of(says: str, item_type: str) -> Optional[Value]:
+    """A value that a parameter may have, by what the table of kinds says of it; None where it may be left out."""
+    if "where it is missing" in says:
+        return None
+    if says.startswith('"'):
+        allowed = re.findall(r'"(\w+)"', says)
+        return item_type if item_type in allowed else str(allowed[0])
+    if says.startswith("a text of"):
+        return "1"
+    low = re.search(r"(?:^|each )(-?\d+) (?:to|or) ", says)
+    number = 2 if says.startswith("more than") else 1 if re.match(r"[a-z] to ", says) else 0 if low is None else int(low[1])
+    if "numbers" in says:
+        return [max(number, 0) if "each" in says else 0]
+    return number
+
+
+def table_of(name: str, kind: Kind, item_type: str) -> dict[str, Value]:
+    """A block of a kind, with values that its parameters may have."""
+    values = {key: default_of(says, item_type) for key, says in kind.parameters.items()}
+    return {"name": name, "kind": kind.name, **{key: it for key, it in values.items() if it is not None}}
+
+
+def free_name(kind: str, names: list[str]) -> str:
+    """A name for a block that no other has."""
+    short = kind[:24]
+    return next(it for it in ("%s%d" % (short, number) for number in range(1, len(names) + 2)) if it not in names)
+
+
+def shown(value: Value) -> str:
+    return '"%s"' % value if isinstance(value, str) else str(value)
+
+
+def with_table(text: str, array: str, table: dict[str, Value]) -> str:
+    """The text with a table more in an array: in the array's brackets where it has such, and else as a header with its keys at the end."""
+    entries = ["%s = %s" % (key, shown(value)) for key, value in table.items()]
+    place = end_of_array(text, array)
+    if place is None:
+        return "%s\n\n[[%s]]\n%s\n" % (text.rstrip("\n"), array, "\n".join(entries)) if text.strip() else "[[%s]]\n%s\n" % (array, "\n".join(entries))
+    end, needs_comma, last = place
+    line = "    { %s },\n" % ", ".join(entries)
+    return text[:last] + ("," if needs_comma else "") + text[last:end].rstrip(" \n") + "\n" + line + text[end:]
+
+
+def end_of_array(text: str, array: str) -> Optional[tuple[int, bool, int]]:
+    """Of the array `array = [..]` at the top of a file, where its closing bracket stands, whether its last entry lacks a comma, and where that entry ends."""
+    depth, before = 0, ""
+    words = [it for it in TOKEN.finditer(text) if not it[0].isspace() and it[0][0] not in "#\ufeff"]
+    for at, it in enumerate(words):
+        is_array = depth == 0 and it[0] == array and [word[0] for word in words[at + 1 : at + 3]] == ["=", "["]
+        if is_array:
+            return closing_of(words[at + 2 :])
+        if depth == 0 and it[0] == "[" and before != "=":
+            # (a header: what stands behind it is no key of the top)
+            return None
+        depth += (it[0] in "[{") - (it[0] in "]}")
+        before = it[0]
+    return None
+
+
+def closing_of(words: list[re.Match[str]]) -> Optional[tuple[int, bool, int]]:
+    """The same of an array whose opening bracket is the first of these words."""
+    depth = 0
+    for at, it in enumerate(words):
+        depth += (it[0] in "[{") - (it[0] in "]}")
+        if depth == 0:
+            last = words[at - 1]
+            return it.start(), last[0] not in ("[", ","), last.end()
+    return None
+
+
+def connect_of(start: str, from_port: int, end: str, to_port: int) -> dict[str, Any]:
+    """A connection, as a file has it. (Port 0 is the default.)"""
+    ports = {"from_port": from_port, "to_port": to_port}
+    return {"from": start, "to": end, **{key: it for key, it in ports.items() if it}}
