@@ -1,11 +1,11 @@
 #!/usr/bin/env bash
-# magbelu-studio: tests/studio/cases.py has the cases. Those of `guard` and `runs` need ./build --c's library and Python's aiohttp, those of `shown` and `turned` a browser
-# too: chromium with its driver, and Python's selenium. That the table of kinds is what `flow kinds` prints, which docs/KINDS.md has, is tried everywhere.
+# magbelu-studio: tests/studio/cases.py has the cases. They need ./build --c's library and Python's aiohttp, and those in a browser chromium with its driver and Python's
+# selenium too. That the table of kinds is what `flow kinds` prints, which docs/KINDS.md has, is tried everywhere.
 set -euo pipefail
 # shellcheck source=tests/part.sh
 source "$(dirname -- "$(readlink -f -- "${BASH_SOURCE[0]}")")/../part.sh"
 
-without_browser=(wrong_token other_origin this_machine_alone refused_graphs columns slow_page pipes cut_item steps pages_come_and_go memory script items_over_items trigger saved texts)
+without_browser=(wrong_token other_origin this_machine_alone refused_graphs columns slow_page pipes cut_item steps pages_come_and_go ended frames_a_second memory script items_over_items trigger saved texts)
 in_browser=(sinks_as_run controls markup many_blocks server_killed dragged taps transforms all_views faults added_and_joined dropped
     keys_and_contrast)
 # (Debian's modules are there for its own Python alone.)

@@ -134,11 +134,11 @@ async def saving(server: Server, at: pathlib.Path) -> None:
         refused = (await page.ask(do="save", text=THROUGH))["refused"]
         assert refused.endswith("was written by another program meanwhile: it is not replaced"), refused
         assert at.read_text() == "# another program\n"
-        for asked in (dict(do="apply", text="block = 1"), dict(do="apply", text=THROUGH.replace("src", "source")), dict(do="apply", text=None)):
-            assert "refused" in await page.ask(**asked), asked
+        for text in ("block = 1", THROUGH.replace("src", "source"), None):
+            assert "refused" in await page.ask(do="apply", text=text), text
         assert page.parts["run"]["number"] == 1, page.parts["run"]
-        for asked, number in ((dict(do="look", text="\0"), 40), (dict(do="look", text="block = [{ name = 1 }]"), 43)):
-            answer = (await page.ask(**asked))["answer"]
+        for text, number in (("\0", 40), ("block = [{ name = 1 }]", 43)):
+            answer = (await page.ask(do="look", text=text))["answer"]
             assert answer["graph"] is None and answer["fault"]["says"].startswith("%d " % number), answer
 
 
@@ -159,7 +159,7 @@ def texts() -> None:
     """A block and a connection more stand where the file has its others; and of each kind a block can be added."""
     from magbelu.studio import edit, graphs, kinds
 
-    table = {"name": "b", "n": 1, "taps": [1, -2]}
+    table: dict[str, edit.Value] = {"name": "b", "n": 1, "taps": [1, -2]}
     written = '{ name = "b", n = 1, taps = [1, -2] }'
     for text, wanted in (
         ("", '[[block]]\nname = "b"\nn = 1\ntaps = [1, -2]\n'),
@@ -189,7 +189,7 @@ def keys_and_contrast() -> None:
 
     def light(colour: str) -> float:
         parts = [int(colour[at : at + 2], 16) / 255 for at in (1, 3, 5)]
-        red, green, blue = [it / 12.92 if it <= 0.04045 else ((it + 0.055) / 1.055) ** 2.4 for it in parts]
+        red, green, blue = [it / 12.92 if it <= 0.04045 else float(((it + 0.055) / 1.055) ** 2.4) for it in parts]
         return 0.2126 * red + 0.7152 * green + 0.0722 * blue
 
     folder, graph, items, _ = folder_with()

@@ -132,8 +132,8 @@ def cut_item() -> None:
 
 async def stepping(server: Server) -> None:
     async with socket_page(server.address) as page:
-        for asked, held in ((dict(items=5), 5), (dict(items=1), 6), (dict(to=700), 700), (dict(to=3), 700)):
-            await page.ask(do="run", **asked)
+        for key, number, held in (("items", 5, 5), ("items", 1, 6), ("to", 700, 700), ("to", 3, 700)):
+            await page.ask(do="run", **{key: number})
             run = await page.comes_to("paused")
             while run["held"]["out"] < held:
                 await page.take()
@@ -150,8 +150,9 @@ async def stepping(server: Server) -> None:
         while page.parts["run"]["number"] < 2:
             await page.take()
         assert page.parts["run"]["held"] == {"out": 0} and page.parts["run"]["rate"] == 10_000, page.parts["run"]
-        for asked in (dict(items=0), dict(items=True), dict(to=-1), dict(items="5")):
-            assert "refused" in await page.ask(do="run", **asked), asked
+        wrong: list[tuple[str, Any]] = [("items", 0), ("items", True), ("to", -1), ("items", "5")]
+        for key, value in wrong:
+            assert "refused" in await page.ask(do="run", **{key: value}), (key, value)
         assert "refused" in await page.ask(do="__init__") and "refused" in await page.ask(do="view", view="a", sink="out", span=0, width=3)
 
 
@@ -191,6 +192,41 @@ def pages_come_and_go() -> None:
         asyncio.run(asyncio.wait_for(coming_and_going(server), PATIENCE))
 
 
+async def until_held(server: Server, count: int) -> None:
+    async with socket_page(server.address) as page:
+        while page.parts.get("run", {"held": {"out": 0}})["held"]["out"] < count:
+            await page.take()
+
+
+def ended() -> None:
+    """A command that is ended in the midst of a run has written all that a page has seen, and a beginning of the whole."""
+    folder, graph, items, out = folder_with()
+    with folder, Server("-i", "src=" + items, "-o", "out=" + out, "--rate", "5000", graph) as server:
+        asyncio.run(asyncio.wait_for(until_held(server, 3000), PATIENCE))
+        assert server.end() == 0
+        data = pathlib.Path(out).read_bytes()
+        assert 6000 <= len(data) < 200_000 and SAW.tobytes().startswith(data), len(data)
+
+
+async def counted(server: Server, seconds: float) -> int:
+    async with socket_page(server.address) as page:
+        await page.say(do="view", view="a", sink="out", span=1000, width=100)
+        loop, count = asyncio.get_running_loop(), 0
+        began = loop.time()
+        while loop.time() - began < seconds:
+            await page.frame("a", 0)
+            count += 1
+        return count
+
+
+def frames_a_second() -> None:
+    """A page that takes each frame at once gets at most 30 a second."""
+    folder, graph, _, _ = folder_with()
+    with folder, Server("-i", "src=/dev/zero", "--rate", "1000000", graph) as server:
+        count = asyncio.run(counted(server, 3))
+        assert 3 < count <= 93, count
+
+
 async def watched(server: Server, items: int) -> list[int]:
     async with socket_page(server.address) as page:
         await page.say(do="view", view="a", sink="out", span=1 << 20, width=1000)
@@ -211,4 +247,4 @@ def memory() -> None:
         assert max(found[3:]) < found[2] + 4096, found
 
 
-CASES = [columns, slow_page, pipes, cut_item, steps, pages_come_and_go, memory]
+CASES = [columns, slow_page, pipes, cut_item, steps, pages_come_and_go, ended, frames_a_second, memory]

@@ -20,7 +20,7 @@ class SocketPage:
         self.link = link
         self.asked = 0
         #: What came last of each part, and of each view the frames.
-        self.parts: dict[str, Any] = {}
+        self.parts: dict[Any, Any] = {}
         self.frames: dict[str, list[tuple[dict[str, Any], list[int]]]] = {}
 
     async def say(self, **what: Any) -> None:

@@ -88,7 +88,7 @@ def main(words: Optional[Sequence[str]] = None) -> int:
     if not options.no_open:
         open_browser(address)
     try:
-        web.run_app(Server(studio, own.getsockname()[1], token).app(), sock=own, print=None, access_log=None, shutdown_timeout=1)
+        web.run_app(Server(studio, own.getsockname()[1], token).app(), sock=own, print=lambda *_: None, access_log=None, shutdown_timeout=1)
     finally:
         studio.end()
     return FAILED if studio.run.state == "failed" else DONE

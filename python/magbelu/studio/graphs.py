@@ -11,8 +11,6 @@ from .._file import tables_of
 from .._stream import Stream
 from .kinds import setting_of
 
-#: How many bytes an item of a type has.
-SIZES = {"byte": 1, "short": 2, "int": 4}
 # The keys of a block that are no parameters of its kind.
 OWN_KEYS = ("name", "kind")
 # The refusals that come only once all blocks and connections of a file were found to be right: of ports that are not used, of the graph as a whole, and of feeds.
@@ -50,10 +48,6 @@ class GraphFile:
     def named(self, kind: str) -> list[str]:
         """The blocks of a kind, in the order of the file."""
         return [it["name"] for it in self.blocks if it["kind"] == kind]
-
-    def item_size(self, name: str) -> int:
-        """How many bytes an item of a source or of a sink has."""
-        return SIZES[next(it for it in self.blocks if it["name"] == name)["type"]]
 
     def shown(self) -> dict[str, Any]:
         """What the page draws."""

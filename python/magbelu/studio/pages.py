@@ -5,7 +5,7 @@ from __future__ import annotations
 import asyncio
 import json
 import time
-from typing import Any, Optional
+from typing import Any
 
 from aiohttp import WSMsgType, web
 
@@ -54,7 +54,11 @@ class Page:
             await self._reply(None, {"refused": str(error)})
             return
         try:
-            told = self._look(asked) if asked.get("do") in ("view", "close", "taken") else await self._studio.ask(asked)
+            told = None
+            if asked.get("do") in ("view", "close", "taken"):
+                self._look(asked)
+            else:
+                told = await self._studio.ask(asked)
         except (Wrong, BadView, Error, OSError, TypeError, ValueError) as error:
             await self._reply(asked.get("id"), {"refused": str(error)})
             return
@@ -110,23 +114,20 @@ class Page:
         while True:
             began = loop.time()
             for name in list(self._free):
-                data = await loop.run_in_executor(None, self._frame, name)
+                shown = self._shown(name)
+                if shown is None or shown == self._sent.get(name):
+                    continue
+                data = await loop.run_in_executor(None, self._views[name].frame, name, self._studio.run.traces)
                 if data is not None:
+                    self._sent[name] = shown
                     self._free.discard(name)
                     await self._socket.send_bytes(data)
             await asyncio.sleep(max(FRAME - (loop.time() - began), FRAME / 4))
 
-    def _frame(self, name: str) -> Optional[bytes]:
-        """A frame of a view, if it shows something that its last did not."""
-        view = self._views.get(name)
-        run = self._studio.run
-        trace = run.traces.get(view.sink) if view is not None else None
-        if view is None or trace is None:
+    def _shown(self, name: str) -> Any:
+        """What a view would show now: it is another where a frame has something new."""
+        view, run = self._views.get(name), self._studio.run
+        traces = [run.traces.get(it) for it in (view.sink, view.other) if it is not None] if view is not None else []
+        if view is None or None in traces:
             return None
-        shown = (run.number, trace.end, trace.start if view.start is not None else 0, view.start)
-        if self._sent.get(name) == shown:
-            return None
-        data = view.frame(name, run.traces)
-        if data is not None:
-            self._sent[name] = shown
-        return data
+        return (run.number, view.start, [(it.end, it.start if view.start is not None else 0) for it in traces if it is not None])

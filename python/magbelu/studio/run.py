@@ -9,11 +9,11 @@ import time
 from typing import Any, Callable, NamedTuple, Optional, Union
 
 from .._errors import Error
-from .._stream import Stream
+from .._stream import PIECE, Stream
 from .graphs import GraphFile
 from .inputs import CutItem, Input
 from .outputs import Output
-from .trace import PIECE, Trace, room_of
+from .trace import Trace, room_of
 
 #: The states of a run. The last three are ends.
 RUNNING, PAUSED, DONE, STALLED, FAILED = "running", "paused", "done", "stalled", "failed"
@@ -54,14 +54,14 @@ class Run(threading.Thread):
         self._goals: dict[str, int] = {}
         self._paced_from, self._paced_counts = 0.0, dict.fromkeys(ways.inputs, 0)
         sinks = graph.named("vector_sink")
-        sizes = {it: graph.item_size(it) for it in sinks}
+        sizes = {it: self._stream._item_size(it) for it in sinks}
         self.traces = {it: Trace(size, room_of(len(sinks), size)) for it, size in sizes.items()}
         self._open(ways)
 
     def _open(self, ways: Ways) -> None:
         """Opens the inputs and outputs. Sources that have no input are closed behind what the file feeds them."""
         for sink in ways.outputs:
-            self._stream.drain(sink, 0)
+            self._stream._item_size(sink)
         sizes = {it: self._stream._size(it) for it in ways.inputs}
         self.inputs = {it: Input(it, path, sizes[it]) for it, path in ways.inputs.items()}
         for source in self.graph.named("vector_source"):
@@ -221,9 +221,9 @@ class Run(threading.Thread):
             self.state, self.fault = FAILED, str(error)
 
     def _close(self) -> None:
-        for it in [*self.inputs.values(), *self.outputs.values()]:
+        for close in [it.close for it in self.inputs.values()] + [it.close for it in self.outputs.values()]:
             try:
-                it.close()
+                close()
             except OSError as error:
                 self.state, self.fault = FAILED, str(error)
         self._stream.free()

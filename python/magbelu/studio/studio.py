@@ -103,9 +103,8 @@ class Studio:
 
     async def _set(self, asked: dict[str, Any]) -> int:
         """Sets a block, and gives the item from which that is in force."""
-        block, value, at = asked.get("block"), asked.get("value"), whole(asked, "at")
-        numbers = value if isinstance(value, list) else [value]
-        if not isinstance(block, str) or not all(type(it) is int for it in numbers):
+        block, value, at = text_in(asked, "block"), asked.get("value", ()), whole(asked, "at")
+        if not all(type(it) is int for it in (value if isinstance(value, list) else [value])):
             raise Wrong("a block is set to a whole number or to a list of them")
         return int(await self._in_run(lambda: self.run.set(block, value, at)))
 
@@ -155,8 +154,10 @@ class Studio:
 
     async def _connect(self, asked: dict[str, Any]) -> str:
         """The text with a connection more."""
-        ports = (whole(asked, "from_port") or 0, whole(asked, "to_port") or 0)
-        return edit.with_table(text_in(asked, "text"), "connect", edit.connect_of(text_in(asked, "from"), ports[0], text_in(asked, "to"), ports[1]))
+        names, ports = [text_in(asked, it) for it in ("from", "to")], [whole(asked, it) or 0 for it in ("from_port", "to_port")]
+        if not all(re.fullmatch(r"[\w.-]+", it, re.ASCII) for it in names):
+            raise Wrong("a connection is from a block to a block")
+        return edit.with_table(text_in(asked, "text"), "connect", edit.connect_of(names[0], ports[0], names[1], ports[1]))
 
     async def _companion(self, asked: dict[str, Any]) -> dict[str, str]:
         """The text that a drawing becomes."""

@@ -1,4 +1,4 @@
-"""The last items and tags that a sink took."""
+"""The last items and tags that a sink took. They come in pieces of at most as many items as a stream drains at a time."""
 
 from __future__ import annotations
 
@@ -7,14 +7,14 @@ import collections
 import itertools
 from typing import Iterable, NamedTuple, Optional
 
+from .._arguments import numpy
 from .._held import CODES, Tag
+from .._stream import PIECE
 
-#: How many items are drained at a time, at most.
-PIECE = 65536
 # How many bytes the traces of all sinks have together, and how many items one has at most.
 ALL_BYTES, MOST_ITEMS = 64 << 20, 1 << 22
 # How many tags of a sink are kept, and of how many columns the least and the greatest item.
-MOST_TAGS, MOST_COLUMNS = 4096, 1 << 16
+MOST_TAGS, MOST_COLUMNS = 4096, 1 << 14
 
 
 class Columns(NamedTuple):
@@ -24,6 +24,14 @@ class Columns(NamedTuple):
     step: int
     least: list[int]
     greatest: list[int]
+
+
+def extremes(items: array.array[int]) -> tuple[int, int]:
+    """The least and the greatest of some items."""
+    if numpy is None:
+        return min(items), max(items)
+    all_items = numpy.frombuffer(items, dtype=items.typecode)
+    return int(all_items.min()), int(all_items.max())
 
 
 def room_of(sinks: int, item_size: int) -> int:
@@ -75,28 +83,36 @@ class Trace:
         return items
 
     def columns(self, start: int, end: int, width: int) -> Optional[Columns]:
-        """The items from `start` to `end` in at most so many columns and one more, or None where they are not all there. Every item is in one of them."""
-        step = 1 << max(0, (max(end - start, 1) - 1) // max(width, 1)).bit_length()
-        first = start // step
-        found: dict[tuple[int, int], tuple[int, int]] = {}
-        pairs = []
-        for it in range(first, -(-end // step)):
-            known = self._known.get((step, it))
-            if known is None:
-                items = self._copied(max(it * step, self.start), min((it + 1) * step, end))
-                known = (min(items, default=0), max(items, default=0))
-                if start <= it * step and (it + 1) * step <= end:
-                    found[step, it] = known
-            pairs.append(known)
-        if start < self.start:
-            return None
-        self._know(found)
-        return Columns(first * step, step, [it[0] for it in pairs], [it[1] for it in pairs])
+        """The items from `start` to `end` in at most so many columns and one more. Every item is in one of them, but for those at the start that are written over before
+        they are read; None where those are all."""
+        step = 1 << ((max(end - start, 1) - 1) // max(width, 1)).bit_length()
+        first, last = start // step, -(-end // step)
+        pairs: list[tuple[int, int]] = []
+        for it in range(first, last):
+            pair = self._column(it * step, min((it + 1) * step, end), step)
+            if pair is None:
+                pairs, first = [], it + 1
+            else:
+                pairs.append(pair)
+        return Columns(first * step, step, [it[0] for it in pairs], [it[1] for it in pairs]) if pairs else None
 
-    def _know(self, found: dict[tuple[int, int], tuple[int, int]]) -> None:
-        if len(self._known) + len(found) > MOST_COLUMNS:
-            self._known = {}
-        self._known.update(found)
+    def _column(self, start: int, end: int, step: int) -> Optional[tuple[int, int]]:
+        """The least and the greatest of these items, or None where they are not all there. They are kept of a whole column, for the next frame."""
+        known = self._known.get((step, start))
+        if known is not None:
+            return known
+        low = max(start, self.start)
+        if low >= end:
+            return None
+        found = extremes(self._copied(low, end))
+        if low < self.start:
+            # (what was copied may be of two times)
+            return None
+        if low == start and end - start == step:
+            if len(self._known) >= MOST_COLUMNS:
+                self._known = {}
+            self._known[step, start] = found
+        return found
 
     def tags(self, start: int, end: int) -> list[Tag]:
         """The tags on these items, of those that are kept."""

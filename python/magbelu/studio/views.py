@@ -88,6 +88,7 @@ class View:
             if columns is None:
                 return None
             head.update(first=columns.start, step=columns.step)
+            start = max(start, columns.start)
             payload = array.array("i", columns.least + columns.greatest)
         self._count(start, end)
         tags = trace.tags(start, end)
