@@ -12,7 +12,7 @@ in_browser=(sinks_as_run controls markup many_blocks server_killed dragged taps 
 python=$([[ -x /usr/bin/python3 ]] && echo /usr/bin/python3 || echo python3)
 export PYTHONDONTWRITEBYTECODE=1
 
-list() { printf 'studio/%s\n' kinds "${without_browser[@]}" "${in_browser[@]}"; }
+list() { printf 'studio/%s\n' kinds columns_without_numpy "${without_browser[@]}" "${in_browser[@]}"; }
 
 # lacks NEED..: prints what is not here of these: the library, programs, modules of Python
 lacks() {
@@ -31,7 +31,14 @@ tells_kinds() { sed -n '/^\$ .\/flow kinds$/,/^```$/{//d;p}' "$top/docs/KINDS.md
 
 # case_of NAME
 case_of() {
-    HOME=$room MAGBELU_LIBRARY=$c_folder/libmagbelu.so PYTHONPATH=$top/python timeout 300 "$python" "$top/tests/studio/cases.py" "$1"
+    HOME=$room MAGBELU_LIBRARY=$c_folder/libmagbelu.so PYTHONPATH=${hidden-}$top/python timeout 300 "$python" "$top/tests/studio/cases.py" "$1"
+}
+
+# without_numpy COMMAND..: the same where Python finds none
+without_numpy() {
+    mkdir -p "$room/hidden"
+    echo 'raise ImportError("it is hidden")' >"$room/hidden/numpy.py"
+    hidden=$room/hidden: "$@"
 }
 
 # try WHY CASE COMMAND..: the command is the case, if it is wanted, and unless there is a reason why it cannot be tried here
@@ -60,6 +67,7 @@ run() {
     local it why
     try '' studio/kinds tells_kinds
     why=$(lacks library aiohttp)
+    try "$why" studio/columns_without_numpy without_numpy case_of columns
     for it in "${without_browser[@]}"; do
         try "$why" "studio/$it" case_of "$it"
     done
