@@ -5,7 +5,7 @@ use crate::slicing::{asks_for, plan_of, test_ends};
 use crate::uncut::Uncut;
 use crate::words::Call;
 use flow::serve::Action;
-use flowgraph::Valid;
+use flowgraph::{BlockId, Valid};
 use kinds::Kind;
 use slices::Plan;
 use std::thread;
@@ -22,8 +22,10 @@ const LEAST_OVERLAPS: u64 = 10;
 
 const MOST: u64 = 1 << 26;
 
-// An input of so many bytes is worth the threads.
+// An input of so many bytes is worth the threads, and so are so many blocks, or one filter: with fewer cheap blocks a piece takes longer to go to a thread and back.
 const LONG: u64 = 1 << 24;
+
+const MANY: usize = 8;
 
 /// How a run is done in pieces.
 #[derive(Drop)]
@@ -78,7 +80,28 @@ fn free_team<R: Threads + Copy>(
     if jobs == 1 || !are_long || !are_files(rt, &call.ends.marks) {
         return Ok(None);
     }
+    if plant.graph().len() < MANY && !has_filter(plant.graph()) {
+        return Ok(None);
+    }
     team_of(rt, call, plant, jobs)
+}
+
+fn has_filter(graph: &Valid<Kind>) -> bool {
+    let mut block = 0u32;
+    for _ in 0..graph.len() {
+        if (block as usize) < graph.len() && is_filter(graph.block(BlockId(block))) {
+            return true;
+        }
+        block = block.saturating_add(1);
+    }
+    false
+}
+
+fn is_filter(block: &Kind) -> bool {
+    match block {
+        Kind::Fir(_) | Kind::InterpFir(_) => true,
+        _ => false,
+    }
 }
 
 // There is none where pieces would be too long.
