@@ -2,7 +2,7 @@
  * Magbelu from C99 and C++ (magbelu.hpp has classes over it): flowgraphs of signal blocks, on the thread of the caller.
  *
  * A graph file, a script and raw items go in as bytes, and texts and items come out into buffers of the caller. What a call allocates it frees before it
- * returns, but for a plant that the caller holds from `magbelu_open` to `magbelu_free`. docs/C.md says how to build and link, and docs/FORMATS.md what stands in
+ * returns, but for a plant that the caller holds from `magbelu_open` to `magbelu_free`. docs/user/C.md says how to build and link, and docs/user/FILES.md what stands in
  * the files and the texts.
  *
  * Each buffer is a pointer and a number of bytes. NULL may stand for one of 0 bytes; with more it is refused (54). Buffers that a call writes must not
@@ -27,7 +27,7 @@ extern "C" {
  * What came of a call.
  *
  * status  0: done. 3: done, but the run came to rest before all blocks were done. 1: refused. 4: out of memory. (The exit status of the program `flow`.)
- * number  that of the refusal, as docs/FORMATS.md lists them; 0 with status 0 and 3.
+ * number  that of the refusal, as docs/user/REFUSALS.md lists them; 0 with status 0 and 3.
  * output_len  how many bytes the output has. Where the buffer for it has fewer, nothing was written there.
  * error_len   how many bytes the line has that tells the refusal, as `flow: refused 7 Loop x` with a line feed; 0 where there is none.
  */
@@ -125,7 +125,7 @@ struct magbelu_stream {
  * What came of a call of a held plant.
  *
  * status  0: done. 3: the plant came to rest before all blocks were done. 1: refused, and nothing changed. 4: out of memory.
- * number  that of the refusal (docs/FORMATS.md, and those above); 0 with status 0 and 3.
+ * number  that of the refusal (docs/user/REFUSALS.md, and those above); 0 with status 0 and 3.
  * what    of a step: MAGBELU_DID, MAGBELU_DONE, MAGBELU_WAITS_ITEMS or MAGBELU_WAITS_ROOM. Of magbelu_need: MAGBELU_READY, MAGBELU_DONE, MAGBELU_WAITS_ITEMS,
  *         MAGBELU_WAITS_ROOM or MAGBELU_WAITS_FEED.
  * value   of a feed and a close: how many items the tape has, or a source that streams was fed. Of a setting: the item from which it is in force; with number 27

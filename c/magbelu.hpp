@@ -1,5 +1,5 @@
 /*
- * Magbelu from C++17: graphs and streams that free themselves, and exceptions, over the calls of magbelu.h, which says what each of them does. docs/C.md says how to build
+ * Magbelu from C++17: graphs and streams that free themselves, and exceptions, over the calls of magbelu.h, which says what each of them does. docs/user/C.md says how to build
  * and link. The kernels, and runs between raw items, are those of magbelu.h.
  */
 #ifndef MAGBELU_HPP
@@ -24,7 +24,7 @@
 namespace magbelu {
 
 /*
- * A call was not done. The text is the number and the name of the refusal, as docs/FORMATS.md lists them, what it concerns, and the reason; where a graph file is
+ * A call was not done. The text is the number and the name of the refusal, as docs/user/REFUSALS.md lists them, what it concerns, and the reason; where a graph file is
  * refused, lines that show the place in it stand for the reason.
  */
 class error : public std::runtime_error {

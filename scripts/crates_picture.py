@@ -1,5 +1,5 @@
 #!/usr/bin/env python3
-"""crates_picture.py [--text]: draws crates.txt by Graphviz's `dot` as docs/crates.svg: the crates in their layers, and which uses which, but where another that it uses
+"""crates_picture.py [--text]: draws crates.txt by Graphviz's `dot` as docs/contribute/crates.svg: the crates in their layers, and which uses which, but where another that it uses
 does so too. The lowest layer has what all others mean, and nothing points at it. With --text it prints what `dot` is given."""
 
 import subprocess
@@ -9,7 +9,7 @@ from pathlib import Path
 from typing import Dict, Iterator, List, Set
 
 TOP = Path(__file__).resolve().parent.parent
-CRATES, PICTURE = TOP / "crates.txt", TOP / "docs" / "crates.svg"
+CRATES, PICTURE = TOP / "crates.txt", TOP / "docs" / "contribute" / "crates.svg"
 # A line that begins a layer; the colours of the layers, which take turns, and that of a line.
 HEADING = "## "
 COLOURS, LINE = ("#e8eef7", "#f7f1e3"), "#7a8794"

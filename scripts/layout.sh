@@ -8,8 +8,11 @@ lib_folder=lib
 python_folder=
 zsh_folder=share/zsh/site-functions
 list=/dev/null
-# The pages of docs/ for users.
-pages=(C.md COVERAGE.md FORMATS.md FOR_GNU_RADIO_USERS.md GLOSSARY.md KINDS.md SPEED.md STUDIO.md echo.svg studio_file.png studio_signal.png trace.svg)
+# The pages and pictures of docs/ for users.
+pages=(
+    user/{C,COMMANDS,COVERAGE,FILES,FOR_GNU_RADIO_USERS,KINDS,REFUSALS,SPEED,STUDIO}.md contribute/GLOSSARY.md
+    user/{echo,trace}.svg user/studio_{file,signal}.png
+)
 # Whether places are only tested; and the file that has to go where the script ends now.
 only_tests=0
 half_made=
@@ -81,7 +84,7 @@ put_all() {
 put_documents_of_all() {
     local it
     for it in "${pages[@]}"; do
-        put 644 "$top/docs/$it" "share/doc/magbelu/$it"
+        put 644 "$top/docs/$it" "share/doc/magbelu/${it##*/}"
     done
     for it in "$top"/examples/*/; do
         it=$(basename -- "$it")

@@ -21,20 +21,24 @@ from spec_files import TOP
 OWN = Path(__file__).resolve().parent / "manual"
 ASSETS = ["manual.css", "files.js"]
 # The first page, pages that are made of others for the search, and the shelves of all.
-FIRST, REFUSALS, OPTIONS = "README.md", "docs/refusals.md", "docs/options.md"
+FIRST, REFUSALS, OPTIONS = "README.md", "docs/user/refusals_by_number.md", "docs/user/options.md"
 SHELVES: Dict[str, List[str]] = {
     "Use": [
-        "docs/FORMATS.md", OPTIONS, REFUSALS, "docs/KINDS.md", "docs/C.md", "docs/EMBED.md", "docs/STUDIO.md", "docs/FOR_GNU_RADIO_USERS.md", "docs/COVERAGE.md",
-        "docs/SPEED.md", "docs/GLOSSARY.md", "CHANGELOG.md",
+        "docs/user/COMMANDS.md", OPTIONS, "docs/user/FILES.md", "docs/user/REFUSALS.md", REFUSALS, "docs/user/KINDS.md", "docs/user/C.md", "docs/user/EMBED.md",
+        "docs/user/STUDIO.md", "docs/user/FOR_GNU_RADIO_USERS.md", "docs/user/COVERAGE.md", "docs/user/SPEED.md", "CHANGELOG.md",
     ],
     "Contribute": [
-        "CONTRIBUTING.md", "docs/ARCHITECTURE.md", "docs/NEW_KIND.md", "docs/NEW_REFUSAL.md", "docs/GATE.md", "tests/README.md", "docs/DECISIONS.md",
+        "CONTRIBUTING.md", "docs/contribute/ARCHITECTURE.md", "docs/contribute/GLOSSARY.md", "docs/contribute/NEW_KIND.md", "docs/contribute/NEW_REFUSAL.md",
+        "docs/contribute/GATE.md", "tests/README.md", "docs/contribute/DECISIONS.md",
     ],
-    "Proof": ["docs/MODEL.md", "docs/PROVED.md", "docs/TESTED.md", "docs/BELIEVED.md"],
+    "Proof": ["docs/proof/MODEL.md", "docs/proof/PROVED.md", "docs/proof/TESTED.md", "docs/proof/BELIEVED.md"],
 }
 # What the navigation and the search call a page, where that is not its heading.
 TITLES = {
-    FIRST: "Overview", "docs/ARCHITECTURE.md": "Architecture", "docs/NEW_KIND.md": "Add a kind of blocks", "docs/NEW_REFUSAL.md": "Add a refusal",
+    FIRST: "Overview",
+    "docs/contribute/ARCHITECTURE.md": "Architecture",
+    "docs/contribute/NEW_KIND.md": "Add a kind of blocks",
+    "docs/contribute/NEW_REFUSAL.md": "Add a refusal",
 }
 
 

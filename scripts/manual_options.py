@@ -8,7 +8,7 @@ from spec_files import TOP
 COMMANDS = ("check", "draw", "kinds", "run", "live", "script")
 HEAD = """# Options of flow
 
-What `flow COMMAND --help` prints. [FORMATS.md](FORMATS.md#calls) has the rest.
+What `flow COMMAND --help` prints. [COMMANDS.md](COMMANDS.md#calls) has the rest.
 """
 # An option with what stands behind it, and what it does.
 OPTION = re.compile(r"(?m)^ +((?:-\w, )?(--[a-z-]+)\S*(?: <\S+>)?)  +(.*)$")

@@ -14,7 +14,7 @@ CODE = r"^```.*?^```$|`(?:[^`\n]|\n(?!\n))*`"
 # Code, in which nothing is a link, or the target of a link.
 CODE_OR_LINK = re.compile(rf"(?ms)({CODE})|(?<=\]\()([^)\s]+)(?=\))")
 # Code, in which nothing is a page, or a page that is named.
-PAGE_NAMED = re.compile(rf"(?ms)({CODE})|\b(docs/\w+\.md)\b")
+PAGE_NAMED = re.compile(rf"(?ms)({CODE})|\b(docs/[\w/]+\.md)\b")
 # What a browser shows as it is.
 PICTURES = {".svg", ".png"}
 # What is made, and stands in no listing.

@@ -1,13 +1,14 @@
-"""Makes a page with a heading for each refusal, which the search finds by its number and its name, from the table of docs/FORMATS.md."""
+"""Makes a page with a heading for each refusal, which the search finds by its number and its name, from the table of docs/user/REFUSALS.md."""
 
 import re
 from typing import Dict, List
 
 from spec_files import TOP
 
+PAGE = "docs/user/REFUSALS.md"
 HEAD = """# Refusals by number
 
-The rows of the table of [FORMATS.md](FORMATS.md#refusals), which also says what stands behind a name.
+The rows of the table of [REFUSALS.md](REFUSALS.md), which also says what stands behind a name.
 """
 
 
@@ -21,11 +22,11 @@ def numbered(codes: str) -> List[str]:
 
 def refusals_page() -> str:
     """The page."""
-    _, _, table = (TOP / "docs/FORMATS.md").read_text().partition("\n## Refusals\n")
+    table = (TOP / PAGE).read_text()
     causes: Dict[str, str] = {}
     for codes, cause in re.findall(r"(?m)^\| (`\d.*?) \| (.*) \|$", table):
         for code in numbered(codes):
             causes[code] = f"{codes}: {cause}"
     if not causes:
-        raise ValueError("docs/FORMATS.md has no table of refusals")
+        raise ValueError(f"{PAGE} has no table of refusals")
     return "\n".join([HEAD, *(f"## {code}\n\n{cause}.\n" for code, cause in causes.items())])

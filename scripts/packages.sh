@@ -51,7 +51,7 @@ put_documents() {
     put 644 "$debian/copyright" "share/doc/$1/copyright"
     filled "$debian/changelog" | gzip -9n >"$at/changelog.gz"
     if [[ $1 == *-dev || $1 == python3-* ]]; then
-        gzip -9n <"$top/docs/C.md" >"$at/C.md.gz"
+        gzip -9n <"$top/docs/user/C.md" >"$at/C.md.gz"
     fi
 }
 

@@ -1,5 +1,5 @@
 #!/usr/bin/env python3
-"""Makes the pages out/promised/*.md and the counts of docs/BELIEVED.md from the sources; with --check it only says whether the counts are what it makes."""
+"""Makes the pages out/promised/*.md and the counts of docs/proof/BELIEVED.md from the sources; with --check it only says whether the counts are what it makes."""
 
 import re
 import sys
@@ -12,7 +12,7 @@ from spec_files import CRATES, TOP, Entry, Found, Library, Scope, SpecFile, boun
 
 CALLS = TOP / "scripts" / "promised.txt"
 PAGES = TOP / "out" / "promised"
-BELIEVED = TOP / "docs" / "BELIEVED.md"
+BELIEVED = TOP / "docs" / "proof" / "BELIEVED.md"
 # Words of the language, and tactics of proofs that stand in specs/.
 OWN = {"self", "result", "Self", "Unit", "tt", "¬", "do", "←", "as", "omega", "grind", "rw", "cc", "absurd", "unfolding", "if"}
 
@@ -259,7 +259,7 @@ def runs_of(entries: List[Entry]) -> List[List[Entry]]:
 def page_of(call: Call, contracts: List[Contract], closure: Closure) -> str:
     """The page of a call."""
     lines = [f"# What is promised of {call.names}", ""]
-    lines += ["`scripts/promised.py` makes this page of the sources, and [BELIEVED.md](../../docs/BELIEVED.md) says how to read it."]
+    lines += ["`scripts/promised.py` makes this page of the sources, and [BELIEVED.md](../../docs/proof/BELIEVED.md) says how to read it."]
     lines += ["[What is not promised](#what-is-not-promised) stands at the end.", ""]
     for contract in contracts:
         lines += [f"{linked(contract.path)}:", "", "```rust", *contract.text, "```", ""]

@@ -1,4 +1,4 @@
-"""Magbelu flowgraphs from Python: this folder and the library libmagbelu.so, which `./build --c` makes. docs/C.md says where it is looked for.
+"""Magbelu flowgraphs from Python: this folder and the library libmagbelu.so, which `./build --c` makes. docs/user/C.md says where it is looked for.
 
     >>> import magbelu
     >>> print(magbelu.EXAMPLE)

@@ -51,7 +51,7 @@ ROWS = {
 
 
 class Error(Exception):
-    """A call was not done. `number`, `name` and `detail` are those of its refusal, as docs/FORMATS.md lists them; `output` is what was written before. Where the
+    """A call was not done. `number`, `name` and `detail` are those of its refusal, as docs/user/REFUSALS.md lists them; `output` is what was written before. Where the
     graph file is refused, `place` shows where and why, as `flow --explain` does, and the text of the exception has it; else `reason` is a sentence. Of a setting that
     comes too late (27), `floor` is the first item from which it could be in force.
 

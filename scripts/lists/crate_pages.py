@@ -1,5 +1,5 @@
 """The lists of parameters, ranges and texts in the crates of keys and of explanations, which `flow kinds` and
-`--explain` say, and what docs/FORMATS.md says may be set."""
+`--explain` say, and what docs/user/FILES.md says may be set."""
 
 from __future__ import annotations
 
@@ -18,7 +18,7 @@ KEYS, KEYS_SPEC = "crates/kind_keys/src/keys.rt", "crates/kind_keys/specs/Kinds.
 RANGE, RANGE_SPEC = "crates/kind_keys/src/range.rt", "crates/kind_keys/specs/Ranges.antt"
 ABOUT, EXPECTED = "crates/explanations/src/about.rt", "crates/explanations/src/expected.rt"
 GNU_RADIO = "crates/explanations/src/gnu_radio.rt"
-FORMATS = "docs/FORMATS.md"
+FILES = "docs/user/FILES.md"
 # Ranges that a parameter of a kind has with numbers of its own.
 _WITH_NUMBERS = ("Number", "Long", "Register", "AtLeast")
 
@@ -111,11 +111,11 @@ def _pages(tree: Tree, table: KindTable) -> Iterator[Listing]:
     found = [(last(it), last(value[5:-1])) for it, value in arms_of(text, "setting_of") if it != "_"]
     yield Listing(ABOUT, "`setting_of`", FILE, found, settings, in_order=False)
     parts = [(last(it), texts(value)) for it, value in arms_of(text, "text_of")]
-    row = re.search(r"(?m)^\| `set NAME.*$", tree.text(FORMATS))
+    row = re.search(r"(?m)^\| `set NAME.*$", tree.text(FILES))
     names = [it.name for it in table.kinds]
     found = [it for it in re.findall(r"`(\w+)`", row[0] if row else "") if it in names]
     wanted = [it.name for it in table.kinds if it.setting]
-    yield Listing(FORMATS, "the row of `set`", FILE, named(found), named(wanted), in_order=False)
+    yield Listing(FILES, "the row of `set`", FILE, named(found), named(wanted), in_order=False)
     for at, (what, key) in enumerate((("the line", "line"), ("the rate", "rate"), ("the example", "example"))):
         found = [(kind, it[at] if at < len(it) else "") for kind, it in parts]
         yield Listing(ABOUT, what, FILE, found, [(it.type, getattr(it, key)) for it in table.kinds])

@@ -17,12 +17,12 @@ def written(table: KindTable) -> Iterator[Written]:
     """What is written of kinds."""
     kinds = table.kinds
     names = ", ".join(kind.name for kind in kinds)
-    yield marked("docs/KINDS.md", FILE, "page of kinds", _page(table))
+    yield marked("docs/user/KINDS.md", FILE, "page of kinds", _page(table))
     yield marked("tests/graph_files/each_kind.rs", FILE, "KINDS", _tried(table))
     yield marked("tests/graph_files/drawings.rs", FILE, "KINDS", _drawn(table))
     # (In these two no line can say by what they are written.)
     yield Written("tests/cases/explained/far_kind/stderr", names, "; there are: ", "\n")
-    yield Written("README.md", str(len(kinds)), "flow-from-grc`); [the ", " kinds](docs/KINDS.md)")
+    yield Written("README.md", str(len(kinds)), "flow-from-grc`); [the ", " kinds](docs/user/KINDS.md)")
 
 
 def _page(table: KindTable) -> str:

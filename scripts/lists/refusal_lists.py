@@ -12,7 +12,7 @@ from .trees import Written, marked
 def written(refusals: Sequence[Refusal]) -> Iterator[Written]:
     """What is written of refusals."""
     in_c = [it for it in refusals if C in it.lists]
-    yield marked("docs/FORMATS.md", FILE, "refusals", _page(refusals))
+    yield marked("docs/user/REFUSALS.md", FILE, "refusals", _page(refusals))
     yield marked("python/magbelu/_errors.py", FILE, "ROWS", _python(in_c))
     yield marked("c/magbelu.h", FILE, "numbers", "".join(f"#define MAGBELU_{it.constant} {it.number}\n" for it in in_c))
     rows = "".join(f"        {{{it.number}, {json.dumps(it.name)}, {json.dumps(it.in_c)}}},\n" for it in in_c)
@@ -22,7 +22,7 @@ def written(refusals: Sequence[Refusal]) -> Iterator[Written]:
 
 
 def _page(refusals: Sequence[Refusal]) -> str:
-    """The table of docs/FORMATS.md."""
+    """The table of docs/user/REFUSALS.md."""
     lines = ["| refusal | the cause |", "|---|---|"]
     for it in refusals:
         ways = [f"`{of}`" if of and at else f"`{it.head} {of}".rstrip() + "`" for at, of in enumerate(it.of)]

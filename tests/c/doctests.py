@@ -24,7 +24,7 @@ def docstrings():
 
 
 def pages():
-    for page in sorted(pathlib.Path("docs").glob("*.md")):
+    for page in sorted(pathlib.Path("docs").glob("*/*.md")):
         for block in re.findall(r"^```python\n(.*?)^```$", page.read_text(), re.DOTALL | re.MULTILINE):
             yield doctest.DocTestParser().get_doctest(block, {}, page.name, str(page), 0)
 

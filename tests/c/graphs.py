@@ -320,7 +320,7 @@ def paths_are_told_from_texts():
 
 def graphs_are_drawn_as_by_flow():
     """But for how much each output holds, which is 4096 in these."""
-    page = (top / "docs/FORMATS.md").read_text()
+    page = (top / "docs/user/COMMANDS.md").read_text()
     wanted = page[page.index("digraph {") :].partition("}\n$")[0] + "}\n"
     assert magbelu.Graph.from_file(top / "examples/frames/graph.toml").draw() == wanted.replace(" 4096", "")
     for file in sorted(top.glob("tests/graphs/*.toml")):

@@ -300,8 +300,8 @@ def companion() -> None:
 
 
 def pages() -> None:
-    """The program that docs/FOR_GNU_RADIO_USERS.md begins with prints what stands behind it."""
-    page = (TOP / "docs" / "FOR_GNU_RADIO_USERS.md").read_text()
+    """The program that docs/user/FOR_GNU_RADIO_USERS.md begins with prints what stands behind it."""
+    page = (TOP / "docs" / "user" / "FOR_GNU_RADIO_USERS.md").read_text()
     found = re.search(r"^```python\n(from gnuradio .*?)^```\n\n.*?^```\n(.*?)^```", page, re.DOTALL | re.MULTILINE)
     assert found is not None
     os.chdir(TOP)

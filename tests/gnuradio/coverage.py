@@ -1,4 +1,4 @@
-"""docs/COVERAGE.md has a line for each block of the GNU Radio that is installed: `coverage.py` tells those that it lacks, and what else is wrong with the page.
+"""docs/user/COVERAGE.md has a line for each block of the GNU Radio that is installed: `coverage.py` tells those that it lacks, and what else is wrong with the page.
 
 Not counted, and without a line, are blocks whose name ends in the letters of float or complex streams, as `add_ff`.
 """
@@ -16,7 +16,7 @@ import gnuradio
 from gnuradio import gr
 
 TOP = pathlib.Path(__file__).resolve().parents[2]
-PAGE = TOP / "docs" / "COVERAGE.md"
+PAGE = TOP / "docs" / "user" / "COVERAGE.md"
 # Modules of tools, and the one of the classes that blocks are made of.
 TOOLS = frozenset(("bindtool", "blocktool", "eng_arg", "eng_notation", "eng_option", "gr", "gr_unittest", "grc", "modtool"))
 BASES = frozenset(("basic_block", "block", "sync_block", "hier_block2"))
@@ -73,7 +73,7 @@ def counts(lines: list[Line]) -> str:
 def faults() -> Iterator[str]:
     """What is wrong with the page."""
     page = PAGE.read_text()
-    kinds = set(re.findall(r"^(\w+): ", (TOP / "docs" / "KINDS.md").read_text(), re.M))
+    kinds = set(re.findall(r"^(\w+): ", (TOP / "docs" / "user" / "KINDS.md").read_text(), re.M))
     lines_of = tables(page)
     # (Modules of which no block is counted take long to import.)
     there = dict(installed({module for module, lines in lines_of.items() if [it.names for it in lines] == [["*"]]}))

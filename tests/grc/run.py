@@ -167,7 +167,7 @@ def calls() -> Iterator[Case]:
 def quotes() -> Iterator[Case]:
     """What pages show of calls of flow-from-grc: from a line that begins with $ to the next, or to the end of the fence."""
     call = re.compile(r"^\$ (?:\./)?flow-from-grc (.*)\n((?:(?!```|\$ ).*\n)*)", re.M)
-    for page in (TOP / "docs" / "FOR_GNU_RADIO_USERS.md", EXAMPLES / "README.md"):
+    for page in (TOP / "docs" / "user" / "FOR_GNU_RADIO_USERS.md", EXAMPLES / "README.md"):
         found = call.findall(page.read_text())
         yield Case("pages/%s/shows_calls" % page.stem, lambda found=found: (bool(found), True))
         for number, (words, wanted) in enumerate(found):

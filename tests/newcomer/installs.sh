@@ -22,7 +22,7 @@ install_puts_all_in_place() {
     while IFS= read -r file; do
         brings "share/$file" "$top/share/$file"
     done <"$room/files"
-    brings share/doc/magbelu/FORMATS.md "$top/docs/FORMATS.md"
+    brings share/doc/magbelu/FILES.md "$top/docs/user/FILES.md"
     brings share/doc/magbelu/examples/echo/graph.toml "$top/examples/echo/graph.toml"
     [[ -x $elsewhere/a\ prefix/share/doc/magbelu/examples/signal/make.py ]] || wrong "--install brings a script of the examples that cannot be called"
     calls 0 env PATH="$room/tools" "$elsewhere/a prefix/bin/flow" by itself
@@ -169,7 +169,7 @@ program_files() {
         share/zsh/vendor-completions/_flow{,-from-grc} share/fish/vendor_completions.d/flow{,-from-grc}.fish
     (cd -- "$top/python" && find flow_from_grc -name '*.py' -printf 'usr/share/magbelu/%p\n')
     # (dpkg wants long pages compressed, but for examples and pictures)
-    printf 'usr/share/doc/magbelu/%s\n' {C,COVERAGE,FORMATS,FOR_GNU_RADIO_USERS,GLOSSARY,KINDS,SPEED,STUDIO}.md.gz {echo,trace}.svg studio_{file,signal}.png
+    printf 'usr/share/doc/magbelu/%s\n' {C,COMMANDS,COVERAGE,FILES,FOR_GNU_RADIO_USERS,GLOSSARY,KINDS,REFUSALS,SPEED,STUDIO}.md.gz {echo,trace}.svg studio_{file,signal}.png
     (cd -- "$top" && find examples -path examples/embed -prune -o -type f ! -name '*.pyc' -printf 'usr/share/doc/magbelu/%p\n')
 }
 

@@ -68,14 +68,14 @@ real_build_proves_and_links() {
     grep -q " $program_crate is proved already$" "$room/errors" || wrong "the program is proved again"
 }
 
-# As docs/EMBED.md has it, line by line, with this checkout where the page has one.
+# As docs/user/EMBED.md has it, line by line, with this checkout where the page has one.
 vendored_program_runs() {
     local limit=3600 it
     ln -s "$tree" "$elsewhere/magbelu"
-    sed -n '/^```$/,/^```$/{//d;p}' "$tree/docs/EMBED.md" >"$room/shown"
+    sed -n '/^```$/,/^```$/{//d;p}' "$tree/docs/user/EMBED.md" >"$room/shown"
     # (the check for a hint would take as long again)
     calls 0 env PATH="$top/tests/no_hint:$PATH" bash -euc "$(sed -n 's/^\$ //p' "$room/shown")"
-    grep -v '^\$ ' "$room/shown" | cmp -s - "$top/examples/embed/stdout" || wrong "docs/EMBED.md shows something else than the program prints"
+    grep -v '^\$ ' "$room/shown" | cmp -s - "$top/examples/embed/stdout" || wrong "docs/user/EMBED.md shows something else than the program prints"
     for it in 1 2; do
         grep -qxF -- "$(sed -n "${it}p" "$top/examples/embed/stdout")" "$room/output" || wrong "the program prints something else"
     done

@@ -125,21 +125,21 @@ tells_calls() {
     calls 0 held
     files
     raw_items
-    first_program "$top/docs/C.md" >"$room/page.c"
+    first_program "$top/docs/user/C.md" >"$room/page.c"
     cc -std=c99 "${warnings[@]}" "${sanitizers[@]}" -I"$top/c" "$room/page.c" "$c_folder/libmagbelu.a" -o "$room/page"
-    "$room/page" <"$top/examples/echo/graph.toml" | cmp -s - "$top/examples/echo/expected_run" || wrong "the program of docs/C.md"
+    "$room/page" <"$top/examples/echo/graph.toml" | cmp -s - "$top/examples/echo/expected_run" || wrong "the program of docs/user/C.md"
 }
 
 # compile_plus PROGRAM FILE..: the program of these files in C++
 compile_plus() { c++ -std=c++17 "${warnings[@]}" "${sanitizers[@]}" -I"$top/c" "${@:2}" -o "$1"; }
 
-# plus_page FILE: the program in C++ of docs/C.md, over this library
+# plus_page FILE: the program in C++ of docs/user/C.md, over this library
 plus_page() {
     # shellcheck disable=SC2016
-    sed -n '/^```cpp$/,/^```$/{//d;p}' "$top/docs/C.md" >"$room/page.cpp"
+    sed -n '/^```cpp$/,/^```$/{//d;p}' "$top/docs/user/C.md" >"$room/page.cpp"
     compile_plus "$room/page_plus" "$room/page.cpp" "$1"
     chain byte 10
-    "$room/page_plus" <"$room/chain.toml" | cmp -s - <(printf '%s\n' 4 11 102 103) || wrong "the program in C++ of docs/C.md"
+    "$room/page_plus" <"$room/chain.toml" | cmp -s - <(printf '%s\n' 4 11 102 103) || wrong "the program in C++ of docs/user/C.md"
 }
 
 # tells_plus_alone: what c/magbelu.hpp makes of its arguments and of answers

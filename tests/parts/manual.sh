@@ -14,7 +14,7 @@ list() { printf 'manual/%s\n' made links reference search; }
 made() {
     local page
     "$python" "$top/scripts/manual.py" "$site"
-    for page in "$top"/docs/*.md "$top"/{CONTRIBUTING,CHANGELOG}.md; do
+    for page in "$top"/docs/*/*.md "$top"/{CONTRIBUTING,CHANGELOG}.md; do
         page=${page#"$top/"}
         grep -qF "href=\"${page%.md}.html\" class=\"dropdown-item\"" "$site/index.html" || echo "the navigation lacks $page"
     done

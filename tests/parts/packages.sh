@@ -1,6 +1,6 @@
 #!/usr/bin/env bash
 # The packages for Debian that ./build --deb has made of these sources, in a fresh Debian of their own without the toolchain: README's first command on the example
-# that they bring, the program of docs/C.md in C, the package for Python, the block of GNU Radio, and that nothing of them stays. It takes root, debootstrap and some
+# that they bring, the program of docs/user/C.md in C, the package for Python, the block of GNU Radio, and that nothing of them stays. It takes root, debootstrap and some
 # minutes of a network, so ./test tries it by its name alone. What debootstrap brings is kept at $MAGBELU_DEBIAN for a next run, where that names a folder.
 set -euo pipefail
 # shellcheck source=tests/part.sh
@@ -73,16 +73,16 @@ lintian_is_silent() {
     [[ -z $said ]] || { echo "$said" && return 1; }
 }
 
-# As docs/FOR_GNU_RADIO_USERS.md has it; and the script among the examples that makes a recording.
+# As docs/user/FOR_GNU_RADIO_USERS.md has it; and the script among the examples that makes a recording.
 first_command_runs() {
     local examples=/usr/share/doc/magbelu/examples
-    grep -qxF "\$ flow run $examples/echo/graph.toml" "$top/docs/FOR_GNU_RADIO_USERS.md"
+    grep -qxF "\$ flow run $examples/echo/graph.toml" "$top/docs/user/FOR_GNU_RADIO_USERS.md"
     gives "$(<"$top/examples/echo/expected_run")" flow run "$examples/echo/graph.toml"
     gives "$(grep -h recording "$top/examples/signal/SHA256SUMS")" sh -c "cd /root && $examples/signal/make.py recording recording.s16 && sha256sum recording.s16"
 }
 
 program_in_c_runs() {
-    first_program "$top/docs/C.md" >"$system/root/program.c"
+    first_program "$top/docs/user/C.md" >"$system/root/program.c"
     # shellcheck disable=SC2016
     inside sh -c 'cd /root && cc program.c $(pkg-config --cflags --libs magbelu) -o program'
     gives "$(<"$top/examples/echo/expected_run")" sh -c '/root/program </usr/share/doc/magbelu/examples/echo/graph.toml'
@@ -100,14 +100,14 @@ drawing_is_converted() {
     gives "$(<"$top/examples/grc/rates.toml")" sh -c 'flow-from-grc /root/rates.grc 2>/dev/null'
 }
 
-# The program that docs/FOR_GNU_RADIO_USERS.md begins with, and a drawing with the block of Companion.
+# The program that docs/user/FOR_GNU_RADIO_USERS.md begins with, and a drawing with the block of Companion.
 block_of_gnuradio_runs() {
     inside apt-get install --yes --no-install-recommends gnuradio
     mkdir -p -- "$system/root/examples"
     cp -r -- "$top/examples/filter" "$system/root/examples"
     cp -- "$top"/tests/gnuradio/{drawing.grc,graph.toml} "$system/root"
     # shellcheck disable=SC2016
-    sed -n '/^```python$/,/^```$/{//d;p}' "$top/docs/FOR_GNU_RADIO_USERS.md" | sed '/^print/q' >"$system/root/program.py"
+    sed -n '/^```python$/,/^```$/{//d;p}' "$top/docs/user/FOR_GNU_RADIO_USERS.md" | sed '/^print/q' >"$system/root/program.py"
     gives "[1, 6, 14] done" sh -c 'cd /root && python3 program.py'
     gives "[101, 102, 103] [-2, -4]" sh -c 'cd /root && grcc drawing.grc >said 2>&1 && python3 -c "
 import drawing

@@ -1,5 +1,5 @@
 #!/usr/bin/env bash
-# That the counts of docs/BELIEVED.md are what `scripts/promised.py` makes of the sources, of which it can make all pages, that it finds what contracts rest on in two
+# That the counts of docs/proof/BELIEVED.md are what `scripts/promised.py` makes of the sources, of which it can make all pages, that it finds what contracts rest on in two
 # crates whose answer was worked out by hand, and that each relative link of the docs leads to a file and a heading.
 set -euo pipefail
 # shellcheck source=tests/part.sh
@@ -23,11 +23,11 @@ try_closure() {
     mkdir "$here/scripts"
     cp -- "$top"/scripts/{promised,source_files,spec_files}.py "$here/scripts"
     mv -- "$here/promised.txt" "$here/scripts"
-    python3 "$here/scripts/promised.py" >"$room/said" 2>&1 || cat -- "$room/said" >>"$here/docs/BELIEVED.md"
+    python3 "$here/scripts/promised.py" >"$room/said" 2>&1 || cat -- "$room/said" >>"$here/docs/proof/BELIEVED.md"
     {
         sed -nE 's/^ *(abbrev pub|pub (record|data|struct|enum|trait)) ([A-Za-z_]+).*/\3/p' "$here/out/promised/ask.md"
         sed -n "/^## Names of/,\$p" "$here/out/promised/ask.md"
-        grep -E '^\| (`|\[)|^Together|fault' "$here/docs/BELIEVED.md"
+        grep -E '^\| (`|\[)|^Together|fault' "$here/docs/proof/BELIEVED.md"
     } >"$room/found" 2>&1 || true
     differs promised/closure "$here/wanted" "$room/found" >"$room/said" || true
     told promised/closure "$room/said"

@@ -2,7 +2,7 @@
 # That the man pages and the completions of share/ have the words of `flow` and `flow-from-grc`: of each command the options that its help has, with the words that may
 # stand behind one, and no others, and what the help says of them; that the man page has the keys of a graph file and the commands of a script; and what bash, zsh and
 # fish offer for a line. The help is that of tests/cases/words, which are held against the program. And that all places that name a version name the same, and that
-# docs/echo.svg shows what the program draws, and docs/crates.svg the crates.
+# docs/user/echo.svg shows what the program draws, and docs/contribute/crates.svg the crates.
 set -euo pipefail
 # shellcheck source=tests/part.sh
 source "$(dirname -- "$(readlink -f -- "${BASH_SOURCE[0]}")")/../part.sh"
@@ -91,13 +91,13 @@ flow_from_grc() {
     done < <(between man/man1/flow-from-grc.1 '^\.SH OPTIONS' '^\.SH EXIT' | grep '^[A-Z][a-z]* ')
 }
 
-# graph_file: the man page has each key that docs/FORMATS.md has
+# graph_file: the man page has each key that docs/user/FILES.md has
 graph_file() {
     local key text
     text=$(between man/man1/flow.1 '^\.SH GRAPH FILE' '^\.SH SCRIPTS')
     while IFS= read -r key; do
         grep -qE "^\.BR? ([a-z_]+ \", \" )?$key\b" <<<"$text" || wrong "the man page lacks the key $key"
-    done < <(sed -n '/^Keys of `block`:/,/^Blocks and connections/p' "$top/docs/FORMATS.md" | grep -E '^- `' | sed 's/:.*//' | grep -oE '[a-z_]+')
+    done < <(sed -n '/^Keys of `block`:/,/^Blocks and connections/p' "$top/docs/user/FILES.md" | grep -E '^- `' | sed 's/:.*//' | grep -oE '[a-z_]+')
 }
 
 # script_lines: the man page has each command of a script, and how a mark is written
@@ -106,7 +106,7 @@ script_lines() {
     text=$(between man/man1/flow.1 '^\.SH SCRIPTS' '^\.SH SEE ALSO')
     while IFS= read -r command; do
         grep -qE "^\.BI? $command\b" <<<"$text" || wrong "the man page lacks the command $command"
-    done < <(sed -n '/^| command | what it does/,/^$/p' "$top/docs/FORMATS.md" | sed -nE 's/^\| `([a-z]+).*/\1/p')
+    done < <(sed -n '/^| command | what it does/,/^$/p' "$top/docs/user/FILES.md" | sed -nE 's/^\| `([a-z]+).*/\1/p')
     grep -qF '@\fIOFFSET\fR:\fIKEY\fR=\fIVALUE\fR' <<<"$text" || wrong "the man page lacks how a mark is written"
 }
 
@@ -222,19 +222,19 @@ picture() {
     local said
     if ! command -v python3 >/dev/null; then
         why_not="there is no python3 to read it"
-    elif ! said=$(python3 "$top/tests/drawn.py" "$top/examples/echo/expected_draw" "$top/docs/echo.svg" 2>&1); then
+    elif ! said=$(python3 "$top/tests/drawn.py" "$top/examples/echo/expected_draw" "$top/docs/user/echo.svg" 2>&1); then
         wrong "$said"
     fi
 }
 
-# picture_of_crates: that of docs/ARCHITECTURE.md is that of crates.txt, in which no crate uses one of a layer above
+# picture_of_crates: that of docs/contribute/ARCHITECTURE.md is that of crates.txt, in which no crate uses one of a layer above
 picture_of_crates() {
     local said
     if ! command -v python3 >/dev/null; then
         why_not="there is no python3 to read it"
-    elif ! said=$("$top/scripts/crates_picture.py" --text 2>&1 >"$room/crates.dot" && python3 "$top/tests/drawn.py" "$room/crates.dot" "$top/docs/crates.svg" 2>&1); then
+    elif ! said=$("$top/scripts/crates_picture.py" --text 2>&1 >"$room/crates.dot" && python3 "$top/tests/drawn.py" "$room/crates.dot" "$top/docs/contribute/crates.svg" 2>&1); then
         wrong "$said"
-        wrong "scripts/crates_picture.py draws docs/crates.svg"
+        wrong "scripts/crates_picture.py draws docs/contribute/crates.svg"
     fi
 }
 

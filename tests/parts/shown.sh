@@ -152,7 +152,7 @@ make_calls_of() {
             output+=$line$'\n'
         fi
     done <"$1"
-    if [[ $page =~ ^pages/(README|docs/FORMATS)$ ]] && ((number == 0)); then
+    if [[ $page =~ ^pages/(README|docs/user/COMMANDS)$ ]] && ((number == 0)); then
         echo "$1 shows no call of flow" >&2
         exit 1
     fi
@@ -182,7 +182,7 @@ make_shown() {
         echo "left out: the recording of examples/signal, since there is no python3" >&2
     fi
     make_man_page
-    for page in "$top"/README.md "$top"/docs/*.md "$top"/examples/*/README.md; do
+    for page in "$top"/README.md "$top"/docs/*/*.md "$top"/examples/*/README.md; do
         make_calls_of "$page"
     done
 }

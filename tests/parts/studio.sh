@@ -1,6 +1,6 @@
 #!/usr/bin/env bash
 # magbelu-studio: tests/studio/cases.py has the cases. They need ./build --c's library and Python's aiohttp, and those in a browser chromium with its driver and Python's
-# selenium too. That the table of kinds is what `flow kinds` prints, which docs/KINDS.md has, is tried everywhere.
+# selenium too. That the table of kinds is what `flow kinds` prints, which docs/user/KINDS.md has, is tried everywhere.
 set -euo pipefail
 # shellcheck source=tests/part.sh
 source "$(dirname -- "$(readlink -f -- "${BASH_SOURCE[0]}")")/../part.sh"
@@ -27,7 +27,7 @@ lacks() {
 }
 
 # tells_kinds: the package's table of kinds is that of the page, which holds what the program prints
-tells_kinds() { sed -n '/^\$ .\/flow kinds$/,/^```$/{//d;p}' "$top/docs/KINDS.md" | diff -U 1 - "$top/python/magbelu/studio/kinds.txt"; }
+tells_kinds() { sed -n '/^\$ .\/flow kinds$/,/^```$/{//d;p}' "$top/docs/user/KINDS.md" | diff -U 1 - "$top/python/magbelu/studio/kinds.txt"; }
 
 # case_of NAME
 case_of() {

@@ -1,4 +1,4 @@
-"""`pictures.py FOLDER` takes the pictures of docs/STUDIO.md."""
+"""`pictures.py FOLDER` takes the pictures of docs/user/STUDIO.md."""
 
 from __future__ import annotations
 
