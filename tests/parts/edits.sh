@@ -1,7 +1,7 @@
 #!/usr/bin/env bash
 # What holds the edits that must fail: each can be made of the sources as they stand, `mutants/held` refuses an edit that names another clause than the log of `rt ci`,
-# `mutants/try` ends as the prover does on the mutants that it lays into a copy, by a stand-in for `rt` that says which it was given, `mutants/lay` chooses by turns, and
-# `mutants/bare` ends as the prover does without the answers of a function.
+# `mutants/try` ends as the prover does on the mutants that it lays into a copy, by a stand-in for `rt` that says which it was given, and `mutants/bare` as it does without
+# the answers of a function.
 set -euo pipefail
 # shellcheck source=tests/part.sh
 source "$(dirname -- "$(readlink -f -- "${BASH_SOURCE[0]}")")/../part.sh"
@@ -140,25 +140,9 @@ tries 'the mutants of a crate, in place of its edits' 0 'rt must-fail small: cra
 tries 'the mutants of all crates' 0 'rt must-fail small wide: crates/small/must-fail/a.edit crates/small/must-fail/b.edit crates/wide/must-fail/c.edit' 0
 tries 'a mutant that is let through' 1 'rt must-fail wide: crates/wide/must-fail/c.edit' 1 wide
 tries 'a crate without mutants' 2 'there is no mutants/flow_program' 0 flow_program
-
-# A checkout of a dear crate and a cheap one, both with edits, and one commit, so that the second of all names has its turn.
-mkdir -p "$room/turns/"{mutants,scripts} "$room/turns/mutants/"{small,tiny} "$room/turns/crates/"{small,tiny,flow,flowgraph}"/must-fail" "$room/laid"
-cp -- "$top/mutants/lay" "$room/turns/mutants"
-cp -- "$top/scripts/program.sh" "$room/turns/scripts"
-printf '%s:\n' small tiny flow flowgraph flow_program >"$room/turns/crates.txt"
-touch "$room/turns/HANDLES" "$room/turns/crates/"{small,tiny,flow,flowgraph}/must-fail/own.edit "$room/turns/mutants/"{small,tiny}/mutant.edit
-git -C "$room/turns" init -q
-git -C "$room/turns" -c user.name=a -c user.email=a@b commit -q --allow-empty -m one
-
-# lays: which edits are laid
-# shellcheck disable=SC2317  # It is called by expect.
-lays() { "$room/turns/mutants/lay" "$room/laid" && (cd -- "$room/laid" && echo crates/*/must-fail/*); }
-
-expect 'which crates have their turn' 0 'lay: the edits of flowgraph, and the mutants of tiny' lays
-rm -rf -- "$room/laid" && mkdir "$room/laid"
-laid='crates/flowgraph/must-fail/own.edit crates/small/must-fail/own.edit crates/tiny/must-fail/mutant.edit crates/tiny/must-fail/own.edit'
-expect 'the edits of cheap crates and of those' 0 "$laid" lays
-expect 'a folder to lay into' 2 'its word is an empty folder' "$top/mutants/lay"
+git -C "$room/checkout" init -q
+git -C "$room/checkout" -c user.name=a -c user.email=a@b commit -q --allow-empty -m one
+tries 'in turn, of crates above few others' 0 'try: the mutants of small' 0 --in-turn
 
 # A checkout of a crate with an edit of a function that has answers of its own. The stand-in says what it finds, and proves the function where it is told to.
 mkdir -p "$room/bare/mutants/small" "$room/bare/crates/small/src" "$room/bare/crates/small/proofs/pair/PairAddsU8/sum"
