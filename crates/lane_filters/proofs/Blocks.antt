@@ -4,7 +4,9 @@ use lib.Lanes.{zip2, put_chunk}
 use mir.Val.{to_z, of_z}
 use Rattle.std.specs.List.{range_with_len}
 use Rattle.std.proofs.lemmas.List.Elements.{All-take, All-drop}
-use Rattle.std.proofs.lemmas.List.{length-map, take_rest}
+use Rattle.std.proofs.lemmas.List.{length-map, take_rest, length-take-le, take-append-drop, take-append-le}
+use Rattle.std.proofs.Math.Seq.{take-length}
+use Rattle.std.proofs.lemmas.List.FromFn.{length-map-range_with_len}
 use Rattle.std.proofs.lemmas.Simd.{take_more_put_chunk, length-zip2}
 use Rattle.stream_model.specs.Lists.{sum_below, listed}
 use Rattle.stream_model.specs.Numbers.{IsItem, AreItems, total, sat, rnd}
@@ -32,6 +34,21 @@ outputs_more t h x s at ys zs sums rounds e near r within w room done =
     ∙ take_more_put_chunk at ys (map (output t h x s) (range_with_len at 8)) (at + 8) refl room
     ∙ ap (λ zs'. zs' ++ map (output t h x s) (range_with_len at 8)) done
     ∙ sym (listed_split at 8 (output t h x s))
+
+-- fewer outputs stand, too
+pub fewer : (f : ℕ → ℤ) (m n : ℕ) (ys : List ℤ) → m ≤ n → n ≤ length ys → take n ys ≡ listed n f → take m ys ≡ listed m f
+fewer f m n ys le room e =
+    let part : m ≤ length (take n ys) = omega (arith, length-take-le n ys room) in
+    let sum : n ≡ m + (n - m) = omega arith in
+    let long : length (listed m f) ≡ m = length-map-range_with_len f 0 m in
+    ap (take m) (sym (take-append-drop n ys)) ∙ take-append-le m (take n ys) (drop n ys) part
+    ∙ ap (take m) (e ∙ ap (λ k. listed k f) sum ∙ listed_split m (n - m) f)
+    ∙ take-append-le m (listed m f) (map f (range_with_len m (n - m))) (omega (arith, long))
+    ∙ ap (λ k. take k (listed m f)) (sym long) ∙ take-length (listed m f)
+
+-- all outputs stand
+pub all_listed : (f : ℕ → ℤ) (n : ℕ) (ys : List ℤ) → n ≡ length ys → take n ys ≡ listed n f → ys ≡ listed (length ys) f
+all_listed f n ys e done = sym (take-length ys) ∙ ap (λ k. take k ys) (sym e) ∙ done ∙ ap (λ k. listed k f) e
 
 part_known : (h : List ℤ) (i : ℕ) → AreItems Short h → AreItems Short (take 8 (drop i h))
 part_known h i range = All-take (IsItem Short) 8 (drop i h) (All-drop (IsItem Short) i h range)

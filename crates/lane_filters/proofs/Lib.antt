@@ -4,9 +4,11 @@ pub mod ByteDifferences
 pub mod Lists
 pub mod Neighbours
 pub mod NarrowSums
+pub mod Woven
 pub mod PackedBits
 pub mod Products
 pub mod Rounded
+pub mod RoundedInts
 pub mod Signed
 pub mod Taps
 pub mod Streams

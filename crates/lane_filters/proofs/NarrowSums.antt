@@ -1,10 +1,10 @@
 -- Sums of taps and short items in lanes of 32 bits, two taps a turn.
-use Rattle.std.proofs.Common.{◌≡◌, ℕ, zero, suc, ◌+◌, ◌-◌, ◌*◌, ◌/◌, ◌<◌, ◌≤◌, ◌^◌, List, [], ◌∷◌, ◌++◌, map, take, drop, replicate, length, refl, ap, sym, subst, ◌∙◌, arith, ℤ, pos, ◌+ℤ◌, ◌*ℤ◌, w16, w32, w64, inl, inr}
+use Rattle.std.proofs.Common.{◌≡◌, ℕ, zero, suc, ◌+◌, ◌-◌, ◌*◌, ◌/◌, ◌<◌, ◌≤◌, ◌^◌, List, [], ◌∷◌, ◌++◌, map, take, drop, length, refl, ap, sym, subst, ◌∙◌, arith, ℤ, pos, ◌+ℤ◌, ◌*ℤ◌, w16, w32, inl, inr}
 use lib.Lanes.{zip2, Each1, Each2, pick_l}
-use mir.Syntax.{add, cast, signed}
+use mir.Syntax.{add, signed}
 use mir.Val.{SFits, of_z, to_z}
 use borrow.Table.Row.{s_int}
-use borrow.Rule.Simd.Lanes.{act1, act2, Asks1, Asks2}
+use borrow.Rule.Simd.Lanes.{act2, Asks2}
 use Rattle.std.specs.Int.RustNames.{unsigned_abs}
 use Rattle.std.proofs.lemmas.Int.{ints, to_z-of_z, fits_signed_from_abs, unsigned_abs-mul}
 use Rattle.std.proofs.lemmas.Bool.{cases_lt}
@@ -16,28 +16,25 @@ use Rattle.std.proofs.Math.Nat.{mul-le-mul_left}
 use Rattle.stream_model.specs.Lists.{sum_below, item}
 use Rattle.stream_model.specs.Numbers.{IsItem, AreItems}
 use Rattle.stream_model.specs.declared.vocabulary.ItemType.TheVariants.{Short}
-use Rattle.numbers.proofs.Widths.{short_near, short_fits, cast_asks}
-use Rattle.lane_filters.specs.Words.{AreWithin, tap_sum, tap_sums, spread_sums, paired, weight}
-use Rattle.lane_filters.proofs.Signed.{abs_add, each, nearer, back, cast_is, add_asks, add_is}
+use Rattle.numbers.proofs.Widths.{short_near, short_fits}
+use Rattle.lane_filters.specs.Words.{AreWithin, tap_sum, spread_sums, paired, weight}
+use Rattle.lane_filters.proofs.Signed.{abs_add, each, back, add_asks, add_is}
 use Rattle.lane_filters.proofs.Products.{Known, multiplied, product_is}
-use Rattle.lane_filters.proofs.Lists.{sum_more, sum_near}
-use Rattle.lane_filters.proofs.Taps.{abs_short, eight_more}
+use Rattle.lane_filters.proofs.Lists.{sum_more}
+use Rattle.lane_filters.proofs.Taps.{abs_short}
 
 -- ---- how far the sums are from 0
 
-pub fits_32 : (z : ℤ) → unsigned_abs z ≤ 2 ^ 31 - 1 → SFits w32 z
+pub fits_32 : (z : ℤ) → unsigned_abs z ≤ 2 ^ 31 - 2 ^ 15 → SFits w32 z
 fits_32 z h = fits_signed_from_abs w32 z (omega arith)
 
-pub lanes_fit_32 : (xs : List ℤ) → AreWithin (2 ^ 31 - 1) xs → Each1 (SFits w32) xs
-lanes_fit_32 xs h = Each1-weaker (λ z. unsigned_abs z ≤ 2 ^ 31 - 1) (SFits w32) fits_32 xs h
+pub lanes_fit_32 : (xs : List ℤ) → AreWithin (2 ^ 31 - 2 ^ 15) xs → Each1 (SFits w32) xs
+lanes_fit_32 xs h = Each1-weaker (λ z. unsigned_abs z ≤ 2 ^ 31 - 2 ^ 15) (SFits w32) fits_32 xs h
 
-pub zipped_fit : (xs ys : List ℤ) → AreWithin (2 ^ 31 - 1) (zip2 (λ x y. x +ℤ y) xs ys) → Each2 (λ x y. SFits w32 (x +ℤ y)) xs ys
+pub zipped_fit : (xs ys : List ℤ) → AreWithin (2 ^ 31 - 2 ^ 15) (zip2 (λ x y. x +ℤ y) xs ys) → Each2 (λ x y. SFits w32 (x +ℤ y)) xs ys
 zipped_fit [] ys h = tt
 zipped_fit (x ∷ xs) [] h = tt
 zipped_fit (x ∷ xs) (y ∷ ys) h = (fits_32 (x +ℤ y) h.0, zipped_fit xs ys h.1)
-
-lanes_fit_64 : (xs : List ℤ) → AreWithin (2 ^ 31 - 1) xs → Each1 (SFits w64) xs
-lanes_fit_64 xs h = Each1-weaker (λ z. unsigned_abs z ≤ 2 ^ 31 - 1) (SFits w64) (λ z k. fits_signed_from_abs w64 z (omega arith)) xs h
 
 -- the distances of the first so many taps
 abbrev first : List ℤ → ℕ → ℕ
@@ -82,39 +79,20 @@ sums_near h g near (suc j) =
     rw e (omega (arith, abs_add (sum_below j f) (f j), sums_near h g near j, product_near (item h j) (g j) (near j)))
 
 module _ (h x : List ℤ) (light : weight h < 2 ^ 16) (range : AreItems Short x) where
-  tap_near : (j n : ℕ) → unsigned_abs (tap_sum h x j n) ≤ 2 ^ 31 - 1
+  tap_near : (j n : ℕ) → unsigned_abs (tap_sum h x j n) ≤ 2 ^ 31 - 2 ^ 15
   tap_near j n =
       let s = sums_near h (λ i. item x (n + length h - 1 - i)) (λ i. short_item x range (n + length h - 1 - i)) j in
       omega (arith, s, first_le h j)
 
-  pub spread_near : (j at : ℕ) → AreWithin (2 ^ 31 - 1) (spread_sums h x j at)
-  spread_near j at = (tap_near j at, (tap_near j (at + 1 + 1), (tap_near j (at + 1 + 1 + 1 + 1), (tap_near j (at + 1 + 1 + 1 + 1 + 1 + 1), tt))))
+  pub spread_near : (j at : ℕ) → AreWithin (2 ^ 31 - 2 ^ 15) (spread_sums h x j at)
+  spread_near j at = (tap_near j at, (tap_near j (at + 2), (tap_near j (at + 4), (tap_near j (at + 6), (tap_near j (at + 8), (tap_near j (at + 10), (tap_near j (at + 12), (tap_near j (at + 14), tt))))))))
 
-  eight_near : (j at : ℕ) → AreWithin (2 ^ 31 - 1) (tap_sums h x j at)
-  eight_near j at =
-      (tap_near j at, (tap_near j (at + 1), (tap_near j (at + 1 + 1), (tap_near j (at + 1 + 1 + 1), (tap_near j (at + 1 + 1 + 1 + 1), (tap_near j (at + 1 + 1 + 1 + 1 + 1), (tap_near j (at + 1 + 1 + 1 + 1 + 1 + 1), (tap_near j (at + 1 + 1 + 1 + 1 + 1 + 1 + 1), tt))))))))
+  -- the same of lanes that were bits in between
+  pub spread_back : (j at : ℕ) (sums : List ℤ) → sums ≡ spread_sums h x j at → map (to_z w32) (map (of_z w32) sums) ≡ spread_sums h x j at
+  spread_back j at sums is = back w32 sums (lanes_fit_32 sums (subst (AreWithin (2 ^ 31 - 2 ^ 15)) (sym is) (spread_near j at))) ∙ is
 
-  -- the sums of both are the sums at eight outputs
-  abbrev pub joined : List ℤ → List ℤ → List ℕ
-  joined es os = pick_l 0 (map (of_z w32) es ++ map (of_z w32) os) (0 ∷ 4 ∷ 1 ∷ 5 ∷ 2 ∷ 6 ∷ 3 ∷ 7 ∷ [])
-
-  module _ (j at : ℕ) (es os : List ℤ) (is_even : es ≡ spread_sums h x j at) (is_odd : os ≡ spread_sums h x j (at + 1)) where
-    joined_is : joined es os ≡ map (of_z w32) (tap_sums h x j at)
-    joined_is = λ i. joined (is_even i) (is_odd i)
-
-    pub joined_asks : Each1 (Asks1 (cast signed signed w64) (s_int w32)) (joined es os)
-    joined_asks =
-        let near = eight_near j at in
-        subst (Each1 (Asks1 (cast signed signed w64) (s_int w32))) (sym joined_is) (cast_asks w32 w64 (tap_sums h x j at) (lanes_fit_32 (tap_sums h x j at) near) (lanes_fit_64 (tap_sums h x j at) near))
-
-    pub joined_sums : map (to_z w64) (map (act1 (cast signed signed w64) (s_int w32) (s_int w64)) (joined es os)) ≡ tap_sums h x j at
-    joined_sums =
-        let near = eight_near j at in
-        ap (λ us. map (to_z w64) (map (act1 (cast signed signed w64) (s_int w32) (s_int w64)) us)) joined_is
-        ∙ ap (map (to_z w64)) (cast_is w32 w64 (tap_sums h x j at) (lanes_fit_32 (tap_sums h x j at) near)) ∙ back w64 (tap_sums h x j at) (lanes_fit_64 (tap_sums h x j at) near)
-
-    pub joined_near : AreWithin (2 ^ 31 - 1) (map (to_z w64) (map (act1 (cast signed signed w64) (s_int w32) (s_int w64)) (joined es os)))
-    joined_near = subst (AreWithin (2 ^ 31 - 1)) (sym joined_sums) (eight_near j at)
+  pub spread_again : (j at : ℕ) (sums : List ℤ) → sums ≡ spread_sums h x j at → AreWithin (2 ^ 31 - 2 ^ 15) (map (to_z w32) (map (of_z w32) sums))
+  spread_again j at sums is = subst (AreWithin (2 ^ 31 - 2 ^ 15)) (sym (spread_back j at sums is)) (spread_near j at)
 
 -- ---- two more taps
 
@@ -137,46 +115,58 @@ lane_more h x j from n k lt e =
 pub spread_more : (h x : List ℤ) (j from at : ℕ) → j + 1 < length h → from ≡ at + (length h - 2 - j)
     → zip2 (λ a b. a +ℤ b) (spread_sums h x j at) (paired (item h (j + 1)) (item h j) (drop from x)) ≡ spread_sums h x (j + 2) at
 spread_more h x j from at lt e =
-    let a = lane_more h x j from at 0 lt (omega arith) in
-    let b = lane_more h x j from (at + 1 + 1) 2 lt (omega arith) in
-    let c = lane_more h x j from (at + 1 + 1 + 1 + 1) 4 lt (omega arith) in
-    let d = lane_more h x j from (at + 1 + 1 + 1 + 1 + 1 + 1) 6 lt (omega arith) in
-    λ i. a i ∷ b i ∷ c i ∷ d i ∷ []
+    let a' = lane_more h x j from at 0 lt (omega arith) in
+    let b' = lane_more h x j from (at + 2) 2 lt (omega arith) in
+    let c' = lane_more h x j from (at + 4) 4 lt (omega arith) in
+    let d' = lane_more h x j from (at + 6) 6 lt (omega arith) in
+    let e' = lane_more h x j from (at + 8) 8 lt (omega arith) in
+    let f' = lane_more h x j from (at + 10) 10 lt (omega arith) in
+    let g' = lane_more h x j from (at + 12) 12 lt (omega arith) in
+    let h' = lane_more h x j from (at + 14) 14 lt (omega arith) in
+    λ i. a' i ∷ b' i ∷ c' i ∷ d' i ∷ e' i ∷ f' i ∷ g' i ∷ h' i ∷ []
 
--- a turn of the loop over the pairs of taps: `prods` are those of the two next taps and the items from `from` on
-module _ (h x : List ℤ) (light : weight h < 2 ^ 16) (range : AreItems Short x) (p from at : ℕ) (lt : p < length h / 2) (place : from ≡ at + (length h - 2 - 2 * p))
-    (taps_range : AreItems Short h) (sums prods : List ℤ) (is : sums ≡ spread_sums h x (2 * p) at)
-    (made : prods ≡ paired (to_z w16 (of_z w16 (item h (2 * p + 1)))) (to_z w16 (of_z w16 (item h (2 * p)))) (take (length x - from) (drop from x)))
-    (near : AreWithin (2 ^ 31 - 1) prods) where
-  turn_back : map (to_z w32) (map (of_z w32) prods) ≡ prods
-  turn_back = back w32 prods (lanes_fit_32 prods near)
+-- lanes of 32 bits that hold the sums of the first j taps, and the products that make them those of the first k
+module _ (h x : List ℤ) (light : weight h < 2 ^ 16) (range : AreItems Short x) (j k at : ℕ) (sums prods : List ℤ) (is : sums ≡ spread_sums h x j at)
+    (near : AreWithin (2 ^ 31 - 2 ^ 15) prods) (more : zip2 (λ a b. a +ℤ b) sums prods ≡ spread_sums h x k at) where
+  sums_back : map (to_z w32) (map (of_z w32) sums) ≡ sums
+  sums_back = back w32 sums (lanes_fit_32 sums (subst (AreWithin (2 ^ 31 - 2 ^ 15)) (sym is) (spread_near h x light range j at)))
 
-  tap_back : (j : ℕ) → j < length h → to_z w16 (of_z w16 (item h j)) ≡ item h j
-  tap_back j lt = to_z-of_z w16 (item h j) (short_fits (item h j) (taps_range j (pos 0) lt))
+  prods_back : map (to_z w32) (map (of_z w32) prods) ≡ prods
+  prods_back = back w32 prods (lanes_fit_32 prods near)
 
-  turn_sum : zip2 (λ a b. a +ℤ b) sums (map (to_z w32) (map (of_z w32) prods)) ≡ spread_sums h x (2 * (p + 1)) at
-  turn_sum =
-      let e : 2 * p + 2 ≡ 2 * (p + 1) = omega arith in
-      let a = tap_back (2 * p + 1) (omega arith) in
-      let b = tap_back (2 * p) (omega arith) in
-      let all : take (length x - from) (drop from x) ≡ drop from x = take_rest x from in
-      ap (zip2 (λ a b. a +ℤ b) sums) (turn_back ∙ made ∙ (λ i. paired (a i) (b i) (all i)))
-      ∙ ap (λ ss. zip2 (λ a b. a +ℤ b) ss (paired (item h (2 * p + 1)) (item h (2 * p)) (drop from x))) is
-      ∙ spread_more h x (2 * p) from at (omega arith) place ∙ ap (λ j. spread_sums h x j at) e
+  both : zip2 (λ a b. a +ℤ b) (map (to_z w32) (map (of_z w32) sums)) (map (to_z w32) (map (of_z w32) prods)) ≡ spread_sums h x k at
+  both = (λ i. zip2 (λ a b. a +ℤ b) (sums_back i) (prods_back i)) ∙ more
 
-  pub turn_left : AreWithin (2 ^ 31 - 1) sums
-  turn_left = subst (AreWithin (2 ^ 31 - 1)) (sym is) (spread_near h x light range (2 * p) at)
+  pub step_left : AreWithin (2 ^ 31 - 2 ^ 15) (map (to_z w32) (map (of_z w32) sums))
+  step_left = subst (AreWithin (2 ^ 31 - 2 ^ 15)) (sym (sums_back ∙ is)) (spread_near h x light range j at)
 
-  pub turn_right : AreWithin (2 ^ 31 - 1) (map (to_z w32) (map (of_z w32) prods))
-  turn_right = subst (AreWithin (2 ^ 31 - 1)) (sym turn_back) near
+  pub step_right : AreWithin (2 ^ 31 - 2 ^ 15) (map (to_z w32) (map (of_z w32) prods))
+  step_right = subst (AreWithin (2 ^ 31 - 2 ^ 15)) (sym prods_back) near
 
-  pub turn_near : AreWithin (2 ^ 31 - 1) (zip2 (λ a b. a +ℤ b) sums (map (to_z w32) (map (of_z w32) prods)))
-  turn_near = subst (AreWithin (2 ^ 31 - 1)) (sym turn_sum) (spread_near h x light range (2 * (p + 1)) at)
+  pub step_near : AreWithin (2 ^ 31 - 2 ^ 15) (zip2 (λ a b. a +ℤ b) (map (to_z w32) (map (of_z w32) sums)) (map (to_z w32) (map (of_z w32) prods)))
+  step_near = subst (AreWithin (2 ^ 31 - 2 ^ 15)) (sym both) (spread_near h x light range k at)
 
-  pub turned : (res : List ℤ) → res ≡ zip2 (λ a b. a +ℤ b) sums (map (to_z w32) (map (of_z w32) prods)) → map (to_z w32) (map (of_z w32) res) ≡ spread_sums h x (2 * (p + 1)) at
-  turned res r =
-      let n = subst (AreWithin (2 ^ 31 - 1)) (sym (r ∙ turn_sum)) (spread_near h x light range (2 * (p + 1)) at) in
-      back w32 res (lanes_fit_32 res n) ∙ r ∙ turn_sum
+  pub stepped : (res : List ℤ) → res ≡ zip2 (λ a b. a +ℤ b) (map (to_z w32) (map (of_z w32) sums)) (map (to_z w32) (map (of_z w32) prods))
+      → map (to_z w32) (map (of_z w32) res) ≡ spread_sums h x k at
+  stepped res r =
+      let n = subst (AreWithin (2 ^ 31 - 2 ^ 15)) (sym (r ∙ both)) (spread_near h x light range k at) in
+      back w32 res (lanes_fit_32 res n) ∙ r ∙ both
+
+tap_back : (h : List ℤ) → AreItems Short h → (j : ℕ) → j < length h → to_z w16 (of_z w16 (item h j)) ≡ item h j
+tap_back h range j lt = to_z-of_z w16 (item h j) (short_fits (item h j) (range j (pos 0) lt))
+
+-- the products of two more taps and the items from `from` on
+pub pair_more : (h x : List ℤ) (p from at : ℕ) → p < length h / 2 → from ≡ at + (length h - 2 - 2 * p) → AreItems Short h → (sums prods : List ℤ) → sums ≡ spread_sums h x (2 * p) at
+    → prods ≡ paired (to_z w16 (of_z w16 (item h (2 * p + 1)))) (to_z w16 (of_z w16 (item h (2 * p)))) (take (length x - from) (drop from x))
+    → zip2 (λ a b. a +ℤ b) sums prods ≡ spread_sums h x (2 * (p + 1)) at
+pair_more h x p from at lt place range sums prods is made =
+    let e : 2 * p + 2 ≡ 2 * (p + 1) = omega arith in
+    let a = tap_back h range (2 * p + 1) (omega arith) in
+    let b = tap_back h range (2 * p) (omega arith) in
+    let all : take (length x - from) (drop from x) ≡ drop from x = take_rest x from in
+    ap (zip2 (λ a b. a +ℤ b) sums) (made ∙ (λ i. paired (a i) (b i) (all i)))
+    ∙ ap (λ ss. zip2 (λ a b. a +ℤ b) ss (paired (item h (2 * p + 1)) (item h (2 * p)) (drop from x))) is
+    ∙ spread_more h x (2 * p) from at (omega arith) place ∙ ap (λ j. spread_sums h x j at) e
 
 -- the two taps of a turn
 pub taps_light : (h : List ℤ) (p : ℕ) → p < length h / 2 → weight h < 2 ^ 16 → AreItems Short h
@@ -193,21 +183,29 @@ left_in_range x from range = All-take (IsItem Short) (length x - from) (drop fro
 -- ---- two taps times two neighbouring items
 
 abbrev even_lanes : List ℕ → List ℕ
-even_lanes us = pick_l 0 (us ++ us) (0 ∷ 2 ∷ 4 ∷ 6 ∷ [])
+even_lanes us = pick_l 0 (us ++ us) (0 ∷ 2 ∷ 4 ∷ 6 ∷ 8 ∷ 10 ∷ 12 ∷ 14 ∷ [])
 
 abbrev odd_lanes : List ℕ → List ℕ
-odd_lanes us = pick_l 0 (us ++ us) (1 ∷ 3 ∷ 5 ∷ 7 ∷ [])
+odd_lanes us = pick_l 0 (us ++ us) (1 ∷ 3 ∷ 5 ∷ 7 ∷ 9 ∷ 11 ∷ 13 ∷ 15 ∷ [])
 
-eight_listed : (xs : List ℤ) → 8 ≤ length xs → take 8 xs ≡ item xs 0 ∷ item xs 1 ∷ item xs 2 ∷ item xs 3 ∷ item xs 4 ∷ item xs 5 ∷ item xs 6 ∷ item xs 7 ∷ []
-eight_listed (a ∷ b ∷ c ∷ d ∷ e ∷ f ∷ g ∷ h ∷ xs) le = refl
-eight_listed [] le = absurd (omega arith)
-eight_listed (a ∷ []) le = absurd (omega arith)
-eight_listed (a ∷ b ∷ []) le = absurd (omega arith)
-eight_listed (a ∷ b ∷ c ∷ []) le = absurd (omega arith)
-eight_listed (a ∷ b ∷ c ∷ d ∷ []) le = absurd (omega arith)
-eight_listed (a ∷ b ∷ c ∷ d ∷ e ∷ []) le = absurd (omega arith)
-eight_listed (a ∷ b ∷ c ∷ d ∷ e ∷ f ∷ []) le = absurd (omega arith)
-eight_listed (a ∷ b ∷ c ∷ d ∷ e ∷ f ∷ g ∷ []) le = absurd (omega arith)
+sixteen_listed : (xs : List ℤ) → 16 ≤ length xs → take 16 xs ≡ item xs 0 ∷ item xs 1 ∷ item xs 2 ∷ item xs 3 ∷ item xs 4 ∷ item xs 5 ∷ item xs 6 ∷ item xs 7 ∷ item xs 8 ∷ item xs 9 ∷ item xs 10 ∷ item xs 11 ∷ item xs 12 ∷ item xs 13 ∷ item xs 14 ∷ item xs 15 ∷ []
+sixteen_listed (x0 ∷ x1 ∷ x2 ∷ x3 ∷ x4 ∷ x5 ∷ x6 ∷ x7 ∷ x8 ∷ x9 ∷ x10 ∷ x11 ∷ x12 ∷ x13 ∷ x14 ∷ x15 ∷ xs) le = refl
+sixteen_listed [] le = absurd (omega arith)
+sixteen_listed (x0 ∷ []) le = absurd (omega arith)
+sixteen_listed (x0 ∷ x1 ∷ []) le = absurd (omega arith)
+sixteen_listed (x0 ∷ x1 ∷ x2 ∷ []) le = absurd (omega arith)
+sixteen_listed (x0 ∷ x1 ∷ x2 ∷ x3 ∷ []) le = absurd (omega arith)
+sixteen_listed (x0 ∷ x1 ∷ x2 ∷ x3 ∷ x4 ∷ []) le = absurd (omega arith)
+sixteen_listed (x0 ∷ x1 ∷ x2 ∷ x3 ∷ x4 ∷ x5 ∷ []) le = absurd (omega arith)
+sixteen_listed (x0 ∷ x1 ∷ x2 ∷ x3 ∷ x4 ∷ x5 ∷ x6 ∷ []) le = absurd (omega arith)
+sixteen_listed (x0 ∷ x1 ∷ x2 ∷ x3 ∷ x4 ∷ x5 ∷ x6 ∷ x7 ∷ []) le = absurd (omega arith)
+sixteen_listed (x0 ∷ x1 ∷ x2 ∷ x3 ∷ x4 ∷ x5 ∷ x6 ∷ x7 ∷ x8 ∷ []) le = absurd (omega arith)
+sixteen_listed (x0 ∷ x1 ∷ x2 ∷ x3 ∷ x4 ∷ x5 ∷ x6 ∷ x7 ∷ x8 ∷ x9 ∷ []) le = absurd (omega arith)
+sixteen_listed (x0 ∷ x1 ∷ x2 ∷ x3 ∷ x4 ∷ x5 ∷ x6 ∷ x7 ∷ x8 ∷ x9 ∷ x10 ∷ []) le = absurd (omega arith)
+sixteen_listed (x0 ∷ x1 ∷ x2 ∷ x3 ∷ x4 ∷ x5 ∷ x6 ∷ x7 ∷ x8 ∷ x9 ∷ x10 ∷ x11 ∷ []) le = absurd (omega arith)
+sixteen_listed (x0 ∷ x1 ∷ x2 ∷ x3 ∷ x4 ∷ x5 ∷ x6 ∷ x7 ∷ x8 ∷ x9 ∷ x10 ∷ x11 ∷ x12 ∷ []) le = absurd (omega arith)
+sixteen_listed (x0 ∷ x1 ∷ x2 ∷ x3 ∷ x4 ∷ x5 ∷ x6 ∷ x7 ∷ x8 ∷ x9 ∷ x10 ∷ x11 ∷ x12 ∷ x13 ∷ []) le = absurd (omega arith)
+sixteen_listed (x0 ∷ x1 ∷ x2 ∷ x3 ∷ x4 ∷ x5 ∷ x6 ∷ x7 ∷ x8 ∷ x9 ∷ x10 ∷ x11 ∷ x12 ∷ x13 ∷ x14 ∷ []) le = absurd (omega arith)
 
 known_32 : (xs : List ℤ) → Each1 (SFits w16) xs → Known w16 w32 (2 ^ 15) xs
 known_32 xs h =
@@ -217,29 +215,29 @@ known_32 xs h =
       near = Each1-weaker (SFits w16) (λ z. unsigned_abs z ≤ 2 ^ 15) abs_short xs h;
     }
 
-module _ (a b : ℤ) (x : List ℤ) (fa : SFits w16 a) (fb : SFits w16 b) (light : unsigned_abs a + unsigned_abs b < 2 ^ 16) (range : AreItems Short x) (room : 8 ≤ length x) where
+module _ (a b : ℤ) (x : List ℤ) (fa : SFits w16 a) (fb : SFits w16 b) (light : unsigned_abs a + unsigned_abs b < 2 ^ 16) (range : AreItems Short x) (room : 16 ≤ length x) where
   abbrev taps : List ℤ
-  taps = a ∷ b ∷ a ∷ b ∷ a ∷ b ∷ a ∷ b ∷ []
+  taps = a ∷ b ∷ a ∷ b ∷ a ∷ b ∷ a ∷ b ∷ a ∷ b ∷ a ∷ b ∷ a ∷ b ∷ a ∷ b ∷ []
 
   pub taps_known : Known w16 w32 (2 ^ 15) taps
-  taps_known = known_32 taps (fa, (fb, (fa, (fb, (fa, (fb, (fa, (fb, tt))))))))
+  taps_known = known_32 taps (fa, (fb, (fa, (fb, (fa, (fb, (fa, (fb, (fa, (fb, (fa, (fb, (fa, (fb, (fa, (fb, tt))))))))))))))))
 
-  pub items_known : Known w16 w32 (2 ^ 15) (take 8 x)
-  items_known = known_32 (take 8 x) (Each1-weaker (IsItem Short) (SFits w16) short_fits (take 8 x) (each (IsItem Short) (pos 0) (take 8 x) (All-take (IsItem Short) 8 x range)))
+  pub items_known : Known w16 w32 (2 ^ 15) (take 16 x)
+  items_known = known_32 (take 16 x) (Each1-weaker (IsItem Short) (SFits w16) short_fits (take 16 x) (each (IsItem Short) (pos 0) (take 16 x) (All-take (IsItem Short) 16 x range)))
 
   abbrev lanes : List ℕ
-  lanes = multiplied w16 w16 w32 taps (take 8 x)
+  lanes = multiplied w16 w16 w32 taps (take 16 x)
 
   abbrev firsts : List ℤ
-  firsts = map (λ k. a *ℤ item x k) (0 ∷ 2 ∷ 4 ∷ 6 ∷ [])
+  firsts = map (λ k. a *ℤ item x k) (0 ∷ 2 ∷ 4 ∷ 6 ∷ 8 ∷ 10 ∷ 12 ∷ 14 ∷ [])
 
   abbrev seconds : List ℤ
-  seconds = map (λ k. b *ℤ item x (k + 1)) (0 ∷ 2 ∷ 4 ∷ 6 ∷ [])
+  seconds = map (λ k. b *ℤ item x (k + 1)) (0 ∷ 2 ∷ 4 ∷ 6 ∷ 8 ∷ 10 ∷ 12 ∷ 14 ∷ [])
 
-  lanes_are : lanes ≡ map (of_z w32) (zip2 (λ p q. p *ℤ q) taps (item x 0 ∷ item x 1 ∷ item x 2 ∷ item x 3 ∷ item x 4 ∷ item x 5 ∷ item x 6 ∷ item x 7 ∷ []))
+  lanes_are : lanes ≡ map (of_z w32) (zip2 (λ p q. p *ℤ q) taps (item x 0 ∷ item x 1 ∷ item x 2 ∷ item x 3 ∷ item x 4 ∷ item x 5 ∷ item x 6 ∷ item x 7 ∷ item x 8 ∷ item x 9 ∷ item x 10 ∷ item x 11 ∷ item x 12 ∷ item x 13 ∷ item x 14 ∷ item x 15 ∷ []))
   lanes_are =
-      product_is w16 w16 w32 (2 ^ 15) (2 ^ 15) taps (take 8 x) taps_known items_known (omega arith)
-      ∙ ap (λ ys. map (of_z w32) (zip2 (λ p q. p *ℤ q) taps ys)) (eight_listed x room)
+      product_is w16 w16 w32 (2 ^ 15) (2 ^ 15) taps (take 16 x) taps_known items_known (omega arith)
+      ∙ ap (λ ys. map (of_z w32) (zip2 (λ p q. p *ℤ q) taps ys)) (sixteen_listed x room)
 
   near_a : (k : ℕ) → unsigned_abs (a *ℤ item x k) ≤ unsigned_abs a * 2 ^ 15
   near_a k = product_near a (item x k) (short_item x range k)
@@ -253,57 +251,105 @@ module _ (a b : ℤ) (x : List ℤ) (fa : SFits w16 a) (fb : SFits w16 b) (light
   fits_b : (k : ℕ) → SFits w32 (b *ℤ item x k)
   fits_b k = fits_32 (b *ℤ item x k) (omega (arith, near_b k))
 
-  both_near : (k m : ℕ) → unsigned_abs ((a *ℤ item x k) +ℤ (b *ℤ item x m)) ≤ 2 ^ 31 - 1
+  both_near : (k m : ℕ) → unsigned_abs ((a *ℤ item x k) +ℤ (b *ℤ item x m)) ≤ 2 ^ 31 - 2 ^ 15
   both_near k m = omega (arith, abs_add (a *ℤ item x k) (b *ℤ item x m), near_a k, near_b m)
 
   firsts_fit : Each1 (SFits w32) firsts
-  firsts_fit = (fits_a 0, (fits_a 2, (fits_a 4, (fits_a 6, tt))))
+  firsts_fit = (fits_a 0, (fits_a 2, (fits_a 4, (fits_a 6, (fits_a 8, (fits_a 10, (fits_a 12, (fits_a 14, tt))))))))
 
   seconds_fit : Each1 (SFits w32) seconds
-  seconds_fit = (fits_b 1, (fits_b 3, (fits_b 5, (fits_b 7, tt))))
+  seconds_fit = (fits_b 1, (fits_b 3, (fits_b 5, (fits_b 7, (fits_b 9, (fits_b 11, (fits_b 13, (fits_b 15, tt))))))))
 
-  pub paired_near : AreWithin (2 ^ 31 - 1) (paired a b x)
-  paired_near = (both_near 0 1, (both_near 2 3, (both_near 4 5, (both_near 6 7, tt))))
+  pub paired_near : AreWithin (2 ^ 31 - 2 ^ 15) (paired a b x)
+  paired_near = (both_near 0 1, (both_near 2 3, (both_near 4 5, (both_near 6 7, (both_near 8 9, (both_near 10 11, (both_near 12 13, (both_near 14 15, tt))))))))
+
+  both_fit : Each2 (λ p q. SFits w32 (p +ℤ q)) firsts seconds
+  both_fit = (fits_32 ((a *ℤ item x 0) +ℤ (b *ℤ item x 1)) (both_near 0 1), (fits_32 ((a *ℤ item x 2) +ℤ (b *ℤ item x 3)) (both_near 2 3), (fits_32 ((a *ℤ item x 4) +ℤ (b *ℤ item x 5)) (both_near 4 5), (fits_32 ((a *ℤ item x 6) +ℤ (b *ℤ item x 7)) (both_near 6 7), (fits_32 ((a *ℤ item x 8) +ℤ (b *ℤ item x 9)) (both_near 8 9), (fits_32 ((a *ℤ item x 10) +ℤ (b *ℤ item x 11)) (both_near 10 11), (fits_32 ((a *ℤ item x 12) +ℤ (b *ℤ item x 13)) (both_near 12 13), (fits_32 ((a *ℤ item x 14) +ℤ (b *ℤ item x 15)) (both_near 14 15), tt))))))))
 
   pub paired_asks : Each2 (Asks2 (add signed) (s_int w32) (s_int w32)) (even_lanes lanes) (odd_lanes lanes)
   paired_asks =
       subst (λ us. Each2 (Asks2 (add signed) (s_int w32) (s_int w32)) (even_lanes us) (odd_lanes us)) (sym lanes_are)
-      (add_asks w32 firsts seconds firsts_fit seconds_fit (fits_32 ((a *ℤ item x 0) +ℤ (b *ℤ item x 1)) (both_near 0 1), (fits_32 ((a *ℤ item x 2) +ℤ (b *ℤ item x 3)) (both_near 2 3), (fits_32 ((a *ℤ item x 4) +ℤ (b *ℤ item x 5)) (both_near 4 5), (fits_32 ((a *ℤ item x 6) +ℤ (b *ℤ item x 7)) (both_near 6 7), tt)))))
+      (add_asks w32 firsts seconds firsts_fit seconds_fit both_fit)
 
   pub paired_is : map (to_z w32) (zip2 (act2 (add signed) (s_int w32) (s_int w32) (s_int w32)) (even_lanes lanes) (odd_lanes lanes)) ≡ paired a b x
   paired_is =
       ap (λ us. map (to_z w32) (zip2 (act2 (add signed) (s_int w32) (s_int w32) (s_int w32)) (even_lanes us) (odd_lanes us))) lanes_are
       ∙ ap (map (to_z w32)) (add_is w32 firsts seconds firsts_fit seconds_fit) ∙ back w32 (paired a b x) (lanes_fit_32 (paired a b x) paired_near)
 
--- ---- the last of an odd number of taps, in lanes of 64 bits
+-- ---- the last of an odd number of taps
+
+first_more : (h x : List ℤ) (j from n k : ℕ) → from + k ≡ n + length h - 1 - j
+    → tap_sum h x j n +ℤ ((item h j *ℤ item (drop from x) k) +ℤ (pos 0 *ℤ item (drop from x) (k + 1))) ≡ tap_sum h x (j + 1) n
+first_more h x j from n k e =
+    let p : item (drop from x) k ≡ item x (n + length h - 1 - j) = get_or-drop from x k (pos 0) ∙ ap (item x) e in
+    (λ i. tap_sum h x j n +ℤ ((item h j *ℤ p i) +ℤ (pos 0 *ℤ item (drop from x) (k + 1))))
+    ∙ alone (tap_sum h x j n) (item h j *ℤ item x (n + length h - 1 - j)) (item (drop from x) (k + 1))
+    ∙ sym (sum_more j (λ i. item h i *ℤ item x (n + length h - 1 - i)))
+  where
+    alone : (s p q : ℤ) → s +ℤ (p +ℤ (pos 0 *ℤ q)) ≡ s +ℤ p
+    alone s p q = omega (arith, ints)
+
+second_more : (h x : List ℤ) (j from n k : ℕ) → from + k + 1 ≡ n + length h - 1 - j
+    → tap_sum h x j n +ℤ ((pos 0 *ℤ item (drop from x) k) +ℤ (item h j *ℤ item (drop from x) (k + 1))) ≡ tap_sum h x (j + 1) n
+second_more h x j from n k e =
+    let here : from + (k + 1) ≡ n + length h - 1 - j = omega arith in
+    let p : item (drop from x) (k + 1) ≡ item x (n + length h - 1 - j) = get_or-drop from x (k + 1) (pos 0) ∙ ap (item x) here in
+    (λ i. tap_sum h x j n +ℤ ((pos 0 *ℤ item (drop from x) k) +ℤ (item h j *ℤ p i)))
+    ∙ alone (tap_sum h x j n) (item h j *ℤ item x (n + length h - 1 - j)) (item (drop from x) k)
+    ∙ sym (sum_more j (λ i. item h i *ℤ item x (n + length h - 1 - i)))
+  where
+    alone : (s p q : ℤ) → s +ℤ ((pos 0 *ℤ q) +ℤ p) ≡ s +ℤ p
+    alone s p q = omega (arith, ints)
+
+firsts_more : (h x : List ℤ) (j at : ℕ) → j + 1 ≡ length h
+    → zip2 (λ a b. a +ℤ b) (spread_sums h x j at) (paired (item h j) (pos 0) (drop at x)) ≡ spread_sums h x (j + 1) at
+firsts_more h x j at e =
+    let a' = first_more h x j at at 0 (omega arith) in
+    let b' = first_more h x j at (at + 2) 2 (omega arith) in
+    let c' = first_more h x j at (at + 4) 4 (omega arith) in
+    let d' = first_more h x j at (at + 6) 6 (omega arith) in
+    let e' = first_more h x j at (at + 8) 8 (omega arith) in
+    let f' = first_more h x j at (at + 10) 10 (omega arith) in
+    let g' = first_more h x j at (at + 12) 12 (omega arith) in
+    let h' = first_more h x j at (at + 14) 14 (omega arith) in
+    λ i. a' i ∷ b' i ∷ c' i ∷ d' i ∷ e' i ∷ f' i ∷ g' i ∷ h' i ∷ []
+
+seconds_more : (h x : List ℤ) (j at : ℕ) → j + 1 ≡ length h
+    → zip2 (λ a b. a +ℤ b) (spread_sums h x j (at + 1)) (paired (pos 0) (item h j) (drop at x)) ≡ spread_sums h x (j + 1) (at + 1)
+seconds_more h x j at e =
+    let a' = second_more h x j at (at + 1) 0 (omega arith) in
+    let b' = second_more h x j at (at + 1 + 2) 2 (omega arith) in
+    let c' = second_more h x j at (at + 1 + 4) 4 (omega arith) in
+    let d' = second_more h x j at (at + 1 + 6) 6 (omega arith) in
+    let e' = second_more h x j at (at + 1 + 8) 8 (omega arith) in
+    let f' = second_more h x j at (at + 1 + 10) 10 (omega arith) in
+    let g' = second_more h x j at (at + 1 + 12) 12 (omega arith) in
+    let h' = second_more h x j at (at + 1 + 14) 14 (omega arith) in
+    λ i. a' i ∷ b' i ∷ c' i ∷ d' i ∷ e' i ∷ f' i ∷ g' i ∷ h' i ∷ []
+
+-- the products of the last tap, at the outputs from `at` on and at those between
+pub last_more : (h x : List ℤ) (at : ℕ) → 1 ≤ length h → AreItems Short h → (sums prods : List ℤ) → sums ≡ spread_sums h x (length h - 1) at
+    → prods ≡ paired (to_z w16 (of_z w16 (item h (length h - 1)))) (pos 0) (take (length x - at) (drop at x))
+    → zip2 (λ a b. a +ℤ b) sums prods ≡ spread_sums h x (length h) at
+last_more h x at some range sums prods is made =
+    let e : length h - 1 + 1 ≡ length h = omega arith in
+    let a = tap_back h range (length h - 1) (omega arith) in
+    let all : take (length x - at) (drop at x) ≡ drop at x = take_rest x at in
+    ap (zip2 (λ a b. a +ℤ b) sums) (made ∙ (λ i. paired (a i) (pos 0) (all i)))
+    ∙ ap (λ ss. zip2 (λ a b. a +ℤ b) ss (paired (item h (length h - 1)) (pos 0) (drop at x))) is
+    ∙ firsts_more h x (length h - 1) at e ∙ ap (λ j. spread_sums h x j at) e
+
+pub last_between : (h x : List ℤ) (at : ℕ) → 1 ≤ length h → AreItems Short h → (sums prods : List ℤ) → sums ≡ spread_sums h x (length h - 1) (at + 1)
+    → prods ≡ paired (pos 0) (to_z w16 (of_z w16 (item h (length h - 1)))) (take (length x - at) (drop at x))
+    → zip2 (λ a b. a +ℤ b) sums prods ≡ spread_sums h x (length h) (at + 1)
+last_between h x at some range sums prods is made =
+    let e : length h - 1 + 1 ≡ length h = omega arith in
+    let a = tap_back h range (length h - 1) (omega arith) in
+    let all : take (length x - at) (drop at x) ≡ drop at x = take_rest x at in
+    ap (zip2 (λ a b. a +ℤ b) sums) (made ∙ (λ i. paired (pos 0) (a i) (all i)))
+    ∙ ap (λ ss. zip2 (λ a b. a +ℤ b) ss (paired (pos 0) (item h (length h - 1)) (drop at x))) is
+    ∙ seconds_more h x (length h - 1) at e ∙ ap (λ j. spread_sums h x j (at + 1)) e
 
 pub map_self : (xs : List ℤ) → map (λ (z : ℤ). z) xs ≡ xs
 map_self [] = refl
 map_self (x ∷ xs) = ap (λ ys. x ∷ ys) (map_self xs)
-
-module _ (h x : List ℤ) (taps_range : AreItems Short h) (range : AreItems Short x) (at : ℕ) (some : 1 ≤ length h) (few : length h ≤ 256) (room : at + 7 + length h ≤ length x) where
-  tap_close : (j n : ℕ) → unsigned_abs (tap_sum h x j n) ≤ j * 2 ^ 46
-  tap_close j n =
-      sum_near (2 ^ 46) j (λ i. item h i *ℤ item x (n + length h - 1 - i))
-      (λ i lt. omega (arith, product_near (item h i) (item x (n + length h - 1 - i)) (short_item x range (n + length h - 1 - i)), short_item h taps_range i))
-
-  eight_close : (j : ℕ) → AreWithin (j * 2 ^ 46) (tap_sums h x j at)
-  eight_close j =
-      (tap_close j at, (tap_close j (at + 1), (tap_close j (at + 1 + 1), (tap_close j (at + 1 + 1 + 1), (tap_close j (at + 1 + 1 + 1 + 1), (tap_close j (at + 1 + 1 + 1 + 1 + 1), (tap_close j (at + 1 + 1 + 1 + 1 + 1 + 1), (tap_close j (at + 1 + 1 + 1 + 1 + 1 + 1 + 1), tt))))))))
-
-  pub last_tap : (j : ℕ) → j + 1 ≡ length h → (sums prods res : List ℤ) → sums ≡ tap_sums h x j at
-      → prods ≡ zip2 (λ a b. a *ℤ b) (replicate 8 (to_z w16 (of_z w16 (item h (length h - 1))))) (take 8 (take (length x - at) (drop at x)))
-      → AreWithin (2 ^ 46) prods → res ≡ zip2 (λ a b. a +ℤ b) sums (map (to_z w64) (map (of_z w64) prods))
-      → (map (to_z w64) (map (of_z w64) res) ≡ tap_sums h x (length h) at) × AreWithin (2 ^ 60) (map (to_z w64) (map (of_z w64) res))
-  last_tap j e sums prods res s p within r =
-      let id : ℤ → ℤ = λ z. z in
-      let same : map id x ≡ x = map_self x in
-      let last : length h - 1 ≡ j = omega arith in
-      let from : at ≡ at + (length h - 1 - j) = omega arith in
-      let more = eight_more id h x at j (omega arith) (omega arith) room taps_range sums prods res (s ∙ ap (λ y. tap_sums h y j at) (sym same))
-      (subst (AreWithin (j * 2 ^ 46)) (sym s) (eight_close j))
-      (p ∙ ap (λ k. zip2 (λ a b. a *ℤ b) (replicate 8 (to_z w16 (of_z w16 (item h k)))) (take 8 (take (length x - at) (drop at x)))) last
-      ∙ ap (λ m. zip2 (λ a b. a *ℤ b) (replicate 8 (to_z w16 (of_z w16 (item h j)))) (take 8 (take (length x - m) (drop m x)))) from) within r in (
-        more.0 ∙ ap (λ y. tap_sums h y (j + 1) at) same ∙ ap (λ k. tap_sums h x k at) e,
-        nearer ((j + 1) * 2 ^ 46) (2 ^ 60) (map (to_z w64) (map (of_z w64) res)) (omega arith) more.1,
-      )

@@ -41,7 +41,7 @@ abs_shr : (z : ℤ) (m : ℕ) → unsigned_abs (shr_z z m) ≤ unsigned_abs z
 abs_shr (pos n) m = mag_shr (pos n) m
 abs_shr (negsuc n) m = let h : n / m ≤ n = mag_shr (negsuc n) m in omega arith
 
-shr_within : (k m : ℕ) (xs : List ℤ) → AreWithin k xs → AreWithin k (map (λ z. shr_z z m) xs)
+pub shr_within : (k m : ℕ) (xs : List ℤ) → AreWithin k xs → AreWithin k (map (λ z. shr_z z m) xs)
 shr_within k m [] h = tt
 shr_within k m (x ∷ xs) h = (omega (arith, abs_shr x m, h.0), shr_within k m xs h.1)
 

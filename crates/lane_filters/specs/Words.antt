@@ -19,17 +19,21 @@ tap_sum h x count n = sum_below count (λ j. item h j *ℤ item x (n + length h 
 abbrev pub tap_sums : List ℤ → List ℤ → ℕ → ℕ → List ℤ
 tap_sums h x count at = map (tap_sum h x count) (numbers_from at 8)
 
--- those sums at every other output of eight
+-- every other number of sixteen
+abbrev pub every_other : ℕ → List ℕ
+every_other n = n ∷ (n + 2) ∷ (n + 4) ∷ (n + 6) ∷ (n + 8) ∷ (n + 10) ∷ (n + 12) ∷ (n + 14) ∷ []
+
+-- those sums at every other output of sixteen
 abbrev pub spread_sums : List ℤ → List ℤ → ℕ → ℕ → List ℤ
-spread_sums h x count at = map (tap_sum h x count) (at ∷ (at + 1 + 1) ∷ (at + 1 + 1 + 1 + 1) ∷ (at + 1 + 1 + 1 + 1 + 1 + 1) ∷ [])
+spread_sums h x count at = map (tap_sum h x count) (every_other at)
 
 -- the taps' distances from 0, summed
 abbrev pub weight : List ℤ → ℕ
 weight h = sum_by unsigned_abs h
 
--- a times each other item of eight plus b times the one behind it
+-- a times every other item of sixteen plus b times the one behind it
 abbrev pub paired : ℤ → ℤ → List ℤ → List ℤ
-paired a b x = map (λ k. (a *ℤ item x k) +ℤ (b *ℤ item x (k + 1))) (0 ∷ 2 ∷ 4 ∷ 6 ∷ [])
+paired a b x = map (λ k. (a *ℤ item x k) +ℤ (b *ℤ item x (k + 1))) (every_other 0)
 
 -- the output that those sums of all taps give
 abbrev pub output : ItemType → List ℤ → List ℤ → ℕ → ℕ → ℤ

@@ -1,12 +1,13 @@
 //! What a filter does by the item's type: products, and what it writes.
 ghost use Rattle.std.specs.Prelude.{◌≡◌, ◌+◌, ◌<◌, ◌≤◌, ◌^◌, ◌*ℤ◌, length, map, take, All, IsTrue};
 ghost use Rattle.std.specs.Simd.Lanes.{zip2, put_chunk};
+ghost use Rattle.stream_model.specs.Lists.{listed};
 ghost use Rattle.stream_model.specs.Numbers.{sat, IsItem, AreItems};
 ghost use Rattle.stream_model.specs.declared.vocabulary.ItemType.TheVariants.{Short};
-ghost use Rattle.lane_filters.specs.Words.{AreWithin, tap_sums, weight};
+ghost use Rattle.lane_filters.specs.Words.{AreWithin, output, weight};
 
-use crate::fir::wide_sums;
-use crate::pairs::eight_short_sums;
+use crate::fir::write_wide;
+use crate::pairs::write_light;
 use numbers::Number;
 use std::simd::prelude::*;
 
@@ -33,18 +34,18 @@ pub trait ProductLane: Number {
 
 /// An item type that has filters.
 pub trait FilterLane: ProductLane {
-    /// The sums at sixteen outputs. `light` says that the taps' distances from 0 sum up to less than `2 ^ 16`.
-    fn sixteen_sums(h: &[i16], x: &[Self], at: usize, light: bool) -> (i64x8, i64x8)
+    /// Writes 32 outputs, from `at` on, where those before stand. `light` says that the taps' distances from 0 sum up to less than `2 ^ 16`.
+    fn write_block(h: &[i16], x: &[Self], at: usize, shift: u32, light: bool, out: &mut [Self])
         requires taps { 1 ≤ length h.now }
         requires most { length h.now ≤ 256 }
+        requires shift { shift ≤ 31 }
         requires light { IsTrue light → weight h.now < 2 ^ 16 }
-        requires room { at + 15 + length h.now ≤ length x.now }
+        requires room { at + 31 + length h.now ≤ length x.now }
+        requires place { at + 32 ≤ length out.old }
         requires taps_in_range { AreItems Short h.now }
         requires items_in_range { All (λ x. IsItem Self.kind (Self.number x)) x.now }
-        ensures low { result.0 ≡ tap_sums h.now (map Self.number x.now) (length h.now) at }
-        ensures high { result.1 ≡ tap_sums h.now (map Self.number x.now) (length h.now) (at + 8) }
-        ensures low_within { AreWithin (2 ^ 60) result.0 }
-        ensures high_within { AreWithin (2 ^ 60) result.1 };
+        requires done { take at (map Self.number out.old) ≡ listed at (output Self.kind h.now (map Self.number x.now) shift) }
+        ensures { take (at + 32) (map Self.number out.new) ≡ listed (at + 32) (output Self.kind h.now (map Self.number x.now) shift) };
 }
 
 impl ProductLane for i16 {
@@ -90,19 +91,17 @@ impl ProductLane for i32 {
 }
 
 impl FilterLane for i16 {
-    #[inline(always)]
-    fn sixteen_sums(h: &[i16], x: &[i16], at: usize, light: bool) -> (i64x8, i64x8) {
-        if light {
-            (eight_short_sums(h, x, at), eight_short_sums(h, x, at + 8))
+    fn write_block(h: &[i16], x: &[i16], at: usize, shift: u32, light: bool, out: &mut [i16]) {
+        if light && shift <= 15 {
+            write_light(h, x, at, shift, out);
         } else {
-            wide_sums(h, x, at)
+            write_wide(h, x, at, shift, out);
         }
     }
 }
 
 impl FilterLane for i32 {
-    #[inline(always)]
-    fn sixteen_sums(h: &[i16], x: &[i32], at: usize, _light: bool) -> (i64x8, i64x8) {
-        wide_sums(h, x, at)
+    fn write_block(h: &[i16], x: &[i32], at: usize, shift: u32, _light: bool, out: &mut [i32]) {
+        write_wide(h, x, at, shift, out);
     }
 }

@@ -23,33 +23,49 @@ pub fn fir_row<T: FilterLane>(h: &[i16], x: &[T], shift: u32, out: &mut [T])
 {
     are_in_range(h);
     are_in_range(x);
-    fir_blocks(h, x, shift, out);
-    for n in 8 * (out.len() / 8)..out.len() {
-        out[n] = T::saturate(rounded(one_sum(h, x, n), shift));
+    if out.len() >= 32 {
+        long_row(h, x, shift, out);
+    } else {
+        short_row(h, x, shift, out);
     }
 }
 
-/// The outputs of the full blocks of eight.
-fn fir_blocks<T: FilterLane>(h: &[i16], x: &[T], shift: u32, out: &mut [T])
+/// The row in blocks of 32. The last of them may begin among outputs that the block before has written.
+fn long_row<T: FilterLane>(h: &[i16], x: &[T], shift: u32, out: &mut [T])
+    requires taps { 1 ≤ length h.now }
+    requires most { length h.now ≤ 256 }
+    requires lengths { length x.now + 1 ≡ length out.old + length h.now }
+    requires long { 32 ≤ length out.old }
+    requires shift { shift ≤ 31 }
+    requires taps_in_range { AreItems Short h.now }
+    requires items_in_range { All (λ x. IsItem T.kind (T.number x)) x.now }
+    ensures { map T.number out.new ≡ listed (length out.old) (output T.kind h.now (map T.number x.now) shift) }
+{
+    let light = is_light(h);
+    for block in 0..out.len() / 32 {
+        T::write_block(h, x, 32 * block, shift, light, out);
+    }
+    if out.len() % 32 != 0 {
+        T::write_block(h, x, out.len() - 32, shift, light, out);
+    }
+}
+
+/// The row in blocks of eight, and one by one behind them.
+fn short_row<T: ProductLane>(h: &[i16], x: &[T], shift: u32, out: &mut [T])
     requires taps { 1 ≤ length h.now }
     requires most { length h.now ≤ 256 }
     requires lengths { length x.now + 1 ≡ length out.old + length h.now }
     requires shift { shift ≤ 31 }
     requires taps_in_range { AreItems Short h.now }
     requires items_in_range { All (λ x. IsItem T.kind (T.number x)) x.now }
-    ensures { let done = 8 * (length out.old / 8) in take done (map T.number out.new) ≡ listed done (output T.kind h.now (map T.number x.now) shift) }
+    ensures { map T.number out.new ≡ listed (length out.old) (output T.kind h.now (map T.number x.now) shift) }
 {
-    let light = is_light(h);
-    for pair in 0..out.len() / 16 {
-        let at = 16 * pair;
-        let (low, high) = T::sixteen_sums(h, x, at, light);
-        T::store(rounded_lanes(low, shift), out, at);
-        T::store(rounded_lanes(high, shift), out, at + 8);
+    for block in 0..out.len() / 8 {
+        let sums = eight_sums(h, x, 8 * block);
+        T::store(rounded_lanes(sums, shift), out, 8 * block);
     }
-    let at = 16 * (out.len() / 16);
-    if out.len() - at >= 8 {
-        let sums = eight_sums(h, x, at);
-        T::store(rounded_lanes(sums, shift), out, at);
+    for n in 8 * (out.len() / 8)..out.len() {
+        out[n] = T::saturate(rounded(one_sum(h, x, n), shift));
     }
 }
 
@@ -65,8 +81,28 @@ fn is_light(h: &[i16]) -> bool
     weight < 65536
 }
 
+/// Writes 32 outputs by sums in lanes of 64 bits.
+pub(crate) fn write_wide<T: ProductLane>(h: &[i16], x: &[T], at: usize, shift: u32, out: &mut [T])
+    requires taps { 1 ≤ length h.now }
+    requires most { length h.now ≤ 256 }
+    requires shift { shift ≤ 31 }
+    requires room { at + 31 + length h.now ≤ length x.now }
+    requires place { at + 32 ≤ length out.old }
+    requires taps_in_range { AreItems Short h.now }
+    requires items_in_range { All (λ x. IsItem T.kind (T.number x)) x.now }
+    requires done { take at (map T.number out.old) ≡ listed at (output T.kind h.now (map T.number x.now) shift) }
+    ensures { take (at + 32) (map T.number out.new) ≡ listed (at + 32) (output T.kind h.now (map T.number x.now) shift) }
+{
+    for half in 0..2 {
+        let from = at + 16 * half;
+        let (low, high) = wide_sums(h, x, from);
+        T::store(rounded_lanes(low, shift), out, from);
+        T::store(rounded_lanes(high, shift), out, from + 8);
+    }
+}
+
 /// The sums at sixteen outputs in lanes of 64 bits: each tap is read once for them.
-pub(crate) fn wide_sums<T: ProductLane>(h: &[i16], x: &[T], at: usize) -> (i64x8, i64x8)
+fn wide_sums<T: ProductLane>(h: &[i16], x: &[T], at: usize) -> (i64x8, i64x8)
     requires taps { 1 ≤ length h.now }
     requires most { length h.now ≤ 256 }
     requires room { at + 15 + length h.now ≤ length x.now }

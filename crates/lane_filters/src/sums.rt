@@ -1,8 +1,9 @@
 //! Sums in lanes.
-ghost use Rattle.std.specs.Prelude.{◌≡◌, ◌+◌, ◌/◌, ◌≤◌, ◌^◌, ◌+ℤ◌, ◌*ℤ◌, pos, map};
+ghost use Rattle.std.specs.Prelude.{◌≡◌, ◌+◌, ◌-◌, ◌/◌, ◌≤◌, ◌^◌, ◌+ℤ◌, ◌*ℤ◌, pos, map};
 ghost use Rattle.std.specs.Int.RustNames.{unsigned_abs};
 ghost use Rattle.std.specs.Simd.Lanes.{zip2};
-ghost use Rattle.stream_model.specs.Numbers.{rnd, total};
+ghost use Rattle.stream_model.specs.Numbers.{rnd, sat, total};
+ghost use Rattle.stream_model.specs.declared.vocabulary.ItemType.TheVariants.{Short};
 ghost use Rattle.lane_filters.specs.Words.{AreWithin};
 
 use numbers::Number;
@@ -65,4 +66,46 @@ pub(crate) fn rounded_lanes(sums: i64x8, shift: u32) -> i64x8
 {
     let halves = i64x8::splat(half_of(shift));
     sums.strict_add(halves) >> i64x8::splat(i64::from(shift))
+}
+
+/// The same as an int.
+#[inline(always)]
+fn half_int(shift: u32) -> i32
+    requires { shift ≤ 15 }
+    ensures { result ≡ pos (2 ^ shift / 2) }
+{
+    i32::from((1u16 << shift) / 2)
+}
+
+/// A shift as an int.
+#[inline(always)]
+fn int_of(shift: u32) -> i32
+    requires { shift ≤ 15 }
+    ensures { result ≡ pos shift }
+{
+    shift as i32
+}
+
+/// Each sum over `2 ^ shift`, rounded to the nearest; ties round up.
+#[inline(always)]
+pub(crate) fn rounded_ints(sums: i32x8, shift: u32) -> i32x8
+    requires shift { shift ≤ 15 }
+    requires sums { AreWithin (2 ^ 31 - 2 ^ 15) sums }
+    ensures value { result ≡ map (λ z. rnd z shift) sums }
+    ensures within { AreWithin (2 ^ 31 - 1) result }
+{
+    let halves = i32x8::splat(half_int(shift));
+    sums.strict_add(halves) >> i32x8::splat(int_of(shift))
+}
+
+/// Each number, or the nearest that a short is.
+#[inline(always)]
+pub(crate) fn capped_shorts(numbers: i32x8) -> i16x8
+    requires { AreWithin (2 ^ 31 - 1) numbers }
+    ensures { result ≡ map (sat Short) numbers }
+{
+    let capped = numbers
+        .simd_max(i32x8::splat(-32768))
+        .simd_min(i32x8::splat(32767));
+    capped.cast::<i16>()
 }

@@ -1,20 +1,20 @@
-use Rattle.std.proofs.Common.{◌≡◌, ◌^◌, length, arith, pos, negsuc, w32}
+use Rattle.std.proofs.Common.{◌≡◌, ◌^◌, length, arith, pos, negsuc, w32, w64}
 use Rattle.stream_model.specs.Numbers.{sat}
 use Rattle.stream_model.specs.declared.vocabulary.ItemType.TheVariants.{Int}
 use Rattle.lane_filters.proofs.Signed.{lanes_fit, nearer}
-use Rattle.lane_filters.proofs.Capped.{int_is, int_sat, wider_32, capped_asks, written_is}
+use Rattle.lane_filters.proofs.Capped.{int_is, int_sat, wider_32, capped_asks, compared_64, written_is}
 use Rattle.lane_filters.proofs.filter_lane.I32ProductLane.store.Goals as goal
 
 pub overflow_cast-out : goal.overflow_cast-out
 overflow_cast-out c =
     let xs = c.args.numbers in
     let long : length xs ≡ 8 = omega arith in
-    capped_asks Int w32 (negsuc 2147483647) (pos 2147483647) int_is int_sat (λ z. wider_32 (sat Int z) (int_sat z)) (record { sfits = omega arith }) (record { sfits = omega arith }) xs long
+    capped_asks w64 compared_64 Int w32 (negsuc 2147483647) (pos 2147483647) int_is int_sat (λ z. wider_32 (sat Int z) (int_sat z)) (record { sfits = omega arith }) (record { sfits = omega arith }) xs long
     (lanes_fit xs (nearer (2 ^ 61) (2 ^ 62) xs (omega arith) c.requires.numbers))
 
 pub returns : goal.returns
 returns c =
     let xs = c.args.numbers in
     let long : length xs ≡ 8 = omega arith in
-    written_is Int w32 (negsuc 2147483647) (pos 2147483647) int_is int_sat (λ z. wider_32 (sat Int z) (int_sat z)) (record { sfits = omega arith }) (record { sfits = omega arith }) xs long
+    written_is w64 compared_64 Int w32 (negsuc 2147483647) (pos 2147483647) int_is int_sat (λ z. wider_32 (sat Int z) (int_sat z)) (record { sfits = omega arith }) (record { sfits = omega arith }) xs long
     (lanes_fit xs (nearer (2 ^ 61) (2 ^ 62) xs (omega arith) c.requires.numbers)) c.args.at c.args.out.now
