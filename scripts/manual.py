@@ -12,6 +12,7 @@ from typing import Any, Dict, Iterable, List
 import manual_c
 import manual_python
 import manual_rattle
+from manual_crates import crates_page, laws_page
 from manual_options import options_page
 from manual_pages import Stage
 from manual_refusals import refusals_page
@@ -22,16 +23,17 @@ OWN = Path(__file__).resolve().parent / "manual"
 ASSETS = ["manual.css", "files.js"]
 # The first page, pages that are made of others for the search, and the shelves of all.
 FIRST, REFUSALS, OPTIONS = "README.md", "docs/user/refusals_by_number.md", "docs/user/options.md"
+CRATES, LAWS = "docs/contribute/crates.md", "docs/proof/laws.md"
 SHELVES: Dict[str, List[str]] = {
     "Use": [
         "docs/user/COMMANDS.md", OPTIONS, "docs/user/FILES.md", "docs/user/REFUSALS.md", REFUSALS, "docs/user/KINDS.md", "docs/user/C.md", "docs/user/EMBED.md",
         "docs/user/STUDIO.md", "docs/user/FOR_GNU_RADIO_USERS.md", "docs/user/COVERAGE.md", "docs/user/SPEED.md", "CHANGELOG.md",
     ],
     "Contribute": [
-        "CONTRIBUTING.md", "docs/contribute/ARCHITECTURE.md", "docs/contribute/GLOSSARY.md", "docs/contribute/NEW_KIND.md", "docs/contribute/NEW_REFUSAL.md",
+        "CONTRIBUTING.md", "docs/contribute/ARCHITECTURE.md", CRATES, "docs/contribute/GLOSSARY.md", "docs/contribute/NEW_KIND.md", "docs/contribute/NEW_REFUSAL.md",
         "docs/contribute/GATE.md", "tests/README.md", "docs/contribute/DECISIONS.md",
     ],
-    "Proof": ["docs/proof/MODEL.md", "docs/proof/PROVED.md", "docs/proof/TESTED.md", "docs/proof/BELIEVED.md"],
+    "Proof": ["docs/proof/MODEL.md", LAWS, "docs/proof/PROVED.md", "docs/proof/TESTED.md", "docs/proof/BELIEVED.md"],
 }
 # What the navigation and the search call a page, where that is not its heading.
 TITLES = {
@@ -50,10 +52,11 @@ def titled(pages: Iterable[str]) -> List[Any]:
 def put_pages(stage: Stage) -> List[Any]:
     """Puts all pages there, and gives the navigation, shelf by shelf."""
     examples = [str(page.relative_to(TOP)) for page in sorted(TOP.glob("examples/*/README.md"))]
-    stage.write(Path(OPTIONS), options_page())
-    stage.write(Path(REFUSALS), refusals_page())
+    made = {OPTIONS: options_page, REFUSALS: refusals_page, CRATES: crates_page, LAWS: laws_page}
+    for place, page_of in made.items():
+        stage.write(Path(place), page_of())
     for page in [FIRST, *examples, *(page for pages in SHELVES.values() for page in pages)]:
-        if page not in (OPTIONS, REFUSALS):
+        if page not in made:
             stage.want(Path(page))
     rattle, others = manual_rattle.write(stage), [*manual_c.write(stage), *manual_python.write(stage)]
     stage.put_wanted()
