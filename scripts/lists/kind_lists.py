@@ -22,7 +22,7 @@ def written(table: KindTable) -> Iterator[Written]:
     yield marked("tests/graph_files/drawings.rs", FILE, "KINDS", _drawn(table))
     # (In these two no line can say by what they are written.)
     yield Written("tests/cases/explained/far_kind/stderr", names, "; there are: ", "\n")
-    yield Written("README.md", str(len(kinds)), "flow-from-grc`); [the ", " kinds](docs/user/KINDS.md)")
+    yield Written("README.md", str(len(kinds)), "| [the ", " kinds](docs/user/KINDS.md)")
 
 
 def _page(table: KindTable) -> str:
