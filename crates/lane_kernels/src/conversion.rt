@@ -28,21 +28,21 @@ pub trait NarrowsTo<U: SimdLane>: SimdLane {
 
 impl WidensTo<i16> for u8 {
     fn widen_block(a: &[u8], out: &mut [i16]) {
-        let block: Simd<u8, 8> = Simd::from_slice(a);
+        let block: Simd<u8, 16> = Simd::from_slice(a);
         block.cast::<i16>().copy_to_slice(out);
     }
 }
 
 impl WidensTo<i32> for u8 {
     fn widen_block(a: &[u8], out: &mut [i32]) {
-        let block: Simd<u8, 4> = Simd::from_slice(a);
+        let block: Simd<u8, 8> = Simd::from_slice(a);
         block.cast::<i32>().copy_to_slice(out);
     }
 }
 
 impl WidensTo<i32> for i16 {
     fn widen_block(a: &[i16], out: &mut [i32]) {
-        let block: Simd<i16, 4> = Simd::from_slice(a);
+        let block: Simd<i16, 8> = Simd::from_slice(a);
         block.cast::<i32>().copy_to_slice(out);
     }
 }
@@ -66,7 +66,7 @@ impl NarrowsTo<u8> for i32 {
 // A cast has to fit: the low half is first put in place of the whole.
 impl NarrowsTo<i16> for i32 {
     fn narrow_block(a: &[i32], out: &mut [i16]) {
-        let block: Simd<i32, 8> = Simd::from_slice(a);
+        let block: Simd<i32, 16> = Simd::from_slice(a);
         let low = (block << Simd::splat(16)) >> Simd::splat(16);
         low.cast::<i16>().copy_to_slice(out);
     }

@@ -6,12 +6,15 @@ use crate::scaling::scaled_wide;
 use crate::streams::push_each;
 use std::simd::prelude::*;
 
-type Block = Simd<i32, 4>;
+type Block = Simd<i32, 8>;
+
+/// Products have lanes of 64 bits.
+type ScaledBlock = Simd<i32, 4>;
 
 impl SimdLane for i32 {
-    ghost LANES = { 4 };
+    ghost LANES = { 8 };
 
-    const LANES: usize = 4;
+    const LANES: usize = 8;
 
     ghost SCALED_LANES = { 4 };
 
@@ -51,7 +54,7 @@ impl SimdLane for i32 {
 
     fn scale_block(a: &[i32], factor: i16, shift: u32, out: &mut [i32]) {
         let factors = Simd::splat(i64::from(factor));
-        let products = Block::from_slice(a).cast::<i64>() * factors;
+        let products = ScaledBlock::from_slice(a).cast::<i64>() * factors;
         scaled_wide(products, shift, -2147483648, 2147483647)
             .cast::<i32>()
             .copy_to_slice(out);

@@ -6,12 +6,12 @@ use crate::scaling::scaled;
 use crate::streams::push_each;
 use std::simd::prelude::*;
 
-type Block = Simd<i16, 8>;
+type Block = Simd<i16, 16>;
 
 impl SimdLane for i16 {
-    ghost LANES = { 8 };
+    ghost LANES = { 16 };
 
-    const LANES: usize = 8;
+    const LANES: usize = 16;
 
     ghost SCALED_LANES = { 16 };
 

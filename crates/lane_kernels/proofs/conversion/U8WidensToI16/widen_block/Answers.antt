@@ -8,5 +8,5 @@ use Rattle.lane_kernels.proofs.conversion.U8WidensToI16.widen_block.Goals as goa
 
 pub returns : goal.returns
 returns c =
-    stored_map pos (λ (z : ℤ). z) (λ x. IsItem Byte (pos x)) 8 c.args.out.now c.requires.out_block (λ xs. map (to_z w16) (map (λ u. u) xs)) (to_z w16) (wrap Short)
+    stored_map pos (λ (z : ℤ). z) (λ x. IsItem Byte (pos x)) 16 c.args.out.now c.requires.out_block (λ xs. map (to_z w16) (map (λ u. u) xs)) (to_z w16) (wrap Short)
     (λ xs e. map-map (to_z w16) (λ u. u) xs) byte_to_short c.args.a.now c.requires.a_block.whole c.requires.a_block.items

@@ -8,5 +8,5 @@ use Rattle.lane_kernels.proofs.conversion.U8WidensToI32.widen_block.Goals as goa
 
 pub returns : goal.returns
 returns c =
-    stored_map pos (λ (z : ℤ). z) (λ x. IsItem Byte (pos x)) 4 c.args.out.now c.requires.out_block (λ xs. map (to_z w32) (map (λ u. u) xs)) (to_z w32) (wrap Int)
+    stored_map pos (λ (z : ℤ). z) (λ x. IsItem Byte (pos x)) 8 c.args.out.now c.requires.out_block (λ xs. map (to_z w32) (map (λ u. u) xs)) (to_z w32) (wrap Int)
     (λ xs e. map-map (to_z w32) (λ u. u) xs) byte_to_int c.args.a.now c.requires.a_block.whole c.requires.a_block.items

@@ -7,5 +7,5 @@ use Rattle.lane_kernels.proofs.ints.I32SimdLane.not_block.Goals as goal
 
 pub returns : goal.returns
 returns c =
-    signed_map 4 w32 Int c.args.out.now c.args.a.now c.requires.out_block c.requires.a_block (λ x. (2 ^ 32 - 1) - x) (turned Int)
+    signed_map 8 w32 Int c.args.out.now c.args.a.now c.requires.out_block c.requires.a_block (λ x. (2 ^ 32 - 1) - x) (turned Int)
     (λ x p. turned_bits w32 Int int_lanes x (int_lanes.fits x p))

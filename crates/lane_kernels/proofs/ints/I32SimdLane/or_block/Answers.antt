@@ -8,5 +8,5 @@ use Rattle.lane_kernels.proofs.ints.I32SimdLane.or_block.Goals as goal
 
 pub returns : goal.returns
 returns c =
-    signed_zip 4 w32 Int c.args.out.now c.args.a.now c.requires.out_block c.requires.a_block bit_or (bits_joined bit_or Int)
+    signed_zip 8 w32 Int c.args.out.now c.args.a.now c.requires.out_block c.requires.a_block bit_or (bits_joined bit_or Int)
     (λ x y p q. joined_bits w32 Int int_lanes bit_or (or_keeps 32) x y (int_lanes.fits x p) (int_lanes.fits y q)) c.args.b.now c.requires.b_block

@@ -7,5 +7,5 @@ use Rattle.lane_kernels.proofs.shorts.I16SimdLane.mul_block.Goals as goal
 
 pub returns : goal.returns
 returns c =
-    signed_splat 8 w16 Short c.args.out.now c.args.a.now c.requires.out_block c.requires.a_block (λ x y. (x * y) % 2 ^ 16) (of_z w16 c.args.c) (λ x. wrap Short (x *ℤ c.args.c))
+    signed_splat 16 w16 Short c.args.out.now c.args.a.now c.requires.out_block c.requires.a_block (λ x y. (x * y) % 2 ^ 16) (of_z w16 c.args.c) (λ x. wrap Short (x *ℤ c.args.c))
     (λ x p. multiplied w16 Short short_lanes x c.args.c (short_lanes.fits x p) c.ranges.c)

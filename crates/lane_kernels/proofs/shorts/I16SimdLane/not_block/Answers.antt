@@ -7,5 +7,5 @@ use Rattle.lane_kernels.proofs.shorts.I16SimdLane.not_block.Goals as goal
 
 pub returns : goal.returns
 returns c =
-    signed_map 8 w16 Short c.args.out.now c.args.a.now c.requires.out_block c.requires.a_block (λ x. (2 ^ 16 - 1) - x) (turned Short)
+    signed_map 16 w16 Short c.args.out.now c.args.a.now c.requires.out_block c.requires.a_block (λ x. (2 ^ 16 - 1) - x) (turned Short)
     (λ x p. turned_bits w16 Short short_lanes x (short_lanes.fits x p))

@@ -8,5 +8,5 @@ use Rattle.lane_kernels.proofs.shorts.I16SimdLane.xor_block.Goals as goal
 
 pub returns : goal.returns
 returns c =
-    signed_zip 8 w16 Short c.args.out.now c.args.a.now c.requires.out_block c.requires.a_block bit_xor (bits_joined bit_xor Short)
+    signed_zip 16 w16 Short c.args.out.now c.args.a.now c.requires.out_block c.requires.a_block bit_xor (bits_joined bit_xor Short)
     (λ x y p q. joined_bits w16 Short short_lanes bit_xor (xor_keeps 16) x y (short_lanes.fits x p) (short_lanes.fits y q)) c.args.b.now c.requires.b_block
