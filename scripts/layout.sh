@@ -13,6 +13,8 @@ pages=(
     user/{C,COMMANDS,COVERAGE,FILES,FOR_GNU_RADIO_USERS,KINDS,REFUSALS,SPEED,STUDIO}.md contribute/GLOSSARY.md
     user/{echo,trace}.svg user/studio_{file,signal}.png
 )
+# Whether /usr/bin/flow is left to Debian's alternatives, which the package's script sets.
+has_alternatives=0
 # Whether places are only tested; and the file that has to go where the script ends now.
 only_tests=0
 half_made=
@@ -94,9 +96,13 @@ put_documents_of_all() {
     done
 }
 
-# put_program: flow, flow-from-grc and magbelu-studio, with their man pages, completions, documents and examples
+# put_program: flow for each processor, flow-from-grc and magbelu-studio, with their man pages, completions, documents and examples
 put_program() {
-    put 755 "$program" bin/flow
+    local level
+    for level in "${all_levels[@]}"; do
+        put 755 "$program-$level" "lib/magbelu/$level/flow"
+    done
+    ((has_alternatives)) || put_link "../lib/magbelu/$(level_here)/flow" bin/flow
     put 755 "$top/flow-from-grc" bin/flow-from-grc
     put 755 "$top/magbelu-studio" bin/magbelu-studio
     put_all "$top/share/man" share/man
@@ -107,8 +113,17 @@ put_program() {
     put_documents_of_all
 }
 
-# put_shared: the library that programs load
-put_shared() { put 644 "$c_folder/libmagbelu.so" "$lib_folder/$(shared_name)"; }
+# put_shared: the library that programs load, and the same for higher levels of processors, among which glibc chooses
+put_shared() {
+    local it
+    put 644 "$c_folder/libmagbelu.so" "$lib_folder/$(shared_name)"
+    for it in "$c_folder"/glibc-hwcaps/*/libmagbelu.so; do
+        if [[ -e $it ]]; then
+            it=${it#"$c_folder/"}
+            put 644 "$c_folder/$it" "$lib_folder/$(dirname -- "$it")/$(shared_name)"
+        fi
+    done
+}
 
 # put_development PREFIX: what programs in C are compiled with, where the root will be at PREFIX
 put_development() {

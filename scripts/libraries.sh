@@ -68,30 +68,60 @@ words_of() {
     words+=(--antt-project "$kit/rattle/logic/antt-project.json" --logic-built "$kit/logic_built" --links "$1=")
 }
 
+# prove_it FILE WORD..: has the prover make the file, which it does where the crate is proved
+prove_it() {
+    "$kit/bin/rattle" build "${words[@]}" "${@:2}" -o "$1" &>>"$log"
+    # (a status of 0 is no verdict)
+    [[ $(tail -n 1 "$log") == "logic=proved "* ]]
+}
+
 # make CRATE JOBS: has the crate proved, with so many processors, and made into a library or the program, in out/part
 make() {
     local log made words
     log=$(out_of "$1")/build.log
     made=$(out_of "$1")/part/$1
+    : >"$log"
     words_of "$1"
     words+=(--jobs "$2")
-    if [[ $1 == "$program_crate" ]]; then
-        words+=(--toolchain "$kit/toolchain" --backend llvm -o "$made.o")
-    elif [[ $1 == "$c_crate" ]]; then
-        words+=(--crate-type staticlib --toolchain "$kit/toolchain" --backend llvm -o "$made.a")
-    else
-        words+=(--statements -o "$made.rlib")
-    fi
     cd -- "$top/crates/$1"
-    "$kit/bin/rattle" build "${words[@]}" &>"$log"
-    # (a status of 0 is no verdict)
-    [[ $(tail -n 1 "$log") == "logic=proved "* ]]
     if [[ $1 == "$program_crate" ]]; then
-        words=(--target x86_64-unknown-linux-gnu --toolchain "$kit/toolchain" -o "$made" "$made.o")
-        "$kit/bin/rattle-link" "${words[@]}" "$kit/c/libos_c.a" "$kit/c/liblibc_c.a" &>>"$log"
+        make_programs "$made"
     elif [[ $1 == "$c_crate" ]]; then
-        make_libraries "$(out_of "$1")/part" &>>"$log"
+        make_archives "$(out_of "$1")/part"
+    else
+        prove_it "$made.rlib" --statements
     fi
+}
+
+# make_programs FILE: the program for each processor that it is wanted for, FILE-LEVEL, and FILE, the best of them that this machine runs. The crate is checked once
+# for each: of the crates below it the prover takes what was proved.
+make_programs() {
+    local level words_to_link
+    for level in "${levels[@]}"; do
+        prove_it "$1-$level.o" --cpu "$level" --toolchain "$kit/toolchain" --backend llvm
+        words_to_link=(--target x86_64-unknown-linux-gnu --toolchain "$kit/toolchain" -o "$1-$level" "$1-$level.o")
+        "$kit/bin/rattle-link" "${words_to_link[@]}" "$kit/c/libos_c.a" "$kit/c/liblibc_c.a" &>>"$log"
+        rm -- "$1-$level.o"
+    done
+    ln -- "$1-$(level_here)" "$1"
+}
+
+# make_archives FOLDER: the library for C, for every processor; and where there is a C compiler the shared library for the higher levels, where glibc looks for it.
+# (A static library does not look at the processor, so there is one.)
+make_archives() {
+    local level place
+    words+=(--crate-type staticlib --toolchain "$kit/toolchain" --backend llvm)
+    for level in "${all_levels[@]}"; do
+        place=$1
+        if [[ $level != "${all_levels[0]}" ]]; then
+            command -v cc >/dev/null || break
+            place=$1/glibc-hwcaps/$level
+            mkdir -p -- "$place"
+        fi
+        prove_it "$place/$c_crate.a" --cpu "$level"
+        (make_libraries "$place") &>>"$log"
+        [[ $place == "$1" ]] || rm -- "$place"/*.a
+    done
 }
 
 # make_libraries FOLDER: of the static library in it one that needs no other archive, and where there is a C compiler a shared one, which shows only what

@@ -23,7 +23,7 @@ filled() {
 # libc_of_built: prints the package of the C library in the version that the program and the shared library need
 libc_of_built() {
     local version
-    version=$({ objdump -T "$program" "$c_folder/libmagbelu.so" 2>/dev/null || true; } | { grep -oE 'GLIBC_[0-9.]+' || true; } | sort -Vu | tail -n 1)
+    version=$({ objdump -T "$program"-x86-64-v* "$c_folder/libmagbelu.so" "$c_folder"/glibc-hwcaps/*/libmagbelu.so 2>/dev/null || true; } | { grep -oE 'GLIBC_[0-9.]+' || true; } | sort -Vu | tail -n 1)
     echo "libc6${version:+ (>= ${version#GLIBC_})}"
 }
 
@@ -97,6 +97,7 @@ make_packages() {
     # (by this dpkg-deb dates all files, so that the same sources give the same packages)
     SOURCE_DATE_EPOCH=${SOURCE_DATE_EPOCH-$(git -C "$top" log -1 --format=%ct 2>/dev/null || date +%s)}
     export SOURCE_DATE_EPOCH
+    has_alternatives=1
     lib_folder=lib/x86_64-linux-gnu
     python_folder=lib/python3/dist-packages
     zsh_folder=share/zsh/vendor-completions

@@ -64,7 +64,7 @@ pass_over() {
             fi
             sums[$crate]=$(sum_of "$crate")
             kept=$(cat "$(out_of "$crate")/built/stamp" 2>/dev/null) || true
-            if [[ ${kept% *} == "${sums[$crate]}" ]]; then
+            if [[ ${kept% *} == "${sums[$crate]}" ]] && has_all_levels "$crate"; then
                 stamps[$crate]=$kept
                 echo "${#stamps[@]} of ${#order[@]} $crate is proved already" >&2
                 has_more=1

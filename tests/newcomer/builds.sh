@@ -101,6 +101,34 @@ edit_proves_what_stands_on_it() {
     proved "$middle"
 }
 
+# made_for LEVEL: ./build makes the program for this level of processors alone
+made_for() {
+    begin_anew
+    calls 0 ./build_by_link
+    proved "$program_crate"
+    grep -q "^build: the program is built for $1, " "$room/errors" || wrong "./build does not say that it builds for $1"
+    cmp -s <(cd -- "$(dirname -- "$built")" && echo "$program_crate"-*) <(echo "$program_crate-$1") || wrong "./build makes the program for other processors than $1"
+}
+
+# The loader says which processor it is, or else Linux. Stand-ins say so here.
+build_is_for_this_processor() {
+    local levels="$tree/scripts/levels.sh"
+    sed -i "s|^loader=.*|loader='$room/loader'|; s|^cpuinfo=.*|cpuinfo='$room/cpuinfo'|" "$levels"
+    printf '%s\n' '#!/bin/sh' "cat '$room/loader_says'" >"$room/loader"
+    chmod +x "$room/loader"
+    rm -r "$(dirname -- "$built")"
+    printf '%s\n' "  x86-64-v4" "  x86-64-v3" "  x86-64-v2 (supported, searched)" >"$room/loader_says"
+    made_for x86-64-v2
+    sed -i 's/v3/v3 (supported, searched)/' "$room/loader_says"
+    made_for x86-64-v3
+    : >"$room/loader_says"
+    echo "flags		: fpu sse4_2 avx avx2 bmi1 bmi2 f16c fma movbe" >"$room/cpuinfo"
+    made_for x86-64-v2
+    sed -i 's/$/ abm/' "$room/cpuinfo"
+    made_for x86-64-v3
+    cp "$top/scripts/levels.sh" "$levels"
+}
+
 # The rattle in its place lets each of two crates that stand on the lowest alone wait until the other has begun.
 crates_are_proved_side_by_side() {
     local crate below pair=()

@@ -15,7 +15,13 @@ install_puts_all_in_place() {
     local file
     begin_anew
     calls 0 ./build_by_link --install "a prefix"
+    # (so far it was made for the processor of this machine, and an installation brings it for each)
+    proved "$program_crate" "$program_crate"
+    begin_anew
+    calls 0 ./build_by_link --install "a prefix"
     [[ ! -e $room/bin/proved ]] || wrong "--install proves again what was proved"
+    brings lib/magbelu/x86-64-v2/flow "$built-x86-64-v2"
+    brings lib/magbelu/x86-64-v3/flow "$built-x86-64-v3"
     grep -qx "build: the library for C is not installed: ./build --c has not built it from these sources" "$room/errors" || wrong "--install says nothing of C"
     # (the block for Companion comes with the package for Python)
     (cd -- "$top/share" && find . -path ./gnuradio -prune -o -type f -print) >"$room/files"
@@ -140,7 +146,7 @@ install_replaces_nothing_of_others() {
     is_refused_for bin/flow-from-grc
     leaves flow-from-grc other
     # What comes while it copies, and what comes in the place of a copy that failed.
-    installs_beside '*/bin/flow' 'echo "no flow" >"$place-from-grc"'
+    installs_beside '*/x86-64-v3/flow' 'mkdir -p "${place%/lib/*}/bin" && echo "no flow" >"${place%/lib/*}/bin/flow-from-grc"'
     leaves flow-from-grc other
     installs_beside '*/bin/flow-from-grc' 'echo half >"$place"; exit 1'
     [[ ! -e $elsewhere/a\ prefix/bin/flow-from-grc ]] || wrong "--install leaves half a file"
@@ -165,7 +171,7 @@ has_files() {
 # program_files: prints those of the package of the program, but for its documents of Debian
 program_files() {
     local it
-    printf 'usr/%s\n' bin/{flow{,-from-grc},magbelu-studio} share/man/man1/{flow{,-from-grc},magbelu-studio}.1.gz share/bash-completion/completions/flow{,-from-grc} \
+    printf 'usr/%s\n' lib/magbelu/x86-64-v{2,3}/flow bin/{flow-from-grc,magbelu-studio} share/man/man1/{flow{,-from-grc},magbelu-studio}.1.gz share/bash-completion/completions/flow{,-from-grc} \
         share/zsh/vendor-completions/_flow{,-from-grc} share/fish/vendor_completions.d/flow{,-from-grc}.fish
     (cd -- "$top/python" && find flow_from_grc -name '*.py' -printf 'usr/share/magbelu/%p\n')
     # (dpkg wants long pages compressed, but for examples and pictures)
@@ -175,6 +181,25 @@ program_files() {
 
 # says PACKAGE FIELD TEXT: its control file
 says() { [[ $(dpkg-deb -f "$tree/out/$1"_*.deb "$2") == "$3" ]] || wrong "$1 has another $2: $(dpkg-deb -f "$tree/out/$1"_*.deb "$2")"; }
+
+# package_chooses: the scripts of the package set Debian's alternatives for the processors that the loader says the machine has, and take both away
+package_chooses() {
+    local folder=/usr/lib/magbelu second="--remove flow /usr/lib/magbelu/x86-64-v3/flow"
+    if /lib64/ld-linux-x86-64.so.2 --help | grep -q '^ *x86-64-v3 (supported'; then
+        second="--install /usr/bin/flow flow $folder/x86-64-v3/flow 30"
+    fi
+    rm -rf -- "$room/unpacked"
+    dpkg-deb -e "$tree/out"/magbelu_*.deb "$room/unpacked"
+    printf '%s\n' '#!/bin/sh' 'echo "$*"' >"$room/bin/update-alternatives"
+    chmod +x "$room/bin/update-alternatives"
+    calls 0 "$room/unpacked/postinst" configure
+    writes output "--install /usr/bin/flow flow $folder/x86-64-v2/flow 20" "$second"
+    calls 0 "$room/unpacked/prerm" upgrade
+    writes output
+    calls 0 "$room/unpacked/prerm" remove
+    writes output "--remove flow $folder/x86-64-v2/flow" "--remove flow $folder/x86-64-v3/flow"
+    rm "$room/bin/update-alternatives"
+}
 
 # (what is built here needs no C library, so that no version of it is told)
 deb_makes_packages() {
@@ -189,7 +214,7 @@ deb_makes_packages() {
     calls 0 ./build_by_link --deb
     [[ $(cd -- "$tree/out" && echo *) == "libmagbelu-dev_${version}_amd64.deb libmagbelu1_${version}_amd64.deb magbelu_${version}_amd64.deb python3-magbelu_${version}_all.deb" ]] ||
         wrong "--deb makes other packages"
-    has_files libmagbelu1 "$lib/libmagbelu.so.1"
+    has_files libmagbelu1 "$lib"/{,glibc-hwcaps/x86-64-v3/}libmagbelu.so.1
     cmp -s "$room/unpacked/$lib/libmagbelu.so.1" "$built/libmagbelu.so" || wrong "the package has another library"
     says libmagbelu1 Depends libc6
     has_files libmagbelu-dev usr/include/magbelu.h{,pp} "$lib"/{libmagbelu.a,libmagbelu.so,pkgconfig/magbelu.pc} usr/share/doc/libmagbelu-dev/C.md.gz
@@ -201,6 +226,7 @@ deb_makes_packages() {
     mapfile -t files < <(program_files)
     has_files magbelu "${files[@]}"
     says magbelu Depends "libc6, python3:any (>= 3.9), python3-yaml"
-    [[ $("$room/unpacked/usr/bin/flow" a b) == "built: a,b" ]] || wrong "the package has another program"
+    [[ $("$room/unpacked/usr/lib/magbelu/x86-64-v2/flow" a b) == "built: a,b" ]] || wrong "the package has another program"
     gzip -dc "$room/unpacked/usr/share/man/man1/flow.1.gz" | cmp -s - "$top/share/man/man1/flow.1" || wrong "the package has another man page"
+    package_chooses
 }

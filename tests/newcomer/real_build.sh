@@ -68,6 +68,26 @@ real_build_proves_and_links() {
     grep -q " $program_crate is proved already$" "$room/errors" || wrong "the program is proved again"
 }
 
+# The program for x86-64-v3 ends with 127 where the processor is none, and the one for x86-64-v2 runs there. An emulator has such processors.
+real_programs_look_at_the_processor() {
+    local limit=3600 qemu built=$small/crates/$program_crate/out/built/$program_crate
+    qemu=$(command -v qemu-x86_64-static || command -v qemu-x86_64) || qemu=
+    if [[ -z $qemu ]]; then
+        why_not="there is no qemu-x86_64-static"
+        return
+    fi
+    sed -i "s|^loader=.*|loader=false|; s|^cpuinfo=.*|cpuinfo='$room/cpuinfo'|" "$small/scripts/levels.sh"
+    : >"$room/cpuinfo"
+    calls 0 "$small/build"
+    calls 0 "$qemu" -cpu Nehalem "$built-x86-64-v2"
+    writes output 255
+    echo "flags		: avx avx2 bmi1 bmi2 f16c fma abm movbe" >"$room/cpuinfo"
+    calls 0 "$small/build"
+    calls 127 "$qemu" -cpu Nehalem "$built-x86-64-v3"
+    calls 0 "$qemu" -cpu Haswell "$built-x86-64-v3"
+    writes output 255
+}
+
 # As docs/user/EMBED.md has it, line by line, with this checkout where the page has one.
 vendored_program_runs() {
     local limit=3600 it

@@ -21,6 +21,7 @@ cases=(
     build_proves_each_crate_once
     build_makes_the_library_for_c
     edit_proves_what_stands_on_it
+    build_is_for_this_processor
     install_puts_all_in_place
     install_brings_the_library_for_c
     uninstall_takes_all_away

@@ -4,7 +4,7 @@ set -euo pipefail
 # shellcheck source=tests/part.sh
 source "$(dirname -- "$(readlink -f -- "${BASH_SOURCE[0]}")")/../part.sh"
 
-cases=(real_run_is_unproved real_build_proves_and_links vendored_program_runs)
+cases=(real_run_is_unproved real_build_proves_and_links real_programs_look_at_the_processor vendored_program_runs)
 
 list() { printf 'toolchain/%s\n' "${cases[@]}"; }
 
