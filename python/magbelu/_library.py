@@ -64,14 +64,28 @@ class CutPart(ctypes.Structure):
     _fields_ = [("block", ctypes.c_uint32), ("drop", ctypes.c_uint64), ("stands", ctypes.c_uint64)]
 
 
+# What a processor of the level x86-64-v3 has beside what the library needs, by the names that Linux gives.
+_FEATURES_OF_V3 = {"avx", "avx2", "bmi1", "bmi2", "f16c", "fma", "abm", "movbe"}
+
+
+def _levels() -> list[str]:
+    """The folders below the library's where one for this processor may stand, the best first. (Of a path glibc makes no such choice.)"""
+    try:
+        with open("/proc/cpuinfo") as lines:
+            flags = next((line.split() for line in lines if line.startswith("flags")), [])
+    except OSError:
+        flags = []
+    return ["glibc-hwcaps/x86-64-v3/", ""] if _FEATURES_OF_V3.issubset(flags) else [""]
+
+
 def _places() -> list[str]:
     if os.environ.get("MAGBELU_LIBRARY"):
         return [os.environ["MAGBELU_LIBRARY"]]
     here = pathlib.Path(__file__).resolve().parent
     name = "libmagbelu.so.%d" % _VERSION
     # (in a checkout, and where ./build --install puts it, which is beside Python's own folder)
-    own = ["libmagbelu.so", "../../crates/magbelu_c/out/built/libmagbelu.so", "../../../" + name]
-    return [str(here / it) for it in own] + [name]
+    own = [("", "libmagbelu.so"), ("../../crates/magbelu_c/out/built/", "libmagbelu.so"), ("../../../", name)]
+    return [str(here / (folder + level + file)) for folder, file in own for level in _levels()] + [name]
 
 
 def _load() -> ctypes.CDLL:

@@ -77,14 +77,17 @@ install_brings_the_library_for_c() {
 
 # The package for Python looks for the library of its own prefix, where it lies in no folder of its own.
 is_found_by_python() {
-    local package
+    local package level
+    # shellcheck source=scripts/levels.sh
+    level=$(source "$top/scripts/levels.sh" && level_here)
+    level=$([[ $level == x86-64-v2 ]] || echo "glibc-hwcaps/$level/")
     package=$(cd -- "$elsewhere" && find "a prefix/lib" -path '*/magbelu/__init__.py')
     # (what Python compiles here has to go with the rest)
     calls 0 env -u PYTHONDONTWRITEBYTECODE PYTHONPATH="$elsewhere/${package%/magbelu/__init__.py}" python3 -c '
 import os, magbelu, magbelu._library as it
 print(magbelu.__file__)
 print(os.path.realpath(next(filter(os.path.exists, it._places()))))'
-    writes output "$elsewhere/$package" "$lib/$name"
+    writes output "$elsewhere/$package" "$lib/$level$name"
 }
 
 # What others have put there stays. It needs no rt, and tells where nothing was installed.
