@@ -8,3 +8,4 @@ pub mod Repackings
 pub mod Divisors
 pub mod Marks
 pub mod Correlated
+pub mod Jumps

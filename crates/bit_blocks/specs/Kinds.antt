@@ -11,7 +11,7 @@ use Rattle.kind_model.specs.contracts.vocabulary.BitOrder as order
 use Rattle.kind_model.specs.BitStreams.{repacking, correlate_access_code}
 use Rattle.kind_laws.specs.BitStreams.{repacking-lawful}
 use Rattle.stream_model.specs.contracts.vocabulary.ItemType as item
-use Rattle.kind_model.specs.Bits.{diff_decoder, diff_encoder}
+use Rattle.kind_model.specs.Bits.{diff_decoder, diff_encoder, additive_scrambler}
 use Rattle.bit_blocks.specs.declared.k_bits.KBits.{KBits}
 use Rattle.bit_blocks.specs.declared.modulus.Modulus.{Modulus}
 use Rattle.bit_blocks.specs.declared.register.Register.{Register}
@@ -20,6 +20,7 @@ use Rattle.bit_blocks.specs.declared.correlate_access_code.CorrelateAccessCode.{
 use Rattle.bit_blocks.specs.declared.repacking.Repacking.{Repacking}
 use Rattle.bit_blocks.specs.declared.diff_encoder.DiffEncoder.{DiffEncoder}
 use Rattle.bit_blocks.specs.declared.diff_decoder.DiffDecoder.{DiffDecoder}
+use Rattle.bit_blocks.specs.Jumps.{register_after}
 
 -- a block with k bits, of which this is the equation
 abbrev pub k_bits_of : {P : _} → (ℕ → Meaning) → KBits P → Meaning
@@ -38,6 +39,10 @@ some_modulus m = let two = m.some in omega arith
 -- a block with a register, of which this is the equation by the register's bits, its mask and what it holds at first
 abbrev pub register_block_of : {S : _} → (ℕ → ℕ → ℕ → Meaning) → RegisterBlock S → Meaning
 register_block_of meant b = meant b.register.bits b.register.mask b.register.init
+
+-- what an additive scrambler goes on as behind so many items: one that begins with the register of then
+abbrev pub scrambler_after : {S : _} → RegisterBlock S → ℕ → Meaning
+scrambler_after b items = additive_scrambler b.register.bits b.register.mask (register_after b.register.bits b.register.mask b.register.init items)
 
 -- registers that the derived test finds equal are one
 pub same_register :

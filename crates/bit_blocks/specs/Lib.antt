@@ -1,4 +1,5 @@
 pub mod Codes
+pub mod Jumps
 pub mod Kinds
 pub mod Marked
 pub mod Packed

@@ -8,6 +8,7 @@ pub mod correlate_access_code;
 pub mod descrambler;
 pub mod diff_decoder;
 pub mod diff_encoder;
+mod jump;
 pub mod k_bits;
 mod modulus;
 pub mod pack_k_bits;

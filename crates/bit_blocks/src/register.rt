@@ -1,6 +1,7 @@
 //! Shift registers.
 ghost use Rattle.std.specs.Prelude.{◌≡◌, ◌^◌, ◌<◌, ◌≤◌, ◌+◌, ◌*◌, ◌%◌, ◌↔◌, ◌⊎◌, IsOk, IfOk, IsErrOf};
 ghost use Rattle.kind_model.specs.Bits.{masked, places_of};
+ghost use Rattle.bit_blocks.specs.Jumps.{stepped};
 ghost use Rattle.bit_blocks.specs.Registers.{IsRegister};
 
 use parameters::{ParamFault, Parameter};
@@ -58,6 +59,17 @@ pub(crate) struct Taps {
 }
 
 impl Taps {
+    /// Those of a register.
+    pub(crate) fn of(register: &Register) -> Taps
+        ensures bits { result.bits ≡ register.now.bits }
+        ensures mask { result.mask ≡ register.now.mask }
+    {
+        Taps {
+            bits: register.bits,
+            mask: register.mask,
+        }
+    }
+
     /// The sum of the bits of a word that the mask has.
     pub(crate) fn sum(self, word: u64) -> u64
         ensures value { result ≡ masked self.bits self.mask (places_of self.bits word) }
@@ -74,5 +86,13 @@ impl Taps {
         ensures word { result < 2 ^ self.bits }
     {
         (2 * word + bit) % (1 << self.bits)
+    }
+
+    /// The word after a step in which the sum moves in, modulo 2.
+    pub(crate) fn step(self, word: u64) -> u64
+        requires { word < 2 ^ 32 }
+        ensures { result ≡ stepped self.bits self.mask word }
+    {
+        (2 * word + self.sum(word) % 2) % (1 << self.bits)
     }
 }

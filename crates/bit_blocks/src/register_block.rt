@@ -11,7 +11,7 @@ use std::marker::PhantomData;
 #[derive(Drop)]
 #[derive_where(Debug, PartialEq, Eq)]
 pub struct RegisterBlock<S> {
-    register: Register,
+    pub(crate) register: Register,
     #[derive_where(skip)]
     kind: PhantomData<S>,
 }

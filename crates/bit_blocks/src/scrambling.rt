@@ -59,10 +59,7 @@ impl<F> Shifting<F> {
         ensures mask { result.taps.mask ≡ register.now.mask }
     {
         Shifting {
-            taps: Taps {
-                bits: register.bits,
-                mask: register.mask,
-            },
+            taps: Taps::of(register),
             feed: PhantomData,
         }
     }

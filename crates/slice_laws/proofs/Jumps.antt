@@ -26,7 +26,7 @@ head-resumes t n c right f reached =
     }
 
 -- a register that begins with what another holds later holds what that holds later still
-register-later : (bits mask init c n : ℕ) → 1 ≤ bits → register_of bits (shifted bits mask init (c + n)) ≡ register_of bits (shifted bits mask (register_of bits (shifted bits mask init c)) n)
+pub register-later : (bits mask init c n : ℕ) → 1 ≤ bits → register_of bits (shifted bits mask init (c + n)) ≡ register_of bits (shifted bits mask (register_of bits (shifted bits mask init c)) n)
 register-later bits mask init c zero some =
     ap (λ z. register_of bits (shifted bits mask init z)) (add-zero c)
     ∙ sym (register_of-places bits (register_of bits (shifted bits mask init c)) (register_of-less bits (shifted bits mask init c) (AreBits-shifted bits mask init c)))
