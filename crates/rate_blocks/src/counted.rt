@@ -11,10 +11,10 @@ use std::marker::PhantomData;
 #[derive(Drop)]
 #[derive_where(Debug, PartialEq, Eq)]
 pub struct Counted<C: Counting> {
-    item: ItemType,
-    n: u64,
+    pub(crate) item: ItemType,
+    pub(crate) n: u64,
     #[derive_where(skip)]
-    kind: PhantomData<C>,
+    pub(crate) kind: PhantomData<C>,
     ghost least: { C.LEAST ≤ n },
     ghost most: { n ≤ C.MOST },
 }
