@@ -15,7 +15,7 @@ from math import gcd
 from pathlib import Path
 from typing import Any, Callable, Dict, List, NamedTuple, Tuple
 
-from gnuradio import blocks, digital, gr
+from gnuradio import blocks, digital, gr, vocoder
 
 TOP = Path(__file__).resolve().parent.parent
 RANGES = {"byte": (0, 255), "short": (-32768, 32767), "int": (-(2**31), 2**31 - 1)}
@@ -143,6 +143,73 @@ def insert(draw: Draw, item: str) -> Case:
     return Case("insert", item, keys, [rounds(draw, item, period - len(values))], lambda: theirs(values, period, (period - offset) % period))
 
 
+class Row(gr.hier_block2):
+    """Blocks of GNU Radio in a row, of which the last may have outputs that nobody reads."""
+
+    def __init__(self, taken: int, given: int, row: List[Any], unread: List[int]) -> None:
+        gr.hier_block2.__init__(self, "row", gr.io_signature(1, 1, taken), gr.io_signature(1, 1, given))
+        self.connect(self, *row, self)
+        for port, size in enumerate(unread, 1):
+            self.connect((row[-1], port), blocks.null_sink(size))
+
+
+class Clocked(gr.hier_block2):
+    """A source that ends after so many items, whatever comes."""
+
+    def __init__(self, size: int, source: Any, count: int) -> None:
+        gr.hier_block2.__init__(self, "clocked", gr.io_signature(1, 1, size), gr.io_signature(1, 1, size))
+        self.connect(self, blocks.null_sink(size))
+        self.connect(source, blocks.head(size, count), self)
+
+
+def divide(draw: Draw, item: str) -> Case:
+    # (what is divided by 0, and the least int over -1, end GNU Radio's program)
+    inputs = [items(draw, item), *([it if it not in (0, -1) else 3 for it in items(draw, item)] for _ in range(draw.randint(1, 4)))]
+    return Case("divide", item, "", inputs, lambda: typed("divide", item)())
+
+
+def binary_slicer(draw: Draw, item: str) -> Case:
+    def make() -> Any:
+        return Row(SIZES[item], 1, [getattr(blocks, f"{item}_to_float")(), digital.binary_slicer_fb()], [])
+
+    return Case("binary_slicer", item, "threshold = 0", [items(draw, item)], make, "byte")
+
+
+def ulaw_encode(draw: Draw, item: str) -> Case:
+    return Case("ulaw_encode", item, "", [items(draw, item)], vocoder.ulaw_encode_sb, "byte")
+
+
+def alaw_encode(draw: Draw, item: str) -> Case:
+    # (from -7 to -1 the byte is another in GNU Radio)
+    return Case("alaw_encode", item, "", [[it if not -8 < it < 0 else 0 for it in items(draw, item)]], vocoder.alaw_encode_sb, "byte")
+
+
+def framed(name: str, theirs: str, unread: List[int], *words: int) -> Callable[[Draw, str], Case]:
+    """A block that makes one item of each frame, which is a vector in GNU Radio."""
+
+    def case(draw: Draw, item: str) -> Case:
+        n = draw.randint(1, 40)
+
+        def make() -> Any:
+            return Row(SIZES[item], SIZES[item], [blocks.stream_to_vector(SIZES[item], n), typed(theirs, item)(n, *words)], unread)
+
+        return Case(name, item, f"n = {n}", [items(draw, item)], make)
+
+    return case
+
+
+def pattern(draw: Draw, item: str) -> Case:
+    values, clock = items(draw, item, 256), items(draw, item)
+    source = getattr(blocks, f"vector_source_{LETTERS[item]}")
+    return Case("pattern", item, f"values = {values}", [clock], lambda: Clocked(SIZES[item], source(values, True), len(clock)))
+
+
+def counter(draw: Draw, item: str) -> Case:
+    n, clock = draw.randint(1, 200), items(draw, item)
+    source = getattr(blocks, f"vector_source_{LETTERS[item]}")
+    return Case("counter", item, f"n = {n}", [clock], lambda: Clocked(SIZES[item], source(list(range(n)), True), len(clock)))
+
+
 ALL = ("byte", "short", "int")
 WIDE = ("short", "int")
 # Of each kind how a case of it is drawn, and the types that GNU Radio's block has, with the same meaning.
@@ -153,10 +220,21 @@ KINDS: Dict[str, Tuple[Callable[[Draw, str], Case], Tuple[str, ...]]] = {
     # (of one input it gives the items themselves, for which there is no case)
     "sub": (joined("sub", "sub", 2), WIDE),
     "multiply": (joined("multiply", "multiply", 1), WIDE),
+    "divide": (divide, WIDE),
     "minimum": (joined("minimum", "min", 1, 1), WIDE),
     "maximum": (joined("maximum", "max", 1, 1), WIDE),
     "table": (table, ("byte",)),
+    "binary_slicer": (binary_slicer, WIDE),
+    "ulaw_encode": (ulaw_encode, ("short",)),
+    "alaw_encode": (alaw_encode, ("short",)),
     "keep_m_in_n": (keep_m_in_n, ALL),
+    "frame_minimum": (framed("frame_minimum", "min", [], 1), WIDE),
+    "frame_maximum": (framed("frame_maximum", "max", [], 1), WIDE),
+    # (of ints it gives shorts there)
+    "argmax": (framed("argmax", "argmax", [2]), ("short",)),
+    # (a source that repeats stands for them there)
+    "pattern": (pattern, ALL),
+    "counter": (counter, ALL),
     "insert": (insert, ALL),
     "repack_bits": (repack_bits, ("byte",)),
     "packed_to_unpacked": (repacked("packed_to_unpacked"), ALL),

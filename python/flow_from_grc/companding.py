@@ -1,4 +1,4 @@
-"""Decoders of mu-law and A-law, whose bytes are floats of one sign bit, three bits of exponent and four of mantissa."""
+"""Encoders and decoders of mu-law and A-law, whose bytes are floats of one sign bit, three bits of exponent and four of mantissa."""
 
 from __future__ import annotations
 
@@ -36,5 +36,14 @@ def decoder(sample: Callable[[int], int]) -> Entry:
         values = [sample(it) for it in range(ItemType.BYTE.most + 1)]
         part = Part("table", {"to": str(ItemType.SHORT), "values": values})
         return Node(settings.block, [ItemType.BYTE], [ItemType.SHORT], [part])
+
+    return Entry({}, make)
+
+
+def encoder(kind: str) -> Entry:
+    """A block of this kind of shorts."""
+
+    def make(settings: Settings) -> Node:
+        return Node(settings.block, [ItemType.SHORT], [ItemType.BYTE], [Part(kind, {"type": str(ItemType.SHORT)})])
 
     return Entry({}, make)

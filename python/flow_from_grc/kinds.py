@@ -48,6 +48,8 @@ TABLE: Mapping[str, Entry] = {
     "blocks_endian_swap": Entry({"type": "complex"}, chains.endian_swap),
     "vocoder_ulaw_decode_bs": companding.decoder(companding.ulaw_sample),
     "vocoder_alaw_decode_bs": companding.decoder(companding.alaw_sample),
+    "vocoder_ulaw_encode_sb": companding.encoder("ulaw_encode"),
+    "vocoder_alaw_encode_sb": companding.encoder("alaw_encode"),
     "blocks_moving_average_xx": Entry({"type": "complex", "length": "1000", "scale": "1", "max_iter": "4000", "vlen": "1"}, chains.moving_average),
     # Filters.
     "fir_filter_xxx": Entry({**_FILTER, "decim": "1"}, filters.fir),

@@ -21,6 +21,7 @@ SINGLE_KINDS: Mapping[str, Entry] = {
     "blocks_mute_xx": block("mute", WIDE, Truth("on", "mute", "False"), ones=()),
     "blocks_add_xx": block("add", WIDE, inputs="num_inputs"),
     "blocks_multiply_xx": block("multiply", WIDE, inputs="num_inputs"),
+    "blocks_divide_xx": block("divide", WIDE, inputs="num_inputs"),
     "blocks_min_xx": block("minimum", WIDE, inputs="num_inputs", ones=("vlen", "vlen_out"), first_type="float", first_count="1"),
     "blocks_max_xx": block("maximum", WIDE, inputs="num_inputs", ones=("vlen", "vlen_out"), first_type="float", first_count="1"),
     "blocks_and_xx": block("and", ANY, inputs="num_inputs", ones=(), first_type="int"),

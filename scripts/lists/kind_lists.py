@@ -22,7 +22,7 @@ def written(table: KindTable) -> Iterator[Written]:
     yield marked("tests/graph_files/drawings.rs", FILE, "KINDS", _drawn(table))
     # (In these two no line can say by what they are written.)
     yield Written("tests/cases/explained/far_kind/stderr", names, "; there are: ", "\n")
-    yield Written("README.md", str(len(kinds)), "| [the ", " kinds](docs/user/KINDS.md)")
+    yield Written("README.md", str(len(kinds)), "[refusals](docs/user/REFUSALS.md), [the ", " kinds](docs/user/KINDS.md), ")
 
 
 def _page(table: KindTable) -> str:
@@ -78,7 +78,7 @@ def _drawn(table: KindTable) -> str:
         if not kind.end:
             item = "byte" if kind.items == "bytes" else "int"
             keys = "\n".join(_keys(table, kind, "int", kind.least))
-            rows.append([kind.name, keys, item, str(kind.least.get("to", item)), _note(kind)])
+            rows.append([kind.name, keys, item, str(kind.least.get("to", kind.gives or item)), _note(kind)])
     return _const("KINDS", "(&str, &str, &str, &str, &str)", rows)
 
 

@@ -12,7 +12,7 @@ from .tables import WrongTable, camel, entry, has, of_sort, only, tables_in
 FILE = "kinds.toml"
 ITEMS = ("any", "wide", "bytes")
 ENDS = ("source", "sink")
-_OPTIONAL = ("end", "rate", "example", "parameters", "setting", "drawn", "tried", "least", "called", "gnu_radio")
+_OPTIONAL = ("end", "rate", "example", "parameters", "setting", "drawn", "gives", "tried", "least", "called", "gnu_radio")
 Value = Union[int, str, Sequence[int]]
 # How many ports a block of GNU Radio has: so many, or as many as its parameter of this name says.
 Ports = Union[int, str]
@@ -86,6 +86,7 @@ class Kind:
     parameters: Mapping[str, Range]
     setting: Optional[str]
     drawn: Optional[str]
+    gives: Optional[str]
     tried: Mapping[str, Value]
     least: Mapping[str, Value]
     called: Sequence[str]
@@ -154,6 +155,7 @@ def _kind(name: str, table: Mapping[str, Any], parameters: Mapping[str, Paramete
         parameters=own,
         setting=table.get("setting"),
         drawn=table.get("drawn"),
+        gives=table.get("gives"),
         tried=table.get("tried", {}),
         least=table.get("least", {}),
         called=table.get("called", ()),

@@ -4,6 +4,8 @@ mod arithmetic;
 mod arithmetic_more;
 mod bit_streams;
 mod bits;
+mod chosen;
+mod divided;
 mod filters;
 mod frames;
 mod harness;

@@ -338,6 +338,14 @@ def companding() -> None:
         compare(own, drawn("vocoder_%s_decode_bs" % name, {}, [fed], [Port("short")]), [fed], [Port("short")])
 
 
+def encoding() -> None:
+    """The encoders of mu-law and A-law give the bytes of all shorts, but for those from -7 to -1 by the A-law, which have another byte there."""
+    for name, left_out in (("ulaw", range(0)), ("alaw", range(-7, 0))):
+        fed = Stream("short", [it for it in range(-(2**15), 2**15) if it not in left_out], [(7, "mark", -1)])
+        own = getattr(vocoder, name + "_encode_sb")()
+        compare(own, drawn("vocoder_%s_encode_sb" % name, {}, [fed], [Port("byte")]), [fed], [Port("byte")])
+
+
 def selector() -> None:
     """selector is a mute for each input and add: it ends with the shortest input, and an output that is not chosen has no items."""
 
@@ -558,13 +566,11 @@ class Vectors:
             compare(own, written(blocks_of, connects, fed, [out]), fed, [out], tags=False)
 
     def extremes(self) -> None:
-        """The greatest and the least of a vector's items: deinterleave, and then maximum or minimum."""
-        fed, out = self.fed(self.wide, 1), Port(self.wide)
-        for name, kind in (("max", "maximum"), ("min", "minimum")):
-            kinds = {"split": Kind("deinterleave", {"type": self.wide, "ports": self.size}), "it": Kind(kind, {"type": self.wide})}
-            connects = ["in0 split", "it out0", *("split.%d it.%d" % (at, at) for at in range(self.size))]
+        """The greatest and the least of a vector's items: frame_maximum and frame_minimum."""
+        (fed,), out = self.fed(self.wide, 1), Port(self.wide)
+        for name, kind in (("max", "frame_maximum"), ("min", "frame_minimum")):
             own = getattr(blocks, "%s_%s" % (name, LETTERS[self.wide] * 2))(self.size, 1)
-            compare(own, written(kinds, connects, fed, [out]), fed, [out], tags=False)
+            compare(own, row([Kind(kind, {"type": self.wide, "n": self.size})], fed, out), [fed], [out], tags=False)
 
     def map(self) -> None:
         """vector_map of each item once: stream_mux, permute, and a keep_m_in_n for each output."""

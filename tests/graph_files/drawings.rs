@@ -142,9 +142,10 @@ const UNEVEN_DOT: &str = "digraph {
 
 // Each kind that may stand between a source and a sink, with its keys and the types of both.
 // scripts/generate writes these lines from kinds.toml: KINDS
-const KINDS: [(&str, &str, &str, &str, &str); 47] = [
+const KINDS: [(&str, &str, &str, &str, &str); 57] = [
     ("add_const", "type = \"int\"\nvalue = 1", "int", "int", "value 1<br/>"),
     ("multiply_const", "type = \"int\"\nvalue = 1", "int", "int", "value 1<br/>"),
+    ("divide_const", "type = \"int\"\nvalue = 1", "int", "int", "value 1<br/>"),
     ("and_const", "type = \"int\"\nvalue = 1", "int", "int", "value 1<br/>"),
     ("or_const", "type = \"int\"\nvalue = 1", "int", "int", "value 1<br/>"),
     ("xor_const", "type = \"int\"\nvalue = 1", "int", "int", "value 1<br/>"),
@@ -156,6 +157,7 @@ const KINDS: [(&str, &str, &str, &str, &str); 47] = [
     ("add", "type = \"int\"", "int", "int", ""),
     ("sub", "type = \"int\"", "int", "int", ""),
     ("multiply", "type = \"int\"", "int", "int", ""),
+    ("divide", "type = \"int\"", "int", "int", ""),
     ("minimum", "type = \"int\"", "int", "int", ""),
     ("maximum", "type = \"int\"", "int", "int", ""),
     ("and", "type = \"int\"", "int", "int", ""),
@@ -164,14 +166,22 @@ const KINDS: [(&str, &str, &str, &str, &str); 47] = [
     ("map_bb", "map = [1]", "byte", "byte", ""),
     ("table", "to = \"short\"\nvalues = [1]", "byte", "short", ""),
     ("convert", "type = \"int\"\nto = \"short\"", "int", "short", ""),
+    ("binary_slicer", "type = \"int\"\nthreshold = 0", "int", "byte", ""),
+    ("ulaw_encode", "type = \"int\"", "int", "byte", ""),
+    ("alaw_encode", "type = \"int\"", "int", "byte", ""),
     ("moving_sum", "type = \"int\"\nlength = 1", "int", "int", ""),
     ("fir", "type = \"int\"\ntaps = [1]", "int", "int", "1 taps<br/>"),
     ("interp_fir", "type = \"int\"\ntaps = [1]", "int", "int", "1 taps<br/>"),
     ("keep_one_in_n", "type = \"int\"\nn = 1", "int", "int", ""),
     ("keep_m_in_n", "type = \"int\"\nm = 1\nn = 1", "int", "int", ""),
     ("integrate", "type = \"int\"\nn = 1", "int", "int", ""),
+    ("frame_minimum", "type = \"int\"\nn = 1", "int", "int", ""),
+    ("frame_maximum", "type = \"int\"\nn = 1", "int", "int", ""),
+    ("argmax", "type = \"int\"\nn = 1", "int", "int", ""),
     ("repeat", "type = \"int\"\nn = 1", "int", "int", ""),
     ("insert", "type = \"int\"\nvalues = [1]\nperiod = 2", "int", "int", ""),
+    ("pattern", "type = \"int\"\nvalues = [1]", "int", "int", ""),
+    ("counter", "type = \"int\"\nn = 1", "int", "int", ""),
     ("permute", "type = \"int\"\norder = [0]", "int", "int", ""),
     ("interleave", "type = \"int\"\nports = 1", "int", "int", ""),
     ("deinterleave", "type = \"int\"\nports = 1", "int", "int", ""),

@@ -7,13 +7,17 @@ use std::test::Fail;
 
 // Each kind with all its keys.
 // scripts/generate writes these lines from kinds.toml: KINDS
-const KINDS: [(&str, &str); 50] = [
+const KINDS: [(&str, &str); 60] = [
     ("vector_source", "type = \"short\"\ncapacity = 8\n"),
     ("vector_sink", "type = \"short\"\n"),
     ("null_sink", "type = \"short\"\n"),
     ("add_const", "type = \"short\"\nvalue = -300\ntags = \"one\"\nmultiple = 2\ncapacity = 8\n"),
     (
         "multiply_const",
+        "type = \"short\"\nvalue = -300\ntags = \"one\"\nmultiple = 2\ncapacity = 8\n",
+    ),
+    (
+        "divide_const",
         "type = \"short\"\nvalue = -300\ntags = \"one\"\nmultiple = 2\ncapacity = 8\n",
     ),
     ("and_const", "type = \"short\"\nvalue = -300\ntags = \"one\"\nmultiple = 2\ncapacity = 8\n"),
@@ -33,6 +37,7 @@ const KINDS: [(&str, &str); 50] = [
     ("add", "type = \"short\"\ntags = \"one\"\nmultiple = 2\ncapacity = 8\n"),
     ("sub", "type = \"short\"\ntags = \"one\"\nmultiple = 2\ncapacity = 8\n"),
     ("multiply", "type = \"short\"\ntags = \"one\"\nmultiple = 2\ncapacity = 8\n"),
+    ("divide", "type = \"short\"\ntags = \"one\"\nmultiple = 2\ncapacity = 8\n"),
     ("minimum", "type = \"short\"\ntags = \"one\"\nmultiple = 2\ncapacity = 8\n"),
     ("maximum", "type = \"short\"\ntags = \"one\"\nmultiple = 2\ncapacity = 8\n"),
     ("and", "type = \"short\"\ntags = \"one\"\nmultiple = 2\ncapacity = 8\n"),
@@ -44,6 +49,12 @@ const KINDS: [(&str, &str); 50] = [
         "to = \"short\"\nvalues = [-32768, 32767]\ntags = \"one\"\nmultiple = 2\ncapacity = 8\n",
     ),
     ("convert", "type = \"short\"\nto = \"int\"\ntags = \"one\"\nmultiple = 2\ncapacity = 8\n"),
+    (
+        "binary_slicer",
+        "type = \"short\"\nthreshold = -300\ntags = \"one\"\nmultiple = 2\ncapacity = 8\n",
+    ),
+    ("ulaw_encode", "type = \"short\"\ntags = \"one\"\nmultiple = 2\ncapacity = 8\n"),
+    ("alaw_encode", "type = \"short\"\ntags = \"one\"\nmultiple = 2\ncapacity = 8\n"),
     ("moving_sum", "type = \"short\"\nlength = 1024\ntags = \"one\"\nmultiple = 2\ncapacity = 8\n"),
     (
         "fir",
@@ -59,11 +70,19 @@ const KINDS: [(&str, &str); 50] = [
         "type = \"short\"\nm = 1023\nn = 1024\noffset = 1\ntags = \"one\"\nmultiple = 2\ncapacity = 8\n",
     ),
     ("integrate", "type = \"short\"\nn = 1024\ntags = \"one\"\nmultiple = 2\ncapacity = 8\n"),
+    ("frame_minimum", "type = \"short\"\nn = 1024\ntags = \"one\"\nmultiple = 2\ncapacity = 8\n"),
+    ("frame_maximum", "type = \"short\"\nn = 1024\ntags = \"one\"\nmultiple = 2\ncapacity = 8\n"),
+    ("argmax", "type = \"short\"\nn = 1024\ntags = \"one\"\nmultiple = 2\ncapacity = 8\n"),
     ("repeat", "type = \"short\"\nn = 1024\ntags = \"one\"\nmultiple = 2\ncapacity = 8\n"),
     (
         "insert",
         "type = \"short\"\nvalues = [-32768, 32767]\nperiod = 1024\noffset = 1022\ntags = \"one\"\nmultiple = 2\ncapacity = 8\n",
     ),
+    (
+        "pattern",
+        "type = \"short\"\nvalues = [-32768, 32767]\ntags = \"one\"\nmultiple = 2\ncapacity = 8\n",
+    ),
+    ("counter", "type = \"short\"\nn = 2147483648\ntags = \"one\"\nmultiple = 2\ncapacity = 8\n"),
     (
         "permute",
         "type = \"short\"\norder = [1, 2, 0]\ntags = \"one\"\nmultiple = 2\ncapacity = 8\n",

@@ -8,7 +8,7 @@ set -euo pipefail
 source "$(dirname -- "$(readlink -f -- "${BASH_SOURCE[0]}")")/../part.sh"
 
 cases=(beside_flow beside_blocks inputs_end inputs_lack graph_ends output_ends stopped tags_after_a_stop stalls refused tags tag_refused settings taps fed_by_file memory companion pages)
-own=(block_interleaver matrix_interleaver permutation patterned_interleaver stream_demux deinterleave puncture depuncture endian_swap short_to_char companding selector
+own=(block_interleaver matrix_interleaver permutation patterned_interleaver stream_demux deinterleave puncture depuncture endian_swap short_to_char companding encoding selector
     tag_share tag_gate delay probe_signal ccsds_encoder encoders bit_orders access_code vectors)
 # (Debian's GNU Radio is there for its own Python alone.)
 python=$([[ -x /usr/bin/python3 ]] && echo /usr/bin/python3 || echo python3)

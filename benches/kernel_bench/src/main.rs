@@ -6,6 +6,7 @@ mod contest;
 mod contests;
 mod item;
 mod kind_arithmetic;
+mod kind_choices;
 mod kind_contest;
 mod kind_frames;
 mod kind_plain;
@@ -30,6 +31,7 @@ fn main(rt: HostRuntime) -> io::Result<ExitCode> {
             table::print_table(&rt)?;
             kind_table::print_kinds(&rt)?;
             kind_frames::print_frames(&rt)?;
+            kind_choices::print_choices(&rt)?;
         }
         _ => {
             eprintln!(rt; "usage: kernel_bench [measure]")?;

@@ -19,6 +19,7 @@ pub(crate) fn setting_of(kind: KindName) -> Option<Parameter> {
     match kind {
         KindName::AddConst
         | KindName::MultiplyConst
+        | KindName::DivideConst
         | KindName::AndConst
         | KindName::OrConst
         | KindName::XorConst => Some(Parameter::Value),
@@ -41,6 +42,11 @@ pub(crate) fn text_of(kind: KindName) -> KindText {
             "bytes, 10: 250 1 gives 4 11",
         ),
         KindName::MultiplyConst => ("x[n] * c(n), wrapped", "1 for 1", "bytes, 3: 100 gives 44"),
+        KindName::DivideConst => (
+            "x[n] / c(n) without what is behind the point, wrapped, and 0 where c(n) is 0",
+            "1 for 1",
+            "shorts, -2: 7 -7 -32768 gives -3 3 16384",
+        ),
         KindName::AndConst => (
             "the bits that x[n] and c(n) both have",
             "1 for 1",
@@ -96,6 +102,11 @@ pub(crate) fn text_of(kind: KindName) -> KindText {
             "1 for 1 of each input",
             "bytes: 3 100 and 2 3 give 6 44",
         ),
+        KindName::Divide => (
+            "the items of the first of its 1 to 16 inputs over those of the others in turn, each without what is behind the point, wrapped, and 0 over 0",
+            "1 for 1 of each input",
+            "shorts: 7 -7 5 and 2 2 0 give 3 -3 0",
+        ),
         KindName::Minimum => (
             "the least of the items of its 1 to 16 inputs",
             "1 for 1 of each input",
@@ -136,6 +147,21 @@ pub(crate) fn text_of(kind: KindName) -> KindText {
             "1 for 1",
             "shorts to bytes: -1 256 300 gives 255 0 44",
         ),
+        KindName::BinarySlicer => (
+            "the byte 1 where x[n] is at least `threshold`, and 0 elsewhere",
+            "1 for 1",
+            "shorts, 0: -5 0 7 gives 0 1 1",
+        ),
+        KindName::UlawEncode => (
+            "the byte of x[n] by the mu-law of ITU-T G.711",
+            "1 for 1",
+            "shorts: 0 -1 32767 gives 255 127 128",
+        ),
+        KindName::AlawEncode => (
+            "the byte of x[n] by the A-law of ITU-T G.711",
+            "1 for 1",
+            "shorts: 0 -8 32767 gives 213 85 170",
+        ),
         KindName::MovingSum => (
             "the sum of the last `length` items, wrapped",
             "1 for 1",
@@ -166,11 +192,36 @@ pub(crate) fn text_of(kind: KindName) -> KindText {
             "1 for n",
             "bytes, 2: 200 100 5 6 7 gives 44 11",
         ),
+        KindName::FrameMinimum => (
+            "the least of each n items",
+            "1 for n",
+            "shorts, 3: 4 -2 9 5 6 7 gives -2 5",
+        ),
+        KindName::FrameMaximum => (
+            "the greatest of each n items",
+            "1 for n",
+            "shorts, 3: 4 -2 9 5 6 7 gives 9 7",
+        ),
+        KindName::Argmax => (
+            "the place of the first of the greatest of each n items, from 0 on, wrapped",
+            "1 for n",
+            "shorts, 3: 4 -2 9 5 8 8 gives 2 1",
+        ),
         KindName::Repeat => ("each item n times", "n for 1", "2: 1 2 gives 1 1 2 2"),
         KindName::Insert => (
             "the list `values` once in each `period` items, from item `offset` of these on, and x in all other places",
             "`period` for as many less than that as there are values",
             "9 8, 4, 1: 1 2 3 4 gives 1 9 8 2 3 9 8 4",
+        ),
+        KindName::Pattern => (
+            "the list `values` again and again: its item n modulo its length, whatever x[n] is",
+            "1 for 1",
+            "7 8 9: 0 0 0 0 0 gives 7 8 9 7 8",
+        ),
+        KindName::Counter => (
+            "n modulo the parameter `n`, wrapped, whatever x[n] is",
+            "1 for 1",
+            "3: 0 0 0 0 0 gives 0 1 2 0 1",
         ),
         KindName::Permute => (
             "item order[j] of each frame at its place j, where a frame has as many items as the order",

@@ -15,7 +15,7 @@ pub(crate) enum Stands {
 }
 
 // What the names of blocks begin with, in Companion and in Python.
-const MODULES: [&[u8]; 8] = [
+const MODULES: [&[u8]; 10] = [
     b"blocks_",
     b"blocks.",
     b"digital_",
@@ -24,6 +24,8 @@ const MODULES: [&[u8]; 8] = [
     b"filter.",
     b"analog_",
     b"analog.",
+    b"vocoder_",
+    b"vocoder.",
 ];
 
 // The blocks whose kind has another name, without the types of their items.

@@ -16,7 +16,7 @@ use Rattle.parameters.specs.declared.fault.Parameter.TheVariants.{Values, Period
 use Rattle.parameters.specs.declared.fault.ParamFault.{ParamFault}
 use Rattle.parameters.specs.declared.fault.ParamFault.TheVariants.{BadParameter, Memory}
 use Rattle.kind_model.specs.Math.{table}
-use Rattle.kind_model.specs.Rates.{insert, IsInsert}
+use Rattle.kind_model.specs.Rates.{insert, IsInsert, pattern}
 use Rattle.kind_model.specs.BitStreams.{correlate_access_code}
 use Rattle.math_blocks.specs.Kinds.{AreValues}
 use Rattle.rate_blocks.specs.Inserts.{AreValues as AreInserted, IsPeriod, IsFirstBad, IsRefusal}
@@ -110,6 +110,23 @@ module _ (t : ItemType) (zs : List ℤ) (period offset : ℕ) where
 pub cut_insert : (t : ItemType) (zs : List ℤ) (period offset : ℕ) → inserted t (take 257 zs) period offset ≡ inserted t zs period offset
 cut_insert t zs period offset =
     cut_items t Values (λ ts. needs (nat_lt (length ts) period && nat_le period 1024) Period (needs (nat_le offset (period - length ts)) Offset (Ok (insert t ts period offset)))) zs
+
+-- what `pattern` means, or that its values are bad
+abbrev pub patterned : ItemType → List ℤ → Result Meaning Parameter
+patterned t zs = needs (are_items t zs) Values (Ok (pattern t zs))
+
+module _ (t : ItemType) (zs : List ℤ) where
+  pub pattern_good : AreInserted t zs → patterned t zs ≡ Ok (pattern t zs)
+  pattern_good h = goes (are_items t zs) Values _ (inserted-decides t zs) h
+
+  pub pattern_bad :
+      (fault : ParamFault) → (fault ≡ BadParameter Values → AreInserted t zs → ⊥) → (fault ≡ Memory → AreInserted t zs)
+      → (fault ≡ BadParameter Values) ⊎ (fault ≡ Memory) → IsBad true (patterned t zs) fault
+  pattern_bad fault bad good either =
+      items_bad t zs Values (pattern t zs) fault (λ e are. bad e (record { some = are.0; few = are.1; items = are.2 })) (λ e. let are = good e in (are.some, are.few, are.items)) either
+
+pub cut_pattern : (t : ItemType) (zs : List ℤ) → patterned t (take 257 zs) ≡ patterned t zs
+cut_pattern t zs = cut_items t Values (λ ts. Ok (pattern t ts)) zs
 
 -- the tests of an order decide that it is one of the places of a frame
 below-decides : (y z : ℤ) → Decides (int_lt y z) (y <ℤ z)

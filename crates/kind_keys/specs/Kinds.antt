@@ -4,9 +4,9 @@ use Rattle.toml.specs.Data.{Members}
 use Rattle.stream_model.specs.declared.vocabulary.ItemType.{ItemType}
 use Rattle.stream_model.specs.Meaning.{Meaning}
 use Rattle.kind_model.specs.Ends.{vector_source, vector_sink, null_sink}
-use Rattle.kind_model.specs.Math.{add_const, multiply_const, and_const, or_const, xor_const, scale, clip, abs, mute, add, sub, multiply, minimum, maximum, and_of, or_of, xor_of, not_of, convert, map_bb, table, moving_sum}
+use Rattle.kind_model.specs.Math.{add_const, multiply_const, and_const, or_const, xor_const, scale, clip, abs, mute, add, sub, multiply, minimum, maximum, and_of, or_of, xor_of, not_of, convert, map_bb, table, moving_sum, divide_const, divide, binary_slicer, ulaw_encode, alaw_encode}
 use Rattle.kind_model.specs.Filters.{fir, interp_fir}
-use Rattle.kind_model.specs.Rates.{keep_one_in_n, keep_m_in_n, integrate, repeat, insert, permute, interleave, deinterleave, stream_mux, head, skiphead, delay}
+use Rattle.kind_model.specs.Rates.{keep_one_in_n, keep_m_in_n, integrate, repeat, insert, permute, interleave, deinterleave, stream_mux, head, skiphead, delay, frame_minimum, frame_maximum, argmax, pattern, counter}
 use Rattle.kind_model.specs.Bits.{pack_k_bits, unpack_k_bits, diff_decoder, diff_encoder, scrambler, descrambler, additive_scrambler}
 use Rattle.kind_model.specs.BitStreams.{repack_bits, packed_to_unpacked, unpacked_to_packed, correlate_access_code}
 use Rattle.rate_blocks.specs.Lengths.{unsigned}
@@ -47,6 +47,7 @@ keeps_list kinds.Table = true
 keeps_list kinds.Fir = true
 keeps_list kinds.InterpFir = true
 keeps_list kinds.Insert = true
+keeps_list kinds.Pattern = true
 keeps_list kinds.Permute = true
 keeps_list _ = false
 
@@ -67,6 +68,7 @@ meant kinds.VectorSink t ms = vector_sink t
 meant kinds.NullSink t ms = null_sink t
 meant kinds.AddConst t ms = add_const t (number_at ms (parameter parameters.Value))
 meant kinds.MultiplyConst t ms = multiply_const t (number_at ms (parameter parameters.Value))
+meant kinds.DivideConst t ms = divide_const t (number_at ms (parameter parameters.Value))
 meant kinds.AndConst t ms = and_const t (number_at ms (parameter parameters.Value))
 meant kinds.OrConst t ms = or_const t (number_at ms (parameter parameters.Value))
 meant kinds.XorConst t ms = xor_const t (number_at ms (parameter parameters.Value))
@@ -78,6 +80,7 @@ meant kinds.Mute t ms = mute t (number_at ms (parameter parameters.On))
 meant kinds.Add t ms = add t
 meant kinds.Sub t ms = sub t
 meant kinds.Multiply t ms = multiply t
+meant kinds.Divide t ms = divide t
 meant kinds.Minimum t ms = minimum t
 meant kinds.Maximum t ms = maximum t
 meant kinds.And t ms = and_of t
@@ -86,14 +89,22 @@ meant kinds.Xor t ms = xor_of t
 meant kinds.MapBb t ms = map_bb (numbers_at ms (parameter parameters.Map))
 meant kinds.Table t ms = table (type_or_byte (type_at ms (parameter parameters.To))) (numbers_at ms (parameter parameters.Values))
 meant kinds.Convert t ms = convert t (type_or_byte (type_at ms (parameter parameters.To)))
+meant kinds.BinarySlicer t ms = binary_slicer t (number_at ms (parameter parameters.Threshold))
+meant kinds.UlawEncode t ms = ulaw_encode t
+meant kinds.AlawEncode t ms = alaw_encode t
 meant kinds.MovingSum t ms = moving_sum t (small_at ms (parameter parameters.Length))
 meant kinds.Fir t ms = fir t (numbers_at ms (parameter parameters.Taps)) (small_at ms (parameter parameters.Decimation)) (small_at ms (parameter parameters.Shift))
 meant kinds.InterpFir t ms = interp_fir t (numbers_at ms (parameter parameters.Taps)) (small_at ms (parameter parameters.Interpolation)) (small_at ms (parameter parameters.Shift))
 meant kinds.KeepOneInN t ms = keep_one_in_n t (small_at ms (parameter parameters.N))
 meant kinds.KeepMInN t ms = keep_m_in_n t (small_at ms (parameter parameters.M)) (small_at ms (parameter parameters.N)) (small_at ms (parameter parameters.Offset))
 meant kinds.Integrate t ms = integrate t (small_at ms (parameter parameters.N))
+meant kinds.FrameMinimum t ms = frame_minimum t (small_at ms (parameter parameters.N))
+meant kinds.FrameMaximum t ms = frame_maximum t (small_at ms (parameter parameters.N))
+meant kinds.Argmax t ms = argmax t (small_at ms (parameter parameters.N))
 meant kinds.Repeat t ms = repeat t (small_at ms (parameter parameters.N))
 meant kinds.Insert t ms = insert t (numbers_at ms (parameter parameters.Values)) (small_at ms (parameter parameters.Period)) (small_at ms (parameter parameters.Offset))
+meant kinds.Pattern t ms = pattern t (numbers_at ms (parameter parameters.Values))
+meant kinds.Counter t ms = counter t (small_at ms (parameter parameters.N))
 meant kinds.Permute t ms = permute t (unsigned (numbers_at ms (parameter parameters.Places)))
 meant kinds.Interleave t ms = interleave t (small_at ms (parameter parameters.Ports))
 meant kinds.Deinterleave t ms = deinterleave t (small_at ms (parameter parameters.Ports))

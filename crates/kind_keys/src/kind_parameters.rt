@@ -44,10 +44,14 @@ pub fn parameters_of(kind: KindName) -> &'static [(Parameter, Range)]
         | KindName::Abs
         | KindName::Sub
         | KindName::Multiply
+        | KindName::Divide
+        | KindName::UlawEncode
+        | KindName::AlawEncode
         | KindName::Minimum
         | KindName::Maximum => &[],
         KindName::AddConst
         | KindName::MultiplyConst
+        | KindName::DivideConst
         | KindName::AndConst
         | KindName::OrConst
         | KindName::XorConst => &[(Parameter::Value, Range::Item)],
@@ -57,6 +61,7 @@ pub fn parameters_of(kind: KindName) -> &'static [(Parameter, Range)]
         ],
         KindName::MapBb => &[(Parameter::Map, Range::Bytes)],
         KindName::Convert => &[(Parameter::To, Range::Type)],
+        KindName::BinarySlicer => &[(Parameter::Threshold, Range::Item)],
         KindName::MovingSum => &[(Parameter::Length, Range::Number(1, 1024))],
         KindName::Fir => &[
             (Parameter::Taps, Range::Taps),
@@ -77,9 +82,12 @@ pub fn parameters_of(kind: KindName) -> &'static [(Parameter, Range)]
             (Parameter::Mask, Range::Register(1)),
             (Parameter::Init, Range::Register(0)),
         ],
-        KindName::KeepOneInN | KindName::Integrate | KindName::Repeat => {
-            &[(Parameter::N, Range::Number(1, 1024))]
-        }
+        KindName::KeepOneInN
+        | KindName::Integrate
+        | KindName::FrameMinimum
+        | KindName::FrameMaximum
+        | KindName::Argmax
+        | KindName::Repeat => &[(Parameter::N, Range::Number(1, 1024))],
         KindName::Interleave | KindName::Deinterleave => {
             &[(Parameter::Ports, Range::Number(1, 16))]
         }
@@ -105,6 +113,8 @@ pub fn parameters_of(kind: KindName) -> &'static [(Parameter, Range)]
             (Parameter::Period, Range::Period),
             (Parameter::Offset, Range::ValuesOffset),
         ],
+        KindName::Pattern => &[(Parameter::Values, Range::Items)],
+        KindName::Counter => &[(Parameter::N, Range::Number(1, 2147483648))],
         KindName::Permute => &[(Parameter::Places, Range::Places)],
         KindName::RepackBits => &[
             (Parameter::Order, Range::BitOrder),

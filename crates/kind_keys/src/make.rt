@@ -10,7 +10,8 @@ ghost use Rattle.kinds.specs.declared.kind_name.KindName.TheVariants as kinds;
 use crate::code::{code_of, is_code};
 use crate::key::Key;
 use crate::make_lists::{
-    make_fir, make_insert, make_interp_fir, make_map_bb, make_permute, make_stream_mux, make_table,
+    make_fir, make_insert, make_interp_fir, make_map_bb, make_pattern, make_permute,
+    make_stream_mux, make_table,
 };
 use crate::parameter_values::{bit_order, count, number, small, target, wide};
 use crate::table::{text_at, type_at};
@@ -21,12 +22,14 @@ use bit_blocks::{
 use items::ItemType;
 use kinds::{Kind, KindName, NullSink, VectorSink, VectorSource};
 use math_blocks::{
-    Abs, Add, AddConst, And, AndConst, Clip, Convert, Maximum, Minimum, MovingSum, Multiply,
-    MultiplyConst, Mute, Not, Or, OrConst, Scale, Sub, Xor, XorConst,
+    Abs, Add, AddConst, AlawEncode, And, AndConst, BinarySlicer, Clip, Convert, Divide,
+    DivideConst, Maximum, Minimum, MovingSum, Multiply, MultiplyConst, Mute, Not, Or, OrConst,
+    Scale, Sub, UlawEncode, Xor, XorConst,
 };
 use parameters::{ParamFault, Parameter};
 use rate_blocks::{
-    Deinterleave, Delay, Head, Integrate, Interleave, KeepMInN, KeepOneInN, Repeat, SkipHead,
+    Argmax, Counter, Deinterleave, Delay, FrameMaximum, FrameMinimum, Head, Integrate, Interleave,
+    KeepMInN, KeepOneInN, Repeat, SkipHead,
 };
 use std::alloc::Global;
 use toml::Table;
@@ -59,6 +62,10 @@ fn make_of(alloc: Global, kind: KindName, item: ItemType, table: &Table) -> Resu
             item,
             number(table, Parameter::Value),
         )?)),
+        KindName::DivideConst => Ok(Kind::DivideConst(DivideConst::new(
+            item,
+            number(table, Parameter::Value),
+        )?)),
         KindName::Scale => Ok(Kind::Scale(Scale::new(
             item,
             number(table, Parameter::Factor),
@@ -81,6 +88,7 @@ fn make_of(alloc: Global, kind: KindName, item: ItemType, table: &Table) -> Resu
         KindName::Mute => Ok(Kind::Mute(Mute::new(item, number(table, Parameter::On))?)),
         KindName::Sub => Ok(Kind::Sub(Sub::new(item))),
         KindName::Multiply => Ok(Kind::Multiply(Multiply::new(item))),
+        KindName::Divide => Ok(Kind::Divide(Divide::new(item))),
         KindName::Minimum => Ok(Kind::Minimum(Minimum::new(item))),
         KindName::Maximum => Ok(Kind::Maximum(Maximum::new(item))),
         KindName::Add => Ok(Kind::Add(Add::new(item))),
@@ -91,6 +99,12 @@ fn make_of(alloc: Global, kind: KindName, item: ItemType, table: &Table) -> Resu
         KindName::MapBb => make_map_bb(alloc, table),
         KindName::Table => make_table(alloc, table),
         KindName::Convert => Ok(Kind::Convert(Convert::new(item, target(table)?))),
+        KindName::BinarySlicer => Ok(Kind::BinarySlicer(BinarySlicer::new(
+            item,
+            number(table, Parameter::Threshold),
+        )?)),
+        KindName::UlawEncode => Ok(Kind::UlawEncode(UlawEncode::new(item))),
+        KindName::AlawEncode => Ok(Kind::AlawEncode(AlawEncode::new(item))),
         KindName::MovingSum => Ok(Kind::MovingSum(MovingSum::new(
             item,
             small(table, Parameter::Length),
@@ -126,8 +140,19 @@ fn make_of(alloc: Global, kind: KindName, item: ItemType, table: &Table) -> Resu
             item,
             wide(table, Parameter::N),
         )?)),
+        KindName::FrameMinimum => Ok(Kind::FrameMinimum(FrameMinimum::new(
+            item,
+            wide(table, Parameter::N),
+        )?)),
+        KindName::FrameMaximum => Ok(Kind::FrameMaximum(FrameMaximum::new(
+            item,
+            wide(table, Parameter::N),
+        )?)),
+        KindName::Argmax => Ok(Kind::Argmax(Argmax::new(item, wide(table, Parameter::N))?)),
         KindName::Repeat => Ok(Kind::Repeat(Repeat::new(item, wide(table, Parameter::N))?)),
         KindName::Insert => make_insert(alloc, item, table),
+        KindName::Pattern => make_pattern(alloc, item, table),
+        KindName::Counter => Ok(Kind::Counter(Counter::new(item, wide(table, Parameter::N))?)),
         KindName::Permute => make_permute(alloc, item, table),
         KindName::Interleave => Ok(Kind::Interleave(Interleave::new(
             item,

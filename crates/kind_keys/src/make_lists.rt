@@ -13,7 +13,7 @@ use items::ItemType;
 use kinds::Kind;
 use math_blocks::{MapBb, Table as ByteTable};
 use parameters::{ParamFault, Parameter};
-use rate_blocks::{Insert, Permute, StreamMux};
+use rate_blocks::{Insert, Pattern, Permute, StreamMux};
 use std::alloc::Global;
 use toml::Table;
 
@@ -100,6 +100,17 @@ pub(crate) fn make_insert(alloc: Global, item: ItemType, table: &Table) -> Resul
     );
     match Insert::new(alloc, item, &values, period, offset) {
         Ok(block) => Ok(Kind::Insert(block)),
+        Err(fault) => Err(fault),
+    }
+}
+
+pub(crate) fn make_pattern(alloc: Global, item: ItemType, table: &Table) -> Result<Kind, ParamFault>
+    ensures ok { IfOk result (λ block. made_of kinds.Pattern item (table_view table.now) ≡ Ok (meaning_of block)) }
+    ensures bad { IfErr result (IsBad true (made_of kinds.Pattern item (table_view table.now))) }
+{
+    let values = numbers(table, Parameter::Values);
+    match Pattern::new(alloc, item, &values) {
+        Ok(block) => Ok(Kind::Pattern(block)),
         Err(fault) => Err(fault),
     }
 }

@@ -1,6 +1,8 @@
 -- The kinds of arithmetic, logic, tables and conversion are lawful.
-use Rattle.std.specs.Prelude.{ℕ, ◌-◌, ◌*◌, ◌≤◌, ◌≡◌, suc, ℤ, pos, negsuc, ◌≤ℤ◌, ◌+ℤ◌, ◌*ℤ◌, List, [], ◌∷◌, length, All, int_lt, cond, true, false, bit_and, bit_or, bit_xor, refl}
-use Rattle.std.proofs.Common.{ap, ap₂, subst, sym, arith, inl, inr}
+use Rattle.std.specs.Ordering.{int_eq}
+use Rattle.std.specs.Int.RustNames.{int_div}
+use Rattle.std.specs.Prelude.{ℕ, ◌-◌, ◌*◌, ◌≤◌, ◌≡◌, suc, ℤ, pos, negsuc, ◌≤ℤ◌, ◌+ℤ◌, ◌*ℤ◌, List, [], ◌∷◌, ◌++◌, length, min, All, unsigned_abs, int_lt, if◌then◌else◌, cond, true, false, bit_and, bit_or, bit_xor, refl}
+use Rattle.std.proofs.Common.{ap, ap₂, subst, sym, ◌∙◌, arith, inl, inr}
 use Rattle.std.proofs.lemmas.Bool.{cases_lt}
 use Rattle.std.proofs.lemmas.Int.{ints}
 use Rattle.std.proofs.lemmas.List.{get_or_past}
@@ -9,10 +11,10 @@ use Rattle.stream_model.specs.declared.vocabulary.ItemType.{ItemType}
 use Rattle.stream_model.specs.declared.vocabulary.ItemType.TheVariants.{Byte, Short, Int}
 use Rattle.stream_model.specs.Numbers.{IsItem, AreItems, least_of, greatest_of, numbers_in, wrap, total}
 use Rattle.stream_model.specs.Lists.{item}
-use Rattle.kind_model.specs.Kernels.{scaled, bits_joined, turned, lesser, greater, absolute, clipped}
+use Rattle.kind_model.specs.Kernels.{scaled, bits_joined, turned, divided, lesser, greater, absolute, clipped}
 use Rattle.stream_model.specs.Meaning.{input, IsLawful}
 use Rattle.stream_model.specs.Shapes.{number_set, number_at}
-use Rattle.kind_model.specs.Math.{add_const, multiply_const, bitwise_const, and_const, or_const, xor_const, scale, items_at, add, product, multiply, difference, sub, least_up_to, minimum, greatest_down_to, maximum, all_bits, bitwise, and_of, or_of, xor_of, not_of, abs, clip, muted, mute, looked_up, map_bb, number_for, table, convert, moving_sum}
+use Rattle.kind_model.specs.Math.{add_const, multiply_const, divide_const, divided_by, quotient, divide, sliced, binary_slicer, mu_law, ulaw_encode, a_law_parts, a_law, alaw_encode, bitwise_const, and_const, or_const, xor_const, scale, items_at, add, product, multiply, difference, sub, least_up_to, minimum, greatest_down_to, maximum, all_bits, bitwise, and_of, or_of, xor_of, not_of, abs, clip, muted, mute, looked_up, map_bb, number_for, table, convert, moving_sum}
 use Rattle.shape_laws.specs.Shaped.{IsItem-zero, IsItem-wrap, IsItem-sat, IsItem-item, AreItems-input, item-same, past-same, sum_below-same, one_for_one, shaped-lawful}
 
 -- items n of inputs that agree there
@@ -36,6 +38,18 @@ multiply_const-lawful t v fits =
     (λ ts xs p n h. IsItem-wrap t (item (input xs 0) n *ℤ number_at v ts n))
     (λ ts us xs ys k p n settings inputs h.
     ap₂ (λ a b. wrap t (a *ℤ b)) (item-same (input xs 0) (input ys 0) (1 * k) n (inputs.items 0) h) (ap number_set (settings n h)))
+    (λ ts us xs ys k settings inputs. refl)
+
+-- a quotient is an item
+IsItem-divided : (t : ItemType) (y z : ℤ) → IsItem t (divided t y z)
+IsItem-divided t y z = elim (int_eq z (pos 0)) as (λ b. IsItem t (cond b (pos 0) (wrap t (int_div y z)))) [ true ↦ IsItem-zero t | false ↦ IsItem-wrap t (int_div y z) ]
+
+pub divide_const-lawful : (t : ItemType) (v : ℤ) → IsItem t v → IsLawful (divide_const t v)
+divide_const-lawful t v fits =
+    shaped-lawful _ _ _ _ _ _ _ _ _ _ one_for_one (omega arith) (omega arith) (fits.above, fits.below) (λ ts xs. refl)
+    (λ ts xs p n h. IsItem-divided t (item (input xs 0) n) (number_at v ts n))
+    (λ ts us xs ys k p n settings inputs h.
+    ap₂ (divided t) (item-same (input xs 0) (input ys 0) (1 * k) n (inputs.items 0) h) (ap number_set (settings n h)))
     (λ ts us xs ys k settings inputs. refl)
 
 pub bitwise_const-lawful : (op : ℕ → ℕ → ℕ) (t : ItemType) (v : ℤ) → IsItem t v → IsLawful (bitwise_const op t v)
@@ -95,12 +109,12 @@ IsItem-greater : (t : ItemType) (y z : ℤ) → IsItem t y → IsItem t z → Is
 IsItem-greater t y z one other = elim (int_lt y z) as (λ b. IsItem t (cond b z y)) [ true ↦ other | false ↦ one ]
 
 -- the ends of a type's range lie in it
-IsItem-greatest : (t : ItemType) → IsItem t (greatest_of t)
+pub IsItem-greatest : (t : ItemType) → IsItem t (greatest_of t)
 IsItem-greatest Byte = record { above = omega (arith, ints); below = omega (arith, ints) }
 IsItem-greatest Short = record { above = omega (arith, ints); below = omega (arith, ints) }
 IsItem-greatest Int = record { above = omega (arith, ints); below = omega (arith, ints) }
 
-IsItem-least : (t : ItemType) → IsItem t (least_of t)
+pub IsItem-least : (t : ItemType) → IsItem t (least_of t)
 IsItem-least Byte = record { above = omega (arith, ints); below = omega (arith, ints) }
 IsItem-least Short = record { above = omega (arith, ints); below = omega (arith, ints) }
 IsItem-least Int = record { above = omega (arith, ints); below = omega (arith, ints) }
@@ -111,15 +125,36 @@ AreItems-items_at t [] n are = λ k d l. absurd (omega arith)
 AreItems-items_at t (x ∷ xs) n are =
     All-cons (IsItem t) (item x n) (items_at xs n) (IsItem-item t x n (All-head (AreItems t) x xs are)) (AreItems-items_at t xs n (All-tail (AreItems t) x xs are))
 
-IsItem-least_up_to : (t : ItemType) (most : ℤ) (zs : List ℤ) → IsItem t most → AreItems t zs → IsItem t (least_up_to most zs)
+pub IsItem-least_up_to : (t : ItemType) (most : ℤ) (zs : List ℤ) → IsItem t most → AreItems t zs → IsItem t (least_up_to most zs)
 IsItem-least_up_to t most [] fits are = fits
 IsItem-least_up_to t most (z ∷ zs) fits are =
     IsItem-lesser t z (least_up_to most zs) (All-head (IsItem t) z zs are) (IsItem-least_up_to t most zs fits (All-tail (IsItem t) z zs are))
 
-IsItem-greatest_down_to : (t : ItemType) (least : ℤ) (zs : List ℤ) → IsItem t least → AreItems t zs → IsItem t (greatest_down_to least zs)
+pub IsItem-greatest_down_to : (t : ItemType) (least : ℤ) (zs : List ℤ) → IsItem t least → AreItems t zs → IsItem t (greatest_down_to least zs)
 IsItem-greatest_down_to t least [] fits are = fits
 IsItem-greatest_down_to t least (z ∷ zs) fits are =
     IsItem-greater t z (greatest_down_to least zs) (All-head (IsItem t) z zs are) (IsItem-greatest_down_to t least zs fits (All-tail (IsItem t) z zs are))
+
+lesser_comm : (y z : ℤ) → lesser y z ≡ lesser z y
+lesser_comm y z = grind (arith, ints)
+
+lesser_assoc : (x y z : ℤ) → lesser x (lesser y z) ≡ lesser (lesser x y) z
+lesser_assoc x y z = grind (arith, ints)
+
+greater_comm : (y z : ℤ) → greater y z ≡ greater z y
+greater_comm y z = grind (arith, ints)
+
+greater_assoc : (x y z : ℤ) → greater x (greater y z) ≡ greater (greater x y) z
+greater_assoc x y z = grind (arith, ints)
+
+-- one more number at the end
+pub least-push : (most : ℤ) (zs : List ℤ) (z : ℤ) → least_up_to most (zs ++ z ∷ []) ≡ lesser (least_up_to most zs) z
+least-push most [] z = lesser_comm z most
+least-push most (x ∷ zs) z = ap (lesser x) (least-push most zs z) ∙ lesser_assoc x (least_up_to most zs) z
+
+pub greatest-push : (least : ℤ) (zs : List ℤ) (z : ℤ) → greatest_down_to least (zs ++ z ∷ []) ≡ greater (greatest_down_to least zs) z
+greatest-push least [] z = greater_comm z least
+greatest-push least (x ∷ zs) z = ap (greater x) (greatest-push least zs z) ∙ greater_assoc x (greatest_down_to least zs) z
 
 pub minimum-lawful : (t : ItemType) → IsLawful (minimum t)
 minimum-lawful t =
@@ -135,6 +170,22 @@ maximum-lawful t =
     (λ ts xs p n h. IsItem-greatest_down_to t (least_of t) (items_at xs n) (IsItem-least t) (AreItems-items_at t xs n h))
     (λ ts us xs ys k p n settings inputs h.
     ap (greatest_down_to (least_of t)) (items_at-same xs ys n inputs.ports (λ q. item-same (input xs q) (input ys q) (1 * k) n (inputs.items q) h)))
+    (λ ts us xs ys k settings inputs. refl)
+
+IsItem-divided_by : (t : ItemType) (y : ℤ) (zs : List ℤ) → IsItem t y → IsItem t (divided_by t y zs)
+IsItem-divided_by t y [] is = is
+IsItem-divided_by t y (z ∷ zs) is = IsItem-divided_by t (divided t y z) zs (IsItem-divided t y z)
+
+IsItem-quotient : (t : ItemType) (zs : List ℤ) → AreItems t zs → IsItem t (quotient t zs)
+IsItem-quotient t [] are = IsItem-zero t
+IsItem-quotient t (z ∷ zs) are = IsItem-divided_by t z zs (All-head (IsItem t) z zs are)
+
+pub divide-lawful : (t : ItemType) → IsLawful (divide t)
+divide-lawful t =
+    shaped-lawful _ _ _ _ _ _ _ _ _ _ one_for_one (omega arith) (omega arith) refl (λ ts xs. refl)
+    (λ ts xs p n h. IsItem-quotient t (items_at xs n) (AreItems-items_at t xs n h))
+    (λ ts us xs ys k p n settings inputs h.
+    ap (quotient t) (items_at-same xs ys n inputs.ports (λ q. item-same (input xs q) (input ys q) (1 * k) n (inputs.items q) h)))
     (λ ts us xs ys k settings inputs. refl)
 
 pub bitwise-lawful : (op : ℕ → ℕ → ℕ) (none : ℕ) (t : ItemType) → IsLawful (bitwise op none t)
@@ -216,6 +267,44 @@ table-lawful to values are =
     shaped-lawful _ _ _ _ _ _ _ _ _ _ one_for_one (omega arith) (omega arith) refl (λ ts xs. refl)
     (λ ts xs p n h. IsItem-item to values _ are)
     (λ ts us xs ys k p n settings inputs h. ap (number_for values) (item-same (input xs 0) (input ys 0) (1 * k) n (inputs.items 0) h))
+    (λ ts us xs ys k settings inputs. refl)
+
+IsItem-sliced : (threshold z : ℤ) → IsItem Byte (sliced threshold z)
+IsItem-sliced threshold z =
+    elim (int_lt z threshold) as (λ b. IsItem Byte (cond b (pos 0) (pos 1))) [
+      | true ↦ IsItem-zero Byte
+      | false ↦ record { above = omega (arith, ints); below = omega (arith, ints) }
+    ]
+
+pub binary_slicer-lawful : (t : ItemType) (threshold : ℤ) → IsLawful (binary_slicer t threshold)
+binary_slicer-lawful t threshold =
+    shaped-lawful _ _ _ _ _ _ _ _ _ _ one_for_one (omega arith) (omega arith) refl (λ ts xs. refl)
+    (λ ts xs p n h. IsItem-sliced threshold (item (input xs 0) n))
+    (λ ts us xs ys k p n settings inputs h. ap (sliced threshold) (item-same (input xs 0) (input ys 0) (1 * k) n (inputs.items 0) h))
+    (λ ts us xs ys k settings inputs. refl)
+
+-- a number that is not above 255 is a byte
+IsItem-byte : (n : ℕ) → n ≤ 255 → IsItem Byte (pos n)
+IsItem-byte n few = record { above = omega (arith, ints); below = omega (arith, ints) }
+
+IsItem-mu_law : (z : ℤ) → IsItem Byte (mu_law z)
+IsItem-mu_law z = IsItem-byte _ (grind arith)
+
+pub ulaw_encode-lawful : (t : ItemType) → IsLawful (ulaw_encode t)
+ulaw_encode-lawful t =
+    shaped-lawful _ _ _ _ _ _ _ _ _ _ one_for_one (omega arith) (omega arith) refl (λ ts xs. refl)
+    (λ ts xs p n h. IsItem-mu_law (item (input xs 0) n))
+    (λ ts us xs ys k p n settings inputs h. ap mu_law (item-same (input xs 0) (input ys 0) (1 * k) n (inputs.items 0) h))
+    (λ ts us xs ys k settings inputs. refl)
+
+IsItem-a_law : (z : ℤ) → IsItem Byte (a_law z)
+IsItem-a_law z = IsItem-wrap Byte (pos (bit_xor (if int_lt z (pos 0) then a_law_parts 0 (min (unsigned_abs z - 8) 32767) else a_law_parts 128 (min (unsigned_abs z) 32767)) 85))
+
+pub alaw_encode-lawful : (t : ItemType) → IsLawful (alaw_encode t)
+alaw_encode-lawful t =
+    shaped-lawful _ _ _ _ _ _ _ _ _ _ one_for_one (omega arith) (omega arith) refl (λ ts xs. refl)
+    (λ ts xs p n h. IsItem-a_law (item (input xs 0) n))
+    (λ ts us xs ys k p n settings inputs h. ap a_law (item-same (input xs 0) (input ys 0) (1 * k) n (inputs.items 0) h))
     (λ ts us xs ys k settings inputs. refl)
 
 pub convert-lawful : (from to : ItemType) → IsLawful (convert from to)

@@ -1,16 +1,18 @@
 -- The kinds that change a rate, take turns or move a stream are lawful.
 use Rattle.std.specs.Prelude.{ℕ, zero, suc, ◌+◌, ◌-◌, ◌*◌, ◌/◌, ◌%◌, ◌<◌, ◌≤◌, ◌≡◌, ℤ, pos, List, [], ◌∷◌, length, take, sum, All, Bool, true, false, if◌then◌else◌, nat_lt, nat_le, refl}
-use Rattle.std.proofs.Common.{ap, subst, arith, inl, inr}
+use Rattle.std.proofs.Common.{ap, subst, sym, arith, inl, inr}
 use Rattle.std.proofs.lemmas.Bool.{cases_lt}
 use Rattle.std.proofs.lemmas.Bool.Decides.{nat_tests}
 use Rattle.std.proofs.lemmas.List.{get_or_past}
 use Rattle.std.proofs.lemmas.Nat.{div_below}
 use Rattle.stream_model.specs.declared.vocabulary.ItemType.{ItemType}
-use Rattle.stream_model.specs.Numbers.{IsItem, AreItems, wrap}
+use Rattle.stream_model.specs.Numbers.{IsItem, AreItems, least_of, greatest_of, wrap}
 use Rattle.stream_model.specs.Lists.{item, item_before}
 use Rattle.stream_model.specs.Meaning.{input, IsLawful}
-use Rattle.kind_model.specs.Rates.{keep_one_in_n, keep_m_in_n, IsKept, inserted, insert, IsInsert, from_place, permute, IsOrder, integrate, repeat, interleave, deinterleave, head, skiphead, delay, turn_of, round_item, IsMux, stream_mux}
-use Rattle.shape_laws.specs.Shaped.{IsItem-zero, IsItem-wrap, IsItem-item, AreItems-input, item-same, sum_below-same, IsRate, IsAtRate-at_rate, sum-cons, shaped-lawful}
+use Rattle.kind_model.specs.Rates.{frame, frame_minimum, frame_maximum, place_of_greatest, argmax, pattern, counter, keep_one_in_n, keep_m_in_n, IsKept, inserted, insert, IsInsert, from_place, permute, IsOrder, integrate, repeat, interleave, deinterleave, head, skiphead, delay, turn_of, round_item, IsMux, stream_mux}
+use Rattle.shape_laws.specs.Shaped.{IsItem-zero, IsItem-wrap, IsItem-item, AreItems-input, item-same, sum_below-same, IsRate, one_for_one, map-same, get_or-map_numbers, length-listed, IsAtRate-at_rate, sum-cons, shaped-lawful}
+use Rattle.kind_laws.specs.Math.{IsItem-least_up_to, IsItem-greatest_down_to, IsItem-greatest, IsItem-least}
+use Rattle.kind_model.specs.Math.{least_up_to, greatest_down_to}
 
 -- d items for one, and one for i
 down : (d : ℕ) → 1 ≤ d → d ≤ 1024 → IsRate d 1
@@ -56,6 +58,43 @@ integrate-lawful t n low high =
     (λ ts xs p m h. IsItem-wrap t _)
     (λ ts us xs ys k p m settings inputs h.
     ap (wrap t) (sum_below-same n _ _ (λ j l. item-same (input xs 0) (input ys 0) (n * k) (m * n + j) (inputs.items 0) (item_of_firing n k m j l (omega arith)))))
+    (λ ts us xs ys k settings inputs. refl)
+
+-- items of a frame of items, and frames that agree
+AreItems-frame : (t : ItemType) (n : ℕ) (xs : List ℤ) (k : ℕ) → AreItems t xs → AreItems t (frame n xs k)
+AreItems-frame t n xs k are =
+    λ j d l.
+    let near : j < n = omega (arith, l, length-listed n (λ i. item xs (k * n + i))) in
+    subst (IsItem t) (sym (get_or-map_numbers (λ i. item xs (k * n + i)) 0 n j d near)) (IsItem-item t xs (k * n + (0 + j)) are)
+
+pub frame-same : (n : ℕ) (xs ys : List ℤ) (a b : ℕ) → ((j : ℕ) → j < n → item xs (a * n + j) ≡ item ys (b * n + j)) → frame n xs a ≡ frame n ys b
+frame-same n xs ys a b same = map-same (λ j. item xs (a * n + j)) (λ j. item ys (b * n + j)) 0 n (λ j from to. same j (omega arith))
+
+pub frame_minimum-lawful : (t : ItemType) (n : ℕ) → 1 ≤ n → n ≤ 1024 → IsLawful (frame_minimum t n)
+frame_minimum-lawful t n low high =
+    shaped-lawful _ _ _ _ _ _ _ _ _ _ (down n low high) (omega arith) (omega arith) refl (λ ts xs. refl)
+    (λ ts xs p m h. IsItem-least_up_to t (greatest_of t) (frame n (input xs 0) m) (IsItem-greatest t) (AreItems-frame t n (input xs 0) m (AreItems-input t xs 0 h)))
+    (λ ts us xs ys k p m settings inputs h.
+    ap (least_up_to (greatest_of t)) (frame-same n (input xs 0) (input ys 0) m m (λ j l.
+    item-same (input xs 0) (input ys 0) (n * k) (m * n + j) (inputs.items 0) (item_of_firing n k m j l (omega arith)))))
+    (λ ts us xs ys k settings inputs. refl)
+
+pub frame_maximum-lawful : (t : ItemType) (n : ℕ) → 1 ≤ n → n ≤ 1024 → IsLawful (frame_maximum t n)
+frame_maximum-lawful t n low high =
+    shaped-lawful _ _ _ _ _ _ _ _ _ _ (down n low high) (omega arith) (omega arith) refl (λ ts xs. refl)
+    (λ ts xs p m h. IsItem-greatest_down_to t (least_of t) (frame n (input xs 0) m) (IsItem-least t) (AreItems-frame t n (input xs 0) m (AreItems-input t xs 0 h)))
+    (λ ts us xs ys k p m settings inputs h.
+    ap (greatest_down_to (least_of t)) (frame-same n (input xs 0) (input ys 0) m m (λ j l.
+    item-same (input xs 0) (input ys 0) (n * k) (m * n + j) (inputs.items 0) (item_of_firing n k m j l (omega arith)))))
+    (λ ts us xs ys k settings inputs. refl)
+
+pub argmax-lawful : (t : ItemType) (n : ℕ) → 1 ≤ n → n ≤ 1024 → IsLawful (argmax t n)
+argmax-lawful t n low high =
+    shaped-lawful _ _ _ _ _ _ _ _ _ _ (down n low high) (omega arith) (omega arith) refl (λ ts xs. refl)
+    (λ ts xs p m h. IsItem-wrap t _)
+    (λ ts us xs ys k p m settings inputs h.
+    ap (λ zs. wrap t (pos (place_of_greatest t zs))) (frame-same n (input xs 0) (input ys 0) m m (λ j l.
+    item-same (input xs 0) (input ys 0) (n * k) (m * n + j) (inputs.items 0) (item_of_firing n k m j l (omega arith)))))
     (λ ts us xs ys k settings inputs. refl)
 
 pub repeat-lawful : (t : ItemType) (n : ℕ) → 1 ≤ n → n ≤ 1024 → IsLawful (repeat t n)
@@ -147,6 +186,20 @@ permute-lawful t order is =
     let less : j % n < n = omega (arith, is.some) in
     item-same (input xs 0) (input ys 0) (n * k) (j / n * n + from_place order (j % n)) (inputs.items 0)
     (item_of_firing n k (j / n) (from_place order (j % n)) (from_place-within order (j % n) is less) (div_below j n k (omega (arith, is.some)) (omega arith))))
+    (λ ts us xs ys k settings inputs. refl)
+
+pub pattern-lawful : (t : ItemType) (values : List ℤ) → AreItems t values → IsLawful (pattern t values)
+pattern-lawful t values are =
+    shaped-lawful _ _ _ _ _ _ _ _ _ _ one_for_one (omega arith) (omega arith) refl (λ ts xs. refl)
+    (λ ts xs p m h. IsItem-item t values (m % length values) are)
+    (λ ts us xs ys k p m settings inputs h. refl)
+    (λ ts us xs ys k settings inputs. refl)
+
+pub counter-lawful : (t : ItemType) (n : ℕ) → IsLawful (counter t n)
+counter-lawful t n =
+    shaped-lawful _ _ _ _ _ _ _ _ _ _ one_for_one (omega arith) (omega arith) refl (λ ts xs. refl)
+    (λ ts xs p m h. IsItem-wrap t (pos (m % n)))
+    (λ ts us xs ys k p m settings inputs h. refl)
     (λ ts us xs ys k settings inputs. refl)
 
 pub head-lawful : (t : ItemType) (n : ℕ) → IsLawful (head t n)

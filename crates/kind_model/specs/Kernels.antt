@@ -1,4 +1,6 @@
 -- The list definitions of the kernels: what is computed from whole lists, item for item, for every length.
+use Rattle.std.specs.Ordering.{int_eq}
+use Rattle.std.specs.Int.RustNames.{int_div}
 use Rattle.std.specs.Prelude.{ℕ, zero, suc, ◌+◌, ◌-◌, ◌*◌, ◌/◌, ◌%◌, ◌^◌, ℤ, pos, ◌+ℤ◌, ◌-ℤ◌, ◌*ℤ◌, List, length, unsigned_abs, int_lt, if◌then◌else◌, bit_and, bit_or, bit_xor}
 use Rattle.stream_model.specs.declared.vocabulary.ItemType.{ItemType}
 use Rattle.stream_model.specs.Numbers.{numbers_in, residue, floor_div, wrap, sat, rnd}
@@ -23,6 +25,18 @@ multiply_wrap t a b = listed (length a) (λ n. wrap t (item a n *ℤ item b n))
 -- item n of the output is a[n] - b[n], wrapped (own)
 abbrev pub sub_wrap : ItemType → List ℤ → List ℤ → List ℤ
 sub_wrap t a b = listed (length a) (λ n. wrap t (item a n -ℤ item b n))
+
+-- y over z without what is behind the point, wrapped, and 0 where z is 0 (GNU Radio manual: divide; wrapping and the quotient by 0 are own)
+abbrev pub divided : ItemType → ℤ → ℤ → ℤ
+divided t y z = if int_eq z (pos 0) then pos 0 else wrap t (int_div y z)
+
+-- item n of the output is a[n] over b[n]
+abbrev pub divide : ItemType → List ℤ → List ℤ → List ℤ
+divide t a b = listed (length a) (λ n. divided t (item a n) (item b n))
+
+-- item n of the output is a[n] over c
+abbrev pub divide_const : ItemType → List ℤ → ℤ → List ℤ
+divide_const t a c = listed (length a) (λ n. divided t (item a n) c)
 
 -- the lesser of two numbers, and the greater
 abbrev pub lesser : ℤ → ℤ → ℤ

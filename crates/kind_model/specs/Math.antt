@@ -1,12 +1,12 @@
 -- The kinds of arithmetic, logic, tables and conversion: an item for an item.
-use Rattle.std.specs.Prelude.{ℕ, ◌-◌, ℤ, pos, negsuc, ◌+ℤ◌, ◌-ℤ◌, ◌*ℤ◌, List, [], ◌∷◌, length, map, min, Some, slice_index_or, unsigned_abs, int_lt, if◌then◌else◌, bit_and, bit_or, bit_xor}
+use Rattle.std.specs.Prelude.{ℕ, zero, suc, ◌+◌, ◌-◌, ◌*◌, ◌/◌, ◌%◌, ◌^◌, ℤ, pos, negsuc, ◌+ℤ◌, ◌-ℤ◌, ◌*ℤ◌, List, [], ◌∷◌, length, map, min, max, Some, slice_index_or, unsigned_abs, nat_le, int_lt, if◌then◌else◌, bit_and, bit_or, bit_xor}
 use Rattle.stream_model.specs.declared.vocabulary.ItemType.{ItemType}
 use Rattle.stream_model.specs.declared.vocabulary.ItemType.TheVariants.{Byte, Short}
 use Rattle.stream_model.specs.declared.vocabulary.Wanted.TheVariants as wanted
 use Rattle.stream_model.specs.Numbers.{numbers_in, least_of, greatest_of, wrap, total}
 use Rattle.stream_model.specs.Settings.{Number}
 use Rattle.stream_model.specs.Lists.{item, item_before, sum_below}
-use Rattle.kind_model.specs.Kernels.{scaled, bits_in, bits_joined, turned, lesser, greater, absolute, clipped}
+use Rattle.kind_model.specs.Kernels.{scaled, bits_in, bits_joined, turned, divided, lesser, greater, absolute, clipped}
 use Rattle.stream_model.specs.Meaning.{Meaning, input}
 use Rattle.stream_model.specs.Shapes.{ports, any_ports, at_rate, sync, any_number, number_at}
 
@@ -26,6 +26,15 @@ multiply_const t v =
       setting = Some (any_number t);
       own = Some (Number v);
       out = λ ts xs p n. wrap t (item (input xs 0) n *ℤ number_at v ts n);
+    }
+
+-- each item over the number in force, without what is behind the point, and 0 where that number is 0 (own)
+abbrev pub divide_const : ItemType → ℤ → Meaning
+divide_const t v =
+    record (sync t t) {
+      setting = Some (any_number t);
+      own = Some (Number v);
+      out = λ ts xs p n. divided t (item (input xs 0) n) (number_at v ts n);
     }
 
 -- each item and the number in force, joined bit for bit (two's complement)
@@ -84,6 +93,20 @@ difference (z ∷ y ∷ zs) = z -ℤ total (y ∷ zs)
 -- the difference of the inputs' items, wrapped (GNU Radio manual for two inputs and more; the negative of one input, and wrapping, are own)
 abbrev pub sub : ItemType → Meaning
 sub t = record (at_rate (any_ports t) (ports 1 t) 1 1) { out = λ ts xs p n. wrap t (difference (items_at xs n)) }
+
+-- y over the first number of a list, that over the second, and so on
+abbrev pub divided_by : ItemType → ℤ → List ℤ → ℤ
+divided_by t y [] = y
+divided_by t y (z ∷ zs) = divided_by t (divided t y z) zs
+
+-- the first number of a list over all others in turn
+abbrev pub quotient : ItemType → List ℤ → ℤ
+quotient t [] = pos 0
+quotient t (z ∷ zs) = divided_by t z zs
+
+-- the item of the first input over those of the others in turn (GNU Radio manual; wrapping and the quotient by 0 are own)
+abbrev pub divide : ItemType → Meaning
+divide t = record (at_rate (any_ports t) (ports 1 t) 1 1) { out = λ ts xs p n. quotient t (items_at xs n) }
 
 -- the least number of a list, and at most this one
 abbrev pub least_up_to : ℤ → List ℤ → ℤ
@@ -165,6 +188,49 @@ number_for values z = item values (min (unsigned_abs z) (length values - 1))
 -- for each byte a number of another type (GNU Radio manual: chunks_to_symbols; bytes behind the end are own)
 abbrev pub table : ItemType → List ℤ → Meaning
 table to values = record (sync Byte to) { out = λ ts xs p n. number_for values (item (input xs 0) n) }
+
+-- 1 where z is at least the threshold, and else 0
+abbrev pub sliced : ℤ → ℤ → ℤ
+sliced threshold z = if int_lt z threshold then pos 0 else pos 1
+
+-- a byte for each item: whether it is at least the threshold (GNU Radio manual, where the threshold is 0)
+abbrev pub binary_slicer : ItemType → ℤ → Meaning
+binary_slicer t threshold = record (sync t Byte) { out = λ ts xs p n. sliced threshold (item (input xs 0) n) }
+
+-- how many of the first k numbers 256, 512, 1024 and so on are at most m
+abbrev pub doublings : ℕ → ℕ → ℕ
+doublings m zero = 0
+doublings m (suc k) = doublings m k + (if nat_le (256 * 2 ^ k) m then 1 else 0)
+
+-- the segment of a magnitude: 0 below 256, and one more for each power of two from there on, up to 7 (ITU-T G.711)
+abbrev pub segment : ℕ → ℕ
+segment m = doublings m 7
+
+-- the four bits of a magnitude below its highest one, where that is bit s + 7 (ITU-T G.711)
+abbrev pub interval : ℕ → ℕ → ℕ
+interval s m = m / 2 ^ (s + 3) % 16
+
+-- the byte of a number by the mu-law: sign, segment and interval, all bits turned, of the magnitude plus 132, at most 32767 (ITU-T G.711)
+abbrev pub mu_law : ℤ → ℤ
+mu_law z =
+    let m = min (unsigned_abs z + 132) 32767 in
+    pos ((if int_lt z (pos 0) then 127 else 255) - (16 * segment m + interval (segment m) m))
+
+-- each item as a byte by the mu-law (GNU Radio manual, of shorts)
+abbrev pub ulaw_encode : ItemType → Meaning
+ulaw_encode t = record (sync t Byte) { out = λ ts xs p n. mu_law (item (input xs 0) n) }
+
+-- sign, segment and interval of a magnitude, where segment 0 is as wide as segment 1 (ITU-T G.711)
+abbrev pub a_law_parts : ℕ → ℕ → ℕ
+a_law_parts sign m = sign + (16 * segment m + interval (max (segment m) 1) m)
+
+-- the byte of a number by the A-law: these three of the magnitude, at most 32767, or of one 8 less below 0, every second bit turned (ITU-T G.711)
+abbrev pub a_law : ℤ → ℤ
+a_law z = wrap Byte (pos (bit_xor (if int_lt z (pos 0) then a_law_parts 0 (min (unsigned_abs z - 8) 32767) else a_law_parts 128 (min (unsigned_abs z) 32767)) 85))
+
+-- each item as a byte by the A-law (GNU Radio manual, of shorts; its block gives another byte from -7 to -1)
+abbrev pub alaw_encode : ItemType → Meaning
+alaw_encode t = record (sync t Byte) { out = λ ts xs p n. a_law (item (input xs 0) n) }
 
 -- each item as the number of the other type that equals it modulo 2 to that type's bits (own)
 abbrev pub convert : ItemType → ItemType → Meaning

@@ -1,12 +1,14 @@
 -- The kinds that change a rate, take turns between streams, or move a stream.
 use Rattle.std.specs.Prelude.{◌≤◌, ◌<◌, ◌≢◌, All, ℕ, suc, ◌+◌, ◌-◌, ◌*◌, ◌/◌, ◌%◌, ℤ, pos, List, [], ◌∷◌, length, take, sum, Some, None, slice_index_or, nat_lt, if◌then◌else◌}
 use Rattle.std.specs.List.{AllPairs}
+use Rattle.std.specs.Ordering.{int_eq}
 use Rattle.stream_model.specs.declared.vocabulary.ItemType.{ItemType}
 use Rattle.stream_model.specs.declared.vocabulary.Shift.TheVariants as shifts
-use Rattle.stream_model.specs.Numbers.{AreItems, wrap}
-use Rattle.stream_model.specs.Lists.{item, item_before, sum_below}
+use Rattle.stream_model.specs.Numbers.{AreItems, least_of, greatest_of, wrap}
+use Rattle.stream_model.specs.Lists.{item, item_before, listed, sum_below}
 use Rattle.stream_model.specs.Meaning.{Meaning, input}
 use Rattle.stream_model.specs.Shapes.{ports, at_rate, sync}
+use Rattle.kind_model.specs.Math.{least_up_to, greatest_down_to}
 
 -- the last of each n items (GNU Radio manual)
 abbrev pub keep_one_in_n : ItemType → ℕ → Meaning
@@ -25,6 +27,31 @@ pub record IsKept (m n offset : ℕ) : Type 0 where
 -- the sum of each n items, wrapped (GNU Radio manual; wrapping is own)
 abbrev pub integrate : ItemType → ℕ → Meaning
 integrate t n = record (at_rate (ports 1 t) (ports 1 t) n 1) { out = λ ts xs p k. wrap t (sum_below n (λ j. item (input xs 0) (k * n + j))) }
+
+-- frame k of a list, where a frame has n items
+abbrev pub frame : ℕ → List ℤ → ℕ → List ℤ
+frame n xs k = listed n (λ j. item xs (k * n + j))
+
+-- the least of each n items (GNU Radio manual: min of vectors)
+abbrev pub frame_minimum : ItemType → ℕ → Meaning
+frame_minimum t n = record (at_rate (ports 1 t) (ports 1 t) n 1) { out = λ ts xs p k. least_up_to (greatest_of t) (frame n (input xs 0) k) }
+
+-- the greatest of each n items (GNU Radio manual: max of vectors)
+abbrev pub frame_maximum : ItemType → ℕ → Meaning
+frame_maximum t n = record (at_rate (ports 1 t) (ports 1 t) n 1) { out = λ ts xs p k. greatest_down_to (least_of t) (frame n (input xs 0) k) }
+
+-- the place of the first of a list that is z, and its length where none is
+abbrev pub place_of : ℤ → List ℤ → ℕ
+place_of z [] = 0
+place_of z (x ∷ xs) = if int_eq x z then 0 else suc (place_of z xs)
+
+-- the place of the first of the greatest numbers of a list
+abbrev pub place_of_greatest : ItemType → List ℤ → ℕ
+place_of_greatest t xs = place_of (greatest_down_to (least_of t) xs) xs
+
+-- the place of the first of the greatest of each n items, wrapped (GNU Radio manual; wrapping is own)
+abbrev pub argmax : ItemType → ℕ → Meaning
+argmax t n = record (at_rate (ports 1 t) (ports 1 t) n 1) { out = λ ts xs p k. wrap t (pos (place_of_greatest t (frame n (input xs 0) k))) }
 
 -- each item n times (GNU Radio manual)
 abbrev pub repeat : ItemType → ℕ → Meaning
@@ -74,6 +101,14 @@ pub record IsOrder (order : List ℕ) : Type 0 where
   pub few : length order ≤ 256
   pub within : All (λ a. a < length order) order
   pub once : AllPairs (λ a b. a ≢ b) order
+
+-- a list again and again, an item for each item of the input (own)
+abbrev pub pattern : ItemType → List ℤ → Meaning
+pattern t values = record (sync t t) { out = λ ts xs p k. item values (k % length values) }
+
+-- the number of each item of the input modulo n, wrapped (own)
+abbrev pub counter : ItemType → ℕ → Meaning
+counter t n = record (sync t t) { out = λ ts xs p k. wrap t (pos (k % n)) }
 
 -- the first n items (GNU Radio manual)
 abbrev pub head : ItemType → ℕ → Meaning

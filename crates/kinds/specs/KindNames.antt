@@ -12,6 +12,7 @@ kind_text kinds.VectorSink = codes "vector_sink"
 kind_text kinds.NullSink = codes "null_sink"
 kind_text kinds.AddConst = codes "add_const"
 kind_text kinds.MultiplyConst = codes "multiply_const"
+kind_text kinds.DivideConst = codes "divide_const"
 kind_text kinds.AndConst = codes "and_const"
 kind_text kinds.OrConst = codes "or_const"
 kind_text kinds.XorConst = codes "xor_const"
@@ -23,6 +24,7 @@ kind_text kinds.Mute = codes "mute"
 kind_text kinds.Add = codes "add"
 kind_text kinds.Sub = codes "sub"
 kind_text kinds.Multiply = codes "multiply"
+kind_text kinds.Divide = codes "divide"
 kind_text kinds.Minimum = codes "minimum"
 kind_text kinds.Maximum = codes "maximum"
 kind_text kinds.And = codes "and"
@@ -31,14 +33,22 @@ kind_text kinds.Xor = codes "xor"
 kind_text kinds.MapBb = codes "map_bb"
 kind_text kinds.Table = codes "table"
 kind_text kinds.Convert = codes "convert"
+kind_text kinds.BinarySlicer = codes "binary_slicer"
+kind_text kinds.UlawEncode = codes "ulaw_encode"
+kind_text kinds.AlawEncode = codes "alaw_encode"
 kind_text kinds.MovingSum = codes "moving_sum"
 kind_text kinds.Fir = codes "fir"
 kind_text kinds.InterpFir = codes "interp_fir"
 kind_text kinds.KeepOneInN = codes "keep_one_in_n"
 kind_text kinds.KeepMInN = codes "keep_m_in_n"
 kind_text kinds.Integrate = codes "integrate"
+kind_text kinds.FrameMinimum = codes "frame_minimum"
+kind_text kinds.FrameMaximum = codes "frame_maximum"
+kind_text kinds.Argmax = codes "argmax"
 kind_text kinds.Repeat = codes "repeat"
 kind_text kinds.Insert = codes "insert"
+kind_text kinds.Pattern = codes "pattern"
+kind_text kinds.Counter = codes "counter"
 kind_text kinds.Permute = codes "permute"
 kind_text kinds.Interleave = codes "interleave"
 kind_text kinds.Deinterleave = codes "deinterleave"
@@ -61,13 +71,15 @@ kind_text kinds.CorrelateAccessCode = codes "correlate_access_code"
 -- all kinds
 abbrev pub all_kinds : List KindName
 all_kinds =
-    kinds.VectorSource ∷ kinds.VectorSink ∷ kinds.NullSink ∷ kinds.AddConst ∷ kinds.MultiplyConst ∷ kinds.AndConst ∷ kinds.OrConst
-    ∷ kinds.XorConst ∷ kinds.Scale ∷ kinds.Clip ∷ kinds.Abs ∷ kinds.Not ∷ kinds.Mute ∷ kinds.Add ∷ kinds.Sub ∷ kinds.Multiply
-    ∷ kinds.Minimum ∷ kinds.Maximum ∷ kinds.And ∷ kinds.Or ∷ kinds.Xor ∷ kinds.MapBb ∷ kinds.Table ∷ kinds.Convert ∷ kinds.MovingSum
-    ∷ kinds.Fir ∷ kinds.InterpFir ∷ kinds.KeepOneInN ∷ kinds.KeepMInN ∷ kinds.Integrate ∷ kinds.Repeat ∷ kinds.Insert ∷ kinds.Permute
-    ∷ kinds.Interleave ∷ kinds.Deinterleave ∷ kinds.StreamMux ∷ kinds.Head ∷ kinds.SkipHead ∷ kinds.Delay ∷ kinds.PackKBits
-    ∷ kinds.UnpackKBits ∷ kinds.RepackBits ∷ kinds.PackedToUnpacked ∷ kinds.UnpackedToPacked ∷ kinds.DiffEncoder ∷ kinds.DiffDecoder
-    ∷ kinds.Scrambler ∷ kinds.Descrambler ∷ kinds.AdditiveScrambler ∷ kinds.CorrelateAccessCode ∷ []
+    kinds.VectorSource ∷ kinds.VectorSink ∷ kinds.NullSink ∷ kinds.AddConst ∷ kinds.MultiplyConst ∷ kinds.DivideConst
+    ∷ kinds.AndConst ∷ kinds.OrConst ∷ kinds.XorConst ∷ kinds.Scale ∷ kinds.Clip ∷ kinds.Abs ∷ kinds.Not ∷ kinds.Mute ∷ kinds.Add
+    ∷ kinds.Sub ∷ kinds.Multiply ∷ kinds.Divide ∷ kinds.Minimum ∷ kinds.Maximum ∷ kinds.And ∷ kinds.Or ∷ kinds.Xor ∷ kinds.MapBb
+    ∷ kinds.Table ∷ kinds.Convert ∷ kinds.BinarySlicer ∷ kinds.UlawEncode ∷ kinds.AlawEncode ∷ kinds.MovingSum ∷ kinds.Fir
+    ∷ kinds.InterpFir ∷ kinds.KeepOneInN ∷ kinds.KeepMInN ∷ kinds.Integrate ∷ kinds.FrameMinimum ∷ kinds.FrameMaximum ∷ kinds.Argmax
+    ∷ kinds.Repeat ∷ kinds.Insert ∷ kinds.Pattern ∷ kinds.Counter ∷ kinds.Permute ∷ kinds.Interleave ∷ kinds.Deinterleave
+    ∷ kinds.StreamMux ∷ kinds.Head ∷ kinds.SkipHead ∷ kinds.Delay ∷ kinds.PackKBits ∷ kinds.UnpackKBits ∷ kinds.RepackBits
+    ∷ kinds.PackedToUnpacked ∷ kinds.UnpackedToPacked ∷ kinds.DiffEncoder ∷ kinds.DiffDecoder ∷ kinds.Scrambler ∷ kinds.Descrambler
+    ∷ kinds.AdditiveScrambler ∷ kinds.CorrelateAccessCode ∷ []
 
 -- the kind of a name
 abbrev pub kind_named : List ℕ → Option KindName
@@ -80,6 +92,7 @@ name_of (blocks.VectorSink b) = kinds.VectorSink
 name_of (blocks.NullSink b) = kinds.NullSink
 name_of (blocks.AddConst b) = kinds.AddConst
 name_of (blocks.MultiplyConst b) = kinds.MultiplyConst
+name_of (blocks.DivideConst b) = kinds.DivideConst
 name_of (blocks.AndConst b) = kinds.AndConst
 name_of (blocks.OrConst b) = kinds.OrConst
 name_of (blocks.XorConst b) = kinds.XorConst
@@ -91,6 +104,7 @@ name_of (blocks.Mute b) = kinds.Mute
 name_of (blocks.Add b) = kinds.Add
 name_of (blocks.Sub b) = kinds.Sub
 name_of (blocks.Multiply b) = kinds.Multiply
+name_of (blocks.Divide b) = kinds.Divide
 name_of (blocks.Minimum b) = kinds.Minimum
 name_of (blocks.Maximum b) = kinds.Maximum
 name_of (blocks.And b) = kinds.And
@@ -99,14 +113,22 @@ name_of (blocks.Xor b) = kinds.Xor
 name_of (blocks.MapBb b) = kinds.MapBb
 name_of (blocks.Table b) = kinds.Table
 name_of (blocks.Convert b) = kinds.Convert
+name_of (blocks.BinarySlicer b) = kinds.BinarySlicer
+name_of (blocks.UlawEncode b) = kinds.UlawEncode
+name_of (blocks.AlawEncode b) = kinds.AlawEncode
 name_of (blocks.MovingSum b) = kinds.MovingSum
 name_of (blocks.Fir b) = kinds.Fir
 name_of (blocks.InterpFir b) = kinds.InterpFir
 name_of (blocks.KeepOneInN b) = kinds.KeepOneInN
 name_of (blocks.KeepMInN b) = kinds.KeepMInN
 name_of (blocks.Integrate b) = kinds.Integrate
+name_of (blocks.FrameMinimum b) = kinds.FrameMinimum
+name_of (blocks.FrameMaximum b) = kinds.FrameMaximum
+name_of (blocks.Argmax b) = kinds.Argmax
 name_of (blocks.Repeat b) = kinds.Repeat
 name_of (blocks.Insert b) = kinds.Insert
+name_of (blocks.Pattern b) = kinds.Pattern
+name_of (blocks.Counter b) = kinds.Counter
 name_of (blocks.Permute b) = kinds.Permute
 name_of (blocks.Interleave b) = kinds.Interleave
 name_of (blocks.Deinterleave b) = kinds.Deinterleave

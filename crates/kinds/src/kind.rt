@@ -8,12 +8,13 @@ use block_kinds::{Block, ByPace, Held, Shape};
 use fir_blocks::{Fir, InterpFir};
 use items::Items;
 use math_blocks::{
-    Abs, Add, AddConst, And, AndConst, Clip, Convert, MapBb, Maximum, Minimum, MovingSum, Multiply,
-    MultiplyConst, Mute, Not, Or, OrConst, Scale, Sub, Table, Xor, XorConst,
+    Abs, Add, AddConst, AlawEncode, And, AndConst, BinarySlicer, Clip, Convert, Divide,
+    DivideConst, MapBb, Maximum, Minimum, MovingSum, Multiply, MultiplyConst, Mute, Not, Or,
+    OrConst, Scale, Sub, Table, UlawEncode, Xor, XorConst,
 };
 use rate_blocks::{
-    Deinterleave, Delay, Head, Insert, Integrate, Interleave, KeepMInN, KeepOneInN, Permute,
-    Repeat, SkipHead, StreamMux,
+    Argmax, Counter, Deinterleave, Delay, FrameMaximum, FrameMinimum, Head, Insert, Integrate,
+    Interleave, KeepMInN, KeepOneInN, Pattern, Permute, Repeat, SkipHead, StreamMux,
 };
 
 /// A block of any kind. It means what the block inside means.
@@ -29,6 +30,8 @@ pub enum Kind {
     AddConst(AddConst),
     /// Multiplies each item by a number.
     MultiplyConst(MultiplyConst),
+    /// Divides each item by a number.
+    DivideConst(DivideConst),
     /// Gives the bitwise and of each item and a number.
     AndConst(AndConst),
     /// Gives the bitwise or of each item and a number.
@@ -51,6 +54,8 @@ pub enum Kind {
     Sub(Sub),
     /// Multiplies the items of its inputs.
     Multiply(Multiply),
+    /// Divides the items of its first input by those of the others.
+    Divide(Divide),
     /// Gives the least of the items of its inputs.
     Minimum(Minimum),
     /// Gives the greatest of the items of its inputs.
@@ -67,6 +72,12 @@ pub enum Kind {
     Table(Table),
     /// Converts items to another type.
     Convert(Convert),
+    /// Tells which items are at least a threshold.
+    BinarySlicer(BinarySlicer),
+    /// Encodes items as bytes by the mu-law.
+    UlawEncode(UlawEncode),
+    /// Encodes items as bytes by the A-law.
+    AlawEncode(AlawEncode),
     /// Gives the sum of the last `length` items.
     MovingSum(MovingSum),
     /// Filters items by taps, and keeps one in so many.
@@ -79,10 +90,20 @@ pub enum Kind {
     KeepMInN(KeepMInN),
     /// Gives the sum of each `n` items.
     Integrate(Integrate),
+    /// Gives the least of each `n` items.
+    FrameMinimum(FrameMinimum),
+    /// Gives the greatest of each `n` items.
+    FrameMaximum(FrameMaximum),
+    /// Tells where the greatest of each `n` items is.
+    Argmax(Argmax),
     /// Gives each item `n` times.
     Repeat(Repeat),
     /// Puts a list into its input, again and again.
     Insert(Insert),
+    /// Gives a list again and again.
+    Pattern(Pattern),
+    /// Counts its items modulo `n`.
+    Counter(Counter),
     /// Puts the items of each frame into another order.
     Permute(Permute),
     /// Takes an item of each input in turn.
@@ -130,6 +151,7 @@ macro_rules! on_block {
             Kind::NullSink($block) => $body,
             Kind::AddConst($block) => $body,
             Kind::MultiplyConst($block) => $body,
+            Kind::DivideConst($block) => $body,
             Kind::AndConst($block) => $body,
             Kind::OrConst($block) => $body,
             Kind::XorConst($block) => $body,
@@ -141,6 +163,7 @@ macro_rules! on_block {
             Kind::Add($block) => $body,
             Kind::Sub($block) => $body,
             Kind::Multiply($block) => $body,
+            Kind::Divide($block) => $body,
             Kind::Minimum($block) => $body,
             Kind::Maximum($block) => $body,
             Kind::And($block) => $body,
@@ -149,14 +172,22 @@ macro_rules! on_block {
             Kind::MapBb($block) => $body,
             Kind::Table($block) => $body,
             Kind::Convert($block) => $body,
+            Kind::BinarySlicer($block) => $body,
+            Kind::UlawEncode($block) => $body,
+            Kind::AlawEncode($block) => $body,
             Kind::MovingSum($block) => $body,
             Kind::Fir($block) => $body,
             Kind::InterpFir($block) => $body,
             Kind::KeepOneInN($block) => $body,
             Kind::KeepMInN($block) => $body,
             Kind::Integrate($block) => $body,
+            Kind::FrameMinimum($block) => $body,
+            Kind::FrameMaximum($block) => $body,
+            Kind::Argmax($block) => $body,
             Kind::Repeat($block) => $body,
             Kind::Insert($block) => $body,
+            Kind::Pattern($block) => $body,
+            Kind::Counter($block) => $body,
             Kind::Permute($block) => $body,
             Kind::Interleave($block) => $body,
             Kind::Deinterleave($block) => $body,

@@ -5,6 +5,7 @@ pub mod Fixed
 pub mod Lanes
 pub mod Listed
 pub mod Parts
+pub mod Quotients
 pub mod Products
 pub mod Runs
 pub mod Scaled

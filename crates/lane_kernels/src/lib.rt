@@ -7,6 +7,7 @@ mod blocks;
 mod bytes;
 pub mod comparing;
 pub mod conversion;
+pub mod dividing;
 mod ints;
 mod joining;
 pub mod logic;
@@ -27,6 +28,7 @@ pub use comparing::{
     append_abs_wrap, append_clip, append_maximum, append_minimum, maximum_into, minimum_into,
 };
 pub use conversion::{NarrowsTo, WidensTo, narrow, widen};
+pub use dividing::{append_divide, append_divide_const, divide_into};
 pub use logic::{
     AndBits, BitOperation, OrBits, XorBits, append_joined_bits, append_joined_bits_const,
     append_not, join_bits, join_bits_into, not,

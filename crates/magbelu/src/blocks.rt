@@ -8,11 +8,12 @@ pub use block_kinds::{Taps, Value};
 pub use fir_blocks::{Fir, InterpFir};
 pub use kinds::{Kind, KindName, NullSink, VectorSink, VectorSource};
 pub use math_blocks::{
-    Abs, Add, AddConst, And, AndConst, Clip, Convert, MapBb, Maximum, Minimum, MovingSum, Multiply,
-    MultiplyConst, Mute, Not, Or, OrConst, Scale, Sub, Table, Xor, XorConst,
+    Abs, Add, AddConst, AlawEncode, And, AndConst, BinarySlicer, Clip, Convert, Divide,
+    DivideConst, MapBb, Maximum, Minimum, MovingSum, Multiply, MultiplyConst, Mute, Not, Or,
+    OrConst, Scale, Sub, Table, UlawEncode, Xor, XorConst,
 };
 pub use parameters::{ParamFault, Parameter};
 pub use rate_blocks::{
-    Deinterleave, Delay, Head, Insert, Integrate, Interleave, KeepMInN, KeepOneInN, Permute,
-    Repeat, SkipHead, StreamMux,
+    Argmax, Counter, Deinterleave, Delay, FrameMaximum, FrameMinimum, Head, Insert, Integrate,
+    Interleave, KeepMInN, KeepOneInN, Pattern, Permute, Repeat, SkipHead, StreamMux,
 };

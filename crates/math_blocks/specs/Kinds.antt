@@ -11,11 +11,12 @@ use Rattle.stream_model.specs.declared.vocabulary.ItemType.{ItemType}
 use Rattle.stream_model.specs.declared.vocabulary.ItemType.TheVariants.{Byte}
 use Rattle.stream_model.specs.Numbers.{AreItems}
 use Rattle.stream_model.specs.Meaning.{Meaning, IsLawful}
-use Rattle.kind_model.specs.Math.{scale, clip, mute, convert, map_bb, table, moving_sum}
+use Rattle.kind_model.specs.Math.{scale, clip, binary_slicer, mute, convert, map_bb, table, moving_sum}
 use Rattle.items.specs.Equality.{items_eq}
 use Rattle.items.proofs.Same.{items_eq_decides}
 use Rattle.items.specs.Items.{type_of, numbers_of}
 use Rattle.block_kinds.specs.SameItem.{same_item, same_number}
+use Rattle.math_blocks.specs.declared.binary_slicer.AtLeast.{AtLeast}
 use Rattle.math_blocks.specs.declared.constant.Constant.{Constant}
 use Rattle.math_blocks.specs.declared.convert.Convert.{Convert}
 use Rattle.kind_laws.specs.Math.{map_bb-lawful, table-lawful}
@@ -34,6 +35,9 @@ moving_sum_of b = moving_sum b.item b.length
 
 abbrev pub clip_of : Nearest → Meaning
 clip_of m = clip m.item m.low m.high
+
+abbrev pub binary_slicer_of : AtLeast → Meaning
+binary_slicer_of m = binary_slicer m.item m.threshold
 
 abbrev pub mute_of : Mute → Meaning
 mute_of b = mute b.item b.on
@@ -59,6 +63,11 @@ clip-same m n e =
     let low_same = same.1 in
     let high_same = (signed_Decides m.high n.high).0 same.2 in
     λ i. clip (item_same i) (low_same i) (high_same i)
+
+pub binary_slicer-same : (m n : AtLeast) → (sameb the_type m.item n.item && int_eq m.threshold n.threshold) ≡ true → binary_slicer_of m ≡ binary_slicer_of n
+binary_slicer-same m n e =
+    ap₂ binary_slicer (same_item m.item n.item (first_so (sameb the_type m.item n.item) (int_eq m.threshold n.threshold) e))
+    ((signed_Decides m.threshold n.threshold).0 (second_so (sameb the_type m.item n.item) (int_eq m.threshold n.threshold) e))
 
 pub mute-same : (a b : Mute) → (sameb the_type a.item b.item && int_eq a.on b.on) ≡ true → mute_of a ≡ mute_of b
 mute-same a b e =

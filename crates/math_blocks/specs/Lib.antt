@@ -5,5 +5,7 @@ pub mod Joined
 pub mod Kinds
 pub mod PerItem
 pub mod Products
+pub mod Quotients
 pub mod Stretch
+pub mod ToBytes
 pub mod Wrapping

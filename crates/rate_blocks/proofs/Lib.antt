@@ -1,4 +1,6 @@
+pub mod Chosen
 pub mod Copies
+pub mod Cycles
 pub mod Frames
 pub mod Interleaved
 pub mod Moved

@@ -9,10 +9,11 @@ use Rattle.std.proofs.Common.{sym}
 use Rattle.stream_model.specs.contracts.vocabulary.ItemType.{the_type}
 use Rattle.stream_model.specs.Meaning.{Meaning, IsLawful}
 use Rattle.block_kinds.specs.SameItem.{same_item, same_number}
-use Rattle.kind_laws.specs.Rates.{keep_m_in_n-lawful, insert-lawful, permute-lawful}
-use Rattle.kind_model.specs.Rates.{keep_m_in_n, insert, permute}
+use Rattle.kind_laws.specs.Rates.{keep_m_in_n-lawful, insert-lawful, permute-lawful, pattern-lawful}
+use Rattle.kind_model.specs.Rates.{keep_m_in_n, insert, permute, pattern}
 use Rattle.rate_blocks.specs.declared.insert.Insert.{Insert}
 use Rattle.rate_blocks.specs.declared.keep_m_in_n.KeepMInN.{KeepMInN}
+use Rattle.rate_blocks.specs.declared.pattern.Pattern.{Pattern}
 use Rattle.rate_blocks.specs.declared.permute.Permute.{Permute}
 
 abbrev pub keep_m_in_n_of : KeepMInN → Meaning
@@ -63,3 +64,15 @@ permute_of-same a b e =
     let items_same = same_item a.item b.item (first_so (sameb the_type a.item b.item) (pointwise nat_eq a.order.items b.order.items) e) in
     let orders_same = same_text a.order.items b.order.items (sym (second_so (sameb the_type a.item b.item) (pointwise nat_eq a.order.items b.order.items) e)) in
     λ i. permute (items_same i) (orders_same i)
+
+abbrev pub pattern_of : Pattern → Meaning
+pattern_of b = pattern b.item b.values.items
+
+pub pattern_of-lawful : (b : Pattern) → IsLawful (pattern_of b)
+pattern_of-lawful b = pattern-lawful b.item b.values.items b.are.items
+
+pub pattern_of-same : (a b : Pattern) → (sameb the_type a.item b.item && pointwise int_eq a.values.items b.values.items) ≡ true → pattern_of a ≡ pattern_of b
+pattern_of-same a b e =
+    let items_same = same_item a.item b.item (first_so (sameb the_type a.item b.item) (pointwise int_eq a.values.items b.values.items) e) in
+    let values_same = (signed_items a.values.items b.values.items).0 (second_so (sameb the_type a.item b.item) (pointwise int_eq a.values.items b.values.items) e) in
+    λ i. pattern (items_same i) (values_same i)

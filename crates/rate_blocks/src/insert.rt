@@ -25,8 +25,8 @@ pub struct Insert {
     ghost is: { IsInsert item values.items period offset },
 }
 
-// Whether these may be put into a stream of the type.
-fn are_values(item: ItemType, values: &[i64]) -> bool
+/// Whether these may be put into a stream of the type.
+pub(crate) fn are_values(item: ItemType, values: &[i64]) -> bool
     ensures { IsTrue result ↔ AreValues item values.now }
 {
     1 <= values.len() && values.len() <= 256 && values.iter().all(|value| is_item(item, *value))

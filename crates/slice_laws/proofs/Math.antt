@@ -7,8 +7,8 @@ use Rattle.stream_model.specs.Meaning.{input}
 use Rattle.stream_model.specs.Numbers.{wrap, total}
 use Rattle.stream_model.specs.Settings.{Value}
 use Rattle.stream_model.specs.Shapes.{number_set}
-use Rattle.kind_model.specs.Kernels.{scaled, bits_joined, turned, absolute, clipped}
-use Rattle.kind_model.specs.Math.{add, items_at, add_const, moving_sum, multiply_const, bitwise_const, scale, sub, difference, multiply, product, minimum, least_up_to, maximum, greatest_down_to, bitwise, all_bits, not_of, abs, clip, mute, muted, map_bb, looked_up, table, number_for, convert}
+use Rattle.kind_model.specs.Kernels.{scaled, bits_joined, turned, absolute, clipped, divided}
+use Rattle.kind_model.specs.Math.{add, items_at, add_const, moving_sum, multiply_const, bitwise_const, scale, sub, difference, multiply, product, minimum, least_up_to, maximum, greatest_down_to, bitwise, all_bits, not_of, abs, clip, mute, muted, map_bb, looked_up, table, number_for, convert, divide_const, divide, quotient, binary_slicer, sliced, ulaw_encode, mu_law, alaw_encode, a_law}
 use Rattle.shape_laws.specs.Shaped.{sum_below-same}
 use Rattle.slice_laws.specs.Slices.{Settles}
 use Rattle.slice_laws.proofs.Shapes.{shaped-settles, each-settles, past-rest}
@@ -78,3 +78,18 @@ module _ (right : ℕ → ℕ) (f : ℕ) (reached : (p : ℕ) → right p ≤ f)
 
   pub bitwise-settles : (op : ℕ → ℕ → ℕ) (none : ℕ) (t : ItemType) → Settles (bitwise op none t) right f
   bitwise-settles op none t = each-settles _ _ _ _ _ _ _ _ right f reached (λ ts us xs ys p m n s ports same. ap (λ zs. wrap t (pos (all_bits op none t zs))) (items_at-rest xs ys m n ports same))
+
+  pub divide_const-settles : (t : ItemType) (v : ℤ) → Settles (divide_const t v) right f
+  divide_const-settles t v = each-settles _ _ _ _ _ _ _ _ right f reached (λ ts us xs ys p m n s ports same. ap₂ (λ (a : ℤ) (b : Value). divided t a (number_set b)) (same 0) s)
+
+  pub divide-settles : (t : ItemType) → Settles (divide t) right f
+  divide-settles t = each-settles _ _ _ _ _ _ _ _ right f reached (λ ts us xs ys p m n s ports same. ap (quotient t) (items_at-rest xs ys m n ports same))
+
+  pub binary_slicer-settles : (t : ItemType) (threshold : ℤ) → Settles (binary_slicer t threshold) right f
+  binary_slicer-settles t threshold = each-settles _ _ _ _ _ _ _ _ right f reached (λ ts us xs ys p m n s ports same. ap (sliced threshold) (same 0))
+
+  pub ulaw_encode-settles : (t : ItemType) → Settles (ulaw_encode t) right f
+  ulaw_encode-settles t = each-settles _ _ _ _ _ _ _ _ right f reached (λ ts us xs ys p m n s ports same. ap mu_law (same 0))
+
+  pub alaw_encode-settles : (t : ItemType) → Settles (alaw_encode t) right f
+  alaw_encode-settles t = each-settles _ _ _ _ _ _ _ _ right f reached (λ ts us xs ys p m n s ports same. ap a_law (same 0))

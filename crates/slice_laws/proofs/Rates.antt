@@ -5,10 +5,11 @@ use Rattle.std.proofs.Math.Nat.{mul-add, add-zero, mul-le-mul_left}
 use Rattle.stream_model.specs.declared.vocabulary.ItemType.{ItemType}
 use Rattle.stream_model.specs.Lists.{item}
 use Rattle.stream_model.specs.Meaning.{input}
-use Rattle.stream_model.specs.Numbers.{wrap}
-use Rattle.kind_model.specs.Rates.{inserted, insert, integrate, repeat, interleave, keep_m_in_n, permute, from_place, deinterleave, keep_one_in_n, skiphead, delay, turn_of, round_item, stream_mux}
+use Rattle.stream_model.specs.Numbers.{least_of, greatest_of, wrap}
+use Rattle.kind_model.specs.Math.{least_up_to, greatest_down_to}
+use Rattle.kind_model.specs.Rates.{inserted, insert, integrate, repeat, interleave, keep_m_in_n, permute, from_place, deinterleave, keep_one_in_n, skiphead, delay, turn_of, round_item, stream_mux, frame, frame_minimum, frame_maximum, argmax, place_of_greatest}
 use Rattle.shape_laws.specs.Shaped.{sum_below-same}
-use Rattle.kind_laws.specs.Rates.{inserted-same}
+use Rattle.kind_laws.specs.Rates.{inserted-same, frame-same}
 use Rattle.slice_laws.specs.Slices.{Settles}
 use Rattle.slice_laws.proofs.Shapes.{shaped-settles, past-rest, div-later, mod-later, div-at, at-later, at-right}
 
@@ -32,6 +33,29 @@ integrate-settles t n right f reached =
     let low = at-right n f m j h' in
     let e : (1 * k + m) * n + j ≡ n * k + (m * n + j) = omega arith in
     ap (item (input xs 0)) e ∙ inputs.items 0 (m * n + j) (omega arith))))
+
+-- a frame so many firings later
+frame-later : (n : ℕ) (x y : List ℤ) (k m f r : ℕ) → f ≤ m → r ≤ n * f → ((a : ℕ) → r ≤ a → item x (n * k + a) ≡ item y a) → frame n x (1 * k + m) ≡ frame n y m
+frame-later n x y k m f r from reached same =
+    frame-same n x y (1 * k + m) m (λ j l.
+    let low = at-right n f m j from in
+    let e : (1 * k + m) * n + j ≡ n * k + (m * n + j) = omega arith in
+    ap (item x) e ∙ same (m * n + j) (omega arith))
+
+pub frame_minimum-settles : (t : ItemType) (n : ℕ) (right : ℕ → ℕ) (f : ℕ) → ((p : ℕ) → right p ≤ n * f) → Settles (frame_minimum t n) right f
+frame_minimum-settles t n right f reached =
+    shaped-settles _ _ n 1 _ _ _ _ _ _ right f reached
+    (λ ts us xs ys k p m settings inputs h. ap (least_up_to (greatest_of t)) (frame-later n (input xs 0) (input ys 0) k m f (right 0) (omega arith) (reached 0) (inputs.items 0)))
+
+pub frame_maximum-settles : (t : ItemType) (n : ℕ) (right : ℕ → ℕ) (f : ℕ) → ((p : ℕ) → right p ≤ n * f) → Settles (frame_maximum t n) right f
+frame_maximum-settles t n right f reached =
+    shaped-settles _ _ n 1 _ _ _ _ _ _ right f reached
+    (λ ts us xs ys k p m settings inputs h. ap (greatest_down_to (least_of t)) (frame-later n (input xs 0) (input ys 0) k m f (right 0) (omega arith) (reached 0) (inputs.items 0)))
+
+pub argmax-settles : (t : ItemType) (n : ℕ) (right : ℕ → ℕ) (f : ℕ) → ((p : ℕ) → right p ≤ n * f) → Settles (argmax t n) right f
+argmax-settles t n right f reached =
+    shaped-settles _ _ n 1 _ _ _ _ _ _ right f reached
+    (λ ts us xs ys k p m settings inputs h. ap (λ zs. wrap t (pos (place_of_greatest t zs))) (frame-later n (input xs 0) (input ys 0) k m f (right 0) (omega arith) (reached 0) (inputs.items 0)))
 
 pub repeat-settles : (t : ItemType) (n : ℕ) (right : ℕ → ℕ) (f : ℕ) → 1 ≤ n → ((p : ℕ) → right p ≤ f) → Settles (repeat t n) right f
 repeat-settles t n right f some reached =

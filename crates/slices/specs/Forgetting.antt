@@ -14,10 +14,10 @@ use Rattle.bit_blocks.specs.declared.repacking.Repacking.{Repacking}
 use Rattle.bit_blocks.specs.Kinds.{repacking_of}
 use Rattle.kinds.specs.Kind.{meaning_of}
 use Rattle.kinds.specs.declared.kind.Kind.{Kind}
-use Rattle.kinds.specs.declared.kind.Kind.TheVariants.{VectorSource, VectorSink, NullSink, AddConst, MultiplyConst, AndConst, OrConst, XorConst, Scale, Clip, Abs, Not, Mute, Add, Sub, Multiply, Minimum, Maximum, And, Or, Xor, MapBb, Table, Convert, MovingSum, Fir, InterpFir, KeepOneInN, KeepMInN, Integrate, Repeat, Insert, Permute, Interleave, Deinterleave, StreamMux, Head, SkipHead, Delay, PackKBits, UnpackKBits, RepackBits, PackedToUnpacked, UnpackedToPacked, DiffEncoder, DiffDecoder, Scrambler, Descrambler, AdditiveScrambler, CorrelateAccessCode}
+use Rattle.kinds.specs.declared.kind.Kind.TheVariants.{VectorSource, VectorSink, NullSink, AddConst, MultiplyConst, DivideConst, AndConst, OrConst, XorConst, Scale, Clip, Abs, Not, Mute, Add, Sub, Multiply, Divide, Minimum, Maximum, And, Or, Xor, MapBb, Table, Convert, BinarySlicer, UlawEncode, AlawEncode, MovingSum, Fir, InterpFir, KeepOneInN, KeepMInN, Integrate, FrameMinimum, FrameMaximum, Argmax, Repeat, Insert, Pattern, Counter, Permute, Interleave, Deinterleave, StreamMux, Head, SkipHead, Delay, PackKBits, UnpackKBits, RepackBits, PackedToUnpacked, UnpackedToPacked, DiffEncoder, DiffDecoder, Scrambler, Descrambler, AdditiveScrambler, CorrelateAccessCode}
 use Rattle.slice_laws.specs.Slices.{Settles}
-use Rattle.slice_laws.proofs.Math.{add_const-settles, moving_sum-settles, add-settles, multiply_const-settles, bitwise_const-settles, scale-settles, mute-settles, clip-settles, abs-settles, not-settles, map_bb-settles, table-settles, convert-settles, sub-settles, multiply-settles, minimum-settles, maximum-settles, bitwise-settles}
-use Rattle.slice_laws.proofs.Rates.{keep_one_in_n-settles, delay-settles, skiphead-settles, integrate-settles, repeat-settles, interleave-settles, keep_m_in_n-settles, permute-settles, deinterleave-settles, insert-settles, stream_mux-settles}
+use Rattle.slice_laws.proofs.Math.{add_const-settles, moving_sum-settles, add-settles, multiply_const-settles, bitwise_const-settles, scale-settles, mute-settles, clip-settles, abs-settles, not-settles, map_bb-settles, table-settles, convert-settles, sub-settles, multiply-settles, minimum-settles, maximum-settles, bitwise-settles, divide_const-settles, divide-settles, binary_slicer-settles, ulaw_encode-settles, alaw_encode-settles}
+use Rattle.slice_laws.proofs.Rates.{keep_one_in_n-settles, delay-settles, skiphead-settles, integrate-settles, repeat-settles, interleave-settles, keep_m_in_n-settles, permute-settles, deinterleave-settles, insert-settles, stream_mux-settles, frame_minimum-settles, frame_maximum-settles, argmax-settles}
 use Rattle.slice_laws.proofs.Filters.{fir-settles, interp_fir-settles}
 use Rattle.slice_laws.proofs.Ends.{vector_sink-settles, null_sink-settles}
 use Rattle.slice_laws.proofs.Bits.{descrambler-settles, diff_decoder-settles, pack_k_bits-settles, unpack_k_bits-settles, correlate_access_code-settles, repacking-settles}
@@ -72,6 +72,7 @@ look_back_of-holds (VectorSink b) is = sync _ refl (λ p. refl) (vector_sink-set
 look_back_of-holds (NullSink b) is = sync _ refl (λ p. refl) (null_sink-settles b.item)
 look_back_of-holds (AddConst b) is = sync _ refl (λ p. refl) (add_const-settles b.item b.value)
 look_back_of-holds (MultiplyConst b) is = sync _ refl (λ p. refl) (λ right f reached. multiply_const-settles right f reached b.item b.value)
+look_back_of-holds (DivideConst b) is = sync _ refl (λ p. refl) (λ right f reached. divide_const-settles right f reached b.item b.value)
 look_back_of-holds (AndConst b) is = sync _ refl (λ p. refl) (λ right f reached. bitwise_const-settles right f reached bit_and b.item b.value)
 look_back_of-holds (OrConst b) is = sync _ refl (λ p. refl) (λ right f reached. bitwise_const-settles right f reached bit_or b.item b.value)
 look_back_of-holds (XorConst b) is = sync _ refl (λ p. refl) (λ right f reached. bitwise_const-settles right f reached bit_xor b.item b.value)
@@ -83,6 +84,7 @@ look_back_of-holds (Mute b) is = sync _ refl (λ p. refl) (λ right f reached. m
 look_back_of-holds (Add b) is = sync _ refl (λ p. refl) (add-settles b.item)
 look_back_of-holds (Sub b) is = sync _ refl (λ p. refl) (λ right f reached. sub-settles right f reached b.item)
 look_back_of-holds (Multiply b) is = sync _ refl (λ p. refl) (λ right f reached. multiply-settles right f reached b.item)
+look_back_of-holds (Divide b) is = sync _ refl (λ p. refl) (λ right f reached. divide-settles right f reached b.item)
 look_back_of-holds (Minimum b) is = sync _ refl (λ p. refl) (λ right f reached. minimum-settles right f reached b.item)
 look_back_of-holds (Maximum b) is = sync _ refl (λ p. refl) (λ right f reached. maximum-settles right f reached b.item)
 look_back_of-holds (And b) is = sync _ refl (λ p. refl) (λ right f reached. bitwise-settles right f reached bit_and (numbers_in b.item - 1) b.item)
@@ -91,14 +93,22 @@ look_back_of-holds (Xor b) is = sync _ refl (λ p. refl) (λ right f reached. bi
 look_back_of-holds (MapBb b) is = sync _ refl (λ p. refl) (λ right f reached. map_bb-settles right f reached (map pos b.table.items))
 look_back_of-holds (Table b) is = sync _ refl (λ p. refl) (λ right f reached. table-settles right f reached (type_of b.values) (numbers_of b.values))
 look_back_of-holds (Convert b) is = sync _ refl (λ p. refl) (λ right f reached. convert-settles right f reached b.item b.to)
+look_back_of-holds (BinarySlicer b) is = sync _ refl (λ p. refl) (λ right f reached. binary_slicer-settles right f reached b.makes.item b.makes.threshold)
+look_back_of-holds (UlawEncode b) is = sync _ refl (λ p. refl) (λ right f reached. ulaw_encode-settles right f reached b.makes.item)
+look_back_of-holds (AlawEncode b) is = sync _ refl (λ p. refl) (λ right f reached. alaw_encode-settles right f reached b.makes.item)
 look_back_of-holds (MovingSum b) is = past _ (b.length - 1) 1 refl (λ p. refl) (λ right f reached. moving_sum-settles b.item b.length right f (λ p. let r = reached p in omega arith))
 look_back_of-holds (Fir b) is = past _ (length b.taps.items - 1) b.rate refl (λ p. refl) (fir-settles b.item b.taps.items b.rate b.shift)
 look_back_of-holds (InterpFir b) is = past _ (branch_taps b.taps.items b.rate - 1) 1 refl (λ p. refl) (λ right f reached. interp_fir-settles b.item b.taps.items b.rate b.shift right f b.some (λ p. let r = reached p in omega arith))
 look_back_of-holds (KeepOneInN b) is = paced _ b.n refl (λ p. refl) (λ right f reached. keep_one_in_n-settles b.item b.n right f b.least reached)
 look_back_of-holds (KeepMInN b) is = paced _ b.n refl (λ p. refl) (λ right f reached. keep_m_in_n-settles b.item b.m b.n b.offset right f b.kept.some reached)
 look_back_of-holds (Integrate b) is = paced _ b.n refl (λ p. refl) (integrate-settles b.item b.n)
+look_back_of-holds (FrameMinimum b) is = paced _ b.n refl (λ p. refl) (frame_minimum-settles b.item b.n)
+look_back_of-holds (FrameMaximum b) is = paced _ b.n refl (λ p. refl) (frame_maximum-settles b.item b.n)
+look_back_of-holds (Argmax b) is = paced _ b.n refl (λ p. refl) (argmax-settles b.item b.n)
 look_back_of-holds (Repeat b) is = sync _ refl (λ p. refl) (λ right f reached. repeat-settles b.item b.n right f b.least reached)
 look_back_of-holds (Insert b) is = paced _ (b.period - length b.values.items) refl (λ p. refl) (λ right f reached. insert-settles b.item b.values.items b.period b.offset right f b.is.above b.is.whole reached)
+look_back_of-holds (Pattern b) is = absurd (cc)
+look_back_of-holds (Counter b) is = absurd (cc)
 look_back_of-holds (Permute b) is = paced _ (length b.order.items) refl (λ p. refl) (λ right f reached. permute-settles b.item b.order.items right f b.is.some reached)
 look_back_of-holds (Interleave b) is = sync _ refl (λ p. refl) (λ right f reached. interleave-settles b.item b.ports.value right f b.ports.some reached)
 look_back_of-holds (Deinterleave b) is = paced _ b.ports.value refl (λ p. refl) (deinterleave-settles b.item b.ports.value)

@@ -4,7 +4,7 @@ use Rattle.stream_model.specs.declared.vocabulary.Shift.{Shift}
 use Rattle.stream_model.specs.declared.vocabulary.Shift.TheVariants as shifts
 use Rattle.kind_model.specs.Filters.{branch_taps}
 use Rattle.kinds.specs.declared.kind.Kind.{Kind}
-use Rattle.kinds.specs.declared.kind.Kind.TheVariants.{VectorSource, VectorSink, NullSink, AddConst, MultiplyConst, AndConst, OrConst, XorConst, Scale, Clip, Abs, Not, Mute, Add, Sub, Multiply, Minimum, Maximum, And, Or, Xor, MapBb, Table, Convert, MovingSum, Fir, InterpFir, KeepOneInN, KeepMInN, Integrate, Repeat, Insert, Permute, Interleave, Deinterleave, StreamMux, Head, SkipHead, Delay, PackKBits, UnpackKBits, RepackBits, PackedToUnpacked, UnpackedToPacked, DiffEncoder, DiffDecoder, Scrambler, Descrambler, AdditiveScrambler, CorrelateAccessCode}
+use Rattle.kinds.specs.declared.kind.Kind.TheVariants.{VectorSource, VectorSink, NullSink, AddConst, MultiplyConst, DivideConst, AndConst, OrConst, XorConst, Scale, Clip, Abs, Not, Mute, Add, Sub, Multiply, Divide, Minimum, Maximum, And, Or, Xor, MapBb, Table, Convert, BinarySlicer, UlawEncode, AlawEncode, MovingSum, Fir, InterpFir, KeepOneInN, KeepMInN, Integrate, FrameMinimum, FrameMaximum, Argmax, Repeat, Insert, Pattern, Counter, Permute, Interleave, Deinterleave, StreamMux, Head, SkipHead, Delay, PackKBits, UnpackKBits, RepackBits, PackedToUnpacked, UnpackedToPacked, DiffEncoder, DiffDecoder, Scrambler, Descrambler, AdditiveScrambler, CorrelateAccessCode}
 use Rattle.slices.specs.declared.look_back.LookBack.{LookBack}
 use Rattle.slices.specs.declared.look_back.LookBack.TheVariants.{Items, Number, Everything}
 use Rattle.slices.specs.declared.look_back.LookBack.TheVariants as looks
@@ -16,6 +16,7 @@ look_back_of (VectorSink b) = Items 0
 look_back_of (NullSink b) = Items 0
 look_back_of (AddConst b) = Items 0
 look_back_of (MultiplyConst b) = Items 0
+look_back_of (DivideConst b) = Items 0
 look_back_of (AndConst b) = Items 0
 look_back_of (OrConst b) = Items 0
 look_back_of (XorConst b) = Items 0
@@ -27,6 +28,7 @@ look_back_of (Mute b) = Items 0
 look_back_of (Add b) = Items 0
 look_back_of (Sub b) = Items 0
 look_back_of (Multiply b) = Items 0
+look_back_of (Divide b) = Items 0
 look_back_of (Minimum b) = Items 0
 look_back_of (Maximum b) = Items 0
 look_back_of (And b) = Items 0
@@ -35,6 +37,9 @@ look_back_of (Xor b) = Items 0
 look_back_of (MapBb b) = Items 0
 look_back_of (Table b) = Items 0
 look_back_of (Convert b) = Items 0
+look_back_of (BinarySlicer b) = Items 0
+look_back_of (UlawEncode b) = Items 0
+look_back_of (AlawEncode b) = Items 0
 -- the sum has `length` items, of which the last is taken by the firing
 look_back_of (MovingSum b) = Items (b.length - 1)
 -- a product for each tap, the first with an item that the firing takes
@@ -44,8 +49,14 @@ look_back_of (InterpFir b) = Items (branch_taps b.taps.items b.rate - 1)
 look_back_of (KeepOneInN b) = Items 0
 look_back_of (KeepMInN b) = Items 0
 look_back_of (Integrate b) = Items 0
+look_back_of (FrameMinimum b) = Items 0
+look_back_of (FrameMaximum b) = Items 0
+look_back_of (Argmax b) = Items 0
 look_back_of (Repeat b) = Items 0
 look_back_of (Insert b) = Items 0
+-- its items go on by their number
+look_back_of (Pattern b) = Number
+look_back_of (Counter b) = Number
 look_back_of (Permute b) = Items 0
 look_back_of (Interleave b) = Items 0
 look_back_of (Deinterleave b) = Items 0

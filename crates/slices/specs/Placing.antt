@@ -8,7 +8,7 @@ use Rattle.stream_model.specs.Firings.{taken_at, given_at}
 use Rattle.rate_blocks.specs.Mux.{lengths_of}
 use Rattle.kinds.specs.Kind.{meaning_of, meaning_of-lawful}
 use Rattle.kinds.specs.declared.kind.Kind.{Kind}
-use Rattle.kinds.specs.declared.kind.Kind.TheVariants.{VectorSource, VectorSink, NullSink, AddConst, MultiplyConst, AndConst, OrConst, XorConst, Scale, Clip, Abs, Not, Mute, Add, Sub, Multiply, Minimum, Maximum, And, Or, Xor, MapBb, Table, Convert, MovingSum, Fir, InterpFir, KeepOneInN, KeepMInN, Integrate, Repeat, Insert, Permute, Interleave, Deinterleave, StreamMux, Head, SkipHead, Delay, PackKBits, UnpackKBits, RepackBits, PackedToUnpacked, UnpackedToPacked, DiffEncoder, DiffDecoder, Scrambler, Descrambler, AdditiveScrambler, CorrelateAccessCode}
+use Rattle.kinds.specs.declared.kind.Kind.TheVariants.{VectorSource, VectorSink, NullSink, AddConst, MultiplyConst, DivideConst, AndConst, OrConst, XorConst, Scale, Clip, Abs, Not, Mute, Add, Sub, Multiply, Divide, Minimum, Maximum, And, Or, Xor, MapBb, Table, Convert, BinarySlicer, UlawEncode, AlawEncode, MovingSum, Fir, InterpFir, KeepOneInN, KeepMInN, Integrate, FrameMinimum, FrameMaximum, Argmax, Repeat, Insert, Pattern, Counter, Permute, Interleave, Deinterleave, StreamMux, Head, SkipHead, Delay, PackKBits, UnpackKBits, RepackBits, PackedToUnpacked, UnpackedToPacked, DiffEncoder, DiffDecoder, Scrambler, Descrambler, AdditiveScrambler, CorrelateAccessCode}
 use Rattle.slice_laws.specs.Tags.{Places}
 use Rattle.slice_laws.proofs.Placing.{shaped-places, stream_mux-places, skiphead-places, delay-places}
 use Rattle.slices.specs.declared.look_back.LookBack.TheVariants.{Items}
@@ -65,6 +65,7 @@ look_back_of-places (VectorSink b) is = nearest (VectorSink b) 1 1 (λ p. refl) 
 look_back_of-places (NullSink b) is = nearest (NullSink b) 1 1 (λ p. refl) (λ p s. refl) is
 look_back_of-places (AddConst b) is = nearest (AddConst b) 1 1 (λ p. refl) (λ p s. refl) is
 look_back_of-places (MultiplyConst b) is = nearest (MultiplyConst b) 1 1 (λ p. refl) (λ p s. refl) is
+look_back_of-places (DivideConst b) is = nearest (DivideConst b) 1 1 (λ p. refl) (λ p s. refl) is
 look_back_of-places (AndConst b) is = nearest (AndConst b) 1 1 (λ p. refl) (λ p s. refl) is
 look_back_of-places (OrConst b) is = nearest (OrConst b) 1 1 (λ p. refl) (λ p s. refl) is
 look_back_of-places (XorConst b) is = nearest (XorConst b) 1 1 (λ p. refl) (λ p s. refl) is
@@ -76,6 +77,7 @@ look_back_of-places (Mute b) is = nearest (Mute b) 1 1 (λ p. refl) (λ p s. ref
 look_back_of-places (Add b) is = nearest (Add b) 1 1 (λ p. refl) (λ p s. refl) is
 look_back_of-places (Sub b) is = nearest (Sub b) 1 1 (λ p. refl) (λ p s. refl) is
 look_back_of-places (Multiply b) is = nearest (Multiply b) 1 1 (λ p. refl) (λ p s. refl) is
+look_back_of-places (Divide b) is = nearest (Divide b) 1 1 (λ p. refl) (λ p s. refl) is
 look_back_of-places (Minimum b) is = nearest (Minimum b) 1 1 (λ p. refl) (λ p s. refl) is
 look_back_of-places (Maximum b) is = nearest (Maximum b) 1 1 (λ p. refl) (λ p s. refl) is
 look_back_of-places (And b) is = nearest (And b) 1 1 (λ p. refl) (λ p s. refl) is
@@ -84,14 +86,22 @@ look_back_of-places (Xor b) is = nearest (Xor b) 1 1 (λ p. refl) (λ p s. refl)
 look_back_of-places (MapBb b) is = nearest (MapBb b) 1 1 (λ p. refl) (λ p s. refl) is
 look_back_of-places (Table b) is = nearest (Table b) 1 1 (λ p. refl) (λ p s. refl) is
 look_back_of-places (Convert b) is = nearest (Convert b) 1 1 (λ p. refl) (λ p s. refl) is
+look_back_of-places (BinarySlicer b) is = nearest (BinarySlicer b) 1 1 (λ p. refl) (λ p s. refl) is
+look_back_of-places (UlawEncode b) is = nearest (UlawEncode b) 1 1 (λ p. refl) (λ p s. refl) is
+look_back_of-places (AlawEncode b) is = nearest (AlawEncode b) 1 1 (λ p. refl) (λ p s. refl) is
 look_back_of-places (MovingSum b) is = nearest (MovingSum b) 1 1 (λ p. refl) (λ p s. refl) is
 look_back_of-places (Fir b) is = nearest (Fir b) b.rate 1 (λ p. refl) (λ p s. refl) is
 look_back_of-places (InterpFir b) is = nearest (InterpFir b) 1 b.rate (λ p. refl) (λ p s. refl) is
 look_back_of-places (KeepOneInN b) is = nearest (KeepOneInN b) b.n 1 (λ p. refl) (λ p s. refl) is
 look_back_of-places (KeepMInN b) is = nearest (KeepMInN b) b.n b.m (λ p. refl) (λ p s. refl) is
 look_back_of-places (Integrate b) is = nearest (Integrate b) b.n 1 (λ p. refl) (λ p s. refl) is
+look_back_of-places (FrameMinimum b) is = nearest (FrameMinimum b) b.n 1 (λ p. refl) (λ p s. refl) is
+look_back_of-places (FrameMaximum b) is = nearest (FrameMaximum b) b.n 1 (λ p. refl) (λ p s. refl) is
+look_back_of-places (Argmax b) is = nearest (Argmax b) b.n 1 (λ p. refl) (λ p s. refl) is
 look_back_of-places (Repeat b) is = nearest (Repeat b) 1 b.n (λ p. refl) (λ p s. refl) is
 look_back_of-places (Insert b) is = nearest (Insert b) (b.period - length b.values.items) b.period (λ p. refl) (λ p s. refl) is
+look_back_of-places (Pattern b) is = absurd (cc)
+look_back_of-places (Counter b) is = absurd (cc)
 look_back_of-places (Permute b) is = nearest (Permute b) (length b.order.items) (length b.order.items) (λ p. refl) (λ p s. refl) is
 look_back_of-places (Interleave b) is = nearest (Interleave b) 1 b.ports.value (λ p. refl) (λ p s. refl) is
 look_back_of-places (Deinterleave b) is = nearest (Deinterleave b) b.ports.value 1 (λ p. refl) (λ p s. refl) is

@@ -31,7 +31,9 @@ impl Forgets for Kind {
     fn look_back(&self) -> LookBack {
         match self {
             Kind::DiffEncoder(_) | Kind::Scrambler(_) => LookBack::Everything,
-            Kind::Head(_) | Kind::AdditiveScrambler(_) => LookBack::Number,
+            Kind::Head(_) | Kind::AdditiveScrambler(_) | Kind::Pattern(_) | Kind::Counter(_) => {
+                LookBack::Number
+            }
             Kind::Descrambler(_) => LookBack::Items(MOST_BITS),
             _ => shown(self),
         }

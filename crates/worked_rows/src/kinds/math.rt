@@ -5,7 +5,7 @@ ghost use Rattle.stream_model.specs.declared.vocabulary.ItemType.TheVariants.{By
 ghost use Rattle.stream_model.specs.Settings.{Number};
 ghost use Rattle.stream_model.specs.Network.{fires, stream_from};
 ghost use Rattle.worked_rows.specs.Kinds.{numbers, set_at, alone, output_of, output_under, output_in_cuts};
-ghost use Rattle.kind_model.specs.Math.{add_const, multiply_const, and_const, or_const, xor_const, scale, add, multiply, sub, minimum, maximum, and_of, or_of, xor_of, not_of, abs, clip, mute, map_bb, table, convert, moving_sum};
+ghost use Rattle.kind_model.specs.Math.{add_const, multiply_const, divide_const, divide, binary_slicer, ulaw_encode, alaw_encode, and_const, or_const, xor_const, scale, add, multiply, sub, minimum, maximum, and_of, or_of, xor_of, not_of, abs, clip, mute, map_bb, table, convert, moving_sum};
 
 /// The rows, each with what it is about above its clauses.
 pub fn rows()
@@ -38,6 +38,18 @@ pub fn rows()
         ≡ numbers (44 ∷ []) }
     ensures multiplies_cut { output_in_cuts (multiply_const Byte (pos 3)) [] (numbers (100 ∷ []) ∷ []) 0
         ≡ numbers (44 ∷ []) }
+
+    // Over -2, without what is behind the point; over 0, and the least short over -1.
+    ensures divides_by_a_constant_whole { output_of (divide_const Short (negsuc 1)) ((pos 7 ∷ negsuc 6 ∷ negsuc 32767 ∷ []) ∷ []) 0
+        ≡ negsuc 2 ∷ pos 3 ∷ pos 16384 ∷ [] }
+    ensures divides_by_a_constant_none { output_of (divide_const Int (pos 0)) ((pos 7 ∷ negsuc 6 ∷ []) ∷ []) 0
+        ≡ pos 0 ∷ pos 0 ∷ [] }
+    ensures divides_by_a_constant_least { output_of (divide_const Short (negsuc 0)) ((negsuc 32767 ∷ []) ∷ []) 0
+        ≡ negsuc 32767 ∷ [] }
+    ensures divides_by_a_constant_set { output_under (divide_const Byte (pos 2))
+        (set_at 1 (Number (pos 3)) ∷ []) (numbers (9 ∷ 10 ∷ []) ∷ []) 0 ≡ numbers (4 ∷ 3 ∷ []) }
+    ensures divides_by_a_constant_cut { output_in_cuts (divide_const Byte (pos 3)) [] (numbers (100 ∷ 2 ∷ []) ∷ []) 0
+        ≡ numbers (33 ∷ 0 ∷ []) }
 
     // The bits of 12 and 10 as numbers of one, and of -1 and 5.
     ensures joins_constant_bits_and { output_of (and_const Byte (pos 10)) (numbers (12 ∷ 255 ∷ []) ∷ []) 0
@@ -88,6 +100,18 @@ pub fn rows()
         ≡ negsuc 4 ∷ negsuc 32767 ∷ [] }
     ensures subtracts_inputs_cut { output_in_cuts (sub Byte)
         [] (numbers (10 ∷ 3 ∷ []) ∷ numbers (3 ∷ 10 ∷ []) ∷ []) 0 ≡ numbers (7 ∷ 249 ∷ []) }
+
+    // The first input over the second, and that over the third.
+    ensures divides_inputs_whole { output_of (divide Short)
+        ((pos 100 ∷ negsuc 99 ∷ []) ∷ (pos 7 ∷ pos 7 ∷ []) ∷ (pos 3 ∷ negsuc 2 ∷ []) ∷ []) 0
+        ≡ pos 4 ∷ pos 4 ∷ [] }
+    ensures divides_inputs_none { output_of (divide Byte) (numbers (7 ∷ 9 ∷ []) ∷ numbers (0 ∷ 4 ∷ []) ∷ []) 0
+        ≡ numbers (0 ∷ 2 ∷ []) }
+    ensures divides_inputs_least { output_of (divide Int) ((negsuc 2147483647 ∷ []) ∷ (negsuc 0 ∷ []) ∷ []) 0
+        ≡ negsuc 2147483647 ∷ [] }
+    ensures divides_inputs_one { output_of (divide Short) ((negsuc 8 ∷ []) ∷ []) 0 ≡ negsuc 8 ∷ [] }
+    ensures divides_inputs_cut { output_in_cuts (divide Byte)
+        [] (numbers (200 ∷ 6 ∷ []) ∷ numbers (3 ∷ 7 ∷ []) ∷ []) 0 ≡ numbers (66 ∷ 0 ∷ []) }
 
     // Item by item, below 0 too.
     ensures chooses_the_least { output_of (minimum Short)
@@ -141,6 +165,24 @@ pub fn rows()
         ≡ negsuc 2 ∷ pos 300 ∷ pos 300 ∷ pos 300 ∷ [] }
     ensures gives_numbers_cut { output_in_cuts (table Int (pos 70000 ∷ negsuc 0 ∷ [])) [] (numbers (1 ∷ 0 ∷ []) ∷ []) 0
         ≡ negsuc 0 ∷ pos 70000 ∷ [] }
+
+    // At the threshold, above it and below.
+    ensures slices_whole { output_of (binary_slicer Short (pos 5)) ((pos 5 ∷ pos 6 ∷ pos 4 ∷ negsuc 32767 ∷ []) ∷ []) 0
+        ≡ numbers (1 ∷ 1 ∷ 0 ∷ 0 ∷ []) }
+    ensures slices_cut { output_in_cuts (binary_slicer Int (negsuc 0)) [] ((negsuc 1 ∷ negsuc 0 ∷ []) ∷ []) 0
+        ≡ numbers (0 ∷ 1 ∷ []) }
+
+    // At 0 and beside it, in the segments between, at the ends, and an int that is no short.
+    ensures encodes_by_the_mu_law { output_of (ulaw_encode Short)
+        ((pos 0 ∷ negsuc 0 ∷ pos 123 ∷ pos 124 ∷ negsuc 1123 ∷ pos 32767 ∷ negsuc 32767 ∷ []) ∷ []) 0
+        ≡ numbers (255 ∷ 127 ∷ 240 ∷ 239 ∷ 76 ∷ 128 ∷ 0 ∷ []) }
+    ensures encodes_by_the_mu_law_cut { output_in_cuts (ulaw_encode Int) [] ((pos 70000 ∷ negsuc 69999 ∷ []) ∷ []) 0
+        ≡ numbers (128 ∷ 0 ∷ []) }
+    ensures encodes_by_the_a_law { output_of (alaw_encode Short)
+        ((pos 0 ∷ negsuc 0 ∷ negsuc 7 ∷ pos 255 ∷ pos 256 ∷ negsuc 1007 ∷ pos 32767 ∷ negsuc 32767 ∷ []) ∷ []) 0
+        ≡ numbers (213 ∷ 85 ∷ 85 ∷ 218 ∷ 197 ∷ 122 ∷ 170 ∷ 42 ∷ []) }
+    ensures encodes_by_the_a_law_cut { output_in_cuts (alaw_encode Int) [] ((pos 70000 ∷ negsuc 69999 ∷ []) ∷ []) 0
+        ≡ numbers (170 ∷ 42 ∷ []) }
 
     // Bytes past the end of the table stay.
     ensures looks_up_whole { output_of (map_bb (numbers (5 ∷ 6 ∷ [])))

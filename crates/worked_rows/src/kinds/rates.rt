@@ -1,10 +1,10 @@
 //! Worked rows of the kinds that change a rate, take turns or move a stream.
 
-ghost use Rattle.std.specs.Prelude.{◌≡◌, pos, [], ◌∷◌, map};
-ghost use Rattle.stream_model.specs.declared.vocabulary.ItemType.TheVariants.{Byte};
+ghost use Rattle.std.specs.Prelude.{◌≡◌, pos, negsuc, [], ◌∷◌, map};
+ghost use Rattle.stream_model.specs.declared.vocabulary.ItemType.TheVariants.{Byte, Short};
 ghost use Rattle.stream_model.specs.Lists.{numbers_from};
 ghost use Rattle.worked_rows.specs.Kinds.{numbers, output_of, output_in_cuts, firings_of};
-ghost use Rattle.kind_model.specs.Rates.{keep_one_in_n, keep_m_in_n, insert, permute, integrate, repeat, interleave, deinterleave, head, skiphead, delay, stream_mux};
+ghost use Rattle.kind_model.specs.Rates.{keep_one_in_n, keep_m_in_n, insert, permute, frame_minimum, frame_maximum, argmax, pattern, counter, integrate, repeat, interleave, deinterleave, head, skiphead, delay, stream_mux};
 
 /// The rows, each with what it is about above its clauses.
 pub fn rows()
@@ -41,6 +41,26 @@ pub fn rows()
         ≡ numbers (44 ∷ 11 ∷ []) }
     ensures integrates_cut { output_in_cuts (integrate Byte 2) [] (numbers (200 ∷ 100 ∷ 5 ∷ 6 ∷ 7 ∷ []) ∷ []) 0
         ≡ numbers (44 ∷ 11 ∷ []) }
+
+    // The least and the greatest of three, and where the first of the greatest is; what is no whole frame stays.
+    ensures chooses_the_least { output_of (frame_minimum Short 3)
+        ((pos 4 ∷ negsuc 1 ∷ pos 9 ∷ pos 5 ∷ pos 6 ∷ pos 7 ∷ pos 1 ∷ []) ∷ []) 0 ≡ negsuc 1 ∷ pos 5 ∷ [] }
+    ensures chooses_the_greatest { output_of (frame_maximum Short 3)
+        ((pos 4 ∷ negsuc 1 ∷ pos 9 ∷ negsuc 4 ∷ negsuc 5 ∷ negsuc 6 ∷ pos 1 ∷ []) ∷ []) 0 ≡ pos 9 ∷ negsuc 4 ∷ [] }
+    ensures chooses_in_cuts { output_in_cuts (frame_maximum Byte 2) [] (numbers (1 ∷ 2 ∷ 9 ∷ 3 ∷ 5 ∷ []) ∷ []) 0
+        ≡ numbers (2 ∷ 9 ∷ []) }
+    ensures tells_places_whole { output_of (argmax Short 3)
+        ((pos 4 ∷ negsuc 1 ∷ pos 9 ∷ negsuc 4 ∷ pos 8 ∷ pos 8 ∷ []) ∷ []) 0 ≡ pos 2 ∷ pos 1 ∷ [] }
+    ensures tells_places_cut { output_in_cuts (argmax Byte 2) [] (numbers (3 ∷ 3 ∷ 0 ∷ 9 ∷ []) ∷ []) 0
+        ≡ numbers (0 ∷ 1 ∷ []) }
+
+    // Three values again and again, and numbers modulo 3, whatever comes.
+    ensures repeats_a_pattern_whole { output_of (pattern Byte (numbers (7 ∷ 8 ∷ 9 ∷ []))) (numbers (1 ∷ 1 ∷ 1 ∷ 1 ∷ 1 ∷ []) ∷ []) 0
+        ≡ numbers (7 ∷ 8 ∷ 9 ∷ 7 ∷ 8 ∷ []) }
+    ensures repeats_a_pattern_cut { output_in_cuts (pattern Byte (numbers (7 ∷ 8 ∷ []))) [] (numbers (0 ∷ 5 ∷ 0 ∷ []) ∷ []) 0
+        ≡ numbers (7 ∷ 8 ∷ 7 ∷ []) }
+    ensures counts_whole { output_of (counter Byte 3) (numbers (9 ∷ 9 ∷ 9 ∷ 9 ∷ []) ∷ []) 0 ≡ numbers (0 ∷ 1 ∷ 2 ∷ 0 ∷ []) }
+    ensures counts_cut { output_in_cuts (counter Byte 2) [] (numbers (5 ∷ 6 ∷ 7 ∷ []) ∷ []) 0 ≡ numbers (0 ∷ 1 ∷ 0 ∷ []) }
 
     // Two values in each five, after the first of them.
     ensures inserts_whole { output_of (insert Byte (numbers (9 ∷ 8 ∷ [])) 5 1)

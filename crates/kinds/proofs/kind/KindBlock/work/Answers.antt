@@ -33,6 +33,9 @@ returns-in-Sub-clause-word c = rw c.in-Sub.is c.work-in-Sub.ensures.word
 pub returns-in-Multiply-clause-word : goal.returns-in-Multiply-clause-word
 returns-in-Multiply-clause-word c = rw c.in-Multiply.is c.work-in-Multiply.ensures.word
 
+pub returns-in-Divide-clause-word : goal.returns-in-Divide-clause-word
+returns-in-Divide-clause-word c = rw c.in-Divide.is c.work-in-Divide.ensures.word
+
 pub returns-in-Minimum-clause-word : goal.returns-in-Minimum-clause-word
 returns-in-Minimum-clause-word c = rw c.in-Minimum.is c.work-in-Minimum.ensures.word
 
@@ -57,6 +60,15 @@ returns-in-Table-clause-word c = rw c.in-Table.is c.work-in-Table.ensures.word
 pub returns-in-Convert-clause-word : goal.returns-in-Convert-clause-word
 returns-in-Convert-clause-word c = rw c.in-Convert.is c.work-in-Convert.ensures.word
 
+pub returns-in-BinarySlicer-clause-word : goal.returns-in-BinarySlicer-clause-word
+returns-in-BinarySlicer-clause-word c = rw c.in-BinarySlicer.is c.work-in-BinarySlicer.ensures.word
+
+pub returns-in-UlawEncode-clause-word : goal.returns-in-UlawEncode-clause-word
+returns-in-UlawEncode-clause-word c = rw c.in-UlawEncode.is c.work-in-UlawEncode.ensures.word
+
+pub returns-in-AlawEncode-clause-word : goal.returns-in-AlawEncode-clause-word
+returns-in-AlawEncode-clause-word c = rw c.in-AlawEncode.is c.work-in-AlawEncode.ensures.word
+
 pub returns-in-MovingSum-clause-word : goal.returns-in-MovingSum-clause-word
 returns-in-MovingSum-clause-word c = rw c.in-MovingSum.is c.work-in-MovingSum.ensures.word
 
@@ -75,11 +87,26 @@ returns-in-KeepMInN-clause-word c = rw c.in-KeepMInN.is c.work-in-KeepMInN.ensur
 pub returns-in-Integrate-clause-word : goal.returns-in-Integrate-clause-word
 returns-in-Integrate-clause-word c = rw c.in-Integrate.is c.work-in-Integrate.ensures.word
 
+pub returns-in-FrameMinimum-clause-word : goal.returns-in-FrameMinimum-clause-word
+returns-in-FrameMinimum-clause-word c = rw c.in-FrameMinimum.is c.work-in-FrameMinimum.ensures.word
+
+pub returns-in-FrameMaximum-clause-word : goal.returns-in-FrameMaximum-clause-word
+returns-in-FrameMaximum-clause-word c = rw c.in-FrameMaximum.is c.work-in-FrameMaximum.ensures.word
+
+pub returns-in-Argmax-clause-word : goal.returns-in-Argmax-clause-word
+returns-in-Argmax-clause-word c = rw c.in-Argmax.is c.work-in-Argmax.ensures.word
+
 pub returns-in-Repeat-clause-word : goal.returns-in-Repeat-clause-word
 returns-in-Repeat-clause-word c = rw c.in-Repeat.is c.work-in-Repeat.ensures.word
 
 pub returns-in-Insert-clause-word : goal.returns-in-Insert-clause-word
 returns-in-Insert-clause-word c = rw c.in-Insert.is c.work-in-Insert.ensures.word
+
+pub returns-in-Pattern-clause-word : goal.returns-in-Pattern-clause-word
+returns-in-Pattern-clause-word c = rw c.in-Pattern.is c.work-in-Pattern.ensures.word
+
+pub returns-in-Counter-clause-word : goal.returns-in-Counter-clause-word
+returns-in-Counter-clause-word c = rw c.in-Counter.is c.work-in-Counter.ensures.word
 
 pub returns-in-Permute-clause-word : goal.returns-in-Permute-clause-word
 returns-in-Permute-clause-word c = rw c.in-Permute.is c.work-in-Permute.ensures.word

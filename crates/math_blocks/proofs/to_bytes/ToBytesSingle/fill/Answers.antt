@@ -1,0 +1,6 @@
+use Rattle.std.proofs.Common.{subst}
+use Rattle.block_kinds.specs.Fill.{HasFilled}
+use Rattle.math_blocks.proofs.to_bytes.ToBytesSingle.fill.Goals as goal
+
+pub returns-clause-items : goal.returns-clause-items
+returns-clause-items g c = subst (λ m. HasFilled m c.args.batch.now c.fill_bytes.new.out) (g.met.M.MakesByte.is_made c.args.self.now.makes) c.fill_bytes.ensures.items
