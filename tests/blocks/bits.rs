@@ -109,3 +109,43 @@ fn parameters(rt: HostRuntime) -> Result<(), Fail> {
     }
     Ok(())
 }
+
+// Registers of bits, a mask and what they hold, and what they hold behind so many items. One of 3 bits goes round in 7 steps, 1, 3, 7, 6, 5, 2, 4, and one of 2 bits in 3 steps,
+// 1, 3, 2: 2^32 is 4 modulo 7, 2^64 - 1 is 1, and 2^40 is 1 modulo 3. One that sums its last place alone turns its bits about.
+const LATER: [(u32, u64, u64, u64, u64); 18] = [
+    (3, 5, 1, 0, 1),
+    (3, 5, 1, 1, 3),
+    (3, 5, 1, 6, 4),
+    (3, 5, 1, 7, 1),
+    (3, 5, 1, 1 << 32, 5),
+    (3, 5, 1, u64::MAX, 3),
+    (3, 5, 0, 1_000_000, 0),
+    (2, 3, 1, 2, 2),
+    (2, 3, 1, 1 << 40, 3),
+    (32, 1 << 31, 0x8000_0001, 1, 3),
+    (32, 1 << 31, 0x8000_0001, 33, 3),
+    (32, 1 << 31, 0x8000_0001, 1 << 63, 0x8000_0001),
+    (31, 1 << 30, 0x4000_0001, 1, 3),
+    (31, 1 << 30, 5, 31 << 40, 5),
+    // The newest bit comes again and again.
+    (32, 1, 1, 30, 0x7fff_ffff),
+    (32, 1, 1, 31, 0xffff_ffff),
+    (32, 1, 0xffff_fffe, 31, 0),
+    // An even number of ones gives none.
+    (32, 0xffff_ffff, 0xffff_ffff, 2, 0xffff_fffd),
+];
+
+#[test]
+fn an_additive_scrambler_goes_on(rt: HostRuntime) -> Result<(), Fail> {
+    for (bits, mask, init, items, held) in LATER {
+        let Ok(first) = Register::new(bits, mask, init) else {
+            panic!(rt; "a register");
+        };
+        let Ok(then) = Register::new(bits, mask, held) else {
+            panic!(rt; "a register");
+        };
+        let later = AdditiveScrambler::new(first).after(items);
+        assert_eq!(rt; later, AdditiveScrambler::new(then), "{bits} bits behind {items} items");
+    }
+    Ok(())
+}

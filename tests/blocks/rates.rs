@@ -48,3 +48,14 @@ fn rates(rt: HostRuntime) -> Result<(), Fail> {
     assert!(rt; is_bad(Delay::new(Byte, 65_537), Parameter::N));
     Ok(())
 }
+
+#[test]
+fn a_head_goes_on(rt: HostRuntime) -> Result<(), Fail> {
+    for (n, items, left) in [(5, 0, 5), (5, 1, 4), (5, 5, 0), (5, 6, 0), (0, 9, 0), (1 << 32, 1, (1 << 32) - 1), (1 << 32, u64::MAX, 0)] {
+        let (Ok(first), Ok(then)) = (Head::new(Short, n), Head::new(Short, left)) else {
+            panic!(rt; "a head");
+        };
+        assert_eq!(rt; first.after(items), then, "{n} behind {items}");
+    }
+    Ok(())
+}
