@@ -10,8 +10,9 @@ zsh_folder=share/zsh/site-functions
 list=/dev/null
 # The pages and pictures of docs/ for users.
 pages=(
-    user/{C,COMMANDS,COVERAGE,FILES,FOR_GNU_RADIO_USERS,KINDS,REFUSALS,SPEED,STUDIO}.md contribute/GLOSSARY.md
+    user/{C,COMMANDS,COVERAGE,FILES,FOR_GNU_RADIO_USERS,KINDS,REFUSALS,SPEED,STUDIO,TUTORIAL}.md contribute/GLOSSARY.md
     user/{echo,trace}.svg user/studio_{file,signal}.png
+    user/tutorial_{step_{1,2,3,4,5},filter,frequency,levels,frames,text,errors}.svg
 )
 # Whether /usr/bin/flow is left to Debian's alternatives, which the package's script sets.
 has_alternatives=0

@@ -178,7 +178,8 @@ program_files() {
         share/zsh/vendor-completions/_flow{,-from-grc} share/fish/vendor_completions.d/flow{,-from-grc}.fish
     (cd -- "$top/python" && find flow_from_grc -name '*.py' -printf 'usr/share/magbelu/%p\n')
     # (dpkg wants long pages compressed, but for examples and pictures)
-    printf 'usr/share/doc/magbelu/%s\n' {C,COMMANDS,COVERAGE,FILES,FOR_GNU_RADIO_USERS,GLOSSARY,KINDS,REFUSALS,SPEED,STUDIO}.md.gz {echo,trace}.svg studio_{file,signal}.png
+    printf 'usr/share/doc/magbelu/%s\n' {C,COMMANDS,COVERAGE,FILES,FOR_GNU_RADIO_USERS,GLOSSARY,KINDS,REFUSALS,SPEED,STUDIO,TUTORIAL}.md.gz {echo,trace}.svg studio_{file,signal}.png \
+        tutorial_{step_{1,2,3,4,5},filter,frequency,levels,frames,text,errors}.svg
     (cd -- "$top" && find examples -path examples/embed -prune -o -type f ! -name '*.pyc' -printf 'usr/share/doc/magbelu/%p\n')
 }
 

@@ -171,7 +171,7 @@ make_man_page() {
 make_shown() {
     local folder page shown=$1
     for folder in "$top"/examples/*/; do
-        # (a folder without one has a program, which tests/programs.sh runs)
+        # (what a folder without one has is run by another test)
         if [[ -e ${folder}graph.toml ]]; then
             make_example "${folder%/}"
         fi
@@ -183,6 +183,9 @@ make_shown() {
     fi
     make_man_page
     for page in "$top"/README.md "$top"/docs/*/*.md "$top"/examples/*/README.md; do
-        make_calls_of "$page"
+        # (that page's calls go on from one another, so received.sh runs them)
+        if [[ $page != */TUTORIAL.md ]]; then
+            make_calls_of "$page"
+        fi
     done
 }
