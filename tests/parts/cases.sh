@@ -1,6 +1,6 @@
 #!/usr/bin/env bash
 # Calls of the program: those of tests/cases, those of the folders of examples/, and those that pages show, all over one build of it, unproved; and runs between
-# pipes, behind redirections, beside a silent input, on a terminal, and with a trace; and runs in slices by the scripts of examples/cluster. A call is a folder as tests/README.md describes;
+# pipes, behind redirections, beside a silent input, on a terminal, and with a trace; runs in slices by the scripts of examples/cluster; and the receiver of examples/receiver. A call is a folder as tests/README.md describes;
 # those of examples and pages are made here. A run is made a second time on one thread, and has to end in the same way.
 set -euo pipefail
 # shellcheck source=tests/part.sh
@@ -13,6 +13,8 @@ source "$top/tests/parts/redirected.sh"
 source "$top/tests/parts/silent.sh"
 # shellcheck source=tests/parts/clustered.sh
 source "$top/tests/parts/clustered.sh"
+# shellcheck source=tests/parts/received.sh
+source "$top/tests/parts/received.sh"
 
 # Of each case the folder that describes it.
 declare -A folder_of=()
@@ -57,7 +59,8 @@ list() {
     for folder in "${made[@]}"; do
         add "$folder" "$1/$folder"
     done
-    printf '%s\n' "${pipes[@]}" "${terminals[@]}" "${names[@]}" "${drawn[@]}" "${traces[@]}" "${redirected[@]/#/redirected/}" "${silent[@]/#/silent/}" "${clustered[@]/#/cluster/}"
+    printf '%s\n' "${pipes[@]}" "${terminals[@]}" "${names[@]}" "${drawn[@]}" "${traces[@]}" "${redirected[@]/#/redirected/}" "${silent[@]/#/silent/}" "${clustered[@]/#/cluster/}" \
+        "${received[@]/#/receiver/}"
 }
 
 # word_of FOLDER WORD: prints the word as the program gets it, which runs in a folder of its own: where it is a file, or NAME=FILE, of the case or of
@@ -123,6 +126,8 @@ call_all() {
         done
         if [[ $it == cluster/* ]]; then
             clustered "$it" &
+        elif [[ $it == receiver/* ]]; then
+            received "$it" &
         elif ! is_own "$it"; then
             call "$it" &
         fi
@@ -328,8 +333,8 @@ run() {
             left_out "$it" <<<"there is no python3 to read it"
         elif [[ $it == terminals/* ]] && ! command -v script >/dev/null; then
             left_out "$it" <<<"there is no command script to make a terminal"
-        elif [[ $it == cluster/* ]]; then
-            tell_clustered "$it"
+        elif [[ $it == @(cluster|receiver)/* ]]; then
+            tell_kept "$it"
         elif [[ $it == redirected/* ]]; then
             judge "$it" redirected "${it#*/}"
         elif [[ $it == silent/* ]]; then

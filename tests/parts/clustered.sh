@@ -55,8 +55,8 @@ clustered() {
     echo "$status" >"$came/status"
 }
 
-# tell_clustered CASE: says how it ended
-tell_clustered() {
+# tell_kept CASE: says how a case ended whose words and status are kept
+tell_kept() {
     local came=$room/came/$1/came
     case $(<"$came/status") in
     0) passed "$1" ;;
