@@ -1,3 +1,4 @@
+pub mod Counted
 pub mod Extents
 pub mod Idles
 pub mod Owning

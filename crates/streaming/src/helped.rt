@@ -17,8 +17,8 @@ use std::alloc::{AllocError, Global};
 // How often a round with helpers looks at each block. A sink takes at most what its buffer holds each time, so that this bounds what a round adds to it.
 const LOOKS: u32 = 256;
 
-/// Steps each block once, and returns whether one moved on. Where helpers are called, it then has them work until nobody has anything to do, or for as many looks at
-/// each block as there may be. When it returns, nothing is in flight.
+/// Steps each block once, and returns whether one moved on. Where helpers are called, it then has them work until nobody has anything to do, or the caller is
+/// wanted elsewhere, or for as many looks at each block as there may be. When it returns, nothing is in flight.
 pub(crate) fn helped_round<B: Block, H: Helpers<Job<B>, Worked<B>>>(
     parts: &mut Parts<B>,
     alloc: Global,
@@ -79,7 +79,7 @@ fn look_again<B: Block, H: Helpers<Job<B>, Worked<B>>>(
     Ok(())
 }
 
-// Looks at each block once, and returns whether something was done or given away.
+// Looks at each block once, and returns whether something was done or given away: nothing where the caller is wanted elsewhere.
 fn look<B: Block, H: Helpers<Job<B>, Worked<B>>>(
     parts: &mut Parts<B>,
     alloc: Global,
@@ -92,6 +92,9 @@ fn look<B: Block, H: Helpers<Job<B>, Worked<B>>>(
 {
     let mut acted = false;
     for block in 0..parts.graph.len() {
+        if helpers.is_called_away() {
+            return Ok(false);
+        }
         let took = take_done(parts, helpers);
         let did = act(parts, alloc, BlockId(block as u32), max, helpers)?;
         acted = acted || took || did;

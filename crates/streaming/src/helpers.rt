@@ -15,6 +15,11 @@ pub trait Helpers<J, W>: Watch {
     /// Whether there is work that they could do.
     fn are_called(&self) -> bool;
 
+    /// Whether the caller is wanted elsewhere. Then the round ends, once all that they were given has come back.
+    fn is_called_away(&self) -> bool {
+        false
+    }
+
     /// How many firings of a block they are to be given at once. With `None` the caller steps it.
     fn share(&mut self, block: BlockId) -> Option<u32>;
 

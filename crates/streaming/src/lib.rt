@@ -18,12 +18,14 @@ pub mod draining;
 mod forgetting;
 mod helped;
 pub mod helpers;
+pub mod levels;
 mod memory;
 pub mod streaming_plant;
 
 pub use draining::Appended;
 pub use flowgraph::{Block, BlockId, Valid};
 pub use helpers::{Helpers, NoHelpers};
+pub use levels::Levels;
 pub use plant::{
     BlockNeed, Closed, Fed, Headway, Job, Need, Piece, PlantFault, Settled, Step, Taken, Unwatched,
     Watch, Worked,

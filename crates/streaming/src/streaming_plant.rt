@@ -26,6 +26,7 @@ ghost use Rattle.plant.specs.Headway.{headway_shown};
 ghost use Rattle.plant.specs.Settling.{StepsLead, HasMoved, HasSettled, HoldsSettled};
 ghost use Rattle.plant.specs.Waits.{need_of, wait_in};
 ghost use Rattle.streaming.specs.Draining.{HasRoom, IsAtSink, MayBeRefused, drain_fault, end_of, items_taken, tags_taken};
+ghost use Rattle.streaming.specs.Levels.{levels_at};
 ghost use Rattle.streaming.specs.Streaming.{GoesOn, HasDrainedTo, KeepsNoTaken, StaysBegun, drained, settings_kept, streaming_opening, tags_into, tape_kept};
 ghost use Rattle.streaming.specs.Working.{HasWorked};
 
@@ -33,6 +34,7 @@ use crate::draining::{Appended, consume, drain, drain_into, peek};
 use crate::forgetting::forget_taken;
 use crate::helped::helped_round;
 use crate::helpers::Helpers;
+use crate::levels::{Levels, read_levels};
 use crate::memory::{items_in_memory, settings_in_memory, tags_in_memory};
 use firings::BlockNeed;
 use flowgraph::{Block, BlockId, Valid};
@@ -314,6 +316,14 @@ impl<B: Block> StreamingPlant<B> {
         ensures { wait_in result ≡ need_of (net_of B.meaning self.now.plant.graph) self.now.plant.capacities self.now.plant.state block.0 }
     {
         self.parts.need(block)
+    }
+
+    /// How far a block is: what it has taken of its first input, what it has given, and what has come to that input and is not taken. `NoSuchBlock` is refused.
+    /// Nothing changes, and it takes no memory.
+    pub fn levels(&self, block: BlockId) -> Result<Levels, PlantFault>
+        ensures { result ≡ levels_at (net_of B.meaning self.now.plant.graph) self.now.plant.state block.0 }
+    {
+        read_levels(&self.parts, block)
     }
 
     /// How many items all sources were fed, and how many of these they have given, with those that are forgotten: where the numbers grow beyond 64 bits, they
