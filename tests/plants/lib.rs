@@ -3,6 +3,7 @@
 //! memory enough.
 
 mod ample;
+mod asked;
 mod balanced;
 mod calls;
 mod drawn;

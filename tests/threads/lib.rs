@@ -2,6 +2,7 @@
 //! Each waits for a bounded time at most.
 
 mod adaptive;
+mod callers;
 mod desks;
 mod drawn;
 mod ends;

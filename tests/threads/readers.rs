@@ -113,6 +113,30 @@ impl Gate {
     }
 }
 
+// Waits until there is something for a source.
+fn wait_for<R: Host>(rt: &R, threads: &mut ReaderThreads<Gated<R>, R>, source: usize) {
+    for _ in rt.forever() {
+        if threads.is_ready(BlockId(source as u32)) {
+            return;
+        }
+        threads.wait();
+    }
+}
+
+#[test]
+fn a_wait_ends_where_somebody_rings(rt: HostRuntime) -> Result<(), Fail> {
+    let alloc = rt.alloc();
+    let mut threads = ReaderThreads::new(rt, alloc, 1)?;
+    let gate = Arc::new(alloc, Gate { is_open: Mutex::new(false), opened: Condvar::new() })?;
+    let _reader = threads.start(alloc, BlockId(0), Gated { rt, gate: share(&rt, &gate) })?;
+    threads.bell()?.ring(&rt);
+    threads.wait();
+    assert!(rt; !threads.is_ready(BlockId(0)), "the source is silent");
+    threads.finish();
+    gate.open(&rt);
+    Ok(())
+}
+
 #[test]
 fn a_wait_ends_with_the_first_that_has_something(rt: HostRuntime) -> Result<(), Fail> {
     let alloc = rt.alloc();
@@ -130,16 +154,17 @@ fn a_wait_ends_with_the_first_that_has_something(rt: HostRuntime) -> Result<(), 
         }
         assert!(rt; threads.is_ready(BlockId(3)), "nothing reads for the last");
         gates[first].open(&rt);
-        threads.wait();
+        wait_for(&rt, &mut threads, first);
         for source in 0..3 {
             assert_eq!(rt; threads.is_ready(BlockId(source as u32)), source == first);
         }
         for gate in &gates {
             gate.open(&rt);
         }
-        // None of the two others is waited for in vain, nor is anybody where none was asked for.
-        threads.wait();
-        threads.wait();
+        // None of the two others is waited for in vain.
+        for source in 0..3 {
+            wait_for(&rt, &mut threads, source);
+        }
         threads.finish();
     }
     Ok(())

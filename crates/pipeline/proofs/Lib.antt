@@ -11,3 +11,4 @@ pub mod Moving
 pub mod Faulting
 pub mod Noting
 pub mod Awaiting
+pub mod Speaking

@@ -7,3 +7,4 @@ pub mod Steps
 pub mod Asking
 pub mod Joining
 pub mod Faults
+pub mod Requests

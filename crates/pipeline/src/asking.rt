@@ -1,39 +1,49 @@
 //! Which source of a pipeline is read next.
 
-ghost use Rattle.std.specs.Prelude.{◌≡◌, ◌<◌, ◌≤◌, ℕ, length, true, IfNone, IfSome};
+ghost use Rattle.std.specs.Prelude.{◌≡◌, ◌<◌, ◌≤◌, ℕ, length, true, IfNone, IfOk, IfSome};
 ghost use Rattle.flowgraph.specs.Flowgraph.{net_of};
 ghost use Rattle.pipeline.specs.Asking.{Awaits, AwaitsNone, IsNext, led_to, needed_by};
 ghost use Rattle.pipeline.specs.Pipeline.{Lacks, NoneLacks, end_at};
 
 use crate::pipeline::Pipeline;
 use crate::readiness::Readiness;
+use crate::requests::Requests;
 use flowgraph::{Block, BlockId};
 use std::io::{Read, Write};
 use stream_model::Role;
 use streaming::BlockNeed;
 
+/// A request waits, and no source is ready.
+#[derive(Debug, Drop)]
+pub(crate) struct Called;
+
 impl<B: Block, R: Read, W: Write> Pipeline<B, R, W> {
     /// The source that is to be fed next: one whose items a sink lacks, the sinks in turn, or else any that lacks items; where there are several, one that is ready.
-    pub(crate) fn next_source<Q: Readiness>(&mut self, readiness: &mut Q) -> Option<BlockId>
+    /// Where none is it waits, for a request too.
+    pub(crate) fn next_source<Q: Readiness, C: Requests>(
+        &mut self,
+        readiness: &mut Q,
+        requests: &C,
+    ) -> Result<Option<BlockId>, Called>
         ensures same { (self.new.plant ≡ self.old.plant) × (self.new.ends.items ≡ self.old.ends.items) }
-        ensures some { IfSome result (λ source. IsNext (net_of B.meaning self.new.plant.plant.graph) self.new.plant self.new.ends.items source.0) }
-        ensures none { IfNone result (NoneLacks (net_of B.meaning self.new.plant.plant.graph) self.new.plant self.new.ends.items) }
+        ensures some { IfOk result (λ next. IfSome next (λ source. IsNext (net_of B.meaning self.new.plant.plant.graph) self.new.plant self.new.ends.items source.0)) }
+        ensures none { IfOk result (λ next. IfNone next (NoneLacks (net_of B.meaning self.new.plant.plant.graph) self.new.plant self.new.ends.items)) }
     {
         let blocks = self.plant.graph().len();
         let behind = (self.sink.0 as usize + 1).min(blocks);
         if let Some(first) = self.first_awaiting(behind, blocks) {
-            let (sink, source) = self.ready_awaiting(first, readiness);
+            let (sink, source) = self.ready_awaiting(first, readiness, requests)?;
             self.sink = sink;
-            return Some(source);
+            return Ok(Some(source));
         }
         if let Some(first) = self.first_awaiting(0, behind) {
-            let (sink, source) = self.ready_awaiting(first, readiness);
+            let (sink, source) = self.ready_awaiting(first, readiness, requests)?;
             self.sink = sink;
-            return Some(source);
+            return Ok(Some(source));
         }
         match self.any_lacking() {
-            Some(first) => Some(self.ready_lacking(first, readiness)),
-            None => None,
+            Some(first) => Ok(Some(self.ready_lacking(first, readiness, requests)?)),
+            None => Ok(None),
         }
     }
 
@@ -117,32 +127,37 @@ impl<B: Block, R: Read, W: Write> Pipeline<B, R, W> {
         None
     }
 
-    // Of the sinks whose waits lead to a source that lacks items the first whose source is ready, in turn from this one on, and that source. It waits until there is one.
-    fn ready_awaiting<Q: Readiness>(
+    // Of the sinks whose waits lead to a source that lacks items the first whose source is ready, in turn from this one on, and that source. It waits until there is
+    // one, or a request.
+    fn ready_awaiting<Q: Readiness, C: Requests>(
         &self,
         first: (BlockId, BlockId),
         readiness: &mut Q,
-    ) -> (BlockId, BlockId)
+        requests: &C,
+    ) -> Result<(BlockId, BlockId), Called>
         requires awaits { Awaits (net_of B.meaning self.now.plant.plant.graph) self.now.plant first.0.0 first.1.0 }
         requires lacks { Lacks (net_of B.meaning self.now.plant.plant.graph) self.now.plant first.1.0 (end_at self.now.ends.items first.1.0) }
-        ensures awaits { Awaits (net_of B.meaning self.now.plant.plant.graph) self.now.plant result.0.0 result.1.0 }
-        ensures lacks { Lacks (net_of B.meaning self.now.plant.plant.graph) self.now.plant result.1.0 (end_at self.now.ends.items result.1.0) }
+        ensures awaits { IfOk result (λ found. Awaits (net_of B.meaning self.now.plant.plant.graph) self.now.plant found.0.0 found.1.0) }
+        ensures lacks { IfOk result (λ found. Lacks (net_of B.meaning self.now.plant.plant.graph) self.now.plant found.1.0 (end_at self.now.ends.items found.1.0)) }
     {
         if readiness.is_ready(first.1) {
-            return first;
+            return Ok(first);
         }
         let blocks = self.plant.graph().len();
         let turn = (first.0.0 as usize).min(blocks);
         for _waits in 0..u64::MAX {
             if let Some(found) = self.awaiting_ready(turn, blocks, readiness) {
-                return found;
+                return Ok(found);
             }
             if let Some(found) = self.awaiting_ready(0, turn, readiness) {
-                return found;
+                return Ok(found);
+            }
+            if requests.are_waiting() {
+                return Err(Called);
             }
             readiness.wait();
         }
-        first
+        Ok(first)
     }
 
     // The first of the sinks from `from` to below `to` whose waits lead to a source that lacks items and is ready, and that source.
@@ -168,21 +183,29 @@ impl<B: Block, R: Read, W: Write> Pipeline<B, R, W> {
         None
     }
 
-    // Of the sources that lack items one that is ready: this one if it is. It waits until there is one.
-    fn ready_lacking<Q: Readiness>(&self, first: BlockId, readiness: &mut Q) -> BlockId
+    // Of the sources that lack items one that is ready: this one if it is. It waits until there is one, or a request.
+    fn ready_lacking<Q: Readiness, C: Requests>(
+        &self,
+        first: BlockId,
+        readiness: &mut Q,
+        requests: &C,
+    ) -> Result<BlockId, Called>
         requires { Lacks (net_of B.meaning self.now.plant.plant.graph) self.now.plant first.0 (end_at self.now.ends.items first.0) }
-        ensures { Lacks (net_of B.meaning self.now.plant.plant.graph) self.now.plant result.0 (end_at self.now.ends.items result.0) }
+        ensures { IfOk result (λ source. Lacks (net_of B.meaning self.now.plant.plant.graph) self.now.plant source.0 (end_at self.now.ends.items source.0)) }
     {
         if readiness.is_ready(first) {
-            return first;
+            return Ok(first);
         }
         for _waits in 0..u64::MAX {
             if let Some(found) = self.lacking_ready(readiness) {
-                return found;
+                return Ok(found);
+            }
+            if requests.are_waiting() {
+                return Err(Called);
             }
             readiness.wait();
         }
-        first
+        Ok(first)
     }
 
     // The first source that lacks items, has a reader and is ready.

@@ -12,20 +12,25 @@
 //! fault, a beginning of what the equations of the blocks give for all that was read, and all of it where the run is done. A run that ended by a fault is not to
 //! be gone on with: what was read or drained last may be lost. Behind a cut item alone it may, once its source is closed.
 //!
+//! While it runs a pipeline may be asked (`run_asked`, `Requests`): settings, how far a block is, that a source is closed, and that the run ends.
+//!
 //! Streams may be parts of whole ones (`TapePart`, `StreamPart`): then the lines of marks and of tags count the items of the whole, and a sink's first items
 //! may be left out.
 #![tactic(auto)]
 
+mod answering;
 mod asking;
 mod delivery;
 pub mod end;
 pub mod fault;
+mod hearing;
 mod intake;
 mod joining;
 mod marks;
 pub mod part;
 pub mod pipeline;
 pub mod readiness;
+pub mod requests;
 mod tracked;
 
 pub use end::{End, Input, Output};
@@ -35,4 +40,5 @@ pub use part::{StreamPart, TapePart};
 pub use pipeline::Pipeline;
 pub use raw_items::ByteOrder;
 pub use readiness::{AllReady, Readiness};
-pub use streaming::{Block, BlockId, PlantFault, Settled, StreamingPlant};
+pub use requests::{Answer, Ended, NoRequests, Request, Requests, Told};
+pub use streaming::{Block, BlockId, Closed, Levels, PlantFault, Settled, StreamingPlant, Taken};

@@ -1,20 +1,27 @@
 //! The pipeline.
 
 ghost use Rattle.std.specs.Prelude.{◌≡◌, ℕ, Ok, Some, IfErr, IfOk, IfSome, OnErr, OnOk};
+ghost use Rattle.std.specs.Io.KnownBytes.{Appends};
+ghost use Rattle.reporting.specs.Ends.{AppendsBeginning};
 ghost use Rattle.stream_model.specs.Machine.{IsWhole};
 ghost use Rattle.flowgraph.specs.Flowgraph.{net_of};
 ghost use Rattle.plant.specs.declared.answers.Settled.TheVariants.{Done, Quiet};
 ghost use Rattle.plant.specs.Settling.{HasMoved, HasSettled};
 ghost use Rattle.pipeline.specs.declared.fault.PipelineFault.TheVariants.{Memory};
 ghost use Rattle.pipeline.specs.Asking.{IsNext};
+ghost use Rattle.pipeline.specs.declared.requests.Ended.TheVariants as ended;
 ghost use Rattle.pipeline.specs.Faults.{IsFaultOf};
 ghost use Rattle.pipeline.specs.Pipeline.{AreDelivered, Begins, GoesOn, IsDelivered, NoneLacks, end_at};
+ghost use Rattle.pipeline.specs.Requests.{BeginsAsked, GoesOnAsked, HasEnded, Streams};
 
+use crate::asking::Called;
 use crate::delivery::{deliver, flush};
 use crate::end::End;
 use crate::fault::PipelineFault;
+use crate::hearing::Hearing;
 use crate::intake;
 use crate::readiness::{AllReady, Readiness};
+use crate::requests::{Ended, NoRequests, Requests};
 use flowgraph::{Block, BlockId};
 use std::alloc::Global;
 use std::io::{Read, Write};
@@ -73,9 +80,41 @@ impl<B: Block, R: Read, W: Write> Pipeline<B, R, W> {
         ensures written { OnOk result (AreDelivered (net_of B.meaning self.new.plant.plant.graph) self.new.plant self.new.ends.items) }
         ensures asked { result ≡ Ok Quiet → NoneLacks (net_of B.meaning self.new.plant.plant.graph) self.new.plant self.new.ends.items }
     {
+        let mut nobody = NoRequests::new();
+        match self.run_asked(alloc, helpers, readiness, &mut nobody, watch)? {
+            Ended::Settled(settled) => Ok(settled),
+            Ended::Stopped => unreachable!(),
+        }
+    }
+
+    /// As `run_with`, and answers requests meanwhile: one before each round, which is the shorter for others that wait. Each is the plant's call, made between two
+    /// rounds, and is answered with what that replied, in the order in which they come. A stop ends the run: no block fires any more, no reader is read, and what
+    /// the sinks have taken is written. A write that waits holds up the answers; a read does not, where `readiness` is told of requests.
+    pub fn run_asked<H: Helpers<Job<B>, Worked<B>>, Q: Readiness, C: Requests, V: Watch>(
+        &mut self,
+        alloc: Global,
+        helpers: &mut H,
+        readiness: &mut Q,
+        requests: &mut C,
+        watch: &mut V,
+    ) -> Result<Ended, PipelineFault>
+        ensures goes { IfOk result (λ ended. GoesOnAsked R.remaining W.contents C.asked C.answered (net_of B.meaning self.old.plant.plant.graph) (Some ended) requests.old requests.new self.old.plant self.new.plant self.old.ends.items self.new.ends.items) }
+        ensures begins { OnErr result (BeginsAsked R.remaining W.contents C.asked C.answered (net_of B.meaning self.old.plant.plant.graph) requests.old requests.new self.old.plant self.new.plant self.old.ends.items self.new.ends.items) }
+        ensures streams { OnOk result (Streams Appends W.contents (net_of B.meaning self.old.plant.plant.graph) self.old.plant self.new.plant self.old.ends.items self.new.ends.items) }
+        ensures stream_begins { OnErr result (Streams AppendsBeginning W.contents (net_of B.meaning self.old.plant.plant.graph) self.old.plant self.new.plant self.old.ends.items self.new.ends.items) }
+        ensures fault { IfErr result (IsFaultOf R.remaining self.new.ends.items) }
+        ensures ended { IfOk result (HasEnded (net_of B.meaning self.new.plant.plant.graph) self.new.plant.plant.capacities self.new.plant.plant.state) }
+        ensures whole { result ≡ Ok (ended.Settled Done) → IsWhole (net_of B.meaning self.new.plant.plant.graph) self.new.plant.plant.state }
+        ensures written { OnOk result (AreDelivered (net_of B.meaning self.new.plant.plant.graph) self.new.plant self.new.ends.items) }
+        ensures lacks { result ≡ Ok (ended.Settled Quiet) → NoneLacks (net_of B.meaning self.new.plant.plant.graph) self.new.plant self.new.ends.items }
+    {
         for _turns in 0..u64::MAX {
-            if let Some(settled) = self.turn(alloc, helpers, readiness)? {
-                return Ok(settled);
+            if self.serve(requests) {
+                self.write_all()?;
+                return Ok(Ended::Stopped);
+            }
+            if let Some(settled) = self.advance(alloc, helpers, readiness, requests)? {
+                return Ok(Ended::Settled(settled));
             }
             watch.show(self.plant.headway());
         }
@@ -99,23 +138,60 @@ impl<B: Block, R: Read, W: Write> Pipeline<B, R, W> {
         ensures written { IfOk result (λ end. IfSome end (λ _. AreDelivered (net_of B.meaning self.new.plant.plant.graph) self.new.plant self.new.ends.items)) }
         ensures asked { result ≡ Ok (Some Quiet) → NoneLacks (net_of B.meaning self.new.plant.plant.graph) self.new.plant self.new.ends.items }
     {
-        let has_moved = self.round(alloc, helpers)?;
+        self.advance(alloc, helpers, readiness, &NoRequests::new())
+    }
+
+    // The same, cut short where a request waits.
+    fn advance<H: Helpers<Job<B>, Worked<B>>, Q: Readiness, C: Requests>(
+        &mut self,
+        alloc: Global,
+        helpers: &mut H,
+        readiness: &mut Q,
+        requests: &C,
+    ) -> Result<Option<Settled>, PipelineFault>
+        ensures goes { OnOk result (GoesOn R.remaining W.contents (net_of B.meaning self.old.plant.plant.graph) self.old.plant self.new.plant self.old.ends.items self.new.ends.items) }
+        ensures begins { OnErr result (Begins R.remaining W.contents (net_of B.meaning self.old.plant.plant.graph) self.old.plant self.new.plant self.old.ends.items self.new.ends.items) }
+        ensures fault { IfErr result (IsFaultOf R.remaining self.new.ends.items) }
+        ensures settled { IfOk result (λ end. IfSome end (λ settled. HasSettled (net_of B.meaning self.new.plant.plant.graph) self.new.plant.plant.capacities self.new.plant.plant.state settled)) }
+        ensures whole { result ≡ Ok (Some Done) → IsWhole (net_of B.meaning self.new.plant.plant.graph) self.new.plant.plant.state }
+        ensures written { IfOk result (λ end. IfSome end (λ _. AreDelivered (net_of B.meaning self.new.plant.plant.graph) self.new.plant self.new.ends.items)) }
+        ensures asked { result ≡ Ok (Some Quiet) → NoneLacks (net_of B.meaning self.new.plant.plant.graph) self.new.plant self.new.ends.items }
+    {
+        let blocks = self.plant.graph().len() as u32;
+        let mut hearing = Hearing {
+            helpers,
+            requests,
+            blocks,
+        };
+        let has_moved = self.round(alloc, &mut hearing)?;
         if has_moved {
             self.write(WORTH_A_WRITE)?;
             return Ok(None);
         }
-        self.write(0)?;
-        self.flush()?;
+        self.write_all()?;
         if self.plant.all_done() {
             return Ok(Some(Settled::Done));
         }
-        match self.next_source(readiness) {
-            Some(source) => {
+        match self.next_source(readiness, requests) {
+            Ok(Some(source)) => {
                 self.take_in(source)?;
                 Ok(None)
             }
-            None => Ok(Some(Settled::Quiet)),
+            Ok(None) => Ok(Some(Settled::Quiet)),
+            Err(Called) => Ok(None),
         }
+    }
+
+    // Writes all that the sinks have taken, and has the writers hand it on.
+    fn write_all(&mut self) -> Result<(), PipelineFault>
+        ensures goes { OnOk result (GoesOn R.remaining W.contents (net_of B.meaning self.old.plant.plant.graph) self.old.plant self.new.plant self.old.ends.items self.new.ends.items) }
+        ensures begins { OnErr result (Begins R.remaining W.contents (net_of B.meaning self.old.plant.plant.graph) self.old.plant self.new.plant self.old.ends.items self.new.ends.items) }
+        ensures fault { IfErr result (IsFaultOf R.remaining self.new.ends.items) }
+        ensures same { self.new.plant.plant ≡ self.old.plant.plant }
+        ensures written { OnOk result (AreDelivered (net_of B.meaning self.new.plant.plant.graph) self.new.plant self.new.ends.items) }
+    {
+        self.write(0)?;
+        self.flush()
     }
 
     // One round of the plant's blocks.

@@ -12,7 +12,8 @@ pub trait Readiness {
     /// Whether a read for this source would not wait: there are bytes, or the end, or a failure.
     fn is_ready(&mut self, source: BlockId) -> bool;
 
-    /// Waits until one of the sources is ready of which `is_ready` said since the last wait that it is not. Where there is none it returns at once.
+    /// Waits until something may have come since the last wait: for one of the sources of which `is_ready` said that it is not ready, or a request of which it is told.
+    /// It may return early; the pipeline then asks again.
     fn wait(&mut self);
 }
 

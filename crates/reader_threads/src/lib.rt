@@ -7,11 +7,12 @@
 //! threads.finish();
 //! ```
 //!
+//! Callers of a box of requests may ring the bell of these threads, so that a wait for readers ends where there is a request.
+//!
 //! A thread hands on what each read of its reader gave, in their order, and reads once more only when that was taken. So who takes it gets what the reader gives, and
 //! memory is constant. Nothing is known of a thread that waits in a read: it is not waited for, and ends with the program or when the read returns.
 #![tactic(auto)]
 
-mod bell;
 mod reader_threads;
 mod reading;
 

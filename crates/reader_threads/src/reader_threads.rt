@@ -1,9 +1,9 @@
 //! The threads, and the readers that take what they have read.
 
-use crate::bell::Bell;
 use crate::reading::{Inputs, Reading};
 use flowgraph::BlockId;
 use pipeline::Readiness;
+use request_box::Bell;
 use std::alloc::{AllocError, Global};
 use std::io::Read;
 use std::sync::{Arc, Wait};
@@ -17,8 +17,8 @@ pub struct ReaderThreads<C: Drop, R: Drop> {
     bell: Arc<Bell, Global>,
     // By source; none where no thread reads for it.
     readings: Vec<Option<Arc<Reading<C>, Global>>>,
-    // Of which sources was said since the last wait that they are not ready.
-    silent: Vec<bool>,
+    // How often the bell was rung up to the end of the last wait.
+    heard: u64,
 }
 
 /// A reader: as it is, or what a thread has read of it.
@@ -51,7 +51,7 @@ impl<C: Inputs + Send + Drop + 'static, R: Threads + Wait + Copy + Send + 'stati
             rt,
             bell: Arc::new(alloc, Bell::new())?,
             readings,
-            silent: vec![in alloc; false; blocks]?,
+            heard: 0,
         })
     }
 
@@ -91,6 +91,13 @@ impl<C: Inputs + Send + Drop + 'static, R: Threads + Wait + Copy + Send + 'stati
     }
 }
 
+impl<C: Drop, R: Drop> ReaderThreads<C, R> {
+    /// What rings when a thread has read something, and may ring when a request has come.
+    pub fn bell(&self) -> Result<Arc<Bell, Global>, AllocError> {
+        Arc::try_clone(&self.bell)
+    }
+}
+
 impl<C: Drop, R: Wait + Drop> ReaderThreads<C, R> {
     // Whether there is something for a source.
     fn has_some(&self, source: usize) -> bool {
@@ -99,45 +106,15 @@ impl<C: Drop, R: Wait + Drop> ReaderThreads<C, R> {
             _ => true,
         }
     }
-
-    // Waits until there is something for one of those that were silent.
-    fn wait_for_one(&self) {
-        for _ in self.rt.forever() {
-            let heard = self.bell.rings(&self.rt);
-            if self.has_one() {
-                return;
-            }
-            self.bell.wait(&self.rt, heard);
-        }
-    }
-
-    // Whether there is something for one of those that were silent, or there are none.
-    fn has_one(&self) -> bool {
-        let mut is_any = false;
-        for (source, is_silent) in self.silent.iter().enumerate() {
-            if *is_silent && self.has_some(source) {
-                return true;
-            }
-            is_any = is_any || *is_silent;
-        }
-        !is_any
-    }
 }
 
 impl<C: Drop, R: Wait + Drop> Readiness for ReaderThreads<C, R> {
     fn is_ready(&mut self, source: BlockId) -> bool {
-        let is_ready = self.has_some(source.0 as usize);
-        if let Some(silent) = self.silent.get_mut(source.0 as usize) {
-            *silent = !is_ready;
-        }
-        is_ready
+        self.has_some(source.0 as usize)
     }
 
     fn wait(&mut self) {
-        self.wait_for_one();
-        for silent in &mut self.silent {
-            *silent = false;
-        }
+        self.heard = self.bell.wait(&self.rt, self.heard);
     }
 }
 

@@ -3,7 +3,7 @@
 ghost use Rattle.std.specs.Prelude.{IfSome};
 ghost use Rattle.std.specs.Io.{ReadsAtMost};
 
-use crate::bell::Bell;
+use request_box::Bell;
 use std::alloc::{AllocError, Global};
 use std::io;
 use std::io::Read;

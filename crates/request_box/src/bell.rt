@@ -1,0 +1,46 @@
+//! What wakes who waits for several things at once.
+
+use std::sync::{Condvar, Mutex, Wait};
+
+/// A bell that threads ring when something has come: a request, or what one of several readers gave. It counts, so that a ring between a look and a wait is not
+/// missed.
+#[derive(Drop)]
+pub struct Bell {
+    rings: Mutex<u64>,
+    rung: Condvar,
+}
+
+impl Bell {
+    /// It was never rung.
+    pub fn new() -> Bell {
+        Bell {
+            rings: Mutex::new(0),
+            rung: Condvar::new(),
+        }
+    }
+
+    /// Rings it, and wakes who waits.
+    pub fn ring<R: Wait>(&self, rt: &R) {
+        let mut rings = self.rings.lock(rt);
+        *rings = rings.wrapping_add(1);
+        drop(rings);
+        self.rung.notify_one();
+    }
+
+    /// How often it was rung.
+    pub fn rings<R: Wait>(&self, rt: &R) -> u64 {
+        *self.rings.lock(rt)
+    }
+
+    /// Waits until it was rung another number of times than this, and returns that number.
+    pub fn wait<R: Wait>(&self, rt: &R, heard: u64) -> u64 {
+        let mut rings = self.rings.lock(rt);
+        for _ in rt.forever() {
+            if *rings != heard {
+                break;
+            }
+            rings = self.rung.wait(rt, rings);
+        }
+        *rings
+    }
+}
