@@ -52,4 +52,6 @@ RANGES: Mapping[str, Mapping[str, Mapping[str, int]]] = {
     "descrambler": {"bits": {"least": 2, "most": 32}, "mask": {"least": 1}, "init": {"least": 0}},
     "additive_scrambler": {"bits": {"least": 2, "most": 32}, "mask": {"least": 1}, "init": {"least": 0}},
     "correlate_access_code": {"code": {"least_count": 1, "most_count": 64}, "threshold": {}},
+    "crc_append": {"order": {}, "bits": {"least": 8, "most": 32}, "polynomial": {"least": 0}, "init": {"least": 0}, "final_xor": {"least": 0}, "n": {"least": 1, "most": 1020}},
+    "crc_check": {"order": {}, "bits": {"least": 8, "most": 32}, "polynomial": {"least": 0}, "init": {"least": 0}, "final_xor": {"least": 0}, "n": {"least": 1, "most": 1020}},
 }

@@ -138,7 +138,7 @@ def _rows(tree: Tree, kinds: Sequence[Kind]) -> Iterator[Listing]:
         yield _listing(KIND_SPEC, f"`{name}`", _of_rows(spec, name), kinds)
     keys = tree.text(KEYS_SPEC)
     yield _listing(KEYS_SPEC, "`meant`", _of_rows(keys, "meant"), kinds)
-    kept = [it for it in kinds if any(range.kept for range in it.parameters.values())]
+    kept = [it for it in kinds if it.kept or any(range.kept for range in it.parameters.values())]
     yield _listing(KEYS_SPEC, "`keeps_list`", _of_rows(keys, "keeps_list"), kept)
     for file, name in _SLICES:
         path = f"crates/slices/specs/{file}.antt"

@@ -12,7 +12,7 @@ from .tables import WrongTable, camel, entry, has, of_sort, only, tables_in
 FILE = "kinds.toml"
 ITEMS = ("any", "wide", "bytes")
 ENDS = ("source", "sink")
-_OPTIONAL = ("end", "rate", "example", "parameters", "setting", "drawn", "gives", "tried", "least", "called", "gnu_radio")
+_OPTIONAL = ("end", "rate", "example", "parameters", "setting", "drawn", "gives", "tried", "least", "kept", "called", "gnu_radio")
 Value = Union[int, str, Sequence[int]]
 # How many ports a block of GNU Radio has: so many, or as many as its parameter of this name says.
 Ports = Union[int, str]
@@ -89,6 +89,7 @@ class Kind:
     gives: Optional[str]
     tried: Mapping[str, Value]
     least: Mapping[str, Value]
+    kept: bool
     called: Sequence[str]
     gnu_radio: Sequence[GnuRadioBlock]
 
@@ -158,6 +159,7 @@ def _kind(name: str, table: Mapping[str, Any], parameters: Mapping[str, Paramete
         gives=table.get("gives"),
         tried=table.get("tried", {}),
         least=table.get("least", {}),
+        kept=of_sort(table.get("kept", False), bool, f"{where}: kept"),
         called=table.get("called", ()),
         gnu_radio=[_gnu_radio(id, it, own, texts["items"], where) for id, it in table.get("gnu_radio", {}).items()],
     )

@@ -6,6 +6,7 @@ mod bit_streams;
 mod bits;
 mod chosen;
 mod divided;
+mod codes;
 mod filters;
 mod frames;
 mod harness;

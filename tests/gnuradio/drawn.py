@@ -95,13 +95,19 @@ class Pen:
             self.block(kind, inputs, [type], 4 * ports, type=type, lengths=[chance.randint(1, 4) for _ in inputs])
         else:
             keys = {**SINGLE, **BYTES, **FILTERS}[kind](self, type)
-            gain = max(keys.get("n", 1) if kind == "repeat" else 1, keys.get("interpolation", 1), keys.get("k", 1) if kind == "unpack_k_bits" else 1)
+            gain = max(keys.get("n", 1) if kind == "repeat" else 1, keys.get("interpolation", 1), keys.get("k", 1) if kind == "unpack_k_bits" else 1, 5 if kind == "crc_append" else 1)
             self.block(kind, inputs, [type], gain, **({} if kind in BYTES else {"type": type}), **keys)
 
 
 def register(pen: Pen, type: str) -> dict[str, Any]:
     bits = pen.chance.randint(2, 20)
     return {"bits": bits, "mask": pen.chance.randint(1, 2**bits - 1), "init": pen.chance.randint(0, 2**bits - 1)}
+
+
+def checksum(pen: Pen, type: str) -> dict[str, Any]:
+    bits = pen.chance.randint(8, 32)
+    numbers = {key: pen.chance.randint(0, 2**bits - 1) for key in ("polynomial", "init", "final_xor")}
+    return {"order": pen.chance.choice(["msb_first", "lsb_first"]), "bits": bits, **numbers, "n": pen.chance.randint(1, 20)}
 
 
 def taps(pen: Pen) -> list[int]:
@@ -138,6 +144,8 @@ BYTES: dict[str, Keys] = {
     "scrambler": register,
     "descrambler": register,
     "additive_scrambler": register,
+    "crc_append": checksum,
+    "crc_check": checksum,
 }
 FILTERS: dict[str, Keys] = {
     "fir": lambda pen, type: {"taps": taps(pen), "decimation": pen.chance.randint(1, 4), "shift": pen.chance.randint(0, 31)},

@@ -7,6 +7,7 @@ mod contests;
 mod item;
 mod kind_arithmetic;
 mod kind_choices;
+mod kind_codes;
 mod kind_contest;
 mod kind_frames;
 mod kind_plain;
@@ -32,6 +33,7 @@ fn main(rt: HostRuntime) -> io::Result<ExitCode> {
             kind_table::print_kinds(&rt)?;
             kind_frames::print_frames(&rt)?;
             kind_choices::print_choices(&rt)?;
+            kind_codes::print_codes(&rt)?;
         }
         _ => {
             eprintln!(rt; "usage: kernel_bench [measure]")?;

@@ -3,4 +3,5 @@ pub mod Tests
 pub mod Makers
 pub mod Lists
 pub mod Clips
+pub mod Checksums
 pub mod Faults

@@ -1,7 +1,7 @@
 -- The parameters of each kind.
 use Rattle.std.specs.Prelude.{◌^◌, List, [], ◌∷◌}
 use Rattle.parameters.specs.declared.fault.Parameter.{Parameter}
-use Rattle.parameters.specs.declared.fault.Parameter.TheVariants.{Value, Factor, Shift, Map, To, Length, Taps, Decimation, Interpolation, K, Modulus, Bits, Mask, Init, N, Ports, Lengths, Low, High, On, Values, Code, Threshold, Order, Places, L, M, Offset, Period}
+use Rattle.parameters.specs.declared.fault.Parameter.TheVariants.{Value, Factor, Shift, Map, To, Length, Taps, Decimation, Interpolation, K, Modulus, Bits, Mask, Init, N, Ports, Lengths, Low, High, On, Values, Code, Threshold, Order, Places, L, M, Offset, Period, Polynomial, FinalXor}
 use Rattle.kinds.specs.declared.kind_name.KindName.{KindName}
 use Rattle.kinds.specs.declared.kind_name.KindName.TheVariants as kinds
 use Rattle.kind_keys.specs.declared.range.ItemTypes.{ItemTypes}
@@ -24,14 +24,19 @@ types_of kinds.Scrambler = types.Bytes
 types_of kinds.Descrambler = types.Bytes
 types_of kinds.AdditiveScrambler = types.Bytes
 types_of kinds.CorrelateAccessCode = types.Bytes
+types_of kinds.CrcAppend = types.Bytes
+types_of kinds.CrcCheck = types.Bytes
 types_of _ = types.Any
 
--- those of a filter, of which the rate goes by this name, and of a scrambler
+-- those of a filter, of which the rate goes by this name, of a scrambler and of a checksum
 abbrev pub filter_parameters : Parameter → List (Parameter × Range)
 filter_parameters rate = (Taps, ranges.Taps) ∷ (rate, ranges.Number 1 1024) ∷ (Shift, ranges.Number 0 31) ∷ []
 
 abbrev pub register_parameters : List (Parameter × Range)
 register_parameters = (Bits, ranges.Number 2 32) ∷ (Mask, ranges.Register 1) ∷ (Init, ranges.Register 0) ∷ []
+
+abbrev pub checksum_parameters : List (Parameter × Range)
+checksum_parameters = (Order, ranges.BitOrder) ∷ (Bits, ranges.Number 8 32) ∷ (Polynomial, ranges.Register 0) ∷ (Init, ranges.Register 0) ∷ (FinalXor, ranges.Register 0) ∷ (N, ranges.Number 1 1020) ∷ []
 
 -- the parameters of each kind, in their order, and what each may be
 abbrev pub parameters_of : KindName → List (Parameter × Range)
@@ -79,4 +84,6 @@ parameters_of kinds.Scrambler = register_parameters
 parameters_of kinds.Descrambler = register_parameters
 parameters_of kinds.AdditiveScrambler = register_parameters
 parameters_of kinds.CorrelateAccessCode = (Code, ranges.Code) ∷ (Threshold, ranges.Threshold) ∷ []
+parameters_of kinds.CrcAppend = checksum_parameters
+parameters_of kinds.CrcCheck = checksum_parameters
 parameters_of _ = []

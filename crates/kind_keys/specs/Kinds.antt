@@ -9,6 +9,8 @@ use Rattle.kind_model.specs.Filters.{fir, interp_fir}
 use Rattle.kind_model.specs.Rates.{keep_one_in_n, keep_m_in_n, integrate, repeat, insert, permute, interleave, deinterleave, stream_mux, head, skiphead, delay, frame_minimum, frame_maximum, argmax, pattern, counter}
 use Rattle.kind_model.specs.Bits.{pack_k_bits, unpack_k_bits, diff_decoder, diff_encoder, scrambler, descrambler, additive_scrambler}
 use Rattle.kind_model.specs.BitStreams.{repack_bits, packed_to_unpacked, unpacked_to_packed, correlate_access_code}
+use Rattle.kind_model.specs.Codes.{crc_append, crc_check}
+use Rattle.kind_model.specs.declared.vocabulary.Checksum.{Checksum}
 use Rattle.rate_blocks.specs.Lengths.{unsigned}
 use Rattle.parameters.specs.declared.fault.Parameter.{Parameter}
 use Rattle.parameters.specs.declared.fault.Parameter.TheVariants as parameters
@@ -40,7 +42,7 @@ options_of _ = keys.Tags ∷ keys.Multiple ∷ keys.Capacity ∷ []
 abbrev pub keys_of : KindName → List Key
 keys_of kind = keys.Name ∷ keys.Kind ∷ (type_keys (types_of kind) ++ map (λ row. parameter row.0) (parameters_of kind) ++ options_of kind)
 
--- whether a block of the kind keeps a list of its table, for which it takes memory
+-- whether a block of the kind keeps a list of its table or one that it makes, for which it takes memory
 abbrev pub keeps_list : KindName → Bool
 keeps_list kinds.MapBb = true
 keeps_list kinds.Table = true
@@ -49,6 +51,8 @@ keeps_list kinds.InterpFir = true
 keeps_list kinds.Insert = true
 keeps_list kinds.Pattern = true
 keeps_list kinds.Permute = true
+keeps_list kinds.CrcAppend = true
+keeps_list kinds.CrcCheck = true
 keeps_list _ = false
 
 -- what follows, where a parameter passes its test
@@ -60,6 +64,17 @@ needs false p rest = Err p
 abbrev pub tested_by : List (Parameter × Range) → ItemType → Members → Result Meaning Parameter → Result Meaning Parameter
 tested_by [] t ms rest = rest
 tested_by (row ∷ rows) t ms rest = needs (lies_in row.1 t ms row.0) row.0 (tested_by rows t ms rest)
+
+-- the checksum that a table describes
+abbrev pub checksum_at : Members → Checksum
+checksum_at ms =
+    record {
+      bits = small_at ms (parameter parameters.Bits);
+      polynomial = count_at ms (parameter parameters.Polynomial);
+      init = count_at ms (parameter parameters.Init);
+      final_xor = count_at ms (parameter parameters.FinalXor);
+      order = order_or_msb (order_at ms (parameter parameters.Order));
+    }
 
 -- what a block of the kind on items of a type means with the parameters of a table
 abbrev pub meant : KindName → ItemType → Members → Meaning
@@ -123,6 +138,8 @@ meant kinds.Scrambler t ms = scrambler (small_at ms (parameter parameters.Bits))
 meant kinds.Descrambler t ms = descrambler (small_at ms (parameter parameters.Bits)) (count_at ms (parameter parameters.Mask)) (count_at ms (parameter parameters.Init))
 meant kinds.AdditiveScrambler t ms = additive_scrambler (small_at ms (parameter parameters.Bits)) (count_at ms (parameter parameters.Mask)) (count_at ms (parameter parameters.Init))
 meant kinds.CorrelateAccessCode t ms = correlate_access_code (code_at ms (parameter parameters.Code)) (length (text_at ms (parameter parameters.Code))) (small_at ms (parameter parameters.Threshold))
+meant kinds.CrcAppend t ms = crc_append (small_at ms (parameter parameters.N)) (checksum_at ms)
+meant kinds.CrcCheck t ms = crc_check (small_at ms (parameter parameters.N)) (checksum_at ms)
 
 -- the same, where the type and the parameters are such as the kind takes; or the first of them that is bad
 abbrev pub made_of : KindName → ItemType → Members → Result Meaning Parameter

@@ -15,6 +15,8 @@ pub fn types_of(kind: KindName) -> ItemTypes
         | KindName::Table
         | KindName::RepackBits
         | KindName::CorrelateAccessCode
+        | KindName::CrcAppend
+        | KindName::CrcCheck
         | KindName::PackKBits
         | KindName::UnpackKBits
         | KindName::DiffEncoder
@@ -30,7 +32,7 @@ pub fn types_of(kind: KindName) -> ItemTypes
 /// The parameters of a block of the kind, in the order in which they are tested, and what each may be.
 pub fn parameters_of(kind: KindName) -> &'static [(Parameter, Range)]
     ensures rows { result.now ≡ parameters_of kind }
-    ensures few { length result.now ≤ 4 }
+    ensures few { length result.now ≤ 6 }
 {
     match kind {
         KindName::VectorSource
@@ -128,6 +130,14 @@ pub fn parameters_of(kind: KindName) -> &'static [(Parameter, Range)]
         KindName::CorrelateAccessCode => &[
             (Parameter::Code, Range::Code),
             (Parameter::Threshold, Range::Threshold),
+        ],
+        KindName::CrcAppend | KindName::CrcCheck => &[
+            (Parameter::Order, Range::BitOrder),
+            (Parameter::Bits, Range::Number(8, 32)),
+            (Parameter::Polynomial, Range::Register(0)),
+            (Parameter::Init, Range::Register(0)),
+            (Parameter::FinalXor, Range::Register(0)),
+            (Parameter::N, Range::Number(1, 1020)),
         ],
     }
 }

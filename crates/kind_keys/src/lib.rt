@@ -7,6 +7,7 @@ pub mod key;
 pub mod keys;
 pub mod kind_parameters;
 mod make;
+mod make_codes;
 mod make_lists;
 mod parameter_values;
 pub mod range;

@@ -5,3 +5,4 @@ pub mod Rates
 pub mod Bits
 pub mod Registers
 pub mod BitStreams
+pub mod Codes

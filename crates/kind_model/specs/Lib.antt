@@ -4,4 +4,5 @@ pub mod Math
 pub mod Filters
 pub mod Bits
 pub mod BitStreams
+pub mod Codes
 pub mod Rates

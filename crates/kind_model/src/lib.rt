@@ -7,4 +7,4 @@
 
 pub mod vocabulary;
 
-pub use vocabulary::BitOrder;
+pub use vocabulary::{BitOrder, Checksum};

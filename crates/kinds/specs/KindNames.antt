@@ -67,6 +67,8 @@ kind_text kinds.Scrambler = codes "scrambler"
 kind_text kinds.Descrambler = codes "descrambler"
 kind_text kinds.AdditiveScrambler = codes "additive_scrambler"
 kind_text kinds.CorrelateAccessCode = codes "correlate_access_code"
+kind_text kinds.CrcAppend = codes "crc_append"
+kind_text kinds.CrcCheck = codes "crc_check"
 
 -- all kinds
 abbrev pub all_kinds : List KindName
@@ -79,7 +81,7 @@ all_kinds =
     ∷ kinds.Repeat ∷ kinds.Insert ∷ kinds.Pattern ∷ kinds.Counter ∷ kinds.Permute ∷ kinds.Interleave ∷ kinds.Deinterleave
     ∷ kinds.StreamMux ∷ kinds.Head ∷ kinds.SkipHead ∷ kinds.Delay ∷ kinds.PackKBits ∷ kinds.UnpackKBits ∷ kinds.RepackBits
     ∷ kinds.PackedToUnpacked ∷ kinds.UnpackedToPacked ∷ kinds.DiffEncoder ∷ kinds.DiffDecoder ∷ kinds.Scrambler ∷ kinds.Descrambler
-    ∷ kinds.AdditiveScrambler ∷ kinds.CorrelateAccessCode ∷ []
+    ∷ kinds.AdditiveScrambler ∷ kinds.CorrelateAccessCode ∷ kinds.CrcAppend ∷ kinds.CrcCheck ∷ []
 
 -- the kind of a name
 abbrev pub kind_named : List ℕ → Option KindName
@@ -147,3 +149,5 @@ name_of (blocks.Scrambler b) = kinds.Scrambler
 name_of (blocks.Descrambler b) = kinds.Descrambler
 name_of (blocks.AdditiveScrambler b) = kinds.AdditiveScrambler
 name_of (blocks.CorrelateAccessCode b) = kinds.CorrelateAccessCode
+name_of (blocks.CrcAppend b) = kinds.CrcAppend
+name_of (blocks.CrcCheck b) = kinds.CrcCheck

@@ -5,6 +5,7 @@ use bit_blocks::{
     PackedToUnpacked, RepackBits, Scrambler, UnpackKBits, UnpackedToPacked,
 };
 use block_kinds::{Block, ByPace, Held, Shape};
+use code_blocks::{CrcAppend, CrcCheck};
 use fir_blocks::{Fir, InterpFir};
 use items::Items;
 use math_blocks::{
@@ -140,6 +141,10 @@ pub enum Kind {
     AdditiveScrambler(AdditiveScrambler),
     /// Marks what follows an access code.
     CorrelateAccessCode(CorrelateAccessCode),
+    /// Puts a checksum behind each frame.
+    CrcAppend(CrcAppend),
+    /// Tells whether the checksum behind each frame is its own.
+    CrcCheck(CrcCheck),
 }
 
 // A match on a block, where each arm does the same with the block inside.
@@ -206,6 +211,8 @@ macro_rules! on_block {
             Kind::Descrambler($block) => $body,
             Kind::AdditiveScrambler($block) => $body,
             Kind::CorrelateAccessCode($block) => $body,
+            Kind::CrcAppend($block) => $body,
+            Kind::CrcCheck($block) => $body,
         }
     };
 }

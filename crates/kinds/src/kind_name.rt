@@ -67,9 +67,11 @@ pub enum KindName {
     Descrambler,
     AdditiveScrambler,
     CorrelateAccessCode,
+    CrcAppend,
+    CrcCheck,
 }
 
-const KINDS: [KindName; 60] = [
+const KINDS: [KindName; 62] = [
     KindName::VectorSource,
     KindName::VectorSink,
     KindName::NullSink,
@@ -130,6 +132,8 @@ const KINDS: [KindName; 60] = [
     KindName::Descrambler,
     KindName::AdditiveScrambler,
     KindName::CorrelateAccessCode,
+    KindName::CrcAppend,
+    KindName::CrcCheck,
 ];
 
 impl KindName {
@@ -215,6 +219,8 @@ impl KindName {
             KindName::Descrambler => "descrambler",
             KindName::AdditiveScrambler => "additive_scrambler",
             KindName::CorrelateAccessCode => "correlate_access_code",
+            KindName::CrcAppend => "crc_append",
+            KindName::CrcCheck => "crc_check",
         }
     }
 }
@@ -285,6 +291,8 @@ impl Kind {
             Kind::Descrambler(_) => KindName::Descrambler,
             Kind::AdditiveScrambler(_) => KindName::AdditiveScrambler,
             Kind::CorrelateAccessCode(_) => KindName::CorrelateAccessCode,
+            Kind::CrcAppend(_) => KindName::CrcAppend,
+            Kind::CrcCheck(_) => KindName::CrcCheck,
         }
     }
 }

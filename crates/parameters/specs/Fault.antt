@@ -1,7 +1,7 @@
 -- The numbers, the names and the texts of refusals.
 use Rattle.std.specs.Prelude.{ℕ, List, ◌++◌, codes}
 use Rattle.parameters.specs.declared.fault.Parameter.{Parameter}
-use Rattle.parameters.specs.declared.fault.Parameter.TheVariants.{ItemType, Value, Factor, Shift, Map, To, Length, Taps, Decimation, Interpolation, K, Modulus, Bits, Mask, Init, N, Ports, Lengths, Low, High, On, Values, Code, Threshold, Order, Places, L, M, Offset, Period}
+use Rattle.parameters.specs.declared.fault.Parameter.TheVariants.{ItemType, Value, Factor, Shift, Map, To, Length, Taps, Decimation, Interpolation, K, Modulus, Bits, Mask, Init, N, Ports, Lengths, Low, High, On, Values, Code, Threshold, Order, Places, L, M, Offset, Period, Polynomial, FinalXor}
 use Rattle.parameters.specs.declared.fault.ParamFault.{ParamFault}
 use Rattle.parameters.specs.declared.fault.ParamFault.TheVariants.{BadParameter, Memory}
 
@@ -42,6 +42,8 @@ parameter_text L = codes "l"
 parameter_text M = codes "m"
 parameter_text Offset = codes "offset"
 parameter_text Period = codes "period"
+parameter_text Polynomial = codes "polynomial"
+parameter_text FinalXor = codes "final_xor"
 
 -- what is printed of a refusal
 abbrev pub text_of : ParamFault → List ℕ

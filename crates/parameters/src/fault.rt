@@ -71,6 +71,10 @@ pub enum Parameter {
     Offset,
     /// `period`
     Period,
+    /// `polynomial`
+    Polynomial,
+    /// `final_xor`
+    FinalXor,
 }
 
 impl Parameter {
@@ -107,6 +111,8 @@ impl Parameter {
             Parameter::M => "m",
             Parameter::Offset => "offset",
             Parameter::Period => "period",
+            Parameter::Polynomial => "polynomial",
+            Parameter::FinalXor => "final_xor",
             Parameter::Order | Parameter::Places => "order",
         }
     }

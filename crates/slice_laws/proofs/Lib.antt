@@ -10,5 +10,6 @@ pub mod Math
 pub mod Filters
 pub mod Rates
 pub mod Bits
+pub mod Codes
 pub mod Placing
 pub mod Jumps

@@ -2,6 +2,7 @@
 //! and cut into single firings.
 
 pub mod bits;
+pub mod codes;
 pub mod filters;
 pub mod math;
 pub mod rates;

@@ -161,3 +161,21 @@ returns-in-AdditiveScrambler-clause-word c = rw c.in-AdditiveScrambler.is c.work
 
 pub returns-in-CorrelateAccessCode-clause-word : goal.returns-in-CorrelateAccessCode-clause-word
 returns-in-CorrelateAccessCode-clause-word c = rw c.in-CorrelateAccessCode.is c.work-in-CorrelateAccessCode.ensures.word
+
+pub work-requires-in-CrcAppend : goal.work-requires-in-CrcAppend
+work-requires-in-CrcAppend c = rw c.in-CrcAppend.is at c.requires
+
+pub returns-in-CrcAppend-clause-items : goal.returns-in-CrcAppend-clause-items
+returns-in-CrcAppend-clause-items c = rw c.in-CrcAppend.is c.work-in-CrcAppend.ensures.items
+
+pub returns-in-CrcAppend-clause-word : goal.returns-in-CrcAppend-clause-word
+returns-in-CrcAppend-clause-word c = rw c.in-CrcAppend.is c.work-in-CrcAppend.ensures.word
+
+pub work-requires-in-CrcCheck : goal.work-requires-in-CrcCheck
+work-requires-in-CrcCheck c = rw c.in-CrcCheck.is at c.requires
+
+pub returns-in-CrcCheck-clause-items : goal.returns-in-CrcCheck-clause-items
+returns-in-CrcCheck-clause-items c = rw c.in-CrcCheck.is c.work-in-CrcCheck.ensures.items
+
+pub returns-in-CrcCheck-clause-word : goal.returns-in-CrcCheck-clause-word
+returns-in-CrcCheck-clause-word c = rw c.in-CrcCheck.is c.work-in-CrcCheck.ensures.word

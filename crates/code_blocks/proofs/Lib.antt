@@ -1,0 +1,4 @@
+pub mod Tables
+pub mod Checks
+pub mod Frames
+pub mod Bytes

@@ -1,0 +1,4 @@
+pub mod Divided
+pub mod Faults
+pub mod Kinds
+pub mod Rules

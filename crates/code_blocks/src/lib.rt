@@ -1,0 +1,12 @@
+//! Blocks that check and code frames and symbols.
+#![tactic(auto)]
+
+pub mod crc;
+pub mod crc_append;
+pub mod crc_check;
+mod division;
+
+pub use crc::Crc;
+pub use crc_append::CrcAppend;
+pub use crc_check::CrcCheck;
+pub use kind_model::{BitOrder, Checksum};

@@ -1,0 +1,54 @@
+//! The blocks that are made of a checksum that a table describes.
+ghost use Rattle.std.specs.Prelude.{◌≡◌, Ok, None, Some, IfOk, IfErr, true};
+ghost use Rattle.toml.specs.View.{table_view};
+ghost use Rattle.kinds.specs.Kind.{meaning_of};
+ghost use Rattle.kind_keys.specs.Kinds.{checksum_at, made_of};
+ghost use Rattle.kind_keys.specs.Reading.{IsBad};
+ghost use Rattle.kind_keys.specs.Tables.{order_at};
+ghost use Rattle.stream_model.specs.declared.vocabulary.ItemType.TheVariants as types;
+ghost use Rattle.kinds.specs.declared.kind_name.KindName.TheVariants as kinds;
+ghost use Rattle.kind_keys.specs.declared.key.Key.TheVariants as key;
+
+use crate::parameter_values::{bit_order, count, small, wide};
+use code_blocks::{Checksum, CrcAppend, CrcCheck};
+use kinds::Kind;
+use parameters::{ParamFault, Parameter};
+use std::alloc::Global;
+use toml::Table;
+
+// The checksum that a table describes, whatever its numbers are.
+fn checksum(table: &Table) -> Result<Checksum, ParamFault>
+    ensures ok { IfOk result (λ rule. rule ≡ checksum_at (table_view table.now)) }
+    ensures order { IfOk result (λ rule. order_at (table_view table.now) (key.Parameter Parameter.Order) ≡ Some rule.order) }
+    ensures err { IfErr result (λ fault. (fault ≡ ParamFault.BadParameter Parameter.Order) × (order_at (table_view table.now) (key.Parameter Parameter.Order) ≡ None)) }
+{
+    Ok(Checksum {
+        order: bit_order(table)?,
+        bits: small(table, Parameter::Bits),
+        polynomial: count(table, Parameter::Polynomial),
+        init: count(table, Parameter::Init),
+        final_xor: count(table, Parameter::FinalXor),
+    })
+}
+
+pub(crate) fn make_crc_append(alloc: Global, table: &Table) -> Result<Kind, ParamFault>
+    ensures ok { IfOk result (λ block. made_of kinds.CrcAppend types.Byte (table_view table.now) ≡ Ok (meaning_of block)) }
+    ensures bad { IfErr result (IsBad true (made_of kinds.CrcAppend types.Byte (table_view table.now))) }
+{
+    let rule = checksum(table)?;
+    match CrcAppend::new(alloc, wide(table, Parameter::N), rule) {
+        Ok(block) => Ok(Kind::CrcAppend(block)),
+        Err(fault) => Err(fault),
+    }
+}
+
+pub(crate) fn make_crc_check(alloc: Global, table: &Table) -> Result<Kind, ParamFault>
+    ensures ok { IfOk result (λ block. made_of kinds.CrcCheck types.Byte (table_view table.now) ≡ Ok (meaning_of block)) }
+    ensures bad { IfErr result (IsBad true (made_of kinds.CrcCheck types.Byte (table_view table.now))) }
+{
+    let rule = checksum(table)?;
+    match CrcCheck::new(alloc, wide(table, Parameter::N), rule) {
+        Ok(block) => Ok(Kind::CrcCheck(block)),
+        Err(fault) => Err(fault),
+    }
+}
