@@ -1,9 +1,11 @@
 //! Graphs as the tests write them down.
-use parameters::ParamFault;
+use bit_blocks::register::Register;
+use bit_blocks::{AdditiveScrambler, DiffEncoder};
 use flowgraph::{BlockId, Graph, GraphFault, Options, Policy, Valid};
 use items::ItemType;
 use kinds::{Kind, VectorSink, VectorSource};
 use math_blocks::{Add, MovingSum, Not};
+use parameters::ParamFault;
 use rate_blocks::{Delay, Head, KeepOneInN, Repeat, SkipHead, StreamMux};
 use std::alloc::Global;
 
@@ -17,6 +19,10 @@ pub enum Make {
     Keep(u64),
     Repeat(u64),
     Head(u64),
+    /// An additive scrambler of 3 bits, of which the first and the third are summed, that begins with these.
+    Scramble(u64),
+    /// Sums modulo 4.
+    Encode,
     Skip(u64),
     Delay(u64),
     /// The sum of so many items.
@@ -40,7 +46,8 @@ pub fn plain(name: &[u8], make: Make) -> Drawn<'_> {
 /// A connection: a block and its output, a block and its input.
 pub type Wire = (u32, usize, u32, usize);
 
-fn made(make: Make) -> Result<Kind, ParamFault> {
+/// A block of this kind.
+pub fn made(make: Make) -> Result<Kind, ParamFault> {
     let byte = ItemType::Byte;
     Ok(match make {
         Make::Source(item) => Kind::VectorSource(VectorSource::new(item)),
@@ -50,6 +57,10 @@ fn made(make: Make) -> Result<Kind, ParamFault> {
         Make::Keep(n) => Kind::KeepOneInN(KeepOneInN::new(byte, n)?),
         Make::Repeat(n) => Kind::Repeat(Repeat::new(byte, n)?),
         Make::Head(n) => Kind::Head(Head::new(byte, n)?),
+        Make::Scramble(init) => {
+            Kind::AdditiveScrambler(AdditiveScrambler::new(Register::new(3, 5, init)?))
+        }
+        Make::Encode => Kind::DiffEncoder(DiffEncoder::new(4)?),
         Make::Skip(n) => Kind::SkipHead(SkipHead::new(byte, n)?),
         Make::Delay(n) => Kind::Delay(Delay::new(byte, n)?),
         Make::Sum(length) => Kind::MovingSum(MovingSum::new(byte, length)?),

@@ -1,10 +1,10 @@
 //! How runs are cut into slices: how far slices overlap, and what they drop.
-use super::drawn::Make::{Add, Delay, Head, Keep, Repeat, Skip, Sum};
-use super::drawn::{Drawn, Make, SINK, SOURCE, Wire, add, build, plain};
+use super::drawn::Make::{Add, Delay, Encode, Head, Keep, Repeat, Scramble, Skip, Sum};
+use super::drawn::{Drawn, Make, SINK, SOURCE, Wire, add, build, made, plain};
 use flowgraph::{BlockId, Graph, Policy, Valid};
 use kinds::Kind;
 use rates::{Rates, balance};
-use slices::{Asks, Part, Plan, Planned, plan_slices};
+use slices::{Asks, Part, Plan, Planned, first_to_count, later_graph, plan_slices};
 use std::alloc::Global;
 use std::process::Abort;
 use std::test::Fail;
@@ -54,8 +54,10 @@ fn plan(
 // a slice drops.
 type Chain = (&'static str, &'static [Make], u64, u64, u64, u64);
 
-const CHAINS: [Chain; 11] = [
+const CHAINS: [Chain; 13] = [
     ("nothing between", &[], 0, 0, 0, 0),
+    ("a head", &[Head(7)], 0, 0, 0, 0),
+    ("a scrambler between sums", &[Sum(3), Scramble(1), Sum(2)], 3, 3, 3, 3),
     ("a sum of three", &[Sum(3)], 2, 2, 2, 2),
     ("one in three", &[Keep(3)], 0, 0, 0, 0),
     ("one in two, then a sum", &[Keep(2), Sum(3)], 2, 4, 2, 2),
@@ -69,8 +71,10 @@ const CHAINS: [Chain; 11] = [
 ];
 
 // The same where tags are asked for.
-const TAGGED: [Chain; 11] = [
+const TAGGED: [Chain; 13] = [
     ("nothing between", &[], 0, 0, 0, 0),
+    ("a head", &[Head(7)], 0, 0, 0, 0),
+    ("a head and a scrambler behind one in three", &[Keep(3), Head(7), Scramble(1)], 1, 3, 1, 1),
     // A tag on item 2 goes to item 2 / 3 to the nearest, which is 1.
     ("one in three", &[Keep(3)], 1, 3, 1, 1),
     // From there, one on item 0 to item 0.
@@ -191,21 +195,91 @@ fn backwards(rt: HostRuntime) -> Result<(), Fail> {
     Ok(())
 }
 
-// The first block that does not forget is named.
+// The first block that does not forget is named, and not one that counts.
 #[test]
 fn remembering(rt: HostRuntime) -> Result<(), Fail> {
     let alloc = rt.alloc();
     let blocks = [
         plain(b"src", SOURCE),
-        plain(b"sum", Sum(4)),
         plain(b"some", Head(9)),
-        plain(b"few", Head(3)),
+        plain(b"sums", Encode),
+        plain(b"more", Encode),
         plain(b"out", SINK),
     ];
     let wires = [(0, 0, 1, 0), (1, 0, 2, 0), (2, 0, 3, 0), (3, 0, 4, 0)];
-    let found = planned(&rt, alloc, "heads", &blocks, &wires, Asks::Items);
-    assert!(rt; matches!(found, Planned::Remembers(BlockId(2))), "the first head");
+    let found = planned(&rt, alloc, "sums", &blocks, &wires, Asks::Items);
+    assert!(rt; matches!(found, Planned::Remembers(BlockId(2))), "the first that remembers");
     Ok(())
+}
+
+// Heads of 100 and of 10 items, and a scrambler between them.
+fn counting(heads: [u64; 2], held: u64) -> [Drawn<'static>; 6] {
+    [
+        plain(b"src", SOURCE),
+        plain(b"some", Head(heads[0])),
+        (b"keep", Keep(2), 3, 1),
+        (b"noise", Scramble(held), 2, 1),
+        plain(b"few", Head(heads[1])),
+        plain(b"out", SINK),
+    ]
+}
+
+const COUNTING_WIRES: [Wire; 5] =
+    [(0, 0, 1, 0), (1, 0, 2, 0), (2, 0, 3, 0), (3, 0, 4, 0), (4, 0, 5, 0)];
+
+// In an iteration the source gives 12 items, and `keep` takes them in 2 firings, each of which is 3. So 6 come to the scrambler, whose firing is 2, and to the second head.
+// Behind 2 iterations that is 24 of the first 100, and 12 of the next 10. The register goes round in 7 steps, and stands 5 further.
+#[test]
+fn later_graphs(rt: HostRuntime) -> Result<(), Fail> {
+    let alloc = rt.alloc();
+    for (iterations, heads, held) in [
+        (0, [100, 10], 1),
+        (1, [88, 4], 4),
+        (2, [76, 0], 2),
+        (9, [0, 0], 2),
+        (1 << 46, [0, 0], 2),
+    ] {
+        let graph: Valid<Kind> = build(alloc, &counting([100, 10], 1), &COUNTING_WIRES, 6)?;
+        let wanted: Valid<Kind> = build(alloc, &counting(heads, held), &COUNTING_WIRES, 6)?;
+        let firings = [12, 12, 2, 3, 6, 6];
+        let likes = kinds(alloc, &counting([100, 10], 1))?;
+        let Ok(Some(later)) = later_graph(alloc, &graph, &firings, iterations, likes) else {
+            panic!(rt; "{iterations}: no later graph");
+        };
+        assert!(rt; later.agrees(&wanted), "{iterations}");
+        assert!(rt; first_to_count(&graph) == Some(BlockId(1)), "the first that counts");
+    }
+    Ok(())
+}
+
+// Blocks that are not those of the graph, one too few, firings that are no number, and a block that remembers.
+#[test]
+fn no_later_graph(rt: HostRuntime) -> Result<(), Fail> {
+    let alloc = rt.alloc();
+    let own = counting([100, 10], 1);
+    let mut remembers = own;
+    remembers[3].1 = Encode;
+    let firings = [12, 12, 2, 3, 6, 6];
+    for (case, of, like, count, iterations) in [
+        ("another head", own, counting([100, 9], 1), 6, 1),
+        ("five blocks", own, own, 5, 1),
+        ("too many firings", own, own, 6, u64::MAX),
+        ("sums", remembers, remembers, 6, 1),
+    ] {
+        let graph: Valid<Kind> = build(alloc, &of, &COUNTING_WIRES, 6)?;
+        let likes = kinds(alloc, &like[..count])?;
+        let found = later_graph(alloc, &graph, &firings, iterations, likes);
+        assert!(rt; matches!(found, Ok(None)), "{case}");
+    }
+    Ok(())
+}
+
+fn kinds(alloc: Global, blocks: &[Drawn<'_>]) -> Result<Vec<Kind>, Fail> {
+    let mut kinds = Vec::new(alloc);
+    for (_, make, _, _) in blocks {
+        kinds.push(made(*make)?)?;
+    }
+    Ok(kinds)
 }
 
 // A slice behind five zeros and a sum of four, and the first one.

@@ -63,3 +63,11 @@ block_step n d ms = block_added n d ms (block_in ms)
 -- the block of the table takes memory as it is made, or as it goes into the graph
 abbrev pub BlockTakes : ℕ → Draft → Members → Type 0
 BlockTakes n d ms = (takes_memory ms ≡ true) ⊎ IsOk (block_step n d ms)
+
+-- what the tables of blocks mean so far, with that of table n
+abbrev pub meaning_added : ℕ → List Meaning → Result Meaning KeyFault → Result (List Meaning) Refusal
+meaning_added n means (Err fault) = Err (at_table (places.Block n) fault)
+meaning_added n means (Ok m) = Ok (means ++ m ∷ [])
+
+abbrev pub meaning_step : ℕ → List Meaning → Members → Result (List Meaning) Refusal
+meaning_step n means ms = meaning_added n means (block_in ms)

@@ -1,6 +1,7 @@
 -- The graph and the feeds of a graph file.
 use Rattle.std.specs.Prelude.{◌≡◌, ◌⊎◌, List, [], ◌∷◌, map, Option, Some, None, Result, Ok, Err, IsOk, IsOkAnd}
 use Rattle.toml.specs.Data.{Members}
+use Rattle.stream_model.specs.Meaning.{Meaning}
 use Rattle.flowgraph.specs.Flowgraph.{graph_of}
 use Rattle.kind_keys.specs.declared.key.Key.{Key}
 use Rattle.kind_keys.specs.declared.key.Key.TheVariants as keys
@@ -9,7 +10,7 @@ use Rattle.graph_file.specs.declared.fault.FilePlace.TheVariants.{Top}
 use Rattle.graph_file.specs.declared.file.File.{File}
 use Rattle.graph_file.specs.Refusals.{Refusal, syntax}
 use Rattle.graph_file.specs.Steps.{then, unless, steps, StepsTake}
-use Rattle.graph_file.specs.Blocks.{Draft, drafted, block_step, BlockTakes}
+use Rattle.graph_file.specs.Blocks.{Draft, drafted, block_step, meaning_step, BlockTakes}
 use Rattle.graph_file.specs.Connections.{only_fault, connect_step, ConnectTakes}
 use Rattle.graph_file.specs.Feeds.{Fed, fed, feed_step, FeedTakes}
 
@@ -66,3 +67,8 @@ FeedsTake ms = IsOk (graph_in ms) × StepsTake feed_step FeedTakes 0 [] (items_a
 -- of a document, with whose own keys nothing is wrong
 abbrev pub FileTakes : Members → Type 0
 FileTakes ms = (only_fault (has_only top_keys ms) (keys_fault ms top_keys) ≡ None) × (GraphTakes ms ⊎ FeedsTake ms)
+
+-- what the blocks of a document mean, without their names and options
+abbrev pub meanings_of : Option Members → Result (List Meaning) Refusal
+meanings_of None = Err syntax
+meanings_of (Some ms) = steps meaning_step 0 [] (items_at ms keys.Block)

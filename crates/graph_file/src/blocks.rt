@@ -1,12 +1,13 @@
 //! The blocks of a graph file.
-ghost use Rattle.std.specs.Prelude.{◌≡◌, Ok, OnOk, IfErr, IsErrOf};
+ghost use Rattle.std.specs.Prelude.{◌≡◌, [], map, Ok, IfOk, OnOk, IfErr, IsErrOf};
 ghost use Rattle.toml.specs.Data.{as_table};
 ghost use Rattle.toml.specs.View.{view, table_view, items_view};
 ghost use Rattle.kind_keys.specs.Tables.{at_key, string_in};
 ghost use Rattle.kind_keys.specs.declared.key.Key.TheVariants as keys;
 ghost use Rattle.graph_file.specs.Refusals.{IsRefused};
 ghost use Rattle.graph_file.specs.Steps.{steps, step_in, StepsTake, TakesIn};
-ghost use Rattle.graph_file.specs.Blocks.{drafted, block_step, policy_in, BlockTakes};
+ghost use Rattle.kinds.specs.Kind.{meaning_of};
+ghost use Rattle.graph_file.specs.Blocks.{drafted, block_step, meaning_step, policy_in, BlockTakes};
 
 use crate::fault::{FileFault, FilePlace, graph_fault, table_fault};
 use flowgraph::{Graph, Options, Policy};
@@ -15,6 +16,39 @@ use kind_keys::{Key, read_kind};
 use kinds::Kind;
 use std::alloc::Global;
 use toml::{Table, Value};
+
+/// The blocks of an array of tables, in their order.
+pub(crate) fn blocks_of(alloc: Global, values: &[Value]) -> Result<Vec<Kind>, FileFault>
+    ensures ok { IfOk result (λ blocks. steps meaning_step 0 [] (items_view values.now) ≡ Ok (map meaning_of blocks.items)) }
+    ensures refused { IfErr result (IsRefused (steps meaning_step 0 [] (items_view values.now))) }
+{
+    let mut blocks = Vec::new(alloc);
+    for (number, value) in values.iter().enumerate() {
+        if let Err(fault) = push_value(alloc, &mut blocks, number, value) {
+            return Err(fault);
+        }
+    }
+    Ok(blocks)
+}
+
+// Adds the block of a value of the array. What is no table was refused before.
+fn push_value(
+    alloc: Global,
+    blocks: &mut Vec<Kind>,
+    number: usize,
+    value: &Value,
+) -> Result<(), FileFault>
+    ensures ok { OnOk result (step_in meaning_step number (map meaning_of blocks.old.items) (as_table (view value.now)) ≡ Ok (map meaning_of blocks.new.items)) }
+    ensures refused { IfErr result (IsRefused (step_in meaning_step number (map meaning_of blocks.old.items) (as_table (view value.now)))) }
+{
+    let Some(table) = value.as_table() else {
+        return Ok(());
+    };
+    match read_kind(alloc, table) {
+        Ok(block) => Ok(blocks.push(block)?),
+        Err(fault) => Err(table_fault(FilePlace::Block(number), fault)),
+    }
+}
 
 /// Adds the blocks of an array of tables.
 pub(crate) fn add_blocks(

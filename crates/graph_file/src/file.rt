@@ -1,13 +1,14 @@
 //! A graph file, read.
-ghost use Rattle.std.specs.Prelude.{◌≡◌, Ok, Some, IfOk, OnOk, IfErr, IsUtf8, IsErrOf};
+ghost use Rattle.std.specs.Prelude.{◌≡◌, map, Ok, Some, IfOk, OnOk, IfErr, IsUtf8, IsErrOf};
 ghost use Rattle.toml.specs.Parse.{parse_document};
 ghost use Rattle.toml.specs.Errors.{IsBlank};
 ghost use Rattle.toml.specs.View.{table_view};
 ghost use Rattle.graph_file.specs.Refusals.{IsRefused};
 ghost use Rattle.graph_file.specs.Blocks.{drafted};
-ghost use Rattle.graph_file.specs.File.{file_of, file_in, graph_in, seen, GraphTakes, FileTakes};
+ghost use Rattle.kinds.specs.Kind.{meaning_of};
+ghost use Rattle.graph_file.specs.File.{file_of, file_in, graph_in, meanings_of, seen, GraphTakes, FileTakes};
 
-use crate::blocks::add_blocks;
+use crate::blocks::{add_blocks, blocks_of};
 use crate::connections::add_connections;
 use crate::fault::{FileFault, FilePlace, table_fault};
 use crate::feed::Feed;
@@ -43,6 +44,22 @@ pub fn read_graph(alloc: Global, text: &[u8]) -> Result<File, FileFault>
     };
     match toml::table_from_str(alloc, text) {
         Ok(table) => file_of(alloc, &table),
+        Err(error) if error.is_memory() => Err(FileFault::Memory),
+        Err(_) => Err(FileFault::Syntax),
+    }
+}
+
+/// The blocks of a graph file that is not refused, once more, in the order of the file.
+pub(crate) fn read_blocks(alloc: Global, text: &[u8]) -> Result<Vec<Kind>, FileFault>
+    ensures ok { IfOk result (λ blocks. IsUtf8 text.now × (meanings_of (parse_document text.now) ≡ Ok (map meaning_of blocks.items))) }
+    ensures refused { IsUtf8 text.now → IfErr result (IsRefused (meanings_of (parse_document text.now))) }
+    ensures encoding { ¬ (IsUtf8 text.now) → IsErrOf result FileFault.Syntax }
+{
+    let Ok(text) = std::str::from_utf8(text) else {
+        return Err(FileFault::Syntax);
+    };
+    match toml::table_from_str(alloc, text) {
+        Ok(table) => blocks_of(alloc, values_at(&table, Key::Block)),
         Err(error) if error.is_memory() => Err(FileFault::Memory),
         Err(_) => Err(FileFault::Syntax),
     }

@@ -5,7 +5,7 @@
 //! let plant = file.open(alloc)?;           // tested as a graph, opened and fed
 //! ```
 //!
-//! `validate` gives the graph and the feeds alone, and `stream` a plant that streams. A file that is refused is a [`FileFault`]: a number, a name and the place.
+//! `validate` gives the graph and the feeds alone, and `stream` a plant that streams; [`open_later`] gives one whose blocks go on where those of the file stand. A file that is refused is a [`FileFault`]: a number, a name and the place.
 //! Which cause is reported, where there are several, and that all else is accepted, says the contract of [`read_graph`]. `blocks`, `connections` and `feeds` read
 //! the tables, [`kind_keys`] makes a block of a table, and `only` refuses keys that a table may not have. A fault is made without memory, and its text comes in
 //! [`RefusalText`](reporting::RefusalText) for the same reason.
@@ -18,6 +18,7 @@ pub mod fault;
 pub mod feed;
 mod feeds;
 pub mod file;
+pub mod later;
 mod only;
 mod opening;
 mod taking;
@@ -27,3 +28,4 @@ pub use accepted::{Depth, fault_of};
 pub use fault::{FileFault, FilePlace};
 pub use feed::{Feed, FileMark};
 pub use file::{File, read_graph};
+pub use later::open_later;

@@ -7,7 +7,7 @@ use Rattle.std.proofs.lemmas.List.Elements.{All-from_get_or, All-get_or}
 use Rattle.stream_model.specs.Network.{Network, Connection, no_connection, writers_of, writer_of}
 use Rattle.slices.specs.declared.reach.Reach.{Reach}
 use Rattle.slices.specs.declared.TheConstants.{MOST_FIRINGS}
-use Rattle.slices.specs.Reaches.{reach_at, needs}
+use Rattle.slices.specs.Reaches.{reach_at}
 use Rattle.slices.specs.Firings.{firing_at, IsEnough, AreFirst, AreLate, AreBegun, AreRisen, HasRisen}
 use Rattle.stream_laws.proofs.Writers.{is_input, All-writers}
 use Rattle.slice_laws.specs.Slices.{settled}

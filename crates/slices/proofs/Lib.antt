@@ -9,3 +9,4 @@ pub mod Waiting
 pub mod Planning
 pub mod Cutting
 pub mod Reaching
+pub mod GoingOn

@@ -1,5 +1,5 @@
 -- A plan is put together.
-use Rattle.std.proofs.Common.{◌≡◌, ◌≢◌, ℕ, zero, suc, ◌+◌, ◌-◌, ◌*◌, ◌^◌, ◌<◌, ◌≤◌, Bool, true, false, None, Some, List, [], ◌∷◌, ◌++◌, map, filter, take, length, get_or, refl, arith, ap, sym, ◌∙◌, subst, inl, inr, All}
+use Rattle.std.proofs.Common.{◌≡◌, ◌≢◌, ℕ, zero, suc, ◌+◌, ◌-◌, ◌*◌, ◌^◌, ◌<◌, ◌≤◌, Bool, true, false, Some, List, [], ◌∷◌, ◌++◌, map, filter, take, length, get_or, refl, arith, ap, sym, ◌∙◌, subst, inl, inr, All}
 use Rattle.std.specs.Prelude.{cond}
 use Rattle.std.proofs.lemmas.Bool.{cases_lt, cond-true, cond-false}
 use Rattle.std.proofs.lemmas.List.{map-id, map-append, length-map, get_or-map, get_or_past, append-nil}
@@ -19,7 +19,7 @@ use Rattle.graph_model.specs.Rates.{count_after, is_past_skips}
 use Rattle.graph_model.proofs.Growth.{counts_grow}
 use Rattle.flowgraph.specs.declared.parts.Entry.{Entry}
 use Rattle.flowgraph.specs.Flowgraph.{node_of}
-use Rattle.slice_laws.specs.Slices.{settled, right_of, AreSettled}
+use Rattle.slice_laws.specs.Slices.{settled, right_of, IsResumed}
 use Rattle.slice_laws.specs.Tags.{ArePlaced, both_right}
 use Rattle.slices.specs.declared.look_back.LookBack.{LookBack}
 use Rattle.slices.specs.declared.look_back.LookBack.TheVariants.{Items}
@@ -30,11 +30,11 @@ use Rattle.slices.specs.declared.plan.Asks.TheVariants as asked
 use Rattle.slices.specs.declared.plan.Plan.{Plan}
 use Rattle.slices.specs.declared.reach.Content.TheVariants as content
 use Rattle.slices.specs.declared.reach.Reach.{Reach}
-use Rattle.slices.specs.LookBack.{is_forgetful, back_of, start_of, nearest_back, tags_back_of, tags_start_of, IsFarEnough, HasLookBack, HasPlaces}
+use Rattle.slices.specs.LookBack.{is_forgetful, back_of, start_of, nearest_back, tags_back_of, tags_start_of, IsFarEnough, HasPlaces}
 use Rattle.slices.specs.Reaches.{items_reach, tags_reach, heeds, reach_of, no_reach, reach_at, needs}
 use Rattle.slices.specs.Firings.{look_at, firing_at, CanRise, AreFar, AreFirst, AreLeast}
 use Rattle.slices.specs.Counts.{CanCut, IsFirstPast}
-use Rattle.slices.specs.Plans.{source_of, sources_of, sink_of, sink_at, keepers_of, AreTagged, AreAskedFor, AreAsked, CanWait, IsEnoughOverlap, HasWaited, IsLeastPlan}
+use Rattle.slices.specs.Plans.{AllForget, source_of, sources_of, sink_of, sink_at, keepers_of, AreTagged, AreAskedFor, AreAsked, CanWait, HasGoneOn, IsEnoughOverlap, HasWaited, IsLeastPlan}
 use Rattle.slices.proofs.Fewest.{count-few}
 use Rattle.slices.proofs.Passed.{past_later}
 use Rattle.slices.proofs.Waiting.{is_sink}
@@ -62,29 +62,20 @@ map_more f d [] n lt = absurd (omega arith)
 map_more f d (x ∷ xs) zero lt = refl
 map_more f d (x ∷ xs) (suc n) lt = ap (λ ys. f x ∷ ys) (map_more f d xs n (omega arith))
 
--- what is known of a block: the laws of its look back, and what it looks at
+-- what is known of a block: the law of its tags, and what it looks at
 pub record IsKnown (n : Node) (look : LookBack) (items tags : Reach) : Type 0 where
-  pub settles : HasLookBack n.meaning look
   pub places : HasPlaces n.meaning look
   pub items_is : items ≡ items_reach look
   pub tags_is : tags ≡ tags_reach (heeds n.meaning.role n.policy) look (nearest_back (n.meaning.rate 0))
 
 -- the blocks of a graph
-module _ {B : Type 0} (meaning : B → Meaning) (looks : B → LookBack) (law : (b : B) → HasLookBack (meaning b) (looks b)) (place : (b : B) → HasPlaces (meaning b) (looks b)) where
+module _ {B : Type 0} (meaning : B → Meaning) (looks : B → LookBack) (place : (b : B) → HasPlaces (meaning b) (looks b)) where
   pub known_of : (es : List (Entry B)) (b : ℕ) → b < length es →
       IsKnown (get_or (map (node_of meaning) es) b no_node) (get_or (map (λ (e : Entry B). looks e.block) es) b (Items 0)) (get_or (map (reach_of meaning looks content.Items) es) b no_reach)
       (get_or (map (reach_of meaning looks content.Tags) es) b no_reach)
   known_of [] b lt = absurd (omega arith)
-  known_of (e ∷ es) zero lt = record { settles = law e.block; places = place e.block; items_is = refl; tags_is = refl }
+  known_of (e ∷ es) zero lt = record { places = place e.block; items_is = refl; tags_is = refl }
   known_of (e ∷ es) (suc b) lt = known_of es b (omega arith)
-
--- and none of them has an end of its own
-module _ {B : Type 0} (meaning : B → Meaning) (looks : B → LookBack) (law : (b : B) → HasLookBack (meaning b) (looks b)) where
-  pub endless_of : (es : List (Entry B)) → ((b : ℕ) → b < length es → is_forgetful (get_or (map (λ (e : Entry B). looks e.block) es) b (Items 0)) ≡ true) →
-      (b : ℕ) → (get_or (map (node_of meaning) es) b no_node).meaning.limit ≡ None
-  endless_of [] forget b = refl
-  endless_of (e ∷ es) forget zero = (law e.block (forget 0 (omega arith))).endless
-  endless_of (e ∷ es) forget (suc b) = endless_of es (λ a lt. forget (suc a) (omega arith)) b
 
 -- firings that are far enough along each connection are far enough for each block
 module _ (net : Network) (runs : CanRun net) (rs : List Reach) (f : ℕ → ℕ) (far : AreFar net rs f) (b : ℕ) (in' : b < length net.nodes) (start back : ℕ) (is : reach_at rs b ≡ record { start = start; back = Some back }) where
@@ -115,13 +106,23 @@ heeds-keeper r policies.None keeps = keeps
 heeds-keeper r policies.All keeps = refl
 heeds-keeper r policies.One keeps = refl
 
--- blocks settle, and tags are right, at firings that are far enough
+-- a later network resumes the first, and tags are right, at firings that are far enough
 module _ (net : Network) (ls : List LookBack) (items tags : List Reach) (runs : CanRun net) (forget : (b : ℕ) → b < length net.nodes → is_forgetful (look_at ls b) ≡ true)
     (known : (b : ℕ) → b < length net.nodes → IsKnown (node_at net b) (look_at ls b) (reach_at items b) (reach_at tags b)) where
-  pub settles : (f : ℕ → ℕ) → AreFar net items f → AreSettled net f
-  settles f far b in' work =
-      let is = known b in' in
-      (is.settles (forget b in')).settles work (length (writers_of net b)) (right_of net f b) (f b) (far_at net runs items f far b in' (start_of (look_at ls b)) (back_of (look_at ls b)) is.items_is work)
+  pub resumes : (f : ℕ → ℕ) → AreFar net items f → (q : List ℕ) (k : ℕ) (later : Network) → HasGoneOn net q ls k later → IsResumed net q k f later
+  resumes f far q k later on =
+      record {
+        can = on.can;
+        blocks = sym on.blocks.long;
+        connections = on.connections;
+        like = λ b in'.
+            let later' = on.blocks.each b in' in
+            let goes = later'.goes_on in
+            record { role = goes.role; policy = later'.policy; multiple = later'.multiple; taken = goes.taken; given = goes.given; place = goes.place };
+        resumes = λ b in' work.
+            (on.blocks.each b in').goes_on.resumes work (length (writers_of net b)) (right_of net f b) (f b)
+            (far_at net runs items f far b in' (start_of (look_at ls b)) (back_of (look_at ls b)) (known b in').items_is work);
+      }
 
   module _ (g : ℕ → ℕ) (far : AreFar net tags g) where
     heeded : (b : ℕ) → b < length net.nodes → heeds (role_at net b) (node_at net b).policy ≡ true →
@@ -228,15 +229,14 @@ module _ (net : Network) (q : List ℕ) (can : CanCut net q) where
       same_sinks = map-agree (λ b. b < length net.nodes) (sink_at net q first tagged found.counts.items wait) (sink_of net q (firing_at first) (firing_at tagged) (found.iterations + wait)) (keepers_of net) in_net
           (λ b in'. ap (λ drop. record { block = record { 0 = b }; period = get_or q b 0; settled = both_right net (firing_at first) (firing_at tagged) b; drop = drop }) (sym (later wait b in')))
 
-      pub is_least_plan : ((b : ℕ) → (node_at net b).meaning.limit ≡ None) → AreSettled net (firing_at first) → AreAskedFor net asks (firing_at first) (firing_at tagged) → (plan : Plan) → plan.asks ≡ asks → plan.overlap ≡ found.iterations + wait →
-          plan.sources.items ≡ map (source_of q (found.iterations + wait)) (sources_of net) → plan.sinks.items ≡ map (sink_at net q first tagged found.counts.items wait) (keepers_of net) → IsLeastPlan net q items tags asks plan
-      is_least_plan endless are right plan same e sources sinks =
+      pub is_least_plan : (ls : List LookBack) → AllForget ls → ((k : ℕ) (later : Network) → HasGoneOn net q ls k later → IsResumed net q k (firing_at first) later) → AreAskedFor net asks (firing_at first) (firing_at tagged) → (plan : Plan) → plan.asks ≡ asks → plan.overlap ≡ found.iterations + wait →
+          plan.sources.items ≡ map (source_of q (found.iterations + wait)) (sources_of net) → plan.sinks.items ≡ map (sink_at net q first tagged found.counts.items wait) (keepers_of net) → IsLeastPlan net q ls items tags asks plan
+      is_least_plan ls forget on right plan same e sources sinks =
           record {
             is = record {
               can = can;
-              endless = endless;
               firing = firing_at first;
-              settle = are;
+              resumes = on;
               tagged = firing_at tagged;
               asked = subst (λ a. AreAskedFor net a (firing_at first) (firing_at tagged)) (sym same) right;
               few = (let a = past.few in let b = waited.few in omega arith);
@@ -246,6 +246,7 @@ module _ (net : Network) (q : List ℕ) (can : CanCut net q) where
               sinks = sinks ∙ same_sinks ∙ ap (λ w. map (sink_of net q (firing_at first) (firing_at tagged) w) (keepers_of net)) (sym e);
             };
             asks = same;
+            forget = forget;
             items = record { far = firsts.far; first = firsts.least };
             tags = asked-least net tags asks first tagged are_asked;
           }

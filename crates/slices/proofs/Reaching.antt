@@ -1,5 +1,5 @@
 -- Iterations that are wanted of all sinks, found sink by sink.
-use Rattle.std.proofs.Common.{◌≡◌, ℕ, ◌+◌, ◌*◌, ◌<◌, ◌≤◌, min, max, List, length, slice_index_or, arith, ap, below_more}
+use Rattle.std.proofs.Common.{◌≡◌, ℕ, ◌+◌, ◌<◌, ◌≤◌, min, max, List, slice_index_or, arith, ap, below_more}
 use Rattle.slices.specs.declared.plan.Plan.{Plan}
 use Rattle.slices.specs.declared.plan.Sink.{Sink}
 use Rattle.slices.specs.declared.TheConstants.{MOST_ITERATIONS}

@@ -1,12 +1,16 @@
 -- How far back each kind looks.
-use Rattle.std.specs.Prelude.{ℕ, ◌+◌, ◌-◌, length}
+use Rattle.std.specs.Prelude.{ℕ, ◌+◌, ◌-◌, length, Bool, true, false}
 use Rattle.stream_model.specs.declared.vocabulary.Shift.{Shift}
 use Rattle.stream_model.specs.declared.vocabulary.Shift.TheVariants as shifts
 use Rattle.kind_model.specs.Filters.{branch_taps}
+use Rattle.stream_model.specs.Meaning.{Meaning}
+use Rattle.rate_blocks.specs.Kinds.{head_after}
+use Rattle.bit_blocks.specs.Kinds.{scrambler_after}
+use Rattle.kinds.specs.Kind.{meaning_of}
 use Rattle.kinds.specs.declared.kind.Kind.{Kind}
-use Rattle.kinds.specs.declared.kind.Kind.TheVariants.{VectorSource, VectorSink, NullSink, AddConst, MultiplyConst, DivideConst, AndConst, OrConst, XorConst, Scale, Clip, Abs, Not, Mute, Add, Sub, Multiply, Divide, Minimum, Maximum, And, Or, Xor, MapBb, Table, Convert, BinarySlicer, UlawEncode, AlawEncode, MovingSum, Fir, InterpFir, KeepOneInN, KeepMInN, Integrate, FrameMinimum, FrameMaximum, Argmax, Repeat, Insert, Pattern, Counter, Permute, Interleave, Deinterleave, StreamMux, Head, SkipHead, Delay, PackKBits, UnpackKBits, RepackBits, PackedToUnpacked, UnpackedToPacked, DiffEncoder, DiffDecoder, Scrambler, Descrambler, AdditiveScrambler, CorrelateAccessCode}
+use Rattle.kinds.specs.declared.kind.Kind.TheVariants.{VectorSource, VectorSink, NullSink, AddConst, MultiplyConst, DivideConst, AndConst, OrConst, XorConst, Scale, Clip, Abs, Not, Mute, Add, Sub, Multiply, Divide, Minimum, Maximum, And, Or, Xor, MapBb, Table, Convert, BinarySlicer, UlawEncode, AlawEncode, MovingSum, Fir, InterpFir, KeepOneInN, KeepMInN, Integrate, FrameMinimum, FrameMaximum, Argmax, Repeat, Insert, Pattern, Counter, Permute, Interleave, Deinterleave, StreamMux, Head, SkipHead, Delay, PackKBits, UnpackKBits, RepackBits, PackedToUnpacked, UnpackedToPacked, DiffEncoder, DiffDecoder, Scrambler, Descrambler, AdditiveScrambler, CorrelateAccessCode, CrcAppend, CrcCheck}
 use Rattle.slices.specs.declared.look_back.LookBack.{LookBack}
-use Rattle.slices.specs.declared.look_back.LookBack.TheVariants.{Items, Number, Everything}
+use Rattle.slices.specs.declared.look_back.LookBack.TheVariants.{Items, Everything}
 use Rattle.slices.specs.declared.look_back.LookBack.TheVariants as looks
 
 -- how far back a block looks, by its kind. Where no comment says why, a firing reads what it takes and nothing before it
@@ -55,14 +59,13 @@ look_back_of (Argmax b) = Items 0
 look_back_of (Repeat b) = Items 0
 look_back_of (Insert b) = Items 0
 -- its items go on by their number
-look_back_of (Pattern b) = Number
-look_back_of (Counter b) = Number
+look_back_of (Pattern b) = Everything
+look_back_of (Counter b) = Everything
 look_back_of (Permute b) = Items 0
 look_back_of (Interleave b) = Items 0
 look_back_of (Deinterleave b) = Items 0
 look_back_of (StreamMux b) = Items 0
--- it ends behind its first items
-look_back_of (Head b) = Number
+look_back_of (Head b) = Items 0
 look_back_of (SkipHead b) = looks.Skip b.n
 look_back_of (Delay b) = looks.Delay b.n
 look_back_of (PackKBits b) = Items 0
@@ -78,10 +81,24 @@ look_back_of (DiffDecoder b) = Items 1
 look_back_of (Scrambler b) = Everything
 -- the bits in its register are the last items; no register has more
 look_back_of (Descrambler b) = Items 32
--- its register goes on by itself, a step a firing
-look_back_of (AdditiveScrambler b) = Number
+look_back_of (AdditiveScrambler b) = Items 0
 -- it gives the item 64 before, and compares those before that one with the code
 look_back_of (CorrelateAccessCode b) = Items (64 + b.length)
+look_back_of (CrcAppend b) = Items 0
+look_back_of (CrcCheck b) = Items 0
+
+-- what a block goes on as behind so many firings: a head has as many fewer items to give, the register of an additive scrambler has gone on by itself, and one that
+-- forgets goes on as it is
+abbrev pub later_of : Kind → ℕ → Meaning
+later_of (Head b) c = head_after b c
+later_of (AdditiveScrambler b) c = scrambler_after b c
+later_of k c = meaning_of k
+
+-- what a block gives rests on how many firings came before: a head has fewer items left to give, and an additive scrambler another register
+abbrev pub counts_of : Kind → Bool
+counts_of (Head b) = true
+counts_of (AdditiveScrambler b) = true
+counts_of k = false
 
 -- how far back a block with this shift and this history looks, where nothing else keeps its past
 abbrev pub shown_by : Shift → ℕ → LookBack

@@ -1,14 +1,15 @@
 -- Each kind places tags as the table says.
 use Rattle.std.specs.Prelude.{ℕ, ◌+◌, ◌-◌, ◌*◌, ◌/◌, ◌<◌, ◌≤◌, ◌≡◌, Some, length, refl}
 use Rattle.std.proofs.Common.{ap, ap₂, sym, ◌∙◌, subst, arith}
-use Rattle.std.proofs.Math.Nat.{mul-le-mul_left, lt-mul-div-succ}
+use Rattle.std.proofs.Math.Nat.{mul-le-mul_left, mul-div-le, lt-mul-div-succ}
 use Rattle.stream_model.specs.Tags.{place_at_rate}
 use Rattle.stream_model.specs.Meaning.{Meaning, IsLawful, IsAtRate, HasCounts}
 use Rattle.stream_model.specs.Firings.{taken_at, given_at}
 use Rattle.rate_blocks.specs.Mux.{lengths_of}
 use Rattle.kinds.specs.Kind.{meaning_of, meaning_of-lawful}
 use Rattle.kinds.specs.declared.kind.Kind.{Kind}
-use Rattle.kinds.specs.declared.kind.Kind.TheVariants.{VectorSource, VectorSink, NullSink, AddConst, MultiplyConst, DivideConst, AndConst, OrConst, XorConst, Scale, Clip, Abs, Not, Mute, Add, Sub, Multiply, Divide, Minimum, Maximum, And, Or, Xor, MapBb, Table, Convert, BinarySlicer, UlawEncode, AlawEncode, MovingSum, Fir, InterpFir, KeepOneInN, KeepMInN, Integrate, FrameMinimum, FrameMaximum, Argmax, Repeat, Insert, Pattern, Counter, Permute, Interleave, Deinterleave, StreamMux, Head, SkipHead, Delay, PackKBits, UnpackKBits, RepackBits, PackedToUnpacked, UnpackedToPacked, DiffEncoder, DiffDecoder, Scrambler, Descrambler, AdditiveScrambler, CorrelateAccessCode}
+use Rattle.kind_model.specs.Codes.{bytes_of}
+use Rattle.kinds.specs.declared.kind.Kind.TheVariants.{VectorSource, VectorSink, NullSink, AddConst, MultiplyConst, DivideConst, AndConst, OrConst, XorConst, Scale, Clip, Abs, Not, Mute, Add, Sub, Multiply, Divide, Minimum, Maximum, And, Or, Xor, MapBb, Table, Convert, BinarySlicer, UlawEncode, AlawEncode, MovingSum, Fir, InterpFir, KeepOneInN, KeepMInN, Integrate, FrameMinimum, FrameMaximum, Argmax, Repeat, Insert, Pattern, Counter, Permute, Interleave, Deinterleave, StreamMux, Head, SkipHead, Delay, PackKBits, UnpackKBits, RepackBits, PackedToUnpacked, UnpackedToPacked, DiffEncoder, DiffDecoder, Scrambler, Descrambler, AdditiveScrambler, CorrelateAccessCode, CrcAppend, CrcCheck}
 use Rattle.slice_laws.specs.Tags.{Places}
 use Rattle.slice_laws.proofs.Placing.{shaped-places, stream_mux-places, skiphead-places, delay-places}
 use Rattle.slices.specs.declared.look_back.LookBack.TheVariants.{Items}
@@ -59,6 +60,13 @@ nearest k d i rates places is work inputs right f far =
     let e = ap nearest_back (rates 0) in
     omega arith)
 
+-- at a rate of one for one each tag keeps its item
+kept_at_one : (s : ℕ) → s ≡ place_at_rate 1 1 s
+kept_at_one s =
+    let low : 2 * s * 1 + 1 < 2 * ((2 * s * 1 + 1) / 2 + 1) = lt-mul-div-succ (2 * s * 1 + 1) (omega arith) in
+    let high : 2 * ((2 * s * 1 + 1) / 2) ≤ 2 * s * 1 + 1 = mul-div-le (2 * s * 1 + 1) 2 in
+    omega arith
+
 pub look_back_of-places : (k : Kind) → HasPlaces (meaning_of k) (look_back_of k)
 look_back_of-places (VectorSource b) is = λ work inputs right f far. absurd (cc)
 look_back_of-places (VectorSink b) is = nearest (VectorSink b) 1 1 (λ p. refl) (λ p s. refl) is
@@ -106,7 +114,7 @@ look_back_of-places (Permute b) is = nearest (Permute b) (length b.order.items) 
 look_back_of-places (Interleave b) is = nearest (Interleave b) 1 b.ports.value (λ p. refl) (λ p s. refl) is
 look_back_of-places (Deinterleave b) is = nearest (Deinterleave b) b.ports.value 1 (λ p. refl) (λ p s. refl) is
 look_back_of-places (StreamMux b) is = λ work inputs right f far. stream_mux-places b.item (lengths_of b) right f b.is_mux (reached _ _ _ inputs right f far)
-look_back_of-places (Head b) is = absurd (cc)
+look_back_of-places (Head b) is = nearest (Head b) 1 1 (λ p. refl) (λ p s. kept_at_one s) is
 look_back_of-places (SkipHead b) is =
     λ work inputs right f far.
     skiphead-places b.item b.n right f (let past = far.past in let most = b.most in omega arith) (λ p. let r = reached _ _ _ inputs right f far p in omega arith)
@@ -120,5 +128,7 @@ look_back_of-places (DiffEncoder b) is = absurd (cc)
 look_back_of-places (DiffDecoder b) is = nearest (DiffDecoder b) 1 1 (λ p. refl) (λ p s. refl) is
 look_back_of-places (Scrambler b) is = absurd (cc)
 look_back_of-places (Descrambler b) is = nearest (Descrambler b) 1 1 (λ p. refl) (λ p s. refl) is
-look_back_of-places (AdditiveScrambler b) is = absurd (cc)
+look_back_of-places (AdditiveScrambler b) is = nearest (AdditiveScrambler b) 1 1 (λ p. refl) (λ p s. refl) is
 look_back_of-places (CorrelateAccessCode b) is = nearest (CorrelateAccessCode b) 1 1 (λ p. refl) (λ p s. refl) is
+look_back_of-places (CrcAppend b) is = nearest (CrcAppend b) b.crc.length (b.crc.length + bytes_of b.crc.rule) (λ p. refl) (λ p s. refl) is
+look_back_of-places (CrcCheck b) is = nearest (CrcCheck b) (b.crc.length + bytes_of b.crc.rule) 1 (λ p. refl) (λ p s. refl) is

@@ -1,9 +1,11 @@
 -- The plan by which runs of a network are cut into slices.
-use Rattle.std.specs.Prelude.{ℕ, ◌+◌, ◌*◌, ◌^◌, ◌<◌, ◌≤◌, ◌≡◌, ◌⊎◌, List, length, map, filter, None, true, false, slice_index}
+use Rattle.std.specs.Prelude.{ℕ, ◌+◌, ◌*◌, ◌^◌, ◌<◌, ◌≤◌, ◌≡◌, ◌⊎◌, List, length, map, filter, Bool, true, false, slice_index, slice_index_or}
 use Rattle.stream_model.specs.Lists.{below}
-use Rattle.stream_model.specs.Network.{Network, node_at, role_at, is_source, is_keeper}
+use Rattle.stream_model.specs.Network.{Network, Node, no_node, node_at, role_at, is_source, is_keeper}
 use Rattle.graph_model.specs.Rates.{count_after, is_past_skips}
-use Rattle.slice_laws.specs.Slices.{right_of, AreSettled}
+use Rattle.stream_laws.specs.CanRun.{CanRun}
+use Rattle.flowgraph.specs.Flowgraph.{Flowgraph}
+use Rattle.slice_laws.specs.Slices.{right_of, IsResumed}
 use Rattle.slice_laws.specs.Tags.{ArePlaced, both_right}
 use Rattle.slices.specs.declared.look_back.LookBack.{LookBack}
 use Rattle.slices.specs.declared.plan.Asks.{Asks}
@@ -14,7 +16,7 @@ use Rattle.slices.specs.declared.plan.Plan.{Plan}
 use Rattle.slices.specs.declared.plan.Planned.{Planned}
 use Rattle.slices.specs.declared.plan.Planned.TheVariants as answers
 use Rattle.slices.specs.declared.reach.Reach.{Reach}
-use Rattle.slices.specs.LookBack.{is_forgetful}
+use Rattle.slices.specs.LookBack.{is_forgetful, GoesOnAs}
 use Rattle.slices.specs.Firings.{look_at, firing_at, CanRise, AreFirst, AreLeast, AreLate}
 use Rattle.slices.specs.Counts.{CanCut}
 
@@ -27,6 +29,23 @@ pub record IsFirstToRemember (ls : List LookBack) (b : ℕ) : Type 0 where
   pub there : b < length ls
   pub remembers : is_forgetful (look_at ls b) ≡ false
   pub first : (a : ℕ) → a < b → is_forgetful (look_at ls a) ≡ true
+
+-- whether what each block of a graph gives rests on how many firings came before
+abbrev pub counting_of : {B : Type 0} → (B → Bool) → Flowgraph B → List Bool
+counting_of counts g = map (λ e. counts e.block) g.blocks
+
+abbrev pub counts_at : List Bool → ℕ → Bool
+counts_at cs b = slice_index_or cs b false
+
+-- no block counts
+abbrev pub NoneCounts : List Bool → Type 0
+NoneCounts cs = (b : ℕ) → b < length cs → counts_at cs b ≡ false
+
+-- block b does, and none before it
+pub record IsFirstToCount (cs : List Bool) (b : ℕ) : Type 0 where
+  pub there : b < length cs
+  pub counts : counts_at cs b ≡ true
+  pub first : (a : ℕ) → a < b → counts_at cs a ≡ false
 
 -- the sources of a network, and its sinks that keep their items
 abbrev pub sources_of : Network → List ℕ
@@ -68,12 +87,32 @@ abbrev pub AreAsked : Network → List Reach → Asks → List ℕ → List ℕ 
 AreAsked net tags asking.Items first tagged = tagged ≡ first
 AreAsked net tags asking.ItemsAndTags first tagged = AreFirst net tags tagged
 
--- a plan: its overlap is the least that is enough
-pub record IsPlan (net : Network) (q : List ℕ) (plan : Plan) : Type 0 where
+-- a block with the same options that goes on where n stands after c firings
+pub record IsLaterNode (n : Node) (look : LookBack) (c : ℕ) (later : Node) : Type 0 where
+  pub policy : n.policy ≡ later.policy
+  pub multiple : n.multiple ≡ later.multiple
+  pub goes_on : GoesOnAs n.meaning look c later.meaning
+
+-- how many base firings of block b k iterations are, in which it fires q times each
+abbrev pub firings_in : Network → List ℕ → ℕ → ℕ → ℕ
+firings_in net q k b = (node_at net b).multiple * (k * slice_index q b)
+
+-- the first so many blocks of a list go on where those of a network stand after k iterations
+pub record AreLater (net : Network) (q : List ℕ) (ls : List LookBack) (k count : ℕ) (nodes : List Node) : Type 0 where
+  pub long : length nodes ≡ count
+  pub each : (b : ℕ) → b < count → IsLaterNode (node_at net b) (look_at ls b) (firings_in net q k b) (slice_index_or nodes b no_node)
+
+-- a later network: with the same connections, and all its blocks go on where those of the first stand after k iterations
+pub record HasGoneOn (net : Network) (q : List ℕ) (ls : List LookBack) (k : ℕ) (later : Network) : Type 0 where
+  pub can : CanRun later
+  pub connections : net.connections ≡ later.connections
+  pub blocks : AreLater net q ls k (length net.nodes) later.nodes
+
+-- a plan: its overlap is the least that is enough. Later networks resume the first by the same firings, whatever k is
+pub record IsPlan (net : Network) (q : List ℕ) (ls : List LookBack) (plan : Plan) : Type 0 where
   pub can : CanCut net q
-  pub endless : (b : ℕ) → (node_at net b).meaning.limit ≡ None
   pub firing : ℕ → ℕ
-  pub settle : AreSettled net firing
+  pub resumes : (k : ℕ) (later : Network) → HasGoneOn net q ls k later → IsResumed net q k firing later
   pub tagged : ℕ → ℕ
   pub asked : AreAskedFor net plan.asks firing tagged
   pub few : plan.overlap ≤ 2 ^ 42
@@ -83,15 +122,16 @@ pub record IsPlan (net : Network) (q : List ℕ) (plan : Plan) : Type 0 where
   pub sinks : plan.sinks.items ≡ map (sink_of net q firing tagged plan.overlap) (keepers_of net)
 
 -- the plan that is asked for: its firings are the least that are far enough, for items and for tags
-pub record IsLeastPlan (net : Network) (q : List ℕ) (for_items for_tags : List Reach) (asked : Asks) (plan : Plan) : Type 0 where
-  pub is : IsPlan net q plan
+pub record IsLeastPlan (net : Network) (q : List ℕ) (ls : List LookBack) (for_items for_tags : List Reach) (asked : Asks) (plan : Plan) : Type 0 where
+  pub is : IsPlan net q ls plan
   pub asks : plan.asks ≡ asked
+  pub forget : AllForget ls
   pub items : AreLeast net for_items is.firing
   pub tags : asked ≡ asking.ItemsAndTags → AreLeast net for_tags is.tagged
 
 -- a plan, or why there is none
 abbrev pub IsPlanned : Network → List ℕ → List LookBack → List Reach → List Reach → Asks → Planned → Type 0
-IsPlanned net q ls items tags asked (answers.Plan p) = IsLeastPlan net q items tags asked p
+IsPlanned net q ls items tags asked (answers.Plan p) = IsLeastPlan net q ls items tags asked p
 IsPlanned net q ls items tags asked (answers.Remembers b) = IsFirstToRemember ls b.0
 IsPlanned net q ls items tags asked answers.TooLate = AreLate net items ⊎ ((asked ≡ asking.ItemsAndTags) × AreLate net tags)
 

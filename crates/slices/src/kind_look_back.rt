@@ -22,22 +22,44 @@ fn shown(block: &Kind) -> LookBack
 }
 
 impl Forgets for Kind {
-    ghost use Rattle.slices.specs.Kinds.{look_back_of};
-    ghost use Rattle.slices.specs.Forgetting.{look_back_of-holds};
+    ghost use Rattle.slices.specs.Kinds.{look_back_of, later_of, counts_of};
+    ghost use Rattle.slices.specs.Forgetting.{look_back_of-holds, counts_of-holds};
     ghost use Rattle.slices.specs.Placing.{look_back_of-places};
 
     ghost looks_back = { look_back_of };
 
+    ghost later = { later_of };
+
+    ghost counting = { counts_of };
+
     fn look_back(&self) -> LookBack {
         match self {
-            Kind::DiffEncoder(_) | Kind::Scrambler(_) => LookBack::Everything,
-            Kind::Head(_) | Kind::AdditiveScrambler(_) | Kind::Pattern(_) | Kind::Counter(_) => {
-                LookBack::Number
+            Kind::Pattern(_) | Kind::Counter(_) | Kind::DiffEncoder(_) | Kind::Scrambler(_) => {
+                LookBack::Everything
             }
             Kind::Descrambler(_) => LookBack::Items(MOST_BITS),
             _ => shown(self),
         }
     }
+
+    fn after(self, firings: u64) -> Kind {
+        match self {
+            Kind::Head(head) => Kind::Head(head.after(firings)),
+            Kind::AdditiveScrambler(scrambler) => {
+                Kind::AdditiveScrambler(scrambler.after(firings))
+            }
+            kind => kind,
+        }
+    }
+
+    fn counts(&self) -> bool {
+        match self {
+            Kind::Head(_) | Kind::AdditiveScrambler(_) => true,
+            _ => false,
+        }
+    }
+
+    ghost stays = { counts_of-holds };
 
     ghost forgets = { look_back_of-holds };
 

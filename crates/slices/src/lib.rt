@@ -4,6 +4,7 @@
 mod counts;
 mod first_firings;
 mod kind_look_back;
+pub mod later;
 pub mod look_back;
 mod order;
 mod overlap;
@@ -14,6 +15,7 @@ mod rising;
 pub mod slice;
 pub mod wanted;
 
+pub use later::{first_to_count, later_graph};
 pub use look_back::{Forgets, LookBack};
 pub use plan::{Asks, Plan, Planned, Sink, Source, plan_slices};
 pub use slice::{Part, Slice};

@@ -1,5 +1,6 @@
 //! How far back blocks look.
-ghost use Rattle.std.specs.Prelude.{◌≡◌, true};
+ghost use Rattle.std.specs.Prelude.{◌≡◌, ℕ, Bool, false};
+ghost use Rattle.stream_model.specs.Meaning.{Meaning};
 ghost use Rattle.slices.specs.LookBack.{is_forgetful, back_of, start_of, tags_back_of, tags_start_of, HasLookBack, HasPlaces};
 
 use crate::MOST_FIRINGS;
@@ -14,8 +15,6 @@ pub enum LookBack {
     Delay(u64),
     /// The first items are left out, this many.
     Skip(u64),
-    /// What a firing gives depends on its number.
-    Number,
     /// What a firing gives depends on all items that ever came.
     Everything,
 }
@@ -27,7 +26,7 @@ impl LookBack {
     {
         match self {
             LookBack::Items(_) | LookBack::Delay(_) | LookBack::Skip(_) => true,
-            LookBack::Number | LookBack::Everything => false,
+            LookBack::Everything => false,
         }
     }
 
@@ -37,7 +36,7 @@ impl LookBack {
     {
         match self {
             LookBack::Items(count) | LookBack::Delay(count) => count,
-            LookBack::Skip(_) | LookBack::Number | LookBack::Everything => 0,
+            LookBack::Skip(_) | LookBack::Everything => 0,
         }
     }
 
@@ -47,8 +46,7 @@ impl LookBack {
     {
         match self {
             LookBack::Skip(count) => count,
-            LookBack::Items(_) | LookBack::Delay(_) => 0,
-            LookBack::Number | LookBack::Everything => 0,
+            LookBack::Items(_) | LookBack::Delay(_) | LookBack::Everything => 0,
         }
     }
 
@@ -59,7 +57,7 @@ impl LookBack {
         match self {
             LookBack::Items(_) => nearest,
             LookBack::Delay(count) => count,
-            LookBack::Skip(_) | LookBack::Number | LookBack::Everything => 0,
+            LookBack::Skip(_) | LookBack::Everything => 0,
         }
     }
 
@@ -69,25 +67,41 @@ impl LookBack {
     {
         match self {
             LookBack::Skip(count) => count.min(MOST_FIRINGS) + 1,
-            LookBack::Items(_) | LookBack::Delay(_) => 0,
-            LookBack::Number | LookBack::Everything => 0,
+            LookBack::Items(_) | LookBack::Delay(_) | LookBack::Everything => 0,
         }
     }
 }
 
-/// A block that says how far back it looks.
+/// A block that says how far back it looks, and goes on where it stands.
 pub trait Forgets: Block {
     ghost use Rattle.slices.specs.declared.look_back.LookBack.{LookBack};
 
     /// How far back the block looks.
     ghost looks_back: { Self → LookBack };
 
+    /// What it goes on as behind so many firings.
+    ghost later: { Self → ℕ → Meaning };
+
     /// How far back the block looks.
     fn look_back(&self) -> LookBack
         ensures { result ≡ looks_back self.now };
 
-    /// It looks no further back: it settles as soon as its inputs are right from there on.
-    ghost forgets: { (b : Self) → HasLookBack (Self.meaning b) (looks_back b) };
+    /// The block that goes on where this one stands after so many firings. One that forgets goes on as it is.
+    fn after(self, firings: u64) -> Self
+        ensures { Self.meaning result ≡ later self firings };
+
+    /// Whether what it gives rests on how many firings came before.
+    ghost counting: { Self → Bool };
+
+    /// Whether what it gives rests on how many firings came before.
+    fn counts(&self) -> bool
+        ensures { result ≡ counting self.now };
+
+    /// If not, it goes on as it is.
+    ghost stays: { (b : Self) → counting b ≡ false → (c : ℕ) → later b c ≡ Self.meaning b };
+
+    /// It looks no further back: what goes on behind some firings gives what it would have given, as soon as its inputs are right from there on.
+    ghost forgets: { (b : Self) → HasLookBack (Self.meaning b) (later b) (looks_back b) };
 
     /// Nor do its tags: they are right as soon as those of its inputs are right from there on.
     ghost places: { (b : Self) → HasPlaces (Self.meaning b) (looks_back b) };

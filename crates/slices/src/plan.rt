@@ -159,7 +159,7 @@ fn made<B: Forgets>(
     requires forget { AllForget (looks_of B.looks_back graph.now) }
     requires first { AreFirst (net_of B.meaning graph.now) (reaches_of B.meaning B.looks_back content.Items graph.now) first.now }
     requires tagged { AreAsked (net_of B.meaning graph.now) (reaches_of B.meaning B.looks_back content.Tags graph.now) asks first.now tagged.now }
-    ensures { IfOk result (IsLeastPlan (net_of B.meaning graph.now) firings.now (reaches_of B.meaning B.looks_back content.Items graph.now) (reaches_of B.meaning B.looks_back content.Tags graph.now) asks) }
+    ensures { IfOk result (IsLeastPlan (net_of B.meaning graph.now) firings.now (looks_of B.looks_back graph.now) (reaches_of B.meaning B.looks_back content.Items graph.now) (reaches_of B.meaning B.looks_back content.Tags graph.now) asks) }
 {
     let past = first_past(alloc, graph, order, firings)?;
     let more = longest_wait(graph, firings, first, tagged, &past.counts);

@@ -1,6 +1,7 @@
 //! A slice of a run: where it begins to read, and what of it is dropped.
 ghost use Rattle.std.specs.Prelude.{◌≡◌, ◌≤◌, ◌⊎◌, ◌^◌, ℕ, List, IfOk};
 ghost use Rattle.stream_model.specs.Network.{Network};
+ghost use Rattle.slices.specs.declared.look_back.LookBack.{LookBack};
 ghost use Rattle.slices.specs.Plans.{IsPlan};
 ghost use Rattle.slices.specs.Cuts.{part_of, IsSlice};
 
@@ -51,14 +52,14 @@ fn given_to(sink: &Sink, begins: u64, from: u64) -> Part
 }
 
 impl Plan {
-    /// The slice that begins at an iteration, which is the first, or not before the overlap. Run on what is left of the tapes, it gives each sink
-    /// what the whole run gives from there on, behind what is dropped. It fails only where the allocator refuses.
+    /// The slice that begins at an iteration, which is the first, or not before the overlap. Run on what is left of the tapes, by blocks that go on where they stand
+    /// (`later`), it gives each sink what the whole run gives from there on, behind what is dropped. It fails only where the allocator refuses.
     pub fn slice(&self, alloc: Global, begins: u64) -> Result<Slice, AllocError>
-        ghost of: { Network × List ℕ }
-        requires plan { IsPlan of.0 of.1 self.now }
+        ghost of: { Network × List ℕ × List LookBack }
+        requires plan { IsPlan of.0 of.1 of.2 self.now }
         requires begins { (begins ≡ 0) ⊎ (self.now.overlap ≤ begins) }
         requires few { begins ≤ MOST_ITERATIONS }
-        ensures { IfOk result (IsSlice of.0 of.1 self.now begins) }
+        ensures { IfOk result (IsSlice of.0 of.1 of.2 self.now begins) }
     {
         let from = begins.saturating_sub(self.overlap);
         let mut parts = Vec::with_capacity(alloc, self.sinks.len())?;

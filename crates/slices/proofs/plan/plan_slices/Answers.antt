@@ -5,7 +5,7 @@ use Rattle.graph_laws.proofs.Answering.{answers_are_right}
 use Rattle.rates.proofs.Valid.{has_rates}
 use Rattle.slices.specs.Counts.{CanCut}
 use Rattle.slices.specs.declared.reach.Content.TheVariants as content
-use Rattle.slices.specs.Firings.{AreFirst, AreLate}
+use Rattle.slices.specs.Firings.{looks_of, AreFirst, AreLate}
 use Rattle.slices.specs.Plans.{IsLeastPlan}
 use Rattle.slices.specs.Reaches.{reaches_of}
 use Rattle.slices.proofs.plan.plan_slices.Goals as goal
@@ -46,11 +46,12 @@ returns-in-None g c =
 pub returns : goal.returns
 returns g c =
     let net = net_of g.B.Block.meaning c.args.graph.now in
+    let ls = looks_of g.B.Forgets.looks_back c.args.graph.now in
     let items = reaches_of g.B.Block.meaning g.B.Forgets.looks_back content.Items c.args.graph.now in
     let tags = reaches_of g.B.Block.meaning g.B.Forgets.looks_back content.Tags c.args.graph.now in
     elim c.match-asks.branch [
-      | in-Items+in_ok-plan-in-Items w ↦ subst (λ q. IsLeastPlan net q items tags c.args.asks c.match-asks.plan) w.firings.ensures
-          (subst (IsLeastPlan net w.firings.result.now items tags c.args.asks) (sym w.plan-is) w.in_ok-plan-in-Items.ensures)
-      | in-ItemsAndTags+in_ok-tagged-in-ItemsAndTags+in-Some-3+in_ok-plan-in-Some-3 w ↦ subst (λ q. IsLeastPlan net q items tags c.args.asks c.match-asks.plan) w.firings-in-Some-3.ensures
-          (subst (IsLeastPlan net w.firings-in-Some-3.result.now items tags c.args.asks) (sym w.plan-is) w.in_ok-plan-in-Some-3.ensures)
+      | in-Items+in_ok-plan-in-Items w ↦ subst (λ q. IsLeastPlan net q ls items tags c.args.asks c.match-asks.plan) w.firings.ensures
+          (subst (IsLeastPlan net w.firings.result.now ls items tags c.args.asks) (sym w.plan-is) w.in_ok-plan-in-Items.ensures)
+      | in-ItemsAndTags+in_ok-tagged-in-ItemsAndTags+in-Some-3+in_ok-plan-in-Some-3 w ↦ subst (λ q. IsLeastPlan net q ls items tags c.args.asks c.match-asks.plan) w.firings-in-Some-3.ensures
+          (subst (IsLeastPlan net w.firings-in-Some-3.result.now ls items tags c.args.asks) (sym w.plan-is) w.in_ok-plan-in-Some-3.ensures)
     ]

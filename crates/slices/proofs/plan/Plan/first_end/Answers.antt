@@ -1,4 +1,4 @@
-use Rattle.std.proofs.Common.{rules, ◌≡◌, ◌<◌, ◌≤◌, ℕ, length, slice_index_or, arith, ap, sym, ◌∙◌}
+use Rattle.std.proofs.Common.{rules, arith, sym}
 use Rattle.std.proofs.lemmas.List.{get_or_read_under}
 use Rattle.slices.proofs.Reaching.{first_one}
 use Rattle.slices.proofs.plan.Plan.first_end.Goals as goal
