@@ -7,17 +7,19 @@ use kinds::Kind;
 use pipeline::{ByteOrder, End, Pipeline, PipelineFault, StreamPart, TapePart};
 use rates::{Rates, balance};
 use slice_threads::{
-    Cutting, Feed, Feeds, Given, Job, Left, Marks, Opens, Outlet, Readers, Share, SliceThreads,
-    Stride,
+    Cutting, Feed, Feeds, Given, Job, Left, Marks, Opens, Outlet, Readers, Share, Stride, Tapes,
+    run_slices,
 };
 use slices::{Asks, Plan, Planned, plan_slices};
 use std::alloc::{AllocError, Global};
 use std::collections::VecDeque;
 use std::io;
 use std::io::{ErrorKind, Read};
+use std::mem;
 use std::process::Abort;
 use std::test::Fail;
-use streaming::StreamingPlant;
+use std::time::Duration;
+use streaming::{Headway, StreamingPlant, Watch};
 
 const SOURCE: BlockId = BlockId(0);
 
@@ -28,16 +30,44 @@ struct Opener<R>(R);
 impl<R: Abort + Copy> Opens for Opener<R> {
     type Block = Kind;
 
-    fn open(&self, alloc: Global) -> Result<StreamingPlant<Kind>, AllocError> {
+    fn open(&self, alloc: Global, _iterations: u64) -> Result<StreamingPlant<Kind>, AllocError> {
         Ok(streaming(&self.0, alloc, &BLOCKS, &WIRES, 7))
     }
 }
 
+// What the sinks were given: items, and lines of tags.
+#[derive(Drop)]
+struct Streams {
+    items: [Vec<u8>; 2],
+    tags: [Vec<u8>; 2],
+}
+
+impl Streams {
+    fn new(alloc: Global) -> Streams {
+        Streams {
+            items: [Vec::new(alloc), Vec::new(alloc)],
+            tags: [Vec::new(alloc), Vec::new(alloc)],
+        }
+    }
+
+    fn begin(&self, whole: &Streams) -> bool {
+        (0..2).all(|at| {
+            whole.items[at].starts_with(&self.items[at])
+                && whole.tags[at].starts_with(&self.tags[at])
+        })
+    }
+
+    fn are(&self, whole: &Streams) -> bool {
+        self.items == whole.items && self.tags == whole.tags
+    }
+}
+
 // Why an outlet fails.
-#[derive(Clone, Copy, Debug, PartialEq, Eq)]
+#[derive(Drop)]
 enum Failure {
     Memory,
-    Full,
+    // With what it took before.
+    Full(Streams),
 }
 
 impl From<AllocError> for Failure {
@@ -46,36 +76,21 @@ impl From<AllocError> for Failure {
     }
 }
 
-// What the sinks were given, items and lines of tags, and how many writes there may be.
+// An outlet that takes so many writes.
 #[derive(Drop)]
 struct Taken {
-    items: [Vec<u8>; 2],
-    tags: [Vec<u8>; 2],
+    alloc: Global,
+    streams: Streams,
     writes_left: u64,
-    read: u64,
-    written: u64,
 }
 
 impl Taken {
     fn new(alloc: Global, writes_left: u64) -> Taken {
         Taken {
-            items: [Vec::new(alloc), Vec::new(alloc)],
-            tags: [Vec::new(alloc), Vec::new(alloc)],
+            alloc,
+            streams: Streams::new(alloc),
             writes_left,
-            read: 0,
-            written: 0,
         }
-    }
-
-    fn begins(&self, whole: &Taken) -> bool {
-        (0..2).all(|at| {
-            whole.items[at].starts_with(&self.items[at])
-                && whole.tags[at].starts_with(&self.tags[at])
-        })
-    }
-
-    fn is(&self, whole: &Taken) -> bool {
-        self.items == whole.items && self.tags == whole.tags
     }
 }
 
@@ -84,17 +99,29 @@ impl Outlet for Taken {
 
     fn write(&mut self, sink: BlockId, given: &Given) -> Result<(), Failure> {
         if self.writes_left == 0 {
-            return Err(Failure::Full);
+            let streams = mem::replace(&mut self.streams, Streams::new(self.alloc));
+            return Err(Failure::Full(streams));
         }
         self.writes_left -= 1;
         let at = if sink == SINKS[0] { 0 } else { 1 };
-        self.items[at].extend_from_slice(&given.items)?;
-        Ok(self.tags[at].extend_from_slice(&given.tags)?)
+        self.streams.items[at].extend_from_slice(&given.items)?;
+        Ok(self.streams.tags[at].extend_from_slice(&given.tags)?)
+    }
+}
+
+// What was shown last.
+#[derive(Drop)]
+struct Shown(Headway);
+
+impl Watch for Shown {
+    fn pause(&self) -> Option<Duration> {
+        None
     }
 
-    fn show(&mut self, read: u64, written: u64) {
-        self.read = read;
-        self.written = written;
+    fn end(&mut self) {}
+
+    fn show(&mut self, headway: Headway) {
+        self.0 = headway;
     }
 }
 
@@ -176,7 +203,7 @@ fn run_rest(
     readers: Readers<Crumbs>,
     origin: u64,
     parts: &[StreamPart],
-    taken: &mut Taken,
+    taken: &mut Streams,
 ) -> Result<Option<PipelineFault>, Fail> {
     let Ok(mut run) = Pipeline::new(alloc, streaming(rt, alloc, &BLOCKS, &WIRES, 7)) else {
         panic!(rt; "no memory");
@@ -215,8 +242,12 @@ fn readers(alloc: Global, fed: &Fed, most: usize) -> Result<Readers<Crumbs>, All
 }
 
 // The whole run.
-fn whole(rt: &impl Abort, alloc: Global, fed: &Fed) -> Result<(Taken, Option<PipelineFault>), Fail> {
-    let mut taken = Taken::new(alloc, u64::MAX);
+fn whole(
+    rt: &impl Abort,
+    alloc: Global,
+    fed: &Fed,
+) -> Result<(Streams, Option<PipelineFault>), Fail> {
+    let mut taken = Streams::new(alloc);
     let parts = [StreamPart::whole(), StreamPart::whole()];
     let fault = run_rest(rt, alloc, readers(alloc, fed, 64)?, 0, &parts, &mut taken)?;
     Ok((taken, fault))
@@ -240,27 +271,17 @@ fn job(alloc: Global, plan: &Plan) -> Result<Job, AllocError> {
     })
 }
 
-// On how many threads slices are run, over pieces of how many iterations at most, where so many bytes come at once.
+// On how many threads slices are run, over pieces of how many iterations at most, where so many bytes come at once, and whether a read may wait.
 #[derive(Clone, Copy, Debug)]
 struct Way {
     threads: usize,
     iterations: u64,
     crumb: usize,
+    may_wait: bool,
 }
 
-// Runs slices, and the rest behind them. It returns why the outlet failed, or the rest, if one did.
-fn in_slices<R: Host>(
-    rt: R,
-    fed: &Fed,
-    way: Way,
-    taken: &mut Taken,
-) -> Result<Result<Option<PipelineFault>, Failure>, Fail> {
-    let alloc = rt.alloc();
-    let plan = plan(&rt, alloc);
-    let mut openers = Vec::new(alloc);
-    for _ in 0..way.threads {
-        openers.push(Opener(rt))?;
-    }
+// What is read, and how it is cut.
+fn tapes(alloc: Global, fed: &Fed, way: Way, plan: &Plan) -> Result<Tapes<Crumbs>, Fail> {
     let stride = Stride {
         source: SOURCE,
         item_size: 1,
@@ -272,13 +293,33 @@ fn in_slices<R: Host>(
         overlap: plan.overlap,
         most: way.iterations,
     };
-    let mut feeds = Feeds::new(vec![in alloc; feed]?, cutting);
-    let read_by = vec![in alloc; readers(alloc, fed, way.crumb)?]?;
-    let mut slices = SliceThreads::start(rt, alloc, openers, job(alloc, &plan)?)?;
-    let ended = slices.run(alloc, &mut feeds, read_by, taken);
-    slices.finish();
-    match ended {
-        Ok(left) => Ok(Ok(behind(&rt, alloc, feeds, left, stride.period, taken)?)),
+    Ok(Tapes {
+        feeds: Feeds::new(vec![in alloc; feed]?, cutting),
+        readers: vec![in alloc; readers(alloc, fed, way.crumb)?]?,
+        may_wait: way.may_wait,
+    })
+}
+
+// Runs slices, and the rest behind them. It returns what was taken, and why the rest failed, if it did; or why the outlet did.
+fn in_slices<R: Host>(
+    rt: R,
+    fed: &Fed,
+    way: Way,
+    taken: Taken,
+) -> Result<Result<(Streams, Option<PipelineFault>), Failure>, Fail> {
+    let alloc = rt.alloc();
+    let plan = plan(&rt, alloc);
+    let mut openers = Vec::new(alloc);
+    for _ in 0..way.threads {
+        openers.push(Opener(rt))?;
+    }
+    let (job, tapes) = (job(alloc, &plan)?, tapes(alloc, fed, way, &plan)?);
+    let mut shown = Shown(Headway { given: 0, fed: 0 });
+    match run_slices(rt, alloc, openers, job, tapes, taken, &mut shown) {
+        Ok(left) => {
+            assert!(&rt; shown.0.given == shown.0.fed, "{way:?}: all is shown");
+            Ok(Ok(behind(&rt, alloc, left, plan.sources[0].period)?))
+        }
         Err(failure) => Ok(Err(failure)),
     }
 }
@@ -287,15 +328,13 @@ fn in_slices<R: Host>(
 fn behind(
     rt: &impl Abort,
     alloc: Global,
-    feeds: Feeds,
-    left: Left<Crumbs>,
+    left: Left<Crumbs, Taken>,
     period: u64,
-    taken: &mut Taken,
-) -> Result<Option<PipelineFault>, Fail> {
-    let origin = feeds.first() * period;
-    let (mut lines, mut fault) = (0, None);
-    for (feed, readers) in feeds.feeds.into_iter().zip(left.readers) {
-        let (unread, marks) = feed.into_rest();
+) -> Result<(Streams, Option<PipelineFault>), Fail> {
+    let origin = left.feeds.first() * period;
+    let (mut taken, mut lines, mut fault) = (left.outlet.streams, 0, None);
+    for (feed, readers) in left.feeds.feeds.into_iter().zip(left.readers) {
+        let (unread, marks) = feed.into_rest(alloc)?;
         let mut again = readers;
         again.tape.fails |= unread.failure.is_some();
         push_in_front(&mut again.tape, &unread.bytes)?;
@@ -304,14 +343,15 @@ fn behind(
             push_in_front(reader, &unread.bytes)?;
             lines = passed;
         }
-        fault = run_rest(rt, alloc, again, origin, &left.parts, taken)?;
+        fault = run_rest(rt, alloc, again, origin, &left.parts, &mut taken)?;
     }
-    Ok(match fault {
+    let fault = match fault {
         Some(PipelineFault::BadMark(block, line)) => {
             Some(PipelineFault::BadMark(block, line + lines))
         }
         fault => fault,
-    })
+    };
+    Ok((taken, fault))
 }
 
 fn push_in_front(reader: &mut Crumbs, bytes: &[u8]) -> Result<(), Fail> {
@@ -321,14 +361,16 @@ fn push_in_front(reader: &mut Crumbs, bytes: &[u8]) -> Result<(), Fail> {
     Ok(())
 }
 
-const WAYS: [Way; 7] = [
-    Way { threads: 0, iterations: 20, crumb: 64 },
-    Way { threads: 1, iterations: 20, crumb: 7 },
-    Way { threads: 2, iterations: 20, crumb: 4_096 },
-    Way { threads: 3, iterations: 1, crumb: 1 },
-    Way { threads: 3, iterations: 21, crumb: 2 },
-    Way { threads: 3, iterations: 100, crumb: 33 },
-    Way { threads: 2, iterations: 700, crumb: 100_000 },
+const WAYS: [Way; 9] = [
+    Way { threads: 0, iterations: 20, crumb: 64, may_wait: true },
+    Way { threads: 1, iterations: 20, crumb: 7, may_wait: true },
+    Way { threads: 1, iterations: 20, crumb: 7, may_wait: false },
+    Way { threads: 2, iterations: 20, crumb: 4_096, may_wait: true },
+    Way { threads: 3, iterations: 1, crumb: 1, may_wait: true },
+    Way { threads: 3, iterations: 21, crumb: 2, may_wait: true },
+    Way { threads: 3, iterations: 21, crumb: 200, may_wait: false },
+    Way { threads: 3, iterations: 100, crumb: 33, may_wait: true },
+    Way { threads: 2, iterations: 700, crumb: 100_000, may_wait: false },
 ];
 
 #[test]
@@ -343,11 +385,12 @@ fn slices_give_what_the_whole_run_gives(rt: HostRuntime) -> Result<(), Fail> {
             if 1_000 < length && way.crumb < 30 {
                 continue;
             }
-            let mut taken = Taken::new(alloc, u64::MAX);
-            let ended = in_slices(rt, &fed, way, &mut taken)?;
-            assert!(rt; matches!(ended, Ok(None)), "{length}, {way:?}: a fault");
-            assert!(rt; taken.read == taken.written, "{length}, {way:?}: all is shown");
-            assert!(rt; taken.is(&whole), "{length}, {way:?}: other streams");
+            match in_slices(rt, &fed, way, Taken::new(alloc, u64::MAX))? {
+                Ok((taken, None)) => {
+                    assert!(rt; taken.are(&whole), "{length}, {way:?}: other streams");
+                }
+                _ => panic!(rt; "{length}, {way:?}: a fault"),
+            }
         }
     }
     Ok(())
@@ -358,12 +401,16 @@ fn what_stands_where_an_outlet_fails_is_a_beginning(rt: HostRuntime) -> Result<(
     let alloc = rt.alloc();
     let fed = fed(alloc, 2_000, None)?;
     let (whole, _) = whole(&rt, alloc, &fed)?;
-    for writes in [0, 1, 2, 7] {
-        let way = Way { threads: 3, iterations: 30, crumb: 50 };
-        let mut taken = Taken::new(alloc, writes);
-        let ended = in_slices(rt, &fed, way, &mut taken)?;
-        assert!(rt; matches!(ended, Err(Failure::Full)), "{writes} writes: it fails");
-        assert!(rt; taken.begins(&whole), "{writes} writes: a beginning");
+    for may_wait in [false, true] {
+        for writes in [0, 1, 2, 7] {
+            let way = Way { threads: 3, iterations: 30, crumb: 50, may_wait };
+            match in_slices(rt, &fed, way, Taken::new(alloc, writes))? {
+                Err(Failure::Full(taken)) => {
+                    assert!(rt; taken.begin(&whole), "{writes} writes: a beginning");
+                }
+                _ => panic!(rt; "{writes} writes: it does not fail"),
+            }
+        }
     }
     Ok(())
 }
@@ -376,10 +423,8 @@ fn a_wrong_line_is_told_by_its_number(rt: HostRuntime) -> Result<(), Fail> {
         // (the marks on the items up to this one, and then the line itself)
         let line = (wrong / 3 + 1 + wrong / 12 + 1 + 1) as u64;
         for way in WAYS {
-            let mut taken = Taken::new(alloc, u64::MAX);
-            let ended = in_slices(rt, &fed, way, &mut taken)?;
-            match ended {
-                Ok(Some(PipelineFault::BadMark(_, told))) => {
+            match in_slices(rt, &fed, way, Taken::new(alloc, u64::MAX))? {
+                Ok((_, Some(PipelineFault::BadMark(_, told)))) => {
                     assert!(rt; told == line, "{wrong}, {way:?}: line {told}, and not {line}");
                 }
                 _ => panic!(rt; "{wrong}, {way:?}: no line is refused"),
@@ -396,10 +441,12 @@ fn a_read_that_failed_fails(rt: HostRuntime) -> Result<(), Fail> {
     let (whole, _) = whole(&rt, alloc, &failing)?;
     failing.fails = true;
     for way in WAYS {
-        let mut taken = Taken::new(alloc, u64::MAX);
-        let ended = in_slices(rt, &failing, way, &mut taken)?;
-        assert!(rt; matches!(ended, Ok(Some(PipelineFault::Read(..)))), "{way:?}: no read fails");
-        assert!(rt; taken.begins(&whole), "{way:?}: a beginning");
+        match in_slices(rt, &failing, way, Taken::new(alloc, u64::MAX))? {
+            Ok((taken, Some(PipelineFault::Read(..)))) => {
+                assert!(rt; taken.begin(&whole), "{way:?}: a beginning");
+            }
+            _ => panic!(rt; "{way:?}: no read fails"),
+        }
     }
     Ok(())
 }

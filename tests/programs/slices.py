@@ -1,7 +1,7 @@
 #!/usr/bin/env python3
 """Runs graphs that are drawn by chance whole and in parts, by the program whose words are given. What slices write, one behind the other, is what the whole run writes.
 So is a run from an item on, one that goes on with cut outputs, and one in pieces, of files and of pipes, also where it is killed and goes on. A graph that is not cut is
-refused. Prints what differs."""
+refused. Prints what differs. The environment variable SLICED_GRAPHS says how many graphs are drawn, 30 if it is not there."""
 
 import os
 import pathlib
@@ -16,7 +16,9 @@ sys.path.insert(0, str(pathlib.Path(__file__).parent.parent / "gnuradio"))
 
 import drawn  # noqa: E402
 
-GRAPHS = 30
+GRAPHS = int(os.environ.get("SLICED_GRAPHS", "30"))
+# So many more have a head and an additive scrambler, which go on where they stand.
+COUNTED = 15
 FORMATS = {"byte": "B", "short": "h", "int": "i"}
 SIZES = {"byte": 1, "short": 2, "int": 4}
 # A run in pieces is killed so often, before it is done or behind.
@@ -186,9 +188,37 @@ def killed_differs(folder, graph, inputs, whole, rng):
     return None
 
 
-def differs(folder, seed):
-    """What is wrong with the parts of the graph of this number, and whether it is cut."""
-    graph, rng = drawn.draw(seed), random.Random(seed)
+def counted(seed):
+    """A graph with a head and an additive scrambler: the head ends before the items do, at their end or behind it, and the register has the fewest bits, the most or
+    some."""
+    rng = random.Random(seed)
+    length, bits = rng.choice([0, 1, 50, 600, 3000]), rng.choice([2, 3, 17, 31, 32])
+    mask = rng.choice([1, 2 ** (bits - 1), 2**bits - 1, rng.randint(1, 2**bits - 1)])
+    init = rng.choice([0, 1, 2**bits - 1, rng.randint(0, 2**bits - 1)])
+    count = rng.choice([0, 1, length // 3, length // 2, length, length + 1, 2**32])
+    before = rng.choice(["moving_sum", "keep_one_in_n", "repeat", "delay", "skiphead"])
+    blocks = [
+        'name = "src", kind = "vector_source", type = "byte"',
+        'name = "before", kind = "%s", type = "byte", %s = %d' % (before, "length" if before == "moving_sum" else "n", rng.randint(1, 9)),
+        'name = "noise", kind = "additive_scrambler", bits = %d, mask = %d, init = %d' % (bits, mask, init),
+        'name = "first", kind = "head", type = "byte", n = %d' % count,
+        'name = "some", kind = "vector_sink", type = "byte"',
+        'name = "all", kind = "vector_sink", type = "byte"',
+    ]
+    wires = [("src", "before"), *rng.choice([[("before", "noise"), ("noise", "first")], [("before", "first"), ("first", "noise")]])]
+    wires += [(wires[-1][1], "some"), ("before", "all")]
+    text = "block = [%s]\nconnect = [%s]\n" % (
+        ", ".join("{ %s }" % block for block in blocks),
+        ", ".join('{ from = "%s", from_port = 0, to = "%s", to_port = 0 }' % wire for wire in wires),
+    )
+    items = [rng.randint(0, 255) for _ in range(length)]
+    tags = [(rng.randrange(length), "k", at) for at in range(min(length, 20))]
+    return drawn.Drawn(text, {"src": drawn.Fed("byte", items, tags)}, {"some": "byte", "all": "byte"})
+
+
+def differs(folder, graph, seed):
+    """What is wrong with the parts of a graph, and whether it is cut."""
+    rng = random.Random(seed)
     inputs = write(folder, graph, rng)
     status, report, _ = call(folder, "check", "--slices", "graph.toml")
     if status != 0:
@@ -208,15 +238,15 @@ def differs(folder, seed):
 def main():
     """Prints what is wrong, and how many graphs were cut where these were too few."""
     cut = 0
-    for seed in range(GRAPHS):
+    for seed in range(GRAPHS + COUNTED):
         with tempfile.TemporaryDirectory() as room:
-            wrong, is_cut = differs(pathlib.Path(room), seed)
+            wrong, is_cut = differs(pathlib.Path(room), drawn.draw(seed) if seed < GRAPHS else counted(seed), seed)
         cut += is_cut
         if wrong:
             print("graph %d: %s" % (seed, wrong))
             return 1
-    if cut < GRAPHS // 3:
-        print("only %d of %d graphs were cut" % (cut, GRAPHS))
+    if cut < GRAPHS // 3 + COUNTED:
+        print("only %d of %d graphs were cut" % (cut, GRAPHS + COUNTED))
         return 1
     return 0
 

@@ -1,18 +1,23 @@
 //! A slice that is run on a piece of the tapes.
 
+use crate::room::Room;
 use flowgraph::{Block, BlockId};
 use pipeline::{End, Pipeline, StreamPart, TapePart};
 use raw_items::ByteOrder;
 use std::alloc::{AllocError, Global};
-use std::collections::VecDeque;
+use std::mem;
 use streaming::StreamingPlant;
 
-/// What opens plants of one graph, all of them alike.
+/// What opens plants of one graph.
 pub trait Opens {
     type Block: Block;
 
-    /// A plant that was fed nothing. It fails only where the allocator refuses.
-    fn open(&self, alloc: Global) -> Result<StreamingPlant<Self::Block>, AllocError>;
+    /// A plant that was fed nothing, whose blocks go on where they stand after so many iterations. It fails only where the allocator refuses.
+    fn open(
+        &self,
+        alloc: Global,
+        iterations: u64,
+    ) -> Result<StreamingPlant<Self::Block>, AllocError>;
 }
 
 /// What the slices give a sink.
@@ -44,7 +49,7 @@ pub struct Job {
 #[derive(Drop)]
 pub struct Tape {
     pub source: BlockId,
-    pub bytes: Vec<u8>,
+    pub room: Room,
     /// The item of the whole tape at which it begins.
     pub origin: u64,
     /// The lines of the marks on its items, where the source has marks.
@@ -54,6 +59,8 @@ pub struct Tape {
 /// A piece of the tapes.
 #[derive(Drop)]
 pub struct Piece {
+    /// How many iterations of the whole tapes stand before it.
+    pub first: u64,
     pub tapes: Vec<Tape>,
     /// Which part of its stream each sink is given, in the order of the shares.
     pub parts: Vec<StreamPart>,
@@ -68,6 +75,19 @@ pub struct Given {
     pub tags: Vec<u8>,
 }
 
+impl Piece {
+    /// The rooms of its tapes, for another piece.
+    pub(crate) fn into_rooms(self, alloc: Global) -> Vec<Room> {
+        let mut rooms = Vec::new(alloc);
+        for tape in self.tapes {
+            if rooms.push(tape.room).is_err() {
+                break;
+            }
+        }
+        rooms
+    }
+}
+
 impl Job {
     /// The same for another thread. It fails only where the allocator refuses.
     pub fn copy(&self, alloc: Global) -> Result<Job, AllocError> {
@@ -79,80 +99,91 @@ impl Job {
         })
     }
 
-    /// Runs the slice on a piece, and returns what it gives each sink. It fails only where memory runs out.
+    /// Runs the slice on a piece, and returns what it gives each sink, in what earlier pieces left of memory. It fails only where memory runs out.
     pub fn run<O: Opens>(
         &self,
         alloc: Global,
         opener: &O,
-        piece: Piece,
+        piece: &Piece,
+        emptied: Vec<Given>,
     ) -> Result<Vec<Given>, AllocError> {
-        let mut run = self.joined(alloc, opener, piece)?;
+        let mut given = self.rooms(alloc, emptied)?;
+        let mut run = self.joined(alloc, opener, piece, &mut given)?;
         if run.run(alloc).is_err() {
             // (it reads and writes memory alone, and the marks are in order)
             return Err(AllocError);
         }
-        let mut given = Vec::with_capacity(alloc, self.shares.len())?;
-        for share in &self.shares {
-            given.push(taken(alloc, &mut run, share.sink))?;
+        for (share, given) in self.shares.iter().zip(&mut given) {
+            take(alloc, &mut run, share.sink, given);
+        }
+        Ok(given)
+    }
+
+    // What each sink is given into, emptied.
+    fn rooms(&self, alloc: Global, emptied: Vec<Given>) -> Result<Vec<Given>, AllocError> {
+        let mut given = emptied;
+        for given in &mut given {
+            given.items.clear();
+            given.tags.clear();
+        }
+        for _ in given.len()..self.shares.len() {
+            given.push(Given {
+                items: Vec::new(alloc),
+                tags: Vec::new(alloc),
+            })?;
         }
         Ok(given)
     }
 
     // The run, with its ends.
-    fn joined<O: Opens>(
+    fn joined<'a, O: Opens>(
         &self,
         alloc: Global,
         opener: &O,
-        piece: Piece,
-    ) -> Result<InMemory<O::Block>, AllocError> {
-        let mut run = match Pipeline::new(alloc, opener.open(alloc)?) {
+        piece: &'a Piece,
+        given: &mut [Given],
+    ) -> Result<InMemory<'a, O::Block>, AllocError> {
+        let mut run = match Pipeline::new(alloc, opener.open(alloc, piece.first)?) {
             Ok(run) => run,
             Err((_plant, refusal)) => return Err(refusal),
         };
-        let Piece { tapes, parts } = piece;
-        for tape in tapes {
+        for tape in &piece.tapes {
             self.read(alloc, &mut run, tape)?;
         }
-        for (share, part) in self.shares.iter().zip(parts) {
-            let items = Some(Vec::new(alloc));
+        for ((share, part), given) in self.shares.iter().zip(&piece.parts).zip(given) {
+            let items = Some(mem::replace(&mut given.items, Vec::new(alloc)));
             let tags = if share.has_tags {
-                Some(Vec::new(alloc))
+                Some(mem::replace(&mut given.tags, Vec::new(alloc)))
             } else {
                 None
             };
-            join(run.write_part(alloc, share.sink, part, self.order, items, tags))?;
+            join(run.write_part(alloc, share.sink, *part, self.order, items, tags))?;
         }
         close_others(&mut run);
         Ok(run)
     }
 
     // Joins a source to its tape, and to the marks on it.
-    fn read<B: Block>(
+    fn read<'a, B: Block>(
         &self,
         alloc: Global,
-        run: &mut InMemory<B>,
-        tape: Tape,
+        run: &mut InMemory<'a, B>,
+        tape: &'a Tape,
     ) -> Result<(), AllocError> {
-        let Tape {
-            source,
-            bytes,
-            origin,
-            marks,
-        } = tape;
-        join(run.read_from(alloc, source, self.order, VecDeque::from(bytes)))?;
-        let Some(marks) = marks else {
+        join(run.read_from(alloc, tape.source, self.order, tape.room.bytes()))?;
+        let Some(marks) = &tape.marks else {
             return Ok(());
         };
         let part = TapePart {
-            origin,
+            origin: tape.origin,
             goes_on: true,
         };
-        join(run.mark_part(alloc, source, part, VecDeque::from(marks)))
+        join(run.mark_part(alloc, tape.source, part, marks.as_slice()))
     }
 }
 
 // A run between bytes in memory.
-type InMemory<B> = Pipeline<B, VecDeque<u8>, Vec<u8>>;
+type InMemory<'a, B> = Pipeline<B, &'a [u8], Vec<u8>>;
 
 // (an end that is there is refused only where memory runs out)
 fn join<E: Drop>(joined: Result<(), E>) -> Result<(), AllocError> {
@@ -163,7 +194,7 @@ fn join<E: Drop>(joined: Result<(), E>) -> Result<(), AllocError> {
 }
 
 // Closes the sources that no tape feeds.
-fn close_others<B: Block>(run: &mut InMemory<B>) {
+fn close_others<B: Block>(run: &mut InMemory<'_, B>) {
     let mut block = 0u32;
     for _ in 0..run.plant.graph().len() {
         if let Some(End::Open) = run.ends.get(block as usize) {
@@ -174,16 +205,10 @@ fn close_others<B: Block>(run: &mut InMemory<B>) {
     }
 }
 
-// What a sink was given.
-fn taken<B: Block>(alloc: Global, run: &mut InMemory<B>, sink: BlockId) -> Given {
-    match run.ends.get_mut(sink.0 as usize) {
-        Some(End::Output(output)) => Given {
-            items: output.items_to.take().unwrap_or(Vec::new(alloc)),
-            tags: output.tags_to.take().unwrap_or(Vec::new(alloc)),
-        },
-        _ => Given {
-            items: Vec::new(alloc),
-            tags: Vec::new(alloc),
-        },
+// Takes what a sink was given.
+fn take<B: Block>(alloc: Global, run: &mut InMemory<'_, B>, sink: BlockId, given: &mut Given) {
+    if let Some(End::Output(output)) = run.ends.get_mut(sink.0 as usize) {
+        given.items = output.items_to.take().unwrap_or(Vec::new(alloc));
+        given.tags = output.tags_to.take().unwrap_or(Vec::new(alloc));
     }
 }

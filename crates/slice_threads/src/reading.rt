@@ -1,12 +1,16 @@
-//! A thread that reads the tapes, so that what the slices give is written while it waits for more.
+//! A thread that reads the tapes where a read may wait, so that what is there can be cut while it does.
 
-use crate::event::Event;
+ghost use Rattle.std.specs.Prelude.{◌≡◌, length};
+ghost use Rattle.std.specs.Io.{ReadsAtMost};
+ghost use Rattle.std.specs.Io.KnownBytes.{ReadConsumes};
+ghost use Rattle.slice_threads.specs.Cutting.{CutsAlike};
+
 use crate::feeds::{Feeds, Want};
 use crossbeam_channel::{Receiver, Sender, bounded};
 use std::alloc::{AllocError, Global};
 use std::io::{ErrorKind, Read};
 use std::sync::Wait;
-use std::thread::{JoinHandle, Threads};
+use std::thread::Threads;
 use std::{io, thread};
 
 // So many bytes are read at once, at most.
@@ -19,11 +23,22 @@ pub struct Readers<R> {
     pub marks: Option<R>,
 }
 
+/// What wakes the thread that waits for the next piece.
+#[derive(Drop)]
+pub(crate) enum Event {
+    /// Something was read.
+    Read(Taken),
+    /// A piece was written, or no more is.
+    Turned,
+}
+
 /// What is to be read, with the room for it, and then what was.
 #[derive(Drop)]
 pub(crate) struct Taken {
     want: Want,
     room: Vec<u8>,
+    // So many bytes are read at most.
+    most: usize,
     // How many bytes were read into the room.
     count: usize,
     failure: Option<io::Error>,
@@ -33,7 +48,8 @@ pub(crate) struct Taken {
 #[derive(Drop)]
 pub(crate) struct Reading<F: Drop> {
     requests: Sender<Taken, Global>,
-    handle: JoinHandle<Vec<Readers<F>>>,
+    // The readers, once the thread ends.
+    back: Receiver<Vec<Readers<F>>, Global>,
     // The room for the next read; none while the thread has it.
     room: Option<Vec<u8>>,
 }
@@ -49,17 +65,25 @@ impl<F: Read + Send + Drop + 'static> Reading<F> {
         let room = vec![in alloc; 0; CHUNK]?;
         let (requests, asked) = bounded(alloc, 1)?;
         let (lend, lent) = bounded(alloc, 1)?;
-        let back = lent.clone()?;
+        let (give_back, back) = bounded(alloc, 1)?;
+        let unlent = lent.clone()?;
         if lend.send(&rt, readers).is_err() {
             return Err(AllocError);
         }
-        match thread::spawn(&rt, move || serve(&rt, alloc, &lent, &asked, &events)) {
-            Ok(handle) => Ok(Ok(Reading {
+        let started = thread::spawn(&rt, move || {
+            if let Ok(readers) = lent.recv(&rt) {
+                let readers = serve(&rt, readers, &asked, &events);
+                // (who has given up does not take them)
+                let _ = give_back.send(&rt, readers);
+            }
+        });
+        match started {
+            Ok(_handle) => Ok(Ok(Reading {
                 requests,
-                handle,
+                back,
                 room: Some(room),
             })),
-            Err(_) => match back.try_recv(&rt) {
+            Err(_) => match unlent.try_recv(&rt) {
                 Ok(readers) => Ok(Err(readers)),
                 Err(_) => Err(AllocError),
             },
@@ -73,13 +97,19 @@ impl<F: Drop> Reading<F> {
         self.room.is_some()
     }
 
-    /// Has the thread read what is wanted, if it has nothing to read.
-    pub(crate) fn ask<R: Wait>(&mut self, rt: &R, want: Want) -> Result<(), AllocError> {
+    /// Has the thread read what is wanted, so many bytes at most, if it has nothing to read.
+    pub(crate) fn ask<R: Wait>(
+        &mut self,
+        rt: &R,
+        want: Want,
+        most: usize,
+    ) -> Result<(), AllocError> {
         match (want, self.room.take()) {
             (Want::Tape(_) | Want::Marks(_), Some(room)) => {
                 let request = Taken {
                     want,
                     room,
+                    most,
                     count: 0,
                     failure: None,
                 };
@@ -96,12 +126,15 @@ impl<F: Drop> Reading<F> {
     }
 
     /// Has the feeds take in what was read, and keeps the room for the next read.
-    pub(crate) fn take_in(&mut self, feeds: &mut Feeds, taken: Taken) -> Result<(), AllocError> {
+    pub(crate) fn take_in(&mut self, feeds: &mut Feeds, taken: Taken) -> Result<(), AllocError>
+        ensures { CutsAlike feeds.old feeds.new }
+    {
         let Taken {
             want,
             room,
             count,
             failure,
+            ..
         } = taken;
         feeds.take(want, &room[..count.min(room.len())], failure)?;
         self.room = Some(room);
@@ -109,37 +142,30 @@ impl<F: Drop> Reading<F> {
     }
 
     /// Has the thread end, and returns the readers. It has nothing to read.
-    pub(crate) fn finish<R: Threads>(self, rt: &R) -> Vec<Readers<F>> {
-        let Reading {
-            requests,
-            handle,
-            ..
-        } = self;
+    pub(crate) fn finish<R: Wait>(self, rt: &R) -> Result<Vec<Readers<F>>, AllocError> {
+        let Reading { requests, back, .. } = self;
         drop(requests);
-        handle.join(rt)
+        match back.recv(rt) {
+            Ok(readers) => Ok(readers),
+            Err(_) => Err(AllocError),
+        }
     }
 }
 
-// Takes the readers, and reads until nothing more can be asked for. Then it gives them back.
+// Reads until nothing more can be asked for, and gives the readers back.
 fn serve<F: Read + Drop, R: Wait>(
     rt: &R,
-    alloc: Global,
-    lent: &Receiver<Vec<Readers<F>>, Global>,
+    readers: Vec<Readers<F>>,
     asked: &Receiver<Taken, Global>,
     events: &Sender<Event, Global>,
 ) -> Vec<Readers<F>> {
-    let mut readers = match lent.recv(rt) {
-        Ok(readers) => readers,
-        Err(_) => Vec::new(alloc),
-    };
+    let mut readers = readers;
     for _ in rt.forever() {
         let Ok(request) = asked.recv(rt) else {
             return readers;
         };
-        if events
-            .send(rt, Event::Read(read(&mut readers, request)))
-            .is_err()
-        {
+        let event = Event::Read(read(&mut readers, request));
+        if events.send(rt, event).is_err() {
             return readers;
         }
     }
@@ -157,9 +183,11 @@ fn read<F: Read>(readers: &mut [Readers<F>], request: Taken) -> Taken {
     let Some(readers) = readers.get_mut(at) else {
         return taken;
     };
+    let most = taken.most.min(taken.room.len());
+    let room = &mut taken.room[..most];
     let read = match &mut readers.marks {
-        Some(marks) if of_marks => read_once(marks, &mut taken.room),
-        _ => read_once(&mut readers.tape, &mut taken.room),
+        Some(marks) if of_marks => read_once(marks, room),
+        _ => read_once(&mut readers.tape, room),
     };
     match read {
         Ok(count) => taken.count = count,
@@ -168,13 +196,17 @@ fn read<F: Read>(readers: &mut [Readers<F>], request: Taken) -> Taken {
     taken
 }
 
-// Reads once, but for reads that a signal breaks off.
-fn read_once<F: Read>(reader: &mut F, room: &mut [u8]) -> io::Result<usize> {
+/// Reads once, but for reads that a signal breaks off.
+pub(crate) fn read_once<F: Read>(reader: &mut F, room: &mut [u8]) -> io::Result<usize>
+    ensures bound { ReadsAtMost result room.new }
+    ensures length { length room.new ≡ length room.old }
+    ensures bytes { ReadConsumes (F.remaining reader.old) (F.remaining reader.new) result room.new }
+{
     for _ in 0..u64::MAX {
         match reader.read(room) {
             Err(error) if error.kind() == ErrorKind::Interrupted => {}
             read => return read,
         }
     }
-    Ok(0)
+    Err(io::Error::from(ErrorKind::Interrupted))
 }

@@ -1,0 +1,216 @@
+#!/usr/bin/env python3
+"""slice_ends.py killed|bad PROGRAM..: runs in pieces that end before their time, by the program whose words are given. `killed`: one that is killed
+leaves a beginning, and one that goes on with it gives the whole. `bad`: an input that ends within an item, shrinks or grows meanwhile, a full disk, two
+outputs of one path, and marks out of order, where a run in pieces ends as one on one thread does. Prints what differs."""
+
+import os
+import pathlib
+import random
+import resource
+import signal
+import struct
+import subprocess
+import sys
+import tempfile
+import time
+
+# A run is killed so often, each time when its output has come so far as chance will have it.
+KILLS = 10
+ITEMS = 400_000
+# One item in three of a filter, and the sums of these; a source of shorts.
+GRAPH = """
+block = [
+    { name = "in", kind = "vector_source", type = "short" },
+    { name = "fir", kind = "fir", type = "short", taps = [3, -1, 4, 1, -5, 9, 2, -6, 5, 3, 5, -8, 9, 7], shift = 4, decimation = 3 },
+    { name = "filtered", kind = "vector_sink", type = "short" },
+    { name = "sum", kind = "moving_sum", type = "short", length = 40 },
+    { name = "summed", kind = "vector_sink", type = "short" },
+]
+connect = [
+    { from = "in", to = "fir" },
+    { from = "fir", to = "filtered" },
+    { from = "fir", to = "sum" },
+    { from = "sum", to = "summed" },
+]
+"""
+SINKS = ["filtered", "summed"]
+OUTPUTS = [word for name in SINKS for word in ("-o", "%s=%s" % (name, name))]
+
+
+def bytes_of(count):
+    """So many shorts that look like noise."""
+    rng = random.Random(count)
+    return struct.pack("<%dh" % count, *(rng.randint(-2000, 2000) for _ in range(count)))
+
+
+class Folder:
+    """Where the runs of a test find the graph, the input and the outputs."""
+
+    def __init__(self, path, items=ITEMS):
+        self.path = pathlib.Path(path)
+        self.path.joinpath("graph.toml").write_text(GRAPH, encoding="utf-8")
+        self.items = bytes_of(items)
+        self.path.joinpath("in").write_bytes(self.items)
+
+    def words(self, *more):
+        return [*sys.argv[2:], "run", *more, "-i", "in=in", *OUTPUTS, "graph.toml"]
+
+    def clear(self):
+        for name in SINKS:
+            self.path.joinpath(name).unlink(missing_ok=True)
+
+    def start(self, *more, **how):
+        """A run that is not waited for."""
+        return subprocess.Popen(self.words(*more), cwd=self.path, stdin=subprocess.DEVNULL, stdout=subprocess.DEVNULL, stderr=subprocess.PIPE, **how)
+
+    def run(self, *more, **how):
+        """How a run ends: its status, what it says, and its outputs."""
+        self.clear()
+        with self.start(*more, **how) as running:
+            _, errors = running.communicate(timeout=120)
+        return running.returncode, errors.decode(), self.outputs()
+
+    def outputs(self):
+        paths = [self.path.joinpath(name) for name in SINKS]
+        return [path.read_bytes() if path.exists() else b"" for path in paths]
+
+    def size(self):
+        path = self.path.joinpath(SINKS[0])
+        return path.stat().st_size if path.exists() else 0
+
+    def whole(self):
+        status, errors, outputs = self.run("--one-thread")
+        if status != 0:
+            raise ValueError("the whole run: %d %s" % (status, errors))
+        return outputs
+
+
+def are_beginnings(parts, wholes):
+    return all(whole.startswith(part) for part, whole in zip(parts, wholes))
+
+
+def wait_for(folder, running, size):
+    """Waits until an output has so many bytes, or the run is over."""
+    while folder.size() < size and running.poll() is None:
+        time.sleep(0.001)
+
+
+def killed(path):
+    folder, rng = Folder(path), random.Random(3)
+    whole = folder.whole()
+    were_midway = 0
+    for _ in range(KILLS):
+        folder.clear()
+        with folder.start("--jobs", "3") as running:
+            wait_for(folder, running, rng.randint(0, len(whole[0]) - 1))
+            running.kill()
+        left = folder.outputs()
+        if not are_beginnings(left, whole):
+            return "what a killed run left is no beginning of the whole"
+        were_midway += 0 < len(left[0]) < len(whole[0])
+        with folder.start("--resume", "--jobs", "2") as resumed:
+            _, errors = resumed.communicate(timeout=120)
+        if resumed.returncode != 0 or folder.outputs() != whole:
+            return "gone on with behind a kill at %d bytes: %d %s" % (len(left[0]), resumed.returncode, errors.decode())
+    return None if were_midway else "no run was killed midway"
+
+
+def cut_item(path):
+    folder = Folder(path)
+    with open(folder.path.joinpath("in"), "ab") as file:
+        file.write(b"x")
+    alone, pieces = folder.run("--one-thread"), folder.run("--jobs", "3")
+    if alone[0] == 0 or pieces != alone:
+        return "an input that ends within an item: %s, and alone %s" % (pieces[:2], alone[:2])
+    return None
+
+
+def full_disk(path):
+    folder = Folder(path)
+    whole = folder.whole()
+    most = len(whole[0]) // 2 + 1
+
+    def limit():
+        signal.signal(signal.SIGXFSZ, signal.SIG_IGN)
+        resource.setrlimit(resource.RLIMIT_FSIZE, (most, most))
+
+    alone, pieces = folder.run("--one-thread", preexec_fn=limit), folder.run("--jobs", "3", preexec_fn=limit)
+    if alone[0] == 0 or pieces[:2] != alone[:2]:
+        return "a full disk: %s, and alone %s" % (pieces[:2], alone[:2])
+    if len(pieces[2][0]) != most or not are_beginnings(pieces[2], whole):
+        return "a full disk: what was written is no beginning"
+    return None
+
+
+def changed(path, shrinks):
+    folder = Folder(path)
+    whole, input_file = folder.whole(), folder.path.joinpath("in")
+    other = folder.items[: len(folder.items) // 2] if shrinks else folder.items + bytes_of(1000)
+    folder.clear()
+    with folder.start("--jobs", "2") as running:
+        wait_for(folder, running, 1)
+        if shrinks:
+            os.truncate(input_file, len(other))
+        else:
+            with open(input_file, "ab") as file:
+                file.write(other[len(folder.items) :])
+        _, errors = running.communicate(timeout=120)
+    part = folder.outputs()
+    input_file.write_bytes(other)
+    after = folder.whole()
+    least, most = (after, whole) if shrinks else (whole, after)
+    if running.returncode != 0 or not are_beginnings(least, part) or not are_beginnings(part, most):
+        return "an input that %s: %d %s" % ("shrinks" if shrinks else "grows", running.returncode, errors.decode())
+    return None
+
+
+def one_path(path):
+    folder = Folder(path, 1000)
+    os.symlink("one", folder.path.joinpath("link"))
+    for second in ("one", "link"):
+        said = []
+        for way in (["--one-thread"], ["--jobs", "2"]):
+            words = [*sys.argv[2:], "run", *way, "-i", "in=in", "-o", "filtered=one", "-o", "summed=%s" % second, "graph.toml"]
+            answer = subprocess.run(words, cwd=folder.path, stdin=subprocess.DEVNULL, capture_output=True, text=True, timeout=60, check=False)
+            said.append((answer.returncode, answer.stdout, answer.stderr))
+        if said[0] != said[1] or said[0][0] == 0 or folder.path.joinpath("one").exists():
+            return "two outputs in %s: %s, and alone %s" % (second, said[1], said[0])
+    return None
+
+
+def unordered_marks(path):
+    folder = Folder(path)
+    whole = folder.whole()
+    for wrong in (1, 50, 900):
+        lines = ["@%d:k=%d\n" % (at * 400, at) for at in range(1000)]
+        lines[wrong] = "@%d:k=1\n" % (wrong * 400 - 401)
+        folder.path.joinpath("marks").write_text("".join(lines), encoding="utf-8")
+        words = ["--marks", "in=marks"]
+        alone, pieces = folder.run("--one-thread", *words), folder.run("--jobs", "3", *words)
+        if alone[0] == 0 or pieces[:2] != alone[:2]:
+            return "marks out of order in line %d: %s, and alone %s" % (wrong + 1, pieces[:2], alone[:2])
+        if not are_beginnings(pieces[2], whole):
+            return "marks out of order in line %d: what was written is no beginning" % (wrong + 1)
+    return None
+
+
+def bad(path):
+    tests = [cut_item, full_disk, lambda it: changed(it, True), lambda it: changed(it, False), one_path, unordered_marks]
+    for number, test in enumerate(tests):
+        room = pathlib.Path(path).joinpath(str(number))
+        room.mkdir()
+        wrong = test(room)
+        if wrong:
+            return wrong
+    return None
+
+
+def main():
+    with tempfile.TemporaryDirectory() as room:
+        wrong = {"killed": killed, "bad": bad}[sys.argv[1]](room)
+    if wrong:
+        print(wrong)
+    return 1 if wrong else 0
+
+
+sys.exit(main())
