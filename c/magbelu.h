@@ -130,7 +130,7 @@ struct magbelu_stream {
  *         MAGBELU_WAITS_ROOM or MAGBELU_WAITS_FEED.
  * value   of a feed and a close: how many items the tape has, or a source that streams was fed. Of a setting: the item from which it is in force; with number 27
  *         the first one from which it could be. Of a step: how many firings were done, or the port at which the block waits. Of magbelu_need: that port. Of
- *         magbelu_item_size: that size.
+ *         magbelu_item_size: that size. Of magbelu_block_count and magbelu_connections: how many there are.
  */
 struct magbelu_reply {
     uint32_t status;
@@ -170,6 +170,49 @@ struct magbelu_tag {
 /* The place of a setting that is to be in force at once. */
 #define MAGBELU_NOW UINT64_MAX
 
+/*
+ * What a block of a held graph is.
+ *
+ * status  0: done. 1: refused.
+ * number  that of the refusal; 0 with status 0.
+ * role    MAGBELU_WORK, MAGBELU_SOURCE, MAGBELU_SINK of a sink that keeps its items, or MAGBELU_NULL_SINK of one that drops them.
+ * input_type, output_type    MAGBELU_BYTE, MAGBELU_SHORT or MAGBELU_INT. Where there is no port on a side, the type says nothing.
+ * input_count, output_count  how many inputs and outputs are connected. A source has no inputs but its tape.
+ * name_len, kind_len         how many bytes its name has, and the name of its kind. Each is written where it fits its buffer.
+ */
+struct magbelu_listed {
+    uint32_t status;
+    uint32_t number;
+    uint32_t role;
+    uint32_t input_type;
+    uint32_t output_type;
+    size_t input_count;
+    size_t output_count;
+    size_t name_len;
+    size_t kind_len;
+};
+
+#define MAGBELU_WORK 0
+#define MAGBELU_SOURCE 1
+#define MAGBELU_SINK 2
+#define MAGBELU_NULL_SINK 3
+
+#define MAGBELU_BYTE 0
+#define MAGBELU_SHORT 1
+#define MAGBELU_INT 2
+
+/* A connection of two blocks, which are numbered from 0, in the order of the file. */
+struct magbelu_connection {
+    uint32_t from;
+    uint32_t to;
+    size_t out_port;
+    size_t in_port;
+};
+
+/* What a drawing is written in: the language of Graphviz's `dot`, or that of Mermaid. */
+#define MAGBELU_DOT 0
+#define MAGBELU_MERMAID 1
+
 /* Stands for no block. */
 #define MAGBELU_NO_BLOCK UINT32_MAX
 
@@ -179,7 +222,7 @@ struct magbelu_tag {
  *
  * status      0: done. 1: refused. 4: out of memory. The plant stays as it is.
  * number      that of the refusal; 0 with status 0.
- * block       with MAGBELU_NO_SLICES the number of the first block whose items rest on all that it was given or on how much that was, or MAGBELU_NO_BLOCK where the
+ * block       with MAGBELU_NO_SLICES the number of the first block whose items rest on all that it was given, or else on how much that was, or MAGBELU_NO_BLOCK where the
  *             rates have no balance, or slices would overlap too far; else MAGBELU_NO_BLOCK. Blocks are numbered from 0, in the order of the file.
  * iterations  of magbelu_slices: how many iterations before its own a slice reads. Of magbelu_slice: how many iterations of each tape the slice leaves out.
  * source_count, sink_count  how many rows there are for sources, and for sinks that keep their items; magbelu_slice has none for sources. The rows of each table are
@@ -266,6 +309,14 @@ struct magbelu_piece magbelu_bytes_read(struct magbelu_plant *plant, const uint8
 
 struct magbelu_piece magbelu_bytes_drain(struct magbelu_plant *plant, const uint8_t *sink, size_t sink_len, uint64_t max, uint32_t big_endian, uint8_t *bytes,
                                          size_t bytes_room, uint8_t *tags, size_t tags_room);
+
+struct magbelu_reply magbelu_bytes_block_count(struct magbelu_plant *plant);
+
+struct magbelu_listed magbelu_bytes_block(struct magbelu_plant *plant, uint32_t number, uint8_t *name, size_t name_room, uint8_t *kind, size_t kind_room);
+
+struct magbelu_reply magbelu_bytes_connections(struct magbelu_plant *plant, struct magbelu_connection *connections, size_t room);
+
+struct magbelu_answer magbelu_bytes_draw(struct magbelu_plant *plant, uint32_t format, uint8_t *output, size_t output_room);
 
 struct magbelu_slicing magbelu_bytes_slices(struct magbelu_plant *plant, uint32_t tags, struct magbelu_cut_source *sources, size_t source_room,
                                             struct magbelu_cut_sink *sinks, size_t sink_room);
@@ -606,6 +657,46 @@ static inline struct magbelu_reply magbelu_need(struct magbelu_plant *plant, con
     return magbelu_bytes_need(plant, magbelu_read_at(block), block_len);
 }
 
+/* Tells how many blocks the graph has. They are numbered from 0, in the order of the file. */
+static inline struct magbelu_reply magbelu_block_count(struct magbelu_plant *plant) {
+    return plant == NULL ? magbelu_null_reply() : magbelu_bytes_block_count(plant);
+}
+
+/*
+ * Tells of the block of this number what it is, with its name in `name` and that of its kind in `kind`, each where it fits. Neither has a 0 at its end. A number
+ * that no block has is refused 20.
+ */
+static inline struct magbelu_listed magbelu_block(struct magbelu_plant *plant, uint32_t number, char *name, size_t name_room, char *kind, size_t kind_room) {
+    uint64_t none = 0, more = 0;
+    if (plant == NULL || magbelu_is_null(name, name_room) || magbelu_is_null(kind, kind_room)) {
+        struct magbelu_listed listed = {1, MAGBELU_NULL, 0, 0, 0, 0, 0, 0, 0};
+        return listed;
+    }
+    return magbelu_bytes_block(plant, number, magbelu_write_at(name, &none), name_room, magbelu_write_at(kind, &more), kind_room);
+}
+
+/* Tells the connections of the graph, in the order of the file, where all of them fit into the table, and how many they are. */
+static inline struct magbelu_reply magbelu_connections(struct magbelu_plant *plant, struct magbelu_connection *connections, size_t room) {
+    struct magbelu_connection none;
+    if (plant == NULL || magbelu_is_null(connections, room)) {
+        return magbelu_null_reply();
+    }
+    return magbelu_bytes_connections(plant, connections != NULL ? connections : &none, room);
+}
+
+/*
+ * Draws the graph, as `flow draw --format FORMAT FILE` does: `output` has the text in the format, where it fits, from which Graphviz's `dot` or Mermaid makes a
+ * picture. It has no 0 at its end, and the answer no line.
+ */
+static inline struct magbelu_answer magbelu_draw(struct magbelu_plant *plant, uint32_t format, char *output, size_t output_room) {
+    uint64_t none = 0;
+    if (plant == NULL || magbelu_is_null(output, output_room)) {
+        struct magbelu_answer answer = {1, MAGBELU_NULL, 0, 0};
+        return answer;
+    }
+    return magbelu_bytes_draw(plant, format, magbelu_write_at(output, &none), output_room);
+}
+
 /* (not for callers) */
 static inline struct magbelu_slicing magbelu_null_slicing(void) {
     struct magbelu_slicing slicing = {1, MAGBELU_NULL, MAGBELU_NO_BLOCK, 0, 0, 0};
@@ -689,6 +780,21 @@ static inline struct magbelu_reply magbelu_stream_settle(struct magbelu_stream *
 
 static inline struct magbelu_reply magbelu_stream_need(struct magbelu_stream *stream, const void *block, size_t block_len) {
     return magbelu_need(magbelu_streaming(stream), block, block_len);
+}
+
+static inline struct magbelu_reply magbelu_stream_block_count(struct magbelu_stream *stream) { return magbelu_block_count(magbelu_streaming(stream)); }
+
+static inline struct magbelu_listed magbelu_stream_block(struct magbelu_stream *stream, uint32_t number, char *name, size_t name_room, char *kind,
+                                                         size_t kind_room) {
+    return magbelu_block(magbelu_streaming(stream), number, name, name_room, kind, kind_room);
+}
+
+static inline struct magbelu_reply magbelu_stream_connections(struct magbelu_stream *stream, struct magbelu_connection *connections, size_t room) {
+    return magbelu_connections(magbelu_streaming(stream), connections, room);
+}
+
+static inline struct magbelu_answer magbelu_stream_draw(struct magbelu_stream *stream, uint32_t format, char *output, size_t output_room) {
+    return magbelu_draw(magbelu_streaming(stream), format, output, output_room);
 }
 
 static inline struct magbelu_slicing magbelu_stream_slices(struct magbelu_stream *stream, uint32_t tags, struct magbelu_cut_source *sources, size_t source_room,

@@ -6,15 +6,18 @@
 #define MAGBELU_HPP
 
 #include <algorithm>
+#include <cerrno>
 #include <cstddef>
 #include <cstdint>
 #include <cstdlib>
+#include <fstream>
 #include <initializer_list>
 #include <iterator>
 #include <optional>
 #include <stdexcept>
 #include <string>
 #include <string_view>
+#include <system_error>
 #include <type_traits>
 #include <utility>
 #include <vector>
@@ -90,6 +93,35 @@ struct piece {
     std::vector<Item> items;
     std::vector<tag> tags;
     std::uint64_t held;
+};
+
+/* What a block waits for: it may act or is done, it waits for items at an input or for room at an output, or it is a source that waits to be fed or closed. */
+enum class wait : std::uint32_t {
+    ready = MAGBELU_READY,
+    done = MAGBELU_DONE,
+    items = MAGBELU_WAITS_ITEMS,
+    room = MAGBELU_WAITS_ROOM,
+    feed = MAGBELU_WAITS_FEED
+};
+
+/* What a block does with streams. A sink keeps its items, and a null sink drops them. */
+enum class role : std::uint32_t { work = MAGBELU_WORK, source = MAGBELU_SOURCE, sink = MAGBELU_SINK, null_sink = MAGBELU_NULL_SINK };
+
+/* The type of items: `std::uint8_t`, `std::int16_t` or `std::int32_t`. */
+enum class item_type : std::uint32_t { bytes = MAGBELU_BYTE, shorts = MAGBELU_SHORT, ints = MAGBELU_INT };
+
+/* What a drawing is written in. */
+enum class drawing : std::uint32_t { dot = MAGBELU_DOT, mermaid = MAGBELU_MERMAID };
+
+/* A block of a graph, with how many of its inputs and outputs are connected. Where there is no port on a side, its type says nothing. */
+struct block {
+    std::string name;
+    std::string kind;
+    magbelu::role role;
+    std::size_t inputs;
+    item_type input_type;
+    std::size_t outputs;
+    item_type output_type;
 };
 
 /* How the runs of a graph are cut into slices of time: how many iterations before its own a slice reads, each source, and each sink that keeps its items. */
@@ -217,6 +249,16 @@ inline std::vector<tag> tags_of(const std::string &lines) {
 template <class Item>
 inline constexpr bool is_item = std::is_same_v<Item, std::uint8_t> || std::is_same_v<Item, std::int16_t> || std::is_same_v<Item, std::int32_t>;
 
+/* The text of a file. One that cannot be read is a `std::system_error`. */
+inline std::string text_in(const std::string &path) {
+    std::ifstream file(path, std::ios::binary);
+    std::string text((std::istreambuf_iterator<char>(file)), std::istreambuf_iterator<char>());
+    if (!file.is_open() || file.bad()) {
+        throw std::system_error(errno, std::generic_category(), path);
+    }
+    return text;
+}
+
 inline void same_size(std::size_t wanted, std::size_t size, std::string_view block) {
     if (wanted != size) {
         throw std::invalid_argument("the items of " + std::string(block) + " have " + std::to_string(wanted) + " bytes, and not " + std::to_string(size));
@@ -302,8 +344,46 @@ public:
     /* Runs the graph until it comes to rest, and gives whether all blocks are done, for which all sources have to be closed. */
     bool settle() { return tested(magbelu_settle(plant()), "").status == 0; }
 
-    /* What a block waits for: MAGBELU_READY, MAGBELU_DONE, MAGBELU_WAITS_ITEMS, MAGBELU_WAITS_ROOM or, of a source that is to be fed, MAGBELU_WAITS_FEED. */
-    std::uint32_t need(std::string_view block) { return tested(magbelu_need(plant(), block.data(), block.size()), block).what; }
+    /* What a block waits for. */
+    wait need(std::string_view block) { return static_cast<wait>(tested(magbelu_need(plant(), block.data(), block.size()), block).what); }
+
+    /* Whether a graph is held. After it was moved away there is none, and each call is refused. */
+    bool is_open() const noexcept { return stream_.plant.is_open; }
+
+    /* The blocks, in the order of the file. */
+    std::vector<block> blocks() {
+        std::vector<block> all(static_cast<std::size_t>(reply(magbelu_block_count(plant()), "")));
+        for (std::size_t number = 0; number < all.size(); number++) {
+            all[number] = block_at(static_cast<std::uint32_t>(number));
+        }
+        return all;
+    }
+
+    /* The connections, in the order of the file. They have the numbers of their blocks. */
+    std::vector<magbelu_connection> connections() {
+        std::vector<magbelu_connection> all;
+        for (;;) {
+            const auto count = static_cast<std::size_t>(reply(magbelu_connections(plant(), all.data(), all.size()), ""));
+            const bool fits = count == all.size();
+            all.resize(count);
+            if (fits) {
+                return all;
+            }
+        }
+    }
+
+    /* The graph as text from which Graphviz's `dot` or Mermaid draws it, as `flow draw` writes it. */
+    std::string draw(drawing format = drawing::dot) {
+        std::string text(4096, '\0');
+        for (;;) {
+            const auto got = tested(magbelu_draw(plant(), static_cast<std::uint32_t>(format), text.data(), text.size()), "");
+            const bool fits = got.output_len <= text.size();
+            text.resize(got.output_len);
+            if (fits) {
+                return text;
+            }
+        }
+    }
 
     /* How the runs of the graph are cut into slices that give the items of the whole run, and its tags too where these are asked for. */
     slice_plan slices(bool tags = false) {
@@ -367,6 +447,20 @@ protected:
     static std::uint64_t reply(const magbelu_reply &got, std::string_view block) { return tested(got, block).value; }
 
 private:
+    block block_at(std::uint32_t number) {
+        std::string name(64, '\0'), kind(64, '\0');
+        for (;;) {
+            const auto got = tested(magbelu_block(plant(), number, name.data(), name.size(), kind.data(), kind.size()), "");
+            const bool fits = got.name_len <= name.size() && got.kind_len <= kind.size();
+            name.resize(got.name_len);
+            kind.resize(got.kind_len);
+            if (fits) {
+                return {std::move(name), std::move(kind), static_cast<role>(got.role), got.input_count, static_cast<item_type>(got.input_type), got.output_count,
+                        static_cast<item_type>(got.output_type)};
+            }
+        }
+    }
+
     static const magbelu_slicing &tested_slicing(const magbelu_slicing &got) {
         return tested(got, got.block == MAGBELU_NO_BLOCK ? std::string() : "block " + std::to_string(got.block));
     }
@@ -393,6 +487,9 @@ public:
     explicit graph(std::string_view file, std::string_view path = "<graph>") {
         open([&](char *line, std::size_t room) { return magbelu_open(plant(), file.data(), file.size(), line, room); }, file, path);
     }
+
+    /* The graph of a graph file. One that cannot be read is a `std::system_error`. */
+    static graph from_file(const std::string &path) { return graph(detail::text_in(path), path); }
 
     /* Does at most `max` firings of a block, and gives how many were done. */
     std::uint64_t step(std::string_view block, std::uint32_t max = UINT32_MAX) {
@@ -432,6 +529,9 @@ public:
     explicit stream(std::string_view file, std::string_view path = "<graph>") {
         open([&](char *line, std::size_t room) { return magbelu_stream_open(&stream_, file.data(), file.size(), line, room); }, file, path);
     }
+
+    /* The graph of a graph file. One that cannot be read is a `std::system_error`. */
+    static stream from_file(const std::string &path) { return stream(detail::text_in(path), path); }
 
     /* Takes at most `max` items away of those that a sink has taken and that were not drained yet. Its tags have the numbers of all that the sink ever took. */
     template <class Item>

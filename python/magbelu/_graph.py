@@ -6,7 +6,6 @@ import ctypes
 from typing import Any, Optional, SupportsIndex
 
 from ._arguments import MOST, Text, bytes_of, count_of, flag, index
-from ._drawing import dot_of, svg_of
 from ._held import Array, Held, Tag, array_of, tags_of, tested
 from ._library import Room, lent_name
 from ._plot import plot
@@ -65,34 +64,6 @@ class Graph(Held):
                 room, tags_room = max(room, piece.bytes_len), max(tags_room, piece.tags_len)
         tested(piece, sink)
         return array_of(piece.item_size, data.part(0, piece.bytes_len)), tags_of(lines.part(0, piece.tags_len).decode().split())
-
-    def draw(self, format: str = "dot") -> str:
-        """The graph as text from which Graphviz's `dot` draws it, as `flow draw` writes it but for how much each output holds; or with "svg" the picture, for which
-        `dot` has to be installed. In a notebook a graph shows itself so.
-
-        >>> print(Graph(magbelu.EXAMPLE).draw(), end="")
-        digraph {
-          rankdir=LR;
-          node [shape=record];
-          "src" [label="{src\\nvector_source\\nq 1|{<o0> 0}}"];
-          "add" [label="{{<i0> 0}|add\\nadd_const\\nvalue 10\\nq 1|{<o0> 0}}"];
-          "out" [label="{{<i0> 0}|out\\nvector_sink\\nq 1}"];
-          "src":o0:e -> "add":i0:w [label="byte", color="#9C27B0"];
-          "add":o0:e -> "out":i0:w [label="byte", color="#9C27B0"];
-        }
-        """
-        if format not in ("dot", "svg"):
-            raise ValueError('a drawing is "dot" or "svg", and not %r' % (format,))
-        dot = dot_of(self._text.decode())
-        picture = dot if format == "dot" else svg_of(dot)
-        if picture is None:
-            raise FileNotFoundError("there is no `dot` in PATH: the package graphviz of Debian has it")
-        return picture
-
-    def _repr_svg_(self) -> Optional[str]:
-        picture = svg_of(dot_of(self._text.decode()))
-        # (a notebook puts it into its page, in which no declaration may stand)
-        return picture and picture[picture.index("<svg") :]
 
     def plot(self, sink: Text, start: SupportsIndex = 0, count: Optional[SupportsIndex] = None, spectrum: bool = False, axes: Any = None) -> Any:
         """Plots what `read` gives, by matplotlib: items over their numbers, with the tags as marks, or their spectrum. It draws on `axes`, or on new ones of pyplot,

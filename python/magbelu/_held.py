@@ -5,13 +5,15 @@ from __future__ import annotations
 import array
 import collections.abc
 import ctypes
+import functools
 import os
 import threading
-from typing import Any, Iterable, NamedTuple, NoReturn, Optional, SupportsIndex, TypeVar, Union
+from typing import Any, Iterable, NamedTuple, Optional, SupportsIndex, TypeVar, Union
 
 from ._arguments import Text, bytes_of, flag, index, is_bytes, marks_of, numbers_of, numpy, place_of, taps_of, unmasked, within
 from ._errors import refused
 from ._library import Lent, Plant, Room, calls, lent_name
+from ._listing import FORMATS, Block, Connection, Port, blocks_of, connections_of, drawing_of, svg_of
 from ._runs import NO_PATH, read_file, refusal
 from ._slices import Slice, Slices, plan_of, slice_of
 
@@ -239,9 +241,101 @@ class Held:
         with self._lock:
             self._calls.magbelu_bytes_free(ctypes.byref(self._plant))
 
-    def __reduce_ex__(self, protocol: SupportsIndex) -> NoReturn:
-        """Refuses `copy` and `pickle`: two objects would free one plant."""
-        raise TypeError("a %s is neither copied nor pickled, since it holds a plant of the library" % type(self).__name__)
+    @functools.cached_property
+    def blocks(self) -> list[Block]:
+        """The blocks, in the order of the file.
+
+        >>> magbelu.Graph(magbelu.EXAMPLE).blocks[1]
+        Block(name='add', kind='add_const', role='work', inputs=1, input_type='byte', outputs=1, output_type='byte')
+        """
+        with self._lock:
+            return blocks_of(self._calls, ctypes.byref(self._plant))
+
+    @functools.cached_property
+    def connections(self) -> list[Connection]:
+        """The connections, in the order of the file.
+
+        >>> magbelu.Graph(magbelu.EXAMPLE).connections[0]
+        Connection(writer='src', out_port=0, reader='add', in_port=0)
+        """
+        blocks = self.blocks
+        with self._lock:
+            return connections_of(self._calls, ctypes.byref(self._plant), blocks)
+
+    @property
+    def sources(self) -> list[Port]:
+        """The sources, which are fed, with the types of their items.
+
+        >>> magbelu.Graph(magbelu.EXAMPLE).sources
+        [Port(name='src', type='byte')]
+        """
+        return [Port(it.name, it.output_type) for it in self.blocks if it.role == "source" and it.output_type]
+
+    @property
+    def sinks(self) -> list[Port]:
+        """The sinks that keep what they take, with the types of their items."""
+        return [Port(it.name, it.input_type) for it in self.blocks if it.role == "sink" and it.input_type]
+
+    def draw(self, format: str = "dot") -> str:
+        """The graph as text from which Graphviz's `dot` draws it, or with "mermaid" Mermaid, as `flow draw` writes it; or with "svg" the picture, for which `dot` has to
+        be installed. In a notebook a graph shows itself so.
+
+        >>> print(magbelu.Graph(magbelu.EXAMPLE).draw(), end="")
+        digraph {
+          rankdir=LR;
+          node [shape=record];
+          "src" [label="{src\\nvector_source\\nq 1|{<o0> 0}}"];
+          "add" [label="{{<i0> 0}|add\\nadd_const\\nvalue 10\\nq 1|{<o0> 0}}"];
+          "out" [label="{{<i0> 0}|out\\nvector_sink\\nq 1}"];
+          "src":o0:e -> "add":i0:w [label="byte 4096", color="#9C27B0"];
+          "add":o0:e -> "out":i0:w [label="byte 4096", color="#9C27B0"];
+        }
+        """
+        if format not in (*FORMATS, "svg"):
+            raise ValueError('a drawing is "dot", "mermaid" or "svg", and not %r' % (format,))
+        with self._lock:
+            text = drawing_of(self._calls, ctypes.byref(self._plant), format if format in FORMATS else "dot")
+        picture = svg_of(text) if format == "svg" else text
+        if picture is None:
+            raise FileNotFoundError("there is no `dot` in PATH: the package graphviz of Debian has it")
+        return picture
+
+    def _repr_svg_(self) -> Optional[str]:
+        picture = svg_of(self.draw())
+        # (a notebook puts it into its page, in which no declaration may stand)
+        return picture and picture[picture.index("<svg") :]
+
+    def __repr__(self) -> str:
+        """Its size, and its ends with their types.
+
+        >>> magbelu.Graph(magbelu.EXAMPLE)
+        <Graph of <graph>: 3 blocks, 2 connections, sources src (byte), sinks out (byte)>
+        """
+        if not self.is_open:
+            return "<%s of %s, freed>" % (type(self).__name__, self.path)
+        ends = (
+            "%s %s" % (what, ", ".join("%s (%s)" % it for it in ports))
+            for what, ports in (("sources", self.sources), ("sinks", self.sinks))
+            if ports
+        )
+        counts = "%d blocks, %d connections" % (len(self.blocks), len(self.connections))
+        return "<%s of %s: %s>" % (type(self).__name__, self.path, ", ".join([counts, *ends]))
+
+    @property
+    def is_open(self) -> bool:
+        """Whether it is held, and was not freed.
+
+        >>> with magbelu.Graph(magbelu.EXAMPLE) as graph:
+        ...     graph.is_open
+        True
+        >>> graph.is_open
+        False
+        """
+        return bool(self._plant.is_open)
+
+    def __reduce__(self: Own) -> tuple[type[Own], tuple[bytes, str]]:
+        """A copy, and what comes out of a pickle, is what the same file opens: at its beginning, with what the file itself feeds."""
+        return type(self), (self._text, self.path)
 
     def __enter__(self: Own) -> Own:
         return self

@@ -45,6 +45,17 @@ class Mark(ctypes.Structure):
     _fields_ = [("offset", ctypes.c_uint64), ("value", ctypes.c_int64), ("key", ctypes.c_void_p), ("key_len", ctypes.c_size_t)]
 
 
+class Listed(ctypes.Structure):
+    _fields_ = [
+        ("status", ctypes.c_uint32), ("number", ctypes.c_uint32), ("role", ctypes.c_uint32), ("input_type", ctypes.c_uint32), ("output_type", ctypes.c_uint32),
+        ("input_count", ctypes.c_size_t), ("output_count", ctypes.c_size_t), ("name_len", ctypes.c_size_t), ("kind_len", ctypes.c_size_t),
+    ]
+
+
+class Link(ctypes.Structure):
+    _fields_ = [("writer", ctypes.c_uint32), ("reader", ctypes.c_uint32), ("out_port", ctypes.c_size_t), ("in_port", ctypes.c_size_t)]
+
+
 class Slicing(ctypes.Structure):
     _fields_ = [
         ("status", ctypes.c_uint32), ("number", ctypes.c_uint32), ("block", ctypes.c_uint32), ("iterations", ctypes.c_uint64),
@@ -133,6 +144,8 @@ def _with_types(library: ctypes.CDLL) -> ctypes.CDLL:
         "step": plant + pair + [ctypes.c_uint32],
         "settle": plant,
         "need": plant + pair,
+        "block_count": plant,
+        "connections": plant + pair,
     }.items():
         call = getattr(library, "magbelu_bytes_" + name)
         call.restype, call.argtypes = Reply, types
@@ -141,6 +154,8 @@ def _with_types(library: ctypes.CDLL) -> ctypes.CDLL:
         call.restype, call.argtypes = Answer, plant + 2 * pair
     library.magbelu_bytes_drain.restype, library.magbelu_bytes_drain.argtypes = Piece, plant + pair + u64 + [ctypes.c_uint32] + 2 * pair
     library.magbelu_bytes_read.restype, library.magbelu_bytes_read.argtypes = Piece, plant + pair + 2 * u64 + [ctypes.c_uint32] + 2 * pair
+    library.magbelu_bytes_block.restype, library.magbelu_bytes_block.argtypes = Listed, plant + [ctypes.c_uint32] + 2 * pair
+    library.magbelu_bytes_draw.restype, library.magbelu_bytes_draw.argtypes = Answer, plant + [ctypes.c_uint32] + pair
     for name, types in {"slices": 2 * pair, "slice": u64 + pair}.items():
         call = getattr(library, "magbelu_bytes_" + name)
         call.restype, call.argtypes = Slicing, plant + [ctypes.c_uint32] + types

@@ -3,37 +3,13 @@
 from __future__ import annotations
 
 import os
-from typing import Any, NamedTuple, Union
+from typing import NamedTuple, Union
 
-from ._file import tables_of
-from ._runs import read_file, texts
+from ._held import Held
+from ._listing import Port
+from ._stream import Stream
 
 Path = Union[str, "os.PathLike[str]"]
-
-# What numpy calls the types, and how many bytes an item has.
-DTYPES = {"byte": "uint8", "short": "int16", "int": "int32"}
-SIZES = {"byte": 1, "short": 2, "int": 4}
-
-
-class Port(NamedTuple):
-    """A source or a sink, with the type of its items: "byte", "short" or "int", as GNU Radio Companion calls them too."""
-
-    name: str
-    type: str
-
-    @property
-    def dtype(self) -> str:
-        """The type as numpy calls it.
-
-        >>> Port("src", "byte").dtype
-        'uint8'
-        """
-        return DTYPES[self.type]
-
-    @property
-    def size(self) -> int:
-        """How many bytes an item has."""
-        return SIZES[self.type]
 
 
 class Ports(NamedTuple):
@@ -43,10 +19,9 @@ class Ports(NamedTuple):
     outputs: list[Port]
 
 
-def ports_of(tables: list[dict[str, Any]]) -> Ports:
-    """The ports of the blocks of a file."""
-    inputs, outputs = ([Port(it["name"], it["type"]) for it in tables if it["kind"] == kind] for kind in ("vector_source", "vector_sink"))
-    return Ports(inputs, outputs)
+def ports_of(held: Held) -> Ports:
+    """The ports of a graph that is held."""
+    return Ports(held.sources, held.sinks)
 
 
 def ports(path: Path) -> Ports:
@@ -55,6 +30,5 @@ def ports(path: Path) -> Ports:
     >>> ports("examples/echo/graph.toml").outputs
     [Port(name='out', type='byte'), Port(name='dry', type='byte')]
     """
-    text = read_file(path)
-    texts("check", text, path=str(path))
-    return ports_of(tables_of(text.decode()).get("block", []))
+    with Stream.from_file(path) as stream:
+        return ports_of(stream)

@@ -7,7 +7,6 @@ from typing import Any, NamedTuple, SupportsIndex
 
 from ._arguments import MOST, count_of, flag
 from ._errors import refused
-from ._file import tables_of
 from ._library import CutPart, CutSink, CutSource
 
 # The number of the refusal of a graph that is not cut, and what stands there for no block.
@@ -53,11 +52,6 @@ class Slice(NamedTuple):
     parts: list[SinkPart]
 
 
-def names_of(text: bytes) -> list[str]:
-    """The names of the blocks of a graph file, by their numbers."""
-    return [it["name"] for it in tables_of(text.decode()).get("block", [])]
-
-
 def tested(slicing: Any, names: list[str]) -> Any:
     """The answer of a call about slices, where it is not refused."""
     if slicing.number != NO_SLICES:
@@ -71,7 +65,7 @@ def tested(slicing: Any, names: list[str]) -> Any:
 
 def plan_of(held: Any, tags: bool) -> Slices:
     """How the runs of a graph are cut that is held."""
-    names = names_of(held._text)
+    names = [it.name for it in held.blocks]
     sources, sinks = (CutSource * len(names))(), (CutSink * len(names))()
     with held._lock:
         slicing = held._calls.magbelu_bytes_slices(
@@ -87,7 +81,7 @@ def plan_of(held: Any, tags: bool) -> Slices:
 
 def slice_of(held: Any, begins: SupportsIndex, tags: bool) -> Slice:
     """Where the slice begins, at an iteration, of a graph that is held."""
-    names = names_of(held._text)
+    names = [it.name for it in held.blocks]
     parts = (CutPart * len(names))()
     begins = count_of(begins, "an iteration", MOST)
     with held._lock:

@@ -6,10 +6,10 @@ import array
 import ctypes
 from typing import Any, Iterable, Iterator, NamedTuple, Optional, SupportsIndex
 
-from ._arguments import MOST, Text, bytes_of, count_of, numpy, unmasked
-from ._file import tables_of
+from ._arguments import MOST, Text, bytes_of, count_of, flag, numpy, unmasked
 from ._held import CODES, Array, Held, Items, Tag, array_of, tags_of, tested
 from ._library import Lent, Room, lent_name
+from ._plot import plot
 from ._runs import NO_PATH
 
 # How many items of a sink are drained at a time, at most.
@@ -65,6 +65,8 @@ class Stream(Held):
         # (for the lines of tags, which most drains have few of)
         self._lines = Room(4096)
         self._item_sizes: dict[bytes, int] = {}
+        # How many items were drained of each sink.
+        self._drained_of: dict[bytes, int] = {}
 
     def anew(self) -> Stream:
         """A stream of the same graph, at its beginning."""
@@ -129,11 +131,26 @@ class Stream(Held):
             lines = self._lines
             words = (name.at, name.len, most, 0, at or lines.at, size, lines.at, lines.size)
             piece = tested(self._calls.magbelu_bytes_drain(ctypes.byref(self._plant), *words), sink)
-            if piece.bytes_len > size or not piece.tags_len:
+            if piece.bytes_len > size:
                 return piece, []
             if piece.tags_len <= lines.size:
-                return piece, tags_of(lines.part(0, piece.tags_len).decode().split())
+                self._drained_of[bytes_of(sink)] = self._drained_of.get(bytes_of(sink), 0) + piece.bytes_len // piece.item_size
+                return piece, tags_of(lines.part(0, piece.tags_len).decode().split()) if piece.tags_len else []
             self._lines = Room(piece.tags_len)
+
+    def plot(self, sink: Text, count: Optional[SupportsIndex] = None, spectrum: bool = False, axes: Any = None) -> Any:
+        """Drains a sink, and plots what that gives, as `Graph.plot` does what is read.
+
+        >>> stream = Stream(magbelu.EXAMPLE)
+        >>> stream.feed("src", [250, 1, 2, 3]), stream.settle(), stream.drain("out", 1)[0].tolist()
+        (4, False, [4])
+        >>> axes = stream.plot("out")
+        >>> axes.lines[0].get_xdata().tolist(), axes.lines[0].get_ydata().tolist()
+        ([1, 2, 3], [11, 12, 13])
+        """
+        first = self._drained_of.get(bytes_of(sink), 0)
+        items, tags = self.drain(sink, count)
+        return plot(bytes_of(sink).decode(), first, items, tags, flag(spectrum, "spectrum"), axes)
 
     def through(self, /, **pieces: Iterable[Items]) -> Iterator[Piece]:
         """Runs the graph over what comes in, and gives what its sinks give, piece after piece, until all blocks are done. `pieces` has an iterable for each source: of
@@ -151,7 +168,7 @@ class Stream(Held):
         return self._through({source: pieces_of(source, it) for source, it in pieces.items()})
 
     def _through(self, pieces: dict[str, Iterator[Items]]) -> Iterator[Piece]:
-        sinks = [it["name"] for it in tables_of(self._text.decode()).get("block", []) if it["kind"] == "vector_sink"]
+        sinks = [it.name for it in self.sinks]
         is_over = False
         while not is_over:
             is_over = self.settle()

@@ -17,7 +17,6 @@ from typing import Iterable, Mapping, NoReturn, Optional, SupportsIndex, Union
 
 from ._arguments import Text, bytes_of
 from ._companion import has_port, has_ports, type_of
-from ._file import tables_of
 from ._gr_block import NO_GNU_RADIO, Block, HierBlock, blocks, gr, pmt
 from ._gr_tags import Tags
 from ._held import Need
@@ -54,16 +53,14 @@ class Flowgraph(HierBlock):  # type: ignore[misc]
         if path is None and text is None:
             raise TypeError('a Flowgraph is that of a graph file: Flowgraph("graph.toml"), or Flowgraph(text="...")')
         file = read_file(path or NO_PATH) if text is None else bytes_of(text)
-        # (it refuses what has no tables)
         stream = Stream(file, NO_PATH if path is None else str(path))
-        tables = tables_of(file.decode()).get("block", [])
-        self.ports = ports_of(tables)
+        self.ports = ports_of(stream)
         if not self.ports.outputs:
             raise ValueError("a graph without a vector_sink gives a block without an output, which GNU Radio ends with the first of its inputs")
         # (a signature of no ports has a size too)
         super().__init__("magbelu_flowgraph", *(gr.io_signature.makev(len(side), len(side), [it.size for it in side] or [1]) for side in self.ports))
         ends = [blocks.copy(it.size) for it in self.ports.inputs]
-        self._block = Block(stream, [it["name"] for it in tables], self.ports, ends, Tags(pmt, other_tags == "refuse"))
+        self._block = Block(stream, [it.name for it in stream.blocks], self.ports, ends, Tags(pmt, other_tags == "refuse"))
         for port, end in enumerate(ends):
             self.connect((self, port), end, (self._block, port))
             self._block.names_end(port)

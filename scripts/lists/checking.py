@@ -4,7 +4,7 @@ from __future__ import annotations
 
 from typing import Dict, Iterator, List, Sequence, Tuple
 
-from . import crate_kinds, crate_pages, crate_refusals, grc_lists, kind_lists, refusal_lists
+from . import crate_kinds, crate_pages, crate_refusals, grc_lists, kind_lists, python_lists, refusal_lists
 from .kind_table import FILE as KINDS
 from .kind_table import KindTable, read_kinds
 from .listings import Listing
@@ -51,6 +51,7 @@ def written(tree: Tree) -> Iterator[Written]:
     kinds, refusals = read(tree)
     yield from kind_lists.written(kinds)
     yield from grc_lists.written(kinds)
+    yield from python_lists.written(kinds)
     yield from refusal_lists.written(refusals)
 
 

@@ -20,9 +20,13 @@ def written(table: KindTable) -> Iterator[Written]:
     yield marked("docs/user/KINDS.md", FILE, "page of kinds", _page(table))
     yield marked("tests/graph_files/each_kind.rs", FILE, "KINDS", _tried(table))
     yield marked("tests/graph_files/drawings.rs", FILE, "KINDS", _drawn(table))
-    # (In these two no line can say by what they are written.)
+    # (In these no line can say by what they are written.)
     yield Written("tests/cases/explained/far_kind/stderr", names, "; there are: ", "\n")
     yield Written("README.md", str(len(kinds)), "[refusals](docs/user/REFUSALS.md), [the ", " kinds](docs/user/KINDS.md), ")
+    spaced = " ".join(kind.name for kind in kinds)
+    yield Written("share/bash-completion/completions/flow", spaced, '_flow_kinds() { echo "', '"; }\n\n# _flow_kind OPTION')
+    yield Written("share/zsh/site-functions/_flow", spaced, 'local kinds="', '"\n    local curcontext=')
+    yield Written("share/fish/vendor_completions.d/flow.fish", spaced, "__flow_is kinds new' -a '", "'\ncomplete -c flow -n 'not __flow_is help' -s h")
 
 
 def _page(table: KindTable) -> str:

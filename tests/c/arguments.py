@@ -40,6 +40,9 @@ class Noting:
     def magbelu_bytes_free(self, plant):
         return _library.Reply(0, 0, 0, 0)
 
+    def magbelu_bytes_block_count(self, plant):
+        return _library.Reply(0, 0, 0, 0)
+
     def magbelu_bytes_item_size(self, plant, *words):
         return _library.Reply(0, 0, 0, 2)
 
@@ -311,11 +314,11 @@ def texts_are_no_paths():
         raises(FileNotFoundError, lambda: call("no/such/graph.toml"))
 
 
-def nothing_held_is_copied():
-    """A copy would free the plant of the first."""
+def copies_have_plants_of_their_own():
     for held in [graph, stream]:
-        for call in [copy.copy, copy.deepcopy, lambda it: copy.deepcopy([it]), *(lambda it, n=n: pickle.dumps(it, n) for n in range(pickle.HIGHEST_PROTOCOL + 1))]:
-            raises(TypeError, lambda: call(held))
+        for call in [copy.copy, copy.deepcopy, *(lambda it, n=n: pickle.loads(pickle.dumps(it, n)) for n in range(pickle.HIGHEST_PROTOCOL + 1))]:
+            own = call(held)
+            assert type(own) is type(held) and own._plant is not held._plant and (own._text, own.path) == (held._text, held.path)
     assert graph.close("src") == 0
 
 
@@ -387,7 +390,7 @@ tests = [
     refusals_have_reasons,
     paths_are_no_texts,
     texts_are_no_paths,
-    nothing_held_is_copied,
+    copies_have_plants_of_their_own,
     *([arrays_are_read] if numpy is None else [numpy_items_are_integers, numpy_numbers_are_whole, masked_items_are_none, numpy_is_read]),
 ]
 for test in tests:

@@ -1,7 +1,9 @@
 """python/magbelu over the examples, raw items, tags, settings, and what is wrong. tests/parts/c.sh calls it, with the top of the checkout."""
 
 import array
+import copy
 import pathlib
+import pickle
 import random
 import sys
 import tempfile
@@ -319,16 +321,112 @@ def paths_are_told_from_texts():
 
 
 def graphs_are_drawn_as_by_flow():
-    """But for how much each output holds, which is 4096 in these."""
     page = (top / "docs/user/COMMANDS.md").read_text()
     wanted = page[page.index("digraph {") :].partition("}\n$")[0] + "}\n"
-    assert magbelu.Graph.from_file(top / "examples/frames/graph.toml").draw() == wanted.replace(" 4096", "")
+    assert magbelu.Graph.from_file(top / "examples/frames/graph.toml").draw() == wanted
     for file in sorted(top.glob("tests/graphs/*.toml")):
         try:
             graph = magbelu.Graph.from_file(file)
         except magbelu.Refused:
             continue
         assert graph.draw().count(" -> ") == int(magbelu.check(file.read_bytes()).split()[3]), file
+
+
+def graphs_tell_what_they_are():
+    graph = magbelu.Graph.from_file(top / "examples/echo/graph.toml")
+    assert graph.blocks[0] == ("src", "vector_source", "source", 0, None, 1, "byte"), graph.blocks
+    assert graph.blocks[2] == ("sum", "add", "work", 2, "byte", 1, "byte") and graph.blocks[4] == ("dry", "vector_sink", "sink", 1, "byte", 0, None)
+    assert [it.name for it in graph.sources] == ["src"] and [(it.name, it.size) for it in graph.sinks] == [("out", 1), ("dry", 1)]
+    assert graph.connections[2] == ("late", 0, "sum", 1) and len(graph.connections) == 5, graph.connections
+    assert "5 blocks, 5 connections, sources src (byte), sinks out (byte), dry (byte)>" in repr(graph), graph
+    # One that changes its type, drops, and has two outputs.
+    text = """block = [{ name = "a", kind = "vector_source", type = "byte" }, { name = "b", kind = "convert", type = "byte", to = "int" },
+    { name = "c", kind = "deinterleave", type = "int", ports = 2 }, { name = "d", kind = "null_sink", type = "int" }, { name = "e", kind = "null_sink", type = "int" }]
+connect = [{ from = "a", to = "b" }, { from = "b", to = "c" }, { from = "c", from_port = 1, to = "e" }, { from = "c", to = "d" }]"""
+    for held in [magbelu.Graph(text), magbelu.Stream(text)]:
+        assert held.blocks[1:4] == [("b", "convert", "work", 1, "byte", 1, "int"), ("c", "deinterleave", "work", 1, "int", 2, "int"), ("d", "null_sink", "null_sink", 1, "int", 0, None)]
+        assert held.connections[2:] == [("c", 1, "e", 0), ("c", 0, "d", 0)] and held.sinks == []
+        held.free()
+        assert "freed" in repr(held) and not held.is_open
+        refuses(55, "NotOpen", held.draw)
+    empty = magbelu.Graph("")
+    assert empty.blocks == [] and empty.connections == [] and repr(empty) == "<Graph of <graph>: 0 blocks, 0 connections>"
+    # As many blocks as a graph may have, with the longest names.
+    ends = [("s%031d" % at, "n%031d" % at) for at in range(128)]
+    rows = ['{ name = "%s", kind = "vector_source", type = "int" }, { name = "%s", kind = "null_sink", type = "int" }' % it for it in ends]
+    wide = magbelu.Stream("block = [%s]\nconnect = [%s]" % (", ".join(rows), ", ".join('{ from = "%s", to = "%s" }' % it for it in ends)))
+    assert len(wide.blocks) == 256 and wide.blocks[255].name == ends[127][1] and wide.connections[127] == (ends[127][0], 0, ends[127][1], 0)
+
+
+def copies_begin_anew():
+    graph = chain("byte")
+    graph.feed("src", [1, 2])
+    for other in [copy.copy(graph), copy.deepcopy(graph), pickle.loads(pickle.dumps(graph))]:
+        assert other.feed("src", [5]) == 1 and other.settle() is False and list(other.read("out")[0]) == [15]
+    assert graph.feed("src", [3]) == 3
+
+
+def builders_build():
+    """What is built gives what the file gives that says the same, and each wrong call is refused as that file is."""
+    builder = magbelu.Builder()
+    builder.block("src", "vector_source", type="byte", capacity=16)
+    builder.block("late", "delay", type="byte", n=2)
+    builder.block("sum", "add", type="byte", tags="all")
+    builder.block("code", "map_bb", map=bytes([3, 2, 1]))
+    for name in ("out", "dry"):
+        builder.block(name, "vector_sink", type="byte")
+    for writer, reader in [("src", "late"), ("src", "sum"), (("late", 0), ("sum", 1)), ("sum", "code"), ("code", "out"), ("src", "dry")]:
+        builder.connect(writer, reader)
+    graph = builder.graph()
+    graph.feed("src", [1, 1, 0])
+    graph.settle()
+    # (1 1 0 and 0 0 1 are 1 1 1, which the map turns)
+    assert list(graph.read("out")[0]) == [2, 2, 2] and list(graph.read("dry")[0]) == [1, 1, 0]
+    assert builder.stream().blocks == graph.blocks and magbelu.Graph(builder.to_toml()).connections == graph.connections
+    before = builder.to_toml()
+    assert refuses(41, "UnknownKey", lambda: builder.block("fir", "fir", type="short", taps=[1], decim=2)).detail == "block 6"
+    for number, name, call in [
+        (1, "DuplicateName", lambda: builder.block("src", "abs", type="int")),
+        (42, "MissingKey", lambda: builder.block("fir", "fir", type="short")),
+        (43, "WrongType", lambda: builder.block("fir", "fir", type="short", taps=1)),
+        (44, "UnknownKind", lambda: builder.block("fir", "firr", type="short")),
+        (10, "BadParameter", lambda: builder.block("fir", "fir", type="short", taps=[1], decimation=0)),
+        (10, "BadParameter", lambda: builder.block("fir", "fir", type="byte", taps=[1])),
+        (10, "BadParameter", lambda: builder.block("a b", "abs", type="int")),
+        (2, "UnknownBlock", lambda: builder.connect("src", "none")),
+        (2, "UnknownBlock", lambda: builder.connect("none", "src")),
+        (3, "PortRange", lambda: builder.connect("src", ("late", 1))),
+        (3, "PortRange", lambda: builder.connect(("src", -1), "sum")),
+        (4, "InputTaken", lambda: builder.connect("src", "out")),
+    ]:
+        refuses(number, name, call)
+    assert "--> the block fir:1:" in str(refuses(44, "UnknownKind", lambda: builder.block("fir", "firr", type="short")))
+    assert "there are: src, late, sum" in str(refuses(2, "UnknownBlock", lambda: builder.connect("src", "none")))
+    builder.block("ints", "abs", type="int")
+    refuses(6, "TypeMismatch", lambda: builder.connect("src", "ints"))
+    for call in [
+        lambda: builder.block("x", "add_const", type="byte", value=1.0),
+        lambda: builder.block("x", "add_const", type="byte", value=True),
+        lambda: builder.block("x", "fir", type="short", taps=[1, 2.5]),
+        lambda: builder.block(5, "abs", type="int"),
+        lambda: builder.block("x", None),
+        lambda: builder.connect("src", ("sum", "1")),
+        lambda: builder.connect("src", 5),
+    ]:
+        raises(TypeError, call)
+    assert builder.to_toml().replace('    { name = "ints", kind = "abs", type = "int" },\n', "") == before
+    # What only the whole graph can be refused for.
+    assert refuses(8, "TooFewPorts", builder.graph).detail == "ints"
+
+
+def each_kind_is_built():
+    """The keywords of each kind are the keys that its page has."""
+    for name, page in magbelu.KINDS.items():
+        assert page.startswith(name + ": "), name
+        error = refuses(41, "UnknownKey", lambda: magbelu.Builder().block("x", name, no_such_key=1))
+        keys = [line.strip().partition(":")[0] for line in page.splitlines()[1:]]
+        told = error.place.strip().rpartition("it has: ")[2].split(", ")
+        assert [it for it in told if it not in ("name", "kind", "tags", "multiple", "capacity")] == [it for it in keys if it not in ("rate", "example")], (told, keys)
 
 
 def threads_call_side_by_side():
@@ -369,6 +467,10 @@ tests = [
     late_settings_tell_what_is_open,
     paths_are_told_from_texts,
     graphs_are_drawn_as_by_flow,
+    graphs_tell_what_they_are,
+    copies_begin_anew,
+    builders_build,
+    each_kind_is_built,
     threads_call_side_by_side,
     threads_call_one_graph,
 ]

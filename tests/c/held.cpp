@@ -3,6 +3,7 @@
  */
 #include <array>
 #include <cstdlib>
+#include <fstream>
 #include <functional>
 #include <iostream>
 
@@ -154,6 +155,7 @@ static void graphs_are_moved_and_freed() {
     first.feed("src", {1});
     auto second = std::move(first);
     must(second.feed("src", {2}) == 2, "a graph that was moved");
+    must(second.is_open() && !first.is_open(), "which of two is open");
     refuses(55, "55 NotOpen src", [&] { first.feed("src", {1}); });
     first = chain("short");
     second = std::move(first);
@@ -162,11 +164,11 @@ static void graphs_are_moved_and_freed() {
 
 static void streams_go_on() {
     magbelu::stream stream(chain_file("short"));
-    must(stream.need("src") == MAGBELU_WAITS_FEED && stream.need("out") == MAGBELU_WAITS_ITEMS, "what blocks wait for");
+    must(stream.need("src") == magbelu::wait::feed && stream.need("out") == magbelu::wait::items, "what blocks wait for");
     for (std::int16_t at = 0; at < 300; at++) {
         const std::vector<std::int16_t> items(1000, at);
         must(stream.feed("src", items, {{at * 1000u, "k", at}}) == (at + 1) * 1000u, "how many items were fed");
-        must(stream.need("src") == MAGBELU_READY && !stream.settle(), "an open source is done");
+        must(stream.need("src") == magbelu::wait::ready && !stream.settle(), "an open source is done");
         const auto some = stream.drain<std::int16_t>("out", 1);
         must(some.items == std::vector<std::int16_t>{static_cast<std::int16_t>(at + 10)} && some.held == (at + 1) * 1000u, "the first item of a piece");
         must(some.tags.size() == 1 && some.tags[0].offset == at * 1000u && some.tags[0].value == at, "the tag of a piece");
@@ -175,7 +177,7 @@ static void streams_go_on() {
     // More items and tags than a first room takes.
     stream.feed("src", std::vector<std::int16_t>(100000, 1), std::vector<magbelu::mark>(1000, {300000, "k", 1}));
     stream.close("src");
-    must(stream.settle() && stream.need("src") == MAGBELU_DONE, "a closed source is not done");
+    must(stream.settle() && stream.need("src") == magbelu::wait::done, "a closed source is not done");
     const auto rest = stream.drain<std::int16_t>("out");
     must(rest.items == std::vector<std::int16_t>(100000, 11) && rest.tags.size() == 1000, "a large piece");
     refuses(22, "22 NotSink add", [&] { stream.drain<std::int16_t>("add"); });
@@ -203,7 +205,34 @@ static void slices_are_told() {
     refuses(63, "63 NoSlices block 1", [&] { coded.slice(0); });
 }
 
-int main() {
+static void graphs_are_listed() {
+    auto graph = chain("short");
+    const auto blocks = graph.blocks();
+    must(blocks.size() == 3 && blocks[0].name == "src" && blocks[0].kind == "vector_source" && blocks[0].role == magbelu::role::source, "a source");
+    must(blocks[0].inputs == 0 && blocks[0].outputs == 1 && blocks[0].output_type == magbelu::item_type::shorts, "its ports");
+    must(blocks[1].role == magbelu::role::work && blocks[1].inputs == 1 && blocks[1].input_type == magbelu::item_type::shorts, "a block that works");
+    must(blocks[2].name == "out" && blocks[2].role == magbelu::role::sink && blocks[2].outputs == 0, "a sink");
+    const auto connections = magbelu::stream(chain_file("int")).connections();
+    must(connections.size() == 2 && connections[0].from == 0 && connections[0].to == 1 && connections[1].from == 1 && connections[1].to == 2, "connections");
+    must(connections[1].out_port == 0 && connections[1].in_port == 0, "their ports");
+    must(graph.draw().rfind("digraph {\n", 0) == 0 && graph.draw(magbelu::drawing::mermaid).rfind("flowchart LR\n", 0) == 0, "drawings");
+    auto other = std::move(graph);
+    refuses(55, "55 NotOpen", [&] { graph.blocks(); });
+}
+
+/* files PATH: what is opened of a file that is written there */
+static void files_are_opened(const std::string &path) {
+    std::ofstream(path) << chain_file("byte");
+    must(magbelu::graph::from_file(path).item_size("src") == 1 && magbelu::stream::from_file(path).is_open(), "what a file opens");
+    std::ofstream(path) << "[[block]]";
+    const std::string place = "\n --> " + path + ":1:1\n  |\n1 | [[block]]\n  | ^ a block needs the key `name`: a text";
+    refuses(42, "42 MissingKey block 0 name" + place, [&] { magbelu::stream::from_file(path); });
+    throws<std::system_error>([&] { magbelu::graph::from_file(path + "/none"); });
+}
+
+int main(int, char **words) {
+    files_are_opened(std::string(words[0]) + ".toml");
+    graphs_are_listed();
     slices_are_told();
     reasons_are_told();
     streams_go_on();

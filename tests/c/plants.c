@@ -29,9 +29,64 @@ static void not_open(struct magbelu_plant *plant) {
     replied(magbelu_set_taps(plant, "add", 3, MAGBELU_NOW, NULL, 0), 1, 55, 0, 0, "taps");
     replied(magbelu_step(plant, "src", 3, 1), 1, 55, 0, 0, "a step");
     replied(magbelu_settle(plant), 1, 55, 0, 0, "a settle");
+    replied(magbelu_block_count(plant), 1, 55, 0, 0, "how many blocks");
+    replied(magbelu_connections(plant, NULL, 0), 1, 55, 0, 0, "connections");
+    must(magbelu_block(plant, 0, bytes, sizeof bytes, NULL, 0).number == 55 && bytes[0] == 'a', "a block");
+    is(magbelu_draw(plant, MAGBELU_DOT, bytes, sizeof bytes), 1, 55, 0, NULL, "");
     piece = magbelu_read(plant, "out", 3, 0, 9, 0, bytes, sizeof bytes, NULL, 0);
     must(piece.status == 1 && piece.number == 55 && piece.bytes_len == 0 && bytes[0] == 'a', "a read");
     replied(magbelu_free(plant), 1, 55, 0, 0, "a second free");
+}
+
+/* block PLANT NUMBER NAME KIND ROLE INPUTS OUTPUTS: what the block is, of shorts */
+static void block(struct magbelu_plant *plant, uint32_t number, const char *name, const char *kind, uint32_t role, size_t inputs, size_t outputs) {
+    char names[32], kinds[32];
+    struct magbelu_listed listed;
+    memset(names, '-', sizeof names);
+    memset(kinds, '-', sizeof kinds);
+    listed = magbelu_block(plant, number, names, sizeof names, kinds, sizeof kinds);
+    must(listed.status == 0 && listed.number == 0 && listed.role == role, "what a block does");
+    must(listed.name_len == strlen(name) && memcmp(names, name, listed.name_len) == 0 && names[listed.name_len] == '-', "the name of a block");
+    must(listed.kind_len == strlen(kind) && memcmp(kinds, kind, listed.kind_len) == 0 && kinds[listed.kind_len] == '-', "its kind");
+    must(listed.input_count == inputs && listed.output_count == outputs, "its ports");
+    must((inputs == 0 || listed.input_type == MAGBELU_SHORT) && (outputs == 0 || listed.output_type == MAGBELU_SHORT), "the types of its items");
+    /* (where one of the two does not fit, the other is written) */
+    memset(names, '-', sizeof names);
+    listed = magbelu_block(plant, number, names, listed.name_len, NULL, 0);
+    must(listed.kind_len == strlen(kind) && memcmp(names, name, listed.name_len) == 0, "a block without room for its kind");
+}
+
+/* The chain of shorts, whose outputs hold 4,096 items each. */
+static void graph_is_told(struct magbelu_plant *plant) {
+    static const char dot[] = "digraph {\n  rankdir=LR;\n  node [shape=record];\n"
+                              "  \"src\" [label=\"{src\\nvector_source\\nq 1|{<o0> 0}}\"];\n"
+                              "  \"add\" [label=\"{{<i0> 0}|add\\nadd_const\\nvalue 1\\nq 1|{<o0> 0}}\"];\n"
+                              "  \"out\" [label=\"{{<i0> 0}|out\\nvector_sink\\nq 1}\"];\n"
+                              "  \"src\":o0:e -> \"add\":i0:w [label=\"short 4096\", color=\"#C8A000\"];\n"
+                              "  \"add\":o0:e -> \"out\":i0:w [label=\"short 4096\", color=\"#C8A000\"];\n}\n";
+    struct magbelu_connection rows[3] = {{9, 9, 9, 9}, {9, 9, 9, 9}, {9, 9, 9, 9}};
+    struct magbelu_answer answer;
+    char text[1024];
+    replied(magbelu_block_count(plant), 0, 0, 0, 3, "how many blocks");
+    block(plant, 0, "src", "vector_source", MAGBELU_SOURCE, 0, 1);
+    block(plant, 1, "add", "add_const", MAGBELU_WORK, 1, 1);
+    block(plant, 2, "out", "vector_sink", MAGBELU_SINK, 1, 0);
+    must(magbelu_block(plant, 3, text, sizeof text, NULL, 0).number == 20, "a block beyond the last");
+    must(magbelu_block(plant, 0, NULL, 1, NULL, 0).number == 54 && magbelu_block(NULL, 0, NULL, 0, NULL, 0).number == 54, "a block at NULL");
+    replied(magbelu_connections(plant, rows, 1), 0, 0, 0, 2, "connections without room");
+    must(rows[0].from == 9, "nothing is written where not all fits");
+    replied(magbelu_connections(plant, rows, 3), 0, 0, 0, 2, "connections");
+    must(rows[0].from == 0 && rows[0].out_port == 0 && rows[0].to == 1 && rows[0].in_port == 0, "the first connection");
+    must(rows[1].from == 1 && rows[1].to == 2 && rows[2].from == 9, "the second one, and no third");
+    replied(magbelu_connections(plant, NULL, 1), 1, 54, 0, 0, "connections at NULL");
+    memset(text, '-', sizeof text);
+    answer = magbelu_draw(plant, MAGBELU_DOT, text, sizeof text);
+    is(answer, 0, 0, strlen(dot), NULL, "");
+    must(memcmp(text, dot, answer.output_len) == 0 && text[answer.output_len] == '-', "the drawing");
+    is(magbelu_draw(plant, MAGBELU_DOT, NULL, 0), 0, 0, strlen(dot), NULL, "");
+    answer = magbelu_draw(plant, MAGBELU_MERMAID, text, sizeof text);
+    must(answer.status == 0 && memcmp(text, "flowchart LR\n", 13) == 0, "the drawing of Mermaid");
+    is(magbelu_draw(NULL, MAGBELU_DOT, NULL, 0), 1, 54, 0, NULL, "");
 }
 
 static void refusals(struct magbelu_plant *plant) {
@@ -74,6 +129,7 @@ void held(void) {
     is(magbelu_open(&plant, chain, len, NULL, 0), 0, 0, 0, NULL, "");
     is(magbelu_open(&plant, chain, len, NULL, 0), 1, 56, 0, NULL, "");
     refusals(&plant);
+    graph_is_told(&plant);
     replied(magbelu_item_size(&plant, "src", 3), 0, 0, 0, 2, "an item's size");
     replied(magbelu_feed(&plant, "src", 3, 0, "\1\0\2\0\3\0", 6, tags, 2), 0, 0, 0, 3, "a feed");
     replied(magbelu_set(&plant, "add", 3, 2, 10), 0, 0, 0, 2, "a setting");

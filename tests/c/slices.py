@@ -9,7 +9,6 @@ import threading
 
 import magbelu
 from magbelu import _slice_runs
-from magbelu._file import tables_of
 from shared import CHAIN, generated, raises, refuses
 
 CODES = {"byte": "B", "short": "h", "int": "i"}
@@ -42,7 +41,7 @@ def joined(text, inputs, jobs):
 
 def whole(text, inputs):
     """What each sink gives in one run."""
-    sinks = [it["name"] for it in tables_of(text)["block"] if it["kind"] == "vector_sink"]
+    sinks = [it.name for it in magbelu.Stream(text).sinks]
     return dict(zip(sinks, magbelu.run_items(text, list(inputs.items()), sinks)[0]))
 
 
@@ -51,13 +50,14 @@ def slices_give_what_runs_give():
     rng, done, refused = random.Random(64), 0, 0
     while done < 60:
         text, _, pieces = generated(rng)
-        blocks = tables_of(text)["block"]
-        data = array.array(CODES[blocks[0]["type"]], sum(pieces, []) * rng.randint(1, 9)).tobytes()
-        heads = [it["name"] for it in blocks if it["kind"] == "head"]
+        times = rng.randint(1, 9)
         try:
-            wanted = whole(text, {"src": data})
+            graph = magbelu.Graph(text)
         except magbelu.Refused:
             continue
+        data = array.array(CODES[graph.sources[0].type], sum(pieces, []) * times).tobytes()
+        heads = [it.name for it in graph.blocks if it.kind == "head"]
+        wanted = whole(text, {"src": data})
         if heads:
             assert refuses(63, "NoSlices", lambda: joined(text, {"src": data}, 2)).detail == heads[0]
             refused += 1

@@ -245,6 +245,27 @@ magbelu_piece magbelu_bytes_drain(magbelu_plant *held, const std::uint8_t *name,
     return shown;
 }
 
+magbelu_reply magbelu_bytes_block_count(magbelu_plant *held) { return held->is_open ? magbelu_reply{0, 0, 0, std::size(names)} : refuse(MAGBELU_NOT_OPEN); }
+
+magbelu_listed magbelu_bytes_block(magbelu_plant *held, std::uint32_t number, std::uint8_t *name, std::size_t name_room, std::uint8_t *kind, std::size_t kind_room) {
+    static const char *const kinds[] = {"vector_source", "add_const", "vector_sink"};
+    static const std::uint32_t roles[] = {MAGBELU_SOURCE, MAGBELU_WORK, MAGBELU_SINK};
+    const std::uint32_t type = in(held).size == 1 ? MAGBELU_BYTE : in(held).size == 2 ? MAGBELU_SHORT : MAGBELU_INT;
+    return {0, 0, roles[number], type, type, number != 0, number != 2, put(names[number], name, name_room), put(kinds[number], kind, kind_room)};
+}
+
+magbelu_reply magbelu_bytes_connections(magbelu_plant *, magbelu_connection *connections, std::size_t room) {
+    if (room >= 2) {
+        connections[0] = {0, 1, 0, 0};
+        connections[1] = {1, 2, 0, 0};
+    }
+    return {0, 0, 0, 2};
+}
+
+magbelu_answer magbelu_bytes_draw(magbelu_plant *, std::uint32_t format, std::uint8_t *output, std::size_t room) {
+    return {0, 0, put(format == MAGBELU_DOT ? "digraph {\n}\n" : "flowchart LR\n", output, room), 0};
+}
+
 /* (an item comes of the item of the same number alone) */
 magbelu_slicing magbelu_bytes_slices(magbelu_plant *held, std::uint32_t, magbelu_cut_source *sources, std::size_t source_room, magbelu_cut_sink *sinks,
                                      std::size_t sink_room) {

@@ -17,10 +17,20 @@ connect = [{ from = "src", to = "out" }]
 
 
 class Accepting:
-    """Stands for the library: no graph file is refused."""
+    """Stands for the library: each file has a source of shorts and a sink, which keeps its items where the file has a `vector_sink`."""
 
-    def magbelu_bytes_check(self, *words):
+    def magbelu_bytes_open_stream(self, plant, file, file_len, *words):
+        self.keeps = b"vector_sink" in ctypes.string_at(file, file_len)
         return _library.Answer(0, 0, 0, 0)
+
+    def magbelu_bytes_free(self, plant):
+        return _library.Reply(0, 0, 0, 0)
+
+    def magbelu_bytes_block_count(self, plant):
+        return _library.Reply(0, 0, 0, 2)
+
+    def magbelu_bytes_block(self, plant, number, *words):
+        return _library.Listed(0, 0, 1 if number == 0 else 2 if self.keeps else 3, 1, 1, number, 1 - number, 0, 0)
 
 
 def refused_by_import(place):

@@ -7,7 +7,7 @@ use std::test::Fail;
 
 // Each kind with all its keys.
 // scripts/generate writes these lines from kinds.toml: KINDS
-const KINDS: [(&str, &str); 60] = [
+const KINDS: [(&str, &str); 62] = [
     ("vector_source", "type = \"short\"\ncapacity = 8\n"),
     ("vector_sink", "type = \"short\"\n"),
     ("null_sink", "type = \"short\"\n"),
@@ -121,6 +121,14 @@ const KINDS: [(&str, &str); 60] = [
     (
         "correlate_access_code",
         "code = \"1011\"\nthreshold = 4\ntags = \"one\"\nmultiple = 2\ncapacity = 8\n",
+    ),
+    (
+        "crc_append",
+        "order = \"lsb_first\"\nbits = 32\npolynomial = 79764919\ninit = 4294967295\nfinal_xor = 4294967295\nn = 1020\ntags = \"one\"\nmultiple = 2\ncapacity = 8\n",
+    ),
+    (
+        "crc_check",
+        "order = \"lsb_first\"\nbits = 32\npolynomial = 79764919\ninit = 4294967295\nfinal_xor = 4294967295\nn = 1020\ntags = \"one\"\nmultiple = 2\ncapacity = 8\n",
     ),
 ];
 // end of these lines: KINDS

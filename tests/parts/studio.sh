@@ -1,6 +1,6 @@
 #!/usr/bin/env bash
 # magbelu-studio: tests/studio/cases.py has the cases. They need ./build --c's library and Python's aiohttp, and those in a browser chromium with its driver and Python's
-# selenium too. That the table of kinds is what `flow kinds` prints, which docs/user/KINDS.md has, is tried everywhere.
+# selenium too.
 set -euo pipefail
 # shellcheck source=tests/part.sh
 source "$(dirname -- "$(readlink -f -- "${BASH_SOURCE[0]}")")/../part.sh"
@@ -12,7 +12,7 @@ in_browser=(sinks_as_run controls markup many_blocks server_killed dragged taps 
 python=$([[ -x /usr/bin/python3 ]] && echo /usr/bin/python3 || echo python3)
 export PYTHONDONTWRITEBYTECODE=1
 
-list() { printf 'studio/%s\n' kinds columns_without_numpy "${without_browser[@]}" "${in_browser[@]}"; }
+list() { printf 'studio/%s\n' columns_without_numpy "${without_browser[@]}" "${in_browser[@]}"; }
 
 # lacks NEED..: prints what is not here of these: the library, programs, modules of Python
 lacks() {
@@ -25,9 +25,6 @@ lacks() {
         esac
     done
 }
-
-# tells_kinds: the package's table of kinds is that of the page, which holds what the program prints
-tells_kinds() { sed -n '/^\$ .\/flow kinds$/,/^```$/{//d;p}' "$top/docs/user/KINDS.md" | diff -U 1 - "$top/python/magbelu/studio/kinds.txt"; }
 
 # case_of NAME
 case_of() {
@@ -65,7 +62,6 @@ try() {
 
 run() {
     local it why
-    try '' studio/kinds tells_kinds
     why=$(lacks library aiohttp)
     try "$why" studio/columns_without_numpy without_numpy case_of columns
     for it in "${without_browser[@]}"; do

@@ -12,10 +12,10 @@ use Rattle.slices.specs.declared.plan.Planned.{Planned}
 use Rattle.slices.specs.declared.plan.Planned.TheVariants as answers
 use Rattle.slices.specs.declared.reach.Content.TheVariants as content
 use Rattle.slices.specs.declared.slice.Slice.{Slice}
-use Rattle.slices.specs.Kinds.{look_back_of}
+use Rattle.slices.specs.Kinds.{counts_of, look_back_of}
 use Rattle.slices.specs.Firings.{looks_of}
 use Rattle.slices.specs.Reaches.{reaches_of}
-use Rattle.slices.specs.Plans.{IsPlanned}
+use Rattle.slices.specs.Plans.{HasGoneOn, IsFirstToCount, IsPlanned, counting_of}
 use Rattle.slices.specs.Cuts.{IsSlice}
 use Rattle.magbelu_c.specs.declared.any_plant.AnyPlant.{AnyPlant}
 use Rattle.magbelu_c.specs.declared.cuts.CutSource.{CutSource}
@@ -23,7 +23,7 @@ use Rattle.magbelu_c.specs.declared.cuts.CutSink.{CutSink}
 use Rattle.magbelu_c.specs.declared.cuts.CutPart.{CutPart}
 use Rattle.magbelu_c.specs.declared.slicing.Slicing.{Slicing}
 use Rattle.magbelu_c.specs.declared.slicing.Uncut.{Uncut}
-use Rattle.magbelu_c.specs.declared.slicing.Uncut.TheVariants.{Remembers, Rates, Begin, Memory}
+use Rattle.magbelu_c.specs.declared.slicing.Uncut.TheVariants.{Remembers, Counts, Rates, Begin, Memory}
 use Rattle.magbelu_c.specs.AnyPlants.{plant_of}
 use Rattle.magbelu_c.specs.CallAnswers.{shown}
 use Rattle.magbelu_c.specs.Cuts.{source_row, sink_row, part_row}
@@ -41,14 +41,16 @@ IsPlannedBy g asked q planned =
 abbrev pub HasBalance : Flowgraph Kind → List ℕ → Type 0
 HasBalance g q = balance_of (net_of meaning_of g) ≡ Balanced q
 
--- by which it has this plan
+-- by which it has this plan, and goes on as it is: a plant of the graph itself runs its slices
 pub record HasPlan (g : Flowgraph Kind) (asked : Asks) (q : List ℕ) (plan : Plan) : Type 0 where
   pub balanced : HasBalance g q
   pub planned : IsPlannedBy g asked q (answers.Plan plan)
+  pub own : (k : ℕ) → HasGoneOn (net_of meaning_of g) q (looks_of look_back_of g) k (net_of meaning_of g)
 
--- or it has none: a block does not forget; where there is a balance, slices by it would overlap too far; or memory ran out
+-- or it has none: a block does not forget; one counts; where there is a balance, slices by it would overlap too far; or memory ran out
 abbrev pub HasNoPlan : Flowgraph Kind → Asks → Uncut → Type 0
 HasNoPlan g asked (Remembers block) = (q : List ℕ) × HasBalance g q × IsPlannedBy g asked q (answers.Remembers block)
+HasNoPlan g asked (Counts block) = IsFirstToCount (counting_of counts_of g) block.0
 HasNoPlan g asked Rates = (q : List ℕ) → HasBalance g q → IsPlannedBy g asked q answers.TooLate
 HasNoPlan g asked Begin = ⊥
 HasNoPlan g asked Memory = ⊤
@@ -76,6 +78,7 @@ refused status number block = record { status = status; number = number; block =
 
 abbrev pub not_cut : Uncut → Slicing
 not_cut (Remembers block) = refused 1 63 block.0
+not_cut (Counts block) = refused 1 63 block.0
 not_cut Rates = refused 1 63 no_block
 not_cut Begin = refused 1 64 no_block
 not_cut Memory = refused 4 32 no_block
@@ -88,7 +91,7 @@ pub data Plans (g : Flowgraph Kind) (asked : Asks) (sources sources' : List CutS
 
 -- the slice of its plan that begins at an iteration, or why there is none
 pub data Slices (g : Flowgraph Kind) (asked : Asks) (begins : ℕ) (parts parts' : List CutPart) (r : Slicing) : Type 0 where
-  SliceShown : (q : List ℕ) → (plan : Plan) → HasPlan g asked q plan → CanBegin plan begins → (slice : Slice) → IsSlice (net_of meaning_of g) q plan begins slice →
+  SliceShown : (q : List ℕ) → (plan : Plan) → HasPlan g asked q plan → CanBegin plan begins → (slice : Slice) → IsSlice (net_of meaning_of g) q (looks_of look_back_of g) plan begins slice →
       parts' ≡ shown (map part_row slice.parts.items) parts → r ≡ told slice.from 0 (length slice.parts.items) → Slices g asked begins parts parts' r
   BegunNot : (q : List ℕ) → (plan : Plan) → HasPlan g asked q plan → CannotBegin plan begins → parts' ≡ parts → r ≡ not_cut Begin → Slices g asked begins parts parts' r
   SliceShownNot : (why : Uncut) → HasNoPlan g asked why → parts' ≡ parts → r ≡ not_cut why → Slices g asked begins parts parts' r

@@ -6,7 +6,7 @@
 //!
 //! A call takes pointers with their lengths, refuses what they may not be (54 and on), and does one call of the libraries below: `calls` whole runs of a file,
 //! `raw_calls` and `between` runs between raw items, `held_calls` those of a plant that is held behind a `handle`, `draining` those of one that
-//! streams, `slice_calls` how runs of its graph are cut into slices of time, `kernels` arithmetic over slices of memory. It starts no thread, and keeps nothing
+//! streams, `graph_calls` what its graph is, `slice_calls` how runs of its graph are cut into slices of time, `kernels` arithmetic over slices of memory. It starts no thread, and keeps nothing
 //! between two calls but what a handle holds.
 #![tactic(auto)]
 
@@ -18,10 +18,12 @@ pub mod calls;
 pub mod cuts;
 mod draining;
 pub mod explaining;
+pub mod graph_calls;
 pub mod handle;
 pub mod held_calls;
 mod idle;
 pub mod kernels;
+pub mod listing;
 mod loose;
 mod orders;
 pub mod piece;

@@ -2,6 +2,7 @@
 
 ghost use Rattle.std.specs.Prelude.{◌≡◌, ℕ, List, IfOk, IfErr, true, false};
 ghost use Rattle.stream_model.specs.Network.{Network};
+ghost use Rattle.slices.specs.declared.look_back.LookBack.{LookBack};
 ghost use Rattle.slices.specs.Plans.{IsPlan};
 ghost use Rattle.slices.specs.Cuts.{IsSlice};
 ghost use Rattle.magbelu_c.specs.Slicing.{CanBegin, CannotBegin, HasNoPlan, HasPlan, Plans, Slices, asks_of};
@@ -12,7 +13,7 @@ use crate::slicing::{Slicing, Uncut, not_cut, told};
 use flowgraph::Valid;
 use kinds::Kind;
 use rates::{Rates, Repetitions, balance};
-use slices::{Asks, MOST_ITERATIONS, Plan, Planned, Slice, plan_slices};
+use slices::{Asks, MOST_ITERATIONS, Plan, Planned, Slice, first_to_count, plan_slices};
 use std::alloc::{AllocError, Global};
 
 /// What is asked of slices, by a number: 0 for items alone.
@@ -89,7 +90,10 @@ fn plan_of(alloc: Global, graph: &Valid<Kind>, asks: Asks) -> Result<(Repetition
         Err(_) => return Err(Uncut::Memory),
     };
     match plan_slices(alloc, graph, &rates, asks) {
-        Ok(Planned::Plan(plan)) => Ok((rates, plan)),
+        Ok(Planned::Plan(plan)) => match first_to_count(graph) {
+            Some(block) => Err(Uncut::Counts(block)),
+            None => Ok((rates, plan)),
+        },
         Ok(Planned::Remembers(block)) => Err(Uncut::Remembers(block)),
         Ok(Planned::TooLate) => Err(Uncut::Rates),
         Err(_) => Err(Uncut::Memory),
@@ -104,10 +108,10 @@ fn slice_at(
     plan: &Plan,
     begins: u64,
 ) -> Result<Slice, AllocError>
-    ghost of: { Network × List ℕ }
-    requires plan { IsPlan of.0 of.1 plan.now }
+    ghost of: { Network × List ℕ × List LookBack }
+    requires plan { IsPlan of.0 of.1 of.2 plan.now }
     requires begins { CanBegin plan.now begins }
-    ensures { IfOk result (IsSlice of.0 of.1 plan.now begins) }
+    ensures { IfOk result (IsSlice of.0 of.1 of.2 plan.now begins) }
 {
     plan.slice(alloc, begins)
 }

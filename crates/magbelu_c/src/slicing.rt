@@ -23,7 +23,7 @@ pub struct Slicing {
     pub status: u32,
     /// The number of the refusal, or 0.
     pub number: u32,
-    /// The number of the first block that does not forget, where the refusal is for it, and else the greatest number.
+    /// The number of the first block that does not forget, or else of the first that counts, where the refusal is for it, and else the greatest number.
     pub block: u32,
     /// Of a plan, how many iterations before its own a slice reads; of a slice, how many iterations of each tape it leaves out.
     pub iterations: u64,
@@ -36,8 +36,10 @@ pub struct Slicing {
 /// Why there is no slice.
 #[derive(Clone, Copy, Drop)]
 pub(crate) enum Uncut {
-    /// What this block gives rests on all that it was given, or on how much that was.
+    /// What this block gives rests on all that it was given.
     Remembers(BlockId),
+    /// What this block gives rests on how much it was given, and no call opens a plant that begins with that.
+    Counts(BlockId),
     /// The rates have no balance, or slices would overlap too far.
     Rates,
     /// No slice begins there.
@@ -65,7 +67,7 @@ pub(crate) fn not_cut(uncut: Uncut) -> Slicing
     ensures { result ≡ not_cut uncut }
 {
     match uncut {
-        Uncut::Remembers(block) => refused(1, NO_SLICES, block.0),
+        Uncut::Remembers(block) | Uncut::Counts(block) => refused(1, NO_SLICES, block.0),
         Uncut::Rates => refused(1, NO_SLICES, NO_BLOCK),
         Uncut::Begin => refused(1, NO_CUT, NO_BLOCK),
         Uncut::Memory => refused(4, PlantFault::Memory.number(), NO_BLOCK),

@@ -5,7 +5,7 @@ from __future__ import annotations
 import re
 from typing import Any, Optional, Union
 
-from .._file import TOKEN
+from .file import TOKEN
 from .kinds import Kind
 
 Value = Union[int, str, list[int]]

@@ -5,16 +5,22 @@ from __future__ import annotations
 from dataclasses import dataclass
 from typing import Any, Optional
 
-from .._drawing import firings_of
 from .._errors import Refused
-from .._file import tables_of
+from .._runs import check
 from .._stream import Stream
+from .file import tables_of
 from .kinds import setting_of
 
 # The keys of a block that are no parameters of its kind.
 OWN_KEYS = ("name", "kind")
 # The refusals that come only once all blocks and connections of a file were found to be right: of ports that are not used, of the graph as a whole, and of feeds.
 DRAWN = (5, 7, 8, 11, 12, 20, 21, 24, 25, 26)
+
+
+def firings_of(text: str) -> dict[str, str]:
+    """How often each block fires in an iteration, where the rates are balanced."""
+    lines = [line.split() for line in check(text).splitlines()]
+    return {words[1]: words[2] for words in lines if words[0] == "q"}
 
 
 @dataclass(frozen=True)

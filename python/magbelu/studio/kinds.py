@@ -1,11 +1,12 @@
-"""The kinds of blocks, as `flow kinds` prints them: kinds.txt is what it printed."""
+"""The kinds of blocks, as `flow kinds` prints them."""
 
 from __future__ import annotations
 
 import functools
-import pathlib
 import re
 from typing import Any, NamedTuple, Optional
+
+from .._kinds import KINDS
 
 #: The least and the greatest number of each type of items.
 RANGES = {"byte": (0, 255), "short": (-(2**15), 2**15 - 1), "int": (-(2**31), 2**31 - 1)}
@@ -41,13 +42,7 @@ def kind_of(lines: list[str]) -> Kind:
 @functools.lru_cache(maxsize=None)
 def kinds() -> dict[str, Kind]:
     """All kinds by their names, in the order of the table."""
-    found: list[list[str]] = []
-    for line in (pathlib.Path(__file__).parent / "kinds.txt").read_text(encoding="utf-8").splitlines():
-        if line.startswith(" "):
-            found[-1].append(line)
-        else:
-            found.append([line])
-    return {it.name: it for it in map(kind_of, found)}
+    return {name: kind_of(page.splitlines()) for name, page in KINDS.items()}
 
 
 def setting_of(block: dict[str, Any]) -> Optional[Setting]:

@@ -1,0 +1,82 @@
+//! Calls that tell of the graph of a held plant. Each takes the plant from behind the handle, and puts it back.
+
+ghost use Rattle.std.specs.Prelude.{◌≡◌, length};
+ghost use Rattle.magbelu_c.specs.AnyPlants.{plant_of};
+ghost use Rattle.magbelu_c.specs.Listing.{Draws, Links, Lists, format_of, told, unlisted};
+ghost use Rattle.magbelu_c.specs.Replies.{OnHeld, done, not_open};
+ghost use Rattle.magbelu_c.specs.Slicing.{OnGraph};
+
+use crate::answer::Answer;
+use crate::handle::Handle;
+use crate::listing::{Link, Listed, format, show_block, show_drawing, show_links, told, unlisted};
+use crate::reply::{Reply, done, not_open};
+use std::alloc::Global;
+
+/// Tells how many blocks there are.
+#[unsafe(no_mangle)]
+pub extern "C" fn magbelu_bytes_block_count(alloc: Global, plant: &mut Handle) -> Reply
+    ensures { OnHeld plant.old.plant plant.new.plant (λ p p' r. (p' ≡ p) × (r ≡ done 0 (length (plant_of p).graph.blocks))) result }
+{
+    let Some(held) = plant.take(alloc) else {
+        return not_open();
+    };
+    let count = held.graph().len();
+    plant.put(held);
+    done(0, count as u64)
+}
+
+/// Tells of the block of a number, with its name and that of its kind.
+#[unsafe(no_mangle)]
+pub extern "C" fn magbelu_bytes_block(
+    alloc: Global,
+    plant: &mut Handle,
+    number: u32,
+    name: &mut [u8],
+    kind: &mut [u8],
+) -> Listed
+    ensures { OnGraph plant.old.plant plant.new.plant (λ g. Lists g number name.old name.new kind.old kind.new result)
+        ((name.new ≡ name.old) × (kind.new ≡ kind.old) × (result ≡ unlisted not_open)) }
+{
+    let Some(held) = plant.take(alloc) else {
+        return unlisted(not_open());
+    };
+    let listed = show_block(held.graph(), number, name, kind);
+    plant.put(held);
+    listed
+}
+
+/// Tells the connections, in the order of the file.
+#[unsafe(no_mangle)]
+pub extern "C" fn magbelu_bytes_connections(
+    alloc: Global,
+    plant: &mut Handle,
+    links: &mut [Link],
+) -> Reply
+    ensures { OnGraph plant.old.plant plant.new.plant (λ g. Links g links.old links.new result) ((links.new ≡ links.old) × (result ≡ not_open)) }
+{
+    let Some(held) = plant.take(alloc) else {
+        return not_open();
+    };
+    let reply = show_links(alloc, held.graph(), links);
+    plant.put(held);
+    reply
+}
+
+/// Tells the drawing of the graph, as `flow draw` writes it.
+#[unsafe(no_mangle)]
+pub extern "C" fn magbelu_bytes_draw(
+    alloc: Global,
+    plant: &mut Handle,
+    mermaid: u32,
+    output: &mut [u8],
+) -> Answer
+    ensures { OnGraph plant.old.plant plant.new.plant (λ g. Draws g (format_of mermaid) output.old output.new result) ((output.new ≡ output.old) × (result ≡ told 1 55 0)) }
+{
+    let Some(held) = plant.take(alloc) else {
+        let reply = not_open();
+        return told(reply.status, reply.number, 0);
+    };
+    let answer = show_drawing(alloc, held.graph(), format(mermaid), output);
+    plant.put(held);
+    answer
+}
