@@ -5,7 +5,7 @@ from typing import List
 
 from spec_files import TOP
 
-COMMANDS = ("check", "draw", "kinds", "run", "live", "script")
+COMMANDS = ("check", "draw", "kinds", "new", "run", "live", "script")
 HEAD = """# Options of flow
 
 What `flow COMMAND --help` prints. [COMMANDS.md](COMMANDS.md#calls) has the rest.

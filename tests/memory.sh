@@ -6,7 +6,7 @@
 
 # The uppermost libraries that the tasks and these files of the program use.
 # shellcheck disable=SC2034  # They are for the scripts that source this.
-memory_libraries=(flow run_stats pipeline helper_threads reader_threads clap explanations)
+memory_libraries=(flow run_stats pipeline helper_threads request_box reader_threads clap explanations)
 
 eighth=${MEMORY_EIGHTH:-$(($(date +%-d) % 8))}
 # The allocation that is refused. The program makes so many others before its own that each of its own comes to be this one.
@@ -16,7 +16,7 @@ refused=400
 # The bounds are near, since each case takes its time; the cases at the bounds, which are always tried, test them.
 file=130
 declare -A most=([calls]=165 [live]=165 [live_adaptive]=165 [launch]=345 [whole_run]=345 [start]=346 [launch_nothing]=14 [adaptive]=345 [pool]=345 [check]=172 [feeds]=202 [draw]=165 [run]=236 [per_block]=254 [alone]=226
-    [chain]=195 [script]=244 [lines]=230 [tags]=255 [settings]=215 [fork]=245 [raw]=208 [piped]=260 [helped]=320 [stall]=208 [words]=26 [call]=250 [file]=24 [steady]=171)
+    [chain]=195 [script]=244 [lines]=230 [tags]=255 [settings]=215 [fork]=245 [raw]=208 [piped]=260 [helped]=320 [stall]=208 [words]=26 [call]=330 [file]=24 [steady]=171)
 declare -A left_out=([calls]=0 [live]=96 [live_adaptive]=96 [launch]=240 [whole_run]=240 [start]=240 [launch_nothing]=0 [adaptive]=240 [pool]=240 [check]=0 [feeds]=$file [draw]=$file [run]=$file [per_block]=$file [alone]=$file
     [chain]=0 [script]=$file [lines]=$file [tags]=$file [settings]=$file [fork]=$file [raw]=$file [piped]=$file [helped]=$file [stall]=$file [words]=0 [call]=0 [file]=0 [steady]=163)
 
@@ -100,7 +100,7 @@ put_memory() {
     if grep -qE '^(memory|no_threads)/' "$room/wanted"; then
         echo "memory: MEMORY_EIGHTH=$eighth"
         put_folder memory
-        cp -- "$top/crates/$command_crate/src/"{call,ends,slice,stretch,words}.rt "$own/src/memory"
+        cp -- "$top/crates/$command_crate/src/"{call,end_words,ends,kind_words,slice,stretch,talk,words}.rt "$own/src/memory"
         printf '%3000s' '' >"$room/file"
     fi
 }

@@ -15,9 +15,12 @@ mod streams;
 mod words_read;
 // (the program's own files)
 mod call;
+mod end_words;
 mod ends;
+mod kind_words;
 mod slice;
 mod stretch;
+mod talk;
 mod words;
 
 use launches::Way;

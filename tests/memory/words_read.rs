@@ -36,7 +36,7 @@ pub fn are_read(rt: &impl Host, alloc: Global, count: usize) -> bool {
 /// Whether the words are taken for the call that they ask for, or there is no memory for that.
 pub fn are_understood(alloc: Global, words: &[String]) -> bool {
     match asked_by(alloc, words, false) {
-        Ok(Asked::Kinds) => false,
+        Ok(Asked::Kinds(_) | Asked::New(..)) => false,
         Ok(Asked::Call(call)) => {
             call.action == Action::RunAlone
                 && call.path == "graph.toml"

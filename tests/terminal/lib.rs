@@ -5,8 +5,11 @@ mod lines;
 mod runs;
 // (the program's own files)
 mod call;
+mod end_words;
 mod ends;
+mod kind_words;
 mod slice;
 mod stretch;
+mod talk;
 mod terminal;
 mod words;

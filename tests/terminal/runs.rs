@@ -145,7 +145,7 @@ fn words_ask_for_calls(rt: HostRuntime) -> Result<(), Fail> {
                 assert_eq!(rt; call.verbosity() == Verbosity::WithNotes, !is_quiet);
                 assert!(rt; !call.may_show(false), "no terminal");
             }
-            Ok(Asked::Kinds) | Err(_) => assert!(rt; false, "{words:?}"),
+            Ok(Asked::Kinds(_) | Asked::New(..)) | Err(_) => assert!(rt; false, "{words:?}"),
         }
     }
     let mut owned = Vec::new(alloc);
@@ -178,7 +178,7 @@ fn refusals_are_explained_on_a_terminal(rt: HostRuntime) -> Result<(), Fail> {
             }
             match asked_by(alloc, &owned, is_terminal) {
                 Ok(Asked::Call(call)) => assert_eq!(rt; call.explains, wanted),
-                Ok(Asked::Kinds) | Err(_) => assert!(rt; false, "{word:?}"),
+                Ok(Asked::Kinds(_) | Asked::New(..)) | Err(_) => assert!(rt; false, "{word:?}"),
             }
         }
     }

@@ -309,6 +309,16 @@ pub(crate) fn text_of(kind: KindName) -> KindText {
             "1 for 1",
             "",
         ),
+        KindName::CrcAppend => (
+            "each `n` items, and then their checksum",
+            "n + its bytes for n",
+            "msb_first, 8, 7, 0, 0, 1: 1 2 gives 1 7 2 14",
+        ),
+        KindName::CrcCheck => (
+            "1 for each `n` items with their checksum behind them, and 0 for each with another",
+            "1 for n + its bytes",
+            "msb_first, 8, 7, 0, 0, 1: 1 7 2 7 gives 1 0",
+        ),
     };
     KindText {
         equation,

@@ -51,7 +51,7 @@ const KINDS: [(&[u8], KindName); 15] = [
 const CONNECTIONS: [&[u8]; 3] = [b"copy", b"throttle", b"throttle2"];
 
 // The parameters whose key has another name, and how what stands at it differs.
-const KEYS: [(&[u8], Key, &str); 25] = [
+const KEYS: [(&[u8], Key, &str); 28] = [
     (b"id", Key::Name, ""),
     (b"minoutbuf", Key::Capacity, ""),
     (b"const", Key::Parameter(Parameter::Value), ""),
@@ -74,17 +74,20 @@ const KEYS: [(&[u8], Key, &str); 25] = [
     (b"num_ports", Key::Parameter(Parameter::Ports), ""),
     (b"endianness", Key::Parameter(Parameter::Order), ""),
     (b"bits_per_chunk", Key::Parameter(Parameter::Bits), ""),
+    (b"num_bits", Key::Parameter(Parameter::Bits), ""),
     (
         b"len",
         Key::Parameter(Parameter::Bits),
         ", which is one more",
     ),
+    (b"initial_value", Key::Parameter(Parameter::Init), ""),
     (
         b"seed",
         Key::Parameter(Parameter::Init),
         ", with the bits in reverse order",
     ),
     (b"access_code", Key::Parameter(Parameter::Code), ""),
+    (b"poly", Key::Parameter(Parameter::Polynomial), ""),
 ];
 
 // What a source is made of, which is fed here.

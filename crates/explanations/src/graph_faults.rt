@@ -185,7 +185,7 @@ fn bad_option(
         ),
         BlockOption::Multiple if (1..=64).contains(&multiple) => (
             Key::Multiple,
-            "a block that ends by itself or has no rate makes its firings one by one: its `multiple` is 1",
+            "this block fires once at a time: its `multiple` must be 1",
         ),
         BlockOption::Multiple => (Key::Multiple, "`multiple` takes 1 to 64"),
         BlockOption::Capacity => (Key::Capacity, "`capacity` takes 1 to 65536"),

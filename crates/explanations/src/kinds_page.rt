@@ -17,6 +17,13 @@ pub fn page_of_kinds(alloc: Global) -> Result<String, AllocError> {
     Ok(page)
 }
 
+/// The part of that page about one kind, which `flow kinds KIND` prints.
+pub fn page_of_kind(alloc: Global, kind: KindName) -> Result<String, AllocError> {
+    let mut page = String::new(alloc);
+    push_kind(alloc, &mut page, kind)?;
+    Ok(page)
+}
+
 fn push_kind(alloc: Global, page: &mut String, kind: KindName) -> Result<(), AllocError> {
     let text = text_of(kind);
     push_line(page, kind.text(), text.equation)?;

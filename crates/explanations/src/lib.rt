@@ -11,7 +11,8 @@
 //! [`explain`] reads the file again, with the places of its tables and keys (`document`, `entries`, `tokens`), and finds what the fault is about: `table_faults`,
 //! `graph_faults`, `feed_faults` and `tag_faults` have a function for each. `expected` says what may stand at a key, `near` which name was meant, `gnu_radio` what
 //! stands here for a name of GNU Radio, `frame` prints the place.
-//! [`page_of_kinds`] prints what may stand at the parameters of all kinds, with a line on each kind (`about`). [`KeptLines`] keep the lines of a script for the same, and [`Noted`] a device with the reason why it failed. No contract says what it prints; that is tested.
+//! [`page_of_kinds`] prints what may stand at the parameters of all kinds, with a line on each kind (`about`), and [`starting_graph`] writes a graph file with blocks
+//! of some of them. [`KeptLines`] keep the lines of a script for the same, and [`Noted`] a device with the reason why it failed. No contract says what it prints; that is tested.
 #![tactic(auto)]
 
 mod about;
@@ -32,13 +33,15 @@ pub mod near;
 pub mod noted;
 mod pairs;
 mod ports;
+pub mod starting;
 mod table_faults;
 mod tag_faults;
 mod tokens;
 
 pub use explained::explain;
-pub use kinds_page::page_of_kinds;
+pub use kinds_page::{page_of_kind, page_of_kinds};
 pub use lines::KeptLines;
 pub use looks::shown;
 pub use near::near_name;
 pub use noted::{Noted, at_device};
+pub use starting::{is_link, starting_graph};

@@ -8,7 +8,7 @@ ghost use Rattle.script_text.specs.Grammar.{IsAskable};
 ghost use Rattle.script_text.specs.Commands.{command_seen};
 ghost use Rattle.flow.specs.Session.{graph_of, standing, standing_of, in_state, in_standing, none_kept, kept_in, name_in, Answers, AnswersOn, IsAnswered, KeepsJobs};
 
-pub(crate) mod calls;
+pub mod calls;
 mod claims;
 mod settle;
 pub(crate) mod waits;

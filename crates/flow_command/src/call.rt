@@ -6,6 +6,7 @@ ghost use Rattle.flow.specs.declared.serve.Verbosity.TheVariants.{WithNotes, Qui
 use super::ends::{Ends, EndsFault};
 use super::slice::Slice;
 use super::stretch::Stretch;
+use super::talk::Talk;
 use clap::ArgMatches;
 use drawings::Format;
 use flow::serve::{Action, Verbosity};
@@ -26,6 +27,8 @@ pub struct Call<'a> {
     /// The trace of the run, if one is wanted.
     pub trace: Option<Trace<'a>>,
     pub ends: Ends<'a>,
+    /// Where the lines of a live run come from, and its replies go to.
+    pub talk: Talk<'a>,
     /// Which part of a run is done.
     pub stretch: Stretch,
     /// On how many threads slices are run, if the words say.
@@ -73,8 +76,9 @@ pub fn call_in<'a>(
     };
     let trace = trace_of(inner, path)?;
     let stretch = stretch_of(inner)?;
+    let talk = talk_of(name, inner);
     match Ends::of_words(alloc, inner, path) {
-        Ok(ends) => Ok(Call {
+        Ok(ends) => talking(Call {
             action: action_of(name, inner),
             path,
             is_quiet: inner.get_flag("quiet"),
@@ -82,12 +86,47 @@ pub fn call_in<'a>(
             stats: form_of(inner.get_str("stats")),
             trace,
             ends,
+            talk,
             stretch,
             jobs: inner.get_one::<usize>("jobs"),
             tells_slices: inner.get_flag("slices"),
         }),
         Err(fault) => Err(fault),
     }
+}
+
+// Where lines come from and replies go to.
+fn talk_of<'a>(name: &str, inner: &ArgMatches<'a>) -> Talk<'a> {
+    if name != "live" {
+        return Talk {
+            control: None,
+            replies: None,
+        };
+    }
+    Talk {
+        control: inner.get_str("control"),
+        replies: inner.get_str("replies"),
+    }
+}
+
+// The call, unless a standard stream would have lines or replies and items too.
+fn talking(call: Call<'_>) -> Result<Call<'_>, EndsFault> {
+    if call.action != Action::Live {
+        return Ok(call);
+    }
+    if call.ends.are_none() {
+        if call.talk.is_standard() {
+            return Ok(call);
+        }
+        return Err(EndsFault::LinesAlone);
+    }
+    if call.talk.control.is_none() && call.ends.use_input() {
+        return Err(EndsFault::LinesAmongItems);
+    }
+    if call.talk.replies.is_none() && call.ends.use_output() {
+        return Err(EndsFault::RepliesAmongItems);
+    }
+    Ok(call)
 }
 
 // The trace that words ask for, if they do, beside the path of the graph file.

@@ -9,6 +9,8 @@ use std::alloc::Global;
 pub struct Cut {
     pub extents: Vec<Extent>,
     pub written: Vec<Written>,
+    /// How many iterations of the tapes stand before what it reads.
+    pub from: u64,
     /// The iteration from which on the items are the run's own. It reads the overlap before it too.
     pub begins: u64,
     /// Whether the tapes go on behind what is read of them.
@@ -44,6 +46,7 @@ impl Cut {
         Cut {
             extents: Vec::new(alloc),
             written: Vec::new(alloc),
+            from: 0,
             begins: 0,
             goes_on: false,
         }

@@ -8,7 +8,7 @@ use std::alloc::Global;
 use std::collections::VecDeque;
 use std::fs::File;
 use std::io;
-use std::io::{Printer, Read, Seek, SeekFrom, StdinLock, Write};
+use std::io::{Read, Seek, SeekFrom, StdinLock, Write};
 
 /// A standard stream, or a file.
 #[derive(Drop)]
@@ -19,10 +19,24 @@ pub enum Device<S, F> {
 
 pub type Source = Device<StdinLock<'static>, LateFile>;
 
-pub type Writer<'a> = Device<Printer<'a, HostRuntime>, File>;
+pub type Writer = Device<StandardOutput, File>;
 
 /// A writer of a sink's items or tags.
-pub type Target<'a> = Limited<Writer<'a>>;
+pub type Target = Limited<Writer>;
+
+/// Standard output, for any thread.
+#[derive(Drop)]
+pub struct StandardOutput(pub HostRuntime);
+
+impl Write for StandardOutput {
+    fn write(&mut self, buf: &[u8]) -> io::Result<usize> {
+        std::io::writer(&self.0).write(buf)
+    }
+
+    fn flush(&mut self) -> io::Result<()> {
+        Ok(())
+    }
+}
 
 impl<S: Read, F: Read> Read for Device<S, F> {
     fn read(&mut self, buf: &mut [u8]) -> io::Result<usize> {

@@ -56,6 +56,12 @@ pub enum EndsFault {
     TraceOntoReport,
     /// Items, tags or a trace would go to the file or pipe that is standard error, which tells how the run ended.
     OntoErrors,
+    /// Standard input would have the lines of a live run, and items or marks.
+    LinesAmongItems,
+    /// Standard output would have the replies of a live run, and items or tags.
+    RepliesAmongItems,
+    /// Lines or replies have a file of their own in a live run without files of items.
+    LinesAlone,
     /// A word for a slice is no `J/N` with J from 1 to N.
     NoSlice,
     /// Memory ran out.
@@ -78,6 +84,13 @@ impl EndsFault {
             EndsFault::OntoErrors => Some(
                 "items, tags or a trace would go to standard error, which tells how the run ended",
             ),
+            EndsFault::LinesAmongItems => Some(
+                "standard input has the lines of a live run, unless --control names a file",
+            ),
+            EndsFault::RepliesAmongItems => Some(
+                "standard output has the replies of a live run, unless --replies names a file",
+            ),
+            EndsFault::LinesAlone => Some("--control and --replies go with files of raw items"),
             EndsFault::NoSlice => Some("a word for a slice is no J/N with J from 1 to N"),
             EndsFault::Memory => None,
         }
@@ -194,6 +207,11 @@ impl<'a> Ends<'a> {
             Some(first) => self.inputs.iter().any(|end| end.block != first.block),
             None => false,
         }
+    }
+
+    /// Whether standard input has items or marks.
+    pub fn use_input(&self) -> bool {
+        0 < self.standard_inputs()
     }
 
     /// Whether standard output has items or tags.

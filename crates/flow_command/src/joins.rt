@@ -1,7 +1,7 @@
 //! The blocks of a run are joined to the files that the words name.
 
 use crate::cut::Cut;
-use crate::devices::{Chain, Device, Extent, Source, Target, Writer};
+use crate::devices::{Chain, Device, Extent, Source, StandardOutput, Target, Writer};
 use crate::ends::{Ends, NamedEnd};
 use crate::late_file::LateFile;
 use crate::lengths::size_at;
@@ -35,21 +35,21 @@ pub enum PipesOpen {
 
 /// What a run reads and writes, by block.
 #[derive(Drop)]
-pub struct Opened<'a> {
+pub struct Opened {
     pub tapes: Vec<Option<Chain>>,
     pub marks: Vec<Option<Chain>>,
-    pub targets: Vec<Option<Targets<'a>>>,
+    pub targets: Vec<Option<Targets>>,
 }
 
-impl<'a> Opened<'a> {
+impl Opened {
     /// Opens what the words name, the inputs, those of marks, and then the outputs.
     pub fn of_words<R: Drop>(
-        rt: &'a HostRuntime,
-        run: &Stream<'a, R>,
+        rt: &HostRuntime,
+        run: &Stream<R>,
         ends: &Ends<'_>,
         cut: &Cut,
         pipes: PipesOpen,
-    ) -> Result<Opened<'a>, Stop> {
+    ) -> Result<Opened, Stop> {
         let tapes = open_inputs(rt, run, ends, cut, pipes)?;
         let marks = open_marks(rt, run, ends, pipes)?;
         let targets = make_outputs(rt, run, ends, cut)?;
@@ -64,7 +64,7 @@ impl<'a> Opened<'a> {
 // Opens the inputs, in their order: of each source its own, of which it reads what the cut says.
 fn open_inputs<R: Drop>(
     rt: &HostRuntime,
-    run: &Stream<'_, R>,
+    run: &Stream<R>,
     ends: &Ends<'_>,
     cut: &Cut,
     pipes: PipesOpen,
@@ -100,7 +100,7 @@ fn open_inputs<R: Drop>(
 /// Joins each source to its inputs. Where there are threads for that, one reads those of a source that may be silent.
 pub fn join_inputs<R: Threads + Wait + Copy + Send + 'static>(
     alloc: Global,
-    run: &mut Stream<'_, R>,
+    run: &mut Stream<R>,
     ends: &Ends<'_>,
     chains: Vec<Option<Chain>>,
     readers: &mut Option<ReaderThreads<Chain, R>>,
@@ -126,7 +126,7 @@ pub fn join_inputs<R: Threads + Wait + Copy + Send + 'static>(
 // Opens the inputs of marks, in their order: of each source its own.
 fn open_marks<R: Drop>(
     rt: &HostRuntime,
-    run: &Stream<'_, R>,
+    run: &Stream<R>,
     ends: &Ends<'_>,
     pipes: PipesOpen,
 ) -> Result<Vec<Option<Chain>>, Stop> {
@@ -147,7 +147,7 @@ fn open_marks<R: Drop>(
 /// Joins each source to the input of its marks. These sources have inputs.
 pub fn join_marks<R: Wait + Drop>(
     alloc: Global,
-    run: &mut Stream<'_, R>,
+    run: &mut Stream<R>,
     ends: &Ends<'_>,
     cut: &Cut,
     rest: &Rest,
@@ -185,14 +185,14 @@ fn add_input(
 
 /// The writers of a sink, with the numbers of the words that name them.
 #[derive(Drop)]
-pub struct Targets<'a> {
-    pub items: Option<Target<'a>>,
-    pub tags: Option<Target<'a>>,
+pub struct Targets {
+    pub items: Option<Target>,
+    pub tags: Option<Target>,
     pub number: usize,
     pub tags_number: usize,
 }
 
-impl Targets<'_> {
+impl Targets {
     /// Writes items and the lines of tags, as far as there are outputs for them.
     pub fn write(&mut self, items: &[u8], tags: &[u8]) -> Result<(), Stop> {
         if let Some(target) = &mut self.items {
@@ -219,21 +219,21 @@ fn unwritten(place: EndPlace, error: io::Error) -> Stop {
 
 /// A sink whose items are kept until the run is over, and its tags with them, which go to a file of this number then.
 #[derive(Drop)]
-pub struct Kept<'a> {
+pub struct Kept {
     pub sink: BlockId,
     pub number: usize,
-    pub target: Target<'a>,
+    pub target: Target,
 }
 
 // Makes the outputs, in their order: of each sink its own. Where a name is refused no file is made, and so none is emptied.
-fn make_outputs<'a, R: Drop>(
-    rt: &'a HostRuntime,
-    run: &Stream<'a, R>,
+fn make_outputs<R: Drop>(
+    rt: &HostRuntime,
+    run: &Stream<R>,
     ends: &Ends<'_>,
     cut: &Cut,
-) -> Result<Vec<Option<Targets<'a>>>, Stop> {
+) -> Result<Vec<Option<Targets>>, Stop> {
     test_names(run.plant.graph(), ends)?;
-    let mut targets = slots::<Targets<'a>>(rt.alloc(), run.plant.graph().len())?;
+    let mut targets = slots::<Targets>(rt.alloc(), run.plant.graph().len())?;
     for (number, end) in ends.outputs.iter().enumerate() {
         let place = EndPlace::Output(number);
         let sink = sink_named(run.plant.graph(), place, end.block.as_bytes())?;
@@ -291,13 +291,13 @@ fn test_names(graph: &Valid<Kind>, ends: &Ends<'_>) -> Result<(), RawFault> {
 }
 
 /// Joins each sink with an output of its items to its own. The others are returned.
-pub fn join_outputs<'a, R: Wait + Drop>(
+pub fn join_outputs<R: Wait + Drop>(
     alloc: Global,
-    run: &mut Stream<'a, R>,
+    run: &mut Stream<R>,
     ends: &Ends<'_>,
     rest: &Rest,
-    targets: Vec<Option<Targets<'a>>>,
-) -> Result<Vec<Kept<'a>>, Stop> {
+    targets: Vec<Option<Targets>>,
+) -> Result<Vec<Kept>, Stop> {
     let mut kept = Vec::new(alloc);
     let mut block = 0u32;
     for slot in targets {
@@ -371,13 +371,9 @@ fn is_pipe(rt: &HostRuntime, path: &str) -> bool {
     }
 }
 
-fn create<'a>(
-    rt: &'a HostRuntime,
-    end: &NamedEnd<'_>,
-    place: EndPlace,
-) -> Result<Writer<'a>, Stop> {
+fn create(rt: &HostRuntime, end: &NamedEnd<'_>, place: EndPlace) -> Result<Writer, Stop> {
     if end.is_standard() {
-        return Ok(Device::Standard(std::io::writer(rt)));
+        return Ok(Device::Standard(StandardOutput(*rt)));
     }
     match fs::create(rt, end.path) {
         Ok(file) => Ok(Device::File(file)),
@@ -386,12 +382,12 @@ fn create<'a>(
 }
 
 // Opens an output that stands, which goes on behind so many bytes of it. What it has behind these is taken away.
-fn resume<'a>(
-    rt: &'a HostRuntime,
+fn resume(
+    rt: &HostRuntime,
     end: &NamedEnd<'_>,
     place: EndPlace,
     bytes: u64,
-) -> Result<Writer<'a>, Stop> {
+) -> Result<Writer, Stop> {
     match reopened(rt, end.path, bytes) {
         Ok(file) => Ok(Device::File(file)),
         Err(error) => Err(unopened(error, place, EndFault::Write)),

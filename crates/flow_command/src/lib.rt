@@ -3,15 +3,22 @@
 
 mod call;
 mod closed_streams;
+mod creating;
 mod cut;
 mod devices;
+mod end_words;
 mod ends;
 mod explaining;
+mod going;
 mod gone_reader;
 mod joins;
+mod kind_words;
 mod late_file;
+mod later;
 mod lengths;
 mod limited;
+mod line_calls;
+mod line_thread;
 mod listing;
 mod measuring;
 mod overwriting;
@@ -22,8 +29,10 @@ mod rest;
 mod slice;
 mod slice_report;
 mod slicing;
+mod speaking;
 mod stops;
 mod stretch;
+mod talk;
 mod team;
 mod terminal;
 mod tracing;
@@ -31,6 +40,7 @@ mod uncut;
 mod words;
 
 use crate::closed_streams::hold_closed_streams;
+use crate::creating::create_graph;
 use crate::explaining::{REFUSED, explain_device, explain_file, explain_line};
 use crate::gone_reader::end_of;
 use crate::listing::{print_kinds, print_text};
@@ -69,7 +79,8 @@ pub fn obey<R: Threads + Wait + Clock + CpuClock + Copy + Send + Sync + 'static>
         return begins_none(rt, StartFault::Memory);
     };
     match asked_by(rt.alloc(), &words, rt.stderr().is_terminal()) {
-        Ok(Asked::Kinds) => print_kinds(rt),
+        Ok(Asked::Kinds(kind)) => print_kinds(rt, kind),
+        Ok(Asked::New(path, kinds)) => create_graph(rt, path, &kinds),
         Ok(Asked::Call(call)) => match report_stream(rt, &call) {
             Ok(report) => run(threads, rt, call, report),
             Err(fault) => refuse(rt, &refusal_of(rt.alloc(), fault)),

@@ -1,13 +1,18 @@
-//! What is printed without a graph file: the page of all kinds, help and the version.
+//! What is printed without a graph file: the page of kinds, help and the version.
 
 use crate::gone_reader::{NOBODY_READS, OUTPUT, is_gone, tell};
 use crate::refusing::begins_none;
-use explanations::page_of_kinds;
+use explanations::{page_of_kind, page_of_kinds};
 use flow::start_fault::StartFault;
+use kinds::KindName;
 
-/// Prints the page of all kinds, and returns the exit status.
-pub fn print_kinds(rt: &HostRuntime) -> u8 {
-    let Ok(page) = page_of_kinds(rt.alloc()) else {
+/// Prints the page of all kinds, or of one, and returns the exit status.
+pub fn print_kinds(rt: &HostRuntime, kind: Option<KindName>) -> u8 {
+    let page = match kind {
+        Some(kind) => page_of_kind(rt.alloc(), kind),
+        None => page_of_kinds(rt.alloc()),
+    };
+    let Ok(page) = page else {
         return begins_none(rt, StartFault::Memory);
     };
     print_text(rt, page.as_str())

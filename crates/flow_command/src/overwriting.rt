@@ -29,8 +29,8 @@ const ERRORS: &str = "/dev/stderr";
 // The system follows as many links, one to the next.
 const MOST_LINKS: usize = 40;
 
-/// Where the report of a call goes: to standard output, or to standard error where the former has items or tags. Refused is a call that would write one file or pipe
-/// twice, by whatever path or standard stream, or a file that it reads. Devices and folders count for none.
+/// Where the report of a call goes: to standard output, or to standard error if standard output has items or tags. A call is refused if it would write one file or
+/// pipe twice, by any path or standard stream, or a file that it reads. Devices and folders are exempt.
 pub fn report_stream(rt: &HostRuntime, call: &Call<'_>) -> Result<ReportStream, EndsFault> {
     let written = written_by(rt, call)?;
     if written.is_empty() {
@@ -60,6 +60,9 @@ fn written_by(rt: &HostRuntime, call: &Call<'_>) -> Result<Vec<Place>, AllocErro
     if let Some(trace) = call.trace {
         add_place(rt, &mut written, trace.path)?;
     }
+    if let Some(replies) = call.talk.replies {
+        add_place(rt, &mut written, replies)?;
+    }
     written.sort_unstable();
     Ok(written)
 }
@@ -85,6 +88,11 @@ fn add_place(rt: &HostRuntime, places: &mut Vec<Place>, path: &str) -> Result<()
 fn reads_one_of(rt: &HostRuntime, written: &[Place], call: &Call<'_>) -> Result<bool, AllocError> {
     if is_file_of(rt, written, call.path)? {
         return Ok(true);
+    }
+    if let Some(control) = call.talk.control {
+        if is_file_of(rt, written, control)? {
+            return Ok(true);
+        }
     }
     for end in call.ends.inputs.iter().chain(call.ends.marks.iter()) {
         if is_file_of(rt, written, path_of(end, INPUT))? {

@@ -4,6 +4,7 @@ use crate::cut::Cut;
 use crate::devices::Chain;
 use crate::ends::Ends;
 use crate::joins::{Opened, Targets};
+use crate::later::later_plant;
 use crate::lengths::size_at;
 use crate::rest::Rest;
 use crate::stops::Stop;
@@ -11,12 +12,13 @@ use crate::team::Team;
 use flow::opening::open_stream;
 use flowgraph::{BlockId, Valid};
 use kinds::Kind;
-use plant::{Headway, Watch};
+use plant::Watch;
 use slice_threads::{
-    Cutting, Feed, Feeds, Given, Job, Left, Marks, Opens, Outlet, Readers, Share, SliceThreads,
-    Stride,
+    Cutting, Feed, Feeds, Given, Job, Left, Marks, Opens, Outlet, Readers, Share, Stride, Tapes,
+    run_slices,
 };
 use std::alloc::{AllocError, Global};
+use std::mem;
 use std::sync::Wait;
 use std::thread::Threads;
 use streaming::StreamingPlant;
@@ -30,42 +32,53 @@ pub fn run_pieces<R: Threads + Wait + Copy + Send + 'static, W: Watch>(
     ends: &Ends<'_>,
     cut: &Cut,
     team: &Team,
-    opened: &mut Opened<'_>,
+    opened: &mut Opened,
     watch: &mut W,
 ) -> Result<Rest, Stop> {
-    let (mut feeds, readers) = feeds_of(alloc, graph, cut, team, opened)?;
+    let tapes = tapes_of(alloc, graph, cut, team, opened)?;
     let job = job_of(alloc, graph, ends, cut, team)?;
-    let mut files = Files {
-        targets: &mut opened.targets,
-        watch,
-        period: period_of(team),
-    };
-    let mut slices = SliceThreads::start(threads, alloc, openers(alloc, file, team.jobs)?, job)?;
-    let ended = slices.run(alloc, &mut feeds, readers, &mut files);
-    slices.finish();
+    let files = Files(mem::replace(&mut opened.targets, Vec::new(alloc)));
+    let openers = openers(alloc, file, team.jobs)?;
+    let left = run_slices(threads, alloc, openers, job, tapes, files, watch)?;
+    rest_of(alloc, graph, cut, team, left, opened)
+}
+
+// What is left of the run behind the pieces.
+fn rest_of(
+    alloc: Global,
+    graph: &Valid<Kind>,
+    cut: &Cut,
+    team: &Team,
+    left: Left<Chain, Files>,
+    opened: &mut Opened,
+) -> Result<Rest, Stop> {
     let Left {
+        feeds,
         readers,
+        outlet,
         parts,
         given,
-    } = ended?;
+    } = left;
+    opened.targets = outlet.0;
     let mut rest = Rest::whole(alloc, graph, cut)?;
     for (at, sink) in team.plan.sinks.iter().enumerate() {
         if let (Some(part), Some(given)) = (parts.get(at), given.get(at)) {
             rest.go_on(sink.block, *given, *part);
         }
     }
-    give_back(feeds, readers, opened, &mut rest);
+    give_back(alloc, feeds, readers, opened, &mut rest)?;
     Ok(rest)
 }
 
 // What is read of each source, and by what.
-fn feeds_of(
+fn tapes_of(
     alloc: Global,
     graph: &Valid<Kind>,
     cut: &Cut,
     team: &Team,
-    opened: &mut Opened<'_>,
-) -> Result<(Feeds, Vec<Readers<Chain>>), AllocError> {
+    opened: &mut Opened,
+) -> Result<Tapes<Chain>, AllocError> {
+    let mut may_wait = false;
     let mut feeds = Vec::with_capacity(alloc, team.plan.sources.len())?;
     let mut readers = Vec::with_capacity(alloc, team.plan.sources.len())?;
     for source in &team.plan.sources {
@@ -73,6 +86,8 @@ fn feeds_of(
             continue;
         };
         let marks = taken(&mut opened.marks, source.block);
+        may_wait |= tape.may_be_silent()
+            || marks.as_ref().is_some_and(|marks| marks.may_be_silent());
         let stride = Stride {
             source: source.block,
             item_size: size_at(graph, source.block),
@@ -91,7 +106,11 @@ fn feeds_of(
         overlap: team.plan.overlap,
         most: team.iterations,
     };
-    Ok((Feeds::new(feeds, cutting), readers))
+    Ok(Tapes {
+        feeds: Feeds::new(feeds, cutting),
+        readers,
+        may_wait,
+    })
 }
 
 // What stands at a block.
@@ -130,15 +149,6 @@ fn job_of(
     })
 }
 
-// How many items all sources give in an iteration.
-fn period_of(team: &Team) -> u64 {
-    let mut period: u64 = 0;
-    for source in &team.plan.sources {
-        period = period.saturating_add(source.period);
-    }
-    period
-}
-
 // The text of a graph file that is not refused.
 #[derive(Drop)]
 struct GraphText(Vec<u8>);
@@ -146,10 +156,13 @@ struct GraphText(Vec<u8>);
 impl Opens for GraphText {
     type Block = Kind;
 
-    fn open(&self, alloc: Global) -> Result<StreamingPlant<Kind>, AllocError> {
-        match open_stream(alloc, &self.0) {
-            Ok(plant) => Ok(plant),
-            Err(_) => Err(AllocError),
+    fn open(&self, alloc: Global, iterations: u64) -> Result<StreamingPlant<Kind>, AllocError> {
+        let Ok(plant) = open_stream(alloc, &self.0) else {
+            return Err(AllocError);
+        };
+        match later_plant(alloc, &self.0, plant.graph(), iterations)? {
+            Some(later) => Ok(later),
+            None => Ok(plant),
         }
     }
 }
@@ -165,12 +178,19 @@ fn openers(alloc: Global, file: &[u8], count: usize) -> Result<Vec<GraphText>, A
 }
 
 // What was read and is in no piece is read again.
-fn give_back(feeds: Feeds, readers: Vec<Readers<Chain>>, opened: &mut Opened<'_>, rest: &mut Rest) {
+fn give_back(
+    alloc: Global,
+    feeds: Feeds,
+    readers: Vec<Readers<Chain>>,
+    opened: &mut Opened,
+    rest: &mut Rest,
+) -> Result<(), AllocError> {
     let first = feeds.first();
+    rest.begin_at(first);
     for (feed, readers) in feeds.feeds.into_iter().zip(readers) {
         let stride = feed.stride;
         let Readers { tape, marks } = readers;
-        let (unread, unread_marks) = feed.into_rest();
+        let (unread, unread_marks) = feed.into_rest(alloc)?;
         let (mut tape, mut marks) = (tape, marks);
         tape.give_back(unread);
         let mut lines = 0;
@@ -183,31 +203,20 @@ fn give_back(feeds: Feeds, readers: Vec<Readers<Chain>>, opened: &mut Opened<'_>
         put(&mut opened.tapes, stride.source, Some(tape));
         put(&mut opened.marks, stride.source, marks);
     }
+    Ok(())
 }
 
-// The outputs, and how far they are shown to be.
+// The outputs, by block.
 #[derive(Drop)]
-struct Files<'a, 'b, W> {
-    targets: &'b mut [Option<Targets<'a>>],
-    watch: &'b mut W,
-    // How many items all sources give in an iteration.
-    period: u64,
-}
+struct Files(Vec<Option<Targets>>);
 
-impl<W: Watch> Outlet for Files<'_, '_, W> {
+impl Outlet for Files {
     type Fault = Stop;
 
     fn write(&mut self, sink: BlockId, given: &Given) -> Result<(), Stop> {
-        match self.targets.get_mut(sink.0 as usize) {
+        match self.0.get_mut(sink.0 as usize) {
             Some(Some(targets)) => targets.write(&given.items, &given.tags),
             _ => Ok(()),
         }
-    }
-
-    fn show(&mut self, read: u64, written: u64) {
-        self.watch.show(Headway {
-            given: written.saturating_mul(self.period),
-            fed: read.saturating_mul(self.period),
-        });
     }
 }

@@ -42,15 +42,11 @@ pub fn begins_none(rt: &HostRuntime, fault: StartFault) -> u8 {
     tell(rt, fault, named)
 }
 
-/// Tells that a file keeps a command from being begun, or a run from being told whole: its path stands behind the text of the fault.
+/// Tells that a file keeps a command from being begun, or from being done whole: its path stands behind the text of the fault.
 pub fn begins_none_of(rt: &HostRuntime, fault: StartFault, path: &str) -> u8 {
     let named = match (fault, shown(rt.alloc(), path.as_bytes())) {
-        (StartFault::NoFile | StartFault::NoTrace, Ok(path)) if !path.is_empty() => naming(
-            rt,
-            fault,
-            " ",
-            path.as_str(),
-        ),
+        (StartFault::NoFile | StartFault::NoTrace | StartFault::NoOutput, Ok(path))
+            if !path.is_empty() => naming(rt, fault, " ", path.as_str()),
         _ => None,
     };
     tell(rt, fault, named)

@@ -11,6 +11,8 @@ use std::alloc::{AllocError, Global};
 #[derive(Drop)]
 pub struct Rest {
     has_pieces: bool,
+    // How many iterations of the whole tapes stand before what is read.
+    first: u64,
     // Of each source the item at which what is read begins, and how many lines of its marks stand before those that are read.
     origins: Vec<u64>,
     lines: Vec<u64>,
@@ -37,11 +39,17 @@ impl Rest {
         }
         Ok(Rest {
             has_pieces: false,
+            first: cut.from,
             origins,
             lines: zeros(alloc, graph.len())?,
             given: zeros(alloc, graph.len())?,
             parts,
         })
+    }
+
+    /// What is read begins behind so many iterations of the whole tapes.
+    pub fn begin_at(&mut self, first: u64) {
+        self.first = first;
     }
 
     /// What is read of a source begins at this item, and so many lines of its marks stand before.
@@ -56,6 +64,11 @@ impl Rest {
         self.has_pieces = true;
         set(&mut self.given, sink, given);
         set(&mut self.parts, sink, part);
+    }
+
+    /// How many iterations of the whole tapes stand before what is read.
+    pub fn first(&self) -> u64 {
+        self.first
     }
 
     /// Whether it is what is left behind pieces.

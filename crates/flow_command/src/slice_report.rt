@@ -12,7 +12,7 @@ use flow::start_fault::StartFault;
 use flowgraph::{BlockId, Valid};
 use graph_file::read_graph;
 use kinds::Kind;
-use pipeline::Settled;
+use pipeline::{Ended, Settled};
 use script_text::Report;
 use slices::{Asks, Plan};
 use std::alloc::{AllocError, Global};
@@ -73,7 +73,7 @@ pub fn part_text(
     plant: &StreamingPlant<Kind>,
     cut: &Cut,
     rest: &Rest,
-    settled: Settled,
+    ended: Ended,
 ) -> Result<Vec<u8>, AllocError> {
     let mut text = Vec::new(alloc);
     let mut block = 0u32;
@@ -81,11 +81,15 @@ pub fn part_text(
         add_sink(alloc, &mut text, plant, cut, rest, BlockId(block))?;
         block = block.saturating_add(1);
     }
-    let end = match settled {
-        Settled::Done => Report::Done,
-        Settled::Quiet => Report::Stalled,
-    };
-    text.extend_from_slice(&end.to_line(alloc)?)?;
+    match ended {
+        Ended::Settled(Settled::Done) => {
+            text.extend_from_slice(&Report::Done.to_line(alloc)?)?;
+        }
+        Ended::Settled(Settled::Quiet) => {
+            text.extend_from_slice(&Report::Stalled.to_line(alloc)?)?;
+        }
+        Ended::Stopped => text.extend_from_slice(b"stopped\n")?,
+    }
     Ok(text)
 }
 

@@ -4,6 +4,9 @@ ghost use Rattle.std.specs.Prelude.{◌≡◌, ◌≤◌, ◌⊎◌, List, ℕ, 
 ghost use Rattle.stream_model.specs.Network.{Network};
 ghost use Rattle.flowgraph.specs.Flowgraph.{net_of};
 ghost use Rattle.kinds.specs.Kind.{meaning_of};
+ghost use Rattle.slices.specs.declared.look_back.LookBack.{LookBack};
+ghost use Rattle.slices.specs.Firings.{looks_of};
+ghost use Rattle.slices.specs.Kinds.{look_back_of};
 ghost use Rattle.slices.specs.Plans.{IsPlan};
 
 use crate::cut::{Cut, Written};
@@ -52,7 +55,7 @@ pub fn asks_for(ends: &Ends<'_>) -> Asks {
 
 /// The numbers by which the runs of a graph are cut, for items or for tags too, with the rates that they rest on.
 pub fn plan_of(alloc: Global, graph: &Valid<Kind>, asks: Asks) -> Result<(Repetitions, Plan), Uncut>
-    ensures { IfOk result (λ made. IsPlan (net_of meaning_of graph.now) made.0.firings.items made.1) }
+    ensures { IfOk result (λ made. IsPlan (net_of meaning_of graph.now) made.0.firings.items (looks_of look_back_of graph.now) made.1) }
 {
     match balance(alloc, graph)? {
         Rates::Balanced(rates) => match plan_slices(alloc, graph, &rates, asks)? {
@@ -89,7 +92,7 @@ fn slice_cut(
     lengths: &[u64],
     slice: Slice,
 ) -> Result<Cut, Uncut>
-    requires { IsPlan (net_of meaning_of graph.now) rates.now.firings.items plan.now }
+    requires { IsPlan (net_of meaning_of graph.now) rates.now.firings.items (looks_of look_back_of graph.now) plan.now }
 {
     let all = iterations(graph, plan, lengths);
     let (begin, end) = slice_between(slice, all, plan.overlap);
@@ -108,7 +111,7 @@ fn items_cut(
     from: u64,
     most: u64,
 ) -> Result<Cut, Uncut>
-    requires { IsPlan (net_of meaning_of graph.now) rates.now.firings.items plan.now }
+    requires { IsPlan (net_of meaning_of graph.now) rates.now.firings.items (looks_of look_back_of graph.now) plan.now }
 {
     let starts = vec![in alloc; from; plan.sinks.len()]?;
     let ends = vec![in alloc; from.saturating_add(most); plan.sinks.len()]?;
@@ -135,7 +138,7 @@ fn resumed_cut(
     rates: &Repetitions,
     plan: &Plan,
 ) -> Result<Cut, Uncut>
-    requires { IsPlan (net_of meaning_of graph.now) rates.now.firings.items plan.now }
+    requires { IsPlan (net_of meaning_of graph.now) rates.now.firings.items (looks_of look_back_of graph.now) plan.now }
 {
     let mut starts = Vec::new(rt.alloc());
     for sink in &plan.sinks {
@@ -204,6 +207,7 @@ fn nothing(alloc: Global, graph: &Valid<Kind>) -> Result<Cut, Uncut> {
     Ok(Cut {
         extents,
         written,
+        from: 0,
         begins: 0,
         goes_on: true,
     })
@@ -220,8 +224,8 @@ fn cut_at(
     end: Option<u64>,
     starts: &[u64],
 ) -> Result<Cut, Uncut>
-    ghost of: { Network × List ℕ }
-    requires plan { IsPlan of.0 of.1 plan.now }
+    ghost of: { Network × List ℕ × List LookBack }
+    requires plan { IsPlan of.0 of.1 of.2 plan.now }
     requires begins { (begin ≡ 0) ⊎ (plan.now.overlap ≤ begin) }
     requires few { begin ≤ MOST_ITERATIONS }
 {
@@ -247,6 +251,7 @@ fn cut_at(
     Ok(Cut {
         extents,
         written,
+        from: slice.from,
         begins: begin,
         goes_on: end.is_some(),
     })

@@ -16,7 +16,7 @@ use std::alloc::AllocError;
 use std::io::{Error, ErrorKind};
 
 /// A run between files.
-pub type Stream<'a, R> = Pipeline<Kind, ApartReader<Chain, R>, Target<'a>>;
+pub type Stream<R> = Pipeline<Kind, ApartReader<Chain, R>, Target>;
 
 /// Why a run stops, and why a device failed at it.
 #[derive(Drop)]
@@ -53,7 +53,7 @@ pub fn unopened(error: Error, place: EndPlace, fault: EndFault) -> Stop {
 }
 
 /// Why a run stops by a fault of its pipeline.
-pub fn stop_of<R: Drop>(run: &Stream<'_, R>, ends: &Ends<'_>, fault: PipelineFault) -> Stop {
+pub fn stop_of<R: Drop>(run: &Stream<R>, ends: &Ends<'_>, fault: PipelineFault) -> Stop {
     let graph = run.plant.graph();
     let (place, fault, reason) = match fault {
         PipelineFault::Memory | PipelineFault::Joined(_) | PipelineFault::NotJoined(_) =>
@@ -97,7 +97,7 @@ pub fn stop_of<R: Drop>(run: &Stream<'_, R>, ends: &Ends<'_>, fault: PipelineFau
 }
 
 // The input of a source that was read last.
-fn input_place<R: Drop>(run: &Stream<'_, R>, block: BlockId) -> EndPlace {
+fn input_place<R: Drop>(run: &Stream<R>, block: BlockId) -> EndPlace {
     match run.ends.get(block.0 as usize) {
         Some(End::Input(input)) => EndPlace::Input(input.reader().number()),
         _ => EndPlace::Input(0),

@@ -37,7 +37,7 @@ pub struct Team {
     pub iterations: u64,
 }
 
-/// How a run is done in pieces, if it is: where the words ask for it, or where it has long files and each block forgets. Where they ask and it cannot be, it is
+/// How a run is done in pieces, if it is: where the words ask for it, or where it has long files, and each block forgets and goes on to their end. Where they ask and it cannot be, it is
 /// refused.
 pub fn team_for<R: Threads + Copy>(
     threads: R,
@@ -83,7 +83,23 @@ fn free_team<R: Threads + Copy>(
     if plant.graph().len() < MANY && !has_filter(plant.graph()) {
         return Ok(None);
     }
+    // (one run ends as soon as nothing more comes, and reads no further)
+    if may_end_early(plant.graph()) {
+        return Ok(None);
+    }
     team_of(rt, call, plant, jobs)
+}
+
+// Whether a block may end before its input does.
+fn may_end_early(graph: &Valid<Kind>) -> bool {
+    let mut block = 0u32;
+    for _ in 0..graph.len() {
+        if (block as usize) < graph.len() && graph.limit(BlockId(block)).is_some() {
+            return true;
+        }
+        block = block.saturating_add(1);
+    }
+    false
 }
 
 fn has_filter(graph: &Valid<Kind>) -> bool {
@@ -120,8 +136,8 @@ fn team_of(
     }
     let all = match lengths_of_inputs(rt, graph, &call.ends) {
         Ok(lengths) => whole_iterations(graph, &plan, &lengths),
-        // (nobody knows how long it is)
-        Err(Uncut::NoFile(_)) if plan.sources.len() == 1 => u64::MAX,
+        // (nobody knows how long it is, and it may have no end)
+        Err(Uncut::NoFile(_)) if plan.sources.len() == 1 && !may_end_early(graph) => u64::MAX,
         // (whoever sends them may write all of one before the next, and a piece needs something of each)
         Err(Uncut::NoFile(_)) => return Ok(None),
         Err(uncut) => return Err(uncut),

@@ -13,7 +13,7 @@ use std::io::Write;
 /// Why a run is not cut.
 #[derive(Clone, Copy, Debug, PartialEq, Eq)]
 pub enum Uncut {
-    /// What the block gives rests on all that it was given, or on how much that was.
+    /// What the block gives rests on all that it was given.
     Remembers(BlockId),
     /// The rates have no balance, or slices would overlap too far.
     Rates,
@@ -60,8 +60,7 @@ impl Uncut {
     // Why that is.
     fn reason(self) -> &'static str {
         match self {
-            Uncut::Remembers(_) =>
-                "what it gives rests on all that it was given, or on how much that was",
+            Uncut::Remembers(_) => "what it gives rests on all that it was given",
             Uncut::Rates | Uncut::Memory => "they have no balance, or slices would overlap too far",
             Uncut::Fed(_) => "the graph file feeds it",
             Uncut::NoFile(_) => "an input of it is no regular file",

@@ -2,11 +2,14 @@
 
 pub use super::call::Call;
 use super::call::call_in;
+use super::end_words::{with_files, with_lines, with_parts, without_ends};
 use super::ends::EndsFault;
+use super::kind_words::{WordFault, kind_in, kinds_command, links_in, new_command};
 use clap::builder::ValueParser;
 use clap::error::ErrorKind;
 use clap::{Arg, ArgAction, ArgMatches};
 use explanations::{near_name, shown};
+use kinds::KindName;
 use std::alloc::{AllocError, Global};
 
 const VERSION: &str = "0.1.0";
@@ -16,14 +19,13 @@ const USUAL_TRACE: &str = "100000";
 
 const LONGEST_TRACE: u64 = 10_000_000;
 
-// So many threads run slices at most.
-const MOST_JOBS: u64 = 1024;
-
 /// What the words ask for.
 #[derive(Drop)]
 pub enum Asked<'a> {
-    /// The page of all kinds.
-    Kinds,
+    /// The page of all kinds, or of one.
+    Kinds(Option<KindName>),
+    /// A graph file of this path to start from, with blocks of these kinds.
+    New(&'a str, Vec<KindName>),
     /// Something of a graph file.
     Call(Call<'a>),
 }
@@ -38,7 +40,14 @@ pub fn asked_by<'a>(
     match flow.try_get_matches_from_mut(words) {
         Ok(matches) => match asked_in(alloc, &matches, is_terminal) {
             Ok(asked) => Ok(asked),
-            Err(fault) => Err(error_of(&mut flow, fault)),
+            Err(WordFault::Ends(fault)) => Err(error_of(&mut flow, fault)),
+            Err(WordFault::NoKind(text)) => match flow.error(
+                ErrorKind::InvalidValue,
+                text.as_str(),
+            ) {
+                Ok(error) => Err(error),
+                Err(refusal) => Err(clap::Error::from(refusal)),
+            },
         },
         Err(error) if error.kind() == ErrorKind::InvalidSubcommand => Err(unknown_command(
             alloc, &mut flow, words, error,
@@ -101,15 +110,33 @@ fn asked_in<'a>(
     alloc: Global,
     matches: &ArgMatches<'a>,
     is_terminal: bool,
-) -> Result<Asked<'a>, EndsFault> {
+) -> Result<Asked<'a>, WordFault> {
     // (that a command is there, and its file, is known of words that were taken)
     match matches.subcommand() {
-        Some(("kinds", _)) => Ok(Asked::Kinds),
+        Some(("kinds", inner)) => match inner.get_str("KIND") {
+            Some(word) => match kind_in(alloc, word) {
+                Ok(kind) => Ok(Asked::Kinds(Some(kind))),
+                Err(fault) => Err(fault),
+            },
+            None => Ok(Asked::Kinds(None)),
+        },
+        Some(("new", inner)) => new_in(alloc, inner),
         Some((name, inner)) => match call_in(alloc, name, inner, is_terminal) {
             Ok(call) => Ok(Asked::Call(call)),
-            Err(fault) => Err(fault),
+            Err(fault) => Err(WordFault::Ends(fault)),
         },
-        None => Err(EndsFault::Memory),
+        None => Err(WordFault::Ends(EndsFault::Memory)),
+    }
+}
+
+// The graph file to start from that words ask for.
+fn new_in<'a>(alloc: Global, inner: &ArgMatches<'a>) -> Result<Asked<'a>, WordFault> {
+    let Some(path) = inner.get_str("FILE") else {
+        return Err(WordFault::Ends(EndsFault::Memory));
+    };
+    match links_in(alloc, inner.get_strs("KIND").unwrap_or(&[])) {
+        Ok(kinds) => Ok(Asked::New(path, kinds)),
+        Err(fault) => Err(fault),
     }
 }
 
@@ -158,9 +185,8 @@ fn with_reports<'a>(
 ) -> Result<clap::Command<'a>, clap::Error> {
     let flow = with_command(flow, check_command(alloc))?;
     let flow = with_command(flow, draw_command(alloc))?;
-    Ok(flow.subcommand(clap::Command::new(alloc, "kinds").about(
-        "Prints all kinds of blocks, with their parameters",
-    ))?)
+    let flow = with_command(flow, kinds_command(alloc))?;
+    with_command(flow, new_command(alloc))
 }
 
 // And those that do.
@@ -217,7 +243,7 @@ fn run_command<'a>(alloc: Global) -> Result<clap::Command<'a>, clap::Error> {
     let run = with_threading(alloc, run)?;
     let run = run.arg(stats(alloc)?)?;
     let run = with_trace(alloc, run)?;
-    with_ends(alloc, run)
+    with_parts(alloc, with_files(alloc, run)?)
 }
 
 // The words that say how many threads a run has, of which one is given at most. Between files a run has one, and helpers.
@@ -262,101 +288,8 @@ fn with_trace<'a>(alloc: Global, run: clap::Command<'a>) -> Result<clap::Command
         .value_name("N")
         .value_parser(ValueParser::Unsigned(1, LONGEST_TRACE))
         .default_value(USUAL_TRACE)
-        .help("Has room for so many turns and waits in the trace");
+        .help("Keeps at most N turns and waits in the trace");
     Ok(run.arg(size.requires_arg("trace")?)?)
-}
-
-// A word that goes with none of those for files of raw items.
-fn without_ends<'a>(word: Arg<'a>) -> Result<Arg<'a>, AllocError> {
-    let word = word.conflicts_with("input")?;
-    let word = word.conflicts_with("marks")?;
-    let word = word.conflicts_with("output")?;
-    word.conflicts_with("tags")
-}
-
-// The words for files of raw items.
-fn with_ends<'a>(alloc: Global, run: clap::Command<'a>) -> Result<clap::Command<'a>, clap::Error> {
-    let run = run.arg(flag(
-        alloc,
-        "big-endian",
-        "Takes the highest byte of a raw item as its first",
-    ))?;
-    let input = ends(alloc, "input", "Feeds the raw items of a file to a source").short('i');
-    let run = run.arg(input)?;
-    let marks = ends(
-        alloc,
-        "marks",
-        "Puts tags on the items of an input, a line each",
-    );
-    let run = run.arg(marks)?;
-    let output = ends(alloc, "output", "Writes the items of a sink to a file, raw").short('o');
-    let run = run.arg(output)?;
-    let tags = ends(
-        alloc,
-        "tags",
-        "Writes the tags of a sink to a file, a line each",
-    );
-    let run = run.arg(tags)?;
-    with_parts(alloc, run)
-}
-
-// The words for a part of a run, of which one is given, and for runs in pieces.
-fn with_parts<'a>(alloc: Global, run: clap::Command<'a>) -> Result<clap::Command<'a>, clap::Error> {
-    let slice = part(alloc, "slice", "Runs slice J of N of the input alone")?;
-    let slice = slice.value_name("J/N").conflicts_with("from")?;
-    let slice = slice.conflicts_with("items")?.conflicts_with("resume")?;
-    let run = run.arg(slice)?;
-    let from = part(
-        alloc,
-        "from",
-        "Writes the items of each output from this one on",
-    )?;
-    let from = from
-        .value_name("ITEM")
-        .value_parser(ValueParser::Unsigned(0, u64::MAX));
-    let run = run.arg(from.conflicts_with("resume")?)?;
-    let items = part(alloc, "items", "Writes so many items of each output")?;
-    let items = without_tags(items)?
-        .value_name("COUNT")
-        .value_parser(ValueParser::Unsigned(0, u64::MAX));
-    let run = run.arg(items.conflicts_with("resume")?)?;
-    let resume = part(alloc, "resume", "Goes on with what the outputs hold")?;
-    let run = run.arg(without_tags(resume)?.action(ArgAction::SetTrue))?;
-    Ok(run.arg(jobs(alloc)?)?)
-}
-
-// A word for a part of a run.
-fn part<'a>(alloc: Global, name: &'a str, help: &'a str) -> Result<Arg<'a>, AllocError> {
-    let part = Arg::new(alloc, name)
-        .long(name)
-        .action(ArgAction::Set)
-        .help(help);
-    part.requires_arg("input")
-}
-
-// A word that goes with no tags.
-fn without_tags<'a>(word: Arg<'a>) -> Result<Arg<'a>, AllocError> {
-    let word = word.conflicts_with("marks")?;
-    word.conflicts_with("tags")
-}
-
-// The word that says on how many threads slices are run.
-fn jobs<'a>(alloc: Global) -> Result<Arg<'a>, AllocError> {
-    let jobs = part(alloc, "jobs", "Runs slices on so many threads")?;
-    let jobs = jobs
-        .value_name("N")
-        .value_parser(ValueParser::Unsigned(1, MOST_JOBS));
-    jobs.conflicts_with("one-thread")
-}
-
-// A word for files, each with its block, whose name may begin with a dash.
-fn ends<'a>(alloc: Global, name: &'a str, help: &'a str) -> Arg<'a> {
-    Arg::new(alloc, name)
-        .long(name)
-        .action(ArgAction::Append)
-        .allow_hyphen_values(true)
-        .value_name("BLOCK=PATH")
-        .help(help)
 }
 
 fn live_command<'a>(alloc: Global) -> Result<clap::Command<'a>, clap::Error> {
@@ -365,7 +298,8 @@ fn live_command<'a>(alloc: Global) -> Result<clap::Command<'a>, clap::Error> {
         "live",
         "Runs the graph while the commands of standard input are done",
     )?;
-    Ok(live.arg(quiet(alloc))?)
+    let live = live.arg(quiet(alloc))?;
+    with_lines(alloc, with_files(alloc, live)?)
 }
 
 fn script_command<'a>(alloc: Global) -> Result<clap::Command<'a>, clap::Error> {
@@ -386,8 +320,8 @@ fn quiet<'a>(alloc: Global) -> Arg<'a> {
     .short('q')
 }
 
-// A word that stands for itself.
-fn flag<'a>(alloc: Global, name: &'a str, help: &'a str) -> Arg<'a> {
+/// A word that stands for itself.
+pub fn flag<'a>(alloc: Global, name: &'a str, help: &'a str) -> Arg<'a> {
     Arg::new(alloc, name)
         .long(name)
         .action(ArgAction::SetTrue)
@@ -418,5 +352,5 @@ fn explain<'a>(alloc: Global) -> Arg<'a> {
         .default_value("auto")
         .default_missing_value("always")
         .value_parser(["auto", "always", "never"].as_slice())
-        .help("Shows the place of what is refused, by itself on a terminal")
+        .help("Shows where the fault is; automatic on a terminal")
 }

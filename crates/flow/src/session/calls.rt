@@ -81,7 +81,7 @@ pub(crate) fn set<B: Block>(
 }
 
 /// The value that numbers are for a setting. Taps of another number are refused before they take memory.
-pub(crate) fn value_for(alloc: Global, wanted: Wanted, numbers: &[i64]) -> Result<Value, PlantFault>
+pub fn value_for(alloc: Global, wanted: Wanted, numbers: &[i64]) -> Result<Value, PlantFault>
     ensures { IsValueFor wanted numbers.now result }
 {
     match wanted {

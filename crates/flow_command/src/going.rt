@@ -1,0 +1,173 @@
+//! How a run between files goes on to its end.
+
+use crate::devices::Chain;
+use crate::ends::Ends;
+use crate::rest::Rest;
+use crate::speaking::{Speech, lines_of};
+use crate::stops::{Stop, Stream, stop_of};
+use crate::words::Call;
+use flow::serve::Action;
+use helper_threads::HelperThreads;
+use kinds::Kind;
+use pipeline::{AllReady, Ended, NoRequests, PipelineFault, Readiness, Requests};
+use reader_threads::ReaderThreads;
+use std::alloc::{AllocError, Global};
+use std::sync::Wait;
+use std::thread::Threads;
+use std::time::Clock;
+use streaming::{Helpers, Job, NoHelpers, Watch, Worked};
+
+/// Lets the run go on to its end, and shows how far it is. It returns how the run ended, and why the first input is refused that ended within an item, if one did.
+pub fn go<R: Threads + Wait + Clock + Copy + Send + Sync + 'static, W: Watch>(
+    threads: R,
+    rt: &HostRuntime,
+    run: &mut Stream<R>,
+    call: &Call<'_>,
+    rest: &Rest,
+    readers: Option<ReaderThreads<Chain, R>>,
+    speech: Option<Speech>,
+    watch: &mut W,
+) -> Result<(Ended, Option<Stop>), Stop> {
+    let (alloc, ends) = (rt.alloc(), &call.ends);
+    let mut nobody = NoRequests::new();
+    let ended = match (call.action, readers, speech) {
+        (Action::Live, Some(readers), Some(speech)) => {
+            let mut readers = readers;
+            let ended = run_spoken(threads, alloc, run, ends, rest, &mut readers, speech, watch);
+            readers.finish();
+            ended
+        }
+        (Action::Run(_), Some(readers), _) => {
+            let mut readers = readers;
+            let ended = run_helped(
+                threads,
+                alloc,
+                run,
+                ends,
+                rest,
+                &mut readers,
+                &mut nobody,
+                watch,
+            );
+            readers.finish();
+            ended
+        }
+        (Action::Run(_), None, _) => {
+            run_helped(
+                threads,
+                alloc,
+                run,
+                ends,
+                rest,
+                &mut AllReady,
+                &mut nobody,
+                watch,
+            )
+        }
+        _ => run_cut(
+            alloc,
+            run,
+            ends,
+            rest,
+            &mut NoHelpers,
+            &mut AllReady,
+            &mut nobody,
+            watch,
+        ),
+    };
+    watch.end();
+    ended
+}
+
+// The run, of which lines ask. Each that was answered has its reply when it is over.
+fn run_spoken<R: Threads + Wait + Clock + Copy + Send + Sync + 'static, W: Watch>(
+    threads: R,
+    alloc: Global,
+    run: &mut Stream<R>,
+    ends: &Ends<'_>,
+    rest: &Rest,
+    readers: &mut ReaderThreads<Chain, R>,
+    speech: Speech,
+    watch: &mut W,
+) -> Result<(Ended, Option<Stop>), Stop> {
+    let (mut requests, lines) = lines_of(threads, alloc, run, readers, speech)?;
+    let ended = run_helped(
+        threads,
+        alloc,
+        run,
+        ends,
+        rest,
+        readers,
+        &mut requests,
+        watch,
+    );
+    drop(requests);
+    lines.finish();
+    ended
+}
+
+// The run, with a thread for each other processor that does work where that pays.
+fn run_helped<
+    R: Threads + Wait + Clock + Copy + Send + Sync + 'static,
+    Q: Readiness,
+    C: Requests,
+    W: Watch,
+>(
+    threads: R,
+    alloc: Global,
+    run: &mut Stream<R>,
+    ends: &Ends<'_>,
+    rest: &Rest,
+    readiness: &mut Q,
+    requests: &mut C,
+    watch: &mut W,
+) -> Result<(Ended, Option<Stop>), Stop> {
+    let mut helpers = HelperThreads::start(threads, alloc, run.plant.graph())?;
+    let ended = run_cut(
+        alloc,
+        run,
+        ends,
+        rest,
+        &mut helpers,
+        readiness,
+        requests,
+        watch,
+    );
+    helpers.finish();
+    ended
+}
+
+// The run, in which an input that ends within an item ends with the item before.
+fn run_cut<
+    R: Wait + Drop,
+    H: Helpers<Job<Kind>, Worked<Kind>>,
+    Q: Readiness,
+    C: Requests,
+    W: Watch,
+>(
+    alloc: Global,
+    run: &mut Stream<R>,
+    ends: &Ends<'_>,
+    rest: &Rest,
+    helpers: &mut H,
+    readiness: &mut Q,
+    requests: &mut C,
+    watch: &mut W,
+) -> Result<(Ended, Option<Stop>), Stop> {
+    let mut cut = None;
+    // (each time but the last a source is closed)
+    for _ in 0..=run.plant.graph().len() {
+        match run.run_asked(alloc, helpers, readiness, requests, watch) {
+            Ok(ended) => return Ok((ended, cut)),
+            Err(PipelineFault::CutItem(source)) => {
+                if cut.is_none() {
+                    cut = Some(stop_of(run, ends, PipelineFault::CutItem(source)));
+                }
+                // (it was open)
+                let _ = run.plant.close(source);
+            }
+            Err(fault) => return Err(stop_of(run, ends, rest.counted(fault))),
+        }
+    }
+    Err(Stop::from(AllocError))
+}
