@@ -4,6 +4,7 @@ ghost use Rattle.stream_model.specs.Meaning.{Meaning};
 ghost use Rattle.kinds.specs.Kind.{meaning_of};
 
 use block_kinds::{Block, Held, Pace, Placing, Policy, Shape};
+use either_block::Either;
 use flowgraph::{BlockId, Graph, Options};
 use items::{ItemType, Items, Mark, TagKey};
 use kinds::{Kind, VectorSink, VectorSource};
@@ -62,57 +63,100 @@ impl Block for Down {
     ghost same = { ? };
 }
 
-fn keep_down(rt: &impl Abort) -> Down {
+fn keep_one_in_three(rt: &impl Abort) -> Kind {
     match KeepOneInN::new(ItemType::Byte, 3) {
-        Ok(block) => Down {
-            kind: Kind::KeepOneInN(block),
-        },
+        Ok(block) => Kind::KeepOneInN(block),
         Err(_) => panic!(rt; "a decimator"),
     }
 }
 
-// A source, the decimator and a sink, one behind another.
-fn plant(rt: &impl Abort, alloc: Global) -> Plant<Down> {
-    let byte = ItemType::Byte;
+fn keep_down(rt: &impl Abort) -> Down {
+    of_kind(keep_one_in_three(rt))
+}
+
+fn of_kind(kind: Kind) -> Down {
+    Down { kind }
+}
+
+fn source() -> Kind {
+    Kind::VectorSource(VectorSource::new(ItemType::Byte))
+}
+
+fn sink() -> Kind {
+    Kind::VectorSink(VectorSink::new(ItemType::Byte))
+}
+
+// The plant of these blocks, joined so, each by its only ports.
+fn plant<B: Block, const N: usize>(
+    rt: &impl Abort,
+    alloc: Global,
+    blocks: [B; N],
+    joins: &[(u32, u32)],
+) -> Result<Plant<B>, Fail> {
     let options = Options {
         policy: Policy::All,
         multiple: 1,
         capacity: 8,
     };
     let mut graph = Graph::new(alloc);
-    let source = Down {
-        kind: Kind::VectorSource(VectorSource::new(byte)),
-    };
-    let sink = Down {
-        kind: Kind::VectorSink(VectorSink::new(byte)),
-    };
-    assert!(rt;
-        graph.add_block(alloc, b"a", source, options).is_ok(),
-        "a source"
-    );
-    assert!(rt;
-        graph.add_block(alloc, b"b", keep_down(rt), options).is_ok(),
-        "the decimator"
-    );
-    assert!(rt;
-        graph.add_block(alloc, b"c", sink, options).is_ok(),
-        "a sink"
-    );
-    for from in 0..2 {
-        assert!(rt;
-            graph
-                .connect(BlockId(from), 0, BlockId(from + 1), 0)
-                .is_ok(),
-            "connected"
-        );
+    let mut name = b'a';
+    for block in Vec::from_array(alloc, blocks)? {
+        let added = graph.add_block(alloc, &[name], block, options);
+        assert!(rt; added.is_ok(), "a block");
+        name += 1;
+    }
+    for (from, to) in joins {
+        let joined = graph.connect(BlockId(*from), 0, BlockId(*to), 0);
+        assert!(rt; joined.is_ok(), "connected");
     }
     let Ok(valid) = graph.validate(alloc) else {
         panic!(rt; "the graph is refused");
     };
     match Plant::open(alloc, valid) {
-        Ok(plant) => plant,
+        Ok(plant) => Ok(plant),
         Err(_) => panic!(rt; "not opened"),
     }
+}
+
+// Feeds nine bytes with five tags to the first block, and runs the plant to its end.
+fn run<B: Block>(rt: &impl Abort, alloc: Global, plant: &mut Plant<B>) -> Result<(), Fail> {
+    let Some(key) = TagKey::new(b"k") else {
+        panic!(rt; "a key");
+    };
+    let items = Items::from_numbers(alloc, ItemType::Byte, &[1, 2, 3, 4, 5, 6, 7, 8, 9])?;
+    let mut marks = Vec::new(alloc);
+    for offset in [0, 2, 5, 6, 8] {
+        marks.push(Mark {
+            offset,
+            key,
+            value: 7,
+        })?;
+    }
+    assert!(rt; plant.feed(BlockId(0), items, &marks).is_ok(), "fed");
+    assert!(rt; plant.close(BlockId(0)).is_ok(), "closed");
+    assert!(rt; plant.settle(alloc, 2)? == Settled::Done, "done");
+    Ok(())
+}
+
+// The sink has each third byte, and tags on these of them.
+fn has_thirds<B: Block>(
+    rt: &impl Abort,
+    alloc: Global,
+    plant: &Plant<B>,
+    sink: u32,
+    tags: &[u64],
+) -> Result<(), Fail> {
+    let Ok(piece) = plant.read(alloc, BlockId(sink), 0, 8) else {
+        panic!(rt; "not read");
+    };
+    let thirds = Items::from_numbers(alloc, ItemType::Byte, &[3, 6, 9])?;
+    assert!(rt; piece.items == thirds, "items");
+    let mut shown = Vec::new(alloc);
+    for tag in &piece.tags {
+        shown.push(tag.offset)?;
+    }
+    assert!(rt; shown.as_slice() == tags, "tags");
+    Ok(())
 }
 
 #[test]
@@ -132,34 +176,26 @@ fn a_block_places_its_tags(rt: HostRuntime) -> Result<(), Fail> {
 #[test]
 fn a_sink_shows_tags_where_the_block_puts_them(rt: HostRuntime) -> Result<(), Fail> {
     let alloc = rt.alloc();
-    let Some(key) = TagKey::new(b"k") else {
-        panic!(rt; "a key");
-    };
-    let mut plant = plant(&rt, alloc);
-    let items = Items::from_numbers(alloc, ItemType::Byte, &[1, 2, 3, 4, 5, 6, 7, 8, 9])?;
+    let blocks = [of_kind(source()), keep_down(&rt), of_kind(sink())];
+    let mut plant = plant(&rt, alloc, blocks, &[(0, 1), (1, 2)])?;
+    run(&rt, alloc, &mut plant)?;
     // (the nearest items would be 0, 1, 2, 2, and 3, which there is not)
-    let mut marks = Vec::new(alloc);
-    for offset in [0, 2, 5, 6, 8] {
-        marks.push(Mark {
-            offset,
-            key,
-            value: 7,
-        })?;
-    }
-    assert!(rt; plant.feed(BlockId(0), items, &marks).is_ok(), "fed");
-    assert!(rt; plant.close(BlockId(0)).is_ok(), "closed");
-    assert!(rt; plant.settle(alloc, 2)? == Settled::Done, "done");
-    let Ok(piece) = plant.read(alloc, BlockId(2), 0, 8) else {
-        panic!(rt; "not read");
-    };
-    assert!(rt;
-        piece.items == Items::from_numbers(alloc, ItemType::Byte, &[3, 6, 9])?,
-        "items"
-    );
-    let mut shown = Vec::new(alloc);
-    for tag in &piece.tags {
-        shown.push(tag.offset)?;
-    }
-    assert!(rt; shown.as_slice() == [0, 0, 1, 2, 2].as_slice(), "tags");
-    Ok(())
+    has_thirds(&rt, alloc, &plant, 2, &[0, 0, 1, 2, 2])
+}
+
+#[test]
+fn blocks_of_two_types_place_tags_each_by_its_own(rt: HostRuntime) -> Result<(), Fail> {
+    let alloc = rt.alloc();
+    let blocks = [
+        Either::Right(source()),
+        Either::Left(keep_down(&rt)),
+        Either::Right(keep_one_in_three(&rt)),
+        Either::Right(sink()),
+        Either::Right(sink()),
+    ];
+    let joins = [(0, 1), (0, 2), (1, 3), (2, 4)];
+    let mut plant = plant(&rt, alloc, blocks, &joins)?;
+    run(&rt, alloc, &mut plant)?;
+    has_thirds(&rt, alloc, &plant, 3, &[0, 0, 1, 2, 2])?;
+    has_thirds(&rt, alloc, &plant, 4, &[0, 1, 2, 2])
 }

@@ -3,6 +3,7 @@
 pub use crate::blocks::{
     Add, AddConst, Fir, Kind, MultiplyConst, NullSink, Taps, Value, VectorSink, VectorSource,
 };
+pub use crate::custom::Either;
 pub use crate::error::Error;
 pub use crate::graphs::{BlockId, Graph, Options, Policy};
 pub use crate::plants::{Claim, Piece, Plant, Settled, Step, StreamingPlant};

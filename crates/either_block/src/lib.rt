@@ -1,0 +1,6 @@
+//! Blocks of two types in one graph.
+#![tactic(auto)]
+
+pub mod either;
+
+pub use either::Either;
