@@ -24,8 +24,10 @@ pipes=(pipes/slow_producer pipes/slow_producer_in_pieces pipes/fifos_in_pieces p
 terminals=(terminals/explains terminals/never terminals/place)
 # What a program of Python asks, that has names of GNU Radio from flow-from-grc.
 names=(names/gnu_radio)
-# And one that draws graphs, which are run whole and in slices.
-drawn=(slices/drawn)
+# And one that draws graphs, which are run whole and in slices; and runs in pieces that are killed, or end badly.
+drawn=(slices/drawn slices/killed slices/bad_ends)
+# And live runs between pipes, with lines that are written while items stream.
+spoken=(spoken/settings spoken/stop spoken/closes spoken/lines spoken/standard spoken/two spoken/soon spoken/long spoken/gone)
 # And runs whose trace a program of Python reads.
 traces=(traces/adaptive traces/one_thread traces/thread_per_block traces/first_events traces/picture traces/part_of_a_picture)
 
@@ -59,7 +61,7 @@ list() {
     for folder in "${made[@]}"; do
         add "$folder" "$1/$folder"
     done
-    printf '%s\n' "${pipes[@]}" "${terminals[@]}" "${names[@]}" "${drawn[@]}" "${traces[@]}" "${redirected[@]/#/redirected/}" "${silent[@]/#/silent/}" "${clustered[@]/#/cluster/}" \
+    printf '%s\n' "${pipes[@]}" "${terminals[@]}" "${names[@]}" "${drawn[@]}" "${spoken[@]}" "${traces[@]}" "${redirected[@]/#/redirected/}" "${silent[@]/#/silent/}" "${clustered[@]/#/cluster/}" \
         "${received[@]/#/receiver/}"
 }
 
@@ -114,7 +116,7 @@ call() {
 }
 
 # is_own CASE: whether the case is a function here
-is_own() { [[ $1 == @(pipes|terminals|names|traces|redirected|silent)/* || $1 == slices/drawn ]]; }
+is_own() { [[ $1 == @(pipes|terminals|names|traces|spoken|redirected|silent)/* || $1 == slices/@(drawn|killed|bad_ends) ]]; }
 
 # call_all: as many side by side as there are processors
 call_all() {
@@ -250,8 +252,17 @@ terminals_place() {
 # slices_drawn: that slices of graphs that are drawn by chance give what whole runs give
 slices_drawn() { python3 "$top/tests/programs/slices.py" "${start[@]}"; }
 
+# slices_killed: that runs in pieces that are killed leave a beginning, with which another run goes on to the whole
+slices_killed() { python3 "$top/tests/programs/slice_ends.py" killed "${start[@]}"; }
+
+# slices_bad_ends: that runs in pieces end as one on one thread does, where an input, an output or marks are at fault
+slices_bad_ends() { python3 "$top/tests/programs/slice_ends.py" bad "${start[@]}"; }
+
 # names_gnu_radio: that names of GNU Radio are answered with those that flow-from-grc writes for them
 names_gnu_radio() { python3 "$top/tests/programs/gnu_radio_names.py" "${start[@]}"; }
+
+# spoken_in CASE: a live run that lines speak to
+spoken_in() { python3 "$top/tests/programs/spoken.py" "$1" "${start[@]}"; }
 
 # traced MOST WORD..: a run with these words, whose trace has room for so many turns and waits and goes with the times of the same run; `said` has the lines before
 # these
@@ -329,7 +340,7 @@ run() {
     build
     call_all
     while IFS= read -r it; do
-        if [[ $it == @(names/*|traces/*|slices/drawn) ]] && ! command -v python3 >/dev/null; then
+        if [[ $it == @(names/*|traces/*|spoken/*|slices/@(drawn|killed|bad_ends)) ]] && ! command -v python3 >/dev/null; then
             left_out "$it" <<<"there is no python3 to read it"
         elif [[ $it == terminals/* ]] && ! command -v script >/dev/null; then
             left_out "$it" <<<"there is no command script to make a terminal"
@@ -339,6 +350,8 @@ run() {
             judge "$it" redirected "${it#*/}"
         elif [[ $it == silent/* ]]; then
             judge "$it" silent "${it#*/}"
+        elif [[ $it == spoken/* ]]; then
+            judge "$it" spoken_in "${it#*/}"
         elif is_own "$it"; then
             judge "$it" "${it/\//_}"
         elif wrong=$(is_right "$it"); then

@@ -6,7 +6,7 @@
 set -euo pipefail
 # shellcheck source=tests/part.sh
 source "$(dirname -- "$(readlink -f -- "${BASH_SOURCE[0]}")")/../part.sh"
-commands=(check draw kinds run live script)
+commands=(check draw kinds new run live script)
 share=$top/share
 # The cases beside those of the commands, each a function.
 others=(flow_from_grc graph_file script_lines man_pages lines_in_bash lines_in_zsh lines_in_fish versions picture picture_of_crates)
@@ -176,6 +176,9 @@ lines_in() {
     offers 'flow run graph.toml -i src=in' input.raw
     offers 'flow run -i ' ''
     offers 'flow check g' graph.toml
+    offers 'flow kinds moving' moving_sum
+    offers 'flow new g' graph.toml
+    offers 'flow new more.toml mov' moving_sum
     offers 'flow-from-grc --ou' --output
     offers 'flow-from-grc a' a.grc
     offers 'flow-from-grc -o inp' input.raw
