@@ -8,8 +8,12 @@ import sys
 from pathlib import Path
 from typing import List, Sequence
 
-import numpy
 from frames import sent
+
+try:
+    import numpy
+except ImportError:
+    sys.exit("make.py: it needs numpy, as Debian's python3-numpy has it for /usr/bin/python3")
 
 # Samples a second, samples a bit, and in Hz how far a 1 is above the carrier, a 0 below it, and the carrier above the middle of the band.
 RATE, SAMPLES, DEVIATION, OFFSET = 256_000, 32, 4_000, 1_000

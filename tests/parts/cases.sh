@@ -29,7 +29,7 @@ drawn=(slices/drawn slices/killed slices/bad_ends)
 # And live runs between pipes, with lines that are written while items stream.
 spoken=(spoken/settings spoken/stop spoken/closes spoken/lines spoken/standard spoken/two spoken/soon spoken/long spoken/gone)
 # And runs whose trace a program of Python reads.
-traces=(traces/adaptive traces/one_thread traces/thread_per_block traces/first_events traces/picture traces/part_of_a_picture)
+traces=(traces/adaptive traces/one_thread traces/thread_per_block traces/between_files traces/now_and_then traces/first_events traces/picture traces/part_of_a_picture)
 
 # add CASE FOLDER: the case, and the runs of a run on one thread and in one for each block
 add() {
@@ -288,6 +288,29 @@ has_all() {
 traces_adaptive() { has_all; }
 traces_one_thread() { has_all --one-thread; }
 traces_thread_per_block() { has_all --thread-per-block; }
+
+# traces_between_files: a run that takes its items from a pipe, and writes them to a file
+traces_between_files() {
+    head -c 100000 /dev/zero | "${start[@]}" run --stats=json --trace "$room/trace" -i src=- -o out="$room/items" "$top/tests/graphs/plain.toml" >"$room/report" 2>"$room/times" || return
+    differs stdout <(printf 'sink out 100000\ndone\n') "$room/report" || return
+    differs items <(head -c 100000 /dev/zero | tr '\0' '\n') "$room/items" || return
+    python3 "$top/tests/programs/trace.py" "$room/trace" "$room/times" 1000000 || return
+    python3 -c 'import json, sys; print(*[(it["name"], it["firings"]) for it in json.load(open(sys.argv[1]))["blocks"]])' "$room/times" >"$room/firings" || return
+    differs firings <(echo "('src', 100000) ('a', 100000) ('out', 100000)") "$room/firings"
+}
+
+# traces_now_and_then: the times of a run so far, of which each report is a line, while its items come in three parts (when each comes is up to the machine)
+traces_now_and_then() {
+    for _ in 1 2 3; do
+        head -c 1000 /dev/zero
+        sleep 1.2
+    done | "${start[@]}" run --stats=json --stats-every 1 -i src=- -o out=/dev/null "$top/tests/graphs/plain.toml" >"$room/report" 2>"$room/times" || return
+    python3 - "$room/times" <<'END'
+import json, sys
+told = [json.loads(line)["blocks"][0]["firings"] for line in open(sys.argv[1])]
+sys.exit(None if len(told) > 1 and told == sorted(told) and told[0] > 0 and told[-1] == 3000 else f"the firings that were told: {told}")
+END
+}
 
 # traces_first_events: of which all others are left out, which is told, unless the words say no
 traces_first_events() {

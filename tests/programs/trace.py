@@ -67,7 +67,8 @@ def check_sums(block, name, events):
         told[f"waits for {wait['for']} of {' and '.join(wait['of'])}"] = wait["count"]
     waits = {}
     for event in events:
-        if event["cat"] == "wait":
+        # (a source waits for what it is fed at none of its ports, and no time is told of it)
+        if event["cat"] == "wait" and event["name"] != "waits to be fed":
             waits[event["name"]] = waits.get(event["name"], 0) + 1
     if waits != told:
         wrong(f"{name}: its waits are {waits}, and told are {told}")

@@ -1,6 +1,6 @@
 //! What a call of a command on a graph file asks for.
 
-ghost use Rattle.std.specs.Prelude.{◌≡◌, ◌&&◌, not, if◌then◌else◌};
+ghost use Rattle.std.specs.Prelude.{◌≡◌, ◌&&◌, ◌||◌, not, if◌then◌else◌, is_some};
 ghost use Rattle.flow.specs.declared.serve.Verbosity.TheVariants.{WithNotes, Quiet};
 
 use super::ends::{Ends, EndsFault};
@@ -24,6 +24,8 @@ pub struct Call<'a> {
     pub explains: bool,
     /// How it is told where the time of the run went, if that is wanted.
     pub stats: Option<Form>,
+    /// After how many seconds each it is told while the run goes on too, if that is wanted.
+    pub every: Option<u64>,
     /// The trace of the run, if one is wanted.
     pub trace: Option<Trace<'a>>,
     pub ends: Ends<'a>,
@@ -50,6 +52,13 @@ impl Call<'_> {
         ensures { result ≡ (is_terminal && not self.now.is_quiet) }
     {
         is_terminal && !self.is_quiet
+    }
+
+    /// Whether the run is measured or traced. One between files has one thread then.
+    pub fn is_measured(&self) -> bool
+        ensures { result ≡ (is_some self.now.stats || is_some self.now.trace) }
+    {
+        self.stats.is_some() || self.trace.is_some()
     }
 
     /// Whether lines are written that no command asks for, unless the words say no.
@@ -84,6 +93,7 @@ pub fn call_in<'a>(
             is_quiet: inner.get_flag("quiet"),
             explains: explains(inner.get_str("explain"), is_terminal),
             stats: form_of(inner.get_str("stats")),
+            every: inner.get_one::<u64>("stats-every"),
             trace,
             ends,
             talk,

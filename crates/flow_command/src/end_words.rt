@@ -93,7 +93,8 @@ fn jobs<'a>(alloc: Global) -> Result<Arg<'a>, AllocError> {
     let jobs = jobs
         .value_name("N")
         .value_parser(ValueParser::Unsigned(1, MOST_JOBS));
-    jobs.conflicts_with("one-thread")
+    let jobs = jobs.conflicts_with("one-thread")?;
+    jobs.conflicts_with("stats")?.conflicts_with("trace")
 }
 
 // A word for files, each with its block, whose name may begin with a dash.

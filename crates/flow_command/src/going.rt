@@ -2,6 +2,7 @@
 
 use crate::devices::Chain;
 use crate::ends::Ends;
+use crate::onlookers::{Alone, Onlookers};
 use crate::rest::Rest;
 use crate::speaking::{Speech, lines_of};
 use crate::stops::{Stop, Stream, stop_of};
@@ -14,11 +15,12 @@ use reader_threads::ReaderThreads;
 use std::alloc::{AllocError, Global};
 use std::sync::Wait;
 use std::thread::Threads;
-use std::time::Clock;
-use streaming::{Helpers, Job, NoHelpers, Watch, Worked};
+use std::time::{Clock, CpuClock};
+use streaming::{Helpers, Job, Unwatched, Watch, Worked};
+use threads::GatedWatch;
 
 /// Lets the run go on to its end, and shows how far it is. It returns how the run ended, and why the first input is refused that ended within an item, if one did.
-pub fn go<R: Threads + Wait + Clock + Copy + Send + Sync + 'static, W: Watch>(
+pub fn go<R: Threads + Wait + Clock + CpuClock + Copy + Send + Sync + 'static, W: Watch>(
     threads: R,
     rt: &HostRuntime,
     run: &mut Stream<R>,
@@ -26,14 +28,14 @@ pub fn go<R: Threads + Wait + Clock + Copy + Send + Sync + 'static, W: Watch>(
     rest: &Rest,
     readers: Option<ReaderThreads<Chain, R>>,
     speech: Option<Speech>,
-    watch: &mut W,
+    looks: &mut Onlookers<'_, R, W>,
 ) -> Result<(Ended, Option<Stop>), Stop> {
     let (alloc, ends) = (rt.alloc(), &call.ends);
     let mut nobody = NoRequests::new();
     let ended = match (call.action, readers, speech) {
         (Action::Live, Some(readers), Some(speech)) => {
             let mut readers = readers;
-            let ended = run_spoken(threads, alloc, run, ends, rest, &mut readers, speech, watch);
+            let ended = run_spoken(threads, alloc, run, ends, rest, &mut readers, speech, looks);
             readers.finish();
             ended
         }
@@ -47,7 +49,7 @@ pub fn go<R: Threads + Wait + Clock + Copy + Send + Sync + 'static, W: Watch>(
                 rest,
                 &mut readers,
                 &mut nobody,
-                watch,
+                looks,
             );
             readers.finish();
             ended
@@ -61,26 +63,17 @@ pub fn go<R: Threads + Wait + Clock + Copy + Send + Sync + 'static, W: Watch>(
                 rest,
                 &mut AllReady,
                 &mut nobody,
-                watch,
+                looks,
             )
         }
-        _ => run_cut(
-            alloc,
-            run,
-            ends,
-            rest,
-            &mut NoHelpers,
-            &mut AllReady,
-            &mut nobody,
-            watch,
-        ),
+        _ => run_alone(alloc, run, ends, rest, &mut AllReady, &mut nobody, looks),
     };
-    watch.end();
+    looks.watch.end();
     ended
 }
 
 // The run, of which lines ask. Each that was answered has its reply when it is over.
-fn run_spoken<R: Threads + Wait + Clock + Copy + Send + Sync + 'static, W: Watch>(
+fn run_spoken<R: Threads + Wait + Clock + CpuClock + Copy + Send + Sync + 'static, W: Watch>(
     threads: R,
     alloc: Global,
     run: &mut Stream<R>,
@@ -88,7 +81,7 @@ fn run_spoken<R: Threads + Wait + Clock + Copy + Send + Sync + 'static, W: Watch
     rest: &Rest,
     readers: &mut ReaderThreads<Chain, R>,
     speech: Speech,
-    watch: &mut W,
+    looks: &mut Onlookers<'_, R, W>,
 ) -> Result<(Ended, Option<Stop>), Stop> {
     let (mut requests, lines) = lines_of(threads, alloc, run, readers, speech)?;
     let ended = run_helped(
@@ -99,16 +92,16 @@ fn run_spoken<R: Threads + Wait + Clock + Copy + Send + Sync + 'static, W: Watch
         rest,
         readers,
         &mut requests,
-        watch,
+        looks,
     );
     drop(requests);
     lines.finish();
     ended
 }
 
-// The run, with a thread for each other processor that does work where that pays.
+// The run, with a thread for each other processor that does work where that pays. One that is measured has none, so that its times are those of one thread.
 fn run_helped<
-    R: Threads + Wait + Clock + Copy + Send + Sync + 'static,
+    R: Threads + Wait + Clock + CpuClock + Copy + Send + Sync + 'static,
     Q: Readiness,
     C: Requests,
     W: Watch,
@@ -120,8 +113,11 @@ fn run_helped<
     rest: &Rest,
     readiness: &mut Q,
     requests: &mut C,
-    watch: &mut W,
+    looks: &mut Onlookers<'_, R, W>,
 ) -> Result<(Ended, Option<Stop>), Stop> {
+    if looks.observer.is_some() {
+        return run_alone(alloc, run, ends, rest, readiness, requests, looks);
+    }
     let mut helpers = HelperThreads::start(threads, alloc, run.plant.graph())?;
     let ended = run_cut(
         alloc,
@@ -131,10 +127,34 @@ fn run_helped<
         &mut helpers,
         readiness,
         requests,
-        watch,
+        looks.watch,
     );
     helpers.finish();
     ended
+}
+
+// The run on one thread, of whose steps the observer is told.
+fn run_alone<R: Wait + Clock + CpuClock + Drop, Q: Readiness, C: Requests, W: Watch>(
+    alloc: Global,
+    run: &mut Stream<R>,
+    ends: &Ends<'_>,
+    rest: &Rest,
+    readiness: &mut Q,
+    requests: &mut C,
+    looks: &mut Onlookers<'_, R, W>,
+) -> Result<(Ended, Option<Stop>), Stop> {
+    let mut nobody = Unwatched;
+    let mut alone = Alone::new(GatedWatch::new(looks.observer.take(), &mut nobody));
+    run_cut(
+        alloc,
+        run,
+        ends,
+        rest,
+        &mut alone,
+        readiness,
+        requests,
+        looks.watch,
+    )
 }
 
 // The run, in which an input that ends within an item ends with the item before.

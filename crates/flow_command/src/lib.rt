@@ -21,7 +21,9 @@ mod line_calls;
 mod line_thread;
 mod listing;
 mod measuring;
+mod onlookers;
 mod overwriting;
+mod periodic;
 mod pieces;
 mod raw;
 mod refusing;
@@ -45,7 +47,9 @@ use crate::explaining::{REFUSED, explain_device, explain_file, explain_line};
 use crate::gone_reader::end_of;
 use crate::listing::{print_kinds, print_text};
 use crate::measuring::{measured_for, tell_times};
+use crate::onlookers::Onlookers;
 use crate::overwriting::{ReportStream, report_stream};
+use crate::periodic::Periodic;
 use crate::raw::run_raw;
 use crate::refusing::{begins_none, begins_none_of, buffered, shown_name};
 use crate::slice_report::tell_slices;
@@ -58,8 +62,10 @@ use flow::serve::serve;
 use flow::start_fault::StartFault;
 use plant::Watch;
 use reporting::{ReadEnd, WriteEnd};
+use run_stats::Observer;
+use std::alloc::Global;
 use std::io::IsTerminal;
-use std::sync::Wait;
+use std::sync::{Arc, Wait};
 use std::thread::Threads;
 use std::time::{Clock, CpuClock};
 use std::{env, fs};
@@ -130,10 +136,32 @@ fn run<R: Threads + Wait + Clock + CpuClock + Copy + Send + Sync + 'static>(
             return status;
         }
     };
-    if !call.ends.are_none() {
-        return run_raw(threads, rt, &call, report, &file, &mut terminal);
-    }
-    serve_file(threads, rt, &call, &file, &mut terminal)
+    let Ok((measured, observer)) = measured_for(threads, rt.alloc(), &call, &file) else {
+        return begins_none(rt, StartFault::Memory);
+    };
+    let trace_file = match trace_file_for(rt, &call, &measured) {
+        Ok(trace_file) => trace_file,
+        Err(status) => return status,
+    };
+    let mut watch = Periodic::new(
+        threads,
+        rt,
+        &measured,
+        call.stats,
+        call.every,
+        &mut terminal,
+    );
+    let status = if call.ends.are_none() {
+        serve_file(threads, rt, &call, &file, observer, &mut watch)
+    } else {
+        let mut looks = Onlookers {
+            watch: &mut watch,
+            observer,
+        };
+        run_raw(threads, rt, &call, report, &file, &mut looks)
+    };
+    let status = tell_trace(rt, &call, &measured, trace_file, status);
+    tell_times(rt, &call, &measured, status)
 }
 
 // Does what the words ask for with a file, between the standard streams.
@@ -142,15 +170,9 @@ fn serve_file<R: Threads + Wait + Clock + CpuClock + Copy + Send + Sync + 'stati
     rt: &HostRuntime,
     call: &Call<'_>,
     file: &[u8],
+    observer: Option<Arc<Observer<R>, Global>>,
     watch: &mut W,
 ) -> u8 {
-    let Ok((measured, observer)) = measured_for(threads, rt.alloc(), call, file) else {
-        return begins_none(rt, StartFault::Memory);
-    };
-    let trace_file = match trace_file_for(rt, call, &measured) {
-        Ok(trace_file) => trace_file,
-        Err(status) => return status,
-    };
     let reader = ReadEnd::new(Noted::new(rt.reader()));
     let mut input = KeptLines::new(rt.alloc(), reader, call.explains);
     let mut output = WriteEnd::new(Noted::new(std::io::writer(rt)));
@@ -182,6 +204,5 @@ fn serve_file<R: Threads + Wait + Clock + CpuClock + Copy + Send + Sync + 'stati
             explain_device(rt, "standard output", error);
         }
     }
-    let status = tell_trace(rt, call, &measured, trace_file, status);
-    tell_times(rt, call, &measured, status)
+    status
 }

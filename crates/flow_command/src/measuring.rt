@@ -33,7 +33,7 @@ pub fn measured_for<R: Clock + Copy>(
     call: &Call<'_>,
     file: &[u8],
 ) -> Result<ForRun<R>, AllocError> {
-    if call.stats.is_none() && call.trace.is_none() {
+    if !call.is_measured() {
         return Ok((None, None));
     }
     let looks = Looks {

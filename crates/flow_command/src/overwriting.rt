@@ -46,8 +46,8 @@ pub fn report_stream(rt: &HostRuntime, call: &Call<'_>) -> Result<ReportStream, 
         return Ok(ReportStream::Output);
     }
     match call.trace {
-        Some(_) => Err(EndsFault::TraceOntoReport),
-        None => Ok(ReportStream::Errors),
+        Some(_) if call.ends.are_none() => Err(EndsFault::TraceOntoReport),
+        _ => Ok(ReportStream::Errors),
     }
 }
 

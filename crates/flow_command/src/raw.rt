@@ -7,6 +7,7 @@ use crate::going::go;
 use crate::gone_reader::tell_gone;
 use crate::joins::{Kept, Opened, PipesOpen, join_inputs, join_marks, join_outputs};
 use crate::later::later_plant;
+use crate::onlookers::Onlookers;
 use crate::overwriting::ReportStream;
 use crate::pieces::run_pieces;
 use crate::refusing::{buffered, shown_name};
@@ -38,17 +39,17 @@ use std::alloc::{AllocError, Global};
 use std::io::Write;
 use std::sync::Wait;
 use std::thread::Threads;
-use std::time::Clock;
+use std::time::{Clock, CpuClock};
 use streaming::{StreamingPlant, Watch};
 
 /// Runs a graph file between files. All of them are opened before the first is read.
-pub fn run_raw<R: Threads + Wait + Clock + Copy + Send + Sync + 'static, W: Watch>(
+pub fn run_raw<R: Threads + Wait + Clock + CpuClock + Copy + Send + Sync + 'static, W: Watch>(
     threads: R,
     rt: &HostRuntime,
     call: &Call<'_>,
     report: ReportStream,
     file: &[u8],
-    watch: &mut W,
+    looks: &mut Onlookers<'_, R, W>,
 ) -> u8 {
     let speech = match call.action {
         Action::Live => match speech_for(rt, call) {
@@ -66,7 +67,7 @@ pub fn run_raw<R: Threads + Wait + Clock + Copy + Send + Sync + 'static, W: Watc
         Err(uncut) => return refuse_cut(rt, call, run.plant.graph(), uncut),
     };
     let mut errors = buffered(rt.alloc(), rt.stderr());
-    match stream(threads, rt, call, report, run, &part, speech, watch) {
+    match stream(threads, rt, call, report, run, &part, speech, looks) {
         Ok(None) => status_of(true),
         Ok(Some(stalled)) => {
             if call.verbosity() == Verbosity::WithNotes {
@@ -119,7 +120,7 @@ fn tell_stop(rt: &HostRuntime, call: &Call<'_>, file: &[u8], stop: Stop) -> u8 {
 }
 
 // The run, which is returned if it stalled. Where an input ended within an item that is told last, since all that came of the items before it stands.
-fn stream<R: Threads + Wait + Clock + Copy + Send + Sync + 'static, W: Watch>(
+fn stream<R: Threads + Wait + Clock + CpuClock + Copy + Send + Sync + 'static, W: Watch>(
     threads: R,
     rt: &HostRuntime,
     call: &Call<'_>,
@@ -127,13 +128,13 @@ fn stream<R: Threads + Wait + Clock + Copy + Send + Sync + 'static, W: Watch>(
     run: Stream<R>,
     part: &Part<'_>,
     speech: Option<Speech>,
-    watch: &mut W,
+    looks: &mut Onlookers<'_, R, W>,
 ) -> Result<Option<Stream<R>>, Stop> {
     let mut run = run;
     let mut readers = readers_for(threads, rt.alloc(), call, run.plant.graph().len())?;
-    let (rest, kept) = join(threads, rt, call, &mut run, part, &mut readers, watch)?;
+    let (rest, kept) = join(threads, rt, call, &mut run, part, &mut readers, looks.watch)?;
     close_others(&mut run);
-    let (ended, stop) = go(threads, rt, &mut run, call, &rest, readers, speech, watch)?;
+    let (ended, stop) = go(threads, rt, &mut run, call, &rest, readers, speech, looks)?;
     write_kept(rt, &run, kept)?;
     tell(rt, &run, call, &part.cut, &rest, report, ended)?;
     match (stop, ended) {

@@ -47,7 +47,9 @@ pub fn team_for<R: Threads + Copy>(
 ) -> Result<Option<Team>, Uncut> {
     match call.jobs {
         Some(jobs) if 1 < jobs => team_of(rt, call, plant, jobs),
-        None if is_free(call.action) => match free_team(threads, rt, call, plant) {
+        None if is_free(call.action) && !call.is_measured() => match free_team(
+            threads, rt, call, plant,
+        ) {
             Err(Uncut::Memory) => Err(Uncut::Memory),
             Err(_) => Ok(None),
             team => team,

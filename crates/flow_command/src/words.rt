@@ -19,6 +19,9 @@ const USUAL_TRACE: &str = "100000";
 
 const LONGEST_TRACE: u64 = 10_000_000;
 
+// So many seconds lie between two reports of times at most: a day.
+const LONGEST_PAUSE: u64 = 86_400;
+
 /// What the words ask for.
 #[derive(Drop)]
 pub enum Asked<'a> {
@@ -241,7 +244,7 @@ fn run_command<'a>(alloc: Global) -> Result<clap::Command<'a>, clap::Error> {
     )?;
     let run = run.arg(quiet(alloc))?;
     let run = with_threading(alloc, run)?;
-    let run = run.arg(stats(alloc)?)?;
+    let run = with_stats(alloc, run)?;
     let run = with_trace(alloc, run)?;
     with_parts(alloc, with_files(alloc, run)?)
 }
@@ -261,8 +264,8 @@ fn with_threading<'a>(
     Ok(run.arg(without_ends(each)?)?)
 }
 
-// The word for a report of times, which no run between files has.
-fn stats<'a>(alloc: Global) -> Result<Arg<'a>, AllocError> {
+// The words for a report of times.
+fn with_stats<'a>(alloc: Global, run: clap::Command<'a>) -> Result<clap::Command<'a>, clap::Error> {
     let stats = Arg::new(alloc, "stats")
         .long("stats")
         .value_name("FORM")
@@ -271,17 +274,24 @@ fn stats<'a>(alloc: Global) -> Result<Arg<'a>, AllocError> {
         .default_missing_value("text")
         .value_parser(["text", "json"].as_slice())
         .help("Tells where the time of the run went");
-    without_ends(stats)
+    let run = run.arg(stats)?;
+    let every = Arg::new(alloc, "stats-every")
+        .long("stats-every")
+        .action(ArgAction::Set)
+        .value_name("SECONDS")
+        .value_parser(ValueParser::Unsigned(1, LONGEST_PAUSE))
+        .help("Tells it while the run goes on too, after so many seconds each");
+    Ok(run.arg(every.requires_arg("stats")?)?)
 }
 
-// The words for a trace, which no run between files has either.
+// The words for a trace.
 fn with_trace<'a>(alloc: Global, run: clap::Command<'a>) -> Result<clap::Command<'a>, clap::Error> {
     let trace = Arg::new(alloc, "trace")
         .long("trace")
         .action(ArgAction::Set)
         .value_name("PATH")
         .help("Writes each turn and each wait of a block to a file, as a trace");
-    let run = run.arg(without_ends(trace)?)?;
+    let run = run.arg(trace)?;
     let size = Arg::new(alloc, "trace-size")
         .long("trace-size")
         .action(ArgAction::Set)

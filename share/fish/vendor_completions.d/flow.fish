@@ -25,7 +25,7 @@ function __flow_file
     set -l before
     for word in (commandline -o)[2..-1]
         set word (string replace -r '^~/' "$HOME/" -- $word)
-        if test -f "$word"; and not string match -q -- '-*' $word; and not contains -- "$before" -i --input --marks -o --output --tags --format --trace --trace-size --control --replies
+        if test -f "$word"; and not string match -q -- '-*' $word; and not contains -- "$before" -i --input --marks -o --output --tags --format --stats-every --trace --trace-size --control --replies
             echo $word
             return
         end
@@ -85,6 +85,7 @@ complete -c flow -n '__flow_is run live' -s q -l quiet -d 'Shows neither progres
 complete -c flow -n '__flow_is run' -l one-thread -d 'Runs all blocks on one thread'
 complete -c flow -n '__flow_is run' -l thread-per-block -d 'Runs each block in a thread of its own'
 complete -c flow -n '__flow_is run' -l stats -f -a 'text json' -d 'Tells where the time of the run went'
+complete -c flow -n '__flow_is run' -l stats-every -x -d 'Tells it while the run goes on too, after so many seconds each'
 complete -c flow -n '__flow_is run' -l trace -r -F -d 'Writes each turn and each wait of a block to a file, as a trace'
 complete -c flow -n '__flow_is run' -l trace-size -x -d 'Keeps at most N turns and waits in the trace'
 complete -c flow -n '__flow_is run live' -l big-endian -d 'Raw items have their highest byte first'
