@@ -240,6 +240,7 @@ module _ (file text : List ℕ) (status : ℕ) (p r : PlantState Kind) (stalled 
           lines = lines;
           history = come.history;
           logs = come.logs;
+          own = back.own;
           last = r.state;
           run = subst (λ (x : Opened). IsRunOf x.draft.net x.capacities p.state come.history r.state) same back.run;
           rests = subst (λ (x : Opened). IsAtRest x.draft.net x.capacities x.state) same is.rests;

@@ -16,7 +16,7 @@ use Rattle.graph_file.specs.Steps.{then}
 use Rattle.graph_file.specs.Blocks.{Draft, drafted}
 use Rattle.graph_file.specs.File.{Content, file_of}
 use Rattle.graph_file.specs.Opening.{Opened, opened, opened_of, streamed, validated}
-use Rattle.threads.specs.History.{Noted, IsRunOf}
+use Rattle.threads.specs.History.{Noted, AreOwn, IsRunOf}
 use Rattle.threads.specs.Live.{AreLogs}
 use Rattle.drawings.specs.Drawings.{drawn_text}
 use Rattle.drawings.specs.declared.drawing.Format.{Format}
@@ -131,8 +131,8 @@ pub record AnswersLines (graph : Flowgraph Kind) (log : List Noted) (input out :
   pub replied : Option (List ℕ)
   pub ends : Ends (AtDesk meaning_of) (live_desk graph) (with_log (live_desk graph) log) input left out replied
 
--- a run of a file in threads with its sources left open, while each line of an input was answered: its plant came where a history leads in which the calls
--- at the desk are those that the lines ask for, with the replies that were written, to rest, and the report of it then
+-- a run of a file in threads with its sources left open, while each line of an input was answered: its plant came where a history leads in which each call
+-- is its caller's own, and those at the desk are those that the lines ask for, with the replies that were written, to rest, and the report of it then
 pub record IsLive (file : List ℕ) (input out : Option (List ℕ)) (text : List ℕ) (status : ℕ) : Type 0 where
   pub plant : PlantState Kind
   pub opens : plant_in file ≡ Ok (opened_of plant)
@@ -140,6 +140,7 @@ pub record IsLive (file : List ℕ) (input out : Option (List ℕ)) (text : List
   pub lines : AnswersLines plant.graph log input out
   pub history : List Noted
   pub logs : AreLogs (log ∷ []) history
+  pub own : AreOwn history
   pub last : State
   pub run : IsRunOf (net_of meaning_of plant.graph) plant.capacities plant.state history last
   pub rests : IsAtRest (net_of meaning_of plant.graph) plant.capacities last
