@@ -6,7 +6,8 @@ import functools
 import os
 
 from ._errors import Refused
-from ._ports import Path, Port, Ports, ports
+from ._listing import Port
+from ._ports import Path, Ports, ports
 
 
 @functools.lru_cache(maxsize=64)

@@ -83,7 +83,7 @@ def _levels() -> list[str]:
     """The folders below the library's where one for this processor may stand, the best first. (Of a path glibc makes no such choice.)"""
     try:
         with open("/proc/cpuinfo") as lines:
-            flags = next((line.split() for line in lines if line.startswith("flags")), [])
+            flags: list[str] = next((line.split() for line in lines if line.startswith("flags")), [])
     except OSError:
         flags = []
     return ["glibc-hwcaps/x86-64-v3/", ""] if _FEATURES_OF_V3.issubset(flags) else [""]

@@ -237,7 +237,7 @@ def run_slices(
             opened = None if path is None else files.enter_context(open(path, "wb"))
             sheets.append(Sheet(it.sink, stream._item_size(it.sink), it.drop, opened))
         run_all(Team(stream, tapes, sheets, workers), plan)
-        return {it.sink: it.items() for it in sheets if it.file is None}
+    return {it.sink: it.items() for it in sheets if it.file is None}
 
 
 def run_all(team: Team, plan: Slices) -> None:
