@@ -156,7 +156,7 @@ def spectra_are_plotted():
     # (at 0 is their mean of 128, and the window lets a line touch its neighbours)
     assert all(level < 10 for place, level in levels.items() if abs(place - 0.125) > 2.5 / 256 and place > 2.5 / 256), levels
     try:
-        graph_of("", "").plot("out", spectrum=True)
+        graph_of("").plot("out", spectrum=True)
     except ValueError:
         return
     raise AssertionError("a spectrum of nothing")
