@@ -3,6 +3,8 @@
 from __future__ import annotations
 
 import copy
+import ctypes
+import re
 from typing import Any
 
 from joining import chain, equal
@@ -13,11 +15,25 @@ from magbelu.gnuradio import Flowgraph
 TEXT = chain("short", '"add", kind = "add_const", value = 10')
 
 
-class Accepting:
-    """Stands for the library: each graph is opened, and fed nothing."""
+ROLES = {"vector_source": 1, "vector_sink": 2, "null_sink": 3}
 
-    def magbelu_bytes_open_stream(self, plant: Any, *words: Any) -> Any:
+
+class Accepting:
+    """Stands for the library: each graph is opened and has the blocks of its text, of shorts, and is fed nothing."""
+
+    def magbelu_bytes_open_stream(self, plant: Any, file: Any, file_len: int, *words: Any) -> Any:
+        text = ctypes.string_at(file, file_len) if file_len else b""
+        self.blocks = re.findall(rb'name = "(\w+)",?\s+kind = "(\w+)"', text)
         return _library.Answer(0, 0, 0, 0)
+
+    def magbelu_bytes_block_count(self, plant: Any) -> Any:
+        return _library.Reply(0, 0, 0, len(self.blocks))
+
+    def magbelu_bytes_block(self, plant: Any, number: int, name: Any, name_room: int, kind: Any, kind_room: int) -> Any:
+        texts = self.blocks[number]
+        for text, at in zip(texts, (name, kind)):
+            ctypes.memmove(at, text, len(text))
+        return _library.Listed(0, 0, ROLES.get(texts[1].decode(), 0), 1, 1, 1, 1, *map(len, texts))
 
     def magbelu_bytes_feed(self, plant: Any, *words: Any) -> Any:
         return _library.Reply(0, 0, 0, 0)
