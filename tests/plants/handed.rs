@@ -11,6 +11,9 @@ use std::test::Fail;
 // More than could be done in the time of a test at a cost that grows with the square.
 const MANY: u32 = 100_000;
 
+// Of tags that go before each other at one item, where each moves all others by one place.
+const WAITING: u32 = 10_000;
+
 // A chain whose source was fed with two items, and a tag of this value on the second.
 fn tagged(rt: &impl Abort, alloc: Global, added: i64, value: i64) -> Plant<Kind> {
     let mut plant = chain(rt, alloc, Make::AddConst(added), 4);
@@ -95,6 +98,27 @@ fn many_tags_in_any_order_come_through(rt: HostRuntime) -> Result<(), Fail> {
     let plant = marked_run(&rt, alloc, 1, &equal)?;
     let piece = plant.read(alloc, SINK, 0, 1)?;
     assert!(rt; piece.tags.len() == MANY as usize, "each double");
+    Ok(())
+}
+
+// A few come at a time, and all of them wait on the first item behind the skip.
+#[test]
+fn many_tags_wait_on_one_item(rt: HostRuntime) -> Result<(), Fail> {
+    let alloc = rt.alloc();
+    let mut plant = chain(&rt, alloc, Make::Skip(u64::from(WAITING)), 8);
+    let mut falling = Vec::with_capacity(alloc, WAITING as usize)?;
+    for n in 0..WAITING {
+        falling.push(mark(&rt, u64::from(n), b'k', i64::from(WAITING - n)))?;
+    }
+    let numbers = Vec::from_elem(alloc, 1_i64, WAITING as usize + 1)?;
+    assert!(rt; plant.feed_numbers(alloc, SOURCE, &numbers, &falling).is_ok(), "fed");
+    assert!(rt; plant.close(SOURCE).is_ok(), "closed");
+    assert!(rt; plant.settle(alloc, 8)? == Settled::Done, "done");
+    let piece = plant.read(alloc, SINK, 0, 2)?;
+    assert!(rt; piece.held == 1 && piece.tags.len() == WAITING as usize, "each tag");
+    for (n, tag) in piece.tags.iter().enumerate() {
+        assert!(rt; tag.offset == 0 && tag.value == n as i64 + 1, "in order");
+    }
     Ok(())
 }
 
