@@ -83,7 +83,7 @@ put_all() {
     done < <(cd -- "$1" && find . -type f ! -name '*.pyc' -printf '%P\n' | LC_ALL=C sort)
 }
 
-# put_documents_of_all: the pages for users, and the examples but for the program in Rattle
+# put_documents_of_all: the pages for users, and the examples but for the programs in Rattle, which need a checkout
 put_documents_of_all() {
     local it
     for it in "${pages[@]}"; do
@@ -91,7 +91,7 @@ put_documents_of_all() {
     done
     for it in "$top"/examples/*/; do
         it=$(basename -- "$it")
-        if [[ $it != embed ]]; then
+        if [[ ! -d $top/examples/$it/src ]]; then
             put_all "$top/examples/$it" "share/doc/magbelu/examples/$it"
         fi
     done
