@@ -29,17 +29,6 @@ class Graph(Held):
 
     _opens = "open"
 
-    def step(self, block: Text, count: SupportsIndex = 2**32 - 1) -> int:
-        """Does at most `count` firings of a block, and no more than 2**32 - 1, and gives how many were done.
-
-        >>> graph = Graph(magbelu.EXAMPLE)
-        >>> graph.feed("src", [1, 2, 3]), graph.step("src", 2), graph.step("add")
-        (3, 2, 2)
-        """
-        name = lent_name(bytes_of(block))
-        reply = self._call("step", block, name.at, name.len, count_of(count, "a count of firings", 2**32 - 1))
-        return int(reply.value) if reply.what == 0 else 0
-
     def read(self, sink: Text, start: SupportsIndex = 0, count: Optional[SupportsIndex] = None) -> tuple[Array, list[Tag]]:
         """What a sink holds now: its items from `start` on, at most `count`, and the tags on them.
 

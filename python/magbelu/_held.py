@@ -10,7 +10,7 @@ import os
 import threading
 from typing import Any, Iterable, NamedTuple, Optional, SupportsIndex, TypeVar, Union
 
-from ._arguments import Text, bytes_of, flag, index, is_bytes, marks_of, numbers_of, numpy, place_of, taps_of, unmasked, within
+from ._arguments import Text, bytes_of, count_of, flag, index, is_bytes, marks_of, numbers_of, numpy, place_of, taps_of, unmasked, within
 from ._errors import refused
 from ._library import Lent, Plant, Room, calls, lent_name
 from ._listing import FORMATS, Block, Connection, Port, blocks_of, connections_of, drawing_of, svg_of
@@ -198,6 +198,17 @@ class Held:
         shorts = taps_of(taps)
         data = Lent(shorts)
         return int(self._call("set_taps", block, name.at, name.len, place, data.at, len(shorts)).value)
+
+    def step(self, block: Text, count: SupportsIndex = 2**32 - 1) -> int:
+        """Does at most `count` firings of a block, and no more than 2**32 - 1, and gives how many were done.
+
+        >>> graph = magbelu.Graph(magbelu.EXAMPLE)
+        >>> graph.feed("src", [1, 2, 3]), graph.step("src", 2), graph.step("add")
+        (3, 2, 2)
+        """
+        name = lent_name(bytes_of(block))
+        reply = self._call("step", block, name.at, name.len, count_of(count, "a count of firings", 2**32 - 1))
+        return int(reply.value) if reply.what == 0 else 0
 
     def settle(self) -> bool:
         """Runs the graph until it comes to rest. It gives whether all blocks are done, for which all sources have to be closed; each sink has taken its whole
