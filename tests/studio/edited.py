@@ -5,6 +5,7 @@ from __future__ import annotations
 import asyncio
 import os
 import pathlib
+import re
 import subprocess
 from typing import Any
 
@@ -171,14 +172,14 @@ def texts() -> None:
         ('[[feed]]\nblock = [1]\n', '[[feed]]\nblock = [1]\n\n[[block]]\nname = "b"\nn = 1\ntaps = [1, -2]\n'),
     ):
         assert edit.with_table(text, "block", table) == wanted, edit.with_table(text, "block", table)
-    assert len(kinds.kinds()) == 50
+    assert len(kinds.kinds()) == len(re.findall(r"^\[kind\.\w+\]$", (TOP / "kinds.toml").read_text(), re.MULTILINE))
     for kind in kinds.kinds().values():
         for item_type in ("byte", "short", "int"):
             graph, refused = graphs.GraphFile.draft(edit.with_table("", "block", edit.table_of("a", kind, item_type)))
             # (it is not joined yet)
             assert graph is not None and refused is not None and refused.number == 8, (kind.name, refused)
     settable = [it for it in kinds.kinds() if kinds.setting_of({"kind": it, "type": "short", "taps": [1, 2]})]
-    assert settable == ["add_const", "multiply_const", "and_const", "or_const", "xor_const", "scale", "mute", "fir", "interp_fir"], settable
+    assert settable == ["add_const", "multiply_const", "divide_const", "and_const", "or_const", "xor_const", "scale", "mute", "fir", "interp_fir"], settable
     ranges = [kinds.setting_of({"kind": it, "type": "byte", "taps": [1, 2]}) for it in ("add_const", "scale", "mute", "fir")]
     assert ranges == [("value", 0, 255, None), ("factor", -32768, 32767, None), ("on", 0, 1, None), ("taps", -32768, 32767, 2)], ranges
 
