@@ -64,19 +64,20 @@ export class Settings {
             if (words.length !== setting.taps) throw new Error(`there are ${words.length} numbers: this filter has ${setting.taps} taps`);
             return words.map(Number);
         };
+        // (what is wrong, if anything; an answer stands until one types)
         const look = () => {
             try {
                 drawTaps(canvas, read(), parameters.shift ?? 0);
-                answer.textContent = "";
+                return "";
             } catch (error) {
-                answer.textContent = error.message;
+                return error.message;
             }
         };
         const send = () => {
-            look();
+            answer.textContent = look();
             if (!answer.textContent) this.set(name, read(), answer);
         };
-        field.addEventListener("input", look);
+        field.addEventListener("input", () => (answer.textContent = look()));
         field.addEventListener("keydown", (event) => event.key === "Enter" && event.ctrlKey && send());
         const button = element("button", { type: "button", title: "sets the taps (ctrl enter)", onclick: send }, "Set");
         const row = element("div", { class: "setting taps" }, element("h3", {}, name), element("span", { class: "note" }, "taps"), field, canvas, button, answer);
