@@ -6,11 +6,13 @@ import sys
 
 import edited
 import guard
+import receiver
 import runs
 import shown
 import turned
+import worked
 
-CASES = {it.__name__: it for it in [*guard.CASES, *runs.CASES, *shown.CASES, *turned.CASES, *edited.CASES]}
+CASES = {it.__name__: it for it in [*guard.CASES, *runs.CASES, *shown.CASES, *turned.CASES, *edited.CASES, *worked.CASES, *receiver.CASES]}
 
 if __name__ == "__main__":
     CASES[sys.argv[1]]()

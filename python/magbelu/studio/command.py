@@ -4,6 +4,7 @@ from __future__ import annotations
 
 import argparse
 import os
+import re
 import secrets
 import sys
 import threading
@@ -16,6 +17,8 @@ from .run import Ways
 NAME = "magbelu-studio"
 # The statuses of `flow`, and that of a shell for what is lacking.
 DONE, REFUSED, FAILED, LACKING = 0, 1, 4, 127
+#: How a sink can be shown where the command says so.
+VIEWS = ("levels", "bits", "spectrum", "waterfall", "numbers")
 #: Where this is set, it is the token of the address, so that a server that begins anew has the address of the one before.
 TOKEN = "MAGBELU_STUDIO_TOKEN"
 # How often a thread that computes lets another one run, in seconds: the run is not to wait for the views.
@@ -29,6 +32,14 @@ def pair(word: str) -> tuple[str, str]:
     return name, path
 
 
+def watch(word: str) -> tuple[str, str]:
+    name, view = pair(word)
+    block, _, port = name.partition(":")
+    if view not in VIEWS or not block or not re.fullmatch(r"\d{0,5}", port, re.ASCII):
+        raise argparse.ArgumentTypeError("%r is not BLOCK=VIEW or BLOCK:OUTPUT=VIEW with a view of %s" % (word, ", ".join(VIEWS)))
+    return name, view
+
+
 def count(word: str) -> int:
     if not word.isdecimal() or int(word) == 0:
         raise argparse.ArgumentTypeError("%r is no whole number from 1 on" % word)
@@ -39,6 +50,7 @@ def parser() -> argparse.ArgumentParser:
     it = argparse.ArgumentParser(prog=NAME, description="Runs a graph file of flow, and shows it in the browser while it runs.")
     it.add_argument("-i", dest="inputs", metavar="SOURCE=PATH", type=pair, action="append", default=[], help="feeds a source the raw items of a file, a pipe, or standard input (-)")
     it.add_argument("-o", dest="outputs", metavar="SINK=PATH", type=pair, action="append", default=[], help="writes what a sink takes as raw items")
+    it.add_argument("-w", "--watch", metavar="BLOCK=VIEW", type=watch, action="append", default=[], help="shows what a block gives as %s" % ", ".join(VIEWS))
     it.add_argument("--rate", metavar="ITEMS", type=count, help="takes so many items of each input a second at most")
     it.add_argument("--paused", action="store_true", help="waits with the run until the page says so")
     it.add_argument("--port", metavar="N", type=int, default=0, help="the port of 127.0.0.1; a free one where it is left out")
@@ -75,7 +87,7 @@ def main(words: Optional[Sequence[str]] = None) -> int:
     sys.setswitchinterval(SWITCH)
     try:
         own = listening(options.port)
-        studio = Studio(options.graph, ways_of(options), options.rate)
+        studio = Studio(options.graph, ways_of(options), options.rate, options.watch)
     except (Error, ValueError) as error:
         return said("refused %s" % error, REFUSED)
     except (ImportError, OSError, OverflowError) as error:

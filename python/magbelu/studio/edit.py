@@ -6,6 +6,7 @@ import re
 from typing import Any, Optional, Union
 
 from .file import TOKEN
+from .graphs import GraphFile
 from .kinds import Kind
 
 Value = Union[int, str, list[int]]
@@ -85,3 +86,16 @@ def connect_of(start: str, from_port: int, end: str, to_port: int) -> dict[str, 
     """A connection, as a file has it. (Port 0 is the default.)"""
     ports = {"from_port": from_port, "to_port": to_port}
     return {"from": start, "to": end, **{key: it for key, it in ports.items() if it}}
+
+
+def watched(graph: GraphFile, name: str, port: int = 0) -> tuple[str, str]:
+    """The text with a sink behind an output of a block, where none is there yet, and the name of the sink. A sink is its own."""
+    sinks = graph.named("vector_sink")
+    if graph.block(name) is None:
+        raise ValueError("no block has the name %r" % name)
+    there = [it["to"] for it in graph.connects if (it["from"], it.get("from_port", 0)) == (name, port) and it["to"] in sinks]
+    if name in sinks or there:
+        return graph.text, name if name in sinks else there[0]
+    sink = free_name(name + "_", [it["name"] for it in graph.blocks])
+    text = with_table(graph.text, "block", {"name": sink, "kind": "vector_sink", "type": graph.type_of(name)})
+    return with_table(text, "connect", connect_of(name, port, sink, 0)), sink

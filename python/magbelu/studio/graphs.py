@@ -31,25 +31,37 @@ class GraphFile:
     blocks: list[dict[str, Any]]
     connects: list[dict[str, Any]]
     firings: dict[str, str]
+    # The types of what blocks give, where the library tells them.
+    _types: dict[str, str]
 
     @classmethod
     def of(cls, text: str) -> GraphFile:
         """Of a text. One that `check` refuses is refused as it does."""
-        return cls._with(text, firings_of(text))
+        with Stream(text) as stream:
+            types = {it.name: it.output_type for it in stream.blocks if it.output_type}
+        return cls._with(text, firings_of(text), types)
 
     @classmethod
     def draft(cls, text: str) -> tuple[Optional[GraphFile], Optional[Refused]]:
         """Of a text that may be refused: the graph, where its blocks and connections can be drawn, and the refusal."""
         try:
-            Stream(text).free()
             return cls.of(text), None
         except Refused as refused:
-            return (cls._with(text, {}) if refused.number in DRAWN else None), refused
+            return (cls._with(text, {}, {}) if refused.number in DRAWN else None), refused
 
     @classmethod
-    def _with(cls, text: str, firings: dict[str, str]) -> GraphFile:
+    def _with(cls, text: str, firings: dict[str, str], types: dict[str, str]) -> GraphFile:
         tables = tables_of(text)
-        return cls(text, tables.get("block", []), tables.get("connect", []), firings)
+        return cls(text, tables.get("block", []), tables.get("connect", []), firings, types)
+
+    def block(self, name: str) -> Optional[dict[str, Any]]:
+        """The block of a name."""
+        return next((it for it in self.blocks if it["name"] == name), None)
+
+    def type_of(self, name: str) -> str:
+        """The type of the items that a block gives. (Until the library tells it, a kind without a type is one of bytes, and one with a type `to` gives that.)"""
+        block = self.block(name) or {}
+        return self._types.get(name) or str(block.get("to", block.get("type", "byte")))
 
     def named(self, kind: str) -> list[str]:
         """The blocks of a kind, in the order of the file."""
@@ -70,7 +82,4 @@ class GraphFile:
         }
 
     def _connect(self, it: dict[str, Any]) -> dict[str, Any]:
-        block = next(block for block in self.blocks if block["name"] == it["from"])
-        # (a kind without a type is one of bytes, and one with a type `to` gives items of that)
-        item = block.get("to", block.get("type", "byte"))
-        return {"from": it["from"], "from_port": it.get("from_port", 0), "to": it["to"], "to_port": it.get("to_port", 0), "type": item}
+        return {"from": it["from"], "from_port": it.get("from_port", 0), "to": it["to"], "to_port": it.get("to_port", 0), "type": self.type_of(it["from"])}

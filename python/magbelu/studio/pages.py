@@ -11,6 +11,7 @@ from aiohttp import WSMsgType, web
 
 from .._errors import Error
 from .kinds import kinds
+from .run import Run
 from .studio import Studio, Wrong
 from .views import BadView, View
 
@@ -97,7 +98,7 @@ class Page:
                 self._number, self._told, self._logged = run.number, None, 0
                 for it in self._views.values():
                     it.shown, it.missed = None, 0
-                await self._socket.send_str(json.dumps({"path": str(self._studio.path), "saved": self._studio.saved, "graph": run.graph.shown()}))
+                await self._socket.send_str(json.dumps(self._of_run(run)))
             made = run.log[self._logged :]
             if made:
                 self._logged += len(made)
@@ -107,6 +108,10 @@ class Page:
                 self._told = shown
                 await self._socket.send_str(json.dumps({"run": {**shown, "time": time.monotonic()}}))
             await asyncio.sleep(TELL)
+
+    def _of_run(self, run: Run) -> dict[str, Any]:
+        """What of a run stays as it is."""
+        return {"path": str(self._studio.path), "saved": self._studio.saved, "views": self._studio.views, "graph": run.graph.shown()}
 
     async def _send_frames(self) -> None:
         """Sends a frame of each view that has something new, and whose last frame the page has taken."""

@@ -13,11 +13,12 @@ from .._stream import PIECE, Stream
 from .graphs import GraphFile
 from .inputs import CutItem, Input
 from .outputs import Output
+from .profile import Profile
 from .trace import Trace, room_of
 
 #: The states of a run. The last three are ends.
 RUNNING, PAUSED, DONE, STALLED, FAILED = "running", "paused", "done", "stalled", "failed"
-# How long is waited for items or a command, and how often is looked what each block waits for, in seconds.
+# How long is waited for items or a command, and how often is looked what each block waits for, and measured how it works, in seconds.
 SHORT, LONG, LOOK = 0.005, 0.1, 0.25
 
 
@@ -50,12 +51,17 @@ class Run(threading.Thread):
         self._asked: queue.SimpleQueue[tuple[Callable[[], Any], concurrent.futures.Future[Any]]] = queue.SimpleQueue()
         # Whether the thread is to end, and whether it takes nothing more; and when it looked last.
         self._is_ended, self._is_over, self._looked = False, False, 0.0
+        # How long was waited for items since then, and when the blocks were measured last.
+        self._waited, self._measured = 0.0, 0.0
+        #: Which part of the time the run waits for its inputs.
+        self.waits = 0.0
         # Where a paused run goes on to, and from when on and from which items of the inputs its pace counts.
         self._goals: dict[str, int] = {}
         self._paced_from, self._paced_counts = 0.0, dict.fromkeys(ways.inputs, 0)
         sinks = graph.named("vector_sink")
         sizes = {it: self._stream._item_size(it) for it in sinks}
         self.traces = {it: Trace(size, room_of(len(sinks), size)) for it, size in sizes.items()}
+        self._profile = Profile(graph, self._stream, ways.inputs)
         self._open(ways)
 
     def _open(self, ways: Ways) -> None:
@@ -112,6 +118,23 @@ class Run(threading.Thread):
         self.log.append(made)
         return made.at
 
+    def fire(self, block: str, count: int) -> dict[str, Any]:
+        """Has a block of a paused run fire so often at most, a source over what comes next; and gives how often it did, and what that took and gave."""
+        if self.state != PAUSED:
+            raise ValueError("a block fires by itself only while the run is paused")
+        it = self.inputs.get(block)
+        if it is not None and self._stream.need(block).what == "feed":
+            self._goals = {block: it.count + count}
+            self._feed(it)
+            self._goals = {}
+        done = self._stream.step(block, count)
+        for sink in self.traces:
+            self._drain(sink)
+        self._look()
+        window = self._profile.windows[block]
+        parts = ((), ()) if window is None else window
+        return {"firings": done, "takes": [done * it for it in parts[0]], "gives": [done * it for it in parts[1]], "needs": self.needs[block]}
+
     def end(self) -> None:
         """Ends the thread, and with it the run where it is."""
         self._is_ended = True
@@ -143,6 +166,9 @@ class Run(threading.Thread):
 
     def _turn(self) -> None:
         """Runs the graph over what it has been fed, gives on what its sinks took, and feeds it the next piece."""
+        if time.monotonic() - self._measured > LOOK:
+            self._profile.measure()
+            self._measured = time.monotonic()
         is_done = self._stream.settle()
         for sink in self.traces:
             self._drain(sink)
@@ -192,11 +218,13 @@ class Run(threading.Thread):
 
     def _wait(self, lacking: list[Input]) -> None:
         """Waits a moment for the pace, or for what comes through a pipe."""
+        began = time.monotonic()
         pipes = [it for it in lacking if not it.is_file and self._allowed(it) > 0]
         if pipes:
             pipes[0].wait(SHORT)
         else:
             time.sleep(SHORT)
+        self._waited += time.monotonic() - began
 
     def _look_at_times(self) -> None:
         if time.monotonic() - self._looked > LOOK:
@@ -204,7 +232,8 @@ class Run(threading.Thread):
 
     def _look(self) -> None:
         """Looks what each block waits for, and has what was written go out."""
-        self._looked = time.monotonic()
+        now = time.monotonic()
+        self.waits, self._waited, self._looked = min(self._waited / max(now - self._looked, LOOK), 1.0), 0.0, now
         self.needs = {it["name"]: list(self._stream.need(it["name"])) for it in self.graph.blocks}
         for output in self.outputs.values():
             output.flush()
@@ -238,6 +267,9 @@ class Run(threading.Thread):
             "fed": {name: it.count for name, it in self.inputs.items()},
             "held": {name: it.end for name, it in self.traces.items()},
             "needs": self.needs,
+            "works": self._profile.shown,
+            "limits": self._profile.limits,
+            "waits": round(self.waits, 2),
             "outputs": {name: it.path for name, it in self.outputs.items()},
             "settings": len(self.log),
         }

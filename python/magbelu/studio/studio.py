@@ -7,7 +7,7 @@ import os
 import pathlib
 import re
 import tempfile
-from typing import Any, Callable, Optional, Union
+from typing import Any, Callable, Optional, Sequence, Union
 
 from .._errors import Refused
 from .._runs import read_file
@@ -19,6 +19,8 @@ from .run import FAILED, PAUSED, Run, Ways
 
 #: The greatest number that a page names an item or a rate with: all below are whole numbers in JavaScript.
 MOST = 2**53
+# How often a block fires at most where a page has it fire.
+MOST_FIRINGS = 1 << 20
 
 
 class Wrong(ValueError):
@@ -59,11 +61,13 @@ def looked(text: str) -> dict[str, Any]:
 class Studio:
     """A graph file and its run."""
 
-    def __init__(self, path: Union[str, os.PathLike[str]], ways: Ways, rate: Optional[int] = None) -> None:
+    def __init__(self, path: Union[str, os.PathLike[str]], ways: Ways, rate: Optional[int] = None, watched: Sequence[tuple[str, str]] = ()) -> None:
         self.path, self.ways = pathlib.Path(path), ways
         self._saved = read_file(path)
-        self.run = self._new(self._saved.decode(), 1, rate)
+        text, self.views = self._watched(watched)
+        self.run = self._new(text, 1, rate)
         self._does = {
+            "watch": self._watch, "fire": self._fire,
             "run": self._go_on, "pause": self._pause, "rate": self._set_rate, "again": self._again, "set": self._set,
             "look": self._look, "add": self._add, "connect": self._connect, "apply": self._apply, "save": self._save, "companion": self._companion,
         }
@@ -72,6 +76,15 @@ class Studio:
     def saved(self) -> str:
         """The text of the file, as it was read or written last."""
         return self._saved.decode()
+
+    def _watched(self, watched: Sequence[tuple[str, str]]) -> tuple[str, list[tuple[str, str]]]:
+        """The text of the file with a sink behind each block that is to be watched, and of these sinks how each is shown."""
+        text, views = self.saved, []
+        for name, view in watched:
+            block, _, port = name.partition(":")
+            text, sink = edit.watched(GraphFile.of(text), block, int(port or 0))
+            views.append((sink, view))
+        return text, views
 
     def _new(self, text: str, number: int, rate: Optional[int]) -> Run:
         run = Run(GraphFile.of(text), str(self.path), self.ways, number)
@@ -107,6 +120,11 @@ class Studio:
         if not all(type(it) is int for it in (value if isinstance(value, list) else [value])):
             raise Wrong("a block is set to a whole number or to a list of them")
         return int(await self._in_run(lambda: self.run.set(block, value, at)))
+
+    async def _fire(self, asked: dict[str, Any]) -> dict[str, Any]:
+        """Has a block of a paused run fire, and tells how often it did, and what that took and gave."""
+        block, count = text_in(asked, "block"), whole(asked, "count", 1) or 1
+        return dict(await self._in_run(lambda: self.run.fire(block, min(count, MOST_FIRINGS))))
 
     async def _again(self, asked: dict[str, Any]) -> None:
         """Begins anew, which a pipe cannot."""
@@ -151,6 +169,13 @@ class Studio:
             raise Wrong("the text has a fault that has to be mended first: %s" % refused)
         names = [it["name"] for it in graph.blocks]
         return edit.with_table(text, "block", edit.table_of(edit.free_name(kind.name, names), kind, text_in(asked, "type")))
+
+    async def _watch(self, asked: dict[str, Any]) -> str:
+        """The text with a sink behind an output of a block."""
+        graph, refused = GraphFile.draft(text_in(asked, "text"))
+        if graph is None:
+            raise Wrong("the text has a fault that has to be mended first: %s" % refused)
+        return edit.watched(graph, text_in(asked, "block"), whole(asked, "port") or 0)[0]
 
     async def _connect(self, asked: dict[str, Any]) -> str:
         """The text with a connection more."""

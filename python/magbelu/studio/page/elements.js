@@ -20,6 +20,12 @@ export const drawn = (name, attributes = {}, ...children) => filled(document.cre
 /** A whole number as people read it. */
 export const grouped = (number) => String(number).replace(/\B(?=(\d{3})+(?!\d))/g, ",");
 
+/** A count a second in few letters. */
+export function brief(number) {
+    const [unit, sign] = [[1e9, " G"], [1e6, " M"], [1e3, " k"]].find(([least]) => number >= 10 * least) ?? [1, ""];
+    return `${(number / unit).toFixed(number / unit < 100 && number % unit ? 1 : 0)}${sign}/s`;
+}
+
 /** The whole number in a field, or null where it is empty. */
 export function wholeIn(field) {
     const text = field.value.replaceAll(",", "").trim();

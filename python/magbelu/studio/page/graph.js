@@ -1,9 +1,10 @@
 // The graph, drawn in the page.
 
-import { drawn, element, grouped } from "./elements.js";
+import { brief, drawn, element, grouped } from "./elements.js";
 import { layout, portAt } from "./layout.js";
+import { limitOf, rateOf, shareOf } from "./works.js";
 
-const LEAST_HEIGHT = 120, SCROLLBAR = 24, MOST_PART = 0.42;
+const LEAST_HEIGHT = 120, FILL = 14, SCROLLBAR = 24, MOST_PART = 0.42;
 const LEAST_ZOOM = 0.02, READABLE = 0.7, MOST_ZOOM = 3, LINE = 15;
 const NOTED = ["value", "factor", "on", "n", "decimation", "interpolation", "to"];
 
@@ -29,6 +30,7 @@ export class GraphView {
         this.graph = graph;
         this.size = { width, height };
         this.blocks.clear();
+        this.fills = [];
         this.svg = drawn("svg", { role: "group", viewBox: `0 0 ${width} ${height}` });
         graph.connects.forEach((it, number) => this.svg.append(this.line(it, ways[number])));
         for (const box of boxes.values()) this.svg.append(this.box(box));
@@ -47,8 +49,10 @@ export class GraphView {
             const from = points[place], bend = Math.max(24, (to.x - from.x) / 2);
             return `C${from.x + bend},${from.y} ${to.x - bend},${to.y} ${to.x},${to.y}`;
         });
-        const title = drawn("title", {}, `${connect.from} ${connect.from_port} to ${connect.to} ${connect.to_port}: ${connect.type}`);
-        return drawn("path", { d: `M${points[0].x},${points[0].y} ${curves.join(" ")}`, class: `line ${connect.type}` }, title);
+        const says = `${connect.from} ${connect.from_port} to ${connect.to} ${connect.to_port}: ${connect.type}`;
+        const title = drawn("title", {}, says), fill = drawn("path", { class: "fill" });
+        this.fills.push({ says, title, fill, end: points.at(-1) });
+        return drawn("g", {}, drawn("path", { d: `M${points[0].x},${points[0].y} ${curves.join(" ")}`, class: `line ${connect.type}` }, title), fill);
     }
 
     box(box) {
@@ -66,10 +70,12 @@ export class GraphView {
             }
         }
         const note = drawn("text", { x: x + width / 2, y: y + height + 13, class: "note" });
-        group.append(note);
+        const share = drawn("path", { class: "share" });
+        const title = drawn("title");
+        group.append(note, share, title);
         group.addEventListener("click", () => this.choose(block.name));
         group.addEventListener("keydown", (event) => event.key === "Enter" && this.choose(block.name));
-        this.blocks.set(block.name, { group, note });
+        this.blocks.set(block.name, { group, note, share, title, box });
         return group;
     }
 
@@ -110,17 +116,28 @@ export class GraphView {
         this.chosen(name);
     }
 
-    /** Shows what each block waits for, and how many items come a second where the run tells. */
+    /** Shows how each block works, for whom it waits, which one limits the run, and how full the buffers get. */
     show(run, rates) {
-        for (const [name, { group, note }] of this.blocks) {
+        const limit = limitOf(run);
+        for (const [name, { group, note, share, title, box }] of this.blocks) {
             const [what, port] = run.needs[name] ?? [];
-            const rate = rates[name];
+            const rate = rateOf(name, run, rates), part = shareOf(name, run);
             group.dataset.need = what ?? "";
-            note.textContent = [rate ? `${grouped(Math.round(rate))}/s` : "", this.wait(name, what, port)].filter(Boolean).join(", ");
+            group.classList.toggle("limits", limit.names.includes(name));
+            const wait = this.wait(name, what, port), isMoving = run.state === "running" && rate > 0;
+            title.textContent = wait;
+            note.textContent = [limit.names.includes(name) ? limit.says : "", rate > 0 ? brief(rate) : "", part >= 0.005 ? `${Math.round(100 * part)} %` : "",
+                isMoving ? "" : wait].filter(Boolean).join(", ");
+            share.setAttribute("d", `M${box.x + 2},${box.y + box.height - 3} h${(part ?? 0) * (box.width - 4)}`);
         }
+        this.fills.forEach(({ says, title, fill, end }, number) => {
+            const [held, room] = run.works.fills[number] ?? [0, 0];
+            title.textContent = room ? `${says}, up to ${grouped(held)} of ${grouped(room)} items in its buffer` : says;
+            fill.setAttribute("d", `M${end.x - 8},${end.y + FILL / 2} v${-FILL * (room ? held / room : 0)}`);
+        });
     }
 
-    /** For whom a block waits. */
+    /** For whom a block waits. (Where items come, that is another one all the time: it stands at the pointer alone.) */
     wait(name, what, port) {
         if (what === "feed") return "waits for input";
         if (what === "items") return `waits for ${this.graph.connects.find((it) => it.to === name && it.to_port === port)?.from}`;

@@ -6,10 +6,11 @@ import { GraphView, blockTable } from "./graph.js";
 import { Link } from "./link.js";
 import { Plot } from "./plot.js";
 import { Settings } from "./settings.js";
+import { firingsSaid, worksTable } from "./works.js";
 
 const by = (id) => document.getElementById(id);
 const plots = new Map();
-const page = { graph: null, run: null, before: null, plots: 0 };
+const page = { graph: null, run: null, before: null, plots: 0, views: [] };
 const settings = new Settings(by("settings"), by("log"), ask);
 const graphView = new GraphView(by("graph"), chooseBlock, (connect) => file.connect(connect));
 const file = new FilePane(ask, drawGraph);
@@ -17,6 +18,7 @@ const file = new FilePane(ask, drawGraph);
 const link = new Link({
     open: askAgain,
     closed: () => tell("no server", "the server does not answer: it has ended, or is not reached"),
+    views: (views) => (page.views = views),
     graph: takeGraph,
     path: (path) => {
         by("path").textContent = path.split("/").pop();
@@ -61,28 +63,38 @@ async function ask(what) {
 
 function takeGraph(graph) {
     page.graph = graph;
-    page.before = null;
+    page.before = page.run = null;
     fault("");
     drawGraph(graph);
     graphView.settle();
     file.take(graph.text);
-    const sinks = graph.blocks.filter((it) => it.kind === "vector_sink").map((it) => it.name);
+    const all = graph.blocks.filter((it) => it.kind === "vector_sink").map((it) => it.name);
+    // (those that the command names come first)
+    const sinks = [...new Set([...page.views.map(([name]) => name).filter((it) => all.includes(it)), ...all])];
     for (const [name, it] of plots) if (!sinks.includes(it.sink)) (it.close(), plots.delete(name));
-    for (const sink of sinks) if (![...plots.values()].some((it) => it.sink === sink)) addPlot(sink);
+    for (const sink of sinks) if (![...plots.values()].some((it) => it.sink === sink)) addPlots(sink);
     settings.draw(graph);
 }
 
+/** Adds the plots with which a sink is shown at first. */
+function addPlots(sink) {
+    const [first, ...others] = page.views.filter(([name]) => name === sink).map(([, kind]) => kind);
+    let last = addPlot(sink, null, first);
+    for (const kind of others) last = addPlot(sink, last, kind);
+}
+
 /** Adds a plot of a sink, behind another one where that is said. */
-function addPlot(sink, behind = null) {
+function addPlot(sink, behind = null, kind = behind ? "spectrum" : "levels") {
     const all = page.graph.blocks.filter((it) => it.kind === "vector_sink");
     const type = all.find((it) => it.name === sink).parameters.type;
     const others = all.filter((it) => it.name !== sink && it.parameters.type === type).map((it) => it.name);
     const name = `v${++page.plots}`;
-    const plot = new Plot(link, name, { sink, type, others }, behind ? "spectrum" : "levels", morePlots);
+    const plot = new Plot(link, name, { sink, type, others }, kind, morePlots);
     plot.closes.hidden = !behind;
     plots.set(name, plot);
     if (behind) behind.figure.after(plot.figure);
     else by("plots").append(plot.figure);
+    return plot;
 }
 
 function morePlots(plot, isClosed = false) {
@@ -103,14 +115,24 @@ function ratesOf(run, before) {
 function takeRun(run) {
     tell(run.state);
     if (run.fault) fault(run.fault);
-    graphView.show(run, ratesOf(run, page.before));
+    page.rates = ratesOf(run, page.before);
     page.before = page.run = run;
+    showWorks();
     const isRunning = run.state === "running", isOver = !isRunning && run.state !== "paused";
     by("run").textContent = isRunning ? "Pause" : "Run";
     for (const id of ["run", "do-step", "do-to"]) by(id).disabled = isOver;
+    by("fire").disabled = run.state !== "paused";
     if (document.activeElement !== by("rate")) by("rate").value = run.rate ?? "";
     const fed = Object.values(run.fed);
     by("state").title = fed.length ? `${fed.map(grouped).join(", ")} items were fed` : "";
+}
+
+/** Shows how the blocks of the run work, where the graph that is drawn is the one that runs. */
+function showWorks() {
+    const { run, graph, chosen, rates = {} } = page;
+    const isRun = run && page.drawn?.text === graph?.text;
+    if (isRun) graphView.show(run, rates);
+    by("works").replaceChildren(...(isRun ? worksTable(chosen, graph, run, rates, graphView.wait(chosen, ...(run.needs[chosen] ?? []))) : []));
 }
 
 /** Draws a graph, the one that runs or the one that the file has now. */
@@ -123,7 +145,23 @@ function drawGraph(graph) {
 function chooseBlock(name) {
     const block = page.drawn.blocks.find((it) => it.name === name);
     page.chosen = name;
-    by("block").replaceChildren(...(block ? blockTable(block) : []));
+    showWorks();
+    by("parameters").replaceChildren(...(block ? blockTable(block) : []));
+    by("fired").textContent = "";
+    by("watch").disabled = !block || block.kind.endsWith("_sink");
+}
+
+/** Has the chosen block fire. */
+async function fire() {
+    const count = whole(by("firings"));
+    const did = count && (await ask({ do: "fire", block: page.chosen, count }));
+    if (did) by("fired").textContent = firingsSaid(did);
+}
+
+/** Shows what the chosen block gives, by a sink behind it. */
+async function watchBlock() {
+    await file.edit({ do: "watch", block: page.chosen });
+    await file.apply();
 }
 
 /** Shows the plots or the file. */
@@ -171,6 +209,8 @@ by("rate").addEventListener("change", () => {
     const rate = whole(by("rate"));
     if (rate !== undefined) ask({ do: "rate", rate });
 });
+by("fire").addEventListener("click", fire);
+by("watch").addEventListener("click", watchBlock);
 by("theme").addEventListener("click", turnTheme);
 by("smaller").addEventListener("click", () => graphView.zoomTo(graphView.zoom / 1.25));
 by("larger").addEventListener("click", () => graphView.zoomTo(graphView.zoom * 1.25));

@@ -1,0 +1,104 @@
+"""`receiver.py FOLDER` shows the receiver of examples/receiver in the page: within three seconds of the command there are a spectrum, a waterfall and bits, and a filter that is
+turned changes them. It says how long each took, and leaves a picture of before and one of after."""
+
+from __future__ import annotations
+
+import math
+import pathlib
+import sys
+import tempfile
+import time
+import urllib.request
+from typing import Any
+
+from browser import TOP, Server, browser, choose, click, comes_to, text_of, until
+
+EXAMPLE = TOP / "examples/receiver"
+#: How many pairs of I and Q are a second, and how many are a bit; and in Hz how far a 1 is above the carrier, and a 0 below it.
+RATE, SAMPLES, DEVIATION = 256_000, 32, 4_000
+LEVEL = 40
+#: How the command shows what the filter of I gives, and the bits before they are thinned.
+WATCHED = ("low_i=spectrum", "low_i=waterfall", "slice=bits")
+NONE = " ".join(["0"] * 40)
+
+
+def recording(repeats: int) -> bytes:
+    """The bytes that rtl_sdr writes of the lines of the example, without noise, again and again."""
+    sys.path.insert(0, str(EXAMPLE))
+    from frames import sent
+
+    phase, one = 0.0, bytearray()
+    for bit in sent((EXAMPLE / "text.txt").read_text().splitlines()):
+        for _ in range(SAMPLES):
+            phase += 2 * math.pi * (DEVIATION if bit else -DEVIATION) / RATE
+            one += bytes((round(128 + LEVEL * math.cos(phase)), round(128 + LEVEL * math.sin(phase))))
+    return bytes(one) * repeats
+
+
+def views_drawn(driver: Any) -> bool:
+    """Whether each plot of the sinks that are watched is drawn, over items."""
+    script = """
+        return [...document.querySelectorAll("figure")].slice(0, 3).map((figure) => {
+            const it = figure.querySelector("canvas");
+            if (it.hidden || !it.width || !figure.querySelector(".told").textContent.startsWith("items ")) return "";
+            const data = it.getContext("2d").getImageData(0, 0, it.width, it.height).data;
+            return new Set(new Uint32Array(data.buffer)).size > 3 ? figure.querySelector("select.kind").value : "";
+        })
+    """
+    return list(driver.execute_script(script)) == [it.partition("=")[2] for it in WATCHED]
+
+
+def items_of(server: Server, sink: str, code: str) -> list[int]:
+    """The last items of a sink, as the page saves them."""
+    data = urllib.request.urlopen(server.address + "items/" + sink).read()
+    return memoryview(data).cast(code).tolist()  # type: ignore[call-overload, no-any-return]
+
+
+def turn(driver: Any, taps: str) -> int:
+    """Sets the taps of both filters, and gives the item from which those of Q are in force."""
+    for name in ("low_i", "low_q"):
+        row = ".setting[data-block='%s'] " % name
+        field = driver.find_element("css selector", row + "textarea")
+        driver.execute_script("arguments[0].value = arguments[1]; arguments[0].dispatchEvent(new Event('input'))", field, taps)
+        click(driver, row + "button")
+        until("an answer", lambda: text_of(driver, row + "output").startswith("from item "))
+    return int(text_of(driver, row + "output").split()[2].replace(",", ""))
+
+
+def receives(driver: Any, folder: str) -> tuple[float, float]:
+    """Starts the command, and gives after how many seconds all was drawn, and how long it took from there until the filter had changed it."""
+    path = pathlib.Path(folder) / "recording.u8"
+    path.write_bytes(recording(20))
+    words = [it for watched in WATCHED for it in ("-w", watched)]
+    began = time.monotonic()
+    with Server("-i", "iq=%s" % path, "--rate", str(2 * RATE), *words, str(EXAMPLE / "receiver.toml")) as server:
+        driver.get(server.address)
+        until("spectrum, waterfall and bits", lambda: views_drawn(driver))
+        drawn = time.monotonic()
+        bits = items_of(server, "slice_1", "B")
+        assert {0, 1} == set(bits[len(bits) // 2 :]), "there are no bits"
+        time.sleep(2)
+        driver.save_screenshot(str(pathlib.Path(folder) / "receiver_before.png"))
+        turned = time.monotonic()
+        item = turn(driver, NONE)
+        # (the filter keeps a fourth of its items, and has 40 taps; the sums behind it are as long as 1,024 of these)
+        until("its output is 0", lambda: not any(items_of(server, "low_i_1", "h")[-1000:]))
+        assert any(items_of(server, "low_i_1", "h")[: item // 4 - 100]), "it was 0 before"
+        until("the bits are all one", lambda: len(set(items_of(server, "slice_1", "B")[-1000:])) == 1)
+        changed = time.monotonic()
+        time.sleep(2)
+        driver.save_screenshot(str(pathlib.Path(folder) / "receiver_after.png"))
+    return drawn - began, changed - turned
+
+
+def receiver() -> None:
+    """Spectrum, waterfall and bits of the receiver as the command says, which a filter changes that is turned in the page."""
+    with tempfile.TemporaryDirectory() as folder, browser(1280, 1000) as driver:
+        print("drawn after %.1f seconds, changed after %.1f more" % receives(driver, folder))
+
+
+CASES = [receiver]
+
+if __name__ == "__main__":
+    with browser(1600, 1200) as window:
+        print("drawn after %.1f seconds, changed after %.1f more" % receives(window, sys.argv[1]))

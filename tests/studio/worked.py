@@ -1,0 +1,148 @@
+"""How the blocks of a run work: what they take and give, their share, what limits the run, and firings of one of them."""
+
+from __future__ import annotations
+
+import array
+import asyncio
+import pathlib
+from typing import Any, Optional
+
+from browser import PATIENCE, Server, browser, choose, click, comes_to, fill, numbers_of, text_of, until
+from runs import SAW, THROUGH, folder_with
+from socket_page import SocketPage, socket_page
+
+#: A filter with much to do between blocks with little, which keeps a tenth of the items.
+HEAVY = """\
+block = [
+    { name = "src", kind = "vector_source", type = "short" },
+    { name = "add", kind = "add_const", type = "short", value = 1 },
+    { name = "low", kind = "fir", type = "short", decimation = 10, shift = 3, taps = [%s] },
+    { name = "out", kind = "vector_sink", type = "short" },
+]
+connect = [{ from = "src", to = "add" }, { from = "add", to = "low" }, { from = "low", to = "out" }]
+""" % ", ".join(["1"] * 200)
+
+
+def windows() -> None:
+    """What a firing takes and gives, by the equations of the kinds."""
+    from magbelu.studio.windows import Window, window_of
+    from magbelu._listing import Block
+
+    cases: list[tuple[dict[str, Any], int, int, Optional[Window]]] = [
+        ({"kind": "add_const", "type": "short", "value": 1}, 1, 1, Window((1,), (1,))),
+        ({"kind": "fir", "type": "short", "taps": [1, 2, 3], "decimation": 10}, 1, 1, Window((10,), (1,))),
+        ({"kind": "interp_fir", "type": "short", "taps": [1, 2, 3], "interpolation": 4}, 1, 1, Window((1,), (4,))),
+        ({"kind": "keep_m_in_n", "type": "short", "m": 2, "n": 7}, 1, 1, Window((7,), (2,))),
+        ({"kind": "repeat", "type": "short", "n": 5}, 1, 1, Window((1,), (5,))),
+        ({"kind": "interleave", "type": "short", "ports": 3}, 3, 1, Window((1, 1, 1), (3,))),
+        ({"kind": "deinterleave", "type": "short", "ports": 3}, 1, 3, Window((3,), (1, 1, 1))),
+        ({"kind": "stream_mux", "type": "short", "lengths": [2, 5]}, 2, 1, Window((2, 5), (7,))),
+        # (it gives nothing, and is done)
+        ({"kind": "head", "type": "short", "n": 0}, 1, 1, None),
+    ]
+    for table, inputs, outputs, wanted in cases:
+        found = window_of({"name": "b", **table}, Block("b", table["kind"], "work", inputs, "short", outputs, "short"))
+        assert found == wanted, (table, found)
+
+
+async def worked(server: Server) -> None:
+    async with socket_page(server.address) as page:
+        run = await page.comes_to("done")
+        works = run["works"]["blocks"]
+        assert abs(sum(it["share"] for it in works.values()) - 1) < 1e-9, works
+        # (of each item that is fed: a tenth of them in the filter's output, but for what lay in its buffers)
+        for name, takes, gives in (("src", [], [1]), ("add", [1], [1]), ("low", [1], [0.1]), ("out", [0.1], [])):
+            got = works[name]["takes"] + works[name]["gives"]
+            assert len(got) == len(takes + gives) and all(abs(it - by) < 0.01 for it, by in zip(got, takes + gives)), (name, works[name])
+        fills = run["works"]["fills"]
+        assert [room for _, room in fills] == [4096] * 3 and all(0 < held <= 4096 for held, _ in fills), fills
+        # (200 products for each item that the filter gives, and one sum for each that it takes)
+        assert run["limits"] == "low" and works["low"]["share"] > 0.5, (run["limits"], works)
+
+
+def works() -> None:
+    """Shares, items and buffers of a run, and which block limits it; the items are those that the equation gives, however the run is looked at."""
+    folder, graph, items, out = folder_with(HEAVY, SAW.tobytes() * 20)
+    with folder, Server("-i", "src=" + items, "-o", "out=" + out, graph) as server:
+        asyncio.run(asyncio.wait_for(worked(server), PATIENCE))
+        got = memoryview(pathlib.Path(out).read_bytes()).cast("h").tolist()
+    assert len(got) == 20 * len(SAW) // 10
+    for at in (100, 3333, len(got) - 1):
+        # (an eighth of a sum of 200 steps of the saw, of which each is one more; a half is rounded up)
+        total = sum((10 * at - it) % 1000 + 1 for it in range(200))
+        assert got[at] == (total + 4) >> 3, (at, got[at], total)
+
+
+async def firing(server: Server) -> None:
+    async with socket_page(server.address) as page:
+
+        async def fires(block: str, count: int) -> dict[str, Any]:
+            return dict((await page.ask(do="fire", block=block, count=count))["answer"])
+
+        assert await fires("add", 1) == {"firings": 0, "takes": [0], "gives": [0], "needs": ["items", 0]}
+        assert await fires("src", 5) == {"firings": 5, "takes": [], "gives": [5], "needs": ["feed", None]}
+        assert await fires("add", 2) == {"firings": 2, "takes": [2], "gives": [2], "needs": ["ready", None]}
+        assert await fires("out", 9) == {"firings": 2, "takes": [2], "gives": [], "needs": ["items", 0]}
+        await held(page, 2)
+        assert page.parts["run"]["fed"] == {"src": 5} and page.parts["run"]["state"] == "paused", page.parts["run"]
+        assert (await page.ask(do="fire", block="none"))["refused"].startswith("20 NoSuchBlock none")
+        for count in (0, -1, "1", True):
+            assert "refused" in await page.ask(do="fire", block="add", count=count), count
+        await page.ask(do="run")
+        await page.comes_to("done")
+        assert (await page.ask(do="fire", block="add"))["refused"] == "a block fires by itself only while the run is paused"
+
+
+async def held(page: SocketPage, count: int) -> None:
+    while page.parts.get("run", {"held": {"out": -1}})["held"]["out"] < count:
+        await page.take()
+
+
+def fires() -> None:
+    """A block of a paused run fires by itself, and the run goes on to the same items."""
+    folder, graph, items, out = folder_with()
+    with folder, Server("--paused", "-i", "src=" + items, "-o", "out=" + out, graph) as server:
+        asyncio.run(asyncio.wait_for(firing(server), PATIENCE))
+        assert pathlib.Path(out).read_bytes() == SAW.tobytes()
+
+
+def firings_shown() -> None:
+    """The page has the chosen block fire, and says what that took and gave."""
+    folder, graph, items, _ = folder_with(THROUGH, array.array("h", [7, 8, 9]).tobytes())
+    with folder, Server("--paused", "-i", "src=" + items, graph) as server, browser() as driver:
+        driver.get(server.address)
+        comes_to(driver, "paused")
+        choose(driver, "figure[data-sink='out'] select.kind", "numbers")
+        for block, count, says in (
+            ("src", 2, "fired 2 times; gave 2 of output 0"), ("add", 1, "fired 1 time; took 1 of input 0; gave 1 of output 0"),
+            ("out", 5, "fired 1 time; took 1 of input 0; it waits for items at input 0"),
+        ):
+            click(driver, "#graph [data-block='%s']" % block)
+            fill(driver, "#firings", str(count))
+            click(driver, "#fire")
+            until(says, lambda: text_of(driver, "#fired") == says)
+        until("an item", lambda: numbers_of(driver, "out") == [7])
+        click(driver, "#run")
+        comes_to(driver, "done")
+        until("all items", lambda: numbers_of(driver, "out") == [7, 8, 9])
+
+
+def works_shown() -> None:
+    """A block shows its items a second and its share as it runs; the one that limits the run is marked, and the input is where the run waits for it."""
+    folder, graph, _, _ = folder_with(HEAVY)
+    note = "#graph [data-block='%s'] .note"
+    with folder, Server("-i", "src=/dev/zero", graph) as server, browser() as driver:
+        driver.get(server.address)
+        comes_to(driver, "running")
+        until("the filter limits the run", lambda: text_of(driver, note % "low").startswith("limits the run, "))
+        assert driver.execute_script("return [...document.querySelectorAll('#graph .limits')].map((it) => it.dataset.block)") == ["low"]
+        until("items a second, and a share", lambda: "/s, " in text_of(driver, note % "low") and text_of(driver, note % "low").endswith(" %"))
+        click(driver, "#graph [data-block='low']")
+        until("what it takes and gives", lambda: all(it in text_of(driver, "#works") for it in ("takes", "gives", "share of the work", "of 4,096 items")))
+        fill(driver, "#rate", "10000")
+        until("the pace limits the run", lambda: text_of(driver, note % "src").startswith("the pace limits the run, "))
+        until("ten thousand a second", lambda: " 10.0 k/s" in text_of(driver, note % "src") or " 10 k/s" in text_of(driver, note % "src") or "99" in text_of(driver, note % "src"))
+        assert driver.execute_script("return [...document.querySelectorAll('#graph .limits')].map((it) => it.dataset.block)") == ["src"]
+
+
+CASES = [windows, works, fires, firings_shown, works_shown]
