@@ -86,7 +86,17 @@ def text_of(driver: Any, selector: str) -> str:
 
 
 def click(driver: Any, selector: str) -> None:
-    driver.find_element("css selector", selector).click()
+    """Clicks on an element. (It may be made anew meanwhile.)"""
+    from selenium.common.exceptions import StaleElementReferenceException
+
+    def is_clicked() -> bool:
+        try:
+            driver.find_element("css selector", selector).click()
+        except StaleElementReferenceException:
+            return False
+        return True
+
+    until("a click on %s" % selector, is_clicked)
 
 
 def fill(driver: Any, selector: str, text: str) -> None:

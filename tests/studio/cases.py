@@ -5,6 +5,7 @@ from __future__ import annotations
 import sys
 
 import edited
+import given
 import guard
 import receiver
 import runs
@@ -12,7 +13,7 @@ import shown
 import turned
 import worked
 
-CASES = {it.__name__: it for it in [*guard.CASES, *runs.CASES, *shown.CASES, *turned.CASES, *edited.CASES, *worked.CASES, *receiver.CASES]}
+CASES = {it.__name__: it for it in [*guard.CASES, *runs.CASES, *shown.CASES, *turned.CASES, *edited.CASES, *worked.CASES, *receiver.CASES, *given.CASES]}
 
 if __name__ == "__main__":
     CASES[sys.argv[1]]()

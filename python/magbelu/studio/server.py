@@ -11,6 +11,7 @@ from typing import Any, Awaitable, Callable
 
 from aiohttp import WSCloseCode, web
 
+from .._errors import Error
 from .pages import Page
 from .script import lines_of
 from .studio import Studio
@@ -59,6 +60,8 @@ class Server:
         app.router.add_get("/{token}/", self._file)
         app.router.add_get("/{token}/link", self._link)
         app.router.add_get("/{token}/script", self._script)
+        app.router.add_get("/{token}/items/{sink}", self._items)
+        app.router.add_post("/{token}/input/{source}", self._input)
         app.router.add_get("/{token}/{file}", self._file)
         app.on_shutdown.append(self._part)
         return app
@@ -111,6 +114,25 @@ class Server:
             await response.write(line.encode())
         await response.write_eof()
         return response
+
+    async def _items(self, request: web.Request) -> web.StreamResponse:
+        """The raw items of a sink that are kept, as a file to save."""
+        trace = self._studio.run.traces.get(request.match_info["sink"])
+        items = None if trace is None else trace.items(trace.start, trace.end)
+        if items is None:
+            return web.Response(status=404, text="these items are not there\n", headers=self._headers)
+        headers = {**self._headers, "Content-Disposition": "attachment"}
+        return web.Response(body=items.tobytes(), content_type="application/octet-stream", headers=headers)
+
+    async def _input(self, request: web.Request) -> web.StreamResponse:
+        """Takes raw items for a source."""
+        if request.headers.get("Origin") not in self._origins:
+            return web.Response(status=403, text="the request is from another origin\n", headers=self._headers)
+        try:
+            await self._studio.take_input(request.match_info["source"], request.content.iter_chunked(1 << 16))
+        except (Error, OSError, ValueError) as error:
+            return web.Response(status=409, text="%s\n" % error, headers=self._headers)
+        return web.Response(status=204, headers=self._headers)
 
     async def _part(self, app: web.Application) -> None:
         for it in list(self._sockets):

@@ -7,7 +7,7 @@ import os
 import pathlib
 import re
 import tempfile
-from typing import Any, Callable, Optional, Sequence, Union
+from typing import Any, AsyncIterable, Callable, Optional, Sequence, Union
 
 from .._errors import Refused
 from .._runs import read_file
@@ -64,6 +64,8 @@ class Studio:
     def __init__(self, path: Union[str, os.PathLike[str]], ways: Ways, rate: Optional[int] = None, watched: Sequence[tuple[str, str]] = ()) -> None:
         self.path, self.ways = pathlib.Path(path), ways
         self._saved = read_file(path)
+        # Where inputs are kept that were dropped on a page.
+        self._dropped = tempfile.TemporaryDirectory(prefix="magbelu-studio-")
         text, self.views = self._watched(watched)
         self.run = self._new(text, 1, rate)
         self._does = {
@@ -126,6 +128,22 @@ class Studio:
         block, count = text_in(asked, "block"), whole(asked, "count", 1) or 1
         return dict(await self._in_run(lambda: self.run.fire(block, min(count, MOST_FIRINGS))))
 
+    async def take_input(self, source: str, pieces: AsyncIterable[bytes]) -> None:
+        """Begins a run in which a source is fed what a page gives."""
+        with Stream(self.run.graph.text) as stream:
+            stream.close(source)
+        file = tempfile.NamedTemporaryFile(dir=self._dropped.name, delete=False)
+        with file:
+            async for it in pieces:
+                file.write(it)
+        before, self.ways = self.ways, self.ways._replace(inputs={**self.ways.inputs, source: file.name})
+        try:
+            await self._replace(self.run.graph.text)
+        except BaseException:
+            self.ways = before
+            os.unlink(file.name)
+            raise
+
     async def _again(self, asked: dict[str, Any]) -> None:
         """Begins anew, which a pipe cannot."""
         await self._replace(self.run.graph.text)
@@ -170,12 +188,13 @@ class Studio:
         names = [it["name"] for it in graph.blocks]
         return edit.with_table(text, "block", edit.table_of(edit.free_name(kind.name, names), kind, text_in(asked, "type")))
 
-    async def _watch(self, asked: dict[str, Any]) -> str:
-        """The text with a sink behind an output of a block."""
+    async def _watch(self, asked: dict[str, Any]) -> dict[str, str]:
+        """The text with a sink behind an output of a block, and the name of that sink."""
         graph, refused = GraphFile.draft(text_in(asked, "text"))
         if graph is None:
             raise Wrong("the text has a fault that has to be mended first: %s" % refused)
-        return edit.watched(graph, text_in(asked, "block"), whole(asked, "port") or 0)[0]
+        text, sink = edit.watched(graph, text_in(asked, "block"), whole(asked, "port") or 0)
+        return {"text": text, "sink": sink}
 
     async def _connect(self, asked: dict[str, Any]) -> str:
         """The text with a connection more."""
@@ -207,3 +226,4 @@ class Studio:
         """Ends the run where it is; what its sinks have taken is written."""
         self.run.end()
         self.run.join(5)
+        self._dropped.cleanup()

@@ -7,9 +7,10 @@ const PAUSE = 150;
 const by = (id) => document.getElementById(id);
 
 export class FilePane {
-    /** `ask` asks the server, shows why where it refuses, and gives the answer. `drawn` is called with the graph of the text, whenever it is another. */
-    constructor(ask, drawn) {
-        Object.assign(this, { ask, drawn, running: "", saved: "", graph: null });
+    /** `ask` asks the server, shows why where it refuses, and gives the answer. `drawn` is called with the graph of the text, whenever it is another, `fed` with
+     * a source and a file for it, and `said` with what there is to say. */
+    constructor(ask, drawn, fed, said) {
+        Object.assign(this, { ask, drawn, fed, said, running: "", saved: "", graph: null });
         this.editor = new Editor(by("editor"), () => this.wait());
         by("undo").addEventListener("click", () => this.editor.undo(-1));
         by("redo").addEventListener("click", () => this.editor.undo(1));
@@ -86,6 +87,18 @@ export class FilePane {
         if (text !== undefined) this.editor.replace(text);
     }
 
+    /** Begins a run with a sink behind a block. */
+    async watch(block) {
+        const found = await this.ask({ do: "watch", block, text: this.editor.text });
+        if (!found) return;
+        if (found.text === this.editor.text) {
+            this.said(`${found.sink} shows it`);
+            return;
+        }
+        this.editor.replace(found.text);
+        await this.apply();
+    }
+
     add() {
         return this.edit({ do: "add", kind: by("kind").value, type: by("type").value });
     }
@@ -114,11 +127,16 @@ export class FilePane {
         this.tell();
     }
 
-    /** Takes a graph file, or a drawing of Companion, that is dropped on the page. */
+    /** Takes a graph file, or a drawing of Companion, that is dropped on the page, or raw items for the source on which they are dropped. */
     async drop(event) {
         event.preventDefault();
         const file = event.dataTransfer?.files[0];
         if (!file) return;
+        const source = event.target.closest?.("[data-block]")?.dataset.block;
+        if (source && !/\.(grc|toml)$/.test(file.name)) {
+            this.fed(source, file);
+            return;
+        }
         const text = await file.text();
         if (!file.name.endsWith(".grc")) {
             this.editor.replace(text);

@@ -13,7 +13,7 @@ const plots = new Map();
 const page = { graph: null, run: null, before: null, plots: 0, views: [] };
 const settings = new Settings(by("settings"), by("log"), ask);
 const graphView = new GraphView(by("graph"), chooseBlock, (connect) => file.connect(connect));
-const file = new FilePane(ask, drawGraph);
+const file = new FilePane(ask, drawGraph, feedFile, fault);
 
 const link = new Link({
     open: askAgain,
@@ -151,17 +151,21 @@ function chooseBlock(name) {
     by("watch").disabled = !block || block.kind.endsWith("_sink");
 }
 
+/** Begins a run in which a source gets the raw items of a file. */
+async function feedFile(source, items) {
+    try {
+        const response = await fetch(`input/${encodeURIComponent(source)}`, { method: "POST", body: items });
+        fault(response.ok ? "" : (await response.text()).trim());
+    } catch (error) {
+        fault(error.message);
+    }
+}
+
 /** Has the chosen block fire. */
 async function fire() {
     const count = whole(by("firings"));
     const did = count && (await ask({ do: "fire", block: page.chosen, count }));
     if (did) by("fired").textContent = firingsSaid(did);
-}
-
-/** Shows what the chosen block gives, by a sink behind it. */
-async function watchBlock() {
-    await file.edit({ do: "watch", block: page.chosen });
-    await file.apply();
 }
 
 /** Shows the plots or the file. */
@@ -210,7 +214,7 @@ by("rate").addEventListener("change", () => {
     if (rate !== undefined) ask({ do: "rate", rate });
 });
 by("fire").addEventListener("click", fire);
-by("watch").addEventListener("click", watchBlock);
+by("watch").addEventListener("click", () => file.watch(page.chosen));
 by("theme").addEventListener("click", turnTheme);
 by("smaller").addEventListener("click", () => graphView.zoomTo(graphView.zoom / 1.25));
 by("larger").addEventListener("click", () => graphView.zoomTo(graphView.zoom * 1.25));

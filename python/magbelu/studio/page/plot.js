@@ -38,7 +38,8 @@ export class Plot {
         this.second = element("select", { class: "other", title: "the sink for Q", hidden: true, onchange: () => ((this.other = this.second.value), this.ask()) },
             ...this.others.map((it) => option(it, `Q: ${it}`)));
         return element("div", { class: "bar" }, element("h2", {}, this.sink), this.select, this.second, button("\u2212", "more items (-)", () => this.zoom(2)),
-            button("+", "fewer items (+)", () => this.zoom(0.5)), this.holds, this.keys, button("Another", "another plot of this sink", () => this.more?.(this)),
+            button("+", "fewer items (+)", () => this.zoom(0.5)), this.holds, this.keys,
+            element("a", { href: `items/${encodeURIComponent(this.sink)}`, download: `${this.sink}.raw`, title: "the last items that are kept, as raw items" }, "Save"), button("Another", "another plot of this sink", () => this.more?.(this)),
             (this.closes = button("Close", "close this plot", () => this.more?.(this, true))));
     }
 
