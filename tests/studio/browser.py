@@ -34,6 +34,11 @@ class Server:
         lines = pathlib.Path("/proc/%d/status" % self.process.pid).read_text().splitlines()
         return int(next(it for it in lines if it.startswith("VmRSS:")).split()[1])
 
+    def seconds(self) -> float:
+        """How long processors have worked for it."""
+        words = pathlib.Path("/proc/%d/stat" % self.process.pid).read_text().rpartition(")")[2].split()
+        return (int(words[11]) + int(words[12])) / os.sysconf("SC_CLK_TCK")
+
     def end(self) -> int:
         self.process.terminate()
         return self.process.wait(PATIENCE)

@@ -212,8 +212,8 @@ def keys_and_contrast() -> None:
         for _ in ("one theme", "the other"):
             body.send_keys("d")
             style = "return getComputedStyle(document.documentElement).getPropertyValue('--' + arguments[0]).trim()"
-            colour = {it: driver.execute_script(style, it) for it in ("text", "faint", "accent", "tag", "bad", "good", "paper", "ground", "box", "bad-ground", "on-accent")}
-            pairs = [(text, under) for text in ("text", "faint", "tag", "bad", "good", "accent") for under in ("paper", "ground", "box")]
+            colour = {it: driver.execute_script(style, it) for it in ("text", "faint", "accent", "tag", "bad", "good", "second", "paper", "ground", "box", "bad-ground", "on-accent")}
+            pairs = [(text, under) for text in ("text", "faint", "tag", "bad", "good", "second", "accent") for under in ("paper", "ground", "box")]
             for text, under in [*pairs, ("bad", "bad-ground"), ("on-accent", "accent")]:
                 low, high = sorted((light(colour[text]), light(colour[under])))
                 assert (high + 0.05) / (low + 0.05) >= 4.5, (text, under, colour)

@@ -96,6 +96,7 @@ def watches() -> None:
         assert driver.execute_script(kinds) == [["src_1", "numbers"], ["src_1", "bits"], ["out", "spectrum"]], driver.execute_script(kinds)
         until("what the source gives", lambda: numbers_of(driver, "src_1") == [1, 2, 3])
         assert pathlib.Path(graph).read_text() == text and text_of(driver, "#file-state").endswith("not saved")
+        assert urllib.request.urlopen(server.address + "script").read().startswith(b"# The run is of another text than the file")
         click(driver, "#graph [data-block='add']")
         click(driver, "#watch")
         until("a plot more", lambda: ["add_1", "levels"] in driver.execute_script(kinds))

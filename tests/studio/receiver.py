@@ -51,7 +51,7 @@ def views_drawn(driver: Any) -> bool:
 def items_of(server: Server, sink: str, code: str) -> list[int]:
     """The last items of a sink, as the page saves them."""
     data = urllib.request.urlopen(server.address + "items/" + sink).read()
-    return memoryview(data).cast(code).tolist()  # type: ignore[call-overload, no-any-return]
+    return memoryview(data).cast(code).tolist()  # type: ignore[call-overload]
 
 
 def turn(driver: Any, taps: str) -> int:

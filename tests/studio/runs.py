@@ -8,6 +8,8 @@ import os
 import pathlib
 import subprocess
 import tempfile
+import threading
+import time
 from typing import Any
 
 from browser import PATIENCE, Server
@@ -238,13 +240,79 @@ async def watched(server: Server, items: int) -> list[int]:
         return found
 
 
+class Counted(threading.Thread):
+    """Takes what a server writes to standard output, and counts it."""
+
+    def __init__(self, server: Server) -> None:
+        super().__init__(daemon=True)
+        assert server.process.stdout is not None
+        self._from, self.bytes, self.zeros = server.process.stdout, 0, 0
+
+    def run(self) -> None:
+        while True:
+            data = self._from.read1(1 << 20)  # type: ignore[attr-defined]
+            if not data:
+                return
+            self.bytes += len(data)
+            self.zeros += data.count(0)
+
+
 def memory() -> None:
-    """At 10 million items a second, or as many as this machine gives, of which a page sees each million, the memory stays as it is."""
+    """At 10 million items a second, or as many as this machine gives, of which a page sees each million, the memory stays as it is, and an output gets them all."""
     items = int(os.environ.get("STUDIO_ITEMS", "100_000_000"))
     folder, graph, _, _ = folder_with()
-    with folder, Server("-i", "src=/dev/zero", "--rate", "10000000", graph) as server:
+    with folder, Server("--paused", "-i", "src=/dev/zero", "-o", "out=-", "--rate", "10000000", graph) as server:
+        output = Counted(server)
+        output.start()
+        asyncio.run(asked(server, do="run", to=items))
         found = asyncio.run(watched(server, items))
+        asyncio.run(asyncio.wait_for(paused(server), PATIENCE))
         assert max(found[3:]) < found[2] + 4096, found
+        assert server.end() == 0
+        output.join(PATIENCE)
+        assert output.bytes == output.zeros == 2 * items, (output.bytes, output.zeros)
 
 
-CASES = [columns, slow_page, pipes, cut_item, steps, pages_come_and_go, ended, frames_a_second, memory]
+async def asked(server: Server, **what: Any) -> None:
+    async with socket_page(server.address) as page:
+        assert "answer" in await page.ask(**what)
+
+
+async def paused(server: Server) -> None:
+    async with socket_page(server.address) as page:
+        await page.comes_to("paused")
+
+
+async def ran(server: Server, takes_none: bool) -> tuple[int, float]:
+    """How many items went through while four seconds went by, and how long a processor worked for them; behind a page that takes no frames, or none."""
+    async with socket_page(server.address) as page:
+        if takes_none:
+            await page.say(do="view", view="a", sink="out", span=4096, width=100)
+        await page.ask(do="run")
+        began, seconds, first = time.monotonic(), server.seconds(), -1
+        while first < 0 or time.monotonic() - began < 4:
+            await page.take()
+            held = page.parts["run"]["held"]["out"] if "run" in page.parts else -1
+            first = held if first < 0 else first
+        await page.ask(do="pause")
+        run = await page.comes_to("paused")
+        print("%.0f million items a second" % ((run["held"]["out"] - first) / (time.monotonic() - began) / 1e6), "behind a page that takes no frames" * takes_none)
+        return run["held"]["out"] - first, server.seconds() - seconds
+
+
+def fast() -> None:
+    """A stream as fast as this machine gives it costs no more behind a page that takes no frames than behind none."""
+    folder, graph, _, _ = folder_with(THROUGH.replace("short", "byte"))
+    with folder:
+        for _ in range(3):
+            rates = []
+            for takes_none in (False, True):
+                with Server("--paused", "-i", "src=/dev/zero", graph) as server:
+                    count, seconds = asyncio.run(ran(server, takes_none))
+                    rates.append(count / seconds)
+            if rates[1] > 0.7 * rates[0]:
+                return
+        raise AssertionError("items for a second of a processor without a page, and with one: %r" % rates)
+
+
+CASES = [columns, slow_page, pipes, cut_item, steps, pages_come_and_go, ended, frames_a_second, memory, fast]

@@ -51,7 +51,8 @@ async def worked(server: Server) -> None:
         works = run["works"]["blocks"]
         assert abs(sum(it["share"] for it in works.values()) - 1) < 1e-9, works
         # (of each item that is fed: a tenth of them in the filter's output, but for what lay in its buffers)
-        for name, takes, gives in (("src", [], [1]), ("add", [1], [1]), ("low", [1], [0.1]), ("out", [0.1], [])):
+        wanted: list[tuple[str, list[float], list[float]]] = [("src", [], [1]), ("add", [1], [1]), ("low", [1], [0.1]), ("out", [0.1], [])]
+        for name, takes, gives in wanted:
             got = works[name]["takes"] + works[name]["gives"]
             assert len(got) == len(takes + gives) and all(abs(it - by) < 0.01 for it, by in zip(got, takes + gives)), (name, works[name])
         fills = run["works"]["fills"]
@@ -127,21 +128,29 @@ def firings_shown() -> None:
         until("all items", lambda: numbers_of(driver, "out") == [7, 8, 9])
 
 
+def a_second(note: str) -> float:
+    """How many items a second a note tells."""
+    number, _, unit = note.partition("/s")[0].partition(" ")
+    return float(number or 0) * {"": 1, "k": 1e3, "M": 1e6}[unit]
+
+
 def works_shown() -> None:
     """A block shows its items a second and its share as it runs; the one that limits the run is marked, and the input is where the run waits for it."""
     folder, graph, _, _ = folder_with(HEAVY)
-    note = "#graph [data-block='%s'] .note"
+    note, mark = "#graph [data-block='%s'] .note:not(.mark)", "#graph [data-block='%s'] .mark"
     with folder, Server("-i", "src=/dev/zero", graph) as server, browser() as driver:
         driver.get(server.address)
         comes_to(driver, "running")
-        until("the filter limits the run", lambda: text_of(driver, note % "low").startswith("limits the run, "))
+        until("the filter limits the run", lambda: text_of(driver, mark % "low") == "limits the run")
         assert driver.execute_script("return [...document.querySelectorAll('#graph .limits')].map((it) => it.dataset.block)") == ["low"]
         until("items a second, and a share", lambda: "/s, " in text_of(driver, note % "low") and text_of(driver, note % "low").endswith(" %"))
         click(driver, "#graph [data-block='low']")
         until("what it takes and gives", lambda: all(it in text_of(driver, "#works") for it in ("takes", "gives", "share of the work", "of 4,096 items")))
         fill(driver, "#rate", "10000")
-        until("the pace limits the run", lambda: text_of(driver, note % "src").startswith("the pace limits the run, "))
-        until("ten thousand a second", lambda: " 10.0 k/s" in text_of(driver, note % "src") or " 10 k/s" in text_of(driver, note % "src") or "99" in text_of(driver, note % "src"))
+        until("the pace limits the run", lambda: text_of(driver, mark % "src") == "limits the run")
+        until("ten thousand a second", lambda: 8_000 < a_second(text_of(driver, note % "src")) < 12_000)
+        click(driver, "#graph [data-block='src']")
+        until("that it is the pace", lambda: text_of(driver, "#works").endswith("the pace limits the run"))
         assert driver.execute_script("return [...document.querySelectorAll('#graph .limits')].map((it) => it.dataset.block)") == ["src"]
 
 

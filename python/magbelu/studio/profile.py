@@ -41,24 +41,26 @@ class Profile:
         return found
 
     def measure(self) -> None:
-        """Steps the blocks until none can act, and notes what that took. (A call that does nothing tells what a call costs.)"""
+        """Steps the blocks until none can act, and notes what that took."""
         seconds, firings = dict.fromkeys(self.windows, 0.0), dict.fromkeys(self.windows, 0)
-        levels, fills, call = [0] * len(self._edges), [0] * len(self._edges), 1.0
-        acted = True
+        levels, fills = [0] * len(self._edges), [0] * len(self._edges)
+        rounds, call, acted = 0, 1.0, True
         while acted:
-            acted = False
+            rounds, acted = rounds + 1, False
             for name in self.windows:
                 began = time.thread_time()
                 count = self._stream.step(name)
                 taken = time.thread_time() - began
-                call = min(call, taken)
+                seconds[name] += taken
+                firings[name] += count
                 if count:
                     acted = True
-                    seconds[name] += max(taken - call, 0.0)
-                    firings[name] += count
                     self._move(name, count, levels, fills)
+                else:
+                    call = min(call, taken)
         if any(firings.values()):
-            self._take(seconds, firings, fills)
+            # (a call that does nothing tells what a call costs: the last round has some)
+            self._take({name: max(it - rounds * call, 0.0) for name, it in seconds.items()}, firings, fills)
 
     def _move(self, name: str, count: int, levels: list[int], fills: list[int]) -> None:
         """Notes what so many firings of a block put into its outputs and took of its inputs."""
@@ -82,8 +84,12 @@ class Profile:
         """The share of a block in the work of all, and how many items it takes and gives for each item that comes through an input of the run."""
         fed, window = sum(self._firings[it] for it in self._inputs), self.windows[name]
         each = self._firings[name] / fed if fed else 0.0
-        parts = ([], []) if window is None else ([it * each for it in window.takes], [it * each for it in window.gives])
-        return {"share": self._seconds[name] / (sum(self._seconds.values()) or 1.0), "takes": parts[0], "gives": parts[1]}
+        takes, gives = window or ((), ())
+        return {
+            "share": self._seconds[name] / (sum(self._seconds.values()) or 1.0),
+            "takes": [it * each for it in takes],
+            "gives": [it * each for it in gives],
+        }
 
     @property
     def limits(self) -> Optional[str]:

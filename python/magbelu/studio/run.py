@@ -51,8 +51,8 @@ class Run(threading.Thread):
         self._asked: queue.SimpleQueue[tuple[Callable[[], Any], concurrent.futures.Future[Any]]] = queue.SimpleQueue()
         # Whether the thread is to end, and whether it takes nothing more; and when it looked last.
         self._is_ended, self._is_over, self._looked = False, False, 0.0
-        # How long was waited for items since then, and when the blocks were measured last.
-        self._waited, self._measured = 0.0, 0.0
+        # How long was waited for items since then, and when the blocks are measured next.
+        self._waited, self._measures_at = 0.0, 0.0
         #: Which part of the time the run waits for its inputs.
         self.waits = 0.0
         # Where a paused run goes on to, and from when on and from which items of the inputs its pace counts.
@@ -131,9 +131,8 @@ class Run(threading.Thread):
         for sink in self.traces:
             self._drain(sink)
         self._look()
-        window = self._profile.windows[block]
-        parts = ((), ()) if window is None else window
-        return {"firings": done, "takes": [done * it for it in parts[0]], "gives": [done * it for it in parts[1]], "needs": self.needs[block]}
+        takes, gives = self._profile.windows[block] or ((), ())
+        return {"firings": done, "takes": [done * it for it in takes], "gives": [done * it for it in gives], "needs": self.needs[block]}
 
     def end(self) -> None:
         """Ends the thread, and with it the run where it is."""
@@ -166,9 +165,7 @@ class Run(threading.Thread):
 
     def _turn(self) -> None:
         """Runs the graph over what it has been fed, gives on what its sinks took, and feeds it the next piece."""
-        if time.monotonic() - self._measured > LOOK:
-            self._profile.measure()
-            self._measured = time.monotonic()
+        self._measure_at_times()
         is_done = self._stream.settle()
         for sink in self.traces:
             self._drain(sink)
@@ -225,6 +222,15 @@ class Run(threading.Thread):
         else:
             time.sleep(SHORT)
         self._waited += time.monotonic() - began
+
+    def _measure_at_times(self) -> None:
+        """Measures how the blocks work, which is to take a tenth of the time at most."""
+        began = time.monotonic()
+        if began > self._measures_at:
+            self._profile.measure()
+            ended = time.monotonic()
+            # (a run may be over soon: so its first items are measured, whenever they come)
+            self._measures_at = ended + max(LOOK, 9 * (ended - began)) if self._profile.shown["blocks"] else 0.0
 
     def _look_at_times(self) -> None:
         if time.monotonic() - self._looked > LOOK:

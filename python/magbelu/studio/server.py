@@ -110,6 +110,8 @@ class Server:
         headers = {**self._headers, "Content-Disposition": 'attachment; filename="script"', "Content-Type": "text/plain; charset=utf-8"}
         response = web.StreamResponse(headers=headers)
         await response.prepare(request)
+        if self._studio.run.graph.text != self._studio.saved:
+            await response.write(b"# The run is of another text than the file: save that first, for this script to make the run again.\n")
         for line in lines_of(self._studio.run):
             await response.write(line.encode())
         await response.write_eof()

@@ -71,11 +71,11 @@ export class GraphView {
         }
         const note = drawn("text", { x: x + width / 2, y: y + height + 13, class: "note" });
         const share = drawn("path", { class: "share" });
-        const title = drawn("title");
-        group.append(note, share, title);
+        const mark = drawn("text", { x: x + width / 2, y: y - 5, class: "note mark" }), title = drawn("title");
+        group.append(note, mark, share, title);
         group.addEventListener("click", () => this.choose(block.name));
         group.addEventListener("keydown", (event) => event.key === "Enter" && this.choose(block.name));
-        this.blocks.set(block.name, { group, note, share, title, box });
+        this.blocks.set(block.name, { group, note, mark, share, title, box });
         return group;
     }
 
@@ -119,14 +119,15 @@ export class GraphView {
     /** Shows how each block works, for whom it waits, which one limits the run, and how full the buffers get. */
     show(run, rates) {
         const limit = limitOf(run);
-        for (const [name, { group, note, share, title, box }] of this.blocks) {
+        for (const [name, { group, note, mark, share, title, box }] of this.blocks) {
             const [what, port] = run.needs[name] ?? [];
             const rate = rateOf(name, run, rates), part = shareOf(name, run);
             group.dataset.need = what ?? "";
             group.classList.toggle("limits", limit.names.includes(name));
             const wait = this.wait(name, what, port), isMoving = run.state === "running" && rate > 0;
             title.textContent = wait;
-            note.textContent = [limit.names.includes(name) ? limit.says : "", rate > 0 ? brief(rate) : "", part >= 0.005 ? `${Math.round(100 * part)} %` : "",
+            mark.textContent = limit.names.includes(name) ? "limits the run" : "";
+            note.textContent = [rate > 0 ? brief(rate) : "", part >= 0.005 ? `${Math.round(100 * part)} %` : "",
                 isMoving ? "" : wait].filter(Boolean).join(", ");
             share.setAttribute("d", `M${box.x + 2},${box.y + box.height - 3} h${(part ?? 0) * (box.width - 4)}`);
         }

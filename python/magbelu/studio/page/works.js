@@ -33,8 +33,8 @@ export function worksTable(name, graph, run, rates, wait) {
     const row = (says, value) => element("tr", {}, element("th", {}, says), element("td", {}, value));
     const buffers = graph.connects.map((it, number) => [it, run.works.fills[number]]).filter(([it, fill]) => it.to === name && fill);
     return [element("table", {},
-        ...(works.takes.length ? [row("takes", each(works.takes))] : []),
-        ...(works.gives.length ? [row("gives", each(works.gives))] : []),
+        ...(fed > 0 && works.takes.length ? [row("takes", each(works.takes))] : []),
+        ...(fed > 0 && works.gives.length ? [row("gives", each(works.gives))] : []),
         row("share of the work", `${(100 * works.share).toFixed(1)} %`),
         ...buffers.map(([it, [held, room]]) => row(`input ${it.to_port} holds up to`, `${grouped(held)} of ${grouped(room)} items`)),
         ...(wait ? [row("now", wait)] : []),
