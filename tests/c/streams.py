@@ -29,6 +29,40 @@ def streams_give_what_runs_give():
         done += 1
 
 
+def streams_are_stepped():
+    """Where the blocks of a stream are stepped by themselves, in any order and by any count of firings, it gives what a run of the whole feed gives."""
+    if tomllib is None:
+        return
+    rng, done = random.Random(34), 0
+    while done < 50:
+        text, fed, pieces = generated(rng)
+        try:
+            wanted = magbelu.run(fed)[0].splitlines()
+        except magbelu.Refused:
+            continue
+        names = [it["name"] for it in tomllib.loads(text)["block"]]
+        with magbelu.Stream(text) as stream:
+            given = {it.name: [] for it in stream.sinks}
+            for piece in [*pieces, None]:
+                if piece is None:
+                    stream.close("src")
+                else:
+                    stream.feed("src", piece)
+                rng.shuffle(names)
+                while any([stream.step(it, rng.choice((1, 7, 2**32 - 1))) for it in names]):
+                    for sink, items in given.items():
+                        items += list(stream.drain(sink)[0])
+                stream.settle()
+            for sink, items in given.items():
+                assert not len(stream.drain(sink)[0]), "settling found more to do"
+                words = next(it for it in wanted if it.startswith("sink %s " % sink)).split()
+                assert [str(it) for it in items] == [it for it in words[3:] if it[0] != "@"], fed
+        done += 1
+    stream = magbelu.Stream(magbelu.EXAMPLE)
+    refuses(20, "NoSuchBlock", lambda: stream.step("none"))
+    raises(ValueError, lambda: stream.step("src", -1))
+
+
 def streams_take_what_they_lack():
     """Of two sources that are added, one comes in large pieces and the other in small ones: no more is taken of either than the other needs."""
     taken = {"a": 0, "b": 0}
@@ -86,6 +120,7 @@ def streams_drain_into_arrays():
 
 tests = [
     streams_give_what_runs_give,
+    streams_are_stepped,
     streams_take_what_they_lack,
     streams_are_tagged_set_and_refused,
     streams_drain_into_arrays,

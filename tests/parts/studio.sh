@@ -5,9 +5,10 @@ set -euo pipefail
 # shellcheck source=tests/part.sh
 source "$(dirname -- "$(readlink -f -- "${BASH_SOURCE[0]}")")/../part.sh"
 
-without_browser=(wrong_token other_origin this_machine_alone refused_graphs columns slow_page pipes cut_item steps pages_come_and_go ended frames_a_second memory script items_over_items trigger saved texts)
+without_browser=(wrong_token other_origin this_machine_alone refused_graphs columns slow_page pipes cut_item steps pages_come_and_go ended frames_a_second memory script items_over_items trigger saved texts
+    fast windows works fires input_guarded)
 in_browser=(sinks_as_run controls markup many_blocks server_killed dragged taps transforms all_views faults added_and_joined dropped
-    keys_and_contrast)
+    keys_and_contrast works_shown firings_shown watches drops_items saves_items two_pages names_with_markup readable receiver)
 # (Debian's modules are there for its own Python alone.)
 python=$([[ -x /usr/bin/python3 ]] && echo /usr/bin/python3 || echo python3)
 export PYTHONDONTWRITEBYTECODE=1

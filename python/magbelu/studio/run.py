@@ -124,9 +124,7 @@ class Run(threading.Thread):
             raise ValueError("a block fires by itself only while the run is paused")
         it = self.inputs.get(block)
         if it is not None and self._stream.need(block).what == "feed":
-            self._goals = {block: it.count + count}
-            self._feed(it)
-            self._goals = {}
+            self._give(it, min(PIECE, count))
         done = self._stream.step(block, count)
         for sink in self.traces:
             self._drain(sink)
@@ -193,8 +191,11 @@ class Run(threading.Thread):
             trace.take(count, tags)
 
     def _feed(self, it: Input) -> bool:
-        """Feeds a source what has come, or closes it at the end; whether anything was done."""
-        most = min(PIECE, self._goals.get(it.source, it.count + PIECE) - it.count, self._allowed(it))
+        """Feeds a source what has come, as the pace and the goal allow; whether anything was done."""
+        return self._give(it, min(PIECE, self._goals.get(it.source, it.count + PIECE) - it.count, self._allowed(it)))
+
+    def _give(self, it: Input, most: int) -> bool:
+        """Feeds a source so many items at most, or closes it at the end; whether anything was done."""
         data = it.read(most) if most > 0 else None
         if data is None:
             return False

@@ -132,17 +132,28 @@ class Studio:
         """Begins a run in which a source is fed what a page gives."""
         with Stream(self.run.graph.text) as stream:
             stream.close(source)
-        file = tempfile.NamedTemporaryFile(dir=self._dropped.name, delete=False)
-        with file:
-            async for it in pieces:
-                file.write(it)
-        before, self.ways = self.ways, self.ways._replace(inputs={**self.ways.inputs, source: file.name})
+        path, before = await self._stored(pieces), self.ways
+        self.ways = before._replace(inputs={**before.inputs, source: path})
         try:
             await self._replace(self.run.graph.text)
         except BaseException:
             self.ways = before
-            os.unlink(file.name)
+            os.unlink(path)
             raise
+        old = before.inputs.get(source, "")
+        if os.path.dirname(old) == self._dropped.name:
+            os.unlink(old)
+
+    async def _stored(self, pieces: AsyncIterable[bytes]) -> str:
+        """A file with what a page gives."""
+        with tempfile.NamedTemporaryFile(dir=self._dropped.name, delete=False) as file:
+            try:
+                async for it in pieces:
+                    file.write(it)
+            except BaseException:
+                os.unlink(file.name)
+                raise
+        return file.name
 
     async def _again(self, asked: dict[str, Any]) -> None:
         """Begins anew, which a pipe cannot."""
