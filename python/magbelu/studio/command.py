@@ -50,7 +50,7 @@ def parser() -> argparse.ArgumentParser:
     it = argparse.ArgumentParser(prog=NAME, description="Runs a graph file of flow, and shows it in the browser while it runs.")
     it.add_argument("-i", dest="inputs", metavar="SOURCE=PATH", type=pair, action="append", default=[], help="feeds a source the raw items of a file, a pipe, or standard input (-)")
     it.add_argument("-o", dest="outputs", metavar="SINK=PATH", type=pair, action="append", default=[], help="writes what a sink takes as raw items")
-    it.add_argument("-w", "--watch", metavar="BLOCK=VIEW", type=watch, action="append", default=[], help="shows what a block gives as %s" % ", ".join(VIEWS))
+    it.add_argument("-w", "--watch", metavar="BLOCK=VIEW", type=watch, action="append", default=[], help="shows what a block gives, of its output N with BLOCK:N, as %s" % ", ".join(VIEWS))
     it.add_argument("--rate", metavar="ITEMS", type=count, help="takes so many items of each input a second at most")
     it.add_argument("--paused", action="store_true", help="waits with the run until the page says so")
     it.add_argument("--port", metavar="N", type=int, default=0, help="the port of 127.0.0.1; a free one where it is left out")
