@@ -37,8 +37,9 @@ def windows() -> None:
         ({"kind": "interleave", "type": "short", "ports": 3}, 3, 1, Window((1, 1, 1), (3,))),
         ({"kind": "deinterleave", "type": "short", "ports": 3}, 1, 3, Window((3,), (1, 1, 1))),
         ({"kind": "stream_mux", "type": "short", "lengths": [2, 5]}, 2, 1, Window((2, 5), (7,))),
-        # (it gives nothing, and is done)
-        ({"kind": "head", "type": "short", "n": 0}, 1, 1, None),
+        # (as long as it gives some, and once it does)
+        ({"kind": "head", "type": "short", "n": 0}, 1, 1, Window((1,), (1,))),
+        ({"kind": "skiphead", "type": "short", "n": 1000}, 1, 1, Window((1,), (1,))),
     ]
     for table, inputs, outputs, wanted in cases:
         found = window_of({"name": "b", **table}, Block("b", table["kind"], "work", inputs, "short", outputs, "short"))
@@ -80,15 +81,28 @@ async def firing(server: Server) -> None:
         async def fires(block: str, count: int) -> dict[str, Any]:
             return dict((await page.ask(do="fire", block=block, count=count))["answer"])
 
-        assert await fires("add", 1) == {"firings": 0, "takes": [0], "gives": [0], "needs": ["items", 0]}
-        assert await fires("src", 5) == {"firings": 5, "takes": [], "gives": [5], "needs": ["feed", None]}
-        assert await fires("add", 2) == {"firings": 2, "takes": [2], "gives": [2], "needs": ["ready", None]}
-        assert await fires("out", 9) == {"firings": 2, "takes": [2], "gives": [], "needs": ["items", 0]}
+        one = {"takes": [1], "gives": [1]}
+        assert await fires("add", 1) == {"before": 0, "firings": 0, **one, "needs": ["items", 0]}
+        assert await fires("src", 5) == {"before": 0, "firings": 5, "takes": [], "gives": [1], "needs": ["feed", None]}
+        assert await fires("add", 2) == {"before": 0, "firings": 2, **one, "needs": ["ready", None]}
+        assert await fires("add", 1) == {"before": 2, "firings": 1, **one, "needs": ["ready", None]}
+        assert await fires("out", 2) == {"before": 0, "firings": 2, "takes": [1], "gives": [], "needs": ["ready", None]}
         await held(page, 2)
         assert page.parts["run"]["fed"] == {"src": 5} and page.parts["run"]["state"] == "paused", page.parts["run"]
         assert (await page.ask(do="fire", block="none"))["refused"].startswith("20 NoSuchBlock none")
         for count in (0, -1, "1", True):
             assert "refused" in await page.ask(do="fire", block="add", count=count), count
+        # (a small step counts its firings too: all that is there, and 3 items more)
+        await page.ask(do="run", items=3)
+        await held(page, 8)
+        await page.comes_to("paused")
+        assert await fires("src", 1) == {"before": 8, "firings": 1, "takes": [], "gives": [1], "needs": ["feed", None]}
+        assert await fires("add", 9) == {"before": 8, "firings": 1, **one, "needs": ["items", 0]}
+        # (a larger one does not)
+        await page.ask(do="run", to=90_000)
+        await held(page, 90_000)
+        await page.comes_to("paused")
+        assert (await fires("src", 1))["before"] is None
         await page.ask(do="run")
         await page.comes_to("done")
         assert (await page.ask(do="fire", block="add"))["refused"] == "a block fires by itself only while the run is paused"
@@ -115,8 +129,9 @@ def firings_shown() -> None:
         comes_to(driver, "paused")
         choose(driver, "figure[data-sink='out'] select.kind", "numbers")
         for block, count, says in (
-            ("src", 2, "fired 2 times; gave 2 of output 0"), ("add", 1, "fired 1 time; took 1 of input 0; gave 1 of output 0"),
-            ("out", 5, "fired 1 time; took 1 of input 0; it waits for items at input 0"),
+            ("src", 2, "fired 2 times; gave items 0 to 1 of output 0"), ("add", 1, "fired 1 time; took item 0 of input 0; gave item 0 of output 0"),
+            ("out", 5, "fired 1 time; took item 0 of input 0; it waits for items at input 0"),
+            ("add", 1, "fired 1 time; took item 1 of input 0; gave item 1 of output 0; it waits for items at input 0"),
         ):
             click(driver, "#graph [data-block='%s']" % block)
             fill(driver, "#firings", str(count))

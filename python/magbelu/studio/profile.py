@@ -31,6 +31,8 @@ class Profile:
         self._seconds = dict.fromkeys(self.windows, 0.0)
         self._firings = dict.fromkeys(self.windows, 0.0)
         self._fills = [0] * len(self._edges)
+        # How often each block has fired, as long as the stream was moved by steps alone.
+        self._totals: Optional[dict[str, int]] = dict.fromkeys(self.windows, 0)
         self.shown: dict[str, Any] = {"blocks": {}, "fills": []}
 
     def _numbers(self, side: str) -> dict[str, list[int]]:
@@ -58,9 +60,22 @@ class Profile:
                     self._move(name, count, levels, fills)
                 else:
                     call = min(call, taken)
+        for name, it in firings.items():
+            self.count(name, it)
         if any(firings.values()):
             # (a call that does nothing tells what a call costs: the last round has some)
             self._take({name: max(it - rounds * call, 0.0) for name, it in seconds.items()}, firings, fills)
+
+    def count(self, name: str, firings: int) -> Optional[int]:
+        """Counts firings of a block. It gives how many came before, where that is known."""
+        if self._totals is None:
+            return None
+        self._totals[name] += firings
+        return self._totals[name] - firings
+
+    def lose_count(self) -> None:
+        """Takes note that blocks fired without being counted."""
+        self._totals = None
 
     def _move(self, name: str, count: int, levels: list[int], fills: list[int]) -> None:
         """Notes what so many firings of a block put into its outputs and took of its inputs."""

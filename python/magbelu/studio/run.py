@@ -119,18 +119,20 @@ class Run(threading.Thread):
         return made.at
 
     def fire(self, block: str, count: int) -> dict[str, Any]:
-        """Has a block of a paused run fire so often at most, a source over what comes next; and gives how often it did, and what that took and gave."""
+        """Has a block of a paused run fire so often at most, a source over what comes next; and gives how often it did, after how many firings where each was counted, and
+        what each took and gave."""
         if self.state != PAUSED:
             raise ValueError("a block fires by itself only while the run is paused")
         it = self.inputs.get(block)
         if it is not None and self._stream.need(block).what == "feed":
             self._give(it, min(PIECE, count))
         done = self._stream.step(block, count)
+        before = self._profile.count(block, done)
         for sink in self.traces:
             self._drain(sink)
         self._look()
         takes, gives = self._profile.windows[block] or ((), ())
-        return {"firings": done, "takes": [done * it for it in takes], "gives": [done * it for it in gives], "needs": self.needs[block]}
+        return {"before": before, "firings": done, "takes": takes, "gives": gives, "needs": self.needs[block]}
 
     def end(self) -> None:
         """Ends the thread, and with it the run where it is."""
@@ -163,7 +165,12 @@ class Run(threading.Thread):
 
     def _turn(self) -> None:
         """Runs the graph over what it has been fed, gives on what its sinks took, and feeds it the next piece."""
-        self._measure_at_times()
+        if self._goals and all(self._goals[name] - it.count <= PIECE for name, it in self.inputs.items()):
+            # (a small step: each firing is counted)
+            self._profile.measure()
+        else:
+            self._measure_at_times()
+            self._profile.lose_count()
         is_done = self._stream.settle()
         for sink in self.traces:
             self._drain(sink)

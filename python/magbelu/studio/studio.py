@@ -124,7 +124,7 @@ class Studio:
         return int(await self._in_run(lambda: self.run.set(block, value, at)))
 
     async def _fire(self, asked: dict[str, Any]) -> dict[str, Any]:
-        """Has a block of a paused run fire, and tells how often it did, and what that took and gave."""
+        """Has a block of a paused run fire, and tells what came of it."""
         block, count = text_in(asked, "block"), whole(asked, "count", 1) or 1
         return dict(await self._in_run(lambda: self.run.fire(block, min(count, MOST_FIRINGS))))
 

@@ -55,8 +55,13 @@ def fired(text: str, inputs: int, outputs: int, item_size: int) -> Optional[Wind
     return window
 
 
+# The kinds whose firings change once they have passed over some items, with the number with which they never do.
+CHANGING = {"head": 2**31 - 1, "skiphead": 0}
+
+
 def window_of(table: dict[str, Any], block: Block) -> Optional[Window]:
     """What a firing of a block of a graph takes and gives, or None where it does not fire on zeros."""
     if block.role != "work":
         return SOURCE if block.role == "source" else SINK
-    return fired(alone(table, block), block.inputs, block.outputs, SIZES[str(block.input_type)])
+    lasting = {**table, "n": CHANGING[block.kind]} if block.kind in CHANGING else table
+    return fired(alone(lasting, block), block.inputs, block.outputs, SIZES[str(block.input_type)])

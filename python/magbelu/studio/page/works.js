@@ -41,9 +41,18 @@ export function worksTable(name, graph, run, rates, wait) {
         ...(limitOf(run).names.includes(name) ? [row("", limitOf(run).says)] : []))];
 }
 
+/** Which items firings of a block took of a port, or gave there: by their numbers, where all firings before were counted. */
+function itemsSaid(each, { before, firings }, port) {
+    const count = each * firings;
+    if (before === null || !count) return `${grouped(count)} items of ${port}`;
+    const first = grouped(each * before), last = grouped(each * before + count - 1);
+    return count === 1 ? `item ${first} of ${port}` : `items ${first} to ${last} of ${port}`;
+}
+
 /** What came of firings of a block. */
-export function firingsSaid({ firings, takes, gives, needs }) {
-    const items = (counts, side) => counts.map((it, port) => `${grouped(it)} of ${side} ${port}`).join(", ");
+export function firingsSaid(did) {
+    const { firings, takes, gives, needs } = did;
+    const items = (counts, side) => counts.map((it, port) => itemsSaid(it, did, `${side} ${port}`)).join(", ");
     const parts = [`fired ${grouped(firings)} ${firings === 1 ? "time" : "times"}`];
     if (firings && takes.length) parts.push(`took ${items(takes, "input")}`);
     if (firings && gives.length) parts.push(`gave ${items(gives, "output")}`);
