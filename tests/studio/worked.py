@@ -7,7 +7,7 @@ import asyncio
 import pathlib
 from typing import Any, Optional
 
-from browser import PATIENCE, Server, browser, choose, click, comes_to, fill, numbers_of, text_of, until
+from browser import PATIENCE, TOP, Server, browser, choose, click, comes_to, fill, numbers_of, text_of, until
 from runs import SAW, THROUGH, folder_with
 from socket_page import SocketPage, socket_page
 
@@ -40,10 +40,35 @@ def windows() -> None:
         # (as long as it gives some, and once it does)
         ({"kind": "head", "type": "short", "n": 0}, 1, 1, Window((1,), (1,))),
         ({"kind": "skiphead", "type": "short", "n": 1000}, 1, 1, Window((1,), (1,))),
+        ({"kind": "delay", "type": "short", "n": 1000}, 1, 1, Window((1,), (1,))),
     ]
     for table, inputs, outputs, wanted in cases:
         found = window_of({"name": "b", **table}, Block("b", table["kind"], "work", inputs, "short", outputs, "short"))
         assert found == wanted, (table, found)
+    balanced()
+
+
+def balanced() -> None:
+    """In each graph file whose rates are balanced, an iteration gives each buffer as many items as it takes of it."""
+    import magbelu
+    from magbelu.studio.graphs import GraphFile
+    from magbelu.studio.profile import Profile
+
+    count = 0
+    for path in [*TOP.glob("tests/graphs/*.toml"), *TOP.glob("examples/*/*.toml")]:
+        try:
+            graph = GraphFile.of(path.read_bytes().decode(errors="replace"))
+        except magbelu.Refused:
+            continue
+        with magbelu.Stream(graph.text) as stream:
+            each = Profile(graph, stream, []).windows
+            for it in stream.connections if graph.firings else []:
+                writer, reader = each[it.writer], each[it.reader]
+                assert writer is not None and reader is not None, (path, it)
+                given, taken = int(graph.firings[it.writer]) * writer.gives[it.out_port], int(graph.firings[it.reader]) * reader.takes[it.in_port]
+                assert given == taken, (path, it, given, taken)
+                count += 1
+    assert count > 100, count
 
 
 async def worked(server: Server) -> None:

@@ -9,12 +9,14 @@ from typing import Any, Iterable, Optional
 
 from .._stream import Stream
 from .graphs import GraphFile
-from .windows import Window, window_of
+from .windows import CHANGING, Window, window_of
 
-# An edge of a drawing, which has the capacity of the buffer behind the type of its items.
-EDGE = re.compile(r'^  "[^"]*":o\d+:e -> .*label="\w+ (\d+)"', re.MULTILINE)
+# An edge of a drawing: the writer, its port, the reader, its port, and behind the type of the items the capacity of the buffer.
+EDGE = re.compile(r'^  "([^"]*)":o(\d+):e -> "([^"]*)":i(\d+):w \[label="\w+ (\d+)"', re.MULTILINE)
 # How much of what was measured before still counts, so that a change shows within some looks.
 KEEPS = 0.8
+# What is known of a block of which nothing is.
+NONE = Window((), ())
 
 
 class Profile:
@@ -26,7 +28,9 @@ class Profile:
         tables = {it["name"]: it for it in graph.blocks}
         #: What a firing of each block takes and gives, where that is known.
         self.windows: dict[str, Optional[Window]] = {it.name: window_of(tables[it.name], it) for it in stream.blocks}
-        self._capacities = [int(it) for it in EDGE.findall(stream.draw())]
+        rooms = {tuple(ends): int(room) for *ends, room in EDGE.findall(stream.draw())}
+        self._capacities = [rooms[it.writer, str(it.out_port), it.reader, str(it.in_port)] for it in self._edges]
+        self._kinds = {it.name: it.kind for it in stream.blocks}
         self._readers, self._writers = self._numbers("reader"), self._numbers("writer")
         self._seconds = dict.fromkeys(self.windows, 0.0)
         self._firings = dict.fromkeys(self.windows, 0.0)
@@ -66,6 +70,10 @@ class Profile:
             # (a call that does nothing tells what a call costs: the last round has some)
             self._take({name: max(it - rounds * call, 0.0) for name, it in seconds.items()}, firings, fills)
 
+    def each_of(self, name: str) -> Window:
+        """What each firing of a block takes and gives, and nothing where that is not known, or is not the same for all."""
+        return NONE if self._kinds[name] in CHANGING else self.windows[name] or NONE
+
     def count(self, name: str, firings: int) -> Optional[int]:
         """Counts firings of a block. It gives how many came before, where that is known."""
         if self._totals is None:
@@ -99,7 +107,7 @@ class Profile:
         """The share of a block in the work of all, and how many items it takes and gives for each item that comes through an input of the run."""
         fed, window = sum(self._firings[it] for it in self._inputs), self.windows[name]
         each = self._firings[name] / fed if fed else 0.0
-        takes, gives = window or ((), ())
+        takes, gives = window or NONE
         return {
             "share": self._seconds[name] / (sum(self._seconds.values()) or 1.0),
             "takes": [it * each for it in takes],

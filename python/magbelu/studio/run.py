@@ -131,7 +131,7 @@ class Run(threading.Thread):
         for sink in self.traces:
             self._drain(sink)
         self._look()
-        takes, gives = self._profile.windows[block] or ((), ())
+        takes, gives = self._profile.each_of(block)
         return {"before": before, "firings": done, "takes": takes, "gives": gives, "needs": self.needs[block]}
 
     def end(self) -> None:

@@ -56,7 +56,7 @@ def fired(text: str, inputs: int, outputs: int, item_size: int) -> Optional[Wind
 
 
 # The kinds whose firings change once they have passed over some items, with the number with which they never do.
-CHANGING = {"head": 2**31 - 1, "skiphead": 0}
+CHANGING = {"head": 2**31 - 1, "skiphead": 0, "delay": 0}
 
 
 def window_of(table: dict[str, Any], block: Block) -> Optional[Window]:
