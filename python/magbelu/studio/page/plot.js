@@ -9,7 +9,7 @@ import { scatter } from "./scatter.js";
 import { spectrum, waterfall } from "./spectrum.js";
 
 const KINDS = { levels, bits, spectrum, waterfall, scatter, numbers };
-const FIRST_SPAN = 4096, LEAST_SPAN = 8, MOST_SPAN = 2 ** 22, NEAR = 5;
+const FIRST_SPAN = 4096, LEAST_SPAN = 8, MOST_SPAN = 2 ** 22, NEAR = 5, LONGEST_REST = 500;
 
 export class Plot {
     /** A plot of a sink, whose items have a type, or of it and one of the `others`. `more` is called for another plot of the same sink, where it may be closed too. */
@@ -39,7 +39,8 @@ export class Plot {
             ...this.others.map((it) => option(it, `Q: ${it}`)));
         return element("div", { class: "bar" }, element("h2", {}, this.sink), this.select, this.second, button("\u2212", "more items (-)", () => this.zoom(2)),
             button("+", "fewer items (+)", () => this.zoom(0.5)), this.holds, this.keys,
-            element("a", { href: `items/${encodeURIComponent(this.sink)}`, download: `${this.sink}.raw`, title: "the last items that are kept, as raw items" }, "Save"), button("Another", "another plot of this sink", () => this.more?.(this)),
+            element("a", { href: `items/${encodeURIComponent(this.sink)}`, download: `${this.sink}.raw`, title: "the last items that are kept, as raw items" }, "Save"),
+            button("Another", "another plot of this sink", () => this.more?.(this)),
             (this.closes = button("Close", "close this plot", () => this.more?.(this, true))));
     }
 
@@ -155,7 +156,13 @@ export class Plot {
 
     paint() {
         this.isAwaited = false;
-        this.link.say({ do: "taken", view: this.name });
+        const began = performance.now();
+        this.draw();
+        // (where drawing takes long, the page has as much time for what is pressed)
+        setTimeout(() => this.link.say({ do: "taken", view: this.name }), Math.min(performance.now() - began, LONGEST_REST));
+    }
+
+    draw() {
         if (!this.frame) return;
         const { head } = this.frame;
         if (this.kind.write) this.kind.write(this.text, this.frame);
