@@ -68,7 +68,7 @@ def turn(driver: Any, taps: str) -> int:
 def receives(driver: Any, folder: str) -> tuple[float, float]:
     """Starts the command, and gives after how many seconds all was drawn, and how long it took from there until the filter had changed it."""
     path = pathlib.Path(folder) / "recording.u8"
-    path.write_bytes(recording(20))
+    path.write_bytes(recording(150))
     words = [it for watched in WATCHED for it in ("-w", watched)]
     began = time.monotonic()
     with Server("-i", "iq=%s" % path, "--rate", str(2 * RATE), *words, str(EXAMPLE / "receiver.toml")) as server:
