@@ -1,4 +1,5 @@
 mod Calling
+mod Counting
 mod Entries
 mod HandleRows
 mod HandleValues

@@ -7,6 +7,7 @@ pub mod Explaining
 pub mod Handles
 pub mod Held
 pub mod Kernels
+pub mod Later
 pub mod Listing
 pub mod Pieces
 pub mod Replies

@@ -9,7 +9,9 @@ ghost use Rattle.plant.specs.Feeding.{feed_numbers};
 ghost use Rattle.flow.specs.Serve.{Refuses};
 ghost use Rattle.magbelu_c.specs.CallAnswers.{order_of};
 ghost use Rattle.magbelu_c.specs.AnyPlants.{IsOpened, opening_in, plant_of};
-ghost use Rattle.magbelu_c.specs.Held.{Drains, Frees, Opens, Shows, at_of};
+ghost use Rattle.magbelu_c.specs.Held.{Drains, Frees, Opens, Shows, answered, at_of};
+ghost use Rattle.magbelu_c.specs.Later.{OpensLater};
+ghost use Rattle.magbelu_c.specs.Slicing as slicing;
 ghost use Rattle.magbelu_c.specs.Replies.{CallsOn, OnHeld, fed_bytes, is_fed, named, sized, stepped, wants};
 ghost use Rattle.magbelu_c.specs.Settling.{SettlesOn};
 ghost use Rattle.magbelu_c.specs.Tagging.{Feeds};
@@ -19,9 +21,11 @@ use crate::answer::{Answer, badly};
 use crate::any_plant::AnyPlant;
 use crate::draining::drain;
 use crate::handle::Handle;
+use crate::later::{Unopened, opened_later};
 use crate::orders::order;
 use crate::piece::{Piece, read, unshown};
 use crate::reply::{Reply, done, not_open};
+use crate::slicing::{Uncut, not_cut};
 use crate::tables::Mark;
 use crate::{block_calls, tagging};
 use flow::fault::Fault;
@@ -57,6 +61,40 @@ pub extern "C" fn magbelu_bytes_open_stream(
     open(alloc, plant, file, true, error)
 }
 
+/// Opens the plant that streams whose blocks go on where those of a graph file stand after so many iterations. Nothing is fed to it: what the file feeds stands at the
+/// front of the tapes.
+#[unsafe(no_mangle)]
+pub extern "C" fn magbelu_bytes_open_stream_at(
+    alloc: Global,
+    plant: &mut Handle,
+    file: &[u8],
+    iterations: u64,
+    error: &mut [u8],
+) -> Answer
+    ensures { OpensLater file.now iterations plant.old.plant plant.new.plant error.old error.new result }
+{
+    if let Some(held) = plant.take(alloc) {
+        plant.put(held);
+        return answered(1, IS_OPEN);
+    }
+    match opened_later(alloc, file, iterations) {
+        Ok(opened) => {
+            plant.put(opened);
+            answered(0, 0)
+        }
+        Err(Unopened::File(fault)) => badly(alloc, &Fault::File(fault), &[], &mut [], error),
+        Err(Unopened::Uncut(uncut)) => unopened(uncut),
+    }
+}
+
+// Nothing is opened, since there is no slice.
+fn unopened(uncut: Uncut) -> Answer
+    ensures { let why = slicing.not_cut uncut in result ≡ answered why.status why.number }
+{
+    let why = not_cut(uncut);
+    answered(why.status, why.number)
+}
+
 fn open(alloc: Global, plant: &mut Handle, file: &[u8], streams: bool, error: &mut [u8]) -> Answer
     ensures { Opens streams file.now plant.old.plant plant.new.plant error.old error.new result }
 {
@@ -74,7 +112,7 @@ fn open(alloc: Global, plant: &mut Handle, file: &[u8], streams: bool, error: &m
 }
 
 fn answered(status: u32, number: u32) -> Answer
-    ensures { result ≡ record { status = status; number = number; output_len = 0; error_len = 0 } }
+    ensures { result ≡ answered status number }
 {
     Answer {
         status,

@@ -23,6 +23,7 @@ pub mod handle;
 pub mod held_calls;
 mod idle;
 pub mod kernels;
+mod later;
 pub mod listing;
 mod loose;
 mod orders;

@@ -49,7 +49,8 @@ pub(crate) fn show_plan(
     };
     show(&source_rows, sources);
     show(&sink_rows, sinks);
-    told(plan.overlap, source_rows.len(), sink_rows.len())
+    let counting = first_to_count(graph);
+    told(plan.overlap, counting, source_rows.len(), sink_rows.len())
 }
 
 /// Puts what the slice that begins at an iteration gives each sink that keeps its items at the front of the table, where that fits.
@@ -76,11 +77,15 @@ pub(crate) fn show_slice(
         return not_cut(Uncut::Memory);
     };
     show(&rows, parts);
-    told(slice.from, 0, rows.len())
+    told(slice.from, first_to_count(graph), 0, rows.len())
 }
 
-// The numbers by which the runs of a graph are cut, with the rates that they rest on.
-fn plan_of(alloc: Global, graph: &Valid<Kind>, asks: Asks) -> Result<(Repetitions, Plan), Uncut>
+/// The numbers by which the runs of a graph are cut, with the rates that they rest on.
+pub(crate) fn plan_of(
+    alloc: Global,
+    graph: &Valid<Kind>,
+    asks: Asks,
+) -> Result<(Repetitions, Plan), Uncut>
     ensures planned { IfOk result (λ made. HasPlan graph.now asks made.0.firings.items made.1) }
     ensures not_planned { IfErr result (HasNoPlan graph.now asks) }
 {
@@ -90,10 +95,7 @@ fn plan_of(alloc: Global, graph: &Valid<Kind>, asks: Asks) -> Result<(Repetition
         Err(_) => return Err(Uncut::Memory),
     };
     match plan_slices(alloc, graph, &rates, asks) {
-        Ok(Planned::Plan(plan)) => match first_to_count(graph) {
-            Some(block) => Err(Uncut::Counts(block)),
-            None => Ok((rates, plan)),
-        },
+        Ok(Planned::Plan(plan)) => Ok((rates, plan)),
         Ok(Planned::Remembers(block)) => Err(Uncut::Remembers(block)),
         Ok(Planned::TooLate) => Err(Uncut::Rates),
         Err(_) => Err(Uncut::Memory),

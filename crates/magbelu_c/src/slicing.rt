@@ -1,7 +1,7 @@
 //! What a call about slices of time answers.
 
 ghost use Rattle.std.specs.Prelude.{◌≡◌};
-ghost use Rattle.magbelu_c.specs.Slicing.{no_block, not_cut, refused, told};
+ghost use Rattle.magbelu_c.specs.Slicing.{no_block, not_cut, number_of, refused, told};
 
 use crate::reply::not_open;
 use flowgraph::BlockId;
@@ -23,7 +23,7 @@ pub struct Slicing {
     pub status: u32,
     /// The number of the refusal, or 0.
     pub number: u32,
-    /// The number of the first block that does not forget, or else of the first that counts, where the refusal is for it, and else the greatest number.
+    /// The number of the block that a refusal is for; where there is none, of the first block whose items rest on how many came before; else the greatest number.
     pub block: u32,
     /// Of a plan, how many iterations before its own a slice reads; of a slice, how many iterations of each tape it leaves out.
     pub iterations: u64,
@@ -38,8 +38,6 @@ pub struct Slicing {
 pub(crate) enum Uncut {
     /// What this block gives rests on all that it was given.
     Remembers(BlockId),
-    /// What this block gives rests on how much it was given, and no call opens a plant that begins with that.
-    Counts(BlockId),
     /// The rates have no balance, or slices would overlap too far.
     Rates,
     /// No slice begins there.
@@ -48,14 +46,19 @@ pub(crate) enum Uncut {
     Memory,
 }
 
-/// A call was done.
-pub(crate) fn told(iterations: u64, source_count: usize, sink_count: usize) -> Slicing
-    ensures { result ≡ told iterations source_count sink_count }
+/// A call was done, for a graph of which this block is the first that counts.
+pub(crate) fn told(
+    iterations: u64,
+    counting: Option<BlockId>,
+    source_count: usize,
+    sink_count: usize,
+) -> Slicing
+    ensures { result ≡ told iterations counting source_count sink_count }
 {
     Slicing {
         status: 0,
         number: 0,
-        block: NO_BLOCK,
+        block: number_of(counting),
         iterations,
         source_count,
         sink_count,
@@ -67,7 +70,7 @@ pub(crate) fn not_cut(uncut: Uncut) -> Slicing
     ensures { result ≡ not_cut uncut }
 {
     match uncut {
-        Uncut::Remembers(block) | Uncut::Counts(block) => refused(1, NO_SLICES, block.0),
+        Uncut::Remembers(block) => refused(1, NO_SLICES, block.0),
         Uncut::Rates => refused(1, NO_SLICES, NO_BLOCK),
         Uncut::Begin => refused(1, NO_CUT, NO_BLOCK),
         Uncut::Memory => refused(4, PlantFault::Memory.number(), NO_BLOCK),
@@ -80,6 +83,16 @@ pub(crate) fn not_held() -> Slicing
 {
     let reply = not_open();
     refused(reply.status, reply.number, NO_BLOCK)
+}
+
+// The number of a block, or what stands for none.
+fn number_of(block: Option<BlockId>) -> u32
+    ensures { result ≡ number_of block }
+{
+    match block {
+        Some(block) => block.0,
+        None => NO_BLOCK,
+    }
 }
 
 fn refused(status: u32, number: u32, block: u32) -> Slicing

@@ -4,6 +4,7 @@ use Rattle.magbelu_c.specs.CallAnswers.{shown}
 use Rattle.magbelu_c.specs.Cuts.{part_row}
 use Rattle.magbelu_c.specs.Slicing.{BegunNot, CanBegin, CannotBegin, SliceShown, SliceShownNot, told}
 use Rattle.magbelu_c.specs.declared.slicing.Uncut.TheVariants.{Memory}
+use Rattle.magbelu_c.proofs.Counting.{goes_on}
 use Rattle.magbelu_c.proofs.slice_plans.show_slice.Goals as goal
 
 pub returns-in-Err : goal.returns-in-Err
@@ -27,6 +28,8 @@ returns c =
     let can : CanBegin plan c.args.begins = search rules in
     let rows : c.in-Ok-part_rows.rows.items ≡ map part_row slice.parts.items = c.in-Ok-part_rows.ensures ∙ ap (map part_row) c.deref.ensures.value in
     let count : c.len.result ≡ length c.in-Ok-part_rows.rows.items = search rules in
+    let counting = c.first_to_count.result in
     SliceShown c.in-Ok.planned.0.firings.items plan c.in-Ok.ensures.planned can slice c.in-Ok-slice_at.ensures
+    counting (goes_on c.args.graph.now c.args.asks c.in-Ok.planned.0.firings.items plan c.in-Ok.ensures.planned counting c.first_to_count.ensures.first c.first_to_count.ensures.own)
     (c.show.ensures ∙ ap (λ rs. shown rs c.args.parts.now) (c.deref-2.ensures.value ∙ rows))
-    (c.told.ensures ∙ ap (told slice.from 0) (count ∙ ap length rows ∙ length-map slice.parts.items part_row))
+    (c.told.ensures ∙ ap (told slice.from counting 0) (count ∙ ap length rows ∙ length-map slice.parts.items part_row))
