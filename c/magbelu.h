@@ -222,8 +222,10 @@ struct magbelu_connection {
  *
  * status      0: done. 1: refused. 4: out of memory. The plant stays as it is.
  * number      that of the refusal; 0 with status 0.
- * block       with MAGBELU_NO_SLICES the number of the first block whose items rest on all that it was given, or else on how much that was, or MAGBELU_NO_BLOCK where the
- *             rates have no balance, or slices would overlap too far; else MAGBELU_NO_BLOCK. Blocks are numbered from 0, in the order of the file.
+ * block       with MAGBELU_NO_SLICES the number of the first block whose items rest on all that it was given, or MAGBELU_NO_BLOCK where the rates have no balance, or
+ *             slices would overlap too far. With 0 the number of the first block whose items rest on how many came before (`head`, `additive_scrambler`): slices of such a
+ *             graph are opened by magbelu_stream_open_at, and those of another, which has MAGBELU_NO_BLOCK here, by magbelu_stream_open too. Blocks are numbered from 0,
+ *             in the order of the file.
  * iterations  of magbelu_slices: how many iterations before its own a slice reads. Of magbelu_slice: how many iterations of each tape the slice leaves out.
  * source_count, sink_count  how many rows there are for sources, and for sinks that keep their items; magbelu_slice has none for sources. The rows of each table are
  *             written where all of them fit, in the order of the blocks.
@@ -281,6 +283,9 @@ struct magbelu_answer magbelu_bytes_run_items(const uint8_t *file, size_t file_l
 struct magbelu_answer magbelu_bytes_open(struct magbelu_plant *plant, const uint8_t *file, size_t file_len, uint8_t *error, size_t error_room);
 
 struct magbelu_answer magbelu_bytes_open_stream(struct magbelu_plant *plant, const uint8_t *file, size_t file_len, uint8_t *error, size_t error_room);
+
+struct magbelu_answer magbelu_bytes_open_stream_at(struct magbelu_plant *plant, const uint8_t *file, size_t file_len, uint64_t iterations, uint8_t *error,
+                                                   size_t error_room);
 
 struct magbelu_reply magbelu_bytes_free(struct magbelu_plant *plant);
 
@@ -719,7 +724,7 @@ static inline struct magbelu_slicing magbelu_slices(struct magbelu_plant *plant,
 
 /*
  * Tells of the slice that begins at an iteration what it leaves out: `iterations` of each tape, and in `parts` of each sink that keeps its items how many are dropped.
- * The slice that ends where another begins is a plant, or a stream, of the same file, whose sources are fed their items from iteration `iterations` up to that one,
+ * The slice that ends where another begins is a stream that magbelu_stream_open_at opens, whose sources are fed their items from iteration `iterations` up to that one,
  * and closed there; the last is fed to the end. Behind what is dropped, each sink gives what the whole run gives from item `stands` on, up to where the next slice
  * stands. An offset of a tag is less by what was left out of the tape, and one that comes to a sink less by `stands - drop`. An iteration within the first
  * overlap, or behind the 2^46th, is refused with MAGBELU_NO_CUT.
@@ -745,6 +750,21 @@ static inline struct magbelu_answer magbelu_stream_open(struct magbelu_stream *s
         return magbelu_refused_null(error, error_room);
     }
     return magbelu_bytes_open_stream(&stream->plant, magbelu_read_at(file), file_len, magbelu_write_at(error, &none), error_room);
+}
+
+/*
+ * Opens such a plant for a slice, which leaves out so many iterations of each tape, as magbelu_slice tells: each block goes on where it stands after these. Nothing is fed
+ * to it, since what the file feeds stands at the front of the tapes: feed each source the rest of its tape. Items, tags and settings are numbered from where the slice
+ * begins. A file that magbelu_stream_open refuses is refused alike, one whose graph is not cut with MAGBELU_NO_SLICES, and more than 2^46 iterations with MAGBELU_NO_CUT:
+ * these two have no line.
+ */
+static inline struct magbelu_answer magbelu_stream_open_at(struct magbelu_stream *stream, const void *file, size_t file_len, uint64_t iterations, char *error,
+                                                           size_t error_room) {
+    uint64_t none = 0;
+    if (stream == NULL || magbelu_is_null(file, file_len) || magbelu_is_null(error, error_room)) {
+        return magbelu_refused_null(error, error_room);
+    }
+    return magbelu_bytes_open_stream_at(&stream->plant, magbelu_read_at(file), file_len, iterations, magbelu_write_at(error, &none), error_room);
 }
 
 static inline struct magbelu_reply magbelu_stream_free(struct magbelu_stream *stream) { return magbelu_free(magbelu_streaming(stream)); }

@@ -124,11 +124,13 @@ struct block {
     item_type output_type;
 };
 
-/* How the runs of a graph are cut into slices of time: how many iterations before its own a slice reads, each source, and each sink that keeps its items. */
+/* How the runs of a graph are cut into slices of time: how many iterations before its own a slice reads, each source, each sink that keeps its items, and the first
+ * block whose items rest on how many came before, or MAGBELU_NO_BLOCK. */
 struct slice_plan {
     std::uint64_t overlap;
     std::vector<magbelu_cut_source> sources;
     std::vector<magbelu_cut_sink> sinks;
+    std::uint32_t counts;
 };
 
 /* Where a slice begins: how many iterations it leaves out of each tape, and what it gives each sink that keeps its items. */
@@ -393,6 +395,7 @@ public:
                 tested_slicing(magbelu_slices(plant(), tags, plan.sources.data(), plan.sources.size(), plan.sinks.data(), plan.sinks.size()));
             const bool fits = got.source_count == plan.sources.size() && got.sink_count == plan.sinks.size();
             plan.overlap = got.iterations;
+            plan.counts = got.block;
             plan.sources.resize(got.source_count);
             plan.sinks.resize(got.sink_count);
             if (fits) {
@@ -439,6 +442,10 @@ protected:
     void open(Open open, std::string_view file, std::string_view path) {
         std::string output, line;
         const magbelu_answer answer = with_room([&](std::string &, std::string &room) { return open(room.data(), room.size()); }, output, line);
+        if (line.empty()) {
+            /* (of a graph that is not cut there is no line) */
+            tested(answer, "");
+        }
         if (answer.number != 0) {
             fail_in(answer, line, file, path, {});
         }
@@ -533,6 +540,9 @@ public:
     /* The graph of a graph file. One that cannot be read is a `std::system_error`. */
     static stream from_file(const std::string &path) { return stream(detail::text_in(path), path); }
 
+    /* The graph for a slice that leaves out so many iterations of each tape: each block goes on where it stands after these, and nothing is fed. */
+    static stream at(std::uint64_t leaves_out, std::string_view file, std::string_view path = "<graph>") { return stream(leaves_out, file, path); }
+
     /* Takes at most `max` items away of those that a sink has taken and that were not drained yet. Its tags have the numbers of all that the sink ever took. */
     template <class Item>
     piece<Item> drain(std::string_view sink, std::uint64_t max = UINT64_MAX) {
@@ -558,6 +568,10 @@ public:
     }
 
 private:
+    stream(std::uint64_t leaves_out, std::string_view file, std::string_view path) {
+        open([&](char *line, std::size_t room) { return magbelu_stream_open_at(&stream_, file.data(), file.size(), leaves_out, line, room); }, file, path);
+    }
+
     magbelu_piece drain_into(std::string_view sink, std::uint64_t max, void *bytes, std::size_t bytes_room, char *tags, std::size_t tags_room) {
         return detail::tested(magbelu_stream_drain(&stream_, sink.data(), sink.size(), max, 0, bytes, bytes_room, tags, tags_room), sink);
     }

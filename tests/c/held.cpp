@@ -197,7 +197,13 @@ static void slices_are_told() {
     must(plan.sinks[0].block == 2 && plan.sinks[0].period == 1 && plan.sinks[0].drop == 0, "how a sink is cut");
     const auto start = magbelu::stream(chain_file("short")).slice(5, true);
     must(start.leaves_out == 5 && start.parts.size() == 1 && start.parts[0].block == 2 && start.parts[0].drop == 0 && start.parts[0].stands == 5, "a slice");
+    must(plan.counts == MAGBELU_NO_BLOCK, "which block counts");
     refuses(64, "64 NoCut", [&] { graph.slice((std::uint64_t(1) << 46) + 1); });
+    auto later = magbelu::stream::at(5, chain_file("short"));
+    must(later.feed("src", {6, 7}) == 2 && !later.settle() && later.drain<std::int16_t>("out").items == std::vector<std::int16_t>{16, 17}, "a stream for a slice");
+    refuses(64, "64 NoCut", [] { magbelu::stream::at((std::uint64_t(1) << 46) + 1, chain_file("short")); });
+    refuses(42, "42 MissingKey block 0 name\n --> a.toml:1:1\n  |\n1 | [[block]]\n  | ^ a block needs the key `name`: a text",
+            [] { magbelu::stream::at(5, "[[block]]", "a.toml"); });
     magbelu::graph coded("block = [{ name = \"src\", kind = \"vector_source\", type = \"byte\" }, { name = \"code\", kind = \"diff_encoder\", modulus = 2 },\n"
                          "    { name = \"out\", kind = \"vector_sink\", type = \"byte\" }]\n"
                          "connect = [{ from = \"src\", to = \"code\" }, { from = \"code\", to = \"out\" }]\n");

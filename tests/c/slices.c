@@ -1,5 +1,5 @@
 /*
- * Calls about slices of time: the numbers of a plan, where slices begin, what has none, and a run in two slices.
+ * Calls about slices of time: the numbers of a plan, where slices begin, what has none, and runs in two slices, one of them by blocks that go on where they stand.
  */
 #include <string.h>
 
@@ -10,6 +10,13 @@ static const char sums[] =
     "block = [{ name = \"src\", kind = \"vector_source\", type = \"short\" }, { name = \"sum\", kind = \"moving_sum\", type = \"short\", length = 4 },\n"
     "    { name = \"keep\", kind = \"keep_one_in_n\", type = \"short\", n = 2 }, { name = \"out\", kind = \"vector_sink\", type = \"short\" }]\n"
     "connect = [{ from = \"src\", to = \"sum\" }, { from = \"sum\", to = \"keep\" }, { from = \"keep\", to = \"out\" }]\n";
+
+/* Each item is the sum of four, of which the first 25 are passed. */
+static const char headed[] =
+    "block = [{ name = \"src\", kind = \"vector_source\", type = \"short\" }, { name = \"sum\", kind = \"moving_sum\", type = \"short\", length = 4 },\n"
+    "    { name = \"first\", kind = \"head\", type = \"short\", n = 25 }, { name = \"out\", kind = \"vector_sink\", type = \"short\" }]\n"
+    "connect = [{ from = \"src\", to = \"sum\" }, { from = \"sum\", to = \"first\" }, { from = \"first\", to = \"out\" }]\n"
+    "feed = [{ source = \"src\", items = [1] }]\n";
 
 /* A block that keeps all that it was given, behind one that does not. */
 static const char coded[] =
@@ -32,6 +39,22 @@ static struct magbelu_stream opened(const char *file) {
     struct magbelu_stream stream = MAGBELU_NO_STREAM;
     must(magbelu_stream_open(&stream, file, strlen(file), NULL, 0).number == 0, "a graph of the slices");
     return stream;
+}
+
+static struct magbelu_stream opened_at(const char *file, uint64_t iterations) {
+    struct magbelu_stream stream = MAGBELU_NO_STREAM;
+    must(magbelu_stream_open_at(&stream, file, strlen(file), iterations, NULL, 0).number == 0, "a stream for a slice");
+    return stream;
+}
+
+/* refuses_at FILE ITERATIONS NUMBER LINE: such a stream is refused so, and none is held */
+static void refuses_at(const char *file, uint64_t iterations, uint32_t number, const char *line) {
+    struct magbelu_stream stream = MAGBELU_NO_STREAM;
+    char error[64];
+    struct magbelu_answer answer = magbelu_stream_open_at(&stream, file, strlen(file), iterations, error, sizeof error);
+    must(answer.status == 1 && answer.number == number && answer.output_len == 0, line);
+    must(answer.error_len == strlen(line) && memcmp(error, line, strlen(line)) == 0, line);
+    must(magbelu_stream_free(&stream).number == MAGBELU_NOT_OPEN, "a refused stream is held");
 }
 
 /* A slice reads the three items before its own that the first sum holds, and so two iterations of two items. */
@@ -112,9 +135,52 @@ static void slices_go_on_with_the_run(void) {
     must(runs(&stream, 0, 40, out, 64) == 20 && out[0] == 1 && out[19] == 8 * 19 - 2, "the slice before it");
 }
 
+/* Sum i is 4i-6. The slice that begins at iteration 20 reads three items before it, so 25 - 17 of its sums are among the first 25. */
+static void heads_go_on_where_they_stand(void) {
+    struct magbelu_stream stream = opened(headed);
+    struct magbelu_cut_part part;
+    int16_t out[64];
+    size_t count, at;
+    struct magbelu_slicing told = magbelu_stream_slice(&stream, 0, 20, &part, 1);
+    tells(told, 0, 0, 2, 17, 0, 1, "a slice of a head");
+    must(part.drop == 3 && part.stands == 20, "where a slice of a head stands");
+    tells(magbelu_stream_slices(&stream, 0, NULL, 0, NULL, 0), 0, 0, 2, 3, 1, 1, "a plan of a head");
+    magbelu_stream_free(&stream);
+    stream = opened_at(headed, 17);
+    count = runs(&stream, 17, 60, out, 64);
+    must(count == 8, "how many items a head passes in a slice");
+    for (at = 3; at < count; at++) {
+        must(out[at] == (int16_t)(4 * (17 + at) - 6), "an item of a slice of a head");
+    }
+    stream = opened_at(headed, 25);
+    must(runs(&stream, 25, 60, out, 64) == 0, "a head that ended before passes something");
+    /* (what the file feeds is none of what a slice reads) */
+    stream = opened_at(headed, 0);
+    must(runs(&stream, 0, 20, out, 64) == 20 && out[0] == 0 && out[19] == 4 * 19 - 6, "the slice before it");
+}
+
+static void streams_for_slices_are_refused(void) {
+    struct magbelu_stream stream = opened(sums);
+    must(magbelu_stream_open_at(&stream, sums, strlen(sums), 5, NULL, 0).number == MAGBELU_IS_OPEN, "a stream is held already");
+    must(magbelu_stream_item_size(&stream, "src", 3).value == 2, "the stream that was held stays");
+    magbelu_stream_free(&stream);
+    refuses_at("x", 5, 40, "flow: refused 40 Syntax\n");
+    refuses_at("[[block]]", 5, 42, "flow: refused 42 MissingKey block 0 name\n");
+    refuses_at(coded, 0, MAGBELU_NO_SLICES, "");
+    refuses_at(uneven, 5, MAGBELU_NO_SLICES, "");
+    refuses_at(sums, ((uint64_t)1 << 46) + 1, MAGBELU_NO_CUT, "");
+    stream = opened_at(sums, (uint64_t)1 << 46);
+    magbelu_stream_free(&stream);
+    must(magbelu_stream_open_at(NULL, sums, strlen(sums), 5, NULL, 0).number == MAGBELU_NULL, "a stream at NULL");
+    must(magbelu_stream_open_at(&stream, NULL, 1, 5, NULL, 0).number == MAGBELU_NULL, "a file at NULL");
+    must(magbelu_stream_open_at(&stream, sums, strlen(sums), 5, NULL, 1).number == MAGBELU_NULL, "a line at NULL");
+}
+
 void slices(void) {
     plans_have_their_numbers();
     slices_begin_behind_the_overlap();
     what_is_not_cut_is_told();
     slices_go_on_with_the_run();
+    heads_go_on_where_they_stand();
+    streams_for_slices_are_refused();
 }

@@ -212,6 +212,11 @@ magbelu_answer magbelu_bytes_open_stream(magbelu_plant *held, const std::uint8_t
     return magbelu_bytes_open(held, file, file_len, error, error_room);
 }
 
+magbelu_answer magbelu_bytes_open_stream_at(magbelu_plant *held, const std::uint8_t *file, std::size_t file_len, std::uint64_t iterations, std::uint8_t *error,
+                                            std::size_t error_room) {
+    return iterations > std::uint64_t(1) << 46 ? magbelu_answer{1, MAGBELU_NO_CUT, 0, 0} : magbelu_bytes_open(held, file, file_len, error, error_room);
+}
+
 magbelu_reply magbelu_bytes_need(magbelu_plant *held, const std::uint8_t *name, std::size_t len) {
     const std::uint32_t number = wrong(held, text_of(name, len), "src", 0);
     if (number != 0 || text_of(name, len) != "src") {
