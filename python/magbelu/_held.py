@@ -94,6 +94,9 @@ class Held:
     _opens = ""
 
     def __init__(self, text: Text, path: str = NO_PATH) -> None:
+        self._hold(text, path, self._opens)
+
+    def _hold(self, text: Text, path: str, call: str, *words: int) -> None:
         self._plant = Plant(None, False)
         self._lock = threading.Lock()
         self._text, self.path = bytes_of(text), path
@@ -101,9 +104,11 @@ class Held:
         self._calls = calls()
         # How many bytes an item has of each source that was asked for it.
         self._source_sizes: dict[bytes, int] = {}
-        answer = getattr(self._calls, "magbelu_bytes_" + self._opens)(ctypes.byref(self._plant), lent.at, lent.len, error.at, error.size)
+        answer = getattr(self._calls, "magbelu_bytes_" + call)(ctypes.byref(self._plant), lent.at, lent.len, *words, error.at, error.size)
         if answer.error_len:
             raise refusal(answer, error, lent, path)
+        # (of a graph that is not cut there is no line)
+        tested(answer, "")
 
     @classmethod
     def from_text(cls: type[Own], text: Text) -> Own:
@@ -233,13 +238,13 @@ class Held:
 
         >>> graph = magbelu.Graph(magbelu.EXAMPLE.replace("add_const", "moving_sum").replace("value = 10", "length = 4"))
         >>> graph.slices()
-        Slices(overlap=3, sources=[SourceSlices(source='src', period=1, overlap=3)], sinks=[SinkSlices(sink='out', period=1, drop=3)])
+        Slices(overlap=3, sources=[SourceSlices(source='src', period=1, overlap=3)], sinks=[SinkSlices(sink='out', period=1, drop=3)], counts=None)
         """
         return plan_of(self, tags)
 
     def slice(self, begins: SupportsIndex, tags: bool = False) -> Slice:
-        """The slice that begins at an iteration, of which none lies within the first overlap (64): run on what it does not leave out of its sources, it gives each sink
-        what the whole run gives from there on, behind what is dropped.
+        """The slice that begins at an iteration, of which none lies within the first overlap (64): run on what it does not leave out of its sources, by a stream for it
+        (`Stream.anew`), it gives each sink what the whole run gives from there on, behind what is dropped.
 
         >>> graph = magbelu.Graph(magbelu.EXAMPLE.replace("add_const", "moving_sum").replace("value = 10", "length = 4"))
         >>> graph.slice(100)

@@ -156,6 +156,7 @@ def _with_types(library: ctypes.CDLL) -> ctypes.CDLL:
     library.magbelu_bytes_read.restype, library.magbelu_bytes_read.argtypes = Piece, plant + pair + 2 * u64 + [ctypes.c_uint32] + 2 * pair
     library.magbelu_bytes_block.restype, library.magbelu_bytes_block.argtypes = Listed, plant + [ctypes.c_uint32] + 2 * pair
     library.magbelu_bytes_draw.restype, library.magbelu_bytes_draw.argtypes = Answer, plant + [ctypes.c_uint32] + pair
+    library.magbelu_bytes_open_stream_at.restype, library.magbelu_bytes_open_stream_at.argtypes = Answer, plant + pair + u64 + pair
     for name, types in {"slices": 2 * pair, "slice": u64 + pair}.items():
         call = getattr(library, "magbelu_bytes_" + name)
         call.restype, call.argtypes = Slicing, plant + [ctypes.c_uint32] + types

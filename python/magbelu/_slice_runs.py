@@ -94,61 +94,70 @@ class Sheet:
 
 
 class Team(NamedTuple):
-    """A stream at its beginning, its sources and its sinks, and how many threads run pieces."""
+    """A stream at its beginning, its sources and its sinks, how many threads run pieces, and of how many iterations, each of which begins so many earlier."""
 
     stream: Stream
     tapes: list[Tape]
     sheets: list[Sheet]
     jobs: int
+    iterations: int
+    overlap: int
 
-    def run_piece(self, pieces: list[bytes], is_behind: bool) -> list[memoryview]:
-        """What a slice gives on a piece of each source."""
-        with self.stream.anew() as stream:
+    def leaves_out(self, count: int) -> Optional[int]:
+        """How many iterations are left out behind so many pieces; behind none, a stream begins at its beginning."""
+        return count * self.iterations - self.overlap if count else None
+
+    def run_piece(self, pieces: list[bytes], count: int) -> list[memoryview]:
+        """What a slice gives on a piece of each source, behind so many."""
+        with self.stream.anew(self.leaves_out(count)) as stream:
             for tape, piece in zip(self.tapes, pieces):
                 stream.feed(tape.source, piece)
                 stream.close(tape.source)
             stream.settle()
-            return [memoryview(stream.drain(it.sink)[0])[it.drop if is_behind else 0 :] for it in self.sheets]
+            return [memoryview(stream.drain(it.sink)[0])[it.drop if count else 0 :] for it in self.sheets]
 
     def write(self, given: list[memoryview]) -> None:
         for sheet, items in zip(self.sheets, given):
             sheet.write(items)
 
-    def run_pieces(self) -> bool:
-        """Runs pieces as long as all of them are whole, and tells whether there were any. What they give is written in their order."""
+    def run_pieces(self) -> int:
+        """Runs pieces as long as all of them are whole, and tells how many there were. What they give is written in their order."""
         waiting: collections.deque[Any] = collections.deque()
-        is_behind = False
+        count = 0
         with concurrent.futures.ThreadPoolExecutor(self.jobs) as pool:
             try:
                 while all([tape.has_piece() for tape in self.tapes]):
                     if len(waiting) == 2 * self.jobs:
                         self.write(waiting.popleft().result())
-                    waiting.append(pool.submit(self.run_piece, [tape.piece() for tape in self.tapes], is_behind))
-                    is_behind = True
+                    waiting.append(pool.submit(self.run_piece, [tape.piece() for tape in self.tapes], count))
+                    count += 1
                 while waiting:
                     self.write(waiting.popleft().result())
             finally:
                 # (after a fault nothing more is begun)
                 for piece in waiting:
                     piece.cancel()
-        return is_behind
+        return count
 
-    def run_rest(self, is_behind: bool) -> None:
-        """Runs what is left of the sources, behind pieces or from the beginning on."""
+    def run_rest(self, count: int) -> None:
+        """Runs what is left of the sources behind so many pieces."""
         sheets = {it.sink: it for it in self.sheets}
-        again = {it.sink: it.drop if is_behind else 0 for it in self.sheets}
-        for piece in self.stream.through(**{tape.source: tape.rest() for tape in self.tapes}):
-            drop = min(again[piece.sink], len(piece.items))
-            again[piece.sink] -= drop
-            sheets[piece.sink].write(memoryview(piece.items)[drop:])
+        again = {it.sink: it.drop if count else 0 for it in self.sheets}
+        with self.stream.anew(self.leaves_out(count)) as stream:
+            for piece in stream.through(**{tape.source: tape.rest() for tape in self.tapes}):
+                drop = min(again[piece.sink], len(piece.items))
+                again[piece.sink] -= drop
+                sheets[piece.sink].write(memoryview(piece.items)[drop:])
 
 
-def iterations_of(plan: Slices, tapes: list[Tape], sheets: list[Sheet], jobs: int) -> int:
+def iterations_of(plan: Slices, tapes: list[Tape], sheets: list[Sheet], jobs: int, has_head: bool) -> int:
     """How many iterations a piece has; none where the run is not worth pieces."""
     spans = [it.period * tape.item_size for it, tape in zip(plan.sources, tapes)]
     widest = max(spans + [it.period * sheet.item_size for it, sheet in zip(plan.sinks, sheets)], default=0)
     whole = min((tape.length // span for tape, span in zip(tapes, spans)), default=0)
-    if jobs == 1 or not whole:
+    # (a run that a head may end is no run in pieces where an input may have no end)
+    may_be_endless = has_head and any(tape.length == ENDLESS for tape in tapes)
+    if jobs == 1 or not whole or may_be_endless:
         return 0
     iterations = max(min(whole // (PIECES * jobs), USUAL // widest), OVERLAPS * plan.overlap, 1)
     return iterations if iterations * widest <= MOST else 0
@@ -236,15 +245,15 @@ def run_slices(
             path = paths[it.sink]
             opened = None if path is None else files.enter_context(open(path, "wb"))
             sheets.append(Sheet(it.sink, stream._item_size(it.sink), it.drop, opened))
-        run_all(Team(stream, tapes, sheets, workers), plan)
+        iterations = iterations_of(plan, tapes, sheets, workers, any(it.kind == "head" for it in stream.blocks))
+        for source, tape in zip(plan.sources, tapes):
+            tape.own, tape.overlap = iterations * source.period * tape.item_size, source.overlap * tape.item_size
+        run_all(Team(stream, tapes, sheets, workers, iterations, plan.overlap))
     return {it.sink: it.items() for it in sheets if it.file is None}
 
 
-def run_all(team: Team, plan: Slices) -> None:
-    iterations = iterations_of(plan, team.tapes, team.sheets, team.jobs)
-    for it, tape in zip(plan.sources, team.tapes):
-        tape.own, tape.overlap = iterations * it.period * tape.item_size, it.overlap * tape.item_size
-    team.run_rest(team.run_pieces() if iterations else False)
+def run_all(team: Team) -> None:
+    team.run_rest(team.run_pieces() if team.iterations else 0)
     for tape in team.tapes:
         if tape.is_cut:
             raise refused(53, tape.source)

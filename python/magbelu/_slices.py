@@ -3,7 +3,7 @@
 from __future__ import annotations
 
 import ctypes
-from typing import Any, NamedTuple, SupportsIndex
+from typing import Any, NamedTuple, Optional, SupportsIndex
 
 from ._arguments import MOST, count_of, flag
 from ._errors import refused
@@ -30,11 +30,13 @@ class SinkSlices(NamedTuple):
 
 
 class Slices(NamedTuple):
-    """How the runs of a graph are cut into slices of time: how many iterations before its own a slice reads, each source, and each sink."""
+    """How the runs of a graph are cut into slices of time: how many iterations before its own a slice reads, each source, each sink, and the first block whose items
+    rest on how many came before, if there is one."""
 
     overlap: int
     sources: list[SourceSlices]
     sinks: list[SinkSlices]
+    counts: Optional[str]
 
 
 class SinkPart(NamedTuple):
@@ -60,7 +62,7 @@ def tested(slicing: Any, names: list[str]) -> Any:
         return slicing
     if slicing.block == NO_BLOCK:
         raise refused(NO_SLICES, "rates", reason="they have no balance, or slices would overlap too far")
-    raise refused(NO_SLICES, names[slicing.block], reason="what it gives rests on all that it was given, or on how much that was")
+    raise refused(NO_SLICES, names[slicing.block], reason="what it gives rests on all that it was given")
 
 
 def plan_of(held: Any, tags: bool) -> Slices:
@@ -76,6 +78,7 @@ def plan_of(held: Any, tags: bool) -> Slices:
         slicing.iterations,
         [SourceSlices(names[it.block], it.period, it.overlap) for it in sources[: slicing.source_count]],
         [SinkSlices(names[it.block], it.period, it.drop) for it in sinks[: slicing.sink_count]],
+        None if slicing.block == NO_BLOCK else names[slicing.block],
     )
 
 

@@ -40,7 +40,8 @@ class Piece(NamedTuple):
 
 class Stream(Held):
     """A graph that streams: it forgets what its sources have taken and what was drained of its sinks, and so runs in constant memory for as long as it is fed. `path`
-    is only what the text is called where it is refused. Where it is no longer needed it is freed, at the end of a `with` or when it goes.
+    is only what the text is called where it is refused. Where it is no longer needed it is freed, at the end of a `with` or when it goes. With `leaves_out` it is one for
+    a slice, as `anew` gives it.
 
     >>> with Stream(magbelu.EXAMPLE) as stream:
     ...     for number in (1, 2):
@@ -60,17 +61,27 @@ class Stream(Held):
 
     _opens = "open_stream"
 
-    def __init__(self, text: Text, path: str = NO_PATH) -> None:
-        super().__init__(text, path)
+    def __init__(self, text: Text, path: str = NO_PATH, leaves_out: Optional[SupportsIndex] = None) -> None:
+        if leaves_out is None:
+            super().__init__(text, path)
+        else:
+            self._hold(text, path, "open_stream_at", count_of(leaves_out, "a count of iterations", MOST))
         # (for the lines of tags, which most drains have few of)
         self._lines = Room(4096)
         self._item_sizes: dict[bytes, int] = {}
         # How many items were drained of each sink.
         self._drained_of: dict[bytes, int] = {}
 
-    def anew(self) -> Stream:
-        """A stream of the same graph, at its beginning."""
-        return type(self)(self._text, self.path)
+    def anew(self, leaves_out: Optional[SupportsIndex] = None) -> Stream:
+        """A stream of the same graph, at its beginning; or for a slice that leaves out so many iterations of each source, as `slice` tells. Then each block goes on where it
+        stands after these, nothing is fed, and items are numbered from where the slice begins.
+
+        >>> stream = Stream(magbelu.EXAMPLE.replace("add_const", "head").replace("value = 10", "n = 5"))
+        >>> later = stream.anew(3)
+        >>> later.feed("src", [4, 5, 6, 7]), later.settle(), later.drain("out")[0].tolist()
+        (4, True, [4, 5])
+        """
+        return type(self)(self._text, self.path, leaves_out)
 
     def drain(self, sink: Text, count: Optional[SupportsIndex] = None) -> tuple[Array, list[Tag]]:
         """Takes at most `count` items away of those that a sink has taken and that were not drained yet, and gives them with the tags on them. The offset of a tag counts

@@ -23,6 +23,20 @@ connect = [{ from = "a", to = "sum" }, { from = "sum", to = "keep" }, { from = "
 """
 
 
+# The first items of a source, and bits that are scrambled.
+COUNTED = """
+block = [{ name = "src", kind = "vector_source", type = "byte" }, { name = "first", kind = "head", type = "byte", n = %d }, { name = "some", kind = "vector_sink", type = "byte" },
+    { name = "noise", kind = "additive_scrambler", bits = %d, mask = %d, init = %d }, { name = "out", kind = "vector_sink", type = "byte" }]
+connect = [{ from = "src", to = "first" }, { from = "first", to = "some" }, { from = "src", to = "noise" }, { from = "noise", to = "out" }]
+"""
+
+# A block that keeps all that it was given.
+CODED = """
+block = [{ name = "src", kind = "vector_source", type = "byte" }, { name = "code", kind = "diff_encoder", modulus = 2 }, { name = "out", kind = "vector_sink", type = "byte" }]
+connect = [{ from = "src", to = "code" }, { from = "code", to = "out" }]
+"""
+
+
 def in_small_pieces(call):
     """Calls with pieces of some bytes."""
     usual = _slice_runs.USUAL
@@ -46,8 +60,8 @@ def whole(text, inputs):
 
 
 def slices_give_what_runs_give():
-    """Generated graphs: those of which a block counts from the start are refused by its name, the others give the bytes of one run."""
-    rng, done, refused = random.Random(64), 0, 0
+    """Generated graphs, with and without a head, give the bytes of one run."""
+    rng, done, headed = random.Random(64), 0, 0
     while done < 60:
         text, _, pieces = generated(rng)
         times = rng.randint(1, 9)
@@ -57,14 +71,41 @@ def slices_give_what_runs_give():
             continue
         data = array.array(CODES[graph.sources[0].type], sum(pieces, []) * times).tobytes()
         heads = [it.name for it in graph.blocks if it.kind == "head"]
-        wanted = whole(text, {"src": data})
-        if heads:
-            assert refuses(63, "NoSlices", lambda: joined(text, {"src": data}, 2)).detail == heads[0]
-            refused += 1
-            continue
-        assert joined(text, {"src": data}, rng.randint(2, 4)) == wanted, text
-        done += 1
-    assert refused > 10, refused
+        assert graph.slices().counts == (heads[0] if heads else None), text
+        assert joined(text, {"src": data}, rng.randint(2, 4)) == whole(text, {"src": data}), text
+        done, headed = done + 1, headed + bool(heads)
+    assert headed > 10, headed
+
+
+def blocks_that_count_go_on():
+    """A head that ends before the items, at their end or behind it, and a scrambler with registers of any length, in pieces of ten iterations."""
+    rng = random.Random(66)
+    for _ in range(40):
+        bits, length = rng.choice([2, 3, 17, 31, 32]), rng.choice([0, 1, 50, 600])
+        count = rng.choice([0, 1, length // 3, length, length + 1, 2**32])
+        text = COUNTED % (count, bits, rng.randint(1, 2**bits - 1), rng.randint(0, 2**bits - 1))
+        data = {"src": bytes(rng.randint(0, 1) for _ in range(length))}
+        assert joined(text, data, rng.randint(2, 4)) == whole(text, data), text
+
+
+def a_slice_is_a_stream():
+    """The scrambler of the example in KINDS.md, of which four zeros are 1, 1, 0, 1."""
+    text = COUNTED % (2, 3, 5, 1)
+    stream = magbelu.Stream(text)
+    assert stream.slices().counts == "first" and stream.slice(3).leaves_out == 3
+    for later in (stream.anew(3), magbelu.Stream(text, leaves_out=3)):
+        later.feed("src", [0])
+        later.settle()
+        assert later.drain("out")[0].tolist() == [1] and later.drain("some")[0].tolist() == []
+    later = magbelu.Stream(text, leaves_out=1).anew(1)
+    later.feed("src", [0, 0, 0])
+    assert not later.settle() and later.drain("out")[0].tolist() == [1, 0, 1] and later.drain("some")[0].tolist() == [0]
+    refuses(63, "NoSlices", lambda: magbelu.Stream(CODED, leaves_out=3))
+    assert refuses(63, "NoSlices", lambda: magbelu.run_slices(CODED, {"src": b""})).detail == "code"
+    refuses(64, "NoCut", lambda: stream.anew(2**46 + 1))
+    assert "block 0 name" in str(refuses(42, "MissingKey", lambda: magbelu.Stream("[[block]]", leaves_out=3)))
+    raises(ValueError, lambda: stream.anew(-1))
+    raises(TypeError, lambda: stream.anew(1.5))
 
 
 def sources_of_two_rates_are_cut():
@@ -79,9 +120,9 @@ def pieces_are_run_side_by_side():
     """What is compared above came from more threads than one, in pieces."""
     seen, run_piece = [], _slice_runs.Team.run_piece
 
-    def watched(team, pieces, is_behind):
-        seen.append((threading.get_ident(), [len(it) for it in pieces], is_behind))
-        return run_piece(team, pieces, is_behind)
+    def watched(team, pieces, count):
+        seen.append((threading.get_ident(), [len(it) for it in pieces], count))
+        return run_piece(team, pieces, count)
 
     _slice_runs.Team.run_piece = watched
     try:
@@ -91,7 +132,7 @@ def pieces_are_run_side_by_side():
     finally:
         _slice_runs.Team.run_piece = run_piece
     # A piece has ten times the overlap, which is two iterations of four bytes of `a` and two of `b`.
-    assert [it[1:] for it in sorted(seen, key=lambda it: it[2])] == [([80, 40], False)] + [([88, 44], True)] * 99, seen[:3]
+    assert [it[1:] for it in sorted(seen, key=lambda it: it[2])] == [([80, 40], 0)] + [([88, 44], at) for at in range(1, 100)], seen[:3]
     assert threading.get_ident() not in {it[0] for it in seen}
 
 
@@ -110,15 +151,20 @@ def files_and_arrays(folder):
     assert (folder / "out").read_bytes() == wanted["out"]
 
 
+def a_head_ends_what_has_no_end():
+    text = CHAIN.replace('kind = "add_const"', 'kind = "head"').replace("value = 10", "n = 3") % (3 * ("byte",))
+    assert magbelu.run_slices(text, {"src": "/dev/zero"}, jobs=2)["out"].tobytes() == bytes(3)
+
+
 def faults_leave_a_beginning(folder):
     """Where the third slice fails, the outputs have what the first two gave, and the fault is told."""
     data, done, run_piece = {"a": bytes(range(256)) * 32, "b": bytes(range(256)) * 16}, [], _slice_runs.Team.run_piece
 
-    def failing(team, pieces, is_behind):
+    def failing(team, pieces, count):
         done.append(1)
         if len(done) == 3:
             raise MemoryError("the third")
-        return run_piece(team, pieces, is_behind)
+        return run_piece(team, pieces, count)
 
     _slice_runs.Team.run_piece = failing
     try:
@@ -163,7 +209,7 @@ def wrong_ends_are_refused(folder):
 def plans_have_names():
     # The sum holds three items before its own, which are in two iterations; for its tags there are none.
     graph = magbelu.Graph(PAIR)
-    wanted = (2, [("a", 2, 4), ("b", 1, 2)], [("out", 1, 2), ("side", 2, 4)])
+    wanted = (2, [("a", 2, 4), ("b", 1, 2)], [("out", 1, 2), ("side", 2, 4)], None)
     assert graph.slices() == wanted and graph.slices(tags=True) == wanted and magbelu.Stream(PAIR).slices() == wanted
     assert graph.slice(0) == (0, [("out", 0, 0), ("side", 0, 0)]) and graph.slice(7) == (5, [("out", 2, 7), ("side", 4, 14)])
     for begins in [1, 2**46 + 1, 2**64]:
@@ -176,7 +222,10 @@ def plans_have_names():
     refuses(55, "NotOpen", lambda: graph.slice(0))
 
 
-tests = [slices_give_what_runs_give, sources_of_two_rates_are_cut, pieces_are_run_side_by_side, plans_have_names]
+tests = [
+    slices_give_what_runs_give, blocks_that_count_go_on, a_slice_is_a_stream, a_head_ends_what_has_no_end, sources_of_two_rates_are_cut,
+    pieces_are_run_side_by_side, plans_have_names,
+]
 for test in tests:
     test()
 tests_in_a_folder = [files_and_arrays, faults_leave_a_beginning, wrong_ends_are_refused]
