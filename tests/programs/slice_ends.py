@@ -1,7 +1,7 @@
 #!/usr/bin/env python3
 """slice_ends.py killed|bad PROGRAM..: runs in pieces that end before their time, by the program whose words are given. `killed`: one that is killed
 leaves a beginning, and one that goes on with it gives the whole. `bad`: an input that ends within an item, shrinks or grows meanwhile, a full disk, two
-outputs of one path, and marks out of order, where a run in pieces ends as one on one thread does. Prints what differs."""
+outputs of one path, two slices into one file, and marks out of order, where a run in pieces ends as one on one thread does. Prints what differs."""
 
 import os
 import pathlib
@@ -122,6 +122,9 @@ def cut_item(path):
     alone, pieces = folder.run("--one-thread"), folder.run("--jobs", "3")
     if alone[0] == 0 or pieces != alone:
         return "an input that ends within an item: %s, and alone %s" % (pieces[:2], alone[:2])
+    first, second = folder.run("--slice", "1/2"), folder.run("--slice", "2/2")
+    if first[:2] != (0, "") or second[:2] != alone[:2] or [a + b for a, b in zip(first[2], second[2])] != alone[2]:
+        return "an input that ends within an item, in two slices: %s and %s" % (first[:2], second[:2])
     return None
 
 
@@ -178,6 +181,18 @@ def one_path(path):
     return None
 
 
+def one_file(path):
+    """A slice replaces what another wrote, as a whole run replaces what stood in its output."""
+    folder = Folder(path)
+    whole = folder.whole()
+    _, _, first = folder.run("--slice", "1/2")
+    with folder.start("--slice", "2/2") as running:
+        _, errors = running.communicate(timeout=120)
+    if running.returncode != 0 or folder.outputs() != [all_of[len(part) :] for all_of, part in zip(whole, first)]:
+        return "a second slice into the files of the first: %d %s" % (running.returncode, errors.decode())
+    return None
+
+
 def unordered_marks(path):
     folder = Folder(path)
     whole = folder.whole()
@@ -195,7 +210,7 @@ def unordered_marks(path):
 
 
 def bad(path):
-    tests = [cut_item, full_disk, lambda it: changed(it, True), lambda it: changed(it, False), one_path, unordered_marks]
+    tests = [cut_item, full_disk, lambda it: changed(it, True), lambda it: changed(it, False), one_path, one_file, unordered_marks]
     for number, test in enumerate(tests):
         room = pathlib.Path(path).joinpath(str(number))
         room.mkdir()

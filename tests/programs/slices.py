@@ -224,7 +224,8 @@ def differs(folder, graph, seed):
     if status != 0:
         return "check: %d" % status, False
     if "slices none" in report:
-        for words in (["--slice", "1/2"], ["--from", "0"], ["--jobs", "2"]):
+        outputs = [word for name in graph.sinks for word in ("-o", "%s=%s.part" % (name, name))]
+        for words in (["--slice", "1/2"], ["--from", "0"], ["--jobs", "2"], ["--resume", *outputs]):
             status, _, errors = call(folder, "run", *words, *inputs, "graph.toml")
             if status != 1 or not errors.startswith("flow: refused 63 NoSlices "):
                 return "%s is not refused: %d %s" % (" ".join(words), status, errors), False
