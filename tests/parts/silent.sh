@@ -73,8 +73,9 @@ one_of_two_pipes() {
 produced() {
     sed 's/"byte"/"int"/; s/10/0/' "$chains" >ints.toml
     head -c 160000 "${start[-1]}" >in
-    go --quiet -i a=a -i b=b -o oa=oa -o ob=ob ints.toml
+    # (a run that opened a pipe while it was held open here would see its end once it is let go)
     exec {to_a}>&- {to_b}>&-
+    go --quiet -i a=a -i b=b -o oa=oa -o ob=ob ints.toml
     timeout 60 bash -c "$1" || { echo "the producer ended in $?" && return 1; } >&"$told"
     ended 0 'sink oa 40000\nsink ob 40000\ndone\n' && is oa in && is ob in && has errors ''
 }
