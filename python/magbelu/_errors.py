@@ -18,7 +18,7 @@ ROWS = {
     9: ("TooLarge", "there are too many"),
     10: ("BadParameter", "its value is outside its range"),
     11: ("OneToOne", "`tags = \"one\"`, with different numbers of inputs and outputs"),
-    12: ("Gain", "at this block the product of the interpolations along a path exceeds 2^24"),
+    12: ("Gain", "at this block the product of the gains along a path exceeds 2^24"),
     20: ("NoSuchBlock", "no block of the graph has this name"),
     21: ("NotSource", "the block is no vector_source"),
     22: ("NotSink", "the block is no vector_sink"),

@@ -220,7 +220,7 @@ fn whole_finding(
         }
         _ => {
             format!(in alloc;
-                "along a path up to `{name}` the interpolations multiply to more than 16777216"
+                "along a path up to `{name}` the gains multiply to more than 16777216"
             )?
         }
     };

@@ -1,4 +1,4 @@
--- Products of interpolations, told up to one more than the limit.
+-- Products of gains, told up to one more than the limit.
 use Rattle.std.proofs.Common.{◌≡◌, ℕ, zero, suc, ◌+◌, ◌*◌, ◌<◌, ◌≤◌, min, true, false, List, [], ◌∷◌, map, take, set, length, get_or, refl, arith, ap, sym, subst, ◌∙◌, inl, inr, mul_comm, eqb-true, get_or-set_same, get_or-set_other, add-one}
 use Rattle.std.proofs.Math.Nat.{le-mul_of_pos_right, mul-le-mul_left}
 use Rattle.std.specs.Prelude.{◌==◌, nat_lt, None}
@@ -9,10 +9,9 @@ use Rattle.stream_model.specs.Lists.{below}
 use Rattle.stream_model.specs.Meaning.{Meaning}
 use Rattle.stream_model.specs.Network as model
 use Rattle.stream_model.specs.Network.{HasLevels}
-use Rattle.stream_model.specs.Firings.{given_at}
 use Rattle.stream_model.proofs.Maps.{map-agree}
 use Rattle.graph_model.specs.Rates.{greatest_of}
-use Rattle.graph_model.specs.Graphs.{gain_by, interpolation, most_gain, reaches_by, level_of}
+use Rattle.graph_model.specs.Graphs.{gain_by, gain_of, block_gain, most_gain, reaches_by, level_of}
 use Rattle.graph_laws.specs.Tables.{to_block}
 use Rattle.graph_laws.proofs.Levels.{reaches_by-from, levels_rise}
 use Rattle.graph_laws.proofs.Members.{from_filter, filter_test, from_map, in_head, in_tail, in_map, in_filter, greatest_of-from, fold_max-is}
@@ -103,11 +102,11 @@ module _ (own : List ℕ) (cs : List Connection) (first now : List ℕ) (i : ℕ
   raised_same is few h = (let up = carries (h.1 writer) is in All-more (Reached now) cs i d at h.0 (omega arith), h.1, h.2)
 
 module _ {B : Type 0} (meaning : B → Meaning) (es : List (Entry B)) (cs : List Connection) (within : AreWithin (length es) cs) where
-  -- the interpolation of a block
-  pub own_is : (own : List ℕ) → own ≡ map (λ (e : Entry B). given_at ((meaning e.block).rate 0)) es → (b : ℕ) → b < length es → get_or own b 0 ≡ interpolation (net meaning es cs) b
+  -- the gain of a block
+  pub own_is : (own : List ℕ) → own ≡ map (λ (e : Entry B). gain_of (meaning e.block)) es → (b : ℕ) → b < length es → get_or own b 0 ≡ block_gain (net meaning es cs) b
   own_is own are b low = ap (λ o. get_or o b 0) are ∙ at es b low (get_or es b)
     where
-      at : (xs : List (Entry B)) (b : ℕ) → b < length xs → (Entry B → Entry B) → get_or (map (λ (e : Entry B). given_at ((meaning e.block).rate 0)) xs) b 0 ≡ interpolation (net meaning xs cs) b
+      at : (xs : List (Entry B)) (b : ℕ) → b < length xs → (Entry B → Entry B) → get_or (map (λ (e : Entry B). gain_of (meaning e.block)) xs) b 0 ≡ block_gain (net meaning xs cs) b
       at [] b low f = absurd (omega arith)
       at (x ∷ xs) zero low f = refl
       at (x ∷ xs) (suc b) low f = at xs b (omega arith) f
@@ -148,11 +147,11 @@ module _ {B : Type 0} (meaning : B → Meaning) (es : List (Entry B)) (cs : List
     settled : (turns b : ℕ) → level_of (net meaning es cs) b < turns → gain_by (suc turns) (net meaning es cs) b ≡ gain_by turns (net meaning es cs) b
     settled zero b low = absurd (omega arith)
     settled (suc turns) b low =
-        ap (λ xs. interpolation (net meaning es cs) b * greatest_of (1 ∷ xs))
+        ap (λ xs. block_gain (net meaning es cs) b * greatest_of (1 ∷ xs))
         (map-agree (λ (c : model.Connection). level_of (net meaning es cs) c.from < level_of (net meaning es cs) b) (λ c. gain_by (suc turns) (net meaning es cs) c.from) (λ c. gain_by turns (net meaning es cs) c.from)
         (to_block (net meaning es cs) b) (lower b) (λ c up. settled turns c.from (omega arith)))
 
-    module _ (own : List ℕ) (own_of : own ≡ map (λ (e : Entry B). given_at ((meaning e.block).rate 0)) es) where
+    module _ (own : List ℕ) (own_of : own ≡ map (λ (e : Entry B). gain_of (meaning e.block)) es) where
       -- no connection carries more than the product of its reader
       pub closed : All (λ c. carried_to own (λ b. min most (gain_by (length es) (net meaning es cs) b)) c ≤ min most (gain_by (length es) (net meaning es cs) c.to.0)) cs
       closed k d low =
@@ -166,28 +165,28 @@ module _ {B : Type 0} (meaning : B → Meaning) (es : List (Entry B)) (cs : List
           (in_tail 1 (gain_by (length es) (net meaning es cs) c.from.0) (map (λ c. gain_by (length es) (net meaning es cs) c.from) (to_block (net meaning es cs) c.to.0))
           (in_map (λ (c : model.Connection). gain_by (length es) (net meaning es cs) c.from) (to_block (net meaning es cs) c.to.0) (connection_of c)
           (in_filter (λ e. e.to == c.to.0) (map connection_of cs) (connection_of c) (in_map connection_of cs c (Contains-get_or cs k d low)) (eq-eqb c.to.0 c.to.0 refl)))) in
-          let step : interpolation (net meaning es cs) c.to.0 * gain_by (length es) (net meaning es cs) c.from.0 ≤ gain_by (suc (length es)) (net meaning es cs) c.to.0 = mul-le-mul_left (interpolation (net meaning es cs) c.to.0) one in
-          let same : min most (get_or own c.to.0 0 * min most (gain_by (length es) (net meaning es cs) c.from.0)) ≡ min most (interpolation (net meaning es cs) c.to.0 * gain_by (length es) (net meaning es cs) c.from.0) =
-          ap (λ i. min most (i * min most (gain_by (length es) (net meaning es cs) c.from.0))) (own_is own own_of c.to.0 both.1) ∙ capped-mul (interpolation (net meaning es cs) c.to.0) (gain_by (length es) (net meaning es cs) c.from.0) in
+          let step : block_gain (net meaning es cs) c.to.0 * gain_by (length es) (net meaning es cs) c.from.0 ≤ gain_by (suc (length es)) (net meaning es cs) c.to.0 = mul-le-mul_left (block_gain (net meaning es cs) c.to.0) one in
+          let same : min most (get_or own c.to.0 0 * min most (gain_by (length es) (net meaning es cs) c.from.0)) ≡ min most (block_gain (net meaning es cs) c.to.0 * gain_by (length es) (net meaning es cs) c.from.0) =
+          ap (λ i. min most (i * min most (gain_by (length es) (net meaning es cs) c.from.0))) (own_is own own_of c.to.0 both.1) ∙ capped-mul (block_gain (net meaning es cs) c.to.0) (gain_by (length es) (net meaning es cs) c.from.0) in
           capped-le _ _ _ _ same step here
 
-  pub at_least : (turns b : ℕ) → interpolation (net meaning es cs) b ≤ gain_by turns (net meaning es cs) b
+  pub at_least : (turns b : ℕ) → block_gain (net meaning es cs) b ≤ gain_by turns (net meaning es cs) b
   at_least zero b = omega arith
   at_least (suc turns) b =
       let one : 1 ≤ greatest_of (1 ∷ map (λ c. gain_by turns (net meaning es cs) c.from) (to_block (net meaning es cs) b)) =
       greatest_of-from (1 ∷ map (λ c. gain_by turns (net meaning es cs) c.from) (to_block (net meaning es cs) b)) 1 (in_head 1 (map (λ c. gain_by turns (net meaning es cs) c.from) (to_block (net meaning es cs) b))) in
-      let step : interpolation (net meaning es cs) b * 1 ≤ gain_by (suc turns) (net meaning es cs) b = mul-le-mul_left (interpolation (net meaning es cs) b) one in
+      let step : block_gain (net meaning es cs) b * 1 ≤ gain_by (suc turns) (net meaning es cs) b = mul-le-mul_left (block_gain (net meaning es cs) b) one in
       omega arith
 
   -- a turn that carries products along all connections tells those of one connection more
-  module _ (own : List ℕ) (own_of : own ≡ map (λ (e : Entry B). given_at ((meaning e.block).rate 0)) es) where
+  module _ (own : List ℕ) (own_of : own ≡ map (λ (e : Entry B). gain_of (meaning e.block)) es) where
     pub carried_more :
-        (old new : ℕ → ℕ) → All (λ c. carried_to own old c ≤ new c.to.0) cs → ((b : ℕ) → b < length es → min most (interpolation (net meaning es cs) b) ≤ new b) → (turns : ℕ) →
+        (old new : ℕ → ℕ) → All (λ c. carried_to own old c ≤ new c.to.0) cs → ((b : ℕ) → b < length es → min most (block_gain (net meaning es cs) b) ≤ new b) → (turns : ℕ) →
         ((b : ℕ) → b < length es → min most (gain_by turns (net meaning es cs) b) ≤ old b) → (b : ℕ) → b < length es → min most (gain_by (suc turns) (net meaning es cs) b) ≤ new b
     carried_more old new carried base turns known b low =
         elim (fold_max-is (λ (c : model.Connection). gain_by turns (net meaning es cs) c.from) 1 (to_block (net meaning es cs) b)) [
-          | inl e ↦ subst (λ x. min most (interpolation (net meaning es cs) b * x) ≤ new b) (sym e) (let own = base b low in let one : interpolation (net meaning es cs) b * 1 ≡ interpolation (net meaning es cs) b = omega arith in omega arith)
-          | inr h ↦ subst (λ x. min most (interpolation (net meaning es cs) b * x) ≤ new b) (sym h.2) (
+          | inl e ↦ subst (λ x. min most (block_gain (net meaning es cs) b * x) ≤ new b) (sym e) (let own = base b low in let one : block_gain (net meaning es cs) b * 1 ≡ block_gain (net meaning es cs) b = omega arith in omega arith)
+          | inr h ↦ subst (λ x. min most (block_gain (net meaning es cs) b * x) ≤ new b) (sym h.2) (
               let c = h.0 in
               let to = eqb-true c.to b (filter_test (λ c. c.to == b) (map connection_of cs) c h.1) in
               let d = from_map connection_of cs c (from_filter (λ c. c.to == b) (map connection_of cs) c h.1) in
@@ -195,13 +194,13 @@ module _ {B : Type 0} (meaning : B → Meaning) (es : List (Entry B)) (cs : List
               let there : min most (get_or own b 0 * old c.from) ≤ new b = subst (λ x. min most (get_or own x 0 * old c.from) ≤ new x) to each in
               let from = subst (λ (e : model.Connection). e.from < length es) d.2
               (All-contains (λ (c : Connection). (c.from.0 < length es) × (c.to.0 < length es) × (c.out_port < 16) × (c.in_port < 16)) cs d.0 within d.1).0 in
-              carried_le (interpolation (net meaning es cs) b) (gain_by turns (net meaning es cs) c.from) (old c.from) (new b) (known c.from from)
+              carried_le (block_gain (net meaning es cs) b) (gain_by turns (net meaning es cs) c.from) (old c.from) (new b) (known c.from from)
               (subst (λ i. min most (i * old c.from) ≤ new b) (own_is own own_of b low) there))
         ]
 
     -- and where it raises nothing, those of all paths
     pub carried_all :
-        (gains : ℕ → ℕ) → All (λ c. carried_to own gains c ≤ gains c.to.0) cs → ((b : ℕ) → b < length es → min most (interpolation (net meaning es cs) b) ≤ gains b) →
+        (gains : ℕ → ℕ) → All (λ c. carried_to own gains c ≤ gains c.to.0) cs → ((b : ℕ) → b < length es → min most (block_gain (net meaning es cs) b) ≤ gains b) →
         (turns b : ℕ) → b < length es → min most (gain_by turns (net meaning es cs) b) ≤ gains b
     carried_all gains carried base zero b low = base b low
     carried_all gains carried base (suc turns) b low = carried_more gains gains carried base turns (λ a h. carried_all gains carried base turns a h) b low
@@ -210,7 +209,7 @@ module _ {B : Type 0} (meaning : B → Meaning) (es : List (Entry B)) (cs : List
     abbrev pub AreTold : ℕ → List ℕ → Type 0
     AreTold turns gains =
         (length gains ≡ length es)
-        × ((b : ℕ) → b < length es → min most (interpolation (net meaning es cs) b) ≤ get_or gains b 0)
+        × ((b : ℕ) → b < length es → min most (block_gain (net meaning es cs) b) ≤ get_or gains b 0)
         × ((b : ℕ) → b < length es → min most (gain_by turns (net meaning es cs) b) ≤ get_or gains b 0)
         × ((b : ℕ) → get_or gains b 0 ≤ min most (gain_by (length es) (net meaning es cs) b))
 
@@ -225,7 +224,7 @@ module _ {B : Type 0} (meaning : B → Meaning) (es : List (Entry B)) (cs : List
       ],
     )
       where
-        first : (b : ℕ) → b < length es → get_or gains b 0 ≡ min most (interpolation (net meaning es cs) b)
+        first : (b : ℕ) → b < length es → get_or gains b 0 ≡ min most (block_gain (net meaning es cs) b)
         first b low = are b low ∙ ap (min most) (own_is own own_of b low)
 
         beyond : (xs : List ℕ) (b : ℕ) → length xs ≤ b → get_or xs b 0 ≡ 0
@@ -239,7 +238,7 @@ module _ {B : Type 0} (meaning : B → Meaning) (es : List (Entry B)) (cs : List
         ((bound : ℕ → ℕ) → ((b : ℕ) → get_or old b 0 ≤ bound b) → All (λ (c : Connection). carried_to own bound c ≤ bound c.to.0) cs → (b : ℕ) → get_or new b 0 ≤ bound b) →
         AreTold turns old → AreTold (turns + 1) new
     told_more no_loop turns old new len reached kept bounded told =
-        let base : (b : ℕ) → b < length es → min most (interpolation (net meaning es cs) b) ≤ get_or new b 0 = λ b low. (let before = told.1 b low in let up = kept b in omega arith) in (
+        let base : (b : ℕ) → b < length es → min most (block_gain (net meaning es cs) b) ≤ get_or new b 0 = λ b low. (let before = told.1 b low in let up = kept b in omega arith) in (
           len ∙ told.0,
           base,
           λ b low. subst (λ t. min most (gain_by t (net meaning es cs) b) ≤ get_or new b 0) (sym (add-one turns)) (carried_more (λ b. get_or old b 0) (λ b. get_or new b 0) reached base turns told.2 b low),

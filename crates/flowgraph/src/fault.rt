@@ -83,7 +83,7 @@ pub enum GraphFault {
     OneToOne {
         block: BlockId,
     },
-    /// Along a path that ends at the block the interpolations have a product above 16,777,216.
+    /// Along a path that ends at the block the gains have a product above 16,777,216.
     Gain {
         block: BlockId,
     },

@@ -3,10 +3,9 @@ ghost use Rattle.std.specs.Prelude.{◌≡◌, ◌≢◌, ◌<◌, ◌≤◌, �
 ghost use Rattle.std.specs.List.{find};
 ghost use Rattle.std.specs.Option.{option_map};
 ghost use Rattle.stream_model.specs.Lists.{below};
-ghost use Rattle.stream_model.specs.Firings.{given_at};
 ghost use Rattle.graph_model.specs.Rates.{greatest_of};
 ghost use Rattle.graph_model.specs.Gains.{greatest_gain};
-ghost use Rattle.graph_model.specs.Graphs.{gain_by, reaches_by, most_gain};
+ghost use Rattle.graph_model.specs.Graphs.{gain_at, gain_by, gain_of, reaches_by, most_gain};
 ghost use Rattle.graph_model.specs.Graphs as model;
 ghost use Rattle.flowgraph.specs.Fault.{told};
 ghost use Rattle.flowgraph.specs.Flowgraph.{net_of, graph_of};
@@ -15,13 +14,14 @@ ghost use Rattle.flowgraph.specs.Turns.{carried, carried_to};
 
 use crate::fault::{GraphFault, Limit};
 use crate::parts::{BlockId, Connection, Entry};
+use crate::ports::MOST_PORTS;
 use block_kinds::Block;
 use std::alloc::{AllocError, Global};
 
-/// The greatest product of interpolations along a path.
+/// The greatest product of gains along a path.
 const MOST_GAIN: u64 = 16_777_216;
 
-/// The greatest product of interpolations along a path, at least 1. Refused is the lowest block at which a path with a product above
+/// The greatest product of the gains of blocks along a path, at least 1. Refused is the lowest block at which a path with a product above
 /// 16,777,216 ends.
 pub fn greatest_gain<B: Block>(
     alloc: Global,
@@ -73,8 +73,8 @@ fn gains<B: Block>(
     ensures each { IfOk result (λ gains. (b : ℕ) → b < length blocks.now →
         slice_index gains.items b ≡ min (most_gain + 1) (gain_by (length blocks.now) (net_of B.meaning (graph_of [] blocks.now connections.now)) b)) }
 {
-    let own = interpolations(alloc, blocks)?;
-    let mut gains = interpolations(alloc, blocks)?;
+    let own = own_gains(alloc, blocks)?;
+    let mut gains = own_gains(alloc, blocks)?;
     cap(&mut gains);
     'turns: for _ in 0..blocks.len() {
         let raised = raise(connections, &own, &mut gains);
@@ -85,23 +85,35 @@ fn gains<B: Block>(
     Ok(gains)
 }
 
-// The interpolation of each block.
-fn interpolations<B: Block>(alloc: Global, blocks: &[Entry<B>]) -> Result<Vec<u64>, AllocError>
-    ensures { IfOk result (λ own. own.items ≡ map (λ e. given_at ((B.meaning e.block).rate 0)) blocks.now) }
+// The gain of each block by itself.
+fn own_gains<B: Block>(alloc: Global, blocks: &[Entry<B>]) -> Result<Vec<u64>, AllocError>
+    ensures { IfOk result (λ own. own.items ≡ map (λ e. gain_of (B.meaning e.block)) blocks.now) }
 {
     let mut own = Vec::with_capacity(alloc, blocks.len())?;
     for entry in blocks {
-        own.push(interpolation_of(entry))?;
+        own.push(own_gain(&entry.block))?;
     }
     Ok(own)
 }
 
-// How many items a firing of the block gives on each output.
-fn interpolation_of<B: Block>(entry: &Entry<B>) -> u64
-    ensures { result ≡ given_at ((B.meaning entry.now.block).rate 0) }
+// The gain of the input of which a firing takes fewest items.
+fn own_gain<B: Block>(block: &B) -> u64
+    ensures { result ≡ gain_of (B.meaning block.now) }
 {
-    match entry.block.rate(0) {
-        Some((_, given)) => given,
+    let inputs = (block.inputs().most as usize).clamp(1, MOST_PORTS);
+    let mut gain = 0;
+    for input in 0..inputs {
+        gain = gain.max(gain_on(block, input));
+    }
+    gain
+}
+
+// How many items come of each that a firing takes of this input, rounded up.
+fn gain_on<B: Block>(block: &B, input: usize) -> u64
+    ensures { result ≡ gain_at ((B.meaning block.now).rate input) }
+{
+    match block.rate(input) {
+        Some((taken, given)) => (given + taken - 1) / taken,
         None => 1,
     }
 }
@@ -115,7 +127,7 @@ fn cap(gains: &mut [u64])
     }
 }
 
-// Raises the product of each block to which a connection leads, where its own interpolation times that of the writer is more. It answers
+// Raises the product of each block to which a connection leads, where its own gain times that of the writer is more. It answers
 // whether it raised one.
 fn raise(connections: &[Connection], own: &[u64], gains: &mut [u64]) -> bool
     requires within { AreWithin (length gains.old) connections.now }
@@ -138,7 +150,7 @@ fn raise(connections: &[Connection], own: &[u64], gains: &mut [u64]) -> bool
     raised
 }
 
-// A product times an interpolation, up to the limit.
+// A product times a gain, up to the limit.
 fn carried(own: u64, gain: u64) -> u64
     ensures { result ≡ min (most_gain + 1) (own * gain) }
 {

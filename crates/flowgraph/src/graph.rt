@@ -117,7 +117,7 @@ impl<B: Block> Graph<B> {
 
     /// Tests the graph, and makes the tables of it. Refused are, each over all blocks before the next and with the lowest block, a port that is
     /// left out below a used one (inputs first), fewer ports than a block asks for, tags from one to one where inputs and outputs are not equally
-    /// many, a block that reaches itself, and a path whose interpolations have a product above 16,777,216. `Memory` may come at any of these.
+    /// many, a block that reaches itself, and a path whose gains have a product above 16,777,216. `Memory` may come at any of these.
     /// A graph that is refused comes back as it was.
     pub fn validate(self, alloc: Global) -> Result<Valid<B>, (Graph<B>, GraphFault)>
         ensures passed { OnOk result (graph_fault (net_of B.meaning self) ≡ None) }
@@ -168,7 +168,7 @@ impl<B: Block> Graph<B> {
     }
 }
 
-// The tables of a graph that passes all tests, and the greatest product of interpolations along a path.
+// The tables of a graph that passes all tests, and the greatest product of gains along a path.
 fn tested<B: Block>(
     alloc: Global,
     blocks: &[Entry<B>],

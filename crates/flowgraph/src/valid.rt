@@ -25,7 +25,7 @@ use std::fmt;
 use std::marker::Model;
 use stream_model::ItemType;
 
-// The most items that the interpolations along a path may make of a tape.
+// The most items that the gains along a path may make of a tape.
 const MOST_GROWN: u64 = 1 << 61;
 
 /// A valid graph, with tables of how its blocks are wired. No call of it takes memory. A contract sees the blocks with their names, and the
@@ -36,7 +36,7 @@ pub struct Valid<B: Block> {
     connections: Vec<Connection>,
     wiring: Wiring,
     asked: Vec<Asked>,
-    // The greatest product of interpolations along a path.
+    // The greatest product of gains along a path.
     gain: u64,
 }
 
@@ -85,7 +85,7 @@ impl<B: Block> Model for Valid<B> {
 }
 
 impl<B: Block> Valid<B> {
-    /// A graph that passes all tests, with its tables and the greatest product of interpolations along a path.
+    /// A graph that passes all tests, with its tables and the greatest product of gains along a path.
     pub(crate) fn with_tables(
         names: IndexSet<Vec<u8>>,
         blocks: Vec<Entry<B>>,
@@ -283,7 +283,7 @@ impl<B: Block> Valid<B> {
     }
 
     /// How many items a tape may hold so that no path makes more than 2 to the 61st of them: that number, divided by the greatest product of
-    /// interpolations along a path. Then no count of items or firings comes to 2 to the 62nd.
+    /// gains along a path. Then no count of items or firings comes to 2 to the 62nd.
     pub fn longest_tape(&self) -> u64
         ensures value { result ≡ longest_within_gain (net_of B.meaning self.now) }
         ensures fits { IsWithinGain (net_of B.meaning self.now) result }

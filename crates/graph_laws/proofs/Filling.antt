@@ -7,7 +7,7 @@ use Rattle.stream_model.specs.Network.{Network, Connection, HasLevels, node_at, 
 use Rattle.stream_model.proofs.Streams.{elim-true, elim-false}
 use Rattle.stream_model.specs.Firings.{allowed}
 use Rattle.graph_model.specs.Rates.{least_of, greatest_of, count_by}
-use Rattle.graph_model.specs.Graphs.{interpolation, gain_by}
+use Rattle.graph_model.specs.Graphs.{block_gain, gain_by}
 use Rattle.stream_model.proofs.Maps.{map-agree}
 use Rattle.graph_laws.specs.Tables.{to_block, AreCountsAt, AreGains, TablesCompute}
 use Rattle.graph_laws.proofs.Members.{from_filter, filter_test}
@@ -50,7 +50,7 @@ module _ (net : Network) (level : ℕ → ℕ) (levels : HasLevels net level) wh
     gains_by zero b in' h = absurd (omega arith)
     gains_by (suc turns) b in' h =
         table b in'
-        ∙ ap (λ xs. interpolation net b * greatest_of (1 ∷ xs))
+        ∙ ap (λ xs. block_gain net b * greatest_of (1 ∷ xs))
         (map-agree (Lower b) (λ c. gain c.from) (λ c. gain_by turns net c.from) (to_block net b) (lower b)
         (λ c low. let l = low.1 in let below : level c.from < turns = omega arith in gains_by turns c.from low.0 below))
 

@@ -9,13 +9,13 @@ use Rattle.stream_model.specs.Lists.{below}
 use Rattle.stream_model.specs.Meaning.{IsLawful}
 use Rattle.stream_model.specs.Network.{Node, Connection, Network, node_at, longest_tape}
 use Rattle.stream_laws.specs.CanRun.{CanRun}
-use Rattle.graph_model.specs.Graphs.{IsWalk, most_gain, interpolation, gain_along, gain_by, level_of, IsValidGraph}
+use Rattle.graph_model.specs.Graphs.{IsWalk, most_gain, block_gain, gain_along, gain_by, level_of, IsValidGraph}
 use Rattle.graph_model.specs.Gains.{most_grown, IsWithinGain, greatest_gain, longest_within_gain}
 use Rattle.graph_laws.specs.Gains.{FitsItsGain, ValidGraphsFit}
 use Rattle.graph_laws.proofs.Levels.{gain_by-is, gain_most, no_return}
 use Rattle.graph_laws.proofs.Members.{in_tail, greatest_of-from, fold_max-is}
 use Rattle.graph_laws.proofs.Runs.{valid_graphs_run}
-use Rattle.graph_laws.proofs.Short.{gives_at_most}
+use Rattle.graph_model.proofs.Gains.{gives_at_most}
 use Rattle.graph_laws.proofs.Walks.{walk_start, walk_end}
 
 pub greatest_some : (net : Network) → 1 ≤ greatest_gain net
@@ -80,9 +80,9 @@ module _ (names : List (List ℕ)) (net : Network) (valid : IsValidGraph names n
   no_longer one n within =
       elim greatest_is [
         | inl e ↦ (
-            let least : 1 ≤ interpolation net 0 = (gives_at_most (node_at net 0).meaning (can.sound 0).lawful 0).0 in
+            let least : 1 ≤ block_gain net 0 = (gives_at_most (node_at net 0).meaning (can.sound 0).lawful 0).0 in
             let own = within 0 0 [] one refl in
-            let more : 1 * n ≤ interpolation net 0 * n = mul-le-mul_right n least in
+            let more : 1 * n ≤ block_gain net 0 * n = mul-le-mul_right n least in
             rw e (omega arith))
         | inr h ↦ subst (λ g. g * n ≤ most_grown) h.is (within h.first h.last h.walk h.inside h.joins)
       ]

@@ -1,4 +1,4 @@
--- What is computed by turns: which blocks a block reaches, levels, and products of interpolations.
+-- What is computed by turns: which blocks a block reaches, levels, and products of gains.
 use Rattle.std.proofs.Common.{◌≡◌, ℕ, zero, suc, ◌+◌, ◌-◌, ◌*◌, ◌<◌, ◌≤◌, true, List, [], ◌∷◌, ◌++◌, map, length, length-append, get_or, refl, arith, ap, sym, ◌∙◌, inl, inr, eqb-true}
 use Rattle.std.specs.Prelude.{◌==◌, ◌||◌}
 use Rattle.std.proofs.Math.Nat.{mul-le-mul_left, mul-le-mul_right, mul_assoc, mul_comm}
@@ -7,7 +7,7 @@ use Rattle.std.proofs.lemmas.List.Elements.{All-contains, Contains-get_or}
 use Rattle.std.specs.List.{All, Contains, filter}
 use Rattle.stream_model.specs.Network.{Network, Connection, HasLevels}
 use Rattle.graph_model.specs.Rates.{greatest_of}
-use Rattle.graph_model.specs.Graphs.{IsWalk, Reaches, interpolation, gain_along, level_by, level_of, reaches_by, gain_by}
+use Rattle.graph_model.specs.Graphs.{IsWalk, Reaches, block_gain, gain_along, level_by, level_of, reaches_by, gain_by}
 use Rattle.graph_laws.specs.Tables.{to_block}
 use Rattle.graph_laws.proofs.Members.{in_head, in_tail, in_map, in_filter, from_filter, filter_test, any_from, any_is, greatest_of-from, fold_max-is}
 use Rattle.graph_laws.proofs.Walks.{walk_append, walk_start, returns}
@@ -80,21 +80,21 @@ module _ (net : Network) where
   beyond [] = 1
   beyond (c ∷ cs) = gain_along net c.to cs
 
-  gain_along-is : (a : ℕ) (cs : List Connection) → gain_along net a cs ≡ interpolation net a * beyond cs
+  gain_along-is : (a : ℕ) (cs : List Connection) → gain_along net a cs ≡ block_gain net a * beyond cs
   unfolding beyond
   gain_along-is a [] = omega arith
   gain_along-is a (c ∷ cs) = refl
 
-  gain_push : (a : ℕ) (cs : List Connection) (c : Connection) → gain_along net a (cs ++ c ∷ []) ≡ gain_along net a cs * interpolation net c.to
+  gain_push : (a : ℕ) (cs : List Connection) (c : Connection) → gain_along net a (cs ++ c ∷ []) ≡ gain_along net a cs * block_gain net c.to
   gain_push a [] c = refl
   gain_push a (d ∷ cs) c =
-      ap (λ x. interpolation net a * x) (gain_push d.to cs c) ∙ sym (mul_assoc (interpolation net a) (gain_along net d.to cs) (interpolation net c.to))
+      ap (λ x. block_gain net a * x) (gain_push d.to cs c) ∙ sym (mul_assoc (block_gain net a) (gain_along net d.to cs) (block_gain net c.to))
 
   pub gain_by-is : (turns b : ℕ) → (a : ℕ) × (cs : List Connection) × IsWalk net a b cs × (gain_along net a cs ≡ gain_by turns net b)
   gain_by-is zero b = (b, [], refl, refl)
   gain_by-is (suc turns) b =
       elim (fold_max-is (λ (c : Connection). gain_by turns net c.from) 1 (to_block net b)) [
-        | inl e ↦ (b, [], refl, (let alone : interpolation net b * 1 ≡ interpolation net b = omega arith in sym (ap (λ x. interpolation net b * x) e ∙ alone)))
+        | inl e ↦ (b, [], refl, (let alone : block_gain net b * 1 ≡ block_gain net b = omega arith in sym (ap (λ x. block_gain net b * x) e ∙ alone)))
         | inr h ↦ (let c = h.0 in
             let there = from_filter (λ c. c.to == b) net.connections c h.1 in
             let to : c.to ≡ b = eqb-true c.to b (filter_test (λ c. c.to == b) net.connections c h.1) in
@@ -102,8 +102,8 @@ module _ (net : Network) where
               w.0,
               w.1 ++ c ∷ [],
               walk_append net w.0 c.from b w.1 (c ∷ []) w.2 (there, refl, to),
-              gain_push w.0 w.1 c ∙ ap (λ x. x * interpolation net c.to) w.3 ∙ ap (λ x. gain_by turns net c.from * interpolation net x) to
-                  ∙ mul_comm (gain_by turns net c.from) (interpolation net b) ∙ sym (ap (λ x. interpolation net b * x) h.2),
+              gain_push w.0 w.1 c ∙ ap (λ x. x * block_gain net c.to) w.3 ∙ ap (λ x. gain_by turns net c.from * block_gain net x) to
+                  ∙ mul_comm (gain_by turns net c.from) (block_gain net b) ∙ sym (ap (λ x. block_gain net b * x) h.2),
             ))
       ]
 
@@ -117,24 +117,24 @@ module _ (net : Network) where
       greatest_of-from (1 ∷ map (λ (c : Connection). gain_by turns net c.from) (to_block net c.to)) (gain_by turns net c.from)
       (in_tail 1 (gain_by turns net c.from) (map (λ (c : Connection). gain_by turns net c.from) (to_block net c.to))
       (in_map (λ (c : Connection). gain_by turns net c.from) (to_block net c.to) c (in_to c.to c walk.0 refl))) in
-      let step : interpolation net c.to * gain_by turns net c.from ≤ gain_by (suc turns) net c.to = mul-le-mul_left (interpolation net c.to) one in
+      let step : block_gain net c.to * gain_by turns net c.from ≤ gain_by (suc turns) net c.to = mul-le-mul_left (block_gain net c.to) one in
       let from : gain_by turns net c.from ≡ gain_by turns net a = ap (gain_by turns net) walk.1 in
       let more : suc turns + length cs ≡ turns + suc (length cs) = omega arith in
       let same : gain_by (suc turns + length cs) net b ≡ gain_by (turns + suc (length cs)) net b = ap (λ t. gain_by t net b) more in
       let rest = gain_by-from (suc turns) c.to b cs walk.2 in
-      let scaled : interpolation net c.to * gain_by turns net c.from * beyond cs ≤ gain_by (suc turns) net c.to * beyond cs = mul-le-mul_right (beyond cs) step in
-      let order : gain_by turns net a * gain_along net c.to cs ≡ interpolation net c.to * gain_by turns net c.from * beyond cs =
-      ap (λ x. gain_by turns net a * x) (gain_along-is c.to cs) ∙ ap (λ x. x * (interpolation net c.to * beyond cs)) (sym from)
-      ∙ sym (mul_assoc (gain_by turns net c.from) (interpolation net c.to) (beyond cs))
-      ∙ ap (λ x. x * beyond cs) (mul_comm (gain_by turns net c.from) (interpolation net c.to)) in
+      let scaled : block_gain net c.to * gain_by turns net c.from * beyond cs ≤ gain_by (suc turns) net c.to * beyond cs = mul-le-mul_right (beyond cs) step in
+      let order : gain_by turns net a * gain_along net c.to cs ≡ block_gain net c.to * gain_by turns net c.from * beyond cs =
+      ap (λ x. gain_by turns net a * x) (gain_along-is c.to cs) ∙ ap (λ x. x * (block_gain net c.to * beyond cs)) (sym from)
+      ∙ sym (mul_assoc (gain_by turns net c.from) (block_gain net c.to) (beyond cs))
+      ∙ ap (λ x. x * beyond cs) (mul_comm (gain_by turns net c.from) (block_gain net c.to)) in
       omega arith
 
-  gain_by-own : (turns a : ℕ) → interpolation net a ≤ gain_by turns net a
+  gain_by-own : (turns a : ℕ) → block_gain net a ≤ gain_by turns net a
   gain_by-own zero a = omega arith
   gain_by-own (suc turns) a =
       let one : 1 ≤ greatest_of (1 ∷ map (λ (c : Connection). gain_by turns net c.from) (to_block net a)) =
       greatest_of-from (1 ∷ map (λ (c : Connection). gain_by turns net c.from) (to_block net a)) 1 (in_head 1 (map (λ (c : Connection). gain_by turns net c.from) (to_block net a))) in
-      let step : interpolation net a * 1 ≤ gain_by (suc turns) net a = mul-le-mul_left (interpolation net a) one in
+      let step : block_gain net a * 1 ≤ gain_by (suc turns) net a = mul-le-mul_left (block_gain net a) one in
       omega arith
 
   -- where levels rise, no block reaches itself
@@ -191,5 +191,5 @@ module _ (net : Network) where
         let turns = length net.nodes - length cs in
         let whole : length net.nodes - length cs + length cs ≡ length net.nodes = omega arith in
         let same = ap (λ t. gain_by t net b) whole in
-        let own : interpolation net a * beyond cs ≤ gain_by turns net a * beyond cs = mul-le-mul_right (beyond cs) (gain_by-own turns a) in
+        let own : block_gain net a * beyond cs ≤ gain_by turns net a * beyond cs = mul-le-mul_right (beyond cs) (gain_by-own turns a) in
         omega (arith, gain_along-is a cs, gain_by-from turns a b cs walk)

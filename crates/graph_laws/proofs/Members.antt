@@ -1,11 +1,14 @@
 -- The elements of lists that a test keeps, and the greatest of what a function gives of them.
-use Rattle.std.proofs.Common.{◌≡◌, ℕ, zero, suc, ◌<◌, ◌≤◌, max, Bool, true, false, List, [], ◌∷◌, map, length, get_or, refl, arith, ap, sym, ◌∙◌, subst, inl, inr}
+use Rattle.std.proofs.Common.{◌≡◌, ℕ, zero, suc, ◌+◌, ◌<◌, ◌≤◌, max, Bool, true, false, List, [], ◌∷◌, map, length, get_or, refl, arith, ap, sym, ◌∙◌, subst, inl, inr}
 use Rattle.std.specs.Prelude.{◌⊎◌, cond}
 use Rattle.std.proofs.lemmas.Bool.{cases_lt, both_ways}
 use Rattle.std.proofs.lemmas.List.{length-map, get_or-map}
+use Rattle.std.proofs.lemmas.List.FromFn.{map-range_with_len_more}
+use Rattle.std.proofs.lemmas.List.Sums.{fold-append}
 use Rattle.std.proofs.lemmas.List.Elements.{All-filter, filter_passes, All-contains, All-contains_itself}
 use Rattle.std.proofs.lemmas.List.Folds.{Any-from_list_any, list_any-from_Any}
 use Rattle.std.specs.List.{Contains, AllPairs, filter, fold, list_any}
+use Rattle.stream_model.specs.Lists.{below}
 use Rattle.graph_model.specs.Rates.{greatest_of}
 use Rattle.graph_model.proofs.FiringCounts.{All-unfilter}
 use Rattle.graph_model.proofs.Sizes.{fold_max-each}
@@ -37,6 +40,10 @@ any_is test xs h = let a = Any-from_list_any test xs h in (a.1, (a.0, a.2, a.3),
 
 pub greatest_of-from : (xs : List ℕ) (x : ℕ) → Contains xs x → x ≤ greatest_of xs
 greatest_of-from xs x h = All-contains (λ y. y ≤ greatest_of xs) xs x (fold_max-each 0 xs) h
+
+-- the greatest of one number more
+pub greatest_of-more : (f : ℕ → ℕ) (n : ℕ) → greatest_of (map f (below (n + 1))) ≡ max (greatest_of (map f (below n))) (f n)
+greatest_of-more f n = ap greatest_of (map-range_with_len_more f 0 n n (omega arith)) ∙ fold-append max 0 (map f (below n)) (f n ∷ [])
 
 -- the greatest of what a function gives is the start, or given of an element
 module _ {X : Type 0} (f : X → ℕ) where

@@ -1,72 +1,32 @@
--- Streams of a valid graph are short: along a path, interpolations multiply a tape's length, and delays add to it.
-use Rattle.std.proofs.Common.{◌≡◌, ℕ, zero, suc, ◌+◌, ◌*◌, ◌/◌, ◌<◌, ◌≤◌, Bool, true, false, List, [], ◌∷◌, ◌++◌, length, refl, arith, ap, sym, ◌∙◌, subst, All, Option, Some, None, inl, inr}
+-- Streams of a valid graph are short: along a path, gains multiply a tape's length, and delays add to it.
+use Rattle.std.proofs.Common.{◌≡◌, ℕ, zero, suc, ◌+◌, ◌*◌, ◌<◌, ◌≤◌, min, max, Bool, true, false, List, [], ◌∷◌, ◌++◌, length, refl, arith, ap, sym, ◌∙◌, subst, All, inl, inr}
 use Rattle.std.specs.List.{Contains}
-use Rattle.std.proofs.Math.Nat.{mul-le-mul_left, mul-le-mul_right, mul_assoc, mul_comm, mul-add, mul-pos, div-le_self}
-use Rattle.std.proofs.lemmas.Bool.{cases_Bool, cases_lt}
+use Rattle.std.proofs.Math.Nat.{mul-le-mul_left, mul-le-mul_right, mul_assoc, mul_comm, mul-add, mul-pos}
+use Rattle.std.proofs.lemmas.Bool.{cases_Bool, cases_lt, ltb-true}
 use Rattle.std.proofs.lemmas.List.{get_or_past}
-use Rattle.std.proofs.lemmas.List.Elements.{All-contains_itself}
-use Rattle.stream_model.specs.declared.vocabulary.Shift.{Shift}
-use Rattle.stream_model.specs.declared.vocabulary.Shift.TheVariants.{No, Skip, Delay}
-use Rattle.stream_model.specs.Meaning.{Meaning, IsLawful, HasCounts, IsShifted, input}
+use Rattle.std.proofs.lemmas.List.Elements.{All-contains, All-contains_itself}
+use Rattle.stream_model.specs.Meaning.{IsLawful, input}
 use Rattle.stream_model.specs.Network.{Node, Connection, Network, Handed, node_at, role_at, handed_at, is_source, writers_of, writer_of, no_connection, taken_by, entering, items_of}
-use Rattle.stream_model.specs.Firings.{given_at}
 use Rattle.stream_model.proofs.Counts.{fires_near_taken}
 use Rattle.stream_laws.specs.CanRun.{CanRun}
 use Rattle.stream_laws.specs.Past.{fires_of}
 use Rattle.stream_laws.proofs.Writers.{All-writers, is_input, entering-source, entering-input, length-entering, items-source}
 use Rattle.stream_laws.proofs.Later.{held_by_inputs, items-length}
-use Rattle.graph_model.specs.Graphs.{IsWalk, most_gain, most_blocks, interpolation, gain_along, IsValidGraph}
+use Rattle.graph_model.specs.Graphs.{IsWalk, In, Out, has_port, most_gain, most_blocks, most_ports, block_gain, gain_along, IsValidGraph}
 use Rattle.graph_model.specs.Gains.{most_grown, AreWithinGain}
+use Rattle.graph_model.proofs.Gains.{gives_at_most, places_at_most}
 use Rattle.graph_laws.specs.Short.{longest_stream, IsShort, StreamsAreShort}
 use Rattle.graph_laws.proofs.Runs.{valid_graphs_run}
 
-module _ (m : Meaning) (lawful : IsLawful m) where
-  -- firings give at most so many times what they take, behind a delay
-  shifted_gives : (s : Shift) → IsShifted m 0 s → (k : ℕ) → m.given k ≤ m.taken 0 k + 65536
-  shifted_gives No h k = absurd h
-  shifted_gives (Skip a) h k = rw (h.0 k, h.1 k) (omega arith)
-  shifted_gives (Delay a) h k = let few = h.0 in rw (h.1 k, h.2 k) (omega arith)
-
-  counted_gives : (r : Option (ℕ × ℕ)) → HasCounts m 0 r → (k : ℕ) → (1 ≤ given_at r) × (m.given k ≤ given_at r * (m.taken 0 k + 65536))
-  counted_gives None h k = let le = shifted_gives m.shift h k in (omega arith, omega arith)
-  counted_gives (Some r) h k =
-      let each : 1 * k ≤ r.0 * k = mul-le-mul_right k h.1.takes_some in
-      let more : r.1 * k ≤ r.1 * (m.taken 0 k + 65536) = mul-le-mul_left r.1 (let t = h.1.taken k in omega arith) in
-      (h.1.gives_some, rw (h.1.given k) more)
-
-  pub gives_at_most : (k : ℕ) → (1 ≤ given_at (m.rate 0)) × (m.given k ≤ given_at (m.rate 0) * (m.taken 0 k + 65536))
-  gives_at_most k = counted_gives (m.rate 0) (lawful.counts 0) k
-
-  -- and a tag is placed not far from its item's
-  shifted_places : (p : ℕ) (s : Shift) → IsShifted m p s → (a : ℕ) → m.place p a ≤ a + 65536
-  shifted_places p No h a = absurd h
-  shifted_places p (Skip n) h a = rw (h.2 a) (omega arith)
-  shifted_places p (Delay n) h a = let few = h.0 in rw (h.3 a) (omega arith)
-
-  counted_places : (p : ℕ) (o r : Option (ℕ × ℕ)) → HasCounts m 0 o → HasCounts m p r → (a : ℕ) → m.place p a ≤ given_at o * (a + 1 + 65536)
-  counted_places p None None h g a = let le = shifted_places p m.shift g a in omega arith
-  counted_places p None (Some r) h g a = absurd (subst (λ (s : Shift). IsShifted m 0 s) g.0 h)
-  counted_places p (Some o) None h g a = absurd (subst (λ (s : Shift). IsShifted m p s) h.0 g)
-  counted_places p (Some o) (Some r) h g a =
-      let same : r.1 ≡ o.1 = (let e = g.1.given 1 in let f = h.1.given 1 in omega arith) in
-      let far = g.1.not_far a in
-      let less : a / r.0 * r.1 ≤ a * r.1 = mul-le-mul_right r.1 (div-le_self a r.0) in
-      let more : a * o.1 + o.1 ≤ o.1 * (a + 1 + 65536) = omega arith in
-      let e : a * r.1 + r.1 ≡ a * o.1 + o.1 = ap (λ i. a * i + i) same in
-      omega arith
-
-  places_at_most : (p a : ℕ) → m.place p a ≤ given_at (m.rate 0) * (a + 1 + 65536)
-  places_at_most p = counted_places p (m.rate 0) (m.rate p) (lawful.counts 0) (lawful.counts p)
-
 -- a walk with one connection more
 walk_more : (net : Network) (a x : ℕ) (cs : List Connection) (c : Connection) → IsWalk net a x cs → Contains net.connections c → c.from ≡ x →
-    IsWalk net a c.to (cs ++ c ∷ []) × (gain_along net a (cs ++ c ∷ []) ≡ gain_along net a cs * interpolation net c.to)
+    IsWalk net a c.to (cs ++ c ∷ []) × (gain_along net a (cs ++ c ∷ []) ≡ gain_along net a cs * block_gain net c.to)
 walk_more net a x [] c walk there from = ((there, from ∙ sym walk, refl), refl)
 walk_more net a x (d ∷ ds) c walk there from =
     let rest = walk_more net d.to x ds c walk.2 there from in
-    ((walk.0, walk.1, rest.0), ap (λ g. interpolation net a * g) rest.1 ∙ sym (mul_assoc (interpolation net a) (gain_along net d.to ds) (interpolation net c.to)))
+    ((walk.0, walk.1, rest.0), ap (λ g. block_gain net a * g) rest.1 ∙ sym (mul_assoc (block_gain net a) (gain_along net d.to ds) (block_gain net c.to)))
 
--- one block more on the way: its interpolation multiplies, and its delay adds
+-- one block more on the way: its gain multiplies, and its delay adds
 step : (g i t low high x y : ℕ) → 1 ≤ g → low < high → x ≤ g * (t + 65536 * low) → y ≤ i * (x + 65536) → y ≤ g * i * (t + 65536 * high)
 step g i t low high x y some up le last =
     let room : g * (t + 65536 * low + 65536) ≤ g * (t + 65536 * high) = mul-le-mul_left g (let e : t + 65536 * low + 65536 ≤ t + 65536 * high = omega arith in e) in
@@ -81,7 +41,7 @@ module _ (net : Network) (can : CanRun net) (hs : List Handed) where
   abbrev tape_of : ℕ → ℕ
   tape_of b = length (handed_at hs b).tape
 
-  -- a path from a source to a block, whose interpolations bound its streams
+  -- a path from a source to a block, whose gains bound its streams
   record IsBounded (b : ℕ) : Type 0 where
     pub first : ℕ
     pub within : first < length net.nodes
@@ -91,8 +51,8 @@ module _ (net : Network) (can : CanRun net) (hs : List Handed) where
     pub some : 1 ≤ gain_along net first walk
     pub items : (p : ℕ) → length (items_of net hs b p) ≤ gain_along net first walk * (tape_of first + 65536 * can.level b)
 
-  interpolation-some : (b : ℕ) → 1 ≤ interpolation net b
-  interpolation-some b = (gives_at_most (node_at net b).meaning (can.sound b).lawful 0).0
+  block_gain-some : (b : ℕ) → 1 ≤ block_gain net b
+  block_gain-some b = (gives_at_most (node_at net b).meaning (can.sound b).lawful 0).0
 
   source_bounded : (b : ℕ) → b < length net.nodes → is_source (role_at net b) ≡ true → IsBounded b
   source_bounded b in' e =
@@ -102,10 +62,10 @@ module _ (net : Network) (can : CanRun net) (hs : List Handed) where
         source = e;
         walk = [];
         joins = refl;
-        some = interpolation-some b;
+        some = block_gain-some b;
         items = λ p.
             let same = ap length (items-source net hs can.level can.levels b p in' e) in
-            let times : 1 * (tape_of b + 65536 * can.level b) ≤ interpolation net b * (tape_of b + 65536 * can.level b) = mul-le-mul_right (tape_of b + 65536 * can.level b) (interpolation-some b) in
+            let times : 1 * (tape_of b + 65536 * can.level b) ≤ block_gain net b * (tape_of b + 65536 * can.level b) = mul-le-mul_right (tape_of b + 65536 * can.level b) (block_gain-some b) in
             omega arith;
       }
 
@@ -116,19 +76,19 @@ module _ (net : Network) (can : CanRun net) (hs : List Handed) where
     abbrev longer : List Connection
     longer = before.walk ++ writer_of net b q ∷ []
 
-    more : IsWalk net before.first (writer_of net b q).to longer × (gain_along net before.first longer ≡ gain_along net before.first before.walk * interpolation net (writer_of net b q).to)
+    more : IsWalk net before.first (writer_of net b q).to longer × (gain_along net before.first longer ≡ gain_along net before.first before.walk * block_gain net (writer_of net b q).to)
     more = walk_more net before.first (writer_of net b q).from before.walk (writer_of net b q) before.joins there refl
 
     longer_joins : IsWalk net before.first b longer
     longer_joins = subst (λ x. IsWalk net before.first x longer) (is_input net can b q at).to more.0
 
-    longer_gain : gain_along net before.first longer ≡ gain_along net before.first before.walk * interpolation net b
-    longer_gain = more.1 ∙ ap (λ x. gain_along net before.first before.walk * interpolation net x) (is_input net can b q at).to
+    longer_gain : gain_along net before.first longer ≡ gain_along net before.first before.walk * block_gain net b
+    longer_gain = more.1 ∙ ap (λ x. gain_along net before.first before.walk * block_gain net x) (is_input net can b q at).to
 
     -- what the block makes of an input of so many items
-    makes : (y : ℕ) → y ≤ interpolation net b * (length (items_of net hs (writer_of net b q).from (writer_of net b q).out_port) + 65536) → y ≤ gain_along net before.first longer * (tape_of before.first + 65536 * can.level b)
+    makes : (y : ℕ) → y ≤ block_gain net b * (length (items_of net hs (writer_of net b q).from (writer_of net b q).out_port) + 65536) → y ≤ gain_along net before.first longer * (tape_of before.first + 65536 * can.level b)
     makes y le =
-        let bound = step (gain_along net before.first before.walk) (interpolation net b) (tape_of before.first) (can.level (writer_of net b q).from) (can.level b)
+        let bound = step (gain_along net before.first before.walk) (block_gain net b) (tape_of before.first) (can.level (writer_of net b q).from) (can.level b)
         (length (items_of net hs (writer_of net b q).from (writer_of net b q).out_port)) y before.some (is_input net can b q at).lower (before.items (writer_of net b q).out_port) le in
         subst (λ g. y ≤ g * (tape_of before.first + 65536 * can.level b)) (sym longer_gain) bound
 
@@ -140,13 +100,13 @@ module _ (net : Network) (can : CanRun net) (hs : List Handed) where
         source = before.source;
         walk = longer b in' 0 at before;
         joins = longer_joins b in' 0 at before;
-        some = rw (longer_gain b in' 0 at before) (mul-pos before.some (interpolation-some b));
+        some = rw (longer_gain b in' 0 at before) (mul-pos before.some (block_gain-some b));
         items = λ p. makes b in' 0 at before (length (items_of net hs b p)) (
             let given = items-length net can hs b p in' in
             let most = (gives_at_most (node_at net b).meaning (can.sound b).lawful ((node_at net b).multiple * fires_of net hs b)).1 in
             let holds = held_by_inputs net can hs b 0 (let l = length-entering net hs b e in omega arith) in
             let stream = ap length (entering-input net hs b 0 e at) in
-            let times : interpolation net b * (taken_by (node_at net b) 0 (fires_of net hs b) + 65536) ≤ interpolation net b * (length (items_of net hs (writer_of net b 0).from (writer_of net b 0).out_port) + 65536) = mul-le-mul_left (interpolation net b) (omega arith) in
+            let times : block_gain net b * (taken_by (node_at net b) 0 (fires_of net hs b) + 65536) ≤ block_gain net b * (length (items_of net hs (writer_of net b 0).from (writer_of net b 0).out_port) + 65536) = mul-le-mul_left (block_gain net b) (omega arith) in
             omega arith);
       }
 
@@ -202,8 +162,8 @@ module _ (names : List (List ℕ)) (net : Network) (valid : IsValidGraph names n
 
     tape-fits : is_source (role_at net b) ≡ true → length (handed_at hs b).tape ≤ limit
     tape-fits e =
-        let some = interpolation-some net can hs b in
-        let times : 1 * (length (handed_at hs b).tape + 65536 * 0) ≤ interpolation net b * (length (handed_at hs b).tape + 65536 * 0) = mul-le-mul_right (length (handed_at hs b).tape + 65536 * 0) some in
+        let some = block_gain-some net can hs b in
+        let times : 1 * (length (handed_at hs b).tape + 65536 * 0) ≤ block_gain net b * (length (handed_at hs b).tape + 65536 * 0) = mul-le-mul_right (length (handed_at hs b).tape + 65536 * 0) some in
         path_short b b 0 [] (length (handed_at hs b).tape) in' e refl (omega arith) (omega (arith, times))
 
     worker_input : (q : ℕ) → is_source (role_at net b) ≡ false → length (input (entering net hs b) q) ≤ limit
@@ -236,19 +196,34 @@ module _ (names : List (List ℕ)) (net : Network) (valid : IsValidGraph names n
         omega (arith, close, held, short, fits)
 
     source_places : (p s : ℕ) → is_source (role_at net b) ≡ true → s < length (input (entering net hs b) p) → (node_at net b).meaning.place p s ≤ limit
-    source_places p s e on =
-        let tape : length (input (entering net hs b) p) ≤ length (handed_at hs b).tape = rw (entering-source net hs b e) (tape_input p) in
-        let place = places_at_most (node_at net b).meaning (can.sound b).lawful p s in
-        let far : interpolation net b * (s + 1 + 65536) ≤ interpolation net b * (length (handed_at hs b).tape + 65536 * 1) = mul-le-mul_left (interpolation net b) (let e' : s + 1 + 65536 ≤ length (handed_at hs b).tape + 65536 * 1 = omega (arith, tape, on) in e') in
-        path_short b b 1 [] ((node_at net b).meaning.place p s) in' e refl (omega arith) (omega (arith, place, far))
+    source_places zero s e on =
+        let tape : length (input (entering net hs b) 0) ≤ length (handed_at hs b).tape = rw (entering-source net hs b e) (tape_input 0) in
+        let place = places_at_most (node_at net b).meaning (can.sound b).lawful 0 (omega arith) s in
+        let far : block_gain net b * (s + 1 + 65536) ≤ block_gain net b * (length (handed_at hs b).tape + 65536 * 1) = mul-le-mul_left (block_gain net b) (let e' : s + 1 + 65536 ≤ length (handed_at hs b).tape + 65536 * 1 = omega (arith, tape, on) in e') in
+        path_short b b 1 [] ((node_at net b).meaning.place 0 s) in' e refl (omega arith) (omega (arith, place, far))
+    source_places (suc p) s e on =
+        let none : length (input (entering net hs b) (suc p)) ≡ 0 = ap (λ xs. length (input xs (suc p))) (entering-source net hs b e) in
+        absurd (omega (arith, none, on))
+
+    -- an input that is used is one of those that count for the gain
+    is_counted : (p : ℕ) → p < length (writers_of net b) → p < max 1 (min most_ports (node_at net b).meaning.inputs.most)
+    is_counted p at =
+        let before = path (writer_of net b p).from (is_input net can b p at).from in
+        let port = (All-contains (λ (c : Connection). (has_port (node_at net c.from) Out c.out_port ≡ true) × (has_port (node_at net c.to) In c.in_port ≡ true)) net.connections (writer_of net b p)
+        valid.graph.ports (there net can hs b in' p at before)).1 in
+        let own : has_port (node_at net b) In p ≡ true =
+        subst (λ q. has_port (node_at net b) In q ≡ true) (can.numbered b p at)
+        (subst (λ x. has_port (node_at net x) In (writer_of net b p).in_port ≡ true) (is_input net can b p at).to port) in
+        let less = ltb-true p (min most_ports (node_at net b).meaning.inputs.most) own in
+        omega arith
 
     worker_places : (p s : ℕ) → is_source (role_at net b) ≡ false → s < length (input (entering net hs b) p) → (node_at net b).meaning.place p s ≤ limit
     worker_places p s e on =
         elim (cases_lt p (length (writers_of net b))) [
           | inl at ↦ (let before = path (writer_of net b p).from (is_input net can b p at).from in
               let stream = ap length (entering-input net hs b p e at) in
-              let far : interpolation net b * (s + 1 + 65536) ≤ interpolation net b * (length (items_of net hs (writer_of net b p).from (writer_of net b p).out_port) + 65536) = mul-le-mul_left (interpolation net b) (let e' : s + 1 + 65536 ≤ length (items_of net hs (writer_of net b p).from (writer_of net b p).out_port) + 65536 = omega arith in e') in
-              let place = places_at_most (node_at net b).meaning (can.sound b).lawful p s in
+              let far : block_gain net b * (s + 1 + 65536) ≤ block_gain net b * (length (items_of net hs (writer_of net b p).from (writer_of net b p).out_port) + 65536) = mul-le-mul_left (block_gain net b) (let e' : s + 1 + 65536 ≤ length (items_of net hs (writer_of net b p).from (writer_of net b p).out_port) + 65536 = omega arith in e') in
+              let place = places_at_most (node_at net b).meaning (can.sound b).lawful p (is_counted p at) s in
               path_short b before.first (can.level b) (longer net can hs b in' p at before) ((node_at net b).meaning.place p s) before.within before.source (longer_joins net can hs b in' p at before) (level_low b in')
               (makes net can hs b in' p at before ((node_at net b).meaning.place p s) (omega (arith, place, far))))
           | inr past ↦ (let none = ap length (get_or_past (entering net hs b) p [] (let l = length-entering net hs b e in omega arith)) in absurd (omega (arith, none, on)))

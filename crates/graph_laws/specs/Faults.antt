@@ -42,7 +42,7 @@ IsUnequal net b = ((node_at net b).policy ≡ policy.One) × (ports_to net b In 
 abbrev pub IsLooped : Network → ℕ → Type 0
 IsLooped net b = Reaches net b b
 
--- the interpolations along a path that ends at the block have a product above the limit
+-- the gains along a path that ends at the block have a product above the limit
 pub record IsSteep (net : Network) (block : ℕ) : Type 0 where
   pub start : ℕ
   pub path : List Connection

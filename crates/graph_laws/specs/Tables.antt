@@ -4,7 +4,7 @@ use Rattle.std.specs.Prelude.{◌≡◌, ℕ, ◌*◌, ◌<◌, List, ◌∷◌,
 use Rattle.stream_model.specs.Network.{Connection, Network, HasLevels, node_at, role_at, is_source, given_by}
 use Rattle.stream_model.specs.Firings.{allowed}
 use Rattle.graph_model.specs.Rates.{least_of, greatest_of, count_after}
-use Rattle.graph_model.specs.Graphs.{interpolation, gain_by}
+use Rattle.graph_model.specs.Graphs.{block_gain, gain_by}
 
 -- the connections to a block
 abbrev pub to_block : Network → ℕ → List Connection
@@ -17,9 +17,9 @@ pub record AreCountsAt (net : Network) (q : List ℕ) (j : ℕ) (count : ℕ →
       (b : ℕ) → b < length net.nodes → is_source (role_at net b) ≡ false →
       count b ≡ least_of (map (λ c. allowed (node_at net b) c.in_port (given_by (node_at net c.from) (count c.from))) (to_block net b))
 
--- products of interpolations: the block's own, times the greatest of its writers'
+-- products of gains: the block's own, times the greatest of its writers'
 abbrev pub AreGains : Network → (ℕ → ℕ) → Type 0
-AreGains net gain = (b : ℕ) → b < length net.nodes → gain b ≡ interpolation net b * greatest_of (1 ∷ map (λ c. gain c.from) (to_block net b))
+AreGains net gain = (b : ℕ) → b < length net.nodes → gain b ≡ block_gain net b * greatest_of (1 ∷ map (λ c. gain c.from) (to_block net b))
 
 -- where connections form no loop, the tables hold what the definitions by turns say
 pub record TablesCompute : Type 0 where

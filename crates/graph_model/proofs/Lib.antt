@@ -1,4 +1,5 @@
 pub mod FiringCounts
+pub mod Gains
 pub mod Growth
 pub mod Room
 pub mod Sizes

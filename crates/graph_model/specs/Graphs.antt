@@ -1,6 +1,6 @@
 -- Valid graphs: networks whose blocks have names, within limits and with the ports that the blocks ask for. Where nothing else is said
 -- the rules are own; ports and their types are those of the GNU Radio manual (io_signature).
-use Rattle.std.specs.Prelude.{◌≡◌, ◌≢◌, ℕ, zero, suc, ◌*◌, ◌^◌, ◌<◌, ◌≤◌, min, List, [], ◌∷◌, length, map, filter, filter_map, find, All, AllPairs, Contains, Option, Some, None, is_some, is_none, option_map, Bool, true, false, ◌&&◌, ◌||◌, not, nat_le, nat_lt, ◌==◌, if◌then◌else◌, slice_get, bytes_eq}
+use Rattle.std.specs.Prelude.{◌≡◌, ◌≢◌, ℕ, zero, suc, ◌+◌, ◌-◌, ◌*◌, ◌/◌, ◌^◌, ◌<◌, ◌≤◌, min, max, List, [], ◌∷◌, length, map, filter, filter_map, find, All, AllPairs, Contains, Option, Some, None, is_some, is_none, option_map, Bool, true, false, ◌&&◌, ◌||◌, not, nat_le, nat_lt, ◌==◌, if◌then◌else◌, slice_get, bytes_eq}
 use Rattle.std.specs.Char.{is_ascii_alphanumeric}
 use Rattle.std.specs.List.{list_all, list_any}
 use Rattle.stream_model.specs.declared.vocabulary.Policy.{Policy}
@@ -12,11 +12,10 @@ use Rattle.stream_model.specs.Lists.{below}
 use Rattle.stream_model.specs.Meaning.{Meaning}
 use Rattle.stream_model.specs.Network.{Node, Connection, Network, HasLevels, node_at, enters}
 use Rattle.stream_model.specs.Numbers.{types_agree}
-use Rattle.stream_model.specs.Firings.{given_at}
 use Rattle.graph_model.specs.Rates.{greatest_of}
 
 -- the limits of a graph: blocks, connections, ports on a side of a block, bytes of a name, base firings in one, items of a configured
--- capacity, and the product of the interpolations along a path
+-- capacity, and the product of the gains of the blocks along a path
 abbrev pub most_blocks : ℕ
 most_blocks = 256
 
@@ -93,13 +92,22 @@ pub record Reaches (net : Network) (a b : ℕ) : Type 0 where
   pub some : 1 ≤ length walk
   pub joins : IsWalk net a b walk
 
--- the product of the interpolations of the blocks on a walk from block a, multiples left aside
-abbrev pub interpolation : Network → ℕ → ℕ
-interpolation net b = given_at ((node_at net b).meaning.rate 0)
+-- how many items come at most of each item that a firing takes, rounded up: one where there is no rate (own)
+abbrev pub gain_at : Option (ℕ × ℕ) → ℕ
+gain_at None = 1
+gain_at (Some r) = (r.1 + r.0 - 1) / r.0
 
+-- the gain of a block: that of the input of which it takes fewest, multiples left aside (own)
+abbrev pub gain_of : Meaning → ℕ
+gain_of m = greatest_of (map (λ p. gain_at (m.rate p)) (below (max 1 (min most_ports m.inputs.most))))
+
+abbrev pub block_gain : Network → ℕ → ℕ
+block_gain net b = gain_of (node_at net b).meaning
+
+-- the product of the gains of the blocks on a walk from block a
 abbrev pub gain_along : Network → ℕ → List Connection → ℕ
-gain_along net a [] = interpolation net a
-gain_along net a (c ∷ cs) = interpolation net a * gain_along net c.to cs
+gain_along net a [] = block_gain net a
+gain_along net a (c ∷ cs) = block_gain net a * gain_along net c.to cs
 
 -- a level for each block, where connections form no loop: how many connections in a row end there at most.
 -- As many turns as there are blocks reach each block
@@ -202,10 +210,10 @@ abbrev pub reaches_by : ℕ → Network → ℕ → ℕ → Bool
 reaches_by zero net a b = false
 reaches_by (suc turns) net a b = list_any (λ c. c.to == b || reaches_by turns net c.to b) (filter (λ c. c.from == a) net.connections)
 
--- the greatest product of interpolations along a path that ends at block b, its own included
+-- the greatest product of gains along a path that ends at block b, its own included
 abbrev pub gain_by : ℕ → Network → ℕ → ℕ
-gain_by zero net b = interpolation net b
-gain_by (suc turns) net b = interpolation net b * greatest_of (1 ∷ map (λ c. gain_by turns net c.from) (filter (λ c. c.to == b) net.connections))
+gain_by zero net b = block_gain net b
+gain_by (suc turns) net b = block_gain net b * greatest_of (1 ∷ map (λ c. gain_by turns net c.from) (filter (λ c. c.to == b) net.connections))
 
 -- the lowest block that a test refuses
 abbrev pub lowest : Network → (ℕ → Bool) → (ℕ → GraphFault) → Option GraphFault

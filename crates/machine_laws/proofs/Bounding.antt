@@ -1,17 +1,14 @@
--- Counts stay small: interpolations along a path make no more of a tape than is allowed, and each block on it adds at most a delay.
-use Rattle.std.proofs.Common.{◌≡◌, ℕ, zero, suc, ◌+◌, ◌-◌, ◌*◌, ◌^◌, ◌<◌, ◌≤◌, Bool, true, false, List, [], ◌∷◌, ◌++◌, length, Option, Some, None, refl, arith, ap, sym, ◌∙◌, subst, mul-le-mul_left, mul-le-mul_right, mul-pos}
+-- Counts stay small: the gains along a path make no more of a tape than is allowed, and each block on it adds at most a delay.
+use Rattle.std.proofs.Common.{◌≡◌, ℕ, zero, suc, ◌+◌, ◌*◌, ◌^◌, ◌<◌, ◌≤◌, Bool, true, false, List, [], ◌∷◌, ◌++◌, length, refl, arith, ap, sym, ◌∙◌, subst, mul-le-mul_left, mul-le-mul_right, mul-pos}
 use Rattle.std.specs.List.{Contains}
 use Rattle.std.proofs.lemmas.List.Elements.{All-contains_itself}
-use Rattle.stream_model.specs.declared.vocabulary.Shift.{Shift}
-use Rattle.stream_model.specs.declared.vocabulary.Shift.TheVariants.{No, Skip, Delay}
-use Rattle.stream_model.specs.Meaning.{HasCounts, IsShifted}
 use Rattle.stream_model.specs.Network.{Network, Connection, State, node_at, role_at, handed_at, is_source, writers_of, writer_of, no_connection, taken_by, given_by}
 use Rattle.stream_model.specs.Machine.{Capacities}
 use Rattle.stream_model.proofs.Counts.{fires_near_taken}
 use Rattle.stream_model.proofs.Streams.{given_by-rises}
-use Rattle.stream_model.specs.Firings.{given_at}
-use Rattle.graph_model.specs.Graphs.{IsWalk, IsValidGraph, interpolation, gain_along}
+use Rattle.graph_model.specs.Graphs.{IsWalk, IsValidGraph, block_gain, gain_along}
 use Rattle.graph_model.specs.Gains.{most_grown, IsWithinGain, AreWithinGain}
+use Rattle.graph_model.proofs.Gains.{gives_at_most}
 use Rattle.stream_laws.specs.CanRun.{CanRun}
 use Rattle.stream_laws.proofs.Writers.{source_takes, source_gives}
 use Rattle.machine_laws.specs.Sound.{fired, reached, Sound}
@@ -24,48 +21,20 @@ walk_on net a b [] c in' from walk = (in', from ∙ sym walk, refl)
 walk_on net a b (d ∷ cs) c in' from walk = (walk.0, walk.1, walk_on net d.to b cs c in' from walk.2)
 
 -- and its gain by that of the block there
-gain_on : (net : Network) (a : ℕ) (cs : List Connection) (c : Connection) → gain_along net a (cs ++ c ∷ []) ≡ gain_along net a cs * interpolation net c.to
+gain_on : (net : Network) (a : ℕ) (cs : List Connection) (c : Connection) → gain_along net a (cs ++ c ∷ []) ≡ gain_along net a cs * block_gain net c.to
 gain_on net a [] c = refl
 gain_on net a (d ∷ cs) c = let rest = gain_on net d.to cs c in rw rest (omega arith)
 
 module _ (net : Network) (can : CanRun net) where
-  -- firings give at most the interpolation times what they take and a delay
-  module _ (b k : ℕ) where
-    shifted_few : (s : Shift) → IsShifted (node_at net b).meaning 0 s → given_by (node_at net b) k ≤ taken_by (node_at net b) 0 k + 65536
-    shifted_few No h = absurd h
-    shifted_few (Skip n) h =
-        let taken : taken_by (node_at net b) 0 k ≡ (node_at net b).multiple * k = h.0 ((node_at net b).multiple * k) in
-        let given : given_by (node_at net b) k ≡ (node_at net b).multiple * k - n = h.1 ((node_at net b).multiple * k) in
-        omega arith
-    shifted_few (Delay n) h =
-        let few = h.0 in
-        let taken : taken_by (node_at net b) 0 k ≡ (node_at net b).multiple * k - n = h.1 ((node_at net b).multiple * k) in
-        let given : given_by (node_at net b) k ≡ (node_at net b).multiple * k = h.2 ((node_at net b).multiple * k) in
-        omega arith
-
-    gives_at : (r : Option (ℕ × ℕ)) → (node_at net b).meaning.rate 0 ≡ r → HasCounts (node_at net b).meaning 0 r →
-        (1 ≤ interpolation net b) × (given_by (node_at net b) k ≤ interpolation net b * (taken_by (node_at net b) 0 k + 65536))
-    gives_at None e h =
-        let one : interpolation net b ≡ 1 = ap given_at e in
-        let few = shifted_few (node_at net b).meaning.shift h in
-        rw one (omega arith, omega arith)
-    gives_at (Some r) e h =
-        let same : interpolation net b ≡ r.1 = ap given_at e in
-        let some = h.1.gives_some in
-        let taken : taken_by (node_at net b) 0 k ≡ r.0 * ((node_at net b).multiple * k) = h.1.taken ((node_at net b).multiple * k) in
-        let given : given_by (node_at net b) k ≡ r.1 * ((node_at net b).multiple * k) = h.1.given ((node_at net b).multiple * k) in
-        let each = mul-le-mul_right ((node_at net b).multiple * k) h.1.takes_some in
-        let all : r.1 * ((node_at net b).multiple * k) ≤ r.1 * (r.0 * ((node_at net b).multiple * k) + 65536) = mul-le-mul_left r.1 (omega arith) in
-        rw (same, taken, given) (some, all)
-
-    gives_few : (1 ≤ interpolation net b) × (given_by (node_at net b) k ≤ interpolation net b * (taken_by (node_at net b) 0 k + 65536))
-    gives_few = gives_at ((node_at net b).meaning.rate 0) refl ((can.sound b).lawful.counts 0)
+  -- firings give at most the gain times what they take and a delay
+  gives_few : (b k : ℕ) → (1 ≤ block_gain net b) × (given_by (node_at net b) k ≤ block_gain net b * (taken_by (node_at net b) 0 k + 65536))
+  gives_few b k = gives_at_most (node_at net b).meaning (can.sound b).lawful ((node_at net b).multiple * k)
 
   -- what fits is within the limit by itself
   pub alone_fits : (b n : ℕ) → b < length net.nodes → IsWithinGain net n → n ≤ most_grown
   alone_fits b n in1 within =
-      let own : interpolation net b * n ≤ most_grown = within b b [] in1 refl in
-      let more : 1 * n ≤ interpolation net b * n = mul-le-mul_right n (gives_few b 0).0 in
+      let own : block_gain net b * n ≤ most_grown = within b b [] in1 refl in
+      let more : 1 * n ≤ block_gain net b * n = mul-le-mul_right n (gives_few b 0).0 in
       omega arith
 
   module _ (caps : Capacities) (st : State) (sound : Sound net caps st) where
@@ -130,11 +99,11 @@ module _ (net : Network) (can : CanRun net) where
         let path = each (writer_of net b 0).from own.1.1 lower in
         let gives = gives_few b (reached st b) in
         let taken = taken_few b 0 in1 used in
-        let more : interpolation net b * (taken_by (node_at net b) 0 (reached st b) + 65536) ≤ interpolation net b * (given_by (node_at net (writer_of net b 0).from) (reached st (writer_of net b 0).from) + 65536) = mul-le-mul_left (interpolation net b) (omega arith) in
+        let more : block_gain net b * (taken_by (node_at net b) 0 (reached st b) + 65536) ≤ block_gain net b * (given_by (node_at net (writer_of net b 0).from) (reached st (writer_of net b 0).from) + 65536) = mul-le-mul_left (block_gain net b) (omega arith) in
         let gave = gives.1 in
-        let bound = bound_on (interpolation net b) (gain_along net path.from path.walk) (tape_of path.from) (given_by (node_at net (writer_of net b 0).from) (reached st (writer_of net b 0).from)) (given_by (node_at net b) (reached st b)) (can.level (writer_of net b 0).from) (can.level b) path.some (omega arith) path.bounds lower in
-        let gain : gain_along net path.from (path.walk ++ writer_of net b 0 ∷ []) ≡ gain_along net path.from path.walk * interpolation net b = gain_on net path.from path.walk (writer_of net b 0) ∙ ap (λ v. gain_along net path.from path.walk * interpolation net v) own.0 in
-        let some : 1 ≤ gain_along net path.from path.walk * interpolation net b = mul-pos path.some gives.0 in
+        let bound = bound_on (block_gain net b) (gain_along net path.from path.walk) (tape_of path.from) (given_by (node_at net (writer_of net b 0).from) (reached st (writer_of net b 0).from)) (given_by (node_at net b) (reached st b)) (can.level (writer_of net b 0).from) (can.level b) path.some (omega arith) path.bounds lower in
+        let gain : gain_along net path.from (path.walk ++ writer_of net b 0 ∷ []) ≡ gain_along net path.from path.walk * block_gain net b = gain_on net path.from path.walk (writer_of net b 0) ∙ ap (λ v. gain_along net path.from path.walk * block_gain net v) own.0 in
+        let some : 1 ≤ gain_along net path.from path.walk * block_gain net b = mul-pos path.some gives.0 in
         record {
           from = path.from;
           walk = path.walk ++ writer_of net b 0 ∷ [];

@@ -3,14 +3,15 @@ use Rattle.std.proofs.Common.{◌≡◌, ℕ, suc, ◌+◌, ◌-◌, ◌*◌, �
 use Rattle.std.specs.List.{list_all}
 use Rattle.std.specs.Prelude.{nat_le}
 use Rattle.std.proofs.lemmas.Bool.{cases_lt, le-leb, lt-leb}
-use Rattle.std.proofs.lemmas.List.FromFn.{map-range_with_len_more, length-range_with_len, get_or-range_with_len}
-use Rattle.std.proofs.lemmas.List.Sums.{fold-append, list_all-from_AllPass, AllPass-from_list_all}
+use Rattle.std.proofs.lemmas.List.FromFn.{length-range_with_len, get_or-range_with_len}
+use Rattle.std.proofs.lemmas.List.Sums.{list_all-from_AllPass, AllPass-from_list_all}
 use Rattle.std.proofs.lemmas.List.{get_or_default}
 use Rattle.stream_model.specs.Lists.{below, greatest}
 use Rattle.stream_model.specs.Network.{Network, no_connection, node_at, given_by}
 use Rattle.stream_model.proofs.Greatest.{greatest-is}
 use Rattle.graph_model.specs.Rates.{IsBalanced, count_limit, count_after, count_before, ahead, greatest_of, is_past_skip, is_past_skips, past_skips, needed_on, needed_by, fits_limit}
 use Rattle.graph_model.proofs.Room.{past_from, needed_is_enough}
+use Rattle.graph_laws.proofs.Members.{greatest_of-more}
 use Rattle.rates.specs.Tables.{HasRates, connection_at}
 use Rattle.rates.specs.Counts.{HasAdvanced, IsFar, AreNeeded}
 use Rattle.rates.proofs.Wholes.{one_fails}
@@ -52,9 +53,6 @@ same_tests n test other each = at (list_all test (below n)) (list_all other (bel
     at true false e f = sym (below_holds n other (λ k h. sym (each k h) ∙ passes_at n test e k h)) ∙ f
     at false true e f = sym e ∙ below_holds n test (λ k h. each k h ∙ passes_at n other f k h)
 
-greatest_more : (f : ℕ → ℕ) (s : ℕ) → greatest_of (map f (below (s + 1))) ≡ max (greatest_of (map f (below s))) (f s)
-greatest_more f s = ap greatest_of (map-range_with_len_more f 0 s s (omega arith)) ∙ fold-append max 0 (map f (below s)) (f s ∷ [])
-
 module _ (net : Network) (rates : HasRates net) (q : List ℕ) (balanced : IsBalanced net q) where
   -- the first iteration past the skips
   first_at : (j : ℕ) → j ≤ 65536 → ((i : ℕ) → i < j → is_past_skips net q i ≡ false) → is_past_skips net q j ≡ true → past_skips net q ≡ Some j
@@ -85,7 +83,7 @@ module _ (net : Network) (rates : HasRates net) (q : List ℕ) (balanced : IsBal
 
   module _ (step : ℕ) (before after' needed : List ℕ) (stepped : IsStepped net q step before after' needed) (after now : List ℕ) (advanced : HasAdvanced net q step after needed now) where
     now_is : (k : ℕ) → k < length net.connections → get_or now k 0 ≡ greatest_of (map (ahead net q (connection_at net k)) (below (step + 1)))
-    now_is k h = advanced.needed k h ∙ ap (λ n. max n (ahead net q (connection_at net k) step)) (stepped.needed_is k h) ∙ sym (greatest_more (ahead net q (connection_at net k)) step)
+    now_is k h = advanced.needed k h ∙ ap (λ n. max n (ahead net q (connection_at net k) step)) (stepped.needed_is k h) ∙ sym (greatest_of-more (ahead net q (connection_at net k)) step)
 
     now_few : (k : ℕ) → k < length net.connections → get_or now k 0 ≤ 65536
     now_few k h = (let e = advanced.needed k h in let a = advanced.near k h in let b = stepped.needed_few k h in omega arith)

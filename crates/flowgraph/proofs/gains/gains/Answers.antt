@@ -1,8 +1,7 @@
 use Rattle.std.proofs.Common.{◌≡◌, ◌≤◌, ◌+◌, ◌*◌, min, length, get_or, ap, sym, ◌∙◌, arith, subst}
 use Rattle.std.specs.List.{All}
 use Rattle.std.proofs.lemmas.List.{length-map, with_items_is}
-use Rattle.stream_model.specs.Firings.{given_at}
-use Rattle.graph_model.specs.Graphs.{most_gain}
+use Rattle.graph_model.specs.Graphs.{gain_of, most_gain}
 use Rattle.flowgraph.specs.declared.parts.Connection.{Connection}
 use Rattle.flowgraph.specs.Turns.{carried}
 use Rattle.flowgraph.proofs.GainLemmas.{AreTold, told_first, told_more, told_all, told_last}
@@ -15,7 +14,7 @@ turns-init g c =
     let cs = c.args.connections.now in
     let own = c.in_ok-own.own.items in
     let written = with_items_is c.in_ok-gains.gains c.cap.new.gains (c.cap.auto.gains ∙ c.deref_mut.ensures.len) in
-    let len = ap length c.deref_mut.ensures.value ∙ ap length c.in_ok-gains.ensures ∙ length-map es (λ e. given_at ((m e.block).rate 0)) in
+    let len = ap length c.deref_mut.ensures.value ∙ ap length c.in_ok-gains.ensures ∙ length-map es (λ e. gain_of (m e.block)) in
     let seen = c.deref_mut.ensures.value ∙ c.in_ok-gains.ensures ∙ sym c.in_ok-own.ensures in
     subst (AreTold m es cs c.requires.within own c.in_ok-own.ensures 0) (sym written)
     (told_first m es cs c.requires.within own c.in_ok-own.ensures c.cap.new.gains (c.cap.auto.gains ∙ len)
