@@ -6,3 +6,4 @@ pub mod Bits
 pub mod Registers
 pub mod BitStreams
 pub mod Codes
+pub mod Trellis

@@ -1,7 +1,7 @@
 -- The kinds of arithmetic, logic, tables and conversion are lawful.
 use Rattle.std.specs.Ordering.{int_eq}
 use Rattle.std.specs.Int.RustNames.{int_div}
-use Rattle.std.specs.Prelude.{ℕ, ◌-◌, ◌*◌, ◌≤◌, ◌≡◌, suc, ℤ, pos, negsuc, ◌≤ℤ◌, ◌+ℤ◌, ◌*ℤ◌, List, [], ◌∷◌, ◌++◌, length, min, All, unsigned_abs, int_lt, if◌then◌else◌, cond, true, false, bit_and, bit_or, bit_xor, refl}
+use Rattle.std.specs.Prelude.{ℕ, ◌-◌, ◌*◌, ◌≤◌, ◌≡◌, zero, suc, ℤ, pos, negsuc, ◌≤ℤ◌, ◌+ℤ◌, ◌*ℤ◌, List, [], ◌∷◌, ◌++◌, length, take, min, All, unsigned_abs, int_lt, if◌then◌else◌, cond, true, false, bit_and, bit_or, bit_xor, refl}
 use Rattle.std.proofs.Common.{ap, ap₂, subst, sym, ◌∙◌, arith, inl, inr}
 use Rattle.std.proofs.lemmas.Bool.{cases_lt}
 use Rattle.std.proofs.lemmas.Int.{ints}
@@ -11,10 +11,10 @@ use Rattle.stream_model.specs.declared.vocabulary.ItemType.{ItemType}
 use Rattle.stream_model.specs.declared.vocabulary.ItemType.TheVariants.{Byte, Short, Int}
 use Rattle.stream_model.specs.Numbers.{IsItem, AreItems, least_of, greatest_of, numbers_in, wrap, total}
 use Rattle.stream_model.specs.Lists.{item}
-use Rattle.kind_model.specs.Kernels.{scaled, bits_joined, turned, divided, lesser, greater, absolute, clipped}
+use Rattle.kind_model.specs.Kernels.{scaled, bits_in, bits_joined, turned, divided, lesser, greater, absolute, clipped}
 use Rattle.stream_model.specs.Meaning.{input, IsLawful}
 use Rattle.stream_model.specs.Shapes.{number_set, number_at}
-use Rattle.kind_model.specs.Math.{add_const, multiply_const, divide_const, divided_by, quotient, divide, sliced, binary_slicer, mu_law, ulaw_encode, a_law_parts, a_law, alaw_encode, bitwise_const, and_const, or_const, xor_const, scale, items_at, add, product, multiply, difference, sub, least_up_to, minimum, greatest_down_to, maximum, all_bits, bitwise, and_of, or_of, xor_of, not_of, abs, clip, muted, mute, looked_up, map_bb, number_for, table, convert, moving_sum}
+use Rattle.kind_model.specs.Math.{add_const, multiply_const, divide_const, divided_by, quotient, divide, sliced, binary_slicer, mu_law, ulaw_encode, a_law_parts, a_law, alaw_encode, bitwise_const, and_const, or_const, xor_const, scale, items_at, add, product, multiply, difference, sub, least_up_to, minimum, greatest_down_to, maximum, all_bits, bitwise, and_of, or_of, xor_of, last_taken, sample_and_hold, not_of, abs, clip, muted, mute, looked_up, map_bb, number_for, table, convert, moving_sum}
 use Rattle.shape_laws.specs.Shaped.{IsItem-zero, IsItem-wrap, IsItem-sat, IsItem-item, AreItems-input, item-same, past-same, sum_below-same, one_for_one, shaped-lawful}
 
 -- items n of inputs that agree there
@@ -205,6 +205,29 @@ or_of-lawful t = bitwise-lawful bit_or 0 t
 
 pub xor_of-lawful : (t : ItemType) → IsLawful (xor_of t)
 xor_of-lawful t = bitwise-lawful bit_xor 0 t
+
+-- of streams whose first items agree the same is held
+last_taken-same : (x y c d : List ℤ) (k n : ℕ) → take k x ≡ take k y → take k c ≡ take k d → n ≤ k → last_taken x c n ≡ last_taken y d n
+last_taken-same x y c d k zero e g h = refl
+last_taken-same x y c d k (suc n) e g h =
+    let before = last_taken-same x y c d k n e g (omega arith) in
+    let now = item-same x y k n e (omega arith) in
+    let asked = item-same c d k n g (omega arith) in
+    λ i. if int_eq (asked i) (pos 0) then before i else now i
+
+no_bits : (t : ItemType) → bits_in t (pos 0) ≡ 0
+no_bits Byte = refl
+no_bits Short = refl
+no_bits Int = refl
+
+pub sample_and_hold-lawful : (t : ItemType) → IsLawful (sample_and_hold t)
+sample_and_hold-lawful t =
+    shaped-lawful _ _ _ _ _ _ _ _ _ _ one_for_one (omega arith) (omega arith) refl (λ ts xs. no_bits t)
+    (λ ts xs p n h. IsItem-wrap t (last_taken (input xs 0) (input xs 1) (suc n)))
+    (λ ts us xs ys k p n settings inputs h.
+    ap (wrap t) (last_taken-same (input xs 0) (input ys 0) (input xs 1) (input ys 1) (1 * k) (suc n) (inputs.items 0) (inputs.items 1) (omega arith)))
+    (λ ts us xs ys k settings inputs.
+    ap (bits_in t) (last_taken-same (input xs 0) (input ys 0) (input xs 1) (input ys 1) (1 * k) k (inputs.items 0) (inputs.items 1) (omega arith)))
 
 pub not_of-lawful : (t : ItemType) → IsLawful (not_of t)
 not_of-lawful t =

@@ -5,4 +5,5 @@ pub mod Filters
 pub mod Bits
 pub mod BitStreams
 pub mod Codes
+pub mod Trellis
 pub mod Rates

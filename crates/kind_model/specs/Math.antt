@@ -1,4 +1,5 @@
 -- The kinds of arithmetic, logic, tables and conversion: an item for an item.
+use Rattle.std.specs.Ordering.{int_eq}
 use Rattle.std.specs.Prelude.{ℕ, zero, suc, ◌+◌, ◌-◌, ◌*◌, ◌/◌, ◌%◌, ◌^◌, ℤ, pos, negsuc, ◌+ℤ◌, ◌-ℤ◌, ◌*ℤ◌, List, [], ◌∷◌, length, map, min, max, Some, slice_index_or, unsigned_abs, nat_le, int_lt, if◌then◌else◌, bit_and, bit_or, bit_xor}
 use Rattle.stream_model.specs.declared.vocabulary.ItemType.{ItemType}
 use Rattle.stream_model.specs.declared.vocabulary.ItemType.TheVariants.{Byte, Short}
@@ -146,6 +147,20 @@ or_of t = bitwise bit_or 0 t
 -- bitwise exclusive or of the inputs' items (GNU Radio manual)
 abbrev pub xor_of : ItemType → Meaning
 xor_of t = bitwise bit_xor 0 t
+
+-- the item of x at the last of the first n places where c is not 0, and 0 where there is no such place
+abbrev pub last_taken : List ℤ → List ℤ → ℕ → ℤ
+last_taken x c zero = pos 0
+last_taken x c (suc n) = if int_eq (item c n) (pos 0) then last_taken x c n else item x n
+
+-- the item of the first input at the last place where the second is not 0, and 0 before there is one (GNU Radio manual, whose second input has bytes;
+-- wrapping, which changes no item of the type, is own); the word has the bits of the last output
+abbrev pub sample_and_hold : ItemType → Meaning
+sample_and_hold t =
+    record (at_rate (ports 2 t) (ports 1 t) 1 1) {
+      word = λ ts xs k. bits_in t (last_taken (input xs 0) (input xs 1) k);
+      out = λ ts xs p n. wrap t (last_taken (input xs 0) (input xs 1) (suc n));
+    }
 
 -- each item with all bits turned (GNU Radio manual)
 abbrev pub not_of : ItemType → Meaning

@@ -6,3 +6,4 @@ pub mod codes;
 pub mod filters;
 pub mod math;
 pub mod rates;
+pub mod trellis;

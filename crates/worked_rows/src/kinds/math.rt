@@ -5,7 +5,7 @@ ghost use Rattle.stream_model.specs.declared.vocabulary.ItemType.TheVariants.{By
 ghost use Rattle.stream_model.specs.Settings.{Number};
 ghost use Rattle.stream_model.specs.Network.{fires, stream_from};
 ghost use Rattle.worked_rows.specs.Kinds.{numbers, set_at, alone, output_of, output_under, output_in_cuts};
-ghost use Rattle.kind_model.specs.Math.{add_const, multiply_const, divide_const, divide, binary_slicer, ulaw_encode, alaw_encode, and_const, or_const, xor_const, scale, add, multiply, sub, minimum, maximum, and_of, or_of, xor_of, not_of, abs, clip, mute, map_bb, table, convert, moving_sum};
+ghost use Rattle.kind_model.specs.Math.{add_const, multiply_const, divide_const, divide, binary_slicer, ulaw_encode, alaw_encode, and_const, or_const, xor_const, scale, add, multiply, sub, minimum, maximum, and_of, or_of, xor_of, sample_and_hold, not_of, abs, clip, mute, map_bb, table, convert, moving_sum};
 
 /// The rows, each with what it is about above its clauses.
 pub fn rows()
@@ -137,6 +137,18 @@ pub fn rows()
     ensures joins_bits_and_signed { output_of (and_of Short)
         ((negsuc 0 ∷ negsuc 1 ∷ []) ∷ (negsuc 32767 ∷ pos 7 ∷ []) ∷ []) 0
         ≡ negsuc 32767 ∷ pos 6 ∷ [] }
+
+    // 0 at first, and then what stood where the second input last had another number than 0.
+    ensures holds_whole { output_of (sample_and_hold Byte) (numbers (7 ∷ 8 ∷ 9 ∷ 10 ∷ []) ∷ numbers (0 ∷ 1 ∷ 0 ∷ 255 ∷ []) ∷ []) 0
+        ≡ numbers (0 ∷ 8 ∷ 8 ∷ 10 ∷ []) }
+    ensures holds_below_zero { output_of (sample_and_hold Short)
+        ((negsuc 0 ∷ pos 5 ∷ negsuc 32767 ∷ []) ∷ (negsuc 32767 ∷ pos 0 ∷ pos 0 ∷ []) ∷ []) 0
+        ≡ negsuc 0 ∷ negsuc 0 ∷ negsuc 0 ∷ [] }
+    ensures holds_in_cuts { output_in_cuts (sample_and_hold Int)
+        [] ((pos 70000 ∷ negsuc 1 ∷ pos 3 ∷ []) ∷ (pos 1 ∷ negsuc 0 ∷ pos 0 ∷ []) ∷ []) 0
+        ≡ pos 70000 ∷ negsuc 1 ∷ negsuc 1 ∷ [] }
+    ensures holds_bits { (sample_and_hold Byte).word [] (numbers (7 ∷ 8 ∷ []) ∷ numbers (1 ∷ 0 ∷ []) ∷ []) 2 ≡ 7 }
+    ensures holds_bits_below_zero { (sample_and_hold Short).word [] ((negsuc 1 ∷ []) ∷ (pos 1 ∷ []) ∷ []) 1 ≡ 65534 }
 
     // The least short has no positive that is a short.
     ensures drops_the_sign { output_of (abs Short) ((pos 5 ∷ negsuc 4 ∷ negsuc 32767 ∷ []) ∷ []) 0
