@@ -446,6 +446,15 @@ KINDS: Mapping[str, str] = {
         "    rate: 1 for n + its bytes\n"
         "    example: msb_first, 8, 7, 0, 0, 1: 1 7 2 7 gives 1 0\n"
     ),
+    "state_machine": (
+        "state_machine: output[r], where r is s * symbols + x[n] modulo symbols, and the state s, `init` at first, is next[r] from then on\n"
+        "    symbols: 1 to 4096\n"
+        "    next: 1 to 4096 numbers of states, `symbols` of them for each state\n"
+        "    output: as many numbers as `next`, each 0 to 255\n"
+        "    init: the number of a state, of which `next` has `symbols` for each\n"
+        "    rate: 1 for 1\n"
+        "    example: 2, 0 2 0 2 1 3 1 3, 0 3 3 0 1 2 2 1, 0: 1 0 1 1 0 0 gives 3 1 0 2 2 3\n"
+    ),
 }
 
 
@@ -1157,6 +1166,21 @@ class KindBlocks:
         init: Number,
         final_xor: Number,
         n: Number,
+        tags: Policy = ...,
+        multiple: Number = ...,
+        capacity: Number = ...,
+    ) -> str: ...
+
+    @overload
+    def block(
+        self,
+        name: str,
+        kind: Literal["state_machine"],
+        *,
+        symbols: Number,
+        next: Numbers,
+        output: Numbers,
+        init: Number,
         tags: Policy = ...,
         multiple: Number = ...,
         capacity: Number = ...,

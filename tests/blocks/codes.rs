@@ -1,8 +1,9 @@
 //! The blocks that check and code frames and symbols.
 use super::runs::{LANE_COUNTS, Trials, is_bad, ramp};
 use code_blocks::BitOrder::{self, LsbFirst, MsbFirst};
-use code_blocks::{Checksum, CrcAppend, CrcCheck};
+use code_blocks::{Checksum, CrcAppend, CrcCheck, StateMachine};
 use parameters::Parameter;
+use std::alloc::Global;
 use std::test::Fail;
 
 // The text "123456789", whose checksums the catalogues have.
@@ -136,6 +137,94 @@ fn refused(rt: HostRuntime) -> Result<(), Fail> {
     ] {
         assert!(rt; is_bad(CrcAppend::new(a, length, rule), bad), "{length}");
         assert!(rt; is_bad(CrcCheck::new(a, length, rule), bad), "{length}");
+    }
+    Ok(())
+}
+
+// The tables of the convolutional code of 1 + D^2 and 1 + D + D^2, whose state is the last two bits, the newest the highest.
+const NEXT: [i64; 8] = [0, 2, 0, 2, 1, 3, 1, 3];
+const OUTPUT: [i64; 8] = [0, 3, 3, 0, 1, 2, 2, 1];
+
+// The code by its polynomials: the bit of the first is the higher.
+fn convolved(alloc: Global, items: &[i64]) -> Result<Vec<i64>, Fail> {
+    let mut out = Vec::new(alloc);
+    let (mut last, mut before) = (0, 0);
+    for item in items {
+        let bit = *item % 2;
+        out.push(2 * ((bit + before) % 2) + (bit + last + before) % 2)?;
+        before = last;
+        last = bit;
+    }
+    Ok(out)
+}
+
+#[test]
+fn machines(rt: HostRuntime) -> Result<(), Fail> {
+    let a = rt.alloc();
+    let trials = Trials::new(&rt, a);
+    let code = StateMachine::new(a, 2, &NEXT, &OUTPUT, 0);
+    trials.gives("a code", code, &[1, 0, 1, 1, 0, 0], &[3, 1, 0, 2, 2, 3])?;
+    for count in LANE_COUNTS {
+        let items = ramp(a, count, 1, 3)?;
+        let code = StateMachine::new(a, 2, &NEXT, &OUTPUT, 0);
+        trials.gives("so many", code, &items, &convolved(a, &items)?)?;
+    }
+    // From state 3, as behind two bits 1.
+    let later = StateMachine::new(a, 2, &NEXT, &OUTPUT, 3);
+    trials.gives("a first state", later, &[0, 0, 1], &[2, 3, 3])?;
+    // Bytes count modulo the number of symbols.
+    let thirds = StateMachine::new(a, 3, &[0, 0, 0], &[7, 8, 255], 0);
+    trials.gives("thirds", thirds, &[0, 4, 254, 255], &[7, 8, 255, 7])
+}
+
+#[test]
+fn large_machines(rt: HostRuntime) -> Result<(), Fail> {
+    let a = rt.alloc();
+    let trials = Trials::new(&rt, a);
+    // With a state for each item it counts them, from the last state on.
+    let mut after = ramp(a, 4_096, 1, 1)?;
+    after[4_095] = 0;
+    let mut numbers = Vec::new(a);
+    for state in 0..4_096 {
+        numbers.push(state % 256)?;
+    }
+    let items = ramp(a, 300, 0, 0)?;
+    let mut counted = Vec::new(a);
+    counted.push(255)?;
+    for n in 0..299 {
+        counted.push(n % 256)?;
+    }
+    let counter = StateMachine::new(a, 1, &after, &numbers, 4_095);
+    trials.gives("a state for each", counter, &items, &counted)?;
+    // With one state it is a table.
+    let stays = ramp(a, 4_096, 0, 0)?;
+    let table = StateMachine::new(a, 4_096, &stays, &numbers, 0);
+    trials.gives("one state", table, &[0, 1, 128, 255], &[0, 1, 128, 255])
+}
+
+#[test]
+fn no_machines(rt: HostRuntime) -> Result<(), Fail> {
+    let a = rt.alloc();
+    let many = ramp(a, 4_097, 0, 0)?;
+    let cases: [(u32, &[i64], &[i64], u32, Parameter); 14] = [
+        (0, &NEXT, &OUTPUT, 0, Parameter::Symbols),
+        (4_097, &[], &[], 9, Parameter::Symbols),
+        (2, &[], &[], 9, Parameter::Next),
+        (1, &many, &many, 0, Parameter::Next),
+        (2, &NEXT[..7], &OUTPUT, 0, Parameter::Next),
+        (16, &NEXT, &OUTPUT, 0, Parameter::Next),
+        (2, &[0, 2, 0, 2, 1, 3, 1, 4], &OUTPUT, 0, Parameter::Next),
+        (2, &[0, 2, 0, 2, 1, 3, 1, -1], &OUTPUT, 0, Parameter::Next),
+        (2, &NEXT, &OUTPUT[..7], 0, Parameter::Output),
+        (2, &NEXT, &many, 9, Parameter::Output),
+        (2, &NEXT, &[0, 3, 3, 0, 1, 2, 2, 256], 9, Parameter::Output),
+        (2, &NEXT, &[0, 3, 3, 0, 1, 2, 2, -1], 0, Parameter::Output),
+        (2, &NEXT, &OUTPUT, 4, Parameter::Init),
+        (8, &[0, 0, 0, 0, 0, 0, 0, 0], &OUTPUT, 1, Parameter::Init),
+    ];
+    for (symbols, next, output, start, bad) in &cases {
+        let made = StateMachine::new(a, *symbols, *next, *output, *start);
+        assert!(rt; is_bad(made, *bad), "{symbols} {start}");
     }
     Ok(())
 }

@@ -110,6 +110,17 @@ def checksum(pen: Pen, type: str) -> dict[str, Any]:
     return {"order": pen.chance.choice(["msb_first", "lsb_first"]), "bits": bits, **numbers, "n": pen.chance.randint(1, 20)}
 
 
+def machine(pen: Pen, type: str) -> dict[str, Any]:
+    symbols, states = pen.chance.randint(1, 5), pen.chance.randint(1, 20)
+    places = range(symbols * states)
+    return {
+        "symbols": symbols,
+        "next": [pen.chance.randrange(states) for _ in places],
+        "output": [pen.item("byte") for _ in places],
+        "init": pen.chance.randrange(states),
+    }
+
+
 def taps(pen: Pen) -> list[int]:
     return [pen.item("short") for _ in range(pen.chance.randint(1, 12))]
 
@@ -146,6 +157,7 @@ BYTES: dict[str, Keys] = {
     "additive_scrambler": register,
     "crc_append": checksum,
     "crc_check": checksum,
+    "state_machine": machine,
 }
 FILTERS: dict[str, Keys] = {
     "fir": lambda pen, type: {"taps": taps(pen), "decimation": pen.chance.randint(1, 4), "shift": pen.chance.randint(0, 31)},

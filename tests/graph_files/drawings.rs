@@ -142,7 +142,7 @@ const UNEVEN_DOT: &str = "digraph {
 
 // Each kind that may stand between a source and a sink, with its keys and the types of both.
 // scripts/generate writes these lines from kinds.toml: KINDS
-const KINDS: [(&str, &str, &str, &str, &str); 59] = [
+const KINDS: [(&str, &str, &str, &str, &str); 60] = [
     ("add_const", "type = \"int\"\nvalue = 1", "int", "int", "value 1<br/>"),
     ("multiply_const", "type = \"int\"\nvalue = 1", "int", "int", "value 1<br/>"),
     ("divide_const", "type = \"int\"\nvalue = 1", "int", "int", "value 1<br/>"),
@@ -202,6 +202,7 @@ const KINDS: [(&str, &str, &str, &str, &str); 59] = [
     ("correlate_access_code", "code = \"1\"\nthreshold = 0", "byte", "byte", ""),
     ("crc_append", "bits = 8\npolynomial = 7\ninit = 0\nfinal_xor = 0\nn = 1", "byte", "byte", ""),
     ("crc_check", "bits = 8\npolynomial = 7\ninit = 0\nfinal_xor = 0\nn = 1", "byte", "byte", ""),
+    ("state_machine", "symbols = 1\nnext = [0]\noutput = [0]\ninit = 0", "byte", "byte", ""),
 ];
 // end of these lines: KINDS
 

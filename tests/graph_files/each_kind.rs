@@ -7,7 +7,7 @@ use std::test::Fail;
 
 // Each kind with all its keys.
 // scripts/generate writes these lines from kinds.toml: KINDS
-const KINDS: [(&str, &str); 62] = [
+const KINDS: [(&str, &str); 63] = [
     ("vector_source", "type = \"short\"\ncapacity = 8\n"),
     ("vector_sink", "type = \"short\"\n"),
     ("null_sink", "type = \"short\"\n"),
@@ -129,6 +129,10 @@ const KINDS: [(&str, &str); 62] = [
     (
         "crc_check",
         "order = \"lsb_first\"\nbits = 32\npolynomial = 79764919\ninit = 4294967295\nfinal_xor = 4294967295\nn = 1020\ntags = \"one\"\nmultiple = 2\ncapacity = 8\n",
+    ),
+    (
+        "state_machine",
+        "symbols = 2\nnext = [0, 1, 1, 0]\noutput = [0, 255, 255, 0]\ninit = 1\ntags = \"one\"\nmultiple = 2\ncapacity = 8\n",
     ),
 ];
 // end of these lines: KINDS

@@ -1,8 +1,8 @@
-//! The kinds that check frames: their rows, and each as a plain loop that divides bit by bit.
+//! The kinds that check and code: their rows, and each as a plain loop, which divides bit by bit where frames are checked.
 
 use crate::kind_contest::{PlainLoop, print_kind};
-use crate::kind_table::{calls, row};
-use code_blocks::{BitOrder, Checksum, CrcAppend, CrcCheck};
+use crate::kind_table::{EACH, calls, row};
+use code_blocks::{BitOrder, Checksum, CrcAppend, CrcCheck, StateMachine};
 use std::io;
 
 // CRC-16/IBM-3740, behind frames of 126 bytes.
@@ -15,19 +15,25 @@ const RULE: Checksum = Checksum {
 };
 const FRAME: usize = 126;
 
+// The convolutional code of 1 + D^2 and 1 + D + D^2.
+const NEXT: [i64; 8] = [0, 2, 0, 2, 1, 3, 1, 3];
+const OUTPUT: [i64; 8] = [0, 3, 3, 0, 1, 2, 2, 1];
+
 /// The loops, by kind.
 #[derive(Drop)]
-enum Frames {
+enum Codes {
     CrcAppend,
     CrcCheck,
+    StateMachine,
 }
 
-impl PlainLoop<u8, u8> for Frames {
+impl PlainLoop<u8, u8> for Codes {
     #[inline(never)]
     fn run(&self, a: &[u8], _b: &[u8], out: &mut [u8], _other: &mut [u8]) {
         match self {
-            Frames::CrcAppend => append(a, out),
-            Frames::CrcCheck => check(a, out),
+            Codes::CrcAppend => append(a, out),
+            Codes::CrcCheck => check(a, out),
+            Codes::StateMachine => encode(a, out),
         }
     }
 }
@@ -63,6 +69,16 @@ fn check(x: &[u8], out: &mut [u8]) {
     }
 }
 
+// What the machine gives from state 0 on.
+fn encode(x: &[u8], out: &mut [u8]) {
+    let mut state = 0;
+    for (y, byte) in out.iter_mut().zip(x) {
+        let row = 2 * state + usize::from(*byte % 2);
+        *y = OUTPUT[row] as u8;
+        state = NEXT[row] as usize;
+    }
+}
+
 /// Prints each row once it is measured.
 pub fn print_codes(rt: &HostRuntime) -> io::Result<()> {
     let alloc = rt.alloc();
@@ -71,13 +87,20 @@ pub fn print_codes(rt: &HostRuntime) -> io::Result<()> {
         row("crc_append", "byte 126 16"),
         CrcAppend::new(alloc, 126, RULE),
         calls(1, 1, 32),
-        &Frames::CrcAppend,
+        &Codes::CrcAppend,
     )?;
     print_kind(
         rt,
         row("crc_check", "byte 126 16"),
         CrcCheck::new(alloc, 126, RULE),
         calls(1, 1, 32),
-        &Frames::CrcCheck,
+        &Codes::CrcCheck,
+    )?;
+    print_kind(
+        rt,
+        row("state_machine", "byte 2 8"),
+        StateMachine::new(alloc, 2, &NEXT, &OUTPUT, 0),
+        EACH,
+        &Codes::StateMachine,
     )
 }

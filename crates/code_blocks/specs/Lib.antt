@@ -1,4 +1,5 @@
 pub mod Divided
 pub mod Faults
 pub mod Kinds
+pub mod Machines
 pub mod Rules

@@ -5,8 +5,10 @@ pub mod crc;
 pub mod crc_append;
 pub mod crc_check;
 mod division;
+pub mod state_machine;
 
 pub use crc::Crc;
 pub use crc_append::CrcAppend;
 pub use crc_check::CrcCheck;
 pub use kind_model::{BitOrder, Checksum};
+pub use state_machine::StateMachine;

@@ -319,6 +319,11 @@ pub(crate) fn text_of(kind: KindName) -> KindText {
             "1 for n + its bytes",
             "msb_first, 8, 7, 0, 0, 1: 1 7 2 7 gives 1 0",
         ),
+        KindName::StateMachine => (
+            "output[r], where r is s * symbols + x[n] modulo symbols, and the state s, `init` at first, is next[r] from then on",
+            "1 for 1",
+            "2, 0 2 0 2 1 3 1 3, 0 3 3 0 1 2 2 1, 0: 1 0 1 1 0 0 gives 3 1 0 2 2 3",
+        ),
     };
     KindText {
         equation,

@@ -191,6 +191,9 @@ fn fixed_words(range: Range) -> &'static str {
         Range::Taps => "1 to 256 numbers, each -32768 to 32767",
         Range::Bytes => "at most 256 numbers, each 0 to 255",
         Range::Lengths => "1 to 16 numbers, each 1 to 1024, at most 1024 together",
+        Range::States => "1 to 4096 numbers of states, `symbols` of them for each state",
+        Range::Outputs => "as many numbers as `next`, each 0 to 255",
+        Range::State => "the number of a state, of which `next` has `symbols` for each",
         Range::Number(..) | Range::Long(_) | Range::AtLeast(..) | Range::Register(_) => "",
     }
 }

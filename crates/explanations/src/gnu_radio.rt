@@ -51,7 +51,7 @@ const KINDS: [(&[u8], KindName); 15] = [
 const CONNECTIONS: [&[u8]; 3] = [b"copy", b"throttle", b"throttle2"];
 
 // The parameters whose key has another name, and how what stands at it differs.
-const KEYS: [(&[u8], Key, &str); 28] = [
+const KEYS: [(&[u8], Key, &str); 29] = [
     (b"id", Key::Name, ""),
     (b"minoutbuf", Key::Capacity, ""),
     (b"const", Key::Parameter(Parameter::Value), ""),
@@ -81,6 +81,7 @@ const KEYS: [(&[u8], Key, &str); 28] = [
         ", which is one more",
     ),
     (b"initial_value", Key::Parameter(Parameter::Init), ""),
+    (b"init_state", Key::Parameter(Parameter::Init), ""),
     (
         b"seed",
         Key::Parameter(Parameter::Init),

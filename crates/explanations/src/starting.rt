@@ -164,12 +164,13 @@ fn value_of(range: Range) -> &'static str {
         | Range::AtLeast(_, _)
         | Range::ItemBits => "1",
         Range::Long(_) => "4",
-        Range::Switch | Range::KeptOffset | Range::ValuesOffset | Range::Threshold => "0",
+        Range::Switch | Range::KeptOffset | Range::ValuesOffset | Range::Threshold | Range::State =>
+            "0",
         Range::Period => "2",
         Range::BitOrder => "\"msb_first\"",
         Range::Code => "\"1\"",
         Range::Items | Range::TargetItems | Range::Taps | Range::Bytes | Range::Lengths => "[1]",
-        Range::Places => "[0]",
+        Range::Places | Range::States | Range::Outputs => "[0]",
     }
 }
 

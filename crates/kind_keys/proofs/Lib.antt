@@ -4,4 +4,5 @@ pub mod Makers
 pub mod Lists
 pub mod Clips
 pub mod Checksums
+pub mod Machines
 pub mod Faults

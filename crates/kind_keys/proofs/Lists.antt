@@ -132,7 +132,7 @@ cut_pattern t zs = cut_items t Values (λ ts. Ok (pattern t ts)) zs
 below-decides : (y z : ℤ) → Decides (int_lt y z) (y <ℤ z)
 below-decides y z = (λ e. lt_z_yes (subst T (sym e) tt), λ h. passed (int_lt y z) h.lt)
 
-all_places-decides : (n : ℕ) (zs : List ℤ) → Decides (list_all (λ z. int_le (pos 0) z && int_lt z (pos n)) zs) (All (λ z. (pos 0 ≤ℤ z) × (z <ℤ pos n)) zs)
+pub all_places-decides : (n : ℕ) (zs : List ℤ) → Decides (list_all (λ z. int_le (pos 0) z && int_lt z (pos n)) zs) (All (λ z. (pos 0 ≤ℤ z) × (z <ℤ pos n)) zs)
 all_places-decides n zs =
     Decides-by_and (λ z. int_le (pos 0) z && int_lt z (pos n)) (λ z. (pos 0 ≤ℤ z) × (z <ℤ pos n)) (list_all (λ z. int_le (pos 0) z && int_lt z (pos n)))
     (λ z. Decides-and (int_le (pos 0) z) (int_lt z (pos n)) (int-decides (pos 0) z) (below-decides z (pos n))) refl (λ _ _. refl) zs

@@ -1,7 +1,7 @@
 -- The parameters of each kind.
 use Rattle.std.specs.Prelude.{◌^◌, List, [], ◌∷◌}
 use Rattle.parameters.specs.declared.fault.Parameter.{Parameter}
-use Rattle.parameters.specs.declared.fault.Parameter.TheVariants.{Value, Factor, Shift, Map, To, Length, Taps, Decimation, Interpolation, K, Modulus, Bits, Mask, Init, N, Ports, Lengths, Low, High, On, Values, Code, Threshold, Order, Places, L, M, Offset, Period, Polynomial, FinalXor}
+use Rattle.parameters.specs.declared.fault.Parameter.TheVariants.{Value, Factor, Shift, Map, To, Length, Taps, Decimation, Interpolation, K, Modulus, Bits, Mask, Init, N, Ports, Lengths, Low, High, On, Values, Code, Threshold, Order, Places, L, M, Offset, Period, Polynomial, FinalXor, Symbols, Next, Output}
 use Rattle.kinds.specs.declared.kind_name.KindName.{KindName}
 use Rattle.kinds.specs.declared.kind_name.KindName.TheVariants as kinds
 use Rattle.kind_keys.specs.declared.range.ItemTypes.{ItemTypes}
@@ -26,6 +26,7 @@ types_of kinds.AdditiveScrambler = types.Bytes
 types_of kinds.CorrelateAccessCode = types.Bytes
 types_of kinds.CrcAppend = types.Bytes
 types_of kinds.CrcCheck = types.Bytes
+types_of kinds.StateMachine = types.Bytes
 types_of _ = types.Any
 
 -- those of a filter, of which the rate goes by this name, of a scrambler and of a checksum
@@ -86,4 +87,5 @@ parameters_of kinds.AdditiveScrambler = register_parameters
 parameters_of kinds.CorrelateAccessCode = (Code, ranges.Code) ∷ (Threshold, ranges.Threshold) ∷ []
 parameters_of kinds.CrcAppend = checksum_parameters
 parameters_of kinds.CrcCheck = checksum_parameters
+parameters_of kinds.StateMachine = (Symbols, ranges.Number 1 4096) ∷ (Next, ranges.States) ∷ (Output, ranges.Outputs) ∷ (Init, ranges.State) ∷ []
 parameters_of _ = []

@@ -9,7 +9,7 @@ use Rattle.kind_model.specs.Filters.{fir, interp_fir}
 use Rattle.kind_model.specs.Rates.{keep_one_in_n, keep_m_in_n, integrate, repeat, insert, permute, interleave, deinterleave, stream_mux, head, skiphead, delay, frame_minimum, frame_maximum, argmax, pattern, counter}
 use Rattle.kind_model.specs.Bits.{pack_k_bits, unpack_k_bits, diff_decoder, diff_encoder, scrambler, descrambler, additive_scrambler}
 use Rattle.kind_model.specs.BitStreams.{repack_bits, packed_to_unpacked, unpacked_to_packed, correlate_access_code}
-use Rattle.kind_model.specs.Codes.{crc_append, crc_check}
+use Rattle.kind_model.specs.Codes.{crc_append, crc_check, state_machine}
 use Rattle.kind_model.specs.declared.vocabulary.Checksum.{Checksum}
 use Rattle.rate_blocks.specs.Lengths.{unsigned}
 use Rattle.parameters.specs.declared.fault.Parameter.{Parameter}
@@ -53,6 +53,7 @@ keeps_list kinds.Pattern = true
 keeps_list kinds.Permute = true
 keeps_list kinds.CrcAppend = true
 keeps_list kinds.CrcCheck = true
+keeps_list kinds.StateMachine = true
 keeps_list _ = false
 
 -- what follows, where a parameter passes its test
@@ -140,6 +141,8 @@ meant kinds.AdditiveScrambler t ms = additive_scrambler (small_at ms (parameter 
 meant kinds.CorrelateAccessCode t ms = correlate_access_code (code_at ms (parameter parameters.Code)) (length (text_at ms (parameter parameters.Code))) (small_at ms (parameter parameters.Threshold))
 meant kinds.CrcAppend t ms = crc_append (small_at ms (parameter parameters.N)) (checksum_at ms)
 meant kinds.CrcCheck t ms = crc_check (small_at ms (parameter parameters.N)) (checksum_at ms)
+meant kinds.StateMachine t ms =
+    state_machine (small_at ms (parameter parameters.Symbols)) (unsigned (numbers_at ms (parameter parameters.Next))) (numbers_at ms (parameter parameters.Output)) (small_at ms (parameter parameters.Init))
 
 -- the same, where the type and the parameters are such as the kind takes; or the first of them that is bad
 abbrev pub made_of : KindName → ItemType → Members → Result Meaning Parameter

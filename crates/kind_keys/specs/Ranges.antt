@@ -1,5 +1,5 @@
 -- What a parameter of a block may be.
-use Rattle.std.specs.Prelude.{ℕ, ◌+◌, ◌-◌, ◌^◌, ℤ, pos, int_le, int_lt, List, [], ◌∷◌, length, sum, Bool, true, false, ◌&&◌, not, nat_le, nat_lt, is_some}
+use Rattle.std.specs.Prelude.{ℕ, ◌+◌, ◌-◌, ◌*◌, ◌/◌, ◌^◌, ℤ, pos, int_le, int_lt, List, [], ◌∷◌, length, sum, Bool, true, false, ◌&&◌, not, nat_eq, nat_le, nat_lt, is_some}
 use Rattle.std.specs.List.{list_all}
 use Rattle.std.specs.Ordering.{int_eq}
 use Rattle.toml.specs.Data.{Members}
@@ -49,6 +49,17 @@ are_distinct (z ∷ zs) = list_all (λ y. not (int_eq z y)) zs && are_distinct z
 abbrev pub are_places : List ℤ → Bool
 are_places zs = is_within 1 256 (length zs) && (list_all (λ z. int_le (pos 0) z && int_lt z (pos (length zs))) zs && are_distinct zs)
 
+-- next states in whole rows of symbols, each the number of a row; a byte for each of them; and the number of a row
+abbrev pub are_states : ℕ → List ℤ → Bool
+are_states symbols zs =
+    is_within 1 4096 (length zs) && (nat_eq (length zs / symbols * symbols) (length zs) && list_all (λ z. int_le (pos 0) z && int_lt z (pos (length zs / symbols))) zs)
+
+abbrev pub are_outputs : List ℤ → List ℤ → Bool
+are_outputs next zs = nat_eq (length zs) (length next) && list_all (is_in Byte) zs
+
+abbrev pub is_state : ℕ → List ℤ → ℕ → Bool
+is_state symbols next n = nat_lt n (length next / symbols)
+
 -- a text has 1 to 64 digits, each 0 or 1
 abbrev pub is_code : List ℕ → Bool
 is_code text = is_within 1 64 (length text) && list_all (is_within 48 49) text
@@ -92,3 +103,6 @@ lies_in ranges.Places t ms p = are_places (numbers_at ms (parameter p))
 lies_in ranges.Taps t ms p = are_taps (numbers_at ms (parameter p))
 lies_in ranges.Bytes t ms p = are_bytes (numbers_at ms (parameter p))
 lies_in ranges.Lengths t ms p = are_lengths (numbers_at ms (parameter p))
+lies_in ranges.States t ms p = are_states (small_at ms (parameter parameters.Symbols)) (numbers_at ms (parameter p))
+lies_in ranges.Outputs t ms p = are_outputs (numbers_at ms (parameter parameters.Next)) (numbers_at ms (parameter p))
+lies_in ranges.State t ms p = is_state (small_at ms (parameter parameters.Symbols)) (numbers_at ms (parameter parameters.Next)) (small_at ms (parameter p))

@@ -163,7 +163,9 @@ fn parameter_form(parameter: Parameter) -> ValueForm
         | Parameter::Taps
         | Parameter::Lengths
         | Parameter::Values
-        | Parameter::Places => ValueForm::Numbers,
+        | Parameter::Places
+        | Parameter::Next
+        | Parameter::Output => ValueForm::Numbers,
         _ => ValueForm::Number,
     }
 }

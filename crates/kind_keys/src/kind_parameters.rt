@@ -17,6 +17,7 @@ pub fn types_of(kind: KindName) -> ItemTypes
         | KindName::CorrelateAccessCode
         | KindName::CrcAppend
         | KindName::CrcCheck
+        | KindName::StateMachine
         | KindName::PackKBits
         | KindName::UnpackKBits
         | KindName::DiffEncoder
@@ -138,6 +139,12 @@ pub fn parameters_of(kind: KindName) -> &'static [(Parameter, Range)]
             (Parameter::Init, Range::Register(0)),
             (Parameter::FinalXor, Range::Register(0)),
             (Parameter::N, Range::Number(1, 1020)),
+        ],
+        KindName::StateMachine => &[
+            (Parameter::Symbols, Range::Number(1, 4096)),
+            (Parameter::Next, Range::States),
+            (Parameter::Output, Range::Outputs),
+            (Parameter::Init, Range::State),
         ],
     }
 }

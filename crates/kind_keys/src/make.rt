@@ -9,7 +9,7 @@ ghost use Rattle.kinds.specs.declared.kind_name.KindName.TheVariants as kinds;
 
 use crate::code::{code_of, is_code};
 use crate::key::Key;
-use crate::make_codes::{make_crc_append, make_crc_check};
+use crate::make_codes::{make_crc_append, make_crc_check, make_state_machine};
 use crate::make_lists::{
     make_fir, make_insert, make_interp_fir, make_map_bb, make_pattern, make_permute,
     make_stream_mux, make_table,
@@ -134,6 +134,7 @@ fn make_of(alloc: Global, kind: KindName, item: ItemType, table: &Table) -> Resu
         KindName::CorrelateAccessCode => make_correlate_access_code(table),
         KindName::CrcAppend => make_crc_append(alloc, table),
         KindName::CrcCheck => make_crc_check(alloc, table),
+        KindName::StateMachine => make_state_machine(alloc, table),
         KindName::KeepOneInN => Ok(Kind::KeepOneInN(KeepOneInN::new(
             item,
             wide(table, Parameter::N),

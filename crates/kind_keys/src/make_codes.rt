@@ -1,4 +1,4 @@
-//! The blocks that are made of a checksum that a table describes.
+//! The blocks that check and code, of what a table describes.
 ghost use Rattle.std.specs.Prelude.{◌≡◌, Ok, None, Some, IfOk, IfErr, true};
 ghost use Rattle.toml.specs.View.{table_view};
 ghost use Rattle.kinds.specs.Kind.{meaning_of};
@@ -9,8 +9,8 @@ ghost use Rattle.stream_model.specs.declared.vocabulary.ItemType.TheVariants as 
 ghost use Rattle.kinds.specs.declared.kind_name.KindName.TheVariants as kinds;
 ghost use Rattle.kind_keys.specs.declared.key.Key.TheVariants as key;
 
-use crate::parameter_values::{bit_order, count, small, wide};
-use code_blocks::{Checksum, CrcAppend, CrcCheck};
+use crate::parameter_values::{bit_order, count, long_numbers, small, wide};
+use code_blocks::{Checksum, CrcAppend, CrcCheck, StateMachine};
 use kinds::Kind;
 use parameters::{ParamFault, Parameter};
 use std::alloc::Global;
@@ -49,6 +49,22 @@ pub(crate) fn make_crc_check(alloc: Global, table: &Table) -> Result<Kind, Param
     let rule = checksum(table)?;
     match CrcCheck::new(alloc, wide(table, Parameter::N), rule) {
         Ok(block) => Ok(Kind::CrcCheck(block)),
+        Err(fault) => Err(fault),
+    }
+}
+
+pub(crate) fn make_state_machine(alloc: Global, table: &Table) -> Result<Kind, ParamFault>
+    ensures ok { IfOk result (λ block. made_of kinds.StateMachine types.Byte (table_view table.now) ≡ Ok (meaning_of block)) }
+    ensures bad { IfErr result (IsBad true (made_of kinds.StateMachine types.Byte (table_view table.now))) }
+{
+    let (symbols, start) = (
+        small(table, Parameter::Symbols),
+        small(table, Parameter::Init),
+    );
+    let next = long_numbers(table, Parameter::Next);
+    let output = long_numbers(table, Parameter::Output);
+    match StateMachine::new(alloc, symbols, &next, &output, start) {
+        Ok(block) => Ok(Kind::StateMachine(block)),
         Err(fault) => Err(fault),
     }
 }

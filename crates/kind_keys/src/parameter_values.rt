@@ -44,6 +44,13 @@ pub(crate) fn numbers(table: &Table, parameter: Parameter) -> ArrayVec<i64, 257>
     first_numbers_at(table, Key::Parameter(parameter))
 }
 
+/// The list at a parameter, cut behind what is too long for a table of a machine.
+pub(crate) fn long_numbers(table: &Table, parameter: Parameter) -> ArrayVec<i64, 4097>
+    ensures { result.items ≡ take 4097 (tables.numbers_at (table_view table.now) (key.Parameter parameter)) }
+{
+    first_numbers_at(table, Key::Parameter(parameter))
+}
+
 /// The type that a converter gives.
 pub(crate) fn target(table: &Table) -> Result<ItemType, ParamFault>
     ensures ok { IfOk result (λ to. tables.type_at (table_view table.now) (key.Parameter Parameter.To) ≡ Some to) }

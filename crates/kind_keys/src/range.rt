@@ -60,4 +60,10 @@ pub enum Range {
     Bytes,
     /// 1 to 16 numbers, each 1 to 1,024, and at most 1,024 together.
     Lengths,
+    /// 1 to 4,096 numbers of states, as many for each state as the parameter `symbols` says.
+    States,
+    /// A byte for each number of the parameter `next`.
+    Outputs,
+    /// The number of a state, of which there are as many as rows of `symbols` in `next`.
+    State,
 }

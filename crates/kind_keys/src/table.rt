@@ -107,18 +107,18 @@ fn numbers_of(alloc: Global, values: &[Value]) -> Result<Vec<i64>, AllocError>
     Ok(numbers)
 }
 
-/// The first 257 whole numbers of the array at a key: a copy that takes no memory, and enough to tell a list of more than 256.
-pub(crate) fn first_numbers_at(table: &Table, key: Key) -> ArrayVec<i64, 257>
-    ensures { result.items ≡ take 257 (tables.numbers_at (table_view table.now) key) }
+/// The first so many whole numbers of the array at a key: a copy that takes no memory, and enough to tell a list that has as many.
+pub(crate) fn first_numbers_at<const COUNT: usize>(table: &Table, key: Key) -> ArrayVec<i64, COUNT>
+    ensures { result.items ≡ take COUNT (tables.numbers_at (table_view table.now) key) }
 {
     first_numbers(values_at(table, key))
 }
 
-fn first_numbers(values: &[Value]) -> ArrayVec<i64, 257>
-    ensures { result.items ≡ take 257 (tables.numbers_of (items_view values.now)) }
+fn first_numbers<const COUNT: usize>(values: &[Value]) -> ArrayVec<i64, COUNT>
+    ensures { result.items ≡ take COUNT (tables.numbers_of (items_view values.now)) }
 {
     let mut numbers = ArrayVec::new();
-    let first = &values[..values.len().min(257)];
+    let first = &values[..values.len().min(COUNT)];
     for value in first {
         numbers.push(number_of(value));
     }

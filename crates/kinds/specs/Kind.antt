@@ -3,7 +3,7 @@ use Rattle.std.specs.Prelude.{◌≡◌, true}
 use Rattle.stream_model.specs.Meaning.{Meaning, IsLawful}
 use Rattle.kinds.specs.contracts.kind.KindPartialEq.TheImpl as equality
 use Rattle.kinds.specs.declared.kind.Kind.{Kind}
-use Rattle.kinds.specs.declared.kind.Kind.TheVariants.{VectorSource, VectorSink, NullSink, AddConst, MultiplyConst, Scale, Add, And, Or, Xor, Not, Convert, MapBb, MovingSum, Fir, InterpFir, KeepOneInN, Integrate, Repeat, Interleave, Deinterleave, StreamMux, Head, SkipHead, Delay, PackKBits, UnpackKBits, DiffDecoder, DiffEncoder, Scrambler, Descrambler, AdditiveScrambler, AndConst, OrConst, XorConst, Clip, Abs, Mute, Multiply, Minimum, Maximum, Table, KeepMInN, Insert, Permute, RepackBits, PackedToUnpacked, UnpackedToPacked, CorrelateAccessCode, CrcAppend, CrcCheck, Sub, DivideConst, Divide, BinarySlicer, UlawEncode, AlawEncode, FrameMinimum, FrameMaximum, Argmax, Pattern, Counter}
+use Rattle.kinds.specs.declared.kind.Kind.TheVariants.{VectorSource, VectorSink, NullSink, AddConst, MultiplyConst, Scale, Add, And, Or, Xor, Not, Convert, MapBb, MovingSum, Fir, InterpFir, KeepOneInN, Integrate, Repeat, Interleave, Deinterleave, StreamMux, Head, SkipHead, Delay, PackKBits, UnpackKBits, DiffDecoder, DiffEncoder, Scrambler, Descrambler, AdditiveScrambler, AndConst, OrConst, XorConst, Clip, Abs, Mute, Multiply, Minimum, Maximum, Table, KeepMInN, Insert, Permute, RepackBits, PackedToUnpacked, UnpackedToPacked, CorrelateAccessCode, CrcAppend, CrcCheck, StateMachine, Sub, DivideConst, Divide, BinarySlicer, UlawEncode, AlawEncode, FrameMinimum, FrameMaximum, Argmax, Pattern, Counter}
 use Rattle.kinds.specs.Ends.{source_meaning}
 use Rattle.math_blocks.specs.Kinds.{scale_of, convert_of, map_bb_of, moving_sum_of, constant-same, scale-same, convert-same, map_bb_of-lawful, map_bb-same, clip_of, clip-same, mute_of, mute-same, table_of, table_of-lawful, table-same, binary_slicer_of, binary_slicer-same}
 use Rattle.math_blocks.specs.Joined.{joined-same}
@@ -11,7 +11,7 @@ use Rattle.fir_blocks.specs.Kinds.{filter_of, filter-same}
 use Rattle.rate_blocks.specs.Kinds.{counted_of}
 use Rattle.rate_blocks.specs.Mux.{interleave_of, deinterleave_of, stream_mux_of, interleave_of-lawful, deinterleave_of-lawful, stream_mux_of-lawful, stream_mux_of-same}
 use Rattle.bit_blocks.specs.Kinds.{k_bits_of, diff_decoder_of, diff_encoder_of, register_block_of, some_modulus, same_register, repacking_of, repacking_of-lawful, repacking_of-same, correlate_access_code_of, correlate_access_code-same}
-use Rattle.code_blocks.specs.Kinds.{crc_append_of, crc_append_of-lawful, crc_append_of-same, crc_check_of, crc_check_of-lawful, crc_check_of-same}
+use Rattle.code_blocks.specs.Kinds.{crc_append_of, crc_append_of-lawful, crc_append_of-same, crc_check_of, crc_check_of-lawful, crc_check_of-same, state_machine_of, state_machine_of-lawful, state_machine_of-same}
 use Rattle.kind_laws.specs.Ends.{vector_source-lawful, vector_sink-lawful, null_sink-lawful}
 use Rattle.kind_laws.specs.Math.{add_const-lawful, multiply_const-lawful, scale-lawful, add-lawful, and_of-lawful, or_of-lawful, xor_of-lawful, not_of-lawful, convert-lawful, moving_sum-lawful, and_const-lawful, or_const-lawful, xor_const-lawful, clip-lawful, abs-lawful, mute-lawful, multiply-lawful, minimum-lawful, maximum-lawful, sub-lawful, divide_const-lawful, divide-lawful, binary_slicer-lawful, ulaw_encode-lawful, alaw_encode-lawful}
 use Rattle.kind_laws.specs.Filters.{fir-lawful, interp_fir-lawful}
@@ -92,6 +92,7 @@ meaning_of (AdditiveScrambler b) = register_block_of additive_scrambler b
 meaning_of (CorrelateAccessCode b) = correlate_access_code_of b
 meaning_of (CrcAppend b) = crc_append_of b
 meaning_of (CrcCheck b) = crc_check_of b
+meaning_of (StateMachine b) = state_machine_of b
 
 pub meaning_of-lawful : (b : Kind) → IsLawful (meaning_of b)
 meaning_of-lawful (VectorSource b) = vector_source-lawful b.item
@@ -156,6 +157,7 @@ meaning_of-lawful (AdditiveScrambler b) = additive_scrambler-lawful b.register.b
 meaning_of-lawful (CorrelateAccessCode b) = correlate_access_code-lawful b.code b.length b.threshold
 meaning_of-lawful (CrcAppend b) = crc_append_of-lawful b
 meaning_of-lawful (CrcCheck b) = crc_check_of-lawful b
+meaning_of-lawful (StateMachine b) = state_machine_of-lawful b
 
 -- blocks that the derived test finds equal mean the same
 pub meaning_of-same : (a b : Kind) → equality.ghosts.eq a b ≡ true → meaning_of a ≡ meaning_of b
@@ -221,4 +223,5 @@ meaning_of-same (AdditiveScrambler a) (AdditiveScrambler b) e = same_register ad
 meaning_of-same (CorrelateAccessCode a) (CorrelateAccessCode b) e = correlate_access_code-same a b e
 meaning_of-same (CrcAppend a) (CrcAppend b) e = crc_append_of-same a b e
 meaning_of-same (CrcCheck a) (CrcCheck b) e = crc_check_of-same a b e
+meaning_of-same (StateMachine a) (StateMachine b) e = state_machine_of-same a b e
 meaning_of-same _ _ e = absurd (false≢true e)

@@ -69,6 +69,7 @@ kind_text kinds.AdditiveScrambler = codes "additive_scrambler"
 kind_text kinds.CorrelateAccessCode = codes "correlate_access_code"
 kind_text kinds.CrcAppend = codes "crc_append"
 kind_text kinds.CrcCheck = codes "crc_check"
+kind_text kinds.StateMachine = codes "state_machine"
 
 -- all kinds
 abbrev pub all_kinds : List KindName
@@ -81,7 +82,7 @@ all_kinds =
     ∷ kinds.Repeat ∷ kinds.Insert ∷ kinds.Pattern ∷ kinds.Counter ∷ kinds.Permute ∷ kinds.Interleave ∷ kinds.Deinterleave
     ∷ kinds.StreamMux ∷ kinds.Head ∷ kinds.SkipHead ∷ kinds.Delay ∷ kinds.PackKBits ∷ kinds.UnpackKBits ∷ kinds.RepackBits
     ∷ kinds.PackedToUnpacked ∷ kinds.UnpackedToPacked ∷ kinds.DiffEncoder ∷ kinds.DiffDecoder ∷ kinds.Scrambler ∷ kinds.Descrambler
-    ∷ kinds.AdditiveScrambler ∷ kinds.CorrelateAccessCode ∷ kinds.CrcAppend ∷ kinds.CrcCheck ∷ []
+    ∷ kinds.AdditiveScrambler ∷ kinds.CorrelateAccessCode ∷ kinds.CrcAppend ∷ kinds.CrcCheck ∷ kinds.StateMachine ∷ []
 
 -- the kind of a name
 abbrev pub kind_named : List ℕ → Option KindName
@@ -151,3 +152,4 @@ name_of (blocks.AdditiveScrambler b) = kinds.AdditiveScrambler
 name_of (blocks.CorrelateAccessCode b) = kinds.CorrelateAccessCode
 name_of (blocks.CrcAppend b) = kinds.CrcAppend
 name_of (blocks.CrcCheck b) = kinds.CrcCheck
+name_of (blocks.StateMachine b) = kinds.StateMachine

@@ -5,7 +5,7 @@ use bit_blocks::{
     PackedToUnpacked, RepackBits, Scrambler, UnpackKBits, UnpackedToPacked,
 };
 use block_kinds::{Block, ByPace, Held, Shape};
-use code_blocks::{CrcAppend, CrcCheck};
+use code_blocks::{CrcAppend, CrcCheck, StateMachine};
 use fir_blocks::{Fir, InterpFir};
 use items::Items;
 use math_blocks::{
@@ -145,6 +145,8 @@ pub enum Kind {
     CrcAppend(CrcAppend),
     /// Tells whether the checksum behind each frame is its own.
     CrcCheck(CrcCheck),
+    /// Goes from state to state, and gives a byte for each.
+    StateMachine(StateMachine),
 }
 
 // A match on a block, where each arm does the same with the block inside.
@@ -213,6 +215,7 @@ macro_rules! on_block {
             Kind::CorrelateAccessCode($block) => $body,
             Kind::CrcAppend($block) => $body,
             Kind::CrcCheck($block) => $body,
+            Kind::StateMachine($block) => $body,
         }
     };
 }

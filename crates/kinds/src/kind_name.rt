@@ -69,9 +69,11 @@ pub enum KindName {
     CorrelateAccessCode,
     CrcAppend,
     CrcCheck,
+    /// Goes from state to state, and gives a byte for each.
+    StateMachine,
 }
 
-const KINDS: [KindName; 62] = [
+const KINDS: [KindName; 63] = [
     KindName::VectorSource,
     KindName::VectorSink,
     KindName::NullSink,
@@ -134,6 +136,7 @@ const KINDS: [KindName; 62] = [
     KindName::CorrelateAccessCode,
     KindName::CrcAppend,
     KindName::CrcCheck,
+    KindName::StateMachine,
 ];
 
 impl KindName {
@@ -221,6 +224,7 @@ impl KindName {
             KindName::CorrelateAccessCode => "correlate_access_code",
             KindName::CrcAppend => "crc_append",
             KindName::CrcCheck => "crc_check",
+            KindName::StateMachine => "state_machine",
         }
     }
 }
@@ -293,6 +297,7 @@ impl Kind {
             Kind::CorrelateAccessCode(_) => KindName::CorrelateAccessCode,
             Kind::CrcAppend(_) => KindName::CrcAppend,
             Kind::CrcCheck(_) => KindName::CrcCheck,
+            Kind::StateMachine(_) => KindName::StateMachine,
         }
     }
 }

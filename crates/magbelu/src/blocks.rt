@@ -5,7 +5,7 @@ pub use bit_blocks::{
     PackedToUnpacked, Register, RepackBits, Scrambler, UnpackKBits, UnpackedToPacked,
 };
 pub use block_kinds::{Taps, Value};
-pub use code_blocks::{Checksum, CrcAppend, CrcCheck};
+pub use code_blocks::{Checksum, CrcAppend, CrcCheck, StateMachine};
 pub use fir_blocks::{Fir, InterpFir};
 pub use kinds::{Kind, KindName, NullSink, VectorSink, VectorSource};
 pub use math_blocks::{

@@ -75,6 +75,12 @@ pub enum Parameter {
     Polynomial,
     /// `final_xor`
     FinalXor,
+    /// `symbols`
+    Symbols,
+    /// `next`
+    Next,
+    /// `output`
+    Output,
 }
 
 impl Parameter {
@@ -113,6 +119,9 @@ impl Parameter {
             Parameter::Period => "period",
             Parameter::Polynomial => "polynomial",
             Parameter::FinalXor => "final_xor",
+            Parameter::Symbols => "symbols",
+            Parameter::Next => "next",
+            Parameter::Output => "output",
             Parameter::Order | Parameter::Places => "order",
         }
     }

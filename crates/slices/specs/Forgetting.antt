@@ -15,7 +15,7 @@ use Rattle.bit_blocks.specs.declared.repacking.Repacking.{Repacking}
 use Rattle.bit_blocks.specs.Kinds.{repacking_of}
 use Rattle.kinds.specs.Kind.{meaning_of}
 use Rattle.kinds.specs.declared.kind.Kind.{Kind}
-use Rattle.kinds.specs.declared.kind.Kind.TheVariants.{VectorSource, VectorSink, NullSink, AddConst, MultiplyConst, DivideConst, AndConst, OrConst, XorConst, Scale, Clip, Abs, Not, Mute, Add, Sub, Multiply, Divide, Minimum, Maximum, And, Or, Xor, MapBb, Table, Convert, BinarySlicer, UlawEncode, AlawEncode, MovingSum, Fir, InterpFir, KeepOneInN, KeepMInN, Integrate, FrameMinimum, FrameMaximum, Argmax, Repeat, Insert, Pattern, Counter, Permute, Interleave, Deinterleave, StreamMux, Head, SkipHead, Delay, PackKBits, UnpackKBits, RepackBits, PackedToUnpacked, UnpackedToPacked, DiffEncoder, DiffDecoder, Scrambler, Descrambler, AdditiveScrambler, CorrelateAccessCode, CrcAppend, CrcCheck}
+use Rattle.kinds.specs.declared.kind.Kind.TheVariants.{VectorSource, VectorSink, NullSink, AddConst, MultiplyConst, DivideConst, AndConst, OrConst, XorConst, Scale, Clip, Abs, Not, Mute, Add, Sub, Multiply, Divide, Minimum, Maximum, And, Or, Xor, MapBb, Table, Convert, BinarySlicer, UlawEncode, AlawEncode, MovingSum, Fir, InterpFir, KeepOneInN, KeepMInN, Integrate, FrameMinimum, FrameMaximum, Argmax, Repeat, Insert, Pattern, Counter, Permute, Interleave, Deinterleave, StreamMux, Head, SkipHead, Delay, PackKBits, UnpackKBits, RepackBits, PackedToUnpacked, UnpackedToPacked, DiffEncoder, DiffDecoder, Scrambler, Descrambler, AdditiveScrambler, CorrelateAccessCode, CrcAppend, CrcCheck, StateMachine}
 use Rattle.slice_laws.specs.Slices.{Settles}
 use Rattle.slice_laws.proofs.Jumps.{head-resumes, additive_scrambler-resumes}
 use Rattle.slice_laws.proofs.Math.{add_const-settles, moving_sum-settles, add-settles, multiply_const-settles, bitwise_const-settles, scale-settles, mute-settles, clip-settles, abs-settles, not-settles, map_bb-settles, table-settles, convert-settles, sub-settles, multiply-settles, minimum-settles, maximum-settles, bitwise-settles, divide_const-settles, divide-settles, binary_slicer-settles, ulaw_encode-settles, alaw_encode-settles}
@@ -162,6 +162,7 @@ look_back_of-holds (AdditiveScrambler b) is = λ c. record {
 look_back_of-holds (CorrelateAccessCode b) is = past _ (64 + b.length) 1 (λ p. refl) (λ right f reached. correlate_access_code-settles b.code b.length b.threshold right f (λ p. let r = reached p in omega arith))
 look_back_of-holds (CrcAppend b) is = paced _ b.crc.length (λ p. refl) (λ right f reached. crc_append-settles b.crc.length b.crc.rule right f b.crc.is.some reached)
 look_back_of-holds (CrcCheck b) is = paced _ (b.crc.length + bytes_of b.crc.rule) (λ p. refl) (λ right f reached. crc_check-settles b.crc.length b.crc.rule right f reached)
+look_back_of-holds (StateMachine b) is = absurd (cc)
 
 -- a block that does not count goes on as it is
 pub counts_of-holds : (k : Kind) → counts_of k ≡ false → (c : ℕ) → later_of k c ≡ meaning_of k

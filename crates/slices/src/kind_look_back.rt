@@ -34,9 +34,11 @@ impl Forgets for Kind {
 
     fn look_back(&self) -> LookBack {
         match self {
-            Kind::Pattern(_) | Kind::Counter(_) | Kind::DiffEncoder(_) | Kind::Scrambler(_) => {
-                LookBack::Everything
-            }
+            Kind::Pattern(_)
+            | Kind::Counter(_)
+            | Kind::DiffEncoder(_)
+            | Kind::Scrambler(_)
+            | Kind::StateMachine(_) => LookBack::Everything,
             Kind::Descrambler(_) => LookBack::Items(MOST_BITS),
             _ => shown(self),
         }

@@ -5,5 +5,5 @@ use Rattle.kind_keys.specs.Tables.{numbers_of}
 use Rattle.kind_keys.proofs.table.first_numbers.Given as goal
 
 abbrev pub invariant-loop-value : goal.invariant-loop-value
-invariant-loop-value l =
+invariant-loop-value g l =
     (l.numbers.items ++ numbers_of (items_view (drop l.value-index l.first)) ≡ numbers_of (items_view l.first)) × (array_vec_len l.numbers ≡ l.value-index)

@@ -179,3 +179,6 @@ returns-in-CrcCheck-clause-items c = rw c.in-CrcCheck.is c.work-in-CrcCheck.ensu
 
 pub returns-in-CrcCheck-clause-word : goal.returns-in-CrcCheck-clause-word
 returns-in-CrcCheck-clause-word c = rw c.in-CrcCheck.is c.work-in-CrcCheck.ensures.word
+
+pub returns-in-StateMachine-clause-word : goal.returns-in-StateMachine-clause-word
+returns-in-StateMachine-clause-word c = rw c.in-StateMachine.is c.work-in-StateMachine.ensures.word
