@@ -52,7 +52,7 @@ type Row<T> = (
     &'static [T],
 );
 
-const SHORT_ROWS: [Row<i16>; 3] = [
+const SHORT_ROWS: [Row<i16>; 7] = [
     (
         "both ends of shorts",
         &[32767],
@@ -73,6 +73,35 @@ const SHORT_ROWS: [Row<i16>; 3] = [
         &[-32768; 18],
         16,
         &[-32768; 16],
+    ),
+    // No runs, runs of four, a run of four and one of three, and none.
+    (
+        "pairs that sum up to 65,535",
+        &[32767, -32768, 32767, -32768],
+        &[2; 36],
+        0,
+        &[-4; 33],
+    ),
+    (
+        "fours that sum up to 65,532",
+        &[16383; 8],
+        &[32767; 40],
+        18,
+        &[16383; 33],
+    ),
+    (
+        "a four and what is left",
+        &[16383; 7],
+        &[-32768; 39],
+        17,
+        &[-28670; 33],
+    ),
+    (
+        "a pair of the least taps",
+        &[-32768, -32768, 1],
+        &[-32768; 35],
+        17,
+        &[16384; 33],
     ),
 ];
 

@@ -1,5 +1,5 @@
 -- Sixteen outputs, of which every other one stands in one vector and those between in another.
-use Rattle.std.proofs.Common.{◌≡◌, ℕ, ◌+◌, ◌-◌, ◌<◌, ◌≤◌, ◌^◌, List, [], ◌∷◌, ◌++◌, map, take, length, refl, ap, sym, subst, ◌∙◌, arith, ℤ, w16, w32}
+use Rattle.std.proofs.Common.{◌≡◌, ℕ, ◌+◌, ◌-◌, ◌<◌, ◌≤◌, ◌^◌, List, [], ◌∷◌, ◌++◌, map, take, length, refl, ap, sym, subst, ◌∙◌, arith, ℤ, w16, w32, w64}
 use lib.Lanes.{pick_l, put_chunk}
 use mir.Val.{of_z, to_z}
 use Rattle.std.proofs.lemmas.Int.{to_z-of_z}
@@ -9,7 +9,7 @@ use Rattle.stream_model.specs.Lists.{listed}
 use Rattle.stream_model.specs.Numbers.{AreItems, sat, rnd}
 use Rattle.stream_model.specs.declared.vocabulary.ItemType.TheVariants.{Short}
 use Rattle.lane_filters.specs.Words.{AreWithin, every_other, output, spread_sums, tap_sum, weight}
-use Rattle.lane_filters.proofs.Signed.{back}
+use Rattle.lane_filters.proofs.Signed.{back, lanes_fit, nearer}
 use Rattle.lane_filters.proofs.Capped.{short_sat}
 use Rattle.lane_filters.proofs.Lists.{listed_split}
 use Rattle.lane_filters.proofs.RoundedInts.{ints_fit}
@@ -18,8 +18,8 @@ use Rattle.lane_filters.proofs.NarrowSums.{lanes_fit_32, spread_near}
 abbrev pub woven : List ℤ → List ℤ → List ℤ
 woven es os = map (to_z w16) (pick_l 0 (map (of_z w16) es ++ map (of_z w16) os) (0 ∷ 8 ∷ 1 ∷ 9 ∷ 2 ∷ 10 ∷ 3 ∷ 11 ∷ 4 ∷ 12 ∷ 5 ∷ 13 ∷ 6 ∷ 14 ∷ 7 ∷ 15 ∷ []))
 
+-- what lanes of 32 bits hold once the sums are rounded and capped
 module _ (h x : List ℤ) (light : weight h < 2 ^ 16) (range : AreItems Short x) (s : ℕ) where
-  -- what the lanes hold once the sums are rounded and capped
   pub lanes_are : (at : ℕ) (sums rounds caps : List ℤ) → sums ≡ spread_sums h x (length h) at
       → rounds ≡ map (λ z. rnd z s) (map (to_z w32) (map (of_z w32) sums)) → AreWithin (2 ^ 31 - 1) rounds
       → caps ≡ map (sat Short) (map (to_z w32) (map (of_z w32) rounds)) → caps ≡ map (output Short h x s) (every_other at)
@@ -28,6 +28,16 @@ module _ (h x : List ℤ) (light : weight h < 2 ^ 16) (range : AreItems Short x)
       let rounds_back = back w32 rounds (ints_fit rounds near) in
       c ∙ ap (map (sat Short)) (rounds_back ∙ r ∙ ap (map (λ z. rnd z s)) (sums_back ∙ e))
 
+-- and lanes of 64 bits
+pub wide_lanes_are : (h x : List ℤ) (s at : ℕ) (sums rounds caps : List ℤ) → sums ≡ spread_sums h x (length h) at → AreWithin (2 ^ 60) sums
+    → rounds ≡ map (λ z. rnd z s) (map (to_z w64) (map (of_z w64) sums)) → AreWithin (2 ^ 61) rounds
+    → caps ≡ map (sat Short) (map (to_z w64) (map (of_z w64) rounds)) → caps ≡ map (output Short h x s) (every_other at)
+wide_lanes_are h x s at sums rounds caps e sums_near r near c =
+    let sums_back = back w64 sums (lanes_fit sums (nearer (2 ^ 60) (2 ^ 62) sums (omega arith) sums_near)) in
+    let rounds_back = back w64 rounds (lanes_fit rounds (nearer (2 ^ 61) (2 ^ 62) rounds (omega arith) near)) in
+    c ∙ ap (map (sat Short)) (rounds_back ∙ r ∙ ap (map (λ z. rnd z s)) (sums_back ∙ e))
+
+module _ (h x : List ℤ) (s : ℕ) where
   lane : (n m : ℕ) → n ≡ m → to_z w16 (of_z w16 (output Short h x s n)) ≡ output Short h x s m
   lane n m e = to_z-of_z w16 (output Short h x s n) (short_sat (rnd (tap_sum h x (length h) n) s)) ∙ ap (output Short h x s) e
 

@@ -1,5 +1,5 @@
 -- Words of the contracts on vectors.
-use Rattle.std.specs.Prelude.{ℕ, zero, suc, [], ◌∷◌, sum_by, ◌+◌, ◌-◌, ◌*◌, ◌/◌, ◌%◌, ◌^◌, slice_index, ◌≤◌, ℤ, pos, ◌*ℤ◌, ◌+ℤ◌, ◌-ℤ◌, List, length, map}
+use Rattle.std.specs.Prelude.{ℕ, zero, suc, [], ◌∷◌, sum_by, ◌+◌, ◌-◌, ◌*◌, ◌/◌, ◌%◌, ◌^◌, slice_index, ◌≤◌, ◌<◌, ℤ, pos, ◌*ℤ◌, ◌+ℤ◌, ◌-ℤ◌, List, length, map, take, drop}
 use Rattle.std.specs.Int.RustNames.{unsigned_abs}
 use Rattle.std.specs.Simd.Lanes.{Each1}
 use Rattle.stream_model.specs.Lists.{sum_below, item, numbers_from}
@@ -30,6 +30,10 @@ spread_sums h x count at = map (tap_sum h x count) (every_other at)
 -- the taps' distances from 0, summed
 abbrev pub weight : List ℤ → ℕ
 weight h = sum_by unsigned_abs h
+
+-- of each run of so many taps the distances from 0 sum up to less than 2 ^ 16
+abbrev pub AreLight : ℕ → List ℤ → Type 0
+AreLight run h = (k : ℕ) → weight (take run (drop (k * run) h)) < 2 ^ 16
 
 -- a times every other item of sixteen plus b times the one behind it
 abbrev pub paired : ℤ → ℤ → List ℤ → List ℤ

@@ -1,13 +1,15 @@
 //! What a filter does by the item's type: products, and what it writes.
-ghost use Rattle.std.specs.Prelude.{◌≡◌, ◌+◌, ◌<◌, ◌≤◌, ◌^◌, ◌*ℤ◌, length, map, take, All, IsTrue};
+ghost use Rattle.std.specs.Prelude.{◌≡◌, ◌+◌, ◌<◌, ◌≤◌, ◌^◌, ◌*ℤ◌, length, map, take, All};
 ghost use Rattle.std.specs.Simd.Lanes.{zip2, put_chunk};
 ghost use Rattle.stream_model.specs.Lists.{listed};
 ghost use Rattle.stream_model.specs.Numbers.{sat, IsItem, AreItems};
 ghost use Rattle.stream_model.specs.declared.vocabulary.ItemType.TheVariants.{Short};
-ghost use Rattle.lane_filters.specs.Words.{AreWithin, output, weight};
+ghost use Rattle.lane_filters.specs.Words.{AreLight, AreWithin, output};
 
 use crate::fir::write_wide;
 use crate::pairs::write_light;
+use crate::runs::write_runs;
+use crate::sums::nearest_shorts;
 use numbers::Number;
 use std::simd::prelude::*;
 
@@ -34,12 +36,13 @@ pub trait ProductLane: Number {
 
 /// An item type that has filters.
 pub trait FilterLane: ProductLane {
-    /// Writes 32 outputs, from `at` on, where those before stand. `light` says that the taps' distances from 0 sum up to less than `2 ^ 16`.
-    fn write_block(h: &[i16], x: &[Self], at: usize, shift: u32, light: bool, out: &mut [Self])
+    /// Writes 32 outputs, from `at` on, where those before stand. Of each run of so many taps the distances from 0 sum up to less than `2 ^ 16`.
+    fn write_block(h: &[i16], x: &[Self], at: usize, shift: u32, run: usize, out: &mut [Self])
         requires taps { 1 ≤ length h.now }
         requires most { length h.now ≤ 256 }
         requires shift { shift ≤ 31 }
-        requires light { IsTrue light → weight h.now < 2 ^ 16 }
+        requires light { AreLight run h.now }
+        requires few { run ≤ 256 }
         requires room { at + 31 + length h.now ≤ length x.now }
         requires place { at + 32 ≤ length out.old }
         requires taps_in_range { AreItems Short h.now }
@@ -62,10 +65,7 @@ impl ProductLane for i16 {
 
     #[inline(always)]
     fn store(numbers: i64x8, out: &mut [i16], at: usize) {
-        let capped = numbers
-            .simd_max(i64x8::splat(-32768))
-            .simd_min(i64x8::splat(32767));
-        capped.cast::<i16>().copy_to_slice(&mut out[at..]);
+        nearest_shorts(numbers).copy_to_slice(&mut out[at..]);
     }
 }
 
@@ -91,9 +91,11 @@ impl ProductLane for i32 {
 }
 
 impl FilterLane for i16 {
-    fn write_block(h: &[i16], x: &[i16], at: usize, shift: u32, light: bool, out: &mut [i16]) {
-        if light && shift <= 15 {
+    fn write_block(h: &[i16], x: &[i16], at: usize, shift: u32, run: usize, out: &mut [i16]) {
+        if h.len() <= run && shift <= 15 {
             write_light(h, x, at, shift, out);
+        } else if 1 <= run {
+            write_runs(h, x, at, shift, run, out);
         } else {
             write_wide(h, x, at, shift, out);
         }
@@ -101,7 +103,7 @@ impl FilterLane for i16 {
 }
 
 impl FilterLane for i32 {
-    fn write_block(h: &[i16], x: &[i32], at: usize, shift: u32, _light: bool, out: &mut [i32]) {
+    fn write_block(h: &[i16], x: &[i32], at: usize, shift: u32, _run: usize, out: &mut [i32]) {
         write_wide(h, x, at, shift, out);
     }
 }

@@ -8,6 +8,7 @@ pub mod filter_lane;
 pub mod fir;
 mod pairs;
 pub mod repacked;
+mod runs;
 mod sums;
 
 pub use bits::{pack_bits, unpack_bits};

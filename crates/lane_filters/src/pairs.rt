@@ -38,7 +38,7 @@ pub(crate) fn write_light(h: &[i16], x: &[i16], at: usize, shift: u32, out: &mut
 
 /// The sums of two more taps at sixteen outputs: at every other one from `at` on, and at those between.
 #[inline(always)]
-fn with_pair(
+pub(crate) fn with_pair(
     h: &[i16],
     x: &[i16],
     at: usize,
@@ -86,7 +86,7 @@ fn with_last(h: &[i16], x: &[i16], at: usize, even: i32x8, odd: i32x8) -> (i32x8
 
 /// The sums of all taps, from those of the pairs.
 #[inline(always)]
-fn with_all(h: &[i16], x: &[i16], at: usize, even: i32x8, odd: i32x8) -> (i32x8, i32x8)
+pub(crate) fn with_all(h: &[i16], x: &[i16], at: usize, even: i32x8, odd: i32x8) -> (i32x8, i32x8)
     requires most { length h.now ≤ 256 }
     requires light { weight h.now < 2 ^ 16 }
     requires taps { 1 ≤ length h.now }

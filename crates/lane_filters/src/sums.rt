@@ -100,6 +100,18 @@ pub(crate) fn rounded_ints(sums: i32x8, shift: u32) -> i32x8
 
 /// Each number, or the nearest that a short is.
 #[inline(always)]
+pub(crate) fn nearest_shorts(numbers: i64x8) -> i16x8
+    requires { AreWithin (2 ^ 61) numbers }
+    ensures { result ≡ map (sat Short) numbers }
+{
+    let capped = numbers
+        .simd_max(i64x8::splat(-32768))
+        .simd_min(i64x8::splat(32767));
+    capped.cast::<i16>()
+}
+
+/// Each number, or the nearest that a short is.
+#[inline(always)]
 pub(crate) fn capped_shorts(numbers: i32x8) -> i16x8
     requires { AreWithin (2 ^ 31 - 1) numbers }
     ensures { result ≡ map (sat Short) numbers }

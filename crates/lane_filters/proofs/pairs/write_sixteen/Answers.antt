@@ -24,5 +24,5 @@ returns c =
     c.with_all.ensures.even c.rounded_ints.ensures.value c.rounded_ints.ensures.within c.capped_shorts-even.ensures in
     let odd = lanes_are c.args.h.now c.args.x.now c.requires.light c.requires.items_in_range c.args.shift (c.args.at + 1) c.with_all.result.1 c.rounded_ints-2.result c.capped_shorts-odd.result
     c.with_all.ensures.odd c.rounded_ints-2.ensures.value c.rounded_ints-2.ensures.within c.capped_shorts-odd.ensures in
-    sixteen_more c.args.h.now c.args.x.now c.requires.light c.requires.items_in_range c.args.shift c.args.at c.capped_shorts-even.result c.capped_shorts-odd.result c.args.out.now
+    sixteen_more c.args.h.now c.args.x.now c.args.shift c.args.at c.capped_shorts-even.result c.capped_shorts-odd.result c.args.out.now
     even odd c.requires.place c.requires.done

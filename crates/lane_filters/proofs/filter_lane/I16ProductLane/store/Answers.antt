@@ -1,20 +1,22 @@
-use Rattle.std.proofs.Common.{◌≡◌, ◌^◌, length, arith, pos, negsuc, w16, w64}
+use Rattle.std.proofs.Common.{◌≡◌, ◌^◌, ap, sym, subst, ◌∙◌, map, arith, w16, w64}
+use lib.Lanes.{Each1, put_chunk}
+use mir.Val.{SFits, of_z, to_z}
+use Rattle.std.proofs.lemmas.List.{map-id}
 use Rattle.stream_model.specs.Numbers.{sat}
 use Rattle.stream_model.specs.declared.vocabulary.ItemType.TheVariants.{Short}
-use Rattle.lane_filters.proofs.Signed.{lanes_fit, nearer}
-use Rattle.lane_filters.proofs.Capped.{short_is, short_sat, wider_16, capped_asks, compared_64, written_is}
+use Rattle.lane_filters.proofs.Signed.{back, lanes_fit, near_again, nearer}
+use Rattle.lane_filters.proofs.Capped.{sat_fits, short_sat}
 use Rattle.lane_filters.proofs.filter_lane.I16ProductLane.store.Goals as goal
 
-pub overflow_cast-out : goal.overflow_cast-out
-overflow_cast-out c =
-    let xs = c.args.numbers in
-    let long : length xs ≡ 8 = omega arith in
-    capped_asks w64 compared_64 Short w16 (negsuc 32767) (pos 32767) short_is short_sat (λ z. wider_16 (sat Short z) (short_sat z)) (record { sfits = omega arith }) (record { sfits = omega arith }) xs long
-    (lanes_fit xs (nearer (2 ^ 61) (2 ^ 62) xs (omega arith) c.requires.numbers))
+pub nearest_shorts-requires : goal.nearest_shorts-requires
+nearest_shorts-requires c = near_again (2 ^ 61) (2 ^ 61) c.args.numbers (omega arith) (omega arith) c.requires.numbers
 
 pub returns : goal.returns
 returns c =
     let xs = c.args.numbers in
-    let long : length xs ≡ 8 = omega arith in
-    written_is w64 compared_64 Short w16 (negsuc 32767) (pos 32767) short_is short_sat (λ z. wider_16 (sat Short z) (short_sat z)) (record { sfits = omega arith }) (record { sfits = omega arith }) xs long
-    (lanes_fit xs (nearer (2 ^ 61) (2 ^ 62) xs (omega arith) c.requires.numbers)) c.args.at c.args.out.now
+    let out = c.args.out.now in
+    let caps = c.nearest_shorts.result in
+    let is : caps ≡ map (sat Short) xs = c.nearest_shorts.ensures ∙ ap (map (sat Short)) (back w64 xs (lanes_fit xs (nearer (2 ^ 61) (2 ^ 62) xs (omega arith) c.requires.numbers))) in
+    let fits = subst (Each1 (SFits w16)) (sym is) (sat_fits Short w16 short_sat xs) in
+    rw (map-id out, map-id (put_chunk c.args.at out (map (to_z w16) (map (of_z w16) caps))))
+    (ap (put_chunk c.args.at out) (back w16 caps fits ∙ is))
