@@ -49,28 +49,4 @@ impl<W: Watch> Watch for Alone<W> {
     }
 }
 
-impl<J, D, W: Watch> Helpers<J, D> for Alone<W> {
-    fn begins_round(&mut self) -> u32 {
-        u32::MAX
-    }
-
-    fn are_called(&self) -> bool {
-        false
-    }
-
-    fn share(&mut self, _block: BlockId) -> Option<u32> {
-        None
-    }
-
-    fn give(&mut self, job: J) -> Result<(), J> {
-        Err(job)
-    }
-
-    fn done(&mut self) -> Option<D> {
-        None
-    }
-
-    fn wait(&mut self) -> Option<D> {
-        None
-    }
-}
+impl<J, D, W: Watch> Helpers<J, D> for Alone<W> {}
