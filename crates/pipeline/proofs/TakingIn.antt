@@ -1,7 +1,7 @@
 -- What feeding and closing leave.
 use Rattle.std.proofs.Common.{◌≡◌, ℕ, ◌+◌, ◌<◌, ◌⊎◌, ℤ, ◌++◌, true, false, not, List, [], ◌∷◌, length, refl, ap, sym, ◌∙◌, subst, inl, inr, Option, Some, None, ltb-true, get_or-set_same, get_or-set_other}
 use Rattle.std.specs.Prelude.{nat_lt, Err}
-use Rattle.std.proofs.lemmas.List.{append-nil, set-get_or}
+use Rattle.std.proofs.lemmas.List.{append-nil}
 use Rattle.stream_model.specs.declared.vocabulary.ItemType.{ItemType}
 use Rattle.stream_model.specs.Numbers.{types_agree}
 use Rattle.stream_model.specs.Tags.{Mark, Tag}
@@ -126,9 +126,6 @@ module _ {R B : Type 0} (Reads : Intake R) (net : Network) (old new : StreamingS
 -- a feed of nothing changes nothing
 pub nothing-fed : (h : Handed) (b : ℕ) → with_tape h b [] [] ≡ h
 nothing-fed h b = ap (λ (xs : List ℤ). record h { tape = xs; tags = h.tags ++ [] }) (append-nil h.tape) ∙ ap (λ (ts : List Tag). record h { tags = ts }) (append-nil h.tags)
-
-pub handed-same : (st : State) (b : ℕ) → with_handed st b (handed_at st.handed b) ≡ st
-handed-same st b = ap (λ (hs : List Handed). record st { handed = hs }) (set-get_or st.handed b nothing_handed)
 
 -- a refusal by the plant is told as that, and a lack of memory as such
 pub told_as_refused : {A : Type 0} (accepted : A → Reply) (b : BlockId) (f : PlantFault) → told_reply accepted (Err (of_plant b f)) ≡ refusal_of f

@@ -69,7 +69,7 @@ impl<R: Read> Input<R> {
     {
         self.items.clear();
         self.found.clear();
-        let start = start_of(self.marks.is_some(), plant, source, &self.items)?;
+        let start = start_of(self.marks.is_some(), plant, source)?;
         self.decoder.push(bytes, &mut self.items)?;
         // No mark is asked for as long as there is no item that it may be on.
         if self.items.is_empty() {
@@ -115,20 +115,18 @@ impl<R: Read> Input<R> {
 // Where the next items of a source stand, which is asked only where they may have marks.
 fn start_of<B: Block>(
     may_have_marks: bool,
-    plant: &mut StreamingPlant<B>,
+    plant: &StreamingPlant<B>,
     source: BlockId,
-    nothing: &Items,
 ) -> Result<u64, PipelineFault>
-    requires nothing { numbers_of nothing.now ≡ [] }
-    ensures same { plant.new ≡ plant.old }
     ensures fault { IfErr result (IsOfPlant source) }
 {
     if !may_have_marks {
         return Ok(0);
     }
-    // A feed of nothing tells how many there were.
-    let total = hand(plant, source, nothing, &[])?;
-    Ok(total.0)
+    match plant.levels(source) {
+        Ok(levels) => Ok(levels.taken.saturating_add(levels.waiting)),
+        Err(fault) => Err(PipelineFault::of_plant(source, fault)),
+    }
 }
 
 // Feeds a source, and tells what the plant tells.
