@@ -2,7 +2,7 @@
 
 use crate::entries::{Entry, entries_of};
 use crate::frame::Finding;
-use crate::tokens::{Mark, Span, next_token, part, rest};
+use crate::tokens::{Mark, line_of, next_token, part, rest};
 use graph_file::FilePlace;
 use kind_keys::Key;
 use kind_keys::table::{text_at, values_at};
@@ -188,16 +188,6 @@ impl<'a> Document<'a> {
 
     /// Which line has a place, from 1.
     pub fn line_of(&self, place: usize) -> usize {
-        let before = Span {
-            start: 0,
-            end: place,
-        };
-        let mut line = 1usize;
-        for byte in part(self.text, before) {
-            if *byte == b'\n' {
-                line = line.saturating_add(1);
-            }
-        }
-        line
+        line_of(self.text, place)
     }
 }

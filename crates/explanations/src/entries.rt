@@ -102,33 +102,6 @@ pub(crate) fn entries_of(alloc: Global, text: &[u8]) -> Result<Vec<Entry>, Alloc
     Ok(scan.entries)
 }
 
-/// The array of tables whose header stands in the line of a place in one bracket in place of two.
-pub(crate) fn single_header(text: &[u8], place: usize) -> Option<&'static str> {
-    let before = part(
-        text,
-        Span {
-            start: 0,
-            end: place,
-        },
-    );
-    let mut line = 0usize;
-    for (number, byte) in before.iter().enumerate() {
-        if *byte == b'\n' {
-            line = number.saturating_add(1);
-        }
-    }
-    let open = next_token(text, line)?;
-    let word = next_token(text, open.whole.end)?;
-    let close = next_token(text, word.whole.end)?;
-    if (open.mark, close.mark) != (Mark::OpenArray, Mark::Close) {
-        return None;
-    }
-    ["block", "connect", "feed"]
-        .iter()
-        .copied()
-        .find(|name| name.as_bytes() == part(text, word.inner))
-}
-
 impl Scan<'_> {
     // Takes the first token of a line of the document.
     fn begin(&mut self, token: Token) {

@@ -3,12 +3,13 @@ ghost use Rattle.std.specs.Prelude.{◌↔◌, IfOk, IsNone};
 ghost use Rattle.graph_file.specs.Accepted.{IsAccepted};
 
 use crate::document::Document;
-use crate::entries::single_header;
 use crate::feed_faults::feed_finding;
 use crate::frame::{Finding, Source, framed};
 use crate::graph_faults::{graph_finding, negative_finding};
+use crate::headers::{single_before, single_header};
 use crate::looks::Look;
 use crate::table_faults::table_finding;
+use crate::tokens::line_of;
 use graph_file::{Depth, FileFault, fault_of};
 use std::alloc::{AllocError, Global};
 
@@ -71,7 +72,7 @@ fn finding_of(alloc: Global, text: &[u8], fault: &FileFault) -> Result<Finding, 
     }
 }
 
-// What the reader of TOML says, and of a header whether it lacks brackets.
+// What the reader of TOML says, and of a header whether it lacks brackets, or one before it that makes it wrong.
 fn syntax_finding(
     alloc: Global,
     text: &[u8],
@@ -80,13 +81,14 @@ fn syntax_finding(
     let Some(span) = error.span() else {
         return Err(AllocError);
     };
-    let said = error.message();
-    let message = match single_header(text, span.start) {
-        Some(name) => format!(in alloc; "{said}; is `[[{name}]]` meant?")?,
-        None => String::from_str(alloc, said)?,
+    let (said, place) = (error.message(), span.start);
+    let message = if let Some(name) = single_header(text, place) {
+        format!(in alloc; "{said}; is `[[{name}]]` meant?")?
+    } else if let Some((name, first)) = single_before(alloc, text, place)? {
+        let line = line_of(text, first);
+        format!(in alloc; "{said}; is `[[{name}]]` meant in line {line}?")?
+    } else {
+        String::from_str(alloc, said)?
     };
-    Ok(Finding {
-        place: span.start,
-        message,
-    })
+    Ok(Finding { place, message })
 }

@@ -9,7 +9,7 @@
 //! ```
 //!
 //! [`explain`] reads the file again, with the places of its tables and keys (`document`, `entries`, `tokens`), and finds what the fault is about: `table_faults`,
-//! `graph_faults`, `feed_faults` and `tag_faults` have a function for each. `expected` says what may stand at a key, `near` which name was meant, `gnu_radio` what
+//! `graph_faults`, `feed_faults` and `tag_faults` have a function for each. `expected` says what may stand at a key, `near` which name was meant, `headers` which brackets, `gnu_radio` what
 //! stands here for a name of GNU Radio, `frame` prints the place.
 //! [`page_of_kinds`] prints what may stand at the parameters of all kinds, with a line on each kind (`about`), and [`starting_graph`] writes a graph file with blocks
 //! of some of them. [`KeptLines`] keep the lines of a script for the same, and [`Noted`] a device with the reason why it failed. No contract says what it prints; that is tested.
@@ -25,6 +25,7 @@ mod feed_faults;
 mod frame;
 mod gnu_radio;
 mod graph_faults;
+mod headers;
 pub mod kinds_page;
 pub mod lines;
 pub mod looks;

@@ -64,6 +64,21 @@ pub(crate) fn first_place(text: &[u8]) -> usize {
     }
 }
 
+/// Which line has a place, from 1.
+pub(crate) fn line_of(text: &[u8], place: usize) -> usize {
+    let before = Span {
+        start: 0,
+        end: place,
+    };
+    let mut line = 1usize;
+    for byte in part(text, before) {
+        if *byte == b'\n' {
+            line = line.saturating_add(1);
+        }
+    }
+    line
+}
+
 /// The first token at a place or behind it.
 pub(crate) fn next_token(text: &[u8], from: usize) -> Option<Token>
     ensures { IfSome result (λ token. token.whole.end ≤ length text.now) }
