@@ -3,8 +3,9 @@
 from __future__ import annotations
 
 import array
+import asyncio
 import ctypes
-from typing import Any, Iterable, Iterator, NamedTuple, Optional, SupportsIndex
+from typing import Any, AsyncIterable, AsyncIterator, Iterable, Iterator, NamedTuple, Optional, SupportsIndex, Union
 
 from ._arguments import MOST, Text, bytes_of, count_of, flag, numpy, unmasked
 from ._held import CODES, Array, Held, Items, Tag, array_of, tags_of, tested
@@ -28,6 +29,16 @@ def pieces_of(source: str, pieces: Any) -> Iterator[Items]:
         return iter(pieces)
     except TypeError:
         raise TypeError("the source %r gets an iterable of pieces, and no %r: through(%s=[items])" % (source, type(pieces).__name__, source)) from None
+
+
+async def next_of(pieces: Union[Iterator[Items], AsyncIterator[Items]]) -> Any:
+    """The next piece of a source, or `END`."""
+    if isinstance(pieces, Iterator):
+        return next(pieces, END)
+    try:
+        return await pieces.__anext__()
+    except StopAsyncIteration:
+        return END
 
 
 class Piece(NamedTuple):
@@ -187,12 +198,54 @@ class Stream(Held):
                 yield from self._drained(sink)
             lacking = [source for source in pieces if self.need(source).what == "feed"]
             for source in lacking:
-                piece: Any = next(pieces[source], END)
-                if piece is END:
-                    self.close(source)
-                else:
-                    self.feed(source, piece)
+                self._hand(source, next(pieces[source], END))
             is_over = is_over or not lacking
+
+    def through_async(self, /, **pieces: Union[Iterable[Items], AsyncIterable[Items]]) -> AsyncIterator[Piece]:
+        """The same for `async for`, where `pieces` may have asynchronous iterables too. A source whose next piece does not come holds up only what needs its items, and the
+        graph runs in a thread of its own meanwhile: whoever else has the stream may set its blocks.
+
+        >>> import asyncio
+        >>> async def show(stream):
+        ...     async for piece in stream.through_async(src=[[250, 1], [2]]):
+        ...         print(piece.sink, piece.items.tolist())
+        >>> asyncio.run(show(Stream(magbelu.EXAMPLE)))
+        out [4, 11]
+        out [12]
+        """
+        for source in pieces:
+            self._size(source)
+        return self._through_async({source: it.__aiter__() if isinstance(it, AsyncIterable) else pieces_of(source, it) for source, it in pieces.items()})
+
+    async def _through_async(self, pieces: dict[str, Union[Iterator[Items], AsyncIterator[Items]]]) -> AsyncIterator[Piece]:
+        sinks = [it.name for it in self.sinks]
+        coming: dict[str, asyncio.Future[Any]] = {}
+        is_over = False
+        try:
+            while not is_over:
+                is_over = await asyncio.to_thread(self.settle)
+                for sink in sinks:
+                    for piece in self._drained(sink):
+                        yield piece
+                lacking = [source for source in pieces if self.need(source).what == "feed"]
+                for source in lacking:
+                    if source not in coming:
+                        coming[source] = asyncio.ensure_future(next_of(pieces[source]))
+                if lacking:
+                    await asyncio.wait(coming.values(), return_when=asyncio.FIRST_COMPLETED)
+                for source in [it for it, task in coming.items() if task.done()]:
+                    self._hand(source, coming.pop(source).result())
+                is_over = is_over or not lacking
+        finally:
+            for task in coming.values():
+                task.cancel()
+
+    def _hand(self, source: str, piece: Any) -> None:
+        """Feeds a source the piece that came, or closes it where none comes any more."""
+        if piece is END:
+            self.close(source)
+        else:
+            self.feed(source, piece)
 
     def _drained(self, sink: str) -> Iterator[Piece]:
         """All that a sink has, piece after piece."""

@@ -1,6 +1,7 @@
 """Streams of python/magbelu beside whole runs: pieces in and out, needs, tags, settings, and what is wrong. tests/parts/c.sh calls it."""
 
 import array
+import asyncio
 import random
 
 import magbelu
@@ -81,6 +82,83 @@ def streams_take_what_they_lack():
     assert items == [2 * at for at in range(100000)]
 
 
+TWO_CHAINS = """
+block = [
+    { name = "a", kind = "vector_source", type = "byte" },
+    { name = "b", kind = "vector_source", type = "byte" },
+    { name = "x", kind = "add_const", type = "byte", value = 1 },
+    { name = "oa", kind = "vector_sink", type = "byte" },
+    { name = "ob", kind = "vector_sink", type = "byte" },
+]
+connect = [{ from = "a", to = "oa" }, { from = "b", to = "x" }, { from = "x", to = "ob" }]
+"""
+
+
+async def soon(pieces):
+    for piece in pieces:
+        await asyncio.sleep(0)
+        yield piece
+
+
+def streams_go_on_beside_a_silent_source():
+    """A source that gives nothing until the other's items are out holds them up for nobody; meanwhile blocks are set from another thread."""
+    stream = magbelu.Stream(TWO_CHAINS)
+
+    async def silent(seen):
+        await seen.wait()
+        yield [7]
+
+    async def collect():
+        seen, given = asyncio.Event(), {"oa": [], "ob": []}
+        async for piece in stream.through_async(a=silent(seen), b=soon([[1, 2], [3]])):
+            given[piece.sink] += piece.items.tolist()
+            if len(given["ob"]) == 2:
+                assert await asyncio.to_thread(stream.set, "x", 10) == 2
+            if len(given["ob"]) == 3:
+                seen.set()
+        return given
+
+    assert asyncio.run(asyncio.wait_for(collect(), 60)) == {"oa": [7], "ob": [2, 3, 13]}
+
+
+def streams_end_as_their_pieces_do():
+    """What a source's pieces fail with comes out of the loop, one that is left ends what is waited for, and a source without pieces ends the stream."""
+
+    async def failing():
+        yield [1]
+        raise KeyError("pieces")
+
+    async def collect(**pieces):
+        return [piece.items.tolist() async for piece in magbelu.Stream(TWO_CHAINS).through_async(**pieces)]
+
+    raises(KeyError, lambda: asyncio.run(collect(a=failing(), b=[])))
+    raises(TypeError, lambda: asyncio.run(collect(a=[1, 2], b=[])))
+    raises(TypeError, lambda: asyncio.run(collect(a=soon([None]), b=[])))
+    refuses(20, "NoSuchBlock", lambda: asyncio.run(collect(none=[])))
+    assert asyncio.run(collect(a=soon([[1], [2]]))) == [[1], [2]]
+
+    async def leave():
+        is_left = asyncio.Event()
+
+        async def endless():
+            try:
+                yield [1]
+                await asyncio.Event().wait()
+            finally:
+                is_left.set()
+
+        pieces = magbelu.Stream(TWO_CHAINS).through_async(a=endless(), b=[])
+        first = await pieces.__anext__()
+        waits = asyncio.ensure_future(pieces.__anext__())
+        await asyncio.sleep(0.1)
+        waits.cancel()
+        await asyncio.wait([waits])
+        await is_left.wait()
+        return first.items.tolist()
+
+    assert asyncio.run(asyncio.wait_for(leave(), 60)) == [1]
+
+
 def streams_are_tagged_set_and_refused():
     stream = magbelu.Stream(CHAIN % (3 * ("short",)))
     assert stream.need("src") == ("feed", None) and stream.need("out") == ("items", 0)
@@ -122,6 +200,8 @@ tests = [
     streams_give_what_runs_give,
     streams_are_stepped,
     streams_take_what_they_lack,
+    streams_go_on_beside_a_silent_source,
+    streams_end_as_their_pieces_do,
     streams_are_tagged_set_and_refused,
     streams_drain_into_arrays,
 ]

@@ -130,6 +130,12 @@ tells_calls() {
     "$room/page" <"$top/examples/echo/graph.toml" | cmp -s - "$top/examples/echo/expected_run" || wrong "the program of docs/user/C.md"
 }
 
+# tells_spoken: a stream that two threads call under a lock, with the thread sanitizer
+tells_spoken() {
+    cc -std=c99 "${warnings[@]}" -g -fsanitize=thread -pthread -I"$top/c" "$top/tests/c/spoken.c" "$c_folder/libmagbelu.a" -o "$room/spoken"
+    "$room/spoken"
+}
+
 # compile_plus PROGRAM FILE..: the program of these files in C++
 compile_plus() { c++ -std=c++17 "${warnings[@]}" "${sanitizers[@]}" -I"$top/c" "${@:2}" -o "$1"; }
 
@@ -191,7 +197,7 @@ list() {
         printf 'c/%s\n' arguments arguments_numpy surroundings pictures pictures_matplotlib types
     fi
     if command -v cc >/dev/null; then
-        printf 'c/%s\n' header calls
+        printf 'c/%s\n' header calls spoken
     fi
     if command -v c++ >/dev/null; then
         printf 'c/%s\n' plus_alone plus
@@ -253,6 +259,7 @@ run() {
     try c/header compiles_header
     try c/plus_alone tells_plus_alone
     try_with libmagbelu.a c/calls tells_calls
+    try_with libmagbelu.a c/spoken tells_spoken
     try_with libmagbelu.a c/plus tells_plus
     try_with libmagbelu.so c/python over_library without_numpy graphs
     try_with "libmagbelu.so numpy" c/python_numpy over_library python_tests graphs
