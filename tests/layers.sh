@@ -36,7 +36,7 @@ put_tests() {
     sed -i '/^#\[test\]$/,/^fn /{/^#\[test\]$/d; s/^fn \([a-z0-9_]*\)(rt: HostRuntime)/pub fn \1<R: crate::Host>(rt: R)/}' "$own/src/$1"/*.rt
     if [[ $1 == terminal ]]; then
         # (these files of the program are under test there)
-        cp -- "$top/crates/$command_crate/src/"{call,end_words,ends,kind_words,slice,stretch,talk,terminal,words}.rt "$own/src/terminal"
+        cp -- "$top/crates/$command_crate/src/"{call,end_words,ends,kind_words,pace,slice,stretch,talk,terminal,words}.rt "$own/src/terminal"
     fi
 }
 

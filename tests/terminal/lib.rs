@@ -8,6 +8,7 @@ mod call;
 mod end_words;
 mod ends;
 mod kind_words;
+mod pace;
 mod slice;
 mod stretch;
 mod talk;

@@ -24,6 +24,7 @@ mod measuring;
 mod onlookers;
 mod overwriting;
 mod periodic;
+mod pace;
 mod pieces;
 mod raw;
 mod refusing;
@@ -143,14 +144,7 @@ fn run<R: Threads + Wait + Clock + CpuClock + Copy + Send + Sync + 'static>(
         Ok(trace_file) => trace_file,
         Err(status) => return status,
     };
-    let mut watch = Periodic::new(
-        threads,
-        rt,
-        &measured,
-        call.stats,
-        call.every,
-        &mut terminal,
-    );
+    let mut watch = Periodic::new(rt, &measured, call.stats, call.every, &mut terminal);
     let status = if call.ends.are_none() {
         serve_file(threads, rt, &call, &file, observer, &mut watch)
     } else {

@@ -1,64 +1,38 @@
 //! Times that are told while a run goes on.
 
+use crate::pace::Pace;
 use flowgraph::BlockId;
 use plant::{Headway, Step, Watch};
 use run_stats::{Form, Measured};
 use std::io::Write;
-use std::time::{Clock, Duration, Instant};
+use std::time::{Clock, Duration};
 
 /// A watch that tells the times of a run so far, each time that so long has passed. A write that fails is nothing to the run.
 #[derive(Drop)]
 pub struct Periodic<'a, R, W> {
-    clock: R,
+    pace: Pace<'a, HostRuntime>,
     rt: &'a HostRuntime,
     measured: &'a Option<Measured<R>>,
     form: Option<Form>,
-    span: Option<Duration>,
-    // When times were told last, or the run began. Where there is none, none are told.
-    last: Option<Instant>,
     watch: &'a mut W,
 }
 
 impl<'a, R: Clock + Copy, W: Watch> Periodic<'a, R, W> {
     /// Tells times beside this watch, after so many seconds each, if the words ask for that. It tells none where the clock fails.
     pub fn new(
-        clock: R,
         rt: &'a HostRuntime,
         measured: &'a Option<Measured<R>>,
         form: Option<Form>,
         every: Option<u64>,
         watch: &'a mut W,
     ) -> Periodic<'a, R, W> {
-        let span = every.map(Duration::from_secs);
-        let last = match span {
-            Some(_) => Instant::now(&clock).ok(),
-            None => None,
-        };
         Periodic {
-            clock,
+            pace: Pace::new(rt, every.map(Duration::from_secs)),
             rt,
             measured,
             form,
-            span,
-            last,
             watch,
         }
-    }
-
-    // Whether times are due now.
-    fn is_due(&mut self) -> bool {
-        let (Some(last), Some(span)) = (self.last, self.span) else {
-            return false;
-        };
-        let Ok(now) = Instant::now(&self.clock) else {
-            self.last = None;
-            return false;
-        };
-        let is_due = span <= now.duration_since(last);
-        if is_due {
-            self.last = Some(now);
-        }
-        is_due
     }
 
     fn tell(&mut self) {
@@ -76,7 +50,7 @@ impl<'a, R: Clock + Copy, W: Watch> Periodic<'a, R, W> {
 
 impl<R: Clock + Copy, W: Watch> Watch for Periodic<'_, R, W> {
     fn pause(&self) -> Option<Duration> {
-        match (self.span, self.watch.pause()) {
+        match (self.pace.span(), self.watch.pause()) {
             (Some(span), Some(pause)) => Some(span.min(pause)),
             (Some(span), None) => Some(span),
             (None, pause) => pause,
@@ -85,7 +59,7 @@ impl<R: Clock + Copy, W: Watch> Watch for Periodic<'_, R, W> {
 
     fn show(&mut self, headway: Headway) {
         self.watch.show(headway);
-        if self.is_due() {
+        if self.pace.is_due() {
             self.tell();
         }
     }
