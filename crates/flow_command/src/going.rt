@@ -31,7 +31,6 @@ pub fn go<R: Threads + Wait + Clock + CpuClock + Copy + Send + Sync + 'static, W
     looks: &mut Onlookers<'_, R, W>,
 ) -> Result<(Ended, Option<Stop>), Stop> {
     let (alloc, ends) = (rt.alloc(), &call.ends);
-    let mut nobody = NoRequests::new();
     let ended = match (call.action, readers, speech) {
         (Action::Live, Some(readers), Some(speech)) => {
             let mut readers = readers;
@@ -39,36 +38,51 @@ pub fn go<R: Threads + Wait + Clock + CpuClock + Copy + Send + Sync + 'static, W
             readers.finish();
             ended
         }
-        (Action::Run(_), Some(readers), _) => {
-            let mut readers = readers;
-            let ended = run_helped(
-                threads,
-                alloc,
-                run,
-                ends,
-                rest,
-                &mut readers,
-                &mut nobody,
-                looks,
-            );
-            readers.finish();
-            ended
+        (Action::Run(_), readers, _) => run_read(threads, alloc, run, ends, rest, readers, looks),
+        _ => {
+            let mut nobody = NoRequests::new();
+            run_alone(alloc, run, ends, rest, &mut AllReady, &mut nobody, looks)
         }
-        (Action::Run(_), None, _) => {
-            run_helped(
-                threads,
-                alloc,
-                run,
-                ends,
-                rest,
-                &mut AllReady,
-                &mut nobody,
-                looks,
-            )
-        }
-        _ => run_alone(alloc, run, ends, rest, &mut AllReady, &mut nobody, looks),
     };
     looks.watch.end();
+    ended
+}
+
+// The run, of which nobody asks, and whose inputs threads read, if there are some for that.
+fn run_read<R: Threads + Wait + Clock + CpuClock + Copy + Send + Sync + 'static, W: Watch>(
+    threads: R,
+    alloc: Global,
+    run: &mut Stream<R>,
+    ends: &Ends<'_>,
+    rest: &Rest,
+    readers: Option<ReaderThreads<Chain, R>>,
+    looks: &mut Onlookers<'_, R, W>,
+) -> Result<(Ended, Option<Stop>), Stop> {
+    let mut nobody = NoRequests::new();
+    let Some(readers) = readers else {
+        return run_helped(
+            threads,
+            alloc,
+            run,
+            ends,
+            rest,
+            &mut AllReady,
+            &mut nobody,
+            looks,
+        );
+    };
+    let mut readers = readers;
+    let ended = run_helped(
+        threads,
+        alloc,
+        run,
+        ends,
+        rest,
+        &mut readers,
+        &mut nobody,
+        looks,
+    );
+    readers.finish();
     ended
 }
 
