@@ -25,7 +25,7 @@ terminals=(terminals/explains terminals/never terminals/place)
 # What a program of Python asks, that has names of GNU Radio from flow-from-grc.
 names=(names/gnu_radio)
 # And one that draws graphs, which are run whole and in slices; and runs in pieces that are killed, or end badly.
-drawn=(slices/drawn slices/killed slices/bad_ends)
+drawn=(slices/drawn slices/killed slices/gone_on slices/bad_ends)
 # And live runs between pipes, with lines that are written while items stream.
 spoken=(spoken/settings spoken/stop spoken/closes spoken/lines spoken/standard spoken/two spoken/soon spoken/long spoken/gone)
 # And runs whose trace a program of Python reads.
@@ -116,7 +116,7 @@ call() {
 }
 
 # is_own CASE: whether the case is a function here
-is_own() { [[ $1 == @(pipes|terminals|names|traces|spoken|redirected|silent)/* || $1 == slices/@(drawn|killed|bad_ends) ]]; }
+is_own() { [[ $1 == @(pipes|terminals|names|traces|spoken|redirected|silent)/* || $1 == slices/@(drawn|killed|gone_on|bad_ends) ]]; }
 
 # call_all: as many side by side as there are processors
 call_all() {
@@ -258,6 +258,9 @@ slices_killed() { python3 "$top/tests/programs/slice_ends.py" killed "${start[@]
 # slices_bad_ends: that runs in pieces end as one on one thread does, where an input, an output or marks are at fault
 slices_bad_ends() { python3 "$top/tests/programs/slice_ends.py" bad "${start[@]}"; }
 
+# slices_gone_on: that runs go on with items and tags that are cut anywhere, to the whole
+slices_gone_on() { python3 "$top/tests/programs/slice_ends.py" tags "${start[@]}"; }
+
 # names_gnu_radio: that names of GNU Radio are answered with those that flow-from-grc writes for them
 names_gnu_radio() { python3 "$top/tests/programs/gnu_radio_names.py" "${start[@]}"; }
 
@@ -363,7 +366,7 @@ run() {
     build
     call_all
     while IFS= read -r it; do
-        if [[ $it == @(names/*|traces/*|spoken/*|slices/@(drawn|killed|bad_ends)) ]] && ! command -v python3 >/dev/null; then
+        if [[ $it == @(names/*|traces/*|spoken/*|slices/@(drawn|killed|gone_on|bad_ends)|pipes/memory_of_pieces) ]] && ! command -v python3 >/dev/null; then
             left_out "$it" <<<"there is no python3 to read it"
         elif [[ $it == terminals/* ]] && ! command -v script >/dev/null; then
             left_out "$it" <<<"there is no command script to make a terminal"

@@ -1,6 +1,6 @@
 #!/usr/bin/env python3
-"""slice_ends.py killed|bad PROGRAM..: runs in pieces that end before their time, by the program whose words are given. `killed`: one that is killed
-leaves a beginning, and one that goes on with it gives the whole. `bad`: an input that ends within an item, shrinks or grows meanwhile, a full disk, two
+"""slice_ends.py killed|tags|bad PROGRAM..: runs in pieces that end before their time, by the program whose words are given. `killed`: one that is killed
+leaves a beginning, and one that goes on with it gives the whole, with tags too. `tags`: so does one that goes on with items and lines of tags that are cut anywhere. `bad`: an input that ends within an item, shrinks or grows meanwhile, a full disk, two
 outputs of one path, two slices into one file, and marks out of order, where a run in pieces ends as one on one thread does. Prints what differs."""
 
 import os
@@ -35,6 +35,7 @@ connect = [
 """
 SINKS = ["filtered", "summed"]
 OUTPUTS = [word for name in SINKS for word in ("-o", "%s=%s" % (name, name))]
+TAGS = [word for name in SINKS for word in ("--tags", "%s=%s.tags" % (name, name))]
 
 
 def bytes_of(count):
@@ -43,20 +44,33 @@ def bytes_of(count):
     return struct.pack("<%dh" % count, *(rng.randint(-2000, 2000) for _ in range(count)))
 
 
-class Folder:
-    """Where the runs of a test find the graph, the input and the outputs."""
+def marks_of(count):
+    """Lines of marks on so many items: on some none for long, and on others several, of which two come to one item of a filter, or more."""
+    rng, lines, at = random.Random(count), [], 0
+    while at < count:
+        lines += ["@%d:k=%d\n" % (at, rng.randint(-9, 9)) for _ in range(rng.choice([1, 1, 3]))]
+        at += rng.choice([0, 1, 2, 50, 500, 2000])
+    return "".join(lines)
 
-    def __init__(self, path, items=ITEMS):
+
+class Folder:
+    """Where the runs of a test find the graph, the input, with marks if tags are asked for, and the outputs."""
+
+    def __init__(self, path, items=ITEMS, has_tags=False):
         self.path = pathlib.Path(path)
         self.path.joinpath("graph.toml").write_text(GRAPH, encoding="utf-8")
         self.items = bytes_of(items)
         self.path.joinpath("in").write_bytes(self.items)
+        self.names, self.ends = SINKS, OUTPUTS
+        if has_tags:
+            self.path.joinpath("marks").write_text(marks_of(items), encoding="utf-8")
+            self.names, self.ends = [*SINKS, *("%s.tags" % name for name in SINKS)], [*OUTPUTS, "--marks", "in=marks", *TAGS]
 
     def words(self, *more):
-        return [*sys.argv[2:], "run", *more, "-i", "in=in", *OUTPUTS, "graph.toml"]
+        return [*sys.argv[2:], "run", *more, "-i", "in=in", *self.ends, "graph.toml"]
 
     def clear(self):
-        for name in SINKS:
+        for name in self.names:
             self.path.joinpath(name).unlink(missing_ok=True)
 
     def start(self, *more, **how):
@@ -71,7 +85,7 @@ class Folder:
         return running.returncode, errors.decode(), self.outputs()
 
     def outputs(self):
-        paths = [self.path.joinpath(name) for name in SINKS]
+        paths = [self.path.joinpath(name) for name in self.names]
         return [path.read_bytes() if path.exists() else b"" for path in paths]
 
     def size(self):
@@ -95,8 +109,9 @@ def wait_for(folder, running, size):
         time.sleep(0.001)
 
 
-def killed(path):
-    folder, rng = Folder(path), random.Random(3)
+def killed_in(folder):
+    """What is wrong with runs that are killed, and gone on with."""
+    rng = random.Random(3)
     whole = folder.whole()
     were_midway = 0
     for _ in range(KILLS):
@@ -113,6 +128,72 @@ def killed(path):
         if resumed.returncode != 0 or folder.outputs() != whole:
             return "gone on with behind a kill at %d bytes: %d %s" % (len(left[0]), resumed.returncode, errors.decode())
     return None if were_midway else "no run was killed midway"
+
+
+def killed(path):
+    for has_tags in (False, True):
+        room = pathlib.Path(path).joinpath("tags" if has_tags else "items")
+        room.mkdir()
+        wrong = killed_in(Folder(room, has_tags=has_tags))
+        if wrong:
+            return wrong + (", with tags" if has_tags else "")
+    return None
+
+
+def same_item(lines):
+    """Where the second line begins of two that name one item, in the middle of the lines."""
+    place = 0
+    for first, second in zip(lines, lines[1:]):
+        place += len(first)
+        if place > len(b"".join(lines)) // 2 and first[: first.index(b":")] == second[: second.index(b":")]:
+            return place
+    raise ValueError("no two tags are on one item")
+
+
+def cut_outputs(items, tags):
+    """What may be left of the items of a sink and of the lines of its tags: what is left, and of each file its bytes, or None where it is missing."""
+    lines = tags.splitlines(keepends=True)
+    half, line = len(items) // 2, len(b"".join(lines[: len(lines) // 2]))
+    return [
+        ("items alone", items[:half], b""),
+        ("items without a file of tags", items, None),
+        ("an unfinished last line", items, tags[: line - 3]),
+        ("a line without its end", items, tags[: line - 1]),
+        ("whole lines, and items beyond", items, tags[:line]),
+        ("one of several tags of an item", items, tags[: same_item(lines)]),
+        ("tags beyond the items", items[:half], tags),
+        ("tags beyond the items, and an unfinished line", items[: half - 1], tags[:-2]),
+        ("tags without items", b"", tags),
+        ("tags without a file of items", None, tags),
+        ("zeros behind the lines", items, tags[:line] + bytes(5000)),
+        ("a line that is no tag", items, tags[:line] + b"x" + tags[line:]),
+        ("all of both", items, tags),
+    ]
+
+
+def put(path, content):
+    path.unlink(missing_ok=True)
+    if content is not None:
+        path.write_bytes(content)
+
+
+def gone_on(path):
+    """Runs that go on with items and tags, of which each sink has what another case leaves."""
+    folder = Folder(path, 30_000, has_tags=True)
+    whole = folder.whole()
+    cases = list(zip(*(cut_outputs(items, tags) for items, tags in zip(whole, whole[len(SINKS) :]))))
+    for number, first in enumerate(cases):
+        for second in (number, (number + 5) % len(cases)):
+            left = [first[0], cases[second][1]]
+            for name, (_, items, tags) in zip(SINKS, left):
+                put(folder.path.joinpath(name), items)
+                put(folder.path.joinpath("%s.tags" % name), tags)
+            way = ["--jobs", "2"] if number == second else ["--one-thread"]
+            with folder.start("--resume", *way) as resumed:
+                _, errors = resumed.communicate(timeout=120)
+            if resumed.returncode != 0 or folder.outputs() != whole:
+                return "gone on with %s, and %s, by %s: %d %s" % (left[0][0], left[1][0], " ".join(way), resumed.returncode, errors.decode())
+    return None
 
 
 def cut_item(path):
@@ -222,7 +303,7 @@ def bad(path):
 
 def main():
     with tempfile.TemporaryDirectory() as room:
-        wrong = {"killed": killed, "bad": bad}[sys.argv[1]](room)
+        wrong = {"killed": killed, "tags": gone_on, "bad": bad}[sys.argv[1]](room)
     if wrong:
         print(wrong)
     return 1 if wrong else 0

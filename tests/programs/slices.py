@@ -96,17 +96,26 @@ def items_differ(folder, graph, inputs, whole, rng):
     return None
 
 
+def cut(path, content, rng):
+    """A file with a beginning of what it may hold, or none."""
+    path.unlink(missing_ok=True)
+    if rng.random() < 0.8:
+        path.write_bytes(content[: rng.randint(0, len(content))])
+
+
 def resumed_differs(folder, graph, inputs, whole, rng):
-    """What is wrong with a run that goes on with outputs that were cut anywhere."""
-    for name, items in whole.items():
-        path = folder.joinpath("%s.part" % name)
-        path.unlink(missing_ok=True)
-        if rng.random() < 0.8:
-            path.write_bytes(items[: rng.randint(0, len(items))])
-    part = run(folder, inputs, graph, "part", "--resume")
-    for name, items in whole.items():
-        if part[name] != items:
-            return "%s, gone on with, has %d bytes, and not %d" % (name, len(part[name]), len(items))
+    """What is wrong with a run that goes on with outputs that were cut anywhere, with tags too."""
+    lines = tags(folder, graph, "whole")
+    for more in ([], tagged(graph, "part")):
+        for name, items in whole.items():
+            cut(folder.joinpath("%s.part" % name), items, rng)
+            cut(folder.joinpath("%s.part.tags" % name), lines[name].encode(), rng)
+        part = run(folder, inputs, graph, "part", "--resume", *more)
+        for name, items in whole.items():
+            if part[name] != items:
+                return "%s, gone on with, has %d bytes, and not %d" % (name, len(part[name]), len(items))
+    if tags(folder, graph, "part") != lines:
+        return "gone on with, the tags are %s, and not %s" % (tags(folder, graph, "part"), lines)
     return None
 
 
@@ -170,21 +179,24 @@ def piped_differ(folder, graph, inputs, whole, rng):
 def killed_differs(folder, graph, inputs, whole, rng):
     """What is wrong with what killed runs in pieces left, and with the runs that go on with it."""
     outputs = [word for name in graph.sinks for word in ("-o", "%s=%s.part" % (name, name))]
-    words = [*sys.argv[1:], "run", "--jobs", "3", *inputs, *outputs, "graph.toml"]
+    words, lines = [*sys.argv[1:], "run", "--jobs", "3", *inputs, *outputs, *tagged(graph, "part"), "graph.toml"], tags(folder, graph, "whole")
     for _ in range(KILLS):
         for name in whole:
             folder.joinpath("%s.part" % name).unlink(missing_ok=True)
+            folder.joinpath("%s.part.tags" % name).unlink(missing_ok=True)
         with subprocess.Popen(words, cwd=folder, stdin=subprocess.DEVNULL, stdout=subprocess.DEVNULL, stderr=subprocess.DEVNULL) as killed:
             time.sleep(rng.uniform(0, 0.4))
             killed.kill()
         for name, items in whole.items():
-            path = folder.joinpath("%s.part" % name)
-            if path.exists() and not items.startswith(path.read_bytes()):
-                return "%s: what a killed run left is no beginning of the whole" % name
-        part = run(folder, inputs, graph, "part", "--resume", "--jobs", "2")
+            for path, content in ((folder.joinpath("%s.part" % name), items), (folder.joinpath("%s.part.tags" % name), lines[name].encode())):
+                if path.exists() and not content.startswith(path.read_bytes()):
+                    return "%s: what a killed run left is no beginning of the whole" % path.name
+        part = run(folder, inputs, graph, "part", "--resume", "--jobs", "2", *tagged(graph, "part"))
         for name, items in whole.items():
             if part[name] != items:
                 return "%s, gone on with behind a kill, has %d bytes, and not %d" % (name, len(part[name]), len(items))
+        if tags(folder, graph, "part") != lines:
+            return "gone on with behind a kill, the tags are %s, and not %s" % (tags(folder, graph, "part"), lines)
     return None
 
 

@@ -1,6 +1,7 @@
 //! Which part of a run is done: what it reads of each source, and what it writes of each sink.
 
 use crate::devices::Extent;
+use crate::held::Held;
 use flowgraph::BlockId;
 use std::alloc::Global;
 
@@ -26,8 +27,8 @@ pub struct Written {
     pub left_out: u64,
     /// So many are written behind these at most.
     pub most: u64,
-    /// The output has so many already, and what is written stands behind them.
-    pub standing: Option<u64>,
+    /// What the outputs hold already, if they are gone on with. What is written stands behind it.
+    pub held: Option<Held>,
 }
 
 impl Written {
@@ -36,7 +37,7 @@ impl Written {
         origin: 0,
         left_out: 0,
         most: u64::MAX,
-        standing: None,
+        held: None,
     };
 }
 

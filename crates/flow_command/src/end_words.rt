@@ -63,12 +63,13 @@ pub fn with_parts<'a>(
         .value_parser(ValueParser::Unsigned(0, u64::MAX));
     let run = run.arg(from.conflicts_with("resume")?)?;
     let items = part(alloc, "items", "Writes so many items of each output")?;
-    let items = without_tags(items)?
+    let items = items
         .value_name("COUNT")
         .value_parser(ValueParser::Unsigned(0, u64::MAX));
+    let items = items.conflicts_with("marks")?.conflicts_with("tags")?;
     let run = run.arg(items.conflicts_with("resume")?)?;
     let resume = part(alloc, "resume", "Continues the outputs from where they end")?;
-    let run = run.arg(without_tags(resume)?.action(ArgAction::SetTrue))?;
+    let run = run.arg(resume.action(ArgAction::SetTrue))?;
     Ok(run.arg(jobs(alloc)?)?)
 }
 
@@ -79,12 +80,6 @@ fn part<'a>(alloc: Global, name: &'a str, help: &'a str) -> Result<Arg<'a>, Allo
         .action(ArgAction::Set)
         .help(help);
     part.requires_arg("input")
-}
-
-// A word that goes with no tags.
-fn without_tags<'a>(word: Arg<'a>) -> Result<Arg<'a>, AllocError> {
-    let word = word.conflicts_with("marks")?;
-    word.conflicts_with("tags")
 }
 
 // The word that says on how many threads slices are run.

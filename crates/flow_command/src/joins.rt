@@ -1,28 +1,23 @@
 //! The blocks of a run are joined to the files that the words name.
 
 use crate::cut::Cut;
-use crate::devices::{Chain, Device, Extent, Source, StandardOutput, Target, Writer};
+use crate::devices::{Chain, Device, Extent, Source, Target};
 use crate::ends::{Ends, NamedEnd};
 use crate::late_file::LateFile;
-use crate::lengths::size_at;
-use crate::limited::Limited;
 use crate::rest::Rest;
 use crate::stops::{Stop, Stream, stop_of, unopened};
-use flow::raw_fault::{EndFault, EndPlace, RawFault};
-use flow::raw_input::{sink_named, source_named};
-use flowgraph::{BlockId, Valid};
-use kinds::Kind;
+use crate::targets::{Targets, make_outputs};
+use flow::raw_fault::{EndFault, EndPlace};
+use flow::raw_input::source_named;
+use flowgraph::BlockId;
 use pipeline::TapePart;
 use raw_items::item_size;
 use reader_threads::{ApartReader, ReaderThreads};
-use reporting::write_whole;
 use std::alloc::{AllocError, Global};
-use std::fs::{File, OpenOptions};
-use std::io::{Seek, SeekFrom};
+use std::fs;
 use std::os::unix::fs::FileTypeExt;
 use std::sync::Wait;
 use std::thread::Threads;
-use std::{fs, io};
 
 /// When a pipe is opened that is read.
 #[derive(Clone, Copy, Debug, PartialEq, Eq)]
@@ -183,111 +178,12 @@ fn add_input(
     }
 }
 
-/// The writers of a sink, with the numbers of the words that name them.
-#[derive(Drop)]
-pub struct Targets {
-    pub items: Option<Target>,
-    pub tags: Option<Target>,
-    pub number: usize,
-    pub tags_number: usize,
-}
-
-impl Targets {
-    /// Writes items and the lines of tags, as far as there are outputs for them.
-    pub fn write(&mut self, items: &[u8], tags: &[u8]) -> Result<(), Stop> {
-        if let Some(target) = &mut self.items {
-            if let Err(error) = write_whole(target, items) {
-                return Err(unwritten(EndPlace::Output(self.number), error));
-            }
-        }
-        if let Some(target) = &mut self.tags {
-            if let Err(error) = write_whole(target, tags) {
-                return Err(unwritten(EndPlace::Tags(self.tags_number), error));
-            }
-        }
-        Ok(())
-    }
-}
-
-// Why a run stops whose write to the output at this place failed.
-fn unwritten(place: EndPlace, error: io::Error) -> Stop {
-    Stop {
-        fault: RawFault::End(place, EndFault::Write),
-        reason: Some(error),
-    }
-}
-
 /// A sink whose items are kept until the run is over, and its tags with them, which go to a file of this number then.
 #[derive(Drop)]
 pub struct Kept {
     pub sink: BlockId,
     pub number: usize,
     pub target: Target,
-}
-
-// Makes the outputs, in their order: of each sink its own. Where a name is refused no file is made, and so none is emptied.
-fn make_outputs<R: Drop>(
-    rt: &HostRuntime,
-    run: &Stream<R>,
-    ends: &Ends<'_>,
-    cut: &Cut,
-) -> Result<Vec<Option<Targets>>, Stop> {
-    test_names(run.plant.graph(), ends)?;
-    let mut targets = slots::<Targets>(rt.alloc(), run.plant.graph().len())?;
-    for (number, end) in ends.outputs.iter().enumerate() {
-        let place = EndPlace::Output(number);
-        let sink = sink_named(run.plant.graph(), place, end.block.as_bytes())?;
-        let written = cut.written(sink);
-        let size = size_at(run.plant.graph(), sink);
-        let writer = match written.standing {
-            Some(items) => resume(rt, end, place, items.saturating_mul(size))?,
-            None => create(rt, end, place)?,
-        };
-        let target = Limited::new(writer, written.most.saturating_mul(size));
-        if let Some(slot) = targets.get_mut(sink.0 as usize) {
-            *slot = Some(Targets {
-                items: Some(target),
-                tags: None,
-                number,
-                tags_number: 0,
-            });
-        }
-    }
-    for (number, end) in ends.tags.iter().enumerate() {
-        let place = EndPlace::Tags(number);
-        let sink = sink_named(run.plant.graph(), place, end.block.as_bytes())?;
-        let target = Limited::new(create(rt, end, place)?, u64::MAX);
-        if let Some(slot) = targets.get_mut(sink.0 as usize) {
-            let (items, items_number) = match slot.take() {
-                Some(targets) => (targets.items, targets.number),
-                None => (None, 0),
-            };
-            *slot = Some(Targets {
-                items,
-                tags: Some(target),
-                number: items_number,
-                tags_number: number,
-            });
-        }
-    }
-    Ok(targets)
-}
-
-// Whether each output names a sink.
-fn test_names(graph: &Valid<Kind>, ends: &Ends<'_>) -> Result<(), RawFault> {
-    for (number, end) in ends.outputs.iter().enumerate() {
-        match sink_named(graph, EndPlace::Output(number), end.block.as_bytes()) {
-            Ok(_sink) => {}
-            Err(fault) => return Err(fault),
-        }
-    }
-    for (number, end) in ends.tags.iter().enumerate() {
-        match sink_named(graph, EndPlace::Tags(number), end.block.as_bytes()) {
-            Ok(_sink) => {}
-            Err(fault) => return Err(fault),
-        }
-    }
-    Ok(())
 }
 
 /// Joins each sink with an output of its items to its own. The others are returned.
@@ -335,8 +231,8 @@ pub fn join_outputs<R: Wait + Drop>(
     Ok(kept)
 }
 
-// So many places with nothing.
-fn slots<T: Drop>(alloc: Global, count: usize) -> Result<Vec<Option<T>>, AllocError> {
+/// So many places with nothing.
+pub fn slots<T: Drop>(alloc: Global, count: usize) -> Result<Vec<Option<T>>, AllocError> {
     let mut slots = Vec::new(alloc);
     for _ in 0..count {
         slots.reserve(1)?;
@@ -369,36 +265,4 @@ fn is_pipe(rt: &HostRuntime, path: &str) -> bool {
         Ok(found) => found.file_type().is_fifo(),
         Err(_) => false,
     }
-}
-
-fn create(rt: &HostRuntime, end: &NamedEnd<'_>, place: EndPlace) -> Result<Writer, Stop> {
-    if end.is_standard() {
-        return Ok(Device::Standard(StandardOutput(*rt)));
-    }
-    match fs::create(rt, end.path) {
-        Ok(file) => Ok(Device::File(file)),
-        Err(error) => Err(unopened(error, place, EndFault::Write)),
-    }
-}
-
-// Opens an output that stands, which goes on behind so many bytes of it. What it has behind these is taken away.
-fn resume(
-    rt: &HostRuntime,
-    end: &NamedEnd<'_>,
-    place: EndPlace,
-    bytes: u64,
-) -> Result<Writer, Stop> {
-    match reopened(rt, end.path, bytes) {
-        Ok(file) => Ok(Device::File(file)),
-        Err(error) => Err(unopened(error, place, EndFault::Write)),
-    }
-}
-
-fn reopened(rt: &HostRuntime, path: &str, bytes: u64) -> io::Result<File> {
-    let mut options = OpenOptions::new();
-    options.write(true).create(true);
-    let mut file = options.open(rt, path)?;
-    file.set_len(bytes)?;
-    file.seek(SeekFrom::Start(bytes))?;
-    Ok(file)
 }

@@ -65,19 +65,39 @@ pub fn output_of<'a, 'b>(
     ends: &'b Ends<'a>,
     sink: BlockId,
 ) -> Option<&'b NamedEnd<'a>> {
-    ends.outputs
-        .iter()
-        .find(|end| is_block(graph, sink, end.block.as_bytes()))
+    named(graph, &ends.outputs, sink)
+}
+
+/// The output of the tags of a sink, if it has one.
+pub fn tags_of<'a, 'b>(
+    graph: &Valid<Kind>,
+    ends: &'b Ends<'a>,
+    sink: BlockId,
+) -> Option<&'b NamedEnd<'a>> {
+    named(graph, &ends.tags, sink)
+}
+
+// The first of these ends that is of a block.
+fn named<'a, 'b>(
+    graph: &Valid<Kind>,
+    ends: &'b [NamedEnd<'a>],
+    block: BlockId,
+) -> Option<&'b NamedEnd<'a>> {
+    ends.iter()
+        .find(|end| is_block(graph, block, end.block.as_bytes()))
 }
 
 /// Whether a source has an input.
 pub fn has_input(graph: &Valid<Kind>, ends: &Ends<'_>, source: BlockId) -> bool {
-    let mut inputs = ends.inputs.iter();
-    inputs.any(|end| is_block(graph, source, end.block.as_bytes()))
+    named(graph, &ends.inputs, source).is_some()
 }
 
-// How long the file at an end is, if it is there. One that is no regular file is refused as this.
-fn length_of(rt: &HostRuntime, end: &NamedEnd<'_>, refusal: Uncut) -> Result<Option<u64>, Uncut> {
+/// How long the file at an end is, if it is there. One that is no regular file is refused as this.
+pub fn length_of(
+    rt: &HostRuntime,
+    end: &NamedEnd<'_>,
+    refusal: Uncut,
+) -> Result<Option<u64>, Uncut> {
     if end.is_standard() {
         return Err(refusal);
     }

@@ -3,11 +3,12 @@
 use crate::cut::Cut;
 use crate::devices::Chain;
 use crate::ends::Ends;
-use crate::joins::{Opened, Targets};
+use crate::joins::Opened;
 use crate::later::later_plant;
 use crate::lengths::size_at;
 use crate::rest::Rest;
 use crate::stops::Stop;
+use crate::targets::Targets;
 use crate::team::Team;
 use flow::opening::open_stream;
 use flowgraph::{BlockId, Valid};

@@ -12,7 +12,8 @@ ghost use Rattle.slices.specs.Plans.{IsPlan};
 use crate::cut::{Cut, Written};
 use crate::devices::Extent;
 use crate::ends::Ends;
-use crate::lengths::{length_of_output, lengths_of_inputs, output_of, size_at};
+use crate::held::held_of;
+use crate::lengths::{lengths_of_inputs, output_of, size_at};
 use crate::slice::Slice;
 use crate::stretch::Stretch;
 use crate::uncut::Uncut;
@@ -140,18 +141,20 @@ fn resumed_cut(
 ) -> Result<Cut, Uncut>
     requires { IsPlan (net_of meaning_of graph.now) rates.now.firings.items (looks_of look_back_of graph.now) plan.now }
 {
+    let mut all_held = Vec::new(rt.alloc());
     let mut starts = Vec::new(rt.alloc());
     for sink in &plan.sinks {
-        let size = size_at(graph, sink.block).max(1);
-        let length = length_of_output(rt, graph, ends, sink.block)?;
+        let held = held_of(rt, graph, ends, sink.block)?;
+        all_held.reserve(1)?;
+        all_held.push_reserved(held);
         starts.reserve(1)?;
-        starts.push_reserved(length / size);
+        starts.push_reserved(held.items);
     }
     let begin = plan.last_begin(&starts);
     let mut cut = cut_at(rt.alloc(), graph, rates, plan, begin, None, &starts)?;
     for (at, sink) in plan.sinks.iter().enumerate() {
         if let Some(own) = cut.written.get_mut(sink.block.0 as usize) {
-            own.standing = starts.get(at).copied();
+            own.held = all_held.get(at).copied();
         }
     }
     Ok(cut)
@@ -201,7 +204,7 @@ fn nothing(alloc: Global, graph: &Valid<Kind>) -> Result<Cut, Uncut> {
         origin: 0,
         left_out: u64::MAX,
         most: 0,
-        standing: None,
+        held: None,
     };
     let written = vec![in alloc; none; graph.len()]?;
     Ok(Cut {
