@@ -19,7 +19,7 @@ source "$top/tests/parts/received.sh"
 # Of each case the folder that describes it.
 declare -A folder_of=()
 # One that is no call with an input that is there: the program answers a producer that waits for it.
-pipes=(pipes/slow_producer pipes/slow_producer_in_pieces pipes/fifos_in_pieces pipes/slow_marks_in_pieces)
+pipes=(pipes/slow_producer pipes/slow_producer_in_pieces pipes/fifos_in_pieces pipes/slow_marks_in_pieces pipes/memory_of_pieces)
 # Calls whose standard error is a terminal, which the command `script` makes.
 terminals=(terminals/explains terminals/never terminals/place)
 # What a program of Python asks, that has names of GNU Radio from flow-from-grc.
@@ -227,6 +227,9 @@ pipes_slow_marks_in_pieces() {
     differs stdout <(printf 'sink out 100000\ndone\n') "$folder/report"
 }
 
+# pipes_memory_of_pieces: of a stream of 16 MB, as much as the program does with its checks in half a minute
+pipes_memory_of_pieces() { timeout 600 python3 "$top/tests/programs/pieces_memory.py" 3 8 "${start[@]}"; }
+
 # on_terminal WANTED WORD..: that a call with these words, whose standard error is a terminal, writes these lines there
 on_terminal() {
     local wanted=$1 shown
@@ -255,11 +258,11 @@ slices_drawn() { python3 "$top/tests/programs/slices.py" "${start[@]}"; }
 # slices_killed: that runs in pieces that are killed leave a beginning, with which another run goes on to the whole
 slices_killed() { python3 "$top/tests/programs/slice_ends.py" killed "${start[@]}"; }
 
-# slices_bad_ends: that runs in pieces end as one on one thread does, where an input, an output or marks are at fault
-slices_bad_ends() { python3 "$top/tests/programs/slice_ends.py" bad "${start[@]}"; }
-
 # slices_gone_on: that runs go on with items and tags that are cut anywhere, to the whole
 slices_gone_on() { python3 "$top/tests/programs/slice_ends.py" tags "${start[@]}"; }
+
+# slices_bad_ends: that runs in pieces end as one on one thread does, where an input, an output or marks are at fault
+slices_bad_ends() { python3 "$top/tests/programs/slice_ends.py" bad "${start[@]}"; }
 
 # names_gnu_radio: that names of GNU Radio are answered with those that flow-from-grc writes for them
 names_gnu_radio() { python3 "$top/tests/programs/gnu_radio_names.py" "${start[@]}"; }
