@@ -217,6 +217,23 @@ struct magbelu_connection {
 #define MAGBELU_NO_BLOCK UINT32_MAX
 
 /*
+ * How far a block of a plant that streams is, in items of the streams from their beginnings on.
+ *
+ * status   0: done. 1: refused.
+ * number   that of the refusal; 0 with status 0.
+ * taken    how many items it has taken of its first input; a source, of its tape.
+ * given    how many items it has given on each output; a sink, how many it has taken.
+ * waiting  how many items have come to its first input, or to its tape, that it has not taken.
+ */
+struct magbelu_levels {
+    uint32_t status;
+    uint32_t number;
+    uint64_t taken;
+    uint64_t given;
+    uint64_t waiting;
+};
+
+/*
  * What came of a call about slices of time, which are parts of a run that are run for themselves. A slice begins at an iteration: each source gives its `period`
  * items in one. So that it gives what the whole run does, it reads some iterations before its own, and what these give is dropped.
  *
@@ -314,6 +331,8 @@ struct magbelu_piece magbelu_bytes_read(struct magbelu_plant *plant, const uint8
 
 struct magbelu_piece magbelu_bytes_drain(struct magbelu_plant *plant, const uint8_t *sink, size_t sink_len, uint64_t max, uint32_t big_endian, uint8_t *bytes,
                                          size_t bytes_room, uint8_t *tags, size_t tags_room);
+
+struct magbelu_levels magbelu_bytes_levels(struct magbelu_plant *plant, const uint8_t *block, size_t block_len);
 
 struct magbelu_reply magbelu_bytes_block_count(struct magbelu_plant *plant);
 
@@ -741,8 +760,8 @@ static inline struct magbelu_slicing magbelu_slice(struct magbelu_plant *plant, 
 static inline struct magbelu_plant *magbelu_streaming(struct magbelu_stream *stream) { return stream != NULL ? &stream->plant : NULL; }
 
 /*
- * Opens the plant of a graph file so that it streams, as magbelu_open opens one. The calls below are those of a plant, but for magbelu_stream_drain; where they speak
- * of a tape, it is all that the source was fed.
+ * Opens the plant of a graph file so that it streams, as magbelu_open opens one. The calls below are those of a plant, but for magbelu_stream_drain and
+ * magbelu_stream_levels; where they speak of a tape, it is all that the source was fed.
  */
 static inline struct magbelu_answer magbelu_stream_open(struct magbelu_stream *stream, const void *file, size_t file_len, char *error, size_t error_room) {
     uint64_t none = 0;
@@ -796,10 +815,23 @@ static inline struct magbelu_reply magbelu_stream_set_taps(struct magbelu_stream
     return magbelu_set_taps(magbelu_streaming(stream), block, block_len, at, taps, count);
 }
 
+static inline struct magbelu_reply magbelu_stream_step(struct magbelu_stream *stream, const void *block, size_t block_len, uint32_t max) {
+    return magbelu_step(magbelu_streaming(stream), block, block_len, max);
+}
+
 static inline struct magbelu_reply magbelu_stream_settle(struct magbelu_stream *stream) { return magbelu_settle(magbelu_streaming(stream)); }
 
 static inline struct magbelu_reply magbelu_stream_need(struct magbelu_stream *stream, const void *block, size_t block_len) {
     return magbelu_need(magbelu_streaming(stream), block, block_len);
+}
+
+/* Tells how far a block is. What is set at items from `taken` on is in force. */
+static inline struct magbelu_levels magbelu_stream_levels(struct magbelu_stream *stream, const void *block, size_t block_len) {
+    if (stream == NULL || magbelu_is_null(block, block_len)) {
+        struct magbelu_levels levels = {1, MAGBELU_NULL, 0, 0, 0};
+        return levels;
+    }
+    return magbelu_bytes_levels(&stream->plant, magbelu_read_at(block), block_len);
 }
 
 static inline struct magbelu_reply magbelu_stream_block_count(struct magbelu_stream *stream) { return magbelu_block_count(magbelu_streaming(stream)); }

@@ -124,6 +124,16 @@ struct block {
     item_type output_type;
 };
 
+/*
+ * How far a block of a stream is: how many items it has taken of its first input or its tape, has given on each output (a sink: has taken), and has not taken though
+ * they have come.
+ */
+struct block_levels {
+    std::uint64_t taken;
+    std::uint64_t given;
+    std::uint64_t waiting;
+};
+
 /* How the runs of a graph are cut into slices of time: how many iterations before its own a slice reads, each source, each sink that keeps its items, and the first
  * block whose items rest on how many came before, or MAGBELU_NO_BLOCK. */
 struct slice_plan {
@@ -343,6 +353,12 @@ public:
         return set(block, std::vector<std::int16_t>(taps), at);
     }
 
+    /* Does at most `max` firings of a block, and gives how many were done. */
+    std::uint64_t step(std::string_view block, std::uint32_t max = UINT32_MAX) {
+        const auto got = tested(magbelu_step(plant(), block.data(), block.size(), max), block);
+        return got.what == MAGBELU_DID ? got.value : 0;
+    }
+
     /* Runs the graph until it comes to rest, and gives whether all blocks are done, for which all sources have to be closed. */
     bool settle() { return tested(magbelu_settle(plant()), "").status == 0; }
 
@@ -498,12 +514,6 @@ public:
     /* The graph of a graph file. One that cannot be read is a `std::system_error`. */
     static graph from_file(const std::string &path) { return graph(detail::text_in(path), path); }
 
-    /* Does at most `max` firings of a block, and gives how many were done. */
-    std::uint64_t step(std::string_view block, std::uint32_t max = UINT32_MAX) {
-        const auto got = detail::tested(magbelu_step(plant(), block.data(), block.size(), max), block);
-        return got.what == MAGBELU_DID ? got.value : 0;
-    }
-
     /* What a sink holds from item `from` on, at most `max` items. */
     template <class Item>
     piece<Item> read(std::string_view sink, std::uint64_t from = 0, std::uint64_t max = UINT64_MAX) {
@@ -542,6 +552,12 @@ public:
 
     /* The graph for a slice that leaves out so many iterations of each tape: each block goes on where it stands after these, and nothing is fed. */
     static stream at(std::uint64_t leaves_out, std::string_view file, std::string_view path = "<graph>") { return stream(leaves_out, file, path); }
+
+    /* How far a block is. */
+    block_levels levels(std::string_view block) {
+        const auto got = detail::tested(magbelu_stream_levels(&stream_, block.data(), block.size()), block);
+        return {got.taken, got.given, got.waiting};
+    }
 
     /* Takes at most `max` items away of those that a sink has taken and that were not drained yet. Its tags have the numbers of all that the sink ever took. */
     template <class Item>

@@ -40,11 +40,11 @@ from ._listing import Block, Connection, Port
 from ._runs import check, run, run_items, script, version
 from ._slice_runs import run_slices
 from ._slices import SinkPart, SinkSlices, Slice, Slices, SourceSlices
-from ._stream import Piece, Stream
+from ._stream import Levels, Piece, Stream
 
 __all__ = [
-    "EXAMPLE", "KINDS", "Array", "Block", "Builder", "Connection", "Error", "Graph", "Items", "Need", "OutOfMemory", "Piece", "Port", "Refused", "SinkPart",
-    "SinkSlices", "Slice", "Slices", "SourceSlices", "Stream", "Tag", "check", "run", "run_items", "run_slices", "script", "version",
+    "EXAMPLE", "KINDS", "Array", "Block", "Builder", "Connection", "Error", "Graph", "Items", "Levels", "Need", "OutOfMemory", "Piece", "Port", "Refused",
+    "SinkPart", "SinkSlices", "Slice", "Slices", "SourceSlices", "Stream", "Tag", "check", "run", "run_items", "run_slices", "script", "version",
 ]
 
 #: A graph file for examples: ten is added to each byte.

@@ -56,6 +56,10 @@ class Link(ctypes.Structure):
     _fields_ = [("writer", ctypes.c_uint32), ("reader", ctypes.c_uint32), ("out_port", ctypes.c_size_t), ("in_port", ctypes.c_size_t)]
 
 
+class LevelsReply(ctypes.Structure):
+    _fields_ = [("status", ctypes.c_uint32), ("number", ctypes.c_uint32), ("taken", ctypes.c_uint64), ("given", ctypes.c_uint64), ("waiting", ctypes.c_uint64)]
+
+
 class Slicing(ctypes.Structure):
     _fields_ = [
         ("status", ctypes.c_uint32), ("number", ctypes.c_uint32), ("block", ctypes.c_uint32), ("iterations", ctypes.c_uint64),
@@ -155,6 +159,7 @@ def _with_types(library: ctypes.CDLL) -> ctypes.CDLL:
     library.magbelu_bytes_drain.restype, library.magbelu_bytes_drain.argtypes = Piece, plant + pair + u64 + [ctypes.c_uint32] + 2 * pair
     library.magbelu_bytes_read.restype, library.magbelu_bytes_read.argtypes = Piece, plant + pair + 2 * u64 + [ctypes.c_uint32] + 2 * pair
     library.magbelu_bytes_block.restype, library.magbelu_bytes_block.argtypes = Listed, plant + [ctypes.c_uint32] + 2 * pair
+    library.magbelu_bytes_levels.restype, library.magbelu_bytes_levels.argtypes = LevelsReply, plant + pair
     library.magbelu_bytes_draw.restype, library.magbelu_bytes_draw.argtypes = Answer, plant + [ctypes.c_uint32] + pair
     library.magbelu_bytes_open_stream_at.restype, library.magbelu_bytes_open_stream_at.argtypes = Answer, plant + pair + u64 + pair
     for name, types in {"slices": 2 * pair, "slice": u64 + pair}.items():

@@ -49,6 +49,15 @@ class Piece(NamedTuple):
     tags: list[Tag]
 
 
+class Levels(NamedTuple):
+    """How far a block is: how many items it has taken of its first input, or of its tape; how many it has given on each output, or has taken as a sink; and how many
+    have come that it has not taken."""
+
+    taken: int
+    given: int
+    waiting: int
+
+
 class Stream(Held):
     """A graph that streams: it forgets what its sources have taken and what was drained of its sinks, and so runs in constant memory for as long as it is fed. `path`
     is only what the text is called where it is refused. Where it is no longer needed it is freed, at the end of a `with` or when it goes. With `leaves_out` it is one for
@@ -93,6 +102,17 @@ class Stream(Held):
         (4, True, [4, 5])
         """
         return type(self)(self._text, self.path, leaves_out)
+
+    def levels(self, block: Text) -> Levels:
+        """How far a block is. What is set at items from `taken` on is in force.
+
+        >>> stream = Stream(magbelu.EXAMPLE)
+        >>> stream.feed("src", [1, 2, 3]), stream.step("src", 2), stream.levels("src"), stream.levels("add").waiting
+        (3, 2, Levels(taken=2, given=2, waiting=1), 2)
+        """
+        name = lent_name(bytes_of(block))
+        told = self._call("levels", block, name.at, name.len)
+        return Levels(told.taken, told.given, told.waiting)
 
     def drain(self, sink: Text, count: Optional[SupportsIndex] = None) -> tuple[Array, list[Tag]]:
         """Takes at most `count` items away of those that a sink has taken and that were not drained yet, and gives them with the tags on them. The offset of a tag counts

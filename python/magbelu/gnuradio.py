@@ -23,7 +23,7 @@ from ._held import Need
 from ._listing import Port
 from ._ports import Path, Ports, ports, ports_of
 from ._runs import NO_PATH, read_file
-from ._stream import Stream
+from ._stream import Levels, Stream
 
 __all__ = ["Flowgraph", "Port", "Ports", "has_port", "has_ports", "ports", "type_of"]
 
@@ -86,6 +86,11 @@ class Flowgraph(HierBlock):  # type: ignore[misc]
         """What a block of the graph waits for."""
         need: Need = self._block.stream.need(block)
         return need
+
+    def levels(self, block: Text) -> Levels:
+        """How far a block of the graph is."""
+        levels: Levels = self._block.stream.levels(block)
+        return levels
 
     @property
     def outcome(self) -> Optional[str]:

@@ -162,6 +162,21 @@ static void graphs_are_moved_and_freed() {
     must(second.item_size("src") == 2, "a graph that another was moved to");
 }
 
+static bool are(const magbelu::block_levels &levels, std::uint64_t taken, std::uint64_t given, std::uint64_t waiting) {
+    return levels.taken == taken && levels.given == given && levels.waiting == waiting;
+}
+
+static void streams_tell_how_far_blocks_are() {
+    magbelu::stream stream(chain_file("short"));
+    stream.feed("src", {1, 2, 3});
+    must(stream.step("src", 2) == 2 && stream.step("add") == 2 && stream.step("add") == 0, "how many firings are done");
+    must(are(stream.levels("src"), 2, 2, 1) && are(stream.levels("add"), 2, 2, 0) && are(stream.levels("out"), 0, 0, 2), "how far blocks are");
+    refuses(20, "20 NoSuchBlock none", [&] { stream.levels("none"); });
+    auto other = std::move(stream);
+    refuses(55, "55 NotOpen src", [&] { stream.levels("src"); });
+    must(are(other.levels("src"), 2, 2, 1), "a stream that was moved");
+}
+
 static void streams_go_on() {
     magbelu::stream stream(chain_file("short"));
     must(stream.need("src") == magbelu::wait::feed && stream.need("out") == magbelu::wait::items, "what blocks wait for");
@@ -241,6 +256,7 @@ int main(int, char **words) {
     graphs_are_listed();
     slices_are_told();
     reasons_are_told();
+    streams_tell_how_far_blocks_are();
     streams_go_on();
     items_come_out();
     settings_and_tags_come_out();

@@ -97,6 +97,12 @@ magbelu_reply feed(plant &own, const std::vector<std::int64_t> &items, const mag
     return {0, 0, 0, own.tape.size()};
 }
 
+/* How many items have come to a block for which it has not fired. */
+std::uint64_t waiting(plant &own, const std::string &name) {
+    const std::uint64_t come = name == "src" ? own.tape.size() : own.fired[name == "add" ? "src" : "add"];
+    return come - own.fired[name];
+}
+
 /* Writes at most so many of the items that the sink took from one on, and their tags. */
 magbelu_piece show(plant &own, std::uint64_t from, std::uint64_t max, std::uint8_t *bytes, std::size_t bytes_room, std::uint8_t *tags, std::size_t tags_room) {
     const std::uint64_t end = from + std::min<std::uint64_t>(max, own.sink.size() - from);
@@ -192,11 +198,9 @@ magbelu_reply magbelu_bytes_set(magbelu_plant *held, const std::uint8_t *name, s
 magbelu_reply magbelu_bytes_set_taps(magbelu_plant *, const std::uint8_t *, std::size_t, std::uint64_t, const std::int16_t *, std::size_t) { return refuse(29); }
 
 magbelu_reply magbelu_bytes_step(magbelu_plant *held, const std::uint8_t *name, std::size_t len, std::uint32_t max) {
-    auto &fired = in(held).fired;
     const std::string own = text_of(name, len);
-    const std::uint64_t before = own == "src" ? in(held).tape.size() : own == "add" ? fired["src"] : fired["add"];
-    const std::uint64_t count = std::min<std::uint64_t>(max, before - fired[own]);
-    fired[own] += count;
+    const std::uint64_t count = std::min<std::uint64_t>(max, waiting(in(held), own));
+    in(held).fired[own] += count;
     return count != 0 ? magbelu_reply{0, 0, MAGBELU_DID, count} : magbelu_reply{0, 0, MAGBELU_WAITS_ITEMS, 7};
 }
 
@@ -225,6 +229,15 @@ magbelu_reply magbelu_bytes_need(magbelu_plant *held, const std::uint8_t *name, 
     const plant &own = in(held);
     const std::uint32_t what = own.sink.size() < own.tape.size() ? MAGBELU_READY : own.is_closed ? MAGBELU_DONE : MAGBELU_WAITS_FEED;
     return {0, 0, what, 0};
+}
+
+magbelu_levels magbelu_bytes_levels(magbelu_plant *held, const std::uint8_t *name, std::size_t len) {
+    const std::string own = text_of(name, len);
+    const std::uint32_t number = wrong(held, own, "src", 0);
+    if (number != 0) {
+        return {1, number, 0, 0, 0};
+    }
+    return {0, 0, in(held).fired[own], in(held).fired[own], waiting(in(held), own)};
 }
 
 magbelu_piece magbelu_bytes_read(magbelu_plant *held, const std::uint8_t *name, std::size_t len, std::uint64_t from, std::uint64_t max, std::uint32_t,

@@ -22,6 +22,11 @@ static void drains(struct magbelu_stream *stream, uint64_t max, const char *want
     must(piece.tags_len == strlen(lines) && memcmp(tags, lines, piece.tags_len) == 0, "the tags of a drain");
 }
 
+static void levels_are(struct magbelu_stream *stream, const char *block, uint32_t status, uint32_t number, uint64_t taken, uint64_t given, uint64_t waiting) {
+    const struct magbelu_levels told = magbelu_stream_levels(stream, block, strlen(block));
+    must(told.status == status && told.number == number && told.taken == taken && told.given == given && told.waiting == waiting, "how far a block is");
+}
+
 static void none_streams(struct magbelu_stream *stream) {
     char bytes[4] = "abc";
     struct magbelu_piece piece;
@@ -31,7 +36,9 @@ static void none_streams(struct magbelu_stream *stream) {
     replied(magbelu_stream_close(stream, "src", 3), 1, 55, 0, 0, "a close");
     replied(magbelu_stream_set(stream, "add", 3, MAGBELU_NOW, 1), 1, 55, 0, 0, "a setting");
     replied(magbelu_stream_set_taps(stream, "add", 3, MAGBELU_NOW, NULL, 0), 1, 55, 0, 0, "taps");
+    replied(magbelu_stream_step(stream, "src", 3, 1), 1, 55, 0, 0, "a step");
     replied(magbelu_stream_settle(stream), 1, 55, 0, 0, "a settle");
+    levels_are(stream, "src", 1, 55, 0, 0, 0);
     replied(magbelu_stream_need(stream, "src", 3), 1, 55, 0, 0, "a need");
     piece = magbelu_stream_drain(stream, "out", 3, 9, 0, bytes, sizeof bytes, NULL, 0);
     must(piece.status == 1 && piece.number == 55 && piece.bytes_len == 0 && bytes[0] == 'a', "a drain");
@@ -49,6 +56,10 @@ static void stream_refusals(struct magbelu_stream *stream) {
     replied(magbelu_stream_feed(NULL, "src", 3, 0, "\1\0", 2, NULL, 0), 1, 54, 0, 0, "a stream at NULL");
     replied(magbelu_stream_need(stream, NULL, 3), 1, 54, 0, 0, "a name at NULL");
     replied(magbelu_stream_need(stream, "none", 4), 1, 20, 0, 0, "no such block");
+    replied(magbelu_stream_step(stream, "none", 4, 1), 1, 20, 0, 0, "a step of no block");
+    levels_are(stream, "none", 1, 20, 0, 0, 0);
+    levels_are(NULL, "src", 1, 54, 0, 0, 0);
+    must(magbelu_stream_levels(stream, NULL, 3).number == 54, "levels of a name at NULL");
     piece = magbelu_stream_drain(stream, "none", 4, 9, 0, bytes, sizeof bytes, NULL, 0);
     must(piece.status == 1 && piece.number == 20 && bytes[0] == 'a', "no such block");
     piece = magbelu_stream_drain(stream, "add", 3, 9, 0, bytes, sizeof bytes, NULL, 0);
@@ -78,10 +89,17 @@ void streams(void) {
     replied(magbelu_stream_feed(&stream, "src", 3, 0, "\1\0\2\0\3\0", 6, &tag, 1), 0, 0, 0, 3, "a feed");
     replied(magbelu_stream_need(&stream, "src", 3), 0, 0, MAGBELU_READY, 0, "a source that may act");
     replied(magbelu_stream_set(&stream, "add", 3, 2, 10), 0, 0, 0, 2, "a setting");
+    replied(magbelu_stream_step(&stream, "src", 3, 2), 0, 0, MAGBELU_DID, 2, "two firings");
+    replied(magbelu_stream_step(&stream, "add", 3, 1), 0, 0, MAGBELU_DID, 1, "a firing");
+    levels_are(&stream, "src", 0, 0, 2, 2, 1);
+    levels_are(&stream, "add", 0, 0, 1, 1, 1);
+    levels_are(&stream, "out", 0, 0, 0, 0, 1);
     replied(magbelu_stream_settle(&stream), 3, 0, 0, 0, "an open source");
     drains(&stream, 2, "\2\0\3\0", 4, 3, "@1:burst=-7/0\n");
     drains(&stream, 9, "\15\0", 2, 3, "");
     drains(&stream, 9, "", 0, 3, "");
+    levels_are(&stream, "add", 0, 0, 3, 3, 0);
+    levels_are(&stream, "out", 0, 0, 3, 3, 0);
     replied(magbelu_stream_feed_numbers(&stream, "src", 3, &number, 1, NULL, 0), 0, 0, 0, 4, "a feed of numbers");
     replied(magbelu_stream_close(&stream, "src", 3), 0, 0, 0, 4, "a close");
     replied(magbelu_stream_settle(&stream), 0, 0, 0, 0, "all are done");

@@ -179,6 +179,21 @@ def streams_are_tagged_set_and_refused():
     refuses(40, "Syntax", lambda: magbelu.Stream("x"))
 
 
+def streams_tell_how_far_blocks_are():
+    text = CHAIN % (3 * ("short",))
+    stream = magbelu.Stream(text.replace('kind = "add_const", value', 'kind = "keep_one_in_n", n'))
+    assert stream.feed("src", range(25)) == 25 and stream.levels("src") == (0, 0, 25)
+    assert stream.step("src", 23) == 23 and stream.step("add") == 2
+    assert stream.levels("src") == magbelu.Levels(taken=23, given=23, waiting=2)
+    assert stream.levels("add") == (20, 2, 3) and stream.levels("out") == (0, 0, 2)
+    assert not stream.settle() and stream.levels("out") == (2, 2, 0)
+    stream.drain("out")
+    assert stream.levels("out") == (2, 2, 0) and stream.levels(b"src") == (25, 25, 0)
+    refuses(20, "NoSuchBlock", lambda: stream.levels("none"))
+    stream.free()
+    refuses(55, "NotOpen", lambda: stream.levels("src"))
+
+
 def streams_drain_into_arrays():
     """Items are written where the caller says, with their tags, however many lines these are; and nothing else is written."""
     stream, room = magbelu.Stream(CHAIN % (3 * ("short",))), array.array("h", [-1] * 3000)
@@ -203,6 +218,7 @@ tests = [
     streams_go_on_beside_a_silent_source,
     streams_end_as_their_pieces_do,
     streams_are_tagged_set_and_refused,
+    streams_tell_how_far_blocks_are,
     streams_drain_into_arrays,
 ]
 for test in tests:

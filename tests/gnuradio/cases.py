@@ -162,6 +162,7 @@ def stalls() -> None:
     (sink,) = ran(graph, [source("byte", range(1, 21), repeat=True)])
     equal((list(sink.data()), graph.outcome), ([3, 6, 9], "stalled"))
     equal((graph.need("src").what, graph.need("half").what), ("room", "items"))
+    equal(graph.levels("half"), (6, 3, 1))
 
 
 def refused() -> None:

@@ -8,6 +8,7 @@ pub mod Handles
 pub mod Held
 pub mod Kernels
 pub mod Later
+pub mod Levels
 pub mod Listing
 pub mod Pieces
 pub mod Replies

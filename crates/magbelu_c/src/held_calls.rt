@@ -11,6 +11,7 @@ ghost use Rattle.magbelu_c.specs.CallAnswers.{order_of};
 ghost use Rattle.magbelu_c.specs.AnyPlants.{IsOpened, opening_in, plant_of};
 ghost use Rattle.magbelu_c.specs.Held.{Drains, Frees, Opens, Shows, answered, at_of};
 ghost use Rattle.magbelu_c.specs.Later.{OpensLater};
+ghost use Rattle.magbelu_c.specs.Levels.{levels_held};
 ghost use Rattle.magbelu_c.specs.Slicing as slicing;
 ghost use Rattle.magbelu_c.specs.Replies.{CallsOn, OnHeld, fed_bytes, is_fed, named, sized, stepped, wants};
 ghost use Rattle.magbelu_c.specs.Settling.{SettlesOn};
@@ -22,6 +23,7 @@ use crate::any_plant::AnyPlant;
 use crate::draining::drain;
 use crate::handle::Handle;
 use crate::later::{Unopened, opened_later};
+use crate::levels::{BlockLevels, levels, untold};
 use crate::orders::order;
 use crate::piece::{Piece, read, unshown};
 use crate::reply::{Reply, done, not_open};
@@ -359,4 +361,22 @@ pub extern "C" fn magbelu_bytes_need(alloc: Global, plant: &mut Handle, block: &
     let reply = block_calls::need(&held, block);
     plant.put(held);
     reply
+}
+
+/// How far a block of a plant that streams is.
+#[unsafe(no_mangle)]
+pub extern "C" fn magbelu_bytes_levels(
+    alloc: Global,
+    plant: &mut Handle,
+    block: &[u8],
+) -> BlockLevels
+    ensures told { result ≡ levels_held plant.old.plant block.now }
+    ensures keeps { plant.new.plant ≡ plant.old.plant }
+{
+    let Some(held) = plant.take(alloc) else {
+        return untold(not_open());
+    };
+    let told = levels(&held, block);
+    plant.put(held);
+    told
 }

@@ -5,7 +5,7 @@
 //! ```
 //!
 //! A call takes pointers with their lengths, refuses what they may not be (54 and on), and does one call of the libraries below: `calls` whole runs of a file,
-//! `raw_calls` and `between` runs between raw items, `held_calls` those of a plant that is held behind a `handle`, `draining` those of one that
+//! `raw_calls` and `between` runs between raw items, `held_calls` those of a plant that is held behind a `handle`, `draining` and `levels` those of one that
 //! streams, `graph_calls` what its graph is, `slice_calls` how runs of its graph are cut into slices of time, `kernels` arithmetic over slices of memory. It starts no thread, and keeps nothing
 //! between two calls but what a handle holds.
 #![tactic(auto)]
@@ -24,6 +24,7 @@ pub mod held_calls;
 mod idle;
 pub mod kernels;
 mod later;
+pub mod levels;
 pub mod listing;
 mod loose;
 mod orders;
