@@ -24,7 +24,7 @@ half_made=
 version_of_calls() { sed -n 's/^#define MAGBELU_VERSION //p' "$top/c/magbelu.h"; }
 
 # version_of_all: prints the version of the program, and of all that is installed with it
-version_of_all() { sed -n 's/^const VERSION: &str = "\(.*\)";$/\1/p' "$top/crates/$command_crate/src/words.rt"; }
+version_of_all() { sed -n 's/^pub const VERSION: &str = "\(.*\)";$/\1/p' "$top/crates/$command_crate/src/words.rt"; }
 
 # shared_name: prints the name of the library that programs load, by which those that were linked with it look for it
 shared_name() { echo "libmagbelu.so.$(version_of_calls)"; }

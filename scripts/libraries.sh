@@ -103,7 +103,8 @@ make_programs() {
         "$kit/bin/rattle-link" "${words_to_link[@]}" "$kit/c/libos_c.a" "$kit/c/liblibc_c.a" &>>"$log"
         rm -- "$1-$level.o"
     done
-    ln -- "$1-$(level_here)" "$1"
+    # (a link, so that the program knows by its file which of them it is)
+    ln -s -- "${1##*/}-$(level_here)" "$1"
 }
 
 # make_archives FOLDER: the library for C, for every processor; and where there is a C compiler the shared library for the higher levels, where glibc looks for it.

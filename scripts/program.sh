@@ -67,7 +67,8 @@ is_fresh() {
     if [[ -e $top/HANDLES ]]; then
         sources+=("$top/HANDLES")
     fi
-    newer=$(find "${sources[@]}" -newer "$made" -print -quit) && [[ -z $newer ]]
+    # (the program is a link to the one for this processor)
+    newer=$(find -H "${sources[@]}" -newer "$made" -print -quit) && [[ -z $newer ]]
 }
 
 # needs_rt NAME: ends the script of this name where the toolchain is not to be found

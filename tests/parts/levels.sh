@@ -1,6 +1,6 @@
 #!/usr/bin/env bash
-# The cases of tests/cases/kinds, and so each kernel, by the built program for each level of processors that this machine has, as ./build --install and --deb make them; and how much
-# memory a run in pieces of a long stream has.
+# The cases of tests/cases/kinds, and so each kernel, by the built program for each level of processors that this machine has, as ./build --install and --deb make them; which level
+# it tells; and how much memory a run in pieces of a long stream has.
 set -euo pipefail
 # shellcheck source=tests/part.sh
 source "$(dirname -- "$(readlink -f -- "${BASH_SOURCE[0]}")")/../part.sh"
@@ -35,6 +35,13 @@ try_kinds() {
     done
 }
 
+# tells_level LEVEL: that the program tells the level of processors that it is compiled for
+tells_level() {
+    local said
+    said=$("$program-$1" --version)
+    [[ $said == "flow "*" ($1)" ]] || { echo "--version says: $said" && return 1; }
+}
+
 # try_pieces LEVEL: the memory of a run in pieces of 300 MB
 try_pieces() { timeout 600 python3 "$top/tests/programs/pieces_memory.py" 8 150 "$program-$1"; }
 
@@ -45,7 +52,7 @@ run() {
         said=$(lacks "$level")
         if [[ -n $said ]]; then
             left_out "levels/$level" <<<"$said"
-        elif said=$(try_kinds "$level" && try_pieces "$level"); then
+        elif said=$(try_kinds "$level" && tells_level "$level" && try_pieces "$level"); then
             passed "levels/$level"
         else
             failed "levels/$level" <<<"$said"

@@ -42,6 +42,7 @@ mod team;
 mod terminal;
 mod tracing;
 mod uncut;
+mod version;
 mod words;
 
 use crate::closed_streams::hold_closed_streams;
@@ -58,6 +59,7 @@ use crate::refusing::{begins_none, begins_none_of, buffered, shown_name};
 use crate::slice_report::tell_slices;
 use crate::terminal::Terminal;
 use crate::tracing::{tell_trace, trace_file_for};
+use crate::version::print_version;
 use crate::words::{Asked, Call, asked_by, refusal_of};
 use clap::error::ErrorKind;
 use explanations::{KeptLines, Noted};
@@ -102,6 +104,9 @@ pub fn obey<R: Threads + Wait + Clock + CpuClock + Copy + Send + Sync + 'static>
 fn answer(rt: &HostRuntime, error: &clap::Error) -> u8 {
     if error.use_stderr() {
         return refuse(rt, error);
+    }
+    if error.kind() == ErrorKind::DisplayVersion {
+        return print_version(rt);
     }
     match format!(in rt.alloc(); "{error}") {
         Ok(text) => print_text(rt, text.as_str()),

@@ -12,7 +12,8 @@ use explanations::{near_name, shown};
 use kinds::KindName;
 use std::alloc::{AllocError, Global};
 
-const VERSION: &str = "0.1.0";
+/// The version of the program.
+pub const VERSION: &str = "0.1.0";
 
 // For so many turns and waits a trace has room unless the words say another number, and for so many at most.
 const USUAL_TRACE: &str = "100000";
