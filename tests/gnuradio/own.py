@@ -596,11 +596,16 @@ def vectors() -> None:
     each(trial, 2)
 
 
-if __name__ == "__main__":
+def try_named(functions: dict[str, Any]) -> None:
+    """Tries the function that the first word names, with the words behind it that start flow."""
     try:
-        globals()[sys.argv[1]]()
+        functions[sys.argv[1]]()
         try_all(sys.argv[2:])
     except BaseException:
         traceback.print_exc()
         # (a run that did not end would hold it, or end it in its own way)
         os._exit(1)
+
+
+if __name__ == "__main__":
+    try_named(globals())
