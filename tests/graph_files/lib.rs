@@ -2,7 +2,9 @@
 
 mod drawings;
 mod each_kind;
+mod forgetful;
 mod hostile;
 mod refusals;
+mod sliced;
 mod starting;
 mod streamed;
