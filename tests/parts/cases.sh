@@ -13,6 +13,8 @@ source "$top/tests/parts/redirected.sh"
 source "$top/tests/parts/silent.sh"
 # shellcheck source=tests/parts/clustered.sh
 source "$top/tests/parts/clustered.sh"
+# shellcheck source=tests/parts/sliced.sh
+source "$top/tests/parts/sliced.sh"
 # shellcheck source=tests/parts/received.sh
 source "$top/tests/parts/received.sh"
 
@@ -24,8 +26,6 @@ pipes=(pipes/slow_producer pipes/slow_producer_in_pieces pipes/fifos_in_pieces p
 terminals=(terminals/explains terminals/never terminals/place)
 # What a program of Python asks, that has names of GNU Radio from flow-from-grc.
 names=(names/gnu_radio)
-# And one that draws graphs, which are run whole and in slices; and runs in pieces that are killed, or end badly.
-drawn=(slices/drawn slices/killed slices/gone_on slices/bad_ends)
 # And live runs between pipes, with lines that are written while items stream.
 spoken=(spoken/settings spoken/stop spoken/closes spoken/lines spoken/standard spoken/two spoken/soon spoken/long spoken/gone)
 # And runs whose trace a program of Python reads.
@@ -61,7 +61,7 @@ list() {
     for folder in "${made[@]}"; do
         add "$folder" "$1/$folder"
     done
-    printf '%s\n' "${pipes[@]}" "${terminals[@]}" "${names[@]}" "${drawn[@]}" "${spoken[@]}" "${traces[@]}" "${redirected[@]/#/redirected/}" "${silent[@]/#/silent/}" "${clustered[@]/#/cluster/}" \
+    printf '%s\n' "${pipes[@]}" "${terminals[@]}" "${names[@]}" "${sliced[@]/#/slices/}" "${spoken[@]}" "${traces[@]}" "${redirected[@]/#/redirected/}" "${silent[@]/#/silent/}" "${clustered[@]/#/cluster/}" \
         "${received[@]/#/receiver/}"
 }
 
@@ -116,7 +116,7 @@ call() {
 }
 
 # is_own CASE: whether the case is a function here
-is_own() { [[ $1 == @(pipes|terminals|names|traces|spoken|redirected|silent)/* || $1 == slices/@(drawn|killed|gone_on|bad_ends) ]]; }
+is_own() { [[ $1 == @(pipes|terminals|names|slices|traces|spoken|redirected|silent)/* ]]; }
 
 # call_all: as many side by side as there are processors
 call_all() {
@@ -252,18 +252,6 @@ terminals_place() {
   |        ^ there is no kind \`add_cnst\`; is \`add_const\` meant?" check "$room/place.toml"
 }
 
-# slices_drawn: that slices of graphs that are drawn by chance give what whole runs give
-slices_drawn() { python3 "$top/tests/programs/slices.py" "${start[@]}"; }
-
-# slices_killed: that runs in pieces that are killed leave a beginning, with which another run goes on to the whole
-slices_killed() { python3 "$top/tests/programs/slice_ends.py" killed "${start[@]}"; }
-
-# slices_gone_on: that runs go on with items and tags that are cut anywhere, to the whole
-slices_gone_on() { python3 "$top/tests/programs/slice_ends.py" tags "${start[@]}"; }
-
-# slices_bad_ends: that runs in pieces end as one on one thread does, where an input, an output or marks are at fault
-slices_bad_ends() { python3 "$top/tests/programs/slice_ends.py" bad "${start[@]}"; }
-
 # names_gnu_radio: that names of GNU Radio are answered with those that flow-from-grc writes for them
 names_gnu_radio() { python3 "$top/tests/programs/gnu_radio_names.py" "${start[@]}"; }
 
@@ -369,8 +357,10 @@ run() {
     build
     call_all
     while IFS= read -r it; do
-        if [[ $it == @(names/*|traces/*|spoken/*|slices/@(drawn|killed|gone_on|bad_ends)|pipes/memory_of_pieces) ]] && ! command -v python3 >/dev/null; then
+        if [[ $it == @(names/*|traces/*|spoken/*|pipes/memory_of_pieces) ]] && ! command -v python3 >/dev/null; then
             left_out "$it" <<<"there is no python3 to read it"
+        elif [[ $it == slices/* && -n $(slices_lack "${it#*/}") ]]; then
+            left_out "$it" < <(slices_lack "${it#*/}")
         elif [[ $it == terminals/* ]] && ! command -v script >/dev/null; then
             left_out "$it" <<<"there is no command script to make a terminal"
         elif [[ $it == @(cluster|receiver)/* ]]; then

@@ -1,7 +1,8 @@
 #!/usr/bin/env python3
-"""slice_ends.py killed|tags|bad PROGRAM..: runs in pieces that end before their time, by the program whose words are given. `killed`: one that is killed
-leaves a beginning, and one that goes on with it gives the whole, with tags too. `tags`: so does one that goes on with items and lines of tags that are cut anywhere. `bad`: an input that ends within an item, shrinks or grows meanwhile, a full disk, two
-outputs of one path, two slices into one file, and marks out of order, where a run in pieces ends as one on one thread does. Prints what differs."""
+"""slice_ends.py killed|tags|bad|threads PROGRAM..: runs in slices that end before their time, by the program whose words are given. `killed`: one in pieces that is
+killed leaves a beginning, and one that goes on with it gives the whole, with tags too. `tags`: so does one that goes on with items and lines of tags that are cut anywhere.
+`bad`: an input that ends within an item, shrinks or grows meanwhile, a full disk, two outputs of one path, two slices into one file, and marks out of order, where a run
+in pieces, or the slice that comes to it, ends as one on one thread does. `threads`: which runs take a thread for each processor by themselves. Prints what differs."""
 
 import os
 import pathlib
@@ -17,20 +18,24 @@ import time
 # A run is killed so often, each time when its output has come so far as chance will have it.
 KILLS = 10
 ITEMS = 400_000
+# An input of so many bytes is worth a thread for each processor.
+LONG = 1 << 24
 # One item in three of a filter, and the sums of these; a source of shorts.
-GRAPH = """
+FILTER = 'kind = "fir", type = "short", taps = [3, -1, 4, 1, -5, 9, 2, -6, 5, 3, 5, -8, 9, 7], shift = 4, decimation = 3'
+SUM = 'kind = "moving_sum", type = "short", length = 40'
+GRAPH = f"""
 block = [
-    { name = "in", kind = "vector_source", type = "short" },
-    { name = "fir", kind = "fir", type = "short", taps = [3, -1, 4, 1, -5, 9, 2, -6, 5, 3, 5, -8, 9, 7], shift = 4, decimation = 3 },
-    { name = "filtered", kind = "vector_sink", type = "short" },
-    { name = "sum", kind = "moving_sum", type = "short", length = 40 },
-    { name = "summed", kind = "vector_sink", type = "short" },
+    {{ name = "in", kind = "vector_source", type = "short" }},
+    {{ name = "fir", {FILTER} }},
+    {{ name = "filtered", kind = "vector_sink", type = "short" }},
+    {{ name = "sum", {SUM} }},
+    {{ name = "summed", kind = "vector_sink", type = "short" }},
 ]
 connect = [
-    { from = "in", to = "fir" },
-    { from = "fir", to = "filtered" },
-    { from = "fir", to = "sum" },
-    { from = "sum", to = "summed" },
+    {{ from = "in", to = "fir" }},
+    {{ from = "fir", to = "filtered" }},
+    {{ from = "fir", to = "sum" }},
+    {{ from = "sum", to = "summed" }},
 ]
 """
 SINKS = ["filtered", "summed"]
@@ -81,7 +86,7 @@ class Folder:
         """How a run ends: its status, what it says, and its outputs."""
         self.clear()
         with self.start(*more, **how) as running:
-            _, errors = running.communicate(timeout=120)
+            _, errors = running.communicate(timeout=600)
         return running.returncode, errors.decode(), self.outputs()
 
     def outputs(self):
@@ -124,7 +129,7 @@ def killed_in(folder):
             return "what a killed run left is no beginning of the whole"
         were_midway += 0 < len(left[0]) < len(whole[0])
         with folder.start("--resume", "--jobs", "2") as resumed:
-            _, errors = resumed.communicate(timeout=120)
+            _, errors = resumed.communicate(timeout=600)
         if resumed.returncode != 0 or folder.outputs() != whole:
             return "gone on with behind a kill at %d bytes: %d %s" % (len(left[0]), resumed.returncode, errors.decode())
     return None if were_midway else "no run was killed midway"
@@ -190,7 +195,7 @@ def gone_on(path):
                 put(folder.path.joinpath("%s.tags" % name), tags)
             way = ["--jobs", "2"] if number == second else ["--one-thread"]
             with folder.start("--resume", *way) as resumed:
-                _, errors = resumed.communicate(timeout=120)
+                _, errors = resumed.communicate(timeout=600)
             if resumed.returncode != 0 or folder.outputs() != whole:
                 return "gone on with %s, and %s, by %s: %d %s" % (left[0][0], left[1][0], " ".join(way), resumed.returncode, errors.decode())
     return None
@@ -223,6 +228,10 @@ def full_disk(path):
         return "a full disk: %s, and alone %s" % (pieces[:2], alone[:2])
     if len(pieces[2][0]) != most or not are_beginnings(pieces[2], whole):
         return "a full disk: what was written is no beginning"
+    rest = [it[2 * (len(it) // 8) :] for it in whole]
+    part = folder.run("--from", str(len(whole[0]) // 8), preexec_fn=limit)
+    if part[:2] != alone[:2] or len(part[2][0]) != most or not are_beginnings(part[2], rest):
+        return "a full disk for a run from an item on: %s, and alone %s" % (part[:2], alone[:2])
     return None
 
 
@@ -238,7 +247,7 @@ def changed(path, shrinks):
         else:
             with open(input_file, "ab") as file:
                 file.write(other[len(folder.items) :])
-        _, errors = running.communicate(timeout=120)
+        _, errors = running.communicate(timeout=600)
     part = folder.outputs()
     input_file.write_bytes(other)
     after = folder.whole()
@@ -255,7 +264,7 @@ def one_path(path):
         said = []
         for way in (["--one-thread"], ["--jobs", "2"]):
             words = [*sys.argv[2:], "run", *way, "-i", "in=in", "-o", "filtered=one", "-o", "summed=%s" % second, "graph.toml"]
-            answer = subprocess.run(words, cwd=folder.path, stdin=subprocess.DEVNULL, capture_output=True, text=True, timeout=60, check=False)
+            answer = subprocess.run(words, cwd=folder.path, stdin=subprocess.DEVNULL, capture_output=True, text=True, timeout=600, check=False)
             said.append((answer.returncode, answer.stdout, answer.stderr))
         if said[0] != said[1] or said[0][0] == 0 or folder.path.joinpath("one").exists():
             return "two outputs in %s: %s, and alone %s" % (second, said[1], said[0])
@@ -268,7 +277,7 @@ def one_file(path):
     whole = folder.whole()
     _, _, first = folder.run("--slice", "1/2")
     with folder.start("--slice", "2/2") as running:
-        _, errors = running.communicate(timeout=120)
+        _, errors = running.communicate(timeout=600)
     if running.returncode != 0 or folder.outputs() != [all_of[len(part) :] for all_of, part in zip(whole, first)]:
         return "a second slice into the files of the first: %d %s" % (running.returncode, errors.decode())
     return None
@@ -287,6 +296,9 @@ def unordered_marks(path):
             return "marks out of order in line %d: %s, and alone %s" % (wrong + 1, pieces[:2], alone[:2])
         if not are_beginnings(pieces[2], whole):
             return "marks out of order in line %d: what was written is no beginning" % (wrong + 1)
+        slices = [folder.run("--slice", "%d/2" % number, *words)[:2] for number in (1, 2)]
+        if slices[wrong > 500] != alone[:2] or (wrong > 500 and slices[0] != (0, "")):
+            return "marks out of order in line %d, in two slices: %s, and alone %s" % (wrong + 1, slices, alone[:2])
     return None
 
 
@@ -301,9 +313,48 @@ def bad(path):
     return None
 
 
+def seconds_of(number):
+    """The processor seconds that a process has taken."""
+    times = pathlib.Path("/proc/%d/stat" % number).read_text(encoding="ascii").rpartition(") ")[2].split()[11:13]
+    return sum(map(int, times)) / os.sysconf("SC_CLK_TCK")
+
+
+def threads_of(folder, *more):
+    """How many threads a run has that is at work."""
+    folder.clear()
+    with folder.start(*more) as running:
+        while running.poll() is None and seconds_of(running.pid) < 0.7:
+            time.sleep(0.01)
+        count = len(os.listdir("/proc/%d/task" % running.pid)) if running.poll() is None else 0
+        running.kill()
+    return count
+
+
+def threads(path):
+    """A run between files takes as many threads as `--jobs` would with one for each processor, where it is long enough and all its blocks forget."""
+    folder = Folder(path)
+    processors = len(os.sched_getaffinity(0))
+    if processors == 1:
+        return None
+    tests = [
+        ("a long file", LONG, GRAPH, processors),
+        ("a file that is too short", LONG - 2, GRAPH, 1),
+        ("a block that may end", LONG, GRAPH.replace(SUM, 'kind = "head", type = "short", n = 9999999'), 1),
+        ("few blocks, and no filter", LONG, GRAPH.replace(FILTER, 'kind = "keep_one_in_n", type = "short", n = 3'), 1),
+    ]
+    for name, length, graph, jobs in tests:
+        folder.path.joinpath("graph.toml").write_text(graph, encoding="utf-8")
+        with open(folder.path.joinpath("in"), "wb") as file:
+            file.truncate(length)
+        own, wanted = threads_of(folder), threads_of(folder, "--jobs", str(jobs))
+        if own != wanted:
+            return "%s: %d threads, and with --jobs %d %d" % (name, own, jobs, wanted)
+    return None
+
+
 def main():
     with tempfile.TemporaryDirectory() as room:
-        wrong = {"killed": killed, "tags": gone_on, "bad": bad}[sys.argv[1]](room)
+        wrong = {"killed": killed, "tags": gone_on, "bad": bad, "threads": threads}[sys.argv[1]](room)
     if wrong:
         print(wrong)
     return 1 if wrong else 0
