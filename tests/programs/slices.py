@@ -1,8 +1,10 @@
 #!/usr/bin/env python3
-"""Runs graphs that are drawn by chance whole and in parts, by the program whose words are given. What slices write, one behind the other, is what the whole run writes.
-So is a run from an item on, one that goes on with cut outputs, and one in pieces, of files and of pipes, also where it is killed and goes on. A graph that is not cut is
-refused. Prints what differs. The environment variable SLICED_GRAPHS says how many graphs are drawn, 30 if it is not there."""
+"""Runs graphs that are drawn by chance whole and in parts, by the program whose words are given. What slices write, one behind the other, is what the whole run writes,
+and so is what runs in pieces write, of files and of pipes. Of every fifth graph, so is a run from an item on, one that goes on with cut outputs, or one in pieces that is
+killed and goes on. A graph that is not cut is refused. Prints what differs. The environment variable SLICED_GRAPHS says how many graphs are drawn of blocks that forget,
+300 if it is not there; of any blocks there are a tenth of these, and a twentieth that count. As many are run side by side as there are processors."""
 
+import concurrent.futures
 import os
 import pathlib
 import random
@@ -15,10 +17,13 @@ import time
 sys.path.insert(0, str(pathlib.Path(__file__).parent.parent / "gnuradio"))
 
 import drawn  # noqa: E402
+import forgetful  # noqa: E402
 
-GRAPHS = int(os.environ.get("SLICED_GRAPHS", "30"))
-# So many more have a head and an additive scrambler, which go on where they stand.
-COUNTED = 15
+GRAPHS = int(os.environ.get("SLICED_GRAPHS", "300"))
+# So many more have blocks of any kinds and rates, of which some are not cut.
+MIXED = GRAPHS // 10
+# And so many a head and an additive scrambler, which go on where they stand.
+COUNTED = GRAPHS // 20
 FORMATS = {"byte": "B", "short": "h", "int": "i"}
 SIZES = {"byte": 1, "short": 2, "int": 4}
 # A run in pieces is killed so often, before it is done or behind.
@@ -27,7 +32,7 @@ KILLS = 3
 
 def call(folder, *words):
     """What the program answers: its status, and what it writes to its two streams."""
-    answer = subprocess.run([*sys.argv[1:], *words], cwd=folder, stdin=subprocess.DEVNULL, capture_output=True, text=True, timeout=60, check=False)
+    answer = subprocess.run([*sys.argv[1:], *words], cwd=folder, stdin=subprocess.DEVNULL, capture_output=True, text=True, timeout=600, check=False)
     return answer.returncode, answer.stdout, answer.stderr
 
 
@@ -66,8 +71,7 @@ def run(folder, inputs, graph, place, *words):
 
 def slices_differ(folder, graph, inputs, whole, rng):
     """What is wrong with the slices of a graph."""
-    count = rng.randint(1, 6)
-    run(folder, inputs, graph, "whole", *tagged(graph, "whole"))
+    count = rng.choice([2, 2, 2, 3, 5])
     items, lines = {name: b"" for name in whole}, {name: "" for name in whole}
     for at in range(count):
         part = run(folder, inputs, graph, "part", "--slice", "%d/%d" % (at + 1, count), *tagged(graph, "part"))
@@ -119,19 +123,28 @@ def resumed_differs(folder, graph, inputs, whole, rng):
     return None
 
 
+def jobs_differ(folder, graph, inputs, whole, rng):
+    """What is wrong with a run in pieces."""
+    return pieces_differ_by(folder, graph, inputs, whole, 0, ["--jobs", str(rng.choice([2, 2, 2, 3, 5]))])
+
+
 def pieces_differ(folder, graph, inputs, whole, rng):
-    """What is wrong with runs in pieces."""
+    """What is wrong with a run in one piece, in pieces from an item on, and in those of a slice."""
     start = rng.randint(0, 50)
-    for words in (["--jobs", "1"], ["--jobs", str(rng.randint(2, 5))], ["--jobs", "2", "--from", str(start)], ["--jobs", "2", "--slice", "1/1"]):
-        part = run(folder, inputs, graph, "part", *words, *tagged(graph, "part"))
-        first = start if "--from" in words else 0
-        for name, text in tags(folder, graph, "part").items():
-            wanted = whole[name][first * SIZES[graph.sinks[name]] :]
-            if part[name] != wanted:
-                return "%s by %s has %d bytes, and not %d" % (name, " ".join(words), len(part[name]), len(wanted))
-            lines = [line for line in tags(folder, graph, "whole")[name].splitlines(keepends=True) if first <= int(line[1 : line.index(":")])]
-            if text != "".join(lines):
-                return "%s by %s has the tags %s, and not %s" % (name, " ".join(words), text, "".join(lines))
+    ways = [(0, ["--jobs", "1"]), (start, ["--jobs", "2", "--from", str(start)]), (0, ["--jobs", "2", "--slice", "1/1"])]
+    return next(filter(None, (pieces_differ_by(folder, graph, inputs, whole, *way) for way in ways)), None)
+
+
+def pieces_differ_by(folder, graph, inputs, whole, first, words):
+    """What is wrong with what a run by these words gives, which is what the whole run gives from this item on."""
+    part = run(folder, inputs, graph, "part", *words, *tagged(graph, "part"))
+    for name, text in tags(folder, graph, "part").items():
+        wanted = whole[name][first * SIZES[graph.sinks[name]] :]
+        if part[name] != wanted:
+            return "%s by %s has %d bytes, and not %d" % (name, " ".join(words), len(part[name]), len(wanted))
+        lines = [line for line in tags(folder, graph, "whole")[name].splitlines(keepends=True) if first <= int(line[1 : line.index(":")])]
+        if text != "".join(lines):
+            return "%s by %s has the tags %s, and not %s" % (name, " ".join(words), text, "".join(lines))
     return None
 
 
@@ -164,7 +177,7 @@ def piped_differ(folder, graph, inputs, whole, rng):
         words += ["-o", "%s=%s.part" % (name, name)]
     with subprocess.Popen([*sys.argv[1:], *words, "graph.toml"], cwd=folder, stdin=subprocess.DEVNULL, stdout=subprocess.PIPE, stderr=subprocess.STDOUT, text=True) as piped:
         send(folder, sent, rng)
-        said, _ = piped.communicate(timeout=60)
+        said, _ = piped.communicate(timeout=600)
     if piped.returncode != 0:
         return "%s: %d %s" % (" ".join(words), piped.returncode, said)
     for name, text in tags(folder, graph, "part").items():
@@ -228,38 +241,61 @@ def counted(seed):
     return drawn.Drawn(text, {"src": drawn.Fed("byte", items, tags)}, {"some": "byte", "all": "byte"})
 
 
-def differs(folder, graph, seed):
-    """What is wrong with the parts of a graph, and whether it is cut."""
-    rng = random.Random(seed)
-    inputs = write(folder, graph, rng)
+def is_cut(folder):
+    """Whether a graph is cut."""
     status, report, _ = call(folder, "check", "--slices", "graph.toml")
     if status != 0:
-        return "check: %d" % status, False
-    if "slices none" in report:
-        outputs = [word for name in graph.sinks for word in ("-o", "%s=%s.part" % (name, name))]
-        for words in (["--slice", "1/2"], ["--from", "0"], ["--jobs", "2"], ["--resume", *outputs]):
-            status, _, errors = call(folder, "run", *words, *inputs, "graph.toml")
-            if status != 1 or not errors.startswith("flow: refused 63 NoSlices "):
-                return "%s is not refused: %d %s" % (" ".join(words), status, errors), False
-        return None, False
-    whole = run(folder, inputs, graph, "whole")
+        raise ValueError("check: %d" % status)
+    return "slices none" not in report
+
+
+def not_refused(folder, graph, inputs):
+    """What is wrong with the ways to cut a graph that is not cut."""
+    outputs = [word for name in graph.sinks for word in ("-o", "%s=%s.part" % (name, name))]
+    for words in (["--slice", "1/2"], ["--from", "0"], ["--jobs", "2"], ["--resume", *outputs]):
+        status, _, errors = call(folder, "run", *words, *inputs, "graph.toml")
+        if status != 1 or not errors.startswith("flow: refused 63 NoSlices "):
+            return "%s is not refused: %d %s" % (" ".join(words), status, errors)
+    return None
+
+
+def differs(folder, graph, inputs, seed, rng):
+    """What is wrong with the parts of a graph that is cut."""
+    whole = run(folder, inputs, graph, "whole", "--one-thread", *tagged(graph, "whole"))
+    ways = [slices_differ, jobs_differ, piped_differ]
     # (each call of the program is slow where it is built with checks)
-    another = [items_differ, resumed_differs, pieces_differ, killed_differs, piped_differ][seed % 5]
-    return slices_differ(folder, graph, inputs, whole, rng) or another(folder, graph, inputs, whole, rng), True
+    if seed % 5 == 0:
+        ways.append([items_differ, resumed_differs, pieces_differ, killed_differs][seed // 5 % 4])
+    return next(filter(None, (way(folder, graph, inputs, whole, rng) for way in ways)), None)
+
+
+def tried(seed):
+    """What is wrong with the graph of this number, and whether it is cut."""
+    graph = forgetful.draw(seed) if seed < GRAPHS else drawn.draw(seed) if seed < GRAPHS + MIXED else counted(seed)
+    rng = random.Random(seed)
+    with tempfile.TemporaryDirectory() as room:
+        folder = pathlib.Path(room)
+        inputs = write(folder, graph, rng)
+        try:
+            if GRAPHS <= seed < GRAPHS + MIXED and not is_cut(folder):
+                return not_refused(folder, graph, inputs), False
+            return differs(folder, graph, inputs, seed, rng), True
+        except ValueError as error:
+            return str(error), True
 
 
 def main():
     """Prints what is wrong, and how many graphs were cut where these were too few."""
-    cut = 0
-    for seed in range(GRAPHS + COUNTED):
-        with tempfile.TemporaryDirectory() as room:
-            wrong, is_cut = differs(pathlib.Path(room), drawn.draw(seed) if seed < GRAPHS else counted(seed), seed)
-        cut += is_cut
-        if wrong:
-            print("graph %d: %s" % (seed, wrong))
-            return 1
-    if cut < GRAPHS // 3 + COUNTED:
-        print("only %d of %d graphs were cut" % (cut, GRAPHS + COUNTED))
+    seeds, cut = range(GRAPHS + MIXED + COUNTED), 0
+    with concurrent.futures.ThreadPoolExecutor(len(os.sched_getaffinity(0))) as pool:
+        for seed, (wrong, is_cut) in zip(seeds, pool.map(tried, seeds)):
+            cut += is_cut
+            if wrong:
+                print("graph %d: %s" % (seed, wrong))
+                pool.shutdown(cancel_futures=True)
+                return 1
+    if cut < GRAPHS + COUNTED:
+        print("only %d of %d graphs were cut" % (cut, len(seeds)))
         return 1
     return 0
 
