@@ -21,11 +21,11 @@ def default_of(says: str, item_type: str) -> Optional[Value]:
         return item_type if item_type in allowed else str(allowed[0])
     if says.startswith("a text of"):
         return "1"
-    low = re.search(r"(?:^|each )(-?\d+) (?:to|or) ", says)
-    number = 2 if says.startswith("more than") else 1 if re.match(r"[a-z] to ", says) else 0 if low is None else int(low[1])
     if "numbers" in says:
-        return [max(number, 0) if "each" in says else 0]
-    return number
+        each = re.search(r"each (-?\d+) to ", says)
+        return [0 if each is None else max(int(each[1]), 0)]
+    low = re.match(r"(-?\d+) (?:to|or) ", says)
+    return 2 if says.startswith("more than") else 1 if re.match(r"[a-z] to ", says) else 0 if low is None else int(low[1])
 
 
 def table_of(name: str, kind: Kind, item_type: str) -> dict[str, Value]:
