@@ -20,6 +20,8 @@ from .trace import Trace, room_of
 RUNNING, PAUSED, DONE, STALLED, FAILED = "running", "paused", "done", "stalled", "failed"
 # How long is waited for items or a command, and how often is looked what each block waits for, and measured how it works, in seconds.
 SHORT, LONG, LOOK = 0.005, 0.1, 0.25
+# How many items of each input a turn takes: as many as a processor works for about so long at, in seconds, since what is asked for waits for the turn's end.
+FEWEST, MOST, TURN = 1 << 10, 1 << 18, 0.01
 
 
 class Made(NamedTuple):
@@ -58,6 +60,8 @@ class Run(threading.Thread):
         # Where a paused run goes on to, and from when on and from which items of the inputs its pace counts.
         self._goals: dict[str, int] = {}
         self._paced_from, self._paced_counts = 0.0, dict.fromkeys(ways.inputs, 0)
+        # How many items of each input a turn takes at most.
+        self._piece = FEWEST
         sinks = graph.named("vector_sink")
         sizes = {it: self._stream._item_size(it) for it in sinks}
         self.traces = {it: Trace(size, room_of(len(sinks), size)) for it, size in sizes.items()}
@@ -145,7 +149,7 @@ class Run(threading.Thread):
             self._obey()
             if self.state == RUNNING:
                 try:
-                    self._turn()
+                    self._timed_turn()
                 except (OSError, Error, CutItem, ValueError) as error:
                     self._come_to(FAILED, str(error))
         self._close()
@@ -162,6 +166,16 @@ class Run(threading.Thread):
             future.set_result(asked())
         except Exception as error:  # (it belongs to the one who asked)
             future.set_exception(error)
+
+    def _timed_turn(self) -> None:
+        """A turn, from which the next one learns how many items it is to take."""
+        fed, began = sum(it.count for it in self.inputs.values()), time.thread_time()
+        self._turn()
+        taken, is_full = time.thread_time() - began, sum(it.count for it in self.inputs.values()) - fed >= self._piece
+        if taken > 2 * TURN:
+            self._piece = max(self._piece // 2, FEWEST)
+        elif taken < TURN / 2 and is_full:
+            self._piece = min(self._piece * 2, MOST)
 
     def _turn(self) -> None:
         """Runs the graph over what it has been fed, gives on what its sinks took, and feeds it the next piece."""
@@ -191,15 +205,15 @@ class Run(threading.Thread):
         while True:
             room = trace.next_piece()
             count, tags = self._stream.drain_into(sink, room)
-            if not count:
-                return
-            if output is not None:
+            if count and output is not None:
                 output.write(room[:count])
             trace.take(count, tags)
+            if count < len(room):
+                return
 
     def _feed(self, it: Input) -> bool:
         """Feeds a source what has come, as the pace and the goal allow; whether anything was done."""
-        return self._give(it, min(PIECE, self._goals.get(it.source, it.count + PIECE) - it.count, self._allowed(it)))
+        return self._give(it, min(self._piece, self._goals.get(it.source, it.count + MOST) - it.count, self._allowed(it)))
 
     def _give(self, it: Input, most: int) -> bool:
         """Feeds a source so many items at most, or closes it at the end; whether anything was done."""
@@ -213,10 +227,11 @@ class Run(threading.Thread):
         return True
 
     def _allowed(self, it: Input) -> int:
-        """How many items of an input the pace allows now."""
+        """How many items of an input the pace allows now. (They come together, so that the run sleeps between them.)"""
         if self.rate is None:
-            return PIECE
-        return int((time.monotonic() - self._paced_from) * self.rate) + self._paced_counts[it.source] - it.count
+            return MOST
+        moments = (time.monotonic() - self._paced_from) // SHORT
+        return int(moments * SHORT * self.rate) + self._paced_counts[it.source] - it.count
 
     def _pace_anew(self) -> None:
         self._paced_from, self._paced_counts = time.monotonic(), {name: it.count for name, it in self.inputs.items()}
@@ -245,12 +260,10 @@ class Run(threading.Thread):
             self._look()
 
     def _look(self) -> None:
-        """Looks what each block waits for, and has what was written go out."""
+        """Looks what each block waits for."""
         now = time.monotonic()
         self.waits, self._waited, self._looked = min(self._waited / max(now - self._looked, LOOK), 1.0), 0.0, now
         self.needs = {it["name"]: list(self._stream.need(it["name"])) for it in self.graph.blocks}
-        for output in self.outputs.values():
-            output.flush()
 
     def _pause(self) -> None:
         self._goals = {}
@@ -258,10 +271,7 @@ class Run(threading.Thread):
 
     def _come_to(self, state: str, fault: str = "") -> None:
         self.state, self.fault = state, fault
-        try:
-            self._look()
-        except OSError as error:
-            self.state, self.fault = FAILED, str(error)
+        self._look()
 
     def _close(self) -> None:
         for close in [it.close for it in self.inputs.values()] + [it.close for it in self.outputs.values()]:
