@@ -5,7 +5,7 @@ from __future__ import annotations
 import array
 import collections
 import itertools
-from typing import Iterable, NamedTuple, Optional
+from typing import Iterable, Iterator, NamedTuple, Optional
 
 from .._arguments import numpy
 from .._held import CODES, Tag
@@ -26,12 +26,13 @@ class Columns(NamedTuple):
     greatest: list[int]
 
 
-def extremes(items: array.array[int]) -> tuple[int, int]:
-    """The least and the greatest of some items."""
+def extremes(items: array.array[int], step: int) -> Iterator[tuple[int, int]]:
+    """The least and the greatest of each `step` items."""
     if numpy is None:
-        return min(items), max(items)
-    all_items = numpy.frombuffer(items, dtype=items.typecode)
-    return int(all_items.min()), int(all_items.max())
+        rows = (items[at : at + step] for at in range(0, len(items), step))
+        return ((min(it), max(it)) for it in rows)
+    table = numpy.frombuffer(items, dtype=items.typecode).reshape(-1, step)
+    return zip(table.min(axis=1).tolist(), table.max(axis=1).tolist())
 
 
 def room_of(sinks: int, item_size: int) -> int:
@@ -50,6 +51,7 @@ class Trace:
         self._items = array.array(CODES[item_size], bytes(item_size)) * room
         self._view = memoryview(self._items)
         self._tags: collections.deque[Tag] = collections.deque(maxlen=MOST_TAGS)
+        # The least and the greatest of columns, by how many items these have and by their numbers.
         self._known: dict[tuple[int, int], tuple[int, int]] = {}
 
     @property
@@ -87,6 +89,7 @@ class Trace:
         they are read; None where those are all."""
         step = 1 << ((max(end - start, 1) - 1) // max(width, 1)).bit_length()
         first, last = start // step, -(-end // step)
+        self._thin(step, max(first, -(-self.start // step)), end // step)
         pairs: list[tuple[int, int]] = []
         for it in range(first, last):
             pair = self._column(it * step, min((it + 1) * step, end), step)
@@ -96,23 +99,29 @@ class Trace:
                 pairs.append(pair)
         return Columns(first * step, step, [it[0] for it in pairs], [it[1] for it in pairs]) if pairs else None
 
+    def _thin(self, step: int, first: int, last: int) -> None:
+        """Notes the least and the greatest of each of these columns, which are whole, for this frame and the next ones."""
+        lacking = [it for it in range(first, last) if (step, it) not in self._known]
+        if not lacking:
+            return
+        # (where a view moves along they stand in a row)
+        first, last = lacking[0], lacking[-1] + 1
+        pairs = list(extremes(self._copied(first * step, last * step), step))
+        if len(self._known) + len(pairs) > MOST_COLUMNS:
+            self._known = {}
+        # (what was copied of those before may be of two times)
+        self._known.update(((step, it), pair) for it, pair in enumerate(pairs, first) if it * step >= self.start)
+
     def _column(self, start: int, end: int, step: int) -> Optional[tuple[int, int]]:
-        """The least and the greatest of these items, or None where they are not all there. They are kept of a whole column, for the next frame."""
-        known = self._known.get((step, start))
-        if known is not None:
+        """The least and the greatest of these items, or None where they are not all there."""
+        known = self._known.get((step, start // step))
+        if known is not None and end - start == step:
             return known
         low = max(start, self.start)
         if low >= end:
             return None
-        found = extremes(self._copied(low, end))
-        if low < self.start:
-            # (what was copied may be of two times)
-            return None
-        if low == start and end - start == step:
-            if len(self._known) >= MOST_COLUMNS:
-                self._known = {}
-            self._known[step, start] = found
-        return found
+        (found,) = extremes(self._copied(low, end), end - low)
+        return found if low >= self.start else None
 
     def tags(self, start: int, end: int) -> list[Tag]:
         """The tags on these items, of those that are kept."""

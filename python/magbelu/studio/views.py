@@ -3,12 +3,12 @@
 from __future__ import annotations
 
 import array
-import itertools
 import json
 import struct
 from dataclasses import dataclass
 from typing import Any, Optional
 
+from .._arguments import numpy
 from .._held import Tag
 from .trace import Trace
 
@@ -82,14 +82,14 @@ class View:
             if None in items:
                 return None
             head["first"] = start
-            payload = array.array("i", itertools.chain.from_iterable(it for it in items if it is not None))
+            payload = b"".join(words_of(it) for it in items if it is not None)
         else:
             columns = trace.columns(start, end, self.width)
             if columns is None:
                 return None
             head.update(first=columns.start, step=columns.step)
             start = max(start, columns.start)
-            payload = array.array("i", columns.least + columns.greatest)
+            payload = array.array("i", columns.least + columns.greatest).tobytes()
         self._count(start, end)
         tags = trace.tags(start, end)
         head.update(start=start, end=end, missed=self.missed, keys=trace.keys())
@@ -114,8 +114,15 @@ def shown_tag(tag: Tag) -> list[Any]:
     return [tag.offset, tag.key, str(tag.value), tag.source]
 
 
-def packed(head: dict[str, Any], payload: array.array[int]) -> bytes:
+def words_of(items: array.array[int]) -> bytes:
+    """Items as numbers of 32 bits."""
+    if numpy is None:
+        return array.array("i", items).tobytes()
+    return bytes(numpy.frombuffer(items, dtype=items.typecode).astype("i4").tobytes())
+
+
+def packed(head: dict[str, Any], payload: bytes) -> bytes:
     """A frame: the length of its head, the head as JSON, filled with spaces to whole words, and numbers of 32 bits."""
     text = json.dumps(head).encode()
     text += b" " * (-len(text) % 4)
-    return struct.pack("<I", len(text)) + text + payload.tobytes()
+    return struct.pack("<I", len(text)) + text + payload
