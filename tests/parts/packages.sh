@@ -6,7 +6,7 @@ set -euo pipefail
 # shellcheck source=tests/part.sh
 source "$(dirname -- "$(readlink -f -- "${BASH_SOURCE[0]}")")/../part.sh"
 
-cases=(lintian_is_silent first_command_runs program_in_c_runs python_runs drawing_is_converted block_of_gnuradio_runs nothing_stays)
+cases=(lintian_is_silent first_command_runs program_in_c_runs python_runs drawing_is_converted page_shows_the_receiver block_of_gnuradio_runs nothing_stays)
 # What the machine itself has, of which a fresh system may be made.
 suite=$(sed -n 's/^VERSION_CODENAME=//p' /etc/os-release)
 
@@ -31,8 +31,15 @@ lacks() {
     done
 }
 
+# What a command has around it in the fresh system.
+around=(env -i PATH=/usr/sbin:/usr/bin:/sbin:/bin HOME=/root LC_ALL=C DEBIAN_FRONTEND=noninteractive)
+
 # inside COMMAND..: runs the command in the fresh system
-inside() { chroot "$system" env -i PATH=/usr/sbin:/usr/bin:/sbin:/bin HOME=/root LC_ALL=C DEBIAN_FRONTEND=noninteractive "$@"; }
+inside() { chroot "$system" "${around[@]}" "$@"; }
+
+# beside_processes COMMAND..: the same where the processes and the devices of the machine are seen, which a browser looks for
+# shellcheck disable=SC2016
+beside_processes() { unshare --mount sh -c 'mount --rbind /proc "$0/proc" && mount --rbind /dev "$0/dev" && exec chroot "$0" "$@"' "$system" "${around[@]}" "$@"; }
 
 # make_system: a fresh system, with a compiler and Python and nothing else
 make_system() {
@@ -98,6 +105,14 @@ print(graph.read("out")[0].tolist())'
 drawing_is_converted() {
     cp -- "$top/examples/grc/rates.grc" "$system/root"
     gives "$(<"$top/examples/grc/rates.toml")" sh -c 'flow-from-grc /root/rates.grc 2>/dev/null'
+}
+
+# The receiver of the examples in the page of magbelu-studio: its spectrum, waterfall and bits, and a filter that is turned.
+page_shows_the_receiver() {
+    inside apt-get install --yes --no-install-recommends chromium chromium-driver python3-aiohttp python3-selenium
+    cp -r -- "$top/tests/studio" "$system/root/studio"
+    beside_processes python3 /root/studio/receiver.py /root /usr/bin/magbelu-studio /usr/share/doc/magbelu/examples/receiver
+    [[ -s $system/root/receiver_before.png && -s $system/root/receiver_after.png ]] || { echo "there are no pictures" && return 1; }
 }
 
 # The program that docs/user/FOR_GNU_RADIO_USERS.md begins with, and a drawing with the block of Companion.

@@ -41,6 +41,8 @@ def opened(driver: Any, server: Server) -> None:
 
 def faults() -> None:
     """A fault is marked at its place as one types, with why, and goes as it is mended; markup in it is text."""
+    from selenium.webdriver.common.keys import Keys
+
     folder, graph, items, _ = folder_with()
     with folder, Server("--paused", "-i", "src=" + items, graph) as server, browser() as driver:
         opened(driver, server)
@@ -57,6 +59,9 @@ def faults() -> None:
         # (what is drawn is what is written, and the connections still name `add`)
         until("a fault of a connection", lambda: text_of(driver, "#explained").startswith("2 UnknownBlock connect 0"))
         assert text_of(driver, "#editor mark") == '"add"', text_of(driver, "#editor mark")
+        type_at(driver, 'name = "adder', Keys.BACKSPACE * 2)
+        until("it is mended as one types", lambda: text_of(driver, "#explained") == "no faults" and text_in(driver) == THROUGH)
+        assert text_of(driver, "#editor mark") == "" and drawn(driver) == ["src", "add", "out"]
 
 
 def added_and_joined() -> None:
@@ -125,6 +130,20 @@ def dropped() -> None:
         until("it is refused", lambda: "flow-from-grc: refused" in text_of(driver, "#fault"))
         driver.execute_script(drop, THROUGH, "graph.toml")
         until("a graph file", lambda: text_in(driver) == THROUGH)
+
+
+def saves() -> None:
+    """The page saves the text that is typed, and says whether it is saved."""
+    folder, graph, items, _ = folder_with()
+    with folder, Server("--paused", "-i", "src=" + items, graph) as server, browser() as driver:
+        opened(driver, server)
+        until("it is as in the file", lambda: text_of(driver, "#file-state") == "the run is of this text; saved")
+        type_at(driver, "", "# typed\n")
+        until("it is not saved", lambda: text_of(driver, "#file-state").endswith("; not saved"))
+        assert pathlib.Path(graph).read_text() == THROUGH
+        click(driver, "#save")
+        until("it is saved", lambda: text_of(driver, "#file-state").endswith("; saved"))
+        assert pathlib.Path(graph).read_text() == "# typed\n" + THROUGH
 
 
 async def saving(server: Server, at: pathlib.Path) -> None:
@@ -219,4 +238,4 @@ def keys_and_contrast() -> None:
                 assert (high + 0.05) / (low + 0.05) >= 4.5, (text, under, colour)
 
 
-CASES = [faults, added_and_joined, dropped, saved, texts, keys_and_contrast]
+CASES = [faults, added_and_joined, dropped, saves, saved, texts, keys_and_contrast]

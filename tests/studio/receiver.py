@@ -1,5 +1,6 @@
-"""`receiver.py FOLDER` shows the receiver of examples/receiver in the page: within three seconds of the command there are a spectrum, a waterfall and bits, and a filter that is
-turned changes them. It says how long each took, and leaves a picture of before and one of after."""
+"""`receiver.py FOLDER [COMMAND EXAMPLE]` shows the receiver of examples/receiver in the page: within three seconds of the command there are a spectrum, a waterfall and bits, and
+a filter that is turned changes them. It says how long each took, and leaves a picture of before and one of after. COMMAND is magbelu-studio as it is installed, and EXAMPLE the
+folder with the installed example; without them it is those of the checkout."""
 
 from __future__ import annotations
 
@@ -11,9 +12,9 @@ import time
 import urllib.request
 from typing import Any
 
-from browser import TOP, Server, browser, choose, click, comes_to, text_of, until
+from browser import TOP, Server, browser, click, comes_to, numbers_of, text_of, until
 
-EXAMPLE = TOP / "examples/receiver"
+EXAMPLE = TOP / "examples/receiver" if len(sys.argv) < 4 else pathlib.Path(sys.argv[3])
 #: How many pairs of I and Q are a second, and how many are a bit; and in Hz how far a 1 is above the carrier, and a 0 below it.
 RATE, SAMPLES, DEVIATION = 256_000, 32, 4_000
 LEVEL = 40
@@ -97,8 +98,32 @@ def receiver() -> None:
         print("drawn after %.1f seconds, changed after %.1f more" % receives(driver, folder))
 
 
-CASES = [receiver]
+def receives_text() -> None:
+    """What the page shows of the bits is what it saves of them, and the example's own scripts read the lines that were sent out of these."""
+    import magbelu
+
+    sys.path.insert(0, str(EXAMPLE))
+    from frames import BODY, bodies, told
+
+    folder = tempfile.TemporaryDirectory()
+    path = pathlib.Path(folder.name) / "recording.u8"
+    path.write_bytes(recording(2))
+    with folder, Server("-i", "iq=%s" % path, "-w", "bits=numbers", str(EXAMPLE / "receiver.toml")) as server, browser() as driver:
+        driver.get(server.address)
+        comes_to(driver, "done")
+        bits = urllib.request.urlopen(server.address + "items/bits").read()
+        until("the last bits", lambda: numbers_of(driver, "bits") == list(bits[-512:]))
+    (frames,), is_done = magbelu.run_items((EXAMPLE / "5_text.toml").read_bytes(), [("bits", b"".join(bodies(bits)))], ["bytes"])
+    lines = [told(frames[at : at + BODY]) for at in range(0, len(frames), BODY)]
+    # (they were sent twice, and the end of the last one is still in the filters)
+    wanted = ["right  " + it for it in (EXAMPLE / "text.txt").read_text().splitlines()]
+    assert is_done and len(lines) >= len(wanted) == 12 and lines == (2 * wanted)[: len(lines)], lines
+
+
+CASES = [receiver, receives_text]
 
 if __name__ == "__main__":
+    if len(sys.argv) > 2:
+        Server.studio = pathlib.Path(sys.argv[2])
     with browser(1600, 1200) as window:
         print("drawn after %.1f seconds, changed after %.1f more" % receives(window, sys.argv[1]))

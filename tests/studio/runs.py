@@ -4,6 +4,7 @@ from __future__ import annotations
 
 import array
 import asyncio
+import contextlib
 import os
 import pathlib
 import subprocess
@@ -240,37 +241,63 @@ async def watched(server: Server, items: int) -> list[int]:
         return found
 
 
-class Counted(threading.Thread):
-    """Takes what a server writes to standard output, and counts it."""
+# Shorts whose number is a prime, so that no piece of a stream that has them again and again is like another.
+PRIME = array.array("h", [it * 7919 % 65536 - 32768 for it in range(999_983)]).tobytes()
+
+
+def repeated(start: int, count: int) -> bytes:
+    """So many of the bytes of this stream, from one on."""
+    start %= len(PRIME)
+    return (PRIME[start:] + PRIME * (count // len(PRIME) + 1))[:count]
+
+
+class Feeder(threading.Thread):
+    """Writes this stream to the standard input of a server, until that goes."""
+
+    def __init__(self, server: Server) -> None:
+        super().__init__(daemon=True)
+        assert server.process.stdin is not None
+        self._to = server.process.stdin
+
+    def run(self) -> None:
+        with contextlib.suppress(OSError):
+            while True:
+                self._to.write(PRIME)
+
+
+class Compared(threading.Thread):
+    """Takes what a server writes to standard output, counts its bytes, and how many of them are this stream up to the first that is not."""
 
     def __init__(self, server: Server) -> None:
         super().__init__(daemon=True)
         assert server.process.stdout is not None
-        self._from, self.bytes, self.zeros = server.process.stdout, 0, 0
+        self._from, self.bytes, self.right = server.process.stdout, 0, 0
 
     def run(self) -> None:
         while True:
             data = self._from.read1(1 << 20)  # type: ignore[attr-defined]
             if not data:
                 return
+            if self.right == self.bytes and data == repeated(self.bytes, len(data)):
+                self.right += len(data)
             self.bytes += len(data)
-            self.zeros += data.count(0)
 
 
 def memory() -> None:
     """At 10 million items a second, or as many as this machine gives, of which a page sees each million, the memory stays as it is, and an output gets them all."""
     items = int(os.environ.get("STUDIO_ITEMS", "100_000_000"))
     folder, graph, _, _ = folder_with()
-    with folder, Server("--paused", "-i", "src=/dev/zero", "-o", "out=-", "--rate", "10000000", graph) as server:
-        output = Counted(server)
-        output.start()
+    with folder, Server("--paused", "-i", "src=-", "-o", "out=-", "--rate", "10000000", graph, stdin=subprocess.PIPE) as server:
+        output = Compared(server)
+        for it in (Feeder(server), output):
+            it.start()
         asyncio.run(asked(server, do="run", to=items))
         found = asyncio.run(watched(server, items))
         asyncio.run(asyncio.wait_for(paused(server), PATIENCE))
         assert max(found[3:]) < found[2] + 4096, found
         assert server.end() == 0
         output.join(PATIENCE)
-        assert output.bytes == output.zeros == 2 * items, (output.bytes, output.zeros)
+        assert output.bytes == output.right == 2 * items, (output.bytes, output.right)
 
 
 async def asked(server: Server, **what: Any) -> None:

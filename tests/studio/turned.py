@@ -128,6 +128,51 @@ def dragged() -> None:
         until("the slider has its place", lambda: driver.execute_script("return document.querySelector('.setting input[type=range]').value") == "1000")
 
 
+async def logged_settings(server: Server) -> list[Any]:
+    async with socket_page(server.address) as page:
+        while "log" not in page.parts:
+            await page.take()
+        return list(page.parts["log"])
+
+
+def thousand() -> None:
+    """A slider that is dragged so that each of 1,000 numbers is set, while the run goes on, makes 1,000 settings: the output has each from its item on, and so has the script."""
+    drag = """
+        const row = document.querySelector(".setting[data-block=add]"), done = arguments[0];
+        const slider = row.querySelector("input[type=range]"), answer = row.querySelector("output");
+        (async () => {
+            for (let it = 1; it <= 1000; it++) {
+                answer.textContent = "";
+                slider.value = it;
+                slider.dispatchEvent(new Event("input"));
+                while (!answer.textContent) await new Promise((next) => setTimeout(next, 0));
+            }
+            done();
+        })();
+    """
+    folder, graph, items, out = folder_with(items=SAW.tobytes() * 10)
+    with folder, Server("-i", "src=" + items, "-o", "out=" + out, "--rate", "10000", graph) as server, browser() as driver:
+        driver.set_script_timeout(2 * PATIENCE)
+        driver.get(server.address)
+        comes_to(driver, "running")
+        driver.execute_async_script(drag)
+        fill(driver, "#rate", "")
+        comes_to(driver, "done")
+        made = asyncio.run(asyncio.wait_for(logged_settings(server), PATIENCE))
+        assert [(block, value) for block, value, _ in made] == [("add", it) for it in range(1, 1001)], len(made)
+        lines = urllib.request.urlopen(server.address + "script").read().decode()
+        got = memoryview(pathlib.Path(out).read_bytes()).cast("h").tolist()
+    places = [at for _, _, at in made] + [10 * len(SAW)]
+    assert places == sorted(places) and places[0] < places[-2] < places[-1], (places[0], places[-2])
+    wanted = [SAW[at % len(SAW)] for at in range(places[0])]
+    for value, (start, end) in enumerate(zip(places, places[1:]), 1):
+        wanted += [SAW[at % len(SAW)] + value for at in range(start, end)]
+    assert got == wanted
+    replies = magbelu.script(THROUGH, lines).splitlines()
+    assert replies[:1000] == ["taken %d" % it for it in places[:-1]]
+    assert replies[-1].split() == ["read", str(len(wanted)), *map(str, wanted)]
+
+
 def taps() -> None:
     """Taps are read as they are typed, set at an item, and alter the output from there."""
     folder, graph, items, out = folder_with(FILTER)
@@ -205,4 +250,4 @@ def colours_on(driver: Any) -> int:
         "return new Set(all).size"))
 
 
-CASES = [script, items_over_items, trigger, dragged, taps, transforms, all_views]
+CASES = [script, items_over_items, trigger, dragged, thousand, taps, transforms, all_views]
