@@ -1,7 +1,8 @@
 #!/usr/bin/env bash
 # The packages for Debian that ./build --deb has made of these sources, in a fresh Debian of their own without the toolchain: README's first command on the example
-# that they bring, the program of docs/user/C.md in C, the package for Python, the block of GNU Radio, and that nothing of them stays. It takes root, debootstrap and some
-# minutes of a network, so ./test tries it by its name alone. What debootstrap brings is kept at $MAGBELU_DEBIAN for a next run, where that names a folder.
+# that they bring, the program of docs/user/C.md in C, the package for Python, the receiver in the page of magbelu-studio, the block of GNU Radio, and that nothing
+# of them stays. It takes root, debootstrap and some minutes of a network, so ./test tries it by its name alone. What debootstrap brings is kept at $MAGBELU_DEBIAN for a next
+# run, where that names a folder.
 set -euo pipefail
 # shellcheck source=tests/part.sh
 source "$(dirname -- "$(readlink -f -- "${BASH_SOURCE[0]}")")/../part.sh"

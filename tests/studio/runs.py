@@ -7,6 +7,7 @@ import asyncio
 import contextlib
 import os
 import pathlib
+import random
 import subprocess
 import tempfile
 import threading
@@ -241,14 +242,15 @@ async def watched(server: Server, items: int) -> list[int]:
         return found
 
 
-# Shorts whose number is a prime, so that no piece of a stream that has them again and again is like another.
-PRIME = array.array("h", [it * 7919 % 65536 - 32768 for it in range(999_983)]).tobytes()
+# As many random shorts as a prime says, so that in a stream that has them again and again no piece is like the next ones.
+PRIME = random.Random(1).randbytes(2 * 999_983)
+TWICE = 2 * PRIME
 
 
 def repeated(start: int, count: int) -> bytes:
-    """So many of the bytes of this stream, from one on."""
+    """So many of the bytes of this stream, from one on, and no more than it repeats."""
     start %= len(PRIME)
-    return (PRIME[start:] + PRIME * (count // len(PRIME) + 1))[:count]
+    return TWICE[start : start + count]
 
 
 class Feeder(threading.Thread):
@@ -260,9 +262,10 @@ class Feeder(threading.Thread):
         self._to = server.process.stdin
 
     def run(self) -> None:
+        data = memoryview(PRIME)
         with contextlib.suppress(OSError):
             while True:
-                self._to.write(PRIME)
+                data = data[os.write(self._to.fileno(), data) :] or memoryview(PRIME)
 
 
 class Compared(threading.Thread):

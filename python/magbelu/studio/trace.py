@@ -5,11 +5,11 @@ from __future__ import annotations
 import array
 import collections
 import itertools
-from typing import Iterable, Iterator, NamedTuple, Optional
+from typing import Iterable, NamedTuple, Optional
 
-from .._arguments import numpy
 from .._held import CODES, Tag
 from .._stream import PIECE
+from .thinning import extremes
 
 # How many bytes the traces of all sinks have together, and how many items one has at most.
 ALL_BYTES, MOST_ITEMS = 64 << 20, 1 << 22
@@ -24,15 +24,6 @@ class Columns(NamedTuple):
     step: int
     least: list[int]
     greatest: list[int]
-
-
-def extremes(items: array.array[int], step: int) -> Iterator[tuple[int, int]]:
-    """The least and the greatest of each `step` items."""
-    if numpy is None:
-        rows = (items[at : at + step] for at in range(0, len(items), step))
-        return ((min(it), max(it)) for it in rows)
-    table = numpy.frombuffer(items, dtype=items.typecode).reshape(-1, step)
-    return zip(table.min(axis=1).tolist(), table.max(axis=1).tolist())
 
 
 def room_of(sinks: int, item_size: int) -> int:
