@@ -61,7 +61,7 @@ class Run(threading.Thread):
         self._goals: dict[str, int] = {}
         self._paced_from, self._paced_counts = 0.0, dict.fromkeys(ways.inputs, 0)
         # How many items of each input a turn takes at most.
-        self._piece = FEWEST
+        self._piece = PIECE
         sinks = graph.named("vector_sink")
         sizes = {it: self._stream._item_size(it) for it in sinks}
         self.traces = {it: Trace(size, room_of(len(sinks), size)) for it, size in sizes.items()}
