@@ -4,5 +4,6 @@ mod balances;
 mod claims;
 mod drawn;
 mod limits;
+mod order;
 mod refusals;
 mod slices;

@@ -334,3 +334,36 @@ fn a_watch_is_shown_each_round(rt: HostRuntime) -> Result<(), Fail> {
     assert!(rt; plant.headway() == Headway { given: 8, fed: 8 }, "after");
     Ok(())
 }
+
+// Writers are stepped before readers, in whichever order the blocks are listed.
+#[test]
+fn a_piece_goes_through_in_a_round(rt: HostRuntime) -> Result<(), Fail> {
+    let alloc = rt.alloc();
+    let not = Make::Not;
+    let down = [Make::Source, not, not, not, Make::Sink];
+    let up = [Make::Sink, not, not, not, Make::Source];
+    let middle = [not, Make::Sink, not, Make::Source, not];
+    for (case, makes, chain) in [
+        ("from the source on", down, [0, 1, 2, 3, 4]),
+        ("from the sink on", up, [4, 3, 2, 1, 0]),
+        ("in no order", middle, [3, 4, 0, 2, 1]),
+    ] {
+        let [source, first, second, third, sink] = chain;
+        let wires = [(second, 0, third, 0), (third, 0, sink, 0), (source, 0, first, 0), (first, 0, second, 0)];
+        let mut plant = plant(&rt, alloc, &makes, &wires, 8);
+        let items = bytes(&rt, alloc, &[1, 2, 3, 4, 5, 6, 7, 8]);
+        assert!(rt; plant.feed(BlockId(source), items, &[]).is_ok(), "fed");
+        assert!(rt; plant.close(BlockId(source)).is_ok(), "closed");
+        assert!(rt; plant.idle(), "idle");
+        let mut seen = Seen {
+            given: Vec::new(alloc),
+            ends: 0,
+        };
+        let settled = plant.settle_watched(alloc, 8, &mut seen)?;
+        assert!(rt; settled == Settled::Done, "done");
+        // All eight in the first round; and then blocks only end.
+        assert!(rt; seen.given.as_slice() == [8, 8].as_slice(), "{case}");
+        assert!(rt; plant.view(BlockId(sink)).is_ok_and(|all| all.items.len() == 8), "{case}: all");
+    }
+    Ok(())
+}

@@ -5,6 +5,7 @@ pub mod Flowgraph
 pub mod Ports
 pub mod Rows
 pub mod Searches
+pub mod StepOrder
 pub mod Tables
 pub mod Tests
 pub mod Turns

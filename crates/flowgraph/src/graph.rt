@@ -7,6 +7,7 @@ ghost use Rattle.graph_model.specs.Graphs as graphs;
 ghost use Rattle.graph_model.specs.Graphs.{add_fault, connect_fault, graph_fault};
 ghost use Rattle.flowgraph.specs.Fault.{reported, told};
 ghost use Rattle.flowgraph.specs.Ports.{AreWithin};
+ghost use Rattle.flowgraph.specs.StepOrder.{IsOrderOf};
 ghost use Rattle.flowgraph.specs.Asked.{AreAsked};
 ghost use Rattle.flowgraph.specs.Tables.{AreTables};
 ghost use Rattle.flowgraph.specs.Flowgraph.{net_of, node_of, graph_of, entry, connection, connection_of, with_block, with_connection};
@@ -178,6 +179,7 @@ fn tested<B: Block>(
     requires within { AreWithin (length blocks.now) connections.now }
     ensures passed { OnOk result (graph_fault (net_of B.meaning (graph_of [] blocks.now connections.now)) ≡ None) }
     ensures tables { IfOk result (λ made. AreTables (length blocks.now) connections.now made.0.inputs made.0.outputs.items made.0.readers) }
+    ensures order { IfOk result (λ made. IsOrderOf (length blocks.now) made.0.order.items) }
     ensures asked { IfOk result (λ made. AreAsked B.meaning blocks.now made.1.items) }
     ensures gain { IfOk result (λ made. made.2 ≡ greatest_gain (net_of B.meaning (graph_of [] blocks.now connections.now))) }
     ensures refused { IfErr result (λ fault. fault ≢ GraphFault.Memory

@@ -15,6 +15,7 @@ mod ports;
 mod ranks;
 mod refusals;
 mod rows;
+mod step_order;
 pub mod valid;
 mod wiring;
 

@@ -53,21 +53,37 @@ pub fn ranks(
     requires within { AreWithin blocks connections.now }
     ensures { IfOk result (λ ranks. length ranks.items ≡ blocks) }
 {
-    let steps = connections.len().saturating_add(2 * blocks);
-    let writers = neighbours(alloc, blocks, connections, Side::In)?;
-    let first = searched(alloc, &writers, &all(alloc, blocks)?, steps)?;
+    let left = writers_first(alloc, blocks, connections)?;
     let readers = neighbours(alloc, blocks, connections, Side::Out)?;
-    let second = searched(alloc, &readers, &first.left, steps)?;
+    let steps = connections.len().saturating_add(2 * blocks);
+    let second = searched(alloc, &readers, &left, steps)?;
     Ok(second.roots)
 }
 
-// The numbers of all blocks.
+/// The blocks, each behind its writers, but for those that it reaches. Where the order of their numbers is such an order, it is that one. Who relies on
+/// this looks at them, since the contract does not say it.
+pub fn writers_first(
+    alloc: Global,
+    blocks: usize,
+    connections: &[Connection],
+) -> Result<Vec<usize>, AllocError>
+    requires few { blocks ≤ 256 }
+    requires within { AreWithin blocks connections.now }
+    ensures { IfOk result (λ left. All (λ b. b < blocks) left.items) }
+{
+    let steps = connections.len().saturating_add(2 * blocks);
+    let writers = neighbours(alloc, blocks, connections, Side::In)?;
+    let first = searched(alloc, &writers, &all(alloc, blocks)?, steps)?;
+    Ok(first.left)
+}
+
+// The numbers of all blocks, that of the first last: a search begins there.
 fn all(alloc: Global, blocks: usize) -> Result<Vec<usize>, AllocError>
     ensures { IfOk result (λ all. All (λ b. b < blocks) all.items) }
 {
     let mut all = Vec::with_capacity(alloc, blocks)?;
     for block in 0..blocks {
-        all.push(block)?;
+        all.push(blocks - 1 - block)?;
     }
     Ok(all)
 }

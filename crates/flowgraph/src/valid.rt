@@ -12,6 +12,7 @@ ghost use Rattle.flowgraph.specs.Agreeing.{graphs_agree};
 ghost use Rattle.flowgraph.specs.Asked.{AreAsked};
 ghost use Rattle.flowgraph.specs.Fault.{id};
 ghost use Rattle.flowgraph.specs.Flowgraph.{net_of, graph_of, connection_of, HasOptions};
+ghost use Rattle.flowgraph.specs.StepOrder.{IsOrderOf};
 ghost use Rattle.flowgraph.specs.Wiring.{writers_in, IsItsReader, IsWired};
 
 use crate::asked::Asked;
@@ -66,7 +67,7 @@ impl<B: Block> fmt::Debug for Valid<B> {
 }
 
 impl<B: Block> Model for Valid<B> {
-    ghost use Rattle.std.specs.Prelude.{◌≡◌, map};
+    ghost use Rattle.std.specs.Prelude.{◌≡◌, length, map};
     ghost use Rattle.flowgraph.specs.Flowgraph.{Flowgraph};
 
     ghost Value = { Flowgraph B };
@@ -75,13 +76,15 @@ impl<B: Block> Model for Valid<B> {
     ghost use Rattle.graph_model.specs.Graphs.{IsValidGraph};
     ghost use Rattle.flowgraph.specs.Flowgraph.{net_of, graph_of};
     ghost use Rattle.flowgraph.specs.Asked.{AreAsked};
+    ghost use Rattle.flowgraph.specs.StepOrder.{IsOrderOf};
     ghost use Rattle.flowgraph.specs.Wiring.{IsWired};
 
     ghost view = { λ g. graph_of (map (λ name. name.items) g.names.keys) g.blocks.items g.connections.items };
 
     ghost invariant = { λ g. let graph = graph_of (map (λ name. name.items) g.names.keys) g.blocks.items g.connections.items in
         IsValidGraph graph.names (net_of B.meaning graph) × IsWired (net_of B.meaning graph) g.wiring.inputs g.wiring.outputs.items g.wiring.readers
-        × AreAsked B.meaning g.blocks.items g.asked.items × (g.gain ≡ greatest_gain (net_of B.meaning graph)) };
+        × AreAsked B.meaning g.blocks.items g.asked.items × (g.gain ≡ greatest_gain (net_of B.meaning graph))
+        × IsOrderOf (length g.blocks.items) g.wiring.order.items };
 }
 
 impl<B: Block> Valid<B> {
@@ -98,6 +101,7 @@ impl<B: Block> Valid<B> {
         requires wired { IsWired (net_of B.meaning (graph_of (map (λ n. n.items) names.keys) blocks.items connections.items)) wiring.inputs wiring.outputs.items wiring.readers }
         requires asked { AreAsked B.meaning blocks.items asked.items }
         requires gain { gain ≡ greatest_gain (net_of B.meaning (graph_of (map (λ n. n.items) names.keys) blocks.items connections.items)) }
+        requires order { IsOrderOf (length blocks.items) wiring.order.items }
         ensures { result ≡ graph_of (map (λ n. n.items) names.keys) blocks.items connections.items }
     {
         Valid {
@@ -131,6 +135,14 @@ impl<B: Block> Valid<B> {
         ensures { result.now ≡ self.now.connections }
     {
         &self.connections
+    }
+
+    /// All blocks, each behind those that write its inputs: stepped in this order, they pass on in one turn what comes in. If the blocks were added in
+    /// such an order it is that one. A run comes to the same in any order, and the contract says only that all blocks are there.
+    pub fn writers_first(&self) -> &[BlockId]
+        ensures { IsOrderOf (length self.now.blocks) result.now }
+    {
+        &self.wiring.order
     }
 
     /// The name of a block.

@@ -3,15 +3,17 @@ ghost use Rattle.std.specs.Prelude.{◌≡◌, ◌<◌, ◌≤◌, ◌+◌, ◌*
 ghost use Rattle.stream_model.specs.Lists.{below};
 ghost use Rattle.stream_model.specs.Network.{writers_of};
 ghost use Rattle.flowgraph.specs.Ports.{AreWithin, net_from};
+ghost use Rattle.flowgraph.specs.StepOrder.{IsOrderOf};
 ghost use Rattle.flowgraph.specs.Tables.{AreByPort, AreTables};
 ghost use Rattle.flowgraph.specs.Wiring.{writers_in, IsItsReader};
 
 use crate::by_port::by_port;
 use crate::counts::{entering, outputs};
 use crate::fault::Side;
-use crate::parts::{Connection, Input};
+use crate::parts::{BlockId, Connection, Input};
 use crate::ports::MOST_PORTS;
 use crate::rows::Rows;
+use crate::step_order::step_order;
 use std::alloc::{AllocError, Global};
 
 /// Tables of how blocks are wired.
@@ -23,6 +25,8 @@ pub struct Wiring {
     pub outputs: Vec<usize>,
     // For each block 16 rows, one for each port that an output may have: its readers.
     pub readers: Rows<Connection>,
+    // The blocks in an order for steps.
+    pub order: Vec<BlockId>,
 }
 
 /// The tables of so many blocks.
@@ -33,17 +37,20 @@ pub fn tables(
 ) -> Result<Wiring, AllocError>
     requires few { blocks ≤ 256 }
     requires within { AreWithin blocks connections.now }
-    ensures { IfOk result (λ w. AreTables blocks connections.now w.inputs w.outputs.items w.readers) }
+    ensures tables { IfOk result (λ w. AreTables blocks connections.now w.inputs w.outputs.items w.readers) }
+    ensures order { IfOk result (λ w. IsOrderOf blocks w.order.items) }
 {
     let ports = by_port(alloc, blocks, connections)?;
     let entering = entering(alloc, blocks, connections)?;
     let inputs = all_inputs(alloc, connections, &ports.inputs, &entering)?;
     let outputs = outputs(alloc, blocks, connections)?;
     let readers = joined(alloc, &ports.readers)?;
+    let order = step_order(alloc, blocks, connections)?;
     Ok(Wiring {
         inputs,
         outputs,
         readers,
+        order,
     })
 }
 

@@ -273,7 +273,7 @@ impl<B: Block> Plant<B> {
         self.parts.step(alloc, block, max)
     }
 
-    /// Steps all blocks in their order, at most `max` firings each, again and again, until all are done, or a whole round did nothing: the plant
+    /// Steps all blocks in turn, writers before readers, at most `max` firings each, again and again, until all are done, or a whole round did nothing: the plant
     /// is then quiet. Once all are done each sink holds its whole stream, and so it ends where the rates are balanced and each tape is closed.
     /// Where it is out of memory it stops, and the plant stays where its steps took it.
     pub fn settle(&mut self, alloc: Global, max: u32) -> Result<Settled, AllocError>

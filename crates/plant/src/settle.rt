@@ -15,6 +15,7 @@ use crate::parts::Parts;
 use crate::source_tapes::counts_of;
 use flowgraph::{Block, BlockId};
 use std::alloc::{AllocError, Global};
+use std::sync::Arc;
 use std::time::Duration;
 
 /// What is shown the progress of a run. Nothing is required of it.
@@ -50,7 +51,7 @@ impl Watch for Unwatched {
 }
 
 impl<B: Block> Parts<B> {
-    /// Steps all blocks in their order, at most `max` firings each, until all are done or none moved on.
+    /// Steps all blocks in turn, writers before readers, at most `max` firings each, until all are done or none moved on.
     pub fn settle<W: Watch>(
         &mut self,
         alloc: Global,
@@ -81,7 +82,7 @@ impl<B: Block> Parts<B> {
         }
     }
 
-    /// Steps each block once, and returns whether one moved on.
+    /// Steps each block once, writers before readers, and returns whether one moved on.
     pub fn round<W: Watch>(
         &mut self,
         alloc: Global,
@@ -99,9 +100,12 @@ impl<B: Block> Parts<B> {
         ensures moved { let old = plant_of self.old in IfOk result (HasMoved (net_of B.meaning old.graph) old.capacities old.state (plant_of self.new).state) }
     {
         self.graph.recall();
+        // (a share of it, since a step has the plant to itself)
+        let graph = Arc::try_clone(&self.graph)?;
+        let order = graph.writers_first();
         let mut moved = false;
-        for block in 0..self.graph.len() {
-            if self.moves(alloc, BlockId(block as u32), max, watch)? {
+        for block in order {
+            if self.moves(alloc, *block, max, watch)? {
                 moved = true;
             }
         }

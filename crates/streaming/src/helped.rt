@@ -13,6 +13,7 @@ use crate::helpers::Helpers;
 use flowgraph::{Block, BlockId};
 use plant::{Claim, Job, Parts, Step, Worked};
 use std::alloc::{AllocError, Global};
+use std::sync::Arc;
 
 // How often a round with helpers looks at each block. A sink takes at most what its buffer holds each time, so that this bounds what a round adds to it.
 const LOOKS: u32 = 256;
@@ -79,7 +80,7 @@ fn look_again<B: Block, H: Helpers<Job<B>, Worked<B>>>(
     Ok(())
 }
 
-// Looks at each block once, and returns whether something was done or given away: nothing where the caller is wanted elsewhere.
+// Looks at each block once, writers before readers, and returns whether something was done or given away: nothing where the caller is wanted elsewhere.
 fn look<B: Block, H: Helpers<Job<B>, Worked<B>>>(
     parts: &mut Parts<B>,
     alloc: Global,
@@ -90,13 +91,15 @@ fn look<B: Block, H: Helpers<Job<B>, Worked<B>>>(
     requires some { 1 ≤ max }
     ensures { IsLedOn B.meaning max parts.old parts.new }
 {
+    // (a share of it, since a step has the parts to itself)
+    let graph = Arc::try_clone(&parts.graph)?;
     let mut acted = false;
-    for block in 0..parts.graph.len() {
+    for block in graph.writers_first() {
         if helpers.is_called_away() {
             return Ok(false);
         }
         let took = take_done(parts, helpers);
-        let did = act(parts, alloc, BlockId(block as u32), max, helpers)?;
+        let did = act(parts, alloc, *block, max, helpers)?;
         acted = acted || took || did;
     }
     Ok(acted)

@@ -194,7 +194,7 @@ impl<B: Block> StreamingPlant<B> {
         forget_taken(&mut self.parts);
     }
 
-    /// Steps all blocks in their order, at most `max` firings each, again and again, until all are done, or a whole round did nothing. Then it
+    /// Steps all blocks in turn, writers before readers, at most `max` firings each, again and again, until all are done, or a whole round did nothing. Then it
     /// forgets what sources have taken, and settings that are past. Where it is out of memory it stops, and stays where its steps took it.
     pub fn settle(&mut self, alloc: Global, max: u32) -> Result<Settled, AllocError>
         requires { 1 ≤ max }
@@ -210,7 +210,7 @@ impl<B: Block> StreamingPlant<B> {
         Ok(settled)
     }
 
-    /// Steps each block once, in their order, at most `max` firings each, forgets what sources have taken, and returns whether a block moved on. It is
+    /// Steps each block once, writers before readers, at most `max` firings each, forgets what sources have taken, and returns whether a block moved on. It is
     /// for a caller who has more to do than to settle: where none moved on, the plant is quiet. Where it is out of memory it stops, and stays where
     /// its steps took it.
     pub fn round(&mut self, alloc: Global, max: u32) -> Result<bool, AllocError>

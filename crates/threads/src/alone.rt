@@ -26,7 +26,7 @@ pub enum Ended {
     Splits(NumberSet),
 }
 
-/// Steps all blocks in their order, again and again, and tells the gate of each step. Where a round is timed and its pause is over, `watch` is shown
+/// Steps all blocks in turn, writers before readers, again and again, and tells the gate of each step. Where a round is timed and its pause is over, `watch` is shown
 /// how far the plant is.
 pub fn settle_alone<B: Block, R: Clock, G: Gate, W: Watch>(
     rt: &R,
@@ -66,7 +66,7 @@ struct Round {
     found: Found,
 }
 
-// Steps each block once.
+// Steps each block once, writers before readers.
 fn round_of<B: Block, R: Clock, G: Gate>(
     rt: &R,
     alloc: Global,
@@ -78,19 +78,21 @@ fn round_of<B: Block, R: Clock, G: Gate>(
     requires { 1 ≤ most }
     ensures { handed_of plant.new ≡ handed_of plant.old }
 {
+    // (a share of it, since a step has the plant to itself)
+    let graph = plant.share_graph()?;
     let mut moved = false;
     let mut long = NumberSet::new();
     let start = match timed {
         Timed::Round => now(rt),
         _ => None,
     };
-    for block in 0..plant.graph().len() {
-        let seen = turn_of(rt, alloc, plant, BlockId(block as u32), most, timed, gate)?;
+    for block in graph.writers_first() {
+        let seen = turn_of(rt, alloc, plant, *block, most, timed, gate)?;
         if let Step::Did(_) = seen.step {
             moved = true;
         }
         if seen.is_long {
-            long.add(block);
+            long.add(block.0 as usize);
         }
     }
     let nanos = nanos_since(rt, start);

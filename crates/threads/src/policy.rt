@@ -5,7 +5,7 @@
 //! costs several microseconds of the kernel's time. A step of a cheap block costs less than one. So a graph of cheap blocks is fastest on one thread,
 //! and a graph of dear ones on as many as there are processors; and which it is shows only as it runs.
 //!
-//! **Alone.** A run begins on the caller's thread. It steps all blocks in their order, round after round, as `settle` does, with no lock and no other
+//! **Alone.** A run begins on the caller's thread. It steps all blocks in turn, round after round, as `settle` does, with no lock and no other
 //! thread. One round in `TIMED_ROUND` is timed. Where it was `2 * LONG` or more, each step of the next round is timed; and where two blocks or more
 //! took `LONG`, the next round has their work timed apart from their claim and commit (`Rounds`). Where the work of two blocks or more is worth a
 //! thread (`is_worth`), the run splits; one such block alone could not be worked beside another.

@@ -11,7 +11,7 @@ use std::sync::Arc;
 /// In how many threads the blocks of a run work. What the sinks hold does not depend on it.
 #[derive(Clone, Copy, Debug, PartialEq, Eq)]
 pub enum Threading {
-    /// In as many as their work is worth: on one, which steps all blocks in their order as `Plant::settle` does, and, once the work of several blocks
+    /// In as many as their work is worth: on one, which steps all blocks in turn as `Plant::settle` does, and, once the work of several blocks
     /// is found to be worth it, in up to one a processor. The gate is passed before work that another thread could do, and not by steps on one
     /// thread, of which it is told. The work of a block must not wait for that of another.
     Adaptive,

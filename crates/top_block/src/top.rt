@@ -37,8 +37,8 @@ use threads::{
     run_with,
 };
 
-/// A plant of kinds with no claim in flight, which is fed and then run in threads. It is the whole life of a flowgraph whose data are there from
-/// the start: `from_graph`, `feed`, and `run`, or `start` and `wait`. A contract sees the plant.
+/// A plant of kinds with no claim in flight, which is fed and then run in threads. It is for graphs whose whole input
+/// is known at the start: `from_graph`, `feed`, and `run`, or `start` and `wait`. A contract sees the plant.
 #[derive(Drop)]
 pub struct TopBlock {
     plant: Plant<Kind>,
@@ -59,7 +59,8 @@ impl Model for TopBlock {
 }
 
 impl TopBlock {
-    /// The top block of a graph of which nothing is fed, as `Plant::open`. It fails only where the allocator refuses, and then returns the graph.
+    /// The top block of a graph, with nothing fed, as by `Plant::open`. It fails only if the allocator refuses, and
+    /// then returns the graph.
     pub fn from_graph(
         alloc: Global,
         graph: Valid<Kind>,
@@ -160,11 +161,12 @@ impl TopBlock {
         self.run_with(rt, alloc, options, &mut Unwatched)
     }
 
-    /// Closes each source that is open, runs the plant as these options say, and waits for its end, which is never `Stopped`. It answers `Outcome::Done`
-    /// where all blocks came to their end, as they do in each graph of balanced rates, and `Stalled` where none can act before that. It calls `watch.show`
-    /// after each pause, where the run is on one thread now and then, and `watch.end` as it is over. It fails with `RunFault::Memory` where memory ran
-    /// out, before the run or for a claim, and with `RunFault::Thread` where each block has a thread and one could not be started; both return the plant
-    /// with its sources closed. `RunFault::Foreign` should never come.
+    /// Closes each open source, runs the plant as these options say, and waits for its end, which is never `Stopped`.
+    /// It answers `Outcome::Done` if all blocks came to their end, as in each graph of balanced rates, and `Stalled` if
+    /// none can act before. It calls `watch.show` after each pause, only now and then while the run is on one thread,
+    /// and `watch.end` at the end. It fails with `RunFault::Memory` if memory ran out, before the run or for a claim,
+    /// and with `RunFault::Thread` if each block has a thread and one could not be started; both return the plant with
+    /// its sources closed. `RunFault::Foreign` should never come.
     pub fn run_with<
         G: Gate + Drop + Send + Sync + 'static,
         R: Threads + Wait + Clock + Copy + Send + 'static,
@@ -185,11 +187,12 @@ impl TopBlock {
         run_with(rt, alloc, plant, options, watch)
     }
 
-    /// Starts a worker for each block and a thread for each of at most 16 callers, and waits until all callers have returned and the plant has come
-    /// to rest. Sources that are open stay open: callers feed and close them. A run that comes to rest while one is open and
-    /// still read is `Stalled`; one that a caller stops before all blocks are done is `Stopped`, and one in which all blocks are done is `Done`.
-    /// It fails with `RunFault::Memory` where memory ran out, before the run or for a claim, and with `RunFault::Thread` where a thread could not be
-    /// started; both return the plant where the calls have led it, without the callers. `RunFault::Foreign` should never come.
+    /// Starts a worker for each block and a thread for each of at most 16 callers, and waits until all callers have
+    /// returned and the plant has come to rest. Open sources stay open: callers feed and close them. A run that comes
+    /// to rest while one is open and still read is `Stalled`. One that a caller stops before all blocks are done is
+    /// `Stopped`. One in which all blocks are done is `Done`. It fails with `RunFault::Memory` if memory ran out,
+    /// before the run or for a claim, and with `RunFault::Thread` if a thread could not be started; both return the
+    /// plant as the calls left it, without the callers. `RunFault::Foreign` should never come.
     pub fn start_live<
         G: Gate + Drop + Send + Sync,
         C: Caller<Kind> + Drop + Send,
@@ -219,9 +222,9 @@ impl TopBlock {
         )
     }
 
-    /// As `start_live`, but as these options say: with a worker for each block, or in as many threads as the work is worth, this one alone while it is
-    /// cheap, and up to one a processor where it pays, beside those of the callers. Once all callers have returned, it calls `watch.show` after each
-    /// pause, and then `watch.end`.
+    /// Like `start_live`, as these options say: with a worker for each block, or in as many threads as the work is
+    /// worth: this one alone while it is cheap, and up to one a processor if that pays, beside those of the callers.
+    /// Once all callers have returned, it calls `watch.show` after each pause, and then `watch.end`.
     pub fn start_live_with<
         G: Gate + Drop + Send + Sync,
         C: Caller<Kind> + Drop + Send,

@@ -25,7 +25,8 @@ returns g c =
       passed = tests m es cs ∙ go (port_faults (net m es cs)) (looped m es cs ∷ steep m es cs ∷ []) (sym c.in_ok-fault.ensures ∙ c.in_default.is)
           ∙ go (looped m es cs ∷ []) (steep m es cs ∷ []) (ap (told Blocks) (alone (looped m es cs)) ∙ sym c.in_ok-fault-2.ensures ∙ c.in_default-2.is)
           ∙ alone (steep m es cs) ∙ c.in_ok-gain.ensures.passed;
-      tables = c.in_ok-wiring.ensures;
+      tables = c.in_ok-wiring.ensures.tables;
+      order = c.in_ok-wiring.ensures.order;
       asked = c.in_ok-all_asked.ensures;
       gain = c.in_ok-gain.ensures.value;
       refused = tt;
@@ -36,7 +37,7 @@ returns-in-Some g c =
     let m = g.B.Block.meaning in
     let es = c.args.blocks.now in
     let cs = c.args.connections.now in
-    record { passed = tt; tables = tt; asked = tt; gain = tt; refused = λ _. ap (told Blocks) (tests m es cs) ∙ stop (port_faults (net m es cs)) (looped m es cs ∷ steep m es cs ∷ []) _ (sym c.in_ok-fault.ensures ∙ c.in-Some.is) }
+    record { passed = tt; tables = tt; order = tt; asked = tt; gain = tt; refused = λ _. ap (told Blocks) (tests m es cs) ∙ stop (port_faults (net m es cs)) (looped m es cs ∷ steep m es cs ∷ []) _ (sym c.in_ok-fault.ensures ∙ c.in-Some.is) }
 
 pub returns-in-Some-2 : goal.returns-in-Some-2
 returns-in-Some-2 g c =
@@ -46,6 +47,7 @@ returns-in-Some-2 g c =
     record {
       passed = tt;
       tables = tt;
+      order = tt;
       asked = tt;
       gain = tt;
       refused = λ _. ap (told Blocks) (tests m es cs ∙ go (port_faults (net m es cs)) (looped m es cs ∷ steep m es cs ∷ []) (sym c.in_ok-fault.ensures ∙ c.in_default.is))

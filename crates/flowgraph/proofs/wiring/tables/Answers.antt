@@ -28,8 +28,8 @@ all_inputs-requires c =
       entering = λ b low. ap (λ counts. get_or counts b 0) c.deref-2.ensures.value ∙ c.in_ok-entering.ensures.each b (subst (λ n. b < n) blocks low);
     }
 
-pub returns : goal.returns
-returns c =
+pub returns-clause-tables : goal.returns-clause-tables
+returns-clause-tables c =
     let links : Vec Connection Global → List Connection = λ row. row.items in
     let cs = c.args.connections.now in
     let blocks : length c.deref-2.result.now ≡ c.args.blocks = ap length c.deref-2.ensures.value ∙ c.in_ok-entering.ensures.len in

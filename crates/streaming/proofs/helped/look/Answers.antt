@@ -2,6 +2,9 @@ use Rattle.std.proofs.Common.{refl}
 use Rattle.streaming.proofs.Working.{led_none, led_then}
 use Rattle.streaming.proofs.helped.look.Goals as goal
 
+pub returns-in_err-graph : goal.returns-in_err-graph
+returns-in_err-graph g c = led_none g.B.Block.meaning c.args.max c.args.parts.now c.args.parts.now c.requires.right refl
+
 pub loop-block-init : goal.loop-block-init
 loop-block-init g c = led_none g.B.Block.meaning c.args.max c.args.parts.now c.args.parts.now c.requires.right refl
 

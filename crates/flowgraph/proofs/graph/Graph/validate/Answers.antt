@@ -4,6 +4,7 @@ use Rattle.graph_model.specs.Graphs.{graph_fault}
 use Rattle.graph_laws.proofs.Decide.{tests_decide}
 use Rattle.flowgraph.specs.Asked.{AreAsked}
 use Rattle.flowgraph.specs.Ports.{AreWithin}
+use Rattle.flowgraph.specs.StepOrder.{IsOrderOf}
 use Rattle.flowgraph.specs.Tables.{AreTables}
 use Rattle.flowgraph.proofs.Assembly.{net, within, few_blocks, wired}
 use Rattle.flowgraph.proofs.graph.Graph.validate.Goals as goal
@@ -32,4 +33,5 @@ with_tables-requires g c =
       asked = subst (λ xs. AreAsked m xs c.in-Ok.asked.items) c.deref.ensures.value c.in-Ok.ensures.asked;
       gain = subst (λ ds. c.in-Ok.gain ≡ greatest_gain (net m es ds)) c.deref-2.ensures.value
           (subst (λ xs. c.in-Ok.gain ≡ greatest_gain (net m xs c.deref-2.result.now)) c.deref.ensures.value c.in-Ok.ensures.gain);
+      order = subst (λ xs. IsOrderOf (length xs) c.in-Ok.wiring.order.items) c.deref.ensures.value c.in-Ok.ensures.order;
     }

@@ -7,5 +7,5 @@ abbrev pub invariant-loop-block : goal.invariant-loop-block
 invariant-loop-block g l = record {
   right : IsRight g.B.Block.meaning l.self;
   spans : spans_in l.self ≡ spans_in l.initial.self;
-  stepped : IsStepped g.B.Block.meaning l.max (plant_of l.initial.self) (plant_of l.self) l.block l.moved;
+  stepped : IsStepped g.B.Block.meaning l.max l.order (plant_of l.initial.self) (plant_of l.self) l.block-index l.moved;
 }
