@@ -74,7 +74,7 @@ const SHORT_ROWS: [Row<i16>; 7] = [
         16,
         &[-32768; 16],
     ),
-    // No runs, runs of four, a run of four and one of three, and none.
+    // Taps whose distances from 0 sum up to more, so that rows go by their halves.
     (
         "pairs that sum up to 65,535",
         &[32767, -32768, 32767, -32768],
@@ -176,5 +176,104 @@ fn rows_are_filtered(rt: HostRuntime) {
         assert!(rt; holds, "delayed shorts, {n} items");
         let holds = are_delayed(&ints, n);
         assert!(rt; holds, "delayed ints, {n} items");
+    }
+}
+
+// Two taps in turn: those at the ends, and those at which a low half goes over.
+const TAPS: [(&str, [i16; 2]); 8] = [
+    ("the least taps", [-32768, -32768]),
+    ("the greatest taps", [32767, 32767]),
+    ("both in turn", [-32768, 32767]),
+    ("taps of 127", [127, 127]),
+    ("taps of 128", [128, 128]),
+    ("taps of -128", [-128, -128]),
+    ("taps of -129", [-129, -129]),
+    ("great taps about them", [32639, -32641]),
+];
+
+const ITEMS: [[i16; 2]; 3] = [[-32768, -32768], [32767, 32767], [-32768, 32767]];
+
+const TAP_COUNTS: [usize; 6] = [1, 2, 3, 31, 255, 256];
+const OUTPUT_COUNTS: [usize; 5] = [31, 32, 33, 64, 100];
+const SHIFTS: [u32; 4] = [0, 15, 16, 31];
+
+// The items of a hundred outputs and 256 taps.
+const LONG: usize = 355;
+
+fn long_in_turn(items: [i16; 2]) -> [i16; LONG] {
+    let mut list = [0; LONG];
+    for i in 0..LONG {
+        list[i] = items[i % 2];
+    }
+    list
+}
+
+// Shorts of all sizes, in no order: the step is odd, so that none comes twice.
+fn scattered(step: usize) -> [i16; LONG] {
+    let mut list = [0; LONG];
+    for i in 0..LONG {
+        list[i] = (((i + 1) * step % 65536) as i32 - 32768) as i16;
+    }
+    list
+}
+
+// The taps times the items up to each of a hundred outputs, summed.
+fn plain_sums(taps: &[i16], items: &[i16; LONG]) -> [i64; 100] {
+    let mut sums = [0; 100];
+    for n in 0..100 {
+        for j in 0..taps.len() {
+            sums[n] += i64::from(taps[j]) * i64::from(items[n + taps.len() - 1 - j]);
+        }
+    }
+    sums
+}
+
+fn nearest_short(sum: i64, shift: u32) -> i16 {
+    let half = (1i64 << shift) / 2;
+    ((sum + half) >> shift).clamp(-32768, 32767) as i16
+}
+
+// Whether rows of each length are the plain sums, rounded and saturated.
+fn are_plain(taps: &[i16], items: &[i16; LONG], shift: u32, sums: &[i64; 100]) -> bool {
+    for count in OUTPUT_COUNTS {
+        let mut found = [0; 100];
+        let found = &mut found[..count];
+        fir_row(taps, &items[..count + taps.len() - 1], shift, found);
+        for n in 0..count {
+            if found[n] != nearest_short(sums[n], shift) {
+                return false;
+            }
+        }
+    }
+    true
+}
+
+#[test]
+fn rows_of_shorts_are_plain_sums(rt: HostRuntime) {
+    for (name, pair) in TAPS {
+        let taps = long_in_turn(pair);
+        for items in ITEMS {
+            let items = long_in_turn(items);
+            for count in TAP_COUNTS {
+                let sums = plain_sums(&taps[..count], &items);
+                for shift in SHIFTS {
+                    let holds = are_plain(&taps[..count], &items, shift, &sums);
+                    assert!(rt; holds, "{name}, {count} of them, shift {shift}");
+                }
+            }
+        }
+    }
+}
+
+#[test]
+fn rows_of_scattered_shorts_are_plain_sums(rt: HostRuntime) {
+    let taps = scattered(40503);
+    let items = scattered(25717);
+    for count in TAP_COUNTS {
+        let sums = plain_sums(&taps[..count], &items);
+        for shift in SHIFTS {
+            let holds = are_plain(&taps[..count], &items, shift, &sums);
+            assert!(rt; holds, "{count} taps, shift {shift}");
+        }
     }
 }

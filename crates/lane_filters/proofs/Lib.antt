@@ -8,7 +8,7 @@ pub mod Woven
 pub mod PackedBits
 pub mod Products
 pub mod Rounded
-pub mod RunSums
+pub mod SplitTaps
 pub mod RoundedInts
 pub mod Signed
 pub mod Taps

@@ -1,11 +1,13 @@
 -- Words of the contracts on vectors.
-use Rattle.std.specs.Prelude.{ℕ, zero, suc, [], ◌∷◌, sum_by, ◌+◌, ◌-◌, ◌*◌, ◌/◌, ◌%◌, ◌^◌, slice_index, ◌≤◌, ◌<◌, ℤ, pos, ◌*ℤ◌, ◌+ℤ◌, ◌-ℤ◌, List, length, map, take, drop}
+use Rattle.std.specs.Prelude.{◌≡◌, ℕ, zero, suc, [], ◌∷◌, sum_by, ◌+◌, ◌-◌, ◌*◌, ◌/◌, ◌%◌, ◌^◌, slice_index, ◌≤◌, ◌<◌, ℤ, pos, ◌*ℤ◌, ◌+ℤ◌, ◌-ℤ◌, List, length, map, Option, Some, None}
 use Rattle.std.specs.Int.RustNames.{unsigned_abs}
 use Rattle.std.specs.Simd.Lanes.{Each1}
 use Rattle.stream_model.specs.Lists.{sum_below, item, numbers_from}
 use Rattle.kind_model.specs.Kernels.{previous}
 use Rattle.stream_model.specs.Numbers.{sat, rnd, residue}
 use Rattle.stream_model.specs.declared.vocabulary.ItemType.{ItemType}
+use Rattle.stream_model.specs.declared.vocabulary.ItemType.TheVariants.{Byte, Short, Int}
+use Rattle.lane_filters.specs.declared.halves.Halves.{Halves}
 
 -- each number is at most so far from 0
 abbrev pub AreWithin : ℕ → List ℤ → Type 0
@@ -31,9 +33,27 @@ spread_sums h x count at = map (tap_sum h x count) (every_other at)
 abbrev pub weight : List ℤ → ℕ
 weight h = sum_by unsigned_abs h
 
--- of each run of so many taps the distances from 0 sum up to less than 2 ^ 16
-abbrev pub AreLight : ℕ → List ℤ → Type 0
-AreLight run h = (k : ℕ) → weight (take run (drop (k * run) h)) < 2 ^ 16
+-- 256 times the high half and the low one are the tap, and neither is more than 128 from 0
+abbrev pub AreHalvesOf : ℤ → ℤ → ℤ → Type 0
+AreHalvesOf tap high low = (tap ≡ (pos 256 *ℤ high) +ℤ low) × (unsigned_abs high ≤ 128) × (unsigned_abs low ≤ 128)
+
+-- the lists begin with the halves of each tap
+abbrev pub AreHalves : List ℤ → List ℤ → List ℤ → Type 0
+AreHalves h high low =
+    (length h ≤ length high)
+    × (length h ≤ length low)
+    × ((j : ℕ) → j < length h → AreHalvesOf (item h j) (item high j) (item low j))
+
+-- the sums of shorts and the taps, and these rounded, fit 32 bits
+abbrev pub IsLight : ItemType → List ℤ → ℕ → Type 0
+IsLight Short h shift = (weight h < 2 ^ 16) × (shift ≤ 15)
+IsLight Byte h shift = Unit {0}
+IsLight Int h shift = Unit {0}
+
+-- what a row goes by: the halves of its taps, or the taps themselves, which are light if the items are shorts
+abbrev pub IsPlan : ItemType → List ℤ → ℕ → Option Halves → Type 0
+IsPlan t h shift (Some halves) = AreHalves h halves.high halves.low
+IsPlan t h shift None = IsLight t h shift
 
 -- a times every other item of sixteen plus b times the one behind it
 abbrev pub paired : ℤ → ℤ → List ℤ → List ℤ

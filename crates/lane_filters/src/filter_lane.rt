@@ -4,11 +4,11 @@ ghost use Rattle.std.specs.Simd.Lanes.{zip2, put_chunk};
 ghost use Rattle.stream_model.specs.Lists.{listed};
 ghost use Rattle.stream_model.specs.Numbers.{sat, IsItem, AreItems};
 ghost use Rattle.stream_model.specs.declared.vocabulary.ItemType.TheVariants.{Short};
-ghost use Rattle.lane_filters.specs.Words.{AreLight, AreWithin, output};
+ghost use Rattle.lane_filters.specs.Words.{AreWithin, IsPlan, output};
 
 use crate::fir::write_wide;
-use crate::pairs::write_light;
-use crate::runs::write_runs;
+use crate::halves::{Halves, write_halves};
+use crate::pairs::{is_light, write_light};
 use crate::sums::nearest_shorts;
 use numbers::Number;
 use std::simd::prelude::*;
@@ -36,13 +36,24 @@ pub trait ProductLane: Number {
 
 /// An item type that has filters.
 pub trait FilterLane: ProductLane {
-    /// Writes 32 outputs, from `at` on, where those before stand. Of each run of so many taps the distances from 0 sum up to less than `2 ^ 16`.
-    fn write_block(h: &[i16], x: &[Self], at: usize, shift: u32, run: usize, out: &mut [Self])
+    /// The halves of the taps, or none where a row goes by the taps themselves.
+    fn halves_for(h: &[i16], shift: u32) -> Option<Halves>
+        requires { length h.now ≤ 256 }
+        ensures { IsPlan Self.kind h.now shift result };
+
+    /// Writes 32 outputs, from `at` on, where those before stand.
+    fn write_block(
+        h: &[i16],
+        halves: &Option<Halves>,
+        x: &[Self],
+        at: usize,
+        shift: u32,
+        out: &mut [Self],
+    )
         requires taps { 1 ≤ length h.now }
         requires most { length h.now ≤ 256 }
         requires shift { shift ≤ 31 }
-        requires light { AreLight run h.now }
-        requires few { run ≤ 256 }
+        requires plan { IsPlan Self.kind h.now shift halves.now }
         requires room { at + 31 + length h.now ≤ length x.now }
         requires place { at + 32 ≤ length out.old }
         requires taps_in_range { AreItems Short h.now }
@@ -91,19 +102,42 @@ impl ProductLane for i32 {
 }
 
 impl FilterLane for i16 {
-    fn write_block(h: &[i16], x: &[i16], at: usize, shift: u32, run: usize, out: &mut [i16]) {
-        if h.len() <= run && shift <= 15 {
-            write_light(h, x, at, shift, out);
-        } else if 1 <= run {
-            write_runs(h, x, at, shift, run, out);
+    fn halves_for(h: &[i16], shift: u32) -> Option<Halves> {
+        if shift <= 15 && is_light(h) {
+            None
         } else {
-            write_wide(h, x, at, shift, out);
+            Some(Halves::of(h))
+        }
+    }
+
+    fn write_block(
+        h: &[i16],
+        halves: &Option<Halves>,
+        x: &[i16],
+        at: usize,
+        shift: u32,
+        out: &mut [i16],
+    ) {
+        match halves {
+            Some(halves) => write_halves(h, halves, x, at, shift, out),
+            None => write_light(h, x, at, shift, out),
         }
     }
 }
 
 impl FilterLane for i32 {
-    fn write_block(h: &[i16], x: &[i32], at: usize, shift: u32, _run: usize, out: &mut [i32]) {
+    fn halves_for(_h: &[i16], _shift: u32) -> Option<Halves> {
+        None
+    }
+
+    fn write_block(
+        h: &[i16],
+        _halves: &Option<Halves>,
+        x: &[i32],
+        at: usize,
+        shift: u32,
+        out: &mut [i32],
+    ) {
         write_wide(h, x, at, shift, out);
     }
 }

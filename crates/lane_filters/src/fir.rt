@@ -1,11 +1,11 @@
 //! Rows of outputs of a finite impulse response.
-ghost use Rattle.std.specs.Prelude.{◌≡◌, ◌+◌, ◌-◌, ◌*◌, ◌/◌, ◌<◌, ◌≤◌, ◌^◌, ◌↔◌, length, map, take, All, IsTrue};
+ghost use Rattle.std.specs.Prelude.{◌≡◌, ◌+◌, ◌-◌, ◌*◌, ◌/◌, ◌<◌, ◌≤◌, ◌^◌, length, map, take, All};
 ghost use Rattle.std.specs.Int.RustNames.{unsigned_abs};
 ghost use Rattle.stream_model.specs.Lists.{listed};
 ghost use Rattle.kind_model.specs.Kernels.{fir_row};
 ghost use Rattle.stream_model.specs.Numbers.{IsItem, AreItems, sat, rnd};
 ghost use Rattle.stream_model.specs.declared.vocabulary.ItemType.TheVariants.{Short};
-ghost use Rattle.lane_filters.specs.Words.{AreLight, AreWithin, tap_sum, tap_sums, output, weight};
+ghost use Rattle.lane_filters.specs.Words.{AreWithin, tap_sum, tap_sums, output};
 
 use crate::filter_lane::{FilterLane, ProductLane};
 use crate::sums::{added, rounded, rounded_lanes, with_product};
@@ -41,12 +41,12 @@ fn long_row<T: FilterLane>(h: &[i16], x: &[T], shift: u32, out: &mut [T])
     requires items_in_range { All (λ x. IsItem T.kind (T.number x)) x.now }
     ensures { map T.number out.new ≡ listed (length out.old) (output T.kind h.now (map T.number x.now) shift) }
 {
-    let run = light_run(h);
+    let halves = T::halves_for(h, shift);
     for block in 0..out.len() / 32 {
-        T::write_block(h, x, 32 * block, shift, run, out);
+        T::write_block(h, &halves, x, 32 * block, shift, out);
     }
     if out.len() % 32 != 0 {
-        T::write_block(h, x, out.len() - 32, shift, run, out);
+        T::write_block(h, &halves, x, out.len() - 32, shift, out);
     }
 }
 
@@ -67,49 +67,6 @@ fn short_row<T: ProductLane>(h: &[i16], x: &[T], shift: u32, out: &mut [T])
     for n in 8 * (out.len() / 8)..out.len() {
         out[n] = T::saturate(rounded(one_sum(h, x, n), shift));
     }
-}
-
-/// The longest runs of taps, 256 or half, a quarter and so on of these down to 4, of which each is light; else 0. Shorter runs take longer than lanes of 64 bits do.
-fn light_run(h: &[i16]) -> usize
-    requires { length h.now ≤ 256 }
-    ensures few { result ≤ 256 }
-    ensures light { AreLight result h.now }
-{
-    for halving in 0..7u32 {
-        let run = 256usize >> halving;
-        if are_light(h, run) {
-            return run;
-        }
-    }
-    0
-}
-
-/// Whether each run of so many taps is light.
-fn are_light(h: &[i16], run: usize) -> bool
-    requires taps { length h.now ≤ 256 }
-    requires some { 1 ≤ run }
-    requires few { run ≤ 256 }
-    ensures { IsTrue result → AreLight run h.now }
-{
-    for k in 0..h.len().div_ceil(run) {
-        let from = k * run;
-        if !is_light(&h[from..h.len().min(from + run)]) {
-            return false;
-        }
-    }
-    true
-}
-
-/// Whether the taps' distances from 0 sum up to less than `2 ^ 16`.
-fn is_light(h: &[i16]) -> bool
-    requires { length h.now ≤ 256 }
-    ensures { IsTrue result ↔ (weight h.now < 2 ^ 16) }
-{
-    let mut weight: u32 = 0;
-    for tap in h {
-        weight += u32::from(tap.unsigned_abs());
-    }
-    weight < 65536
 }
 
 /// Writes 32 outputs by sums in lanes of 64 bits.

@@ -6,9 +6,9 @@ pub mod differences;
 pub mod dots;
 pub mod filter_lane;
 pub mod fir;
+mod halves;
 mod pairs;
 pub mod repacked;
-mod runs;
 mod sums;
 
 pub use bits::{pack_bits, unpack_bits};

@@ -1,6 +1,6 @@
 //! Outputs of taps and short items by lanes of 32 bits, which hold the sums where the taps' distances from
 //! 0 sum up to less than `2 ^ 16`. Products of neighbouring items are added at once.
-ghost use Rattle.std.specs.Prelude.{◌≡◌, ◌+◌, ◌-◌, ◌*◌, ◌/◌, ◌%◌, ◌<◌, ◌≤◌, ◌^◌, ◌+ℤ◌, length, map, take};
+ghost use Rattle.std.specs.Prelude.{◌≡◌, ◌+◌, ◌-◌, ◌*◌, ◌/◌, ◌%◌, ◌<◌, ◌≤◌, ◌^◌, ◌↔◌, ◌+ℤ◌, length, map, take, IsTrue};
 ghost use Rattle.std.specs.Simd.Lanes.{zip2};
 ghost use Rattle.std.specs.Int.RustNames.{unsigned_abs};
 ghost use Rattle.stream_model.specs.Lists.{item, listed};
@@ -10,6 +10,18 @@ ghost use Rattle.lane_filters.specs.Words.{AreWithin, output, spread_sums, paire
 
 use crate::sums::{capped_shorts, rounded_ints};
 use std::simd::prelude::*;
+
+/// Whether the taps' distances from 0 sum up to less than `2 ^ 16`.
+pub(crate) fn is_light(h: &[i16]) -> bool
+    requires { length h.now ≤ 256 }
+    ensures { IsTrue result ↔ (weight h.now < 2 ^ 16) }
+{
+    let mut weight: u32 = 0;
+    for tap in h {
+        weight += u32::from(tap.unsigned_abs());
+    }
+    weight < 65536
+}
 
 /// Writes 32 outputs, from `at` on. A pair of taps is read once for all of them.
 pub(crate) fn write_light(h: &[i16], x: &[i16], at: usize, shift: u32, out: &mut [i16])
