@@ -15,7 +15,7 @@ from math import gcd
 from pathlib import Path
 from typing import Any, Callable, Dict, List, NamedTuple, Tuple
 
-from gnuradio import blocks, digital, gr, vocoder
+from gnuradio import blocks, digital, gr, trellis, vocoder
 
 TOP = Path(__file__).resolve().parent.parent
 RANGES = {"byte": (0, 255), "short": (-32768, 32767), "int": (-(2**31), 2**31 - 1)}
@@ -38,6 +38,9 @@ class Case(NamedTuple):
 
 
 Draw = random.Random
+
+# (it tells of each machine that has states which nothing leads to)
+gr.logging().set_default_level(gr.log_levels.off)
 
 
 def items(draw: Draw, item: str, most: int = 300) -> List[int]:
@@ -168,6 +171,12 @@ def divide(draw: Draw, item: str) -> Case:
     return Case("divide", item, "", inputs, lambda: typed("divide", item)())
 
 
+def sample_and_hold(draw: Draw, item: str) -> Case:
+    # (where the second input has other items than bytes, tests/gnuradio/own.py has cases)
+    asked = [it if draw.random() < 0.3 else 0 for it in items(draw, item)]
+    return Case("sample_and_hold", item, "", [items(draw, item), asked], typed("sample_and_hold", item))
+
+
 def binary_slicer(draw: Draw, item: str) -> Case:
     def make() -> Any:
         return Row(SIZES[item], 1, [getattr(blocks, f"{item}_to_float")(), digital.binary_slicer_fb()], [])
@@ -210,6 +219,33 @@ def counter(draw: Draw, item: str) -> Case:
     return Case("counter", item, f"n = {n}", [clock], lambda: Clocked(SIZES[item], source(list(range(n)), True), len(clock)))
 
 
+FLOATS = {"byte": blocks.uchar_to_float, "short": blocks.short_to_float, "int": blocks.int_to_float}
+
+
+def viterbi(draw: Draw, item: str) -> Case:
+    symbols, states, outputs = draw.randint(2, 4), draw.randint(1, 16), draw.randint(2, 8)
+    rows = range(symbols * states)
+    following = [draw.randrange(states) for _ in rows]
+    given = [draw.randrange(outputs) for _ in rows]
+    steps, start = draw.randint(1, 40), draw.choice([-1, draw.randrange(states)])
+    # (where no path leads from the start to the end, GNU Radio's block gives what it has left of others)
+    ends = {start} if start >= 0 else set(range(states))
+    for _ in range(steps):
+        ends = {following[symbols * state + symbol] for state in ends for symbol in range(symbols)}
+    end = draw.choice([-1, draw.choice(sorted(ends))])
+    # Of few metrics many paths have one sum. (Their sums are floats there, which are exact up to 2^24.)
+    most = draw.choice([1, 3, 200, min(RANGES[item][1], 2**18)])
+    least = max(RANGES[item][0], -draw.choice([0, most]))
+    tape = [draw.randint(least, most) for _ in range(steps * outputs * draw.randint(1, 5))]
+    keys = f"symbols = {symbols}\nnext = {following}\noutputs = {outputs}\noutput = {given}\nsteps = {steps}\nstart = {start}\nend = {end}"
+
+    def make() -> Any:
+        machine = trellis.fsm(symbols, states, outputs, following, given)
+        return Row(SIZES[item], 1, [FLOATS[item](), trellis.viterbi_b(machine, steps, start, end)], [])
+
+    return Case("viterbi", item, keys, [tape], make, "byte")
+
+
 ALL = ("byte", "short", "int")
 WIDE = ("short", "int")
 # Of each kind how a case of it is drawn, and the types that GNU Radio's block has, with the same meaning.
@@ -223,6 +259,7 @@ KINDS: Dict[str, Tuple[Callable[[Draw, str], Case], Tuple[str, ...]]] = {
     "divide": (divide, WIDE),
     "minimum": (joined("minimum", "min", 1, 1), WIDE),
     "maximum": (joined("maximum", "max", 1, 1), WIDE),
+    "sample_and_hold": (sample_and_hold, ("byte",)),
     "table": (table, ("byte",)),
     "binary_slicer": (binary_slicer, WIDE),
     "ulaw_encode": (ulaw_encode, ("short",)),
@@ -240,6 +277,8 @@ KINDS: Dict[str, Tuple[Callable[[Draw, str], Case], Tuple[str, ...]]] = {
     "packed_to_unpacked": (repacked("packed_to_unpacked"), ALL),
     "unpacked_to_packed": (repacked("unpacked_to_packed"), ALL),
     "correlate_access_code": (correlate_access_code, ("byte",)),
+    # (its metrics are floats there)
+    "viterbi": (viterbi, ALL),
 }
 
 

@@ -12,7 +12,7 @@ list=/dev/null
 pages=(
     user/{C,COMMANDS,COVERAGE,FILES,FOR_GNU_RADIO_USERS,KINDS,REFUSALS,SPEED,STUDIO,TUTORIAL}.md contribute/GLOSSARY.md
     user/{echo,trace}.svg user/studio_{file,signal}.png
-    user/tutorial_{step_{1,2,3,4,5},filter,frequency,levels,frames,text,errors}.svg
+    user/tutorial_{step_{1,2,3,4,5,6},filter,frequency,levels,frames,text,errors}.svg
 )
 # Whether /usr/bin/flow is left to Debian's alternatives, which the package's script sets.
 has_alternatives=0

@@ -117,6 +117,18 @@ def tag_share(settings: Settings) -> Node:
     return Node(settings.block, [item, shared], [item], parts, takes=[[End(0)], [End(len(parts) - 1)]], gives=[End(0)], inner=inner)
 
 
+def sample_and_hold(settings: Settings) -> Node:
+    """The kind has two inputs of one type, and GNU Radio's block bytes at the second."""
+    item, byte = settings.item_type(ANY), ItemType.BYTE
+    parts = [Part("sample_and_hold", {"type": str(item)})]
+    inner = []
+    if item is not byte:
+        parts.append(Part("convert", {"type": str(byte), "to": str(item)}))
+        inner.append((End(1), End(0, 1)))
+    asks = End(1) if inner else End(0, 1)
+    return Node(settings.block, [item, byte], [item], parts, takes=[[End(0)], [asks]], gives=[End(0)], inner=inner)
+
+
 def tag_gate(settings: Settings) -> Node:
     """A gate that is open is a wire; one that is shut adds nothing to the items, and passes no tags."""
     item = settings.item_type(ANY)

@@ -55,4 +55,5 @@ RANGES: Mapping[str, Mapping[str, Mapping[str, int]]] = {
     "crc_append": {"order": {}, "bits": {"least": 8, "most": 32}, "polynomial": {"least": 0}, "init": {"least": 0}, "final_xor": {"least": 0}, "n": {"least": 1, "most": 1020}},
     "crc_check": {"order": {}, "bits": {"least": 8, "most": 32}, "polynomial": {"least": 0}, "init": {"least": 0}, "final_xor": {"least": 0}, "n": {"least": 1, "most": 1020}},
     "state_machine": {"symbols": {"least": 1, "most": 4096}, "next": {"least_count": 1, "most_count": 4096}, "output": {"least": 0, "most": 255}, "init": {}},
+    "viterbi": {"symbols": {"least": 1, "most": 256}, "next": {"least_count": 1, "most_count": 4096}, "outputs": {"least": 1, "most": 1024}, "output": {"least": 0}, "steps": {"least": 1}, "start": {}, "end": {}},
 }

@@ -4,7 +4,7 @@ from __future__ import annotations
 
 from typing import Mapping
 
-from . import bits, chains, companding, endings, filters, frames, notes, periods, scramblers
+from . import bits, chains, companding, endings, filters, frames, notes, periods, scramblers, trellises
 from .entries import ANY, Entry, block, wire
 from .faults import Code
 from .settings import Settings
@@ -31,6 +31,8 @@ _PUNCTURE = {"puncsize": "", "puncpat": "", "delay": "0"}
 _CHOICE = {"type": "complex", "enabled": "True", "input_index": "0", "output_index": "0"}
 _ORDER = {"type": "byte", "interleaver_indices": "[1, 2, 0]", "interleaver_mode": "interleave", "is_packed": "False"}
 _FILTER = {"type": "ccc", "taps": "", "samp_delay": "0"}
+_POINTS = {"dim": "", "table": "", "metric_type": "digital.TRELLIS_EUCLIDEAN"}
+_PATH = {"fsm_args": "", "block_size": "", "init_state": "0", "final_state": "-1"}
 
 TABLE: Mapping[str, Entry] = {
     **SINGLE_KINDS,
@@ -50,6 +52,7 @@ TABLE: Mapping[str, Entry] = {
     "vocoder_alaw_decode_bs": companding.decoder(companding.alaw_sample),
     "vocoder_ulaw_encode_sb": companding.encoder("ulaw_encode"),
     "vocoder_alaw_encode_sb": companding.encoder("alaw_encode"),
+    "blocks_sample_and_hold_xx": Entry({"type": "float"}, chains.sample_and_hold),
     "blocks_moving_average_xx": Entry({"type": "complex", "length": "1000", "scale": "1", "max_iter": "4000", "vlen": "1"}, chains.moving_average),
     # Filters.
     "fir_filter_xxx": Entry({**_FILTER, "decim": "1"}, filters.fir),
@@ -82,6 +85,11 @@ TABLE: Mapping[str, Entry] = {
     "digital_scrambler_bb": Entry(_REGISTER, scramblers.scrambler),
     "digital_descrambler_bb": Entry(_REGISTER, scramblers.descrambler),
     "digital_additive_scrambler_bb": Entry({**_REGISTER, "count": "0", "bits_per_byte": "1", "reset_tag_key": '""'}, scramblers.additive_scrambler),
+    # Machines, and paths through them.
+    "trellis_encoder_xx": Entry({"type": "bb", "fsm_args": "", "init_state": "0", "blockwise": "False", "blocklength": "0"}, trellises.encoder),
+    "trellis_metrics_x": Entry({"type": "c", "card": "", **_POINTS}, trellises.metrics),
+    "trellis_viterbi_x": Entry({"type": "i", **_PATH}, trellises.viterbi),
+    "trellis_viterbi_combined_xx": Entry({"type": "c", "out_type": "i", **_PATH, **_POINTS}, trellises.viterbi_combined),
     # What passes items on.
     "blocks_copy": wire({"enabled": "True", "showports": "False"}, _is_on),
     "blocks_tag_gate": Entry({"type": "complex", "vlen": "1", "propagate_tags": "False", "single_key": '""'}, chains.tag_gate),

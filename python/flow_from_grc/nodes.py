@@ -11,10 +11,11 @@ from .graph import Block, Connection, Feed, ItemType, Setting
 
 
 class Floats(enum.Enum):
-    """Streams of floats that hold whole numbers, between blocks that convert shorts and filters of floats."""
+    """Streams of floats that hold whole numbers, between blocks that convert shorts and filters of floats, and between metrics and what decodes them."""
 
     SHORTS = "float, of Short To Float"
     SUMS = "float, of a filter"
+    METRICS = "float, of Trellis Metrics"
 
     def __str__(self) -> str:
         return self.value

@@ -159,6 +159,12 @@ KINDS: Mapping[str, str] = {
         "    rate: 1 for 1 of each input\n"
         "    example: bytes: 12 and 10 give 6\n"
     ),
+    "sample_and_hold": (
+        "sample_and_hold: the item of its first input at the last place where the second is not 0, and 0 before there is one\n"
+        "    type: \"byte\", \"short\" or \"int\"\n"
+        "    rate: 1 for 1 of each input\n"
+        "    example: bytes: 7 8 9 10 and 0 1 0 255 give 0 8 8 10\n"
+    ),
     "map_bb": (
         "map_bb: map[x[n]], and x[n] itself behind the end of the map\n"
         "    map: at most 256 numbers, each 0 to 255\n"
@@ -455,6 +461,19 @@ KINDS: Mapping[str, str] = {
         "    rate: 1 for 1\n"
         "    example: 2, 0 2 0 2 1 3 1 3, 0 3 3 0 1 2 2 1, 0: 1 0 1 1 0 0 gives 3 1 0 2 2 3\n"
     ),
+    "viterbi": (
+        "viterbi: of each block, the symbols r modulo symbols of the path of rows r that lead by next[r] from state r / symbols on, for which the sum of x[outputs * i + output[r]] over steps i is the least\n"
+        "    type: \"byte\", \"short\" or \"int\"\n"
+        "    symbols: 1 to 256\n"
+        "    next: 1 to 4096 numbers of states, `symbols` of them for each of at most 1024 states\n"
+        "    outputs: 1 to 1024\n"
+        "    output: as many numbers as `next`, each 0 to less than `outputs`\n"
+        "    steps: 1 to as many that steps * outputs is at most 1024, and steps times the number of states at most 16384\n"
+        "    start: the number of a state, of which `next` has `symbols` for each, or less than 0 where none is known, -1 where it is missing\n"
+        "    end: the number of a state, of which `next` has `symbols` for each, or less than 0 where none is known, -1 where it is missing\n"
+        "    rate: steps for steps * outputs\n"
+        "    example: byte, 2, 0 2 0 2 1 3 1 3, 4, 0 3 3 0 1 2 2 1, 3, 0, -1: 2 1 1 0 1 0 2 1 0 1 1 2 gives 1 0 1\n"
+    ),
 }
 
 
@@ -648,6 +667,18 @@ class KindBlocks:
 
     @overload
     def block(self, name: str, kind: Literal["xor"], *, type: Type, tags: Policy = ..., multiple: Number = ..., capacity: Number = ...) -> str: ...
+
+    @overload
+    def block(
+        self,
+        name: str,
+        kind: Literal["sample_and_hold"],
+        *,
+        type: Type,
+        tags: Policy = ...,
+        multiple: Number = ...,
+        capacity: Number = ...,
+    ) -> str: ...
 
     @overload
     def block(
@@ -1181,6 +1212,25 @@ class KindBlocks:
         next: Numbers,
         output: Numbers,
         init: Number,
+        tags: Policy = ...,
+        multiple: Number = ...,
+        capacity: Number = ...,
+    ) -> str: ...
+
+    @overload
+    def block(
+        self,
+        name: str,
+        kind: Literal["viterbi"],
+        *,
+        type: Type,
+        symbols: Number,
+        next: Numbers,
+        outputs: Number,
+        output: Numbers,
+        steps: Number,
+        start: Number = ...,
+        end: Number = ...,
         tags: Policy = ...,
         multiple: Number = ...,
         capacity: Number = ...,

@@ -69,16 +69,22 @@ def _defaults(tree: Tree, table: KindTable) -> Iterator[Listing]:
     missing = [(it.variant, str(it.default)) for it in optional if isinstance(it.default, int) and it.default]
     found = [
         (name, value)
-        for names, value in re.findall(r"Key::Parameter\(([^)]*)\)[^=]*=> (\d+)", body(text, "missing"))
+        for names, value in re.findall(r"Key::Parameter\(([^)]*)\)[^=]*=> (-?\d+)", body(text, "missing"))
         for name in re.findall(r"Parameter::(\w+)", names)
     ]
     yield Listing(KEY, "`missing`", FILE, found, missing, in_order=False)
-    found = [(name, value.replace("pos ", "")) for name, value in _plain(spec, "missing_parameter")]
+    found = [(name, _whole(value)) for name, value in _plain(spec, "missing_parameter")]
     yield Listing(KEY_SPEC, "`missing_parameter`", FILE, found, missing + [("_", "0")], in_order=False)
 
 
 def _plain(spec: str, name: str) -> List[Tuple[str, str]]:
     return [(last(it), value) for it, value in rows(spec, name)]
+
+
+def _whole(value: str) -> str:
+    """A whole number as the table has it: `negsuc n` is -1 - n."""
+    sign, _, digits = value.partition(" ")
+    return str(-1 - int(digits)) if sign == "negsuc" else digits or value
 
 
 def _ranges(tree: Tree, table: KindTable) -> Iterator[Listing]:

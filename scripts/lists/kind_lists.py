@@ -3,7 +3,7 @@
 from __future__ import annotations
 
 import json
-from typing import Iterator, List, Mapping
+from typing import Iterator, List, Mapping, Sequence, Union
 
 from .kind_table import FILE, Kind, KindTable, Value
 from .trees import Written, marked
@@ -82,8 +82,8 @@ def _drawn(table: KindTable) -> str:
         if not kind.end:
             item = "byte" if kind.items == "bytes" else "int"
             keys = "\n".join(_keys(table, kind, "int", kind.least))
-            rows.append([kind.name, keys, item, str(kind.least.get("to", kind.gives or item)), _note(kind)])
-    return _const("KINDS", "(&str, &str, &str, &str, &str)", rows)
+            rows.append([kind.name, keys, item, str(kind.least.get("to", kind.gives or item)), _note(kind), kind.inputs])
+    return _const("KINDS", "(&str, &str, &str, &str, &str, usize)", rows)
 
 
 def _note(kind: Kind) -> str:
@@ -96,8 +96,8 @@ def _note(kind: Kind) -> str:
     return f"{'value' if kind.setting else kind.drawn} {value}<br/>"
 
 
-def _const(name: str, row: str, rows: List[List[str]]) -> str:
-    """An array of tuples of texts in Rattle."""
+def _const(name: str, row: str, rows: Sequence[Sequence[Union[str, int]]]) -> str:
+    """An array of tuples of texts and numbers in Rattle."""
     lines = [f"const {name}: [{row}; {len(rows)}] = ["]
     for texts in rows:
         parts = [json.dumps(it) for it in texts]

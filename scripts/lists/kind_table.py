@@ -12,7 +12,7 @@ from .tables import WrongTable, camel, entry, has, of_sort, only, tables_in
 FILE = "kinds.toml"
 ITEMS = ("any", "wide", "bytes")
 ENDS = ("source", "sink")
-_OPTIONAL = ("end", "rate", "example", "parameters", "setting", "drawn", "gives", "tried", "least", "kept", "called", "gnu_radio")
+_OPTIONAL = ("end", "rate", "example", "parameters", "setting", "drawn", "gives", "inputs", "tried", "least", "kept", "called", "gnu_radio")
 Value = Union[int, str, Sequence[int]]
 # How many ports a block of GNU Radio has: so many, or as many as its parameter of this name says.
 Ports = Union[int, str]
@@ -87,6 +87,7 @@ class Kind:
     setting: Optional[str]
     drawn: Optional[str]
     gives: Optional[str]
+    inputs: int
     tried: Mapping[str, Value]
     least: Mapping[str, Value]
     kept: bool
@@ -157,6 +158,7 @@ def _kind(name: str, table: Mapping[str, Any], parameters: Mapping[str, Paramete
         setting=table.get("setting"),
         drawn=table.get("drawn"),
         gives=table.get("gives"),
+        inputs=of_sort(table.get("inputs", 1), int, f"{where}: inputs"),
         tried=table.get("tried", {}),
         least=table.get("least", {}),
         kept=of_sort(table.get("kept", False), bool, f"{where}: kept"),

@@ -1,6 +1,7 @@
-//! The blocks that choose an item of each frame, repeat a list and count.
+//! The blocks that choose an item of each frame, hold one, repeat a list and count.
 use super::runs::{LANE_COUNTS, Trials, is_bad, ramp};
 use items::ItemType::{Byte, Int, Short};
+use math_blocks::SampleAndHold;
 use parameters::Parameter;
 use rate_blocks::{Argmax, Counter, FrameMaximum, FrameMinimum, Pattern};
 use std::test::Fail;
@@ -97,5 +98,33 @@ fn of_numbers(rt: HostRuntime) -> Result<(), Fail> {
     for n in [0, (1 << 31) + 1] {
         assert!(rt; is_bad(Counter::new(Byte, n), Parameter::N), "{n}");
     }
+    Ok(())
+}
+
+#[test]
+fn held(rt: HostRuntime) -> Result<(), Fail> {
+    let a = rt.alloc();
+    let trials = Trials::new(&rt, a);
+    let bytes: [&[i64]; 2] = [&[7, 8, 9, 10], &[0, 1, 0, 255]];
+    trials.joins("bytes", Ok(SampleAndHold::new(Byte)), &bytes, &[0, 8, 8, 10])?;
+    let shorts: [&[i64]; 2] = [&[-1, 5, -32_768, 32_767, 6], &[-32_768, 0, 256, 32_767, 0]];
+    let given = [-1, -1, -32_768, 32_767, 32_767];
+    trials.joins("shorts", Ok(SampleAndHold::new(Short)), &shorts, &given)?;
+    let ints: [&[i64]; 2] = [&[3, LEAST_INT, 4, GREATEST_INT, 5], &[0, LEAST_INT, 0, 65_536, 0]];
+    let given = [0, LEAST_INT, LEAST_INT, GREATEST_INT, GREATEST_INT];
+    trials.joins("ints", Ok(SampleAndHold::new(Int)), &ints, &given)?;
+    for count in LANE_COUNTS {
+        let (items, zeros) = (ramp(a, count, 100, 1)?, ramp(a, count, 0, 0)?);
+        let none: [&[i64]; 2] = [&items, &zeros];
+        trials.joins("none in lanes", Ok(SampleAndHold::new(Byte)), &none, &zeros)?;
+        let (all, mut once) = (ramp(a, count, -1, 0)?, ramp(a, count, 0, 0)?);
+        let each: [&[i64]; 2] = [&items, &all];
+        trials.joins("all in lanes", Ok(SampleAndHold::new(Int)), &each, &items)?;
+        once[0] = -1;
+        let (first, held): ([&[i64]; 2], Vec<i64>) = ([&items, &once], ramp(a, count, 100, 0)?);
+        trials.joins("the first in lanes", Ok(SampleAndHold::new(Short)), &first, &held)?;
+    }
+    assert!(rt; SampleAndHold::new(Byte) == SampleAndHold::new(Byte));
+    assert!(rt; SampleAndHold::new(Byte) != SampleAndHold::new(Short));
     Ok(())
 }

@@ -14,3 +14,4 @@ mod places;
 mod ports;
 mod rates;
 mod runs;
+mod trellises;

@@ -73,19 +73,23 @@ class Pen:
     def add(self) -> None:
         """A block of some kind, where outputs of its type are there."""
         chance, type = self.chance, self.chance.choice(TYPES)
-        kind = chance.choice([*SINGLE, *BYTES, *FILTERS, "many", "convert", "interleave", "deinterleave", "stream_mux"])
+        kind = chance.choice([*SINGLE, *BYTES, *FILTERS, "many", "sample_and_hold", "convert", "interleave", "deinterleave", "stream_mux", "viterbi"])
         if kind in BYTES or kind in FILTERS:
             type = "byte" if kind in BYTES else chance.choice(["short", "int"])
-        ports = chance.randint(1, 3) if kind in ("many", "interleave", "stream_mux") else 1
+        ports = chance.randint(1, 3) if kind in ("many", "interleave", "stream_mux") else 2 if kind == "sample_and_hold" else 1
         inputs = self.taken(type, ports)
         if not inputs:
             return
         ports = len(inputs)
         if kind == "many":
             self.block(chance.choice(["add", "and", "or", "xor"]), inputs, [type], type=type)
+        elif kind == "sample_and_hold":
+            self.block(kind, inputs, [type], type=type)
         elif kind == "convert":
             to = chance.choice(TYPES)
             self.block(kind, inputs, [to], type=type, to=to)
+        elif kind == "viterbi":
+            self.block(kind, inputs, ["byte"], type=type, **trellis(self, type))
         elif kind == "interleave":
             self.block(kind, inputs, [type], ports, type=type, ports=ports)
         elif kind == "deinterleave":
@@ -118,6 +122,20 @@ def machine(pen: Pen, type: str) -> dict[str, Any]:
         "next": [pen.chance.randrange(states) for _ in places],
         "output": [pen.item("byte") for _ in places],
         "init": pen.chance.randrange(states),
+    }
+
+
+def trellis(pen: Pen, type: str) -> dict[str, Any]:
+    symbols, states, outputs = pen.chance.randint(1, 5), pen.chance.randint(1, 20), pen.chance.randint(1, 8)
+    places = range(symbols * states)
+    return {
+        "symbols": symbols,
+        "next": [pen.chance.randrange(states) for _ in places],
+        "outputs": outputs,
+        "output": [pen.chance.randrange(outputs) for _ in places],
+        "steps": pen.chance.randint(1, 30),
+        "start": pen.chance.randrange(-1, states),
+        "end": pen.chance.randrange(-1, states),
     }
 
 

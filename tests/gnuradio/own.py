@@ -122,16 +122,22 @@ def given(words: Sequence[str]) -> Given:
 
 def drawn(kind: str, parameters: dict[str, Any], inputs: Sequence[Stream], outputs: Sequence[Port]) -> Graph:
     """The graph that flow-from-grc makes of a drawing with a block of this id between sources and sinks."""
-    rows, ends = ["blocks:"], ["connections:"]
+    return drawn_row([Kind(kind, parameters)], inputs, outputs)
+
+
+def drawn_row(kinds: Sequence[Kind], inputs: Sequence[Stream], outputs: Sequence[Port]) -> Graph:
+    """The same of several blocks in a row, each by its id."""
+    rows, ends, names = ["blocks:"], ["connections:"], ["tried%d" % at for at in range(len(kinds))]
     for name, block, keys in [
         *(("in%d" % at, "blocks_file_source", {"type": it.type, "file": "x", "repeat": False}) for at, it in enumerate(inputs)),
-        ("tried", kind, parameters),
+        *((name, it.kind, it.keys) for name, it in zip(names, kinds)),
         *(("out%d" % at, "blocks_vector_sink_x", {"type": it.type}) for at, it in enumerate(outputs)),
     ]:
         rows += ["- name: " + name, "  id: " + block, "  parameters:" + ("" if keys else " {}")]
         rows += ["    %s: '%s'" % it for it in keys.items()]
-    ends += ["- [in%d, '0', tried, '%d']" % (at, at) for at in range(len(inputs))]
-    ends += ["- [tried, '%d', out%d, '0']" % (at, at) for at in range(len(outputs))]
+    ends += ["- [in%d, '0', %s, '%d']" % (at, names[0], at) for at in range(len(inputs))]
+    ends += ["- [%s, '0', %s, '0']" % it for it in zip(names, names[1:])]
+    ends += ["- [%s, '%d', out%d, '0']" % (names[-1], at, at) for at in range(len(outputs))]
     report = Report()
     graph = graph_of(read_drawing("\n".join([*rows, *ends, "metadata:", "  file_format: 1"]).encode(), report), report)
     assert not report.faults, report.faults
@@ -358,6 +364,19 @@ def selector() -> None:
         own.set_enabled(on)
         counts = [min(len(it.items) for it in fed) if on and at == to else 0 for at in range(outs)]
         compare(own, drawn("blocks_selector", keys, fed, outputs), fed, outputs, counts)
+
+    each(trial)
+
+
+def sample_and_hold() -> None:
+    """sample_and_hold is the kind of its name, with bytes at the second input converted to the type of the first."""
+
+    def trial(chance: random.Random) -> None:
+        type, asked = typed(chance), stream(chance, "byte", chance.randint(0, 100))
+        fed = [stream(chance, type, chance.randint(0, 100)), asked._replace(items=[it if it < 60 else 0 for it in asked.items])]
+        count = min(len(it.items) for it in fed)
+        own = getattr(blocks, "sample_and_hold_" + 2 * LETTERS[type])()
+        compare(own, drawn("blocks_sample_and_hold_xx", {"type": type}, fed, [Port(type)]), fed, [Port(type)], [count])
 
     each(trial)
 

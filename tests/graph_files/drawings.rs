@@ -140,69 +140,92 @@ const UNEVEN_DOT: &str = "digraph {
 }
 ";
 
-// Each kind that may stand between a source and a sink, with its keys and the types of both.
+// Each kind that may stand between a source and a sink, with its keys, the types of both, what is noted, and how many inputs it has.
 // scripts/generate writes these lines from kinds.toml: KINDS
-const KINDS: [(&str, &str, &str, &str, &str); 60] = [
-    ("add_const", "type = \"int\"\nvalue = 1", "int", "int", "value 1<br/>"),
-    ("multiply_const", "type = \"int\"\nvalue = 1", "int", "int", "value 1<br/>"),
-    ("divide_const", "type = \"int\"\nvalue = 1", "int", "int", "value 1<br/>"),
-    ("and_const", "type = \"int\"\nvalue = 1", "int", "int", "value 1<br/>"),
-    ("or_const", "type = \"int\"\nvalue = 1", "int", "int", "value 1<br/>"),
-    ("xor_const", "type = \"int\"\nvalue = 1", "int", "int", "value 1<br/>"),
-    ("scale", "type = \"int\"\nfactor = 1", "int", "int", "value 1<br/>"),
-    ("clip", "type = \"int\"\nlow = 0\nhigh = 1", "int", "int", ""),
-    ("abs", "type = \"int\"", "int", "int", ""),
-    ("not", "type = \"int\"", "int", "int", ""),
-    ("mute", "type = \"int\"\non = 1", "int", "int", "value 1<br/>"),
-    ("add", "type = \"int\"", "int", "int", ""),
-    ("sub", "type = \"int\"", "int", "int", ""),
-    ("multiply", "type = \"int\"", "int", "int", ""),
-    ("divide", "type = \"int\"", "int", "int", ""),
-    ("minimum", "type = \"int\"", "int", "int", ""),
-    ("maximum", "type = \"int\"", "int", "int", ""),
-    ("and", "type = \"int\"", "int", "int", ""),
-    ("or", "type = \"int\"", "int", "int", ""),
-    ("xor", "type = \"int\"", "int", "int", ""),
-    ("map_bb", "map = [1]", "byte", "byte", ""),
-    ("table", "to = \"short\"\nvalues = [1]", "byte", "short", ""),
-    ("convert", "type = \"int\"\nto = \"short\"", "int", "short", ""),
-    ("binary_slicer", "type = \"int\"\nthreshold = 0", "int", "byte", ""),
-    ("ulaw_encode", "type = \"int\"", "int", "byte", ""),
-    ("alaw_encode", "type = \"int\"", "int", "byte", ""),
-    ("moving_sum", "type = \"int\"\nlength = 1", "int", "int", ""),
-    ("fir", "type = \"int\"\ntaps = [1]", "int", "int", "1 taps<br/>"),
-    ("interp_fir", "type = \"int\"\ntaps = [1]", "int", "int", "1 taps<br/>"),
-    ("keep_one_in_n", "type = \"int\"\nn = 1", "int", "int", ""),
-    ("keep_m_in_n", "type = \"int\"\nm = 1\nn = 1", "int", "int", ""),
-    ("integrate", "type = \"int\"\nn = 1", "int", "int", ""),
-    ("frame_minimum", "type = \"int\"\nn = 1", "int", "int", ""),
-    ("frame_maximum", "type = \"int\"\nn = 1", "int", "int", ""),
-    ("argmax", "type = \"int\"\nn = 1", "int", "int", ""),
-    ("repeat", "type = \"int\"\nn = 1", "int", "int", ""),
-    ("insert", "type = \"int\"\nvalues = [1]\nperiod = 2", "int", "int", ""),
-    ("pattern", "type = \"int\"\nvalues = [1]", "int", "int", ""),
-    ("counter", "type = \"int\"\nn = 1", "int", "int", ""),
-    ("permute", "type = \"int\"\norder = [0]", "int", "int", ""),
-    ("interleave", "type = \"int\"\nports = 1", "int", "int", ""),
-    ("deinterleave", "type = \"int\"\nports = 1", "int", "int", ""),
-    ("stream_mux", "type = \"int\"\nlengths = [1]", "int", "int", ""),
-    ("head", "type = \"int\"\nn = 1", "int", "int", "n 1<br/>"),
-    ("skiphead", "type = \"int\"\nn = 1", "int", "int", "n 1<br/>"),
-    ("delay", "type = \"int\"\nn = 1", "int", "int", "n 1<br/>"),
-    ("pack_k_bits", "k = 1", "byte", "byte", ""),
-    ("unpack_k_bits", "k = 1", "byte", "byte", ""),
-    ("repack_bits", "k = 1\nl = 1", "byte", "byte", ""),
-    ("packed_to_unpacked", "type = \"int\"\nbits = 1", "int", "int", ""),
-    ("unpacked_to_packed", "type = \"int\"\nbits = 1", "int", "int", ""),
-    ("diff_encoder", "modulus = 2", "byte", "byte", ""),
-    ("diff_decoder", "modulus = 2", "byte", "byte", ""),
-    ("scrambler", "bits = 2\nmask = 1\ninit = 1", "byte", "byte", ""),
-    ("descrambler", "bits = 2\nmask = 1\ninit = 1", "byte", "byte", ""),
-    ("additive_scrambler", "bits = 2\nmask = 1\ninit = 1", "byte", "byte", ""),
-    ("correlate_access_code", "code = \"1\"\nthreshold = 0", "byte", "byte", ""),
-    ("crc_append", "bits = 8\npolynomial = 7\ninit = 0\nfinal_xor = 0\nn = 1", "byte", "byte", ""),
-    ("crc_check", "bits = 8\npolynomial = 7\ninit = 0\nfinal_xor = 0\nn = 1", "byte", "byte", ""),
-    ("state_machine", "symbols = 1\nnext = [0]\noutput = [0]\ninit = 0", "byte", "byte", ""),
+const KINDS: [(&str, &str, &str, &str, &str, usize); 62] = [
+    ("add_const", "type = \"int\"\nvalue = 1", "int", "int", "value 1<br/>", 1),
+    ("multiply_const", "type = \"int\"\nvalue = 1", "int", "int", "value 1<br/>", 1),
+    ("divide_const", "type = \"int\"\nvalue = 1", "int", "int", "value 1<br/>", 1),
+    ("and_const", "type = \"int\"\nvalue = 1", "int", "int", "value 1<br/>", 1),
+    ("or_const", "type = \"int\"\nvalue = 1", "int", "int", "value 1<br/>", 1),
+    ("xor_const", "type = \"int\"\nvalue = 1", "int", "int", "value 1<br/>", 1),
+    ("scale", "type = \"int\"\nfactor = 1", "int", "int", "value 1<br/>", 1),
+    ("clip", "type = \"int\"\nlow = 0\nhigh = 1", "int", "int", "", 1),
+    ("abs", "type = \"int\"", "int", "int", "", 1),
+    ("not", "type = \"int\"", "int", "int", "", 1),
+    ("mute", "type = \"int\"\non = 1", "int", "int", "value 1<br/>", 1),
+    ("add", "type = \"int\"", "int", "int", "", 1),
+    ("sub", "type = \"int\"", "int", "int", "", 1),
+    ("multiply", "type = \"int\"", "int", "int", "", 1),
+    ("divide", "type = \"int\"", "int", "int", "", 1),
+    ("minimum", "type = \"int\"", "int", "int", "", 1),
+    ("maximum", "type = \"int\"", "int", "int", "", 1),
+    ("and", "type = \"int\"", "int", "int", "", 1),
+    ("or", "type = \"int\"", "int", "int", "", 1),
+    ("xor", "type = \"int\"", "int", "int", "", 1),
+    ("sample_and_hold", "type = \"int\"", "int", "int", "", 2),
+    ("map_bb", "map = [1]", "byte", "byte", "", 1),
+    ("table", "to = \"short\"\nvalues = [1]", "byte", "short", "", 1),
+    ("convert", "type = \"int\"\nto = \"short\"", "int", "short", "", 1),
+    ("binary_slicer", "type = \"int\"\nthreshold = 0", "int", "byte", "", 1),
+    ("ulaw_encode", "type = \"int\"", "int", "byte", "", 1),
+    ("alaw_encode", "type = \"int\"", "int", "byte", "", 1),
+    ("moving_sum", "type = \"int\"\nlength = 1", "int", "int", "", 1),
+    ("fir", "type = \"int\"\ntaps = [1]", "int", "int", "1 taps<br/>", 1),
+    ("interp_fir", "type = \"int\"\ntaps = [1]", "int", "int", "1 taps<br/>", 1),
+    ("keep_one_in_n", "type = \"int\"\nn = 1", "int", "int", "", 1),
+    ("keep_m_in_n", "type = \"int\"\nm = 1\nn = 1", "int", "int", "", 1),
+    ("integrate", "type = \"int\"\nn = 1", "int", "int", "", 1),
+    ("frame_minimum", "type = \"int\"\nn = 1", "int", "int", "", 1),
+    ("frame_maximum", "type = \"int\"\nn = 1", "int", "int", "", 1),
+    ("argmax", "type = \"int\"\nn = 1", "int", "int", "", 1),
+    ("repeat", "type = \"int\"\nn = 1", "int", "int", "", 1),
+    ("insert", "type = \"int\"\nvalues = [1]\nperiod = 2", "int", "int", "", 1),
+    ("pattern", "type = \"int\"\nvalues = [1]", "int", "int", "", 1),
+    ("counter", "type = \"int\"\nn = 1", "int", "int", "", 1),
+    ("permute", "type = \"int\"\norder = [0]", "int", "int", "", 1),
+    ("interleave", "type = \"int\"\nports = 1", "int", "int", "", 1),
+    ("deinterleave", "type = \"int\"\nports = 1", "int", "int", "", 1),
+    ("stream_mux", "type = \"int\"\nlengths = [1]", "int", "int", "", 1),
+    ("head", "type = \"int\"\nn = 1", "int", "int", "n 1<br/>", 1),
+    ("skiphead", "type = \"int\"\nn = 1", "int", "int", "n 1<br/>", 1),
+    ("delay", "type = \"int\"\nn = 1", "int", "int", "n 1<br/>", 1),
+    ("pack_k_bits", "k = 1", "byte", "byte", "", 1),
+    ("unpack_k_bits", "k = 1", "byte", "byte", "", 1),
+    ("repack_bits", "k = 1\nl = 1", "byte", "byte", "", 1),
+    ("packed_to_unpacked", "type = \"int\"\nbits = 1", "int", "int", "", 1),
+    ("unpacked_to_packed", "type = \"int\"\nbits = 1", "int", "int", "", 1),
+    ("diff_encoder", "modulus = 2", "byte", "byte", "", 1),
+    ("diff_decoder", "modulus = 2", "byte", "byte", "", 1),
+    ("scrambler", "bits = 2\nmask = 1\ninit = 1", "byte", "byte", "", 1),
+    ("descrambler", "bits = 2\nmask = 1\ninit = 1", "byte", "byte", "", 1),
+    ("additive_scrambler", "bits = 2\nmask = 1\ninit = 1", "byte", "byte", "", 1),
+    ("correlate_access_code", "code = \"1\"\nthreshold = 0", "byte", "byte", "", 1),
+    (
+        "crc_append",
+        "bits = 8\npolynomial = 7\ninit = 0\nfinal_xor = 0\nn = 1",
+        "byte",
+        "byte",
+        "",
+        1,
+    ),
+    (
+        "crc_check",
+        "bits = 8\npolynomial = 7\ninit = 0\nfinal_xor = 0\nn = 1",
+        "byte",
+        "byte",
+        "",
+        1,
+    ),
+    ("state_machine", "symbols = 1\nnext = [0]\noutput = [0]\ninit = 0", "byte", "byte", "", 1),
+    (
+        "viterbi",
+        "type = \"int\"\nsymbols = 1\nnext = [0]\noutputs = 1\noutput = [0]\nsteps = 1",
+        "int",
+        "byte",
+        "",
+        1,
+    ),
 ];
 // end of these lines: KINDS
 
@@ -250,14 +273,17 @@ fn graphs_for_mermaid(rt: HostRuntime) -> Result<(), Fail> {
 
 #[test]
 fn each_kind_goes_by_its_name(rt: HostRuntime) -> Result<(), Fail> {
-    for (kind, keys, from, to, note) in KINDS {
-        let file = format!(in rt.alloc();
+    for (kind, keys, from, to, note, inputs) in KINDS {
+        let mut file = format!(in rt.alloc();
             "[[block]]\nname = \"x\"\nkind = \"{kind}\"\n{keys}\n\
 [[block]]\nname = \"in\"\nkind = \"vector_source\"\ntype = \"{from}\"\n\
 [[block]]\nname = \"out\"\nkind = \"vector_sink\"\ntype = \"{to}\"\n\
-[[connect]]\nfrom = \"in\"\nto = \"x\"\n\
 [[connect]]\nfrom = \"x\"\nto = \"out\"\n"
         )?;
+        for port in 0..inputs {
+            let text = format!(in rt.alloc(); "[[connect]]\nfrom = \"in\"\nto = \"x\"\nto_port = {port}\n")?;
+            file.push_str(text.as_str())?;
+        }
         let text = drawing(rt.alloc(), file.as_str(), Format::Mermaid)?;
         let first = format!(in rt.alloc(); "flowchart LR\n  b0[\"x<br/>{kind}<br/>{note}q ")?;
         assert!(rt; text.as_str().starts_with(first.as_str()), "{kind}: {text}");

@@ -7,7 +7,7 @@ use std::test::Fail;
 
 // Each kind with all its keys.
 // scripts/generate writes these lines from kinds.toml: KINDS
-const KINDS: [(&str, &str); 63] = [
+const KINDS: [(&str, &str); 65] = [
     ("vector_source", "type = \"short\"\ncapacity = 8\n"),
     ("vector_sink", "type = \"short\"\n"),
     ("null_sink", "type = \"short\"\n"),
@@ -43,6 +43,7 @@ const KINDS: [(&str, &str); 63] = [
     ("and", "type = \"short\"\ntags = \"one\"\nmultiple = 2\ncapacity = 8\n"),
     ("or", "type = \"short\"\ntags = \"one\"\nmultiple = 2\ncapacity = 8\n"),
     ("xor", "type = \"short\"\ntags = \"one\"\nmultiple = 2\ncapacity = 8\n"),
+    ("sample_and_hold", "type = \"short\"\ntags = \"one\"\nmultiple = 2\ncapacity = 8\n"),
     ("map_bb", "map = [0, 255]\ntags = \"one\"\nmultiple = 2\ncapacity = 8\n"),
     (
         "table",
@@ -133,6 +134,10 @@ const KINDS: [(&str, &str); 63] = [
     (
         "state_machine",
         "symbols = 2\nnext = [0, 1, 1, 0]\noutput = [0, 255, 255, 0]\ninit = 1\ntags = \"one\"\nmultiple = 2\ncapacity = 8\n",
+    ),
+    (
+        "viterbi",
+        "type = \"short\"\nsymbols = 2\nnext = [0, 1, 1, 0]\noutputs = 1024\noutput = [0, 1023, 1023, 0]\nsteps = 1\nstart = 1\nend = -1\ntags = \"one\"\nmultiple = 2\ncapacity = 8\n",
     ),
 ];
 // end of these lines: KINDS

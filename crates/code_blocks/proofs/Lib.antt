@@ -3,3 +3,4 @@ pub mod Checks
 pub mod Frames
 pub mod Bytes
 pub mod Machines
+pub mod Trellises

@@ -5,11 +5,18 @@ use Rattle.std.specs.Cmp.Lexicographic.{pointwise, same_text}
 use Rattle.std.proofs.Common.{sym}
 use Rattle.stream_model.specs.Meaning.{Meaning, IsLawful}
 use Rattle.kind_model.specs.Codes.{crc_append, crc_check, state_machine}
+use Rattle.kind_model.specs.Trellis.{viterbi}
 use Rattle.kind_laws.specs.Codes.{crc_append-lawful, crc_check-lawful, state_machine-lawful}
-use Rattle.block_kinds.specs.SameItem.{same_number}
+use Rattle.kind_laws.specs.Trellis.{viterbi-lawful}
+use denote.Enum.Bare.{sameb}
+use Rattle.stream_model.specs.contracts.vocabulary.ItemType.{the_type}
+use Rattle.block_kinds.specs.SameItem.{same_item, same_number}
+use Rattle.viterbi_decoder.specs.Same.{decoders_agree, same_trellis}
 use Rattle.code_blocks.specs.declared.crc_append.CrcAppend.{CrcAppend}
 use Rattle.code_blocks.specs.declared.crc_check.CrcCheck.{CrcCheck}
+use Rattle.viterbi_decoder.specs.Model.{trellis_of}
 use Rattle.code_blocks.specs.declared.state_machine.StateMachine.{StateMachine}
+use Rattle.code_blocks.specs.declared.viterbi.Viterbi.{Viterbi}
 use Rattle.code_blocks.specs.Rules.{same_crc, CrcsAgree}
 
 abbrev pub crc_append_of : CrcAppend → Meaning
@@ -51,3 +58,17 @@ state_machine_of-same a b e =
     let output_same = same_text a.output.items b.output.items (sym (first_so outputs (nat_eq a.start b.start) from_output)) in
     let start_same = same_number a.start b.start (second_so outputs (nat_eq a.start b.start) from_output) in
     λ i. state_machine (symbols_same i) (next_same i) (map pos (output_same i)) (start_same i)
+
+abbrev pub viterbi_of : Viterbi → Meaning
+viterbi_of b = viterbi b.item (trellis_of b.decoder)
+
+pub viterbi_of-lawful : (b : Viterbi) → IsLawful (viterbi_of b)
+viterbi_of-lawful b = viterbi-lawful b.item (trellis_of b.decoder) b.decoder.is
+
+pub viterbi_of-same : (a b : Viterbi) → (sameb the_type a.item b.item && decoders_agree a.decoder b.decoder) ≡ true → viterbi_of a ≡ viterbi_of b
+viterbi_of-same a b e =
+    let items = sameb the_type a.item b.item in
+    let decoders = decoders_agree a.decoder b.decoder in
+    let item_same = same_item a.item b.item (first_so items decoders e) in
+    let trellis_same = same_trellis a.decoder b.decoder (second_so items decoders e) in
+    λ i. viterbi (item_same i) (trellis_same i)

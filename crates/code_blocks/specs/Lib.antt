@@ -3,3 +3,4 @@ pub mod Faults
 pub mod Kinds
 pub mod Machines
 pub mod Rules
+pub mod Trellises

@@ -23,7 +23,7 @@ pub struct StateMachine {
 }
 
 // Whether these are next states of whole rows of symbols.
-fn are_states(symbols: u32, next: &[i64]) -> bool
+pub(crate) fn are_states(symbols: u32, next: &[i64]) -> bool
     requires { 1 ≤ symbols }
     ensures { IsTrue result ↔ AreStates symbols next.now }
 {
@@ -62,7 +62,7 @@ fn first_bad(symbols: u32, next: &[i64], output: &[i64], start: u32) -> Option<P
 }
 
 // States of which there are at most 4,096, in the memory that they need.
-fn narrow_states(alloc: Global, states: &[i64]) -> Result<Vec<u16>, AllocError>
+pub(crate) fn narrow_states(alloc: Global, states: &[i64]) -> Result<Vec<u16>, AllocError>
     requires { All (λ z. (pos 0 ≤ℤ z) × (z <ℤ pos 4097)) states.now }
     ensures { IfOk result (λ v. map pos v.items ≡ states.now) }
 {

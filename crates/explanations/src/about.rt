@@ -132,6 +132,11 @@ pub(crate) fn text_of(kind: KindName) -> KindText {
             "1 for 1 of each input",
             "bytes: 12 and 10 give 6",
         ),
+        KindName::SampleAndHold => (
+            "the item of its first input at the last place where the second is not 0, and 0 before there is one",
+            "1 for 1 of each input",
+            "bytes: 7 8 9 10 and 0 1 0 255 give 0 8 8 10",
+        ),
         KindName::MapBb => (
             "map[x[n]], and x[n] itself behind the end of the map",
             "1 for 1",
@@ -323,6 +328,11 @@ pub(crate) fn text_of(kind: KindName) -> KindText {
             "output[r], where r is s * symbols + x[n] modulo symbols, and the state s, `init` at first, is next[r] from then on",
             "1 for 1",
             "2, 0 2 0 2 1 3 1 3, 0 3 3 0 1 2 2 1, 0: 1 0 1 1 0 0 gives 3 1 0 2 2 3",
+        ),
+        KindName::Viterbi => (
+            "of each block, the symbols r modulo symbols of the path of rows r that lead by next[r] from state r / symbols on, for which the sum of x[outputs * i + output[r]] over steps i is the least",
+            "steps for steps * outputs",
+            "byte, 2, 0 2 0 2 1 3 1 3, 4, 0 3 3 0 1 2 2 1, 3, 0, -1: 2 1 1 0 1 0 2 1 0 1 1 2 gives 1 0 1",
         ),
     };
     KindText {

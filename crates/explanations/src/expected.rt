@@ -194,6 +194,13 @@ fn fixed_words(range: Range) -> &'static str {
         Range::States => "1 to 4096 numbers of states, `symbols` of them for each state",
         Range::Outputs => "as many numbers as `next`, each 0 to 255",
         Range::State => "the number of a state, of which `next` has `symbols` for each",
+        Range::FewStates =>
+            "1 to 4096 numbers of states, `symbols` of them for each of at most 1024 states",
+        Range::NumbersOfOutputs => "as many numbers as `next`, each 0 to less than `outputs`",
+        Range::Steps =>
+            "1 to as many that steps * outputs is at most 1024, and steps times the number of states at most 16384",
+        Range::KnownState =>
+            "the number of a state, of which `next` has `symbols` for each, or less than 0 where none is known",
         Range::Number(..) | Range::Long(_) | Range::AtLeast(..) | Range::Register(_) => "",
     }
 }
@@ -205,6 +212,7 @@ pub(crate) fn default_text(parameter: Parameter) -> &'static str {
         _ if key.is_needed() => "",
         _ if parameter == Parameter::Order => ", \"msb_first\" where it is missing",
         0 => ", 0 where it is missing",
+        -1 => ", -1 where it is missing",
         _ => ", 1 where it is missing",
     }
 }

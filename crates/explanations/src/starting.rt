@@ -21,7 +21,8 @@ pub fn is_link(kind: KindName) -> bool {
 }
 
 /// The text of a graph file to start from: a source, a block of each of these kinds, one behind the other, and a sink. Parameters that have to be there
-/// have small values, and where a kind takes no items of the type that comes, a `convert` stands before it.
+/// have small values, and where a kind takes no items of the type that comes, a `convert` stands before it. A block that has to have two inputs takes the
+/// same items at both.
 pub fn starting_graph(alloc: Global, kinds: &[KindName]) -> Result<String, AllocError> {
     let mut chain = Chain {
         blocks: String::new(alloc),
@@ -88,12 +89,16 @@ impl Chain {
         Ok(())
     }
 
-    // Adds the head of a block's table, and the connection to it.
+    // Adds the head of a block's table, and the connections to it.
     fn begin(&mut self, alloc: Global, kind: KindName, name: &str) -> Result<(), AllocError> {
         let last = self.last.as_str();
         if !last.is_empty() {
             let text = format!(in alloc; "\n[[connect]]\nfrom = \"{last}\"\nto = \"{name}\"\n")?;
             self.connects.push_str(text.as_str())?;
+            if has_two_inputs(kind) {
+                self.connects.push_str(text.as_str())?;
+                self.connects.push_str("to_port = 1\n")?;
+            }
         }
         let of = kind.text();
         let text = format!(in alloc; "\n[[block]]\nname = \"{name}\"\nkind = \"{of}\"\n")?;
@@ -137,8 +142,13 @@ fn other_type(kind: KindName, item: ItemType) -> Option<ItemType> {
 fn gives_bytes(kind: KindName) -> bool {
     matches!(
         kind,
-        KindName::BinarySlicer | KindName::UlawEncode | KindName::AlawEncode
+        KindName::BinarySlicer | KindName::UlawEncode | KindName::AlawEncode | KindName::Viterbi
     )
+}
+
+// Whether a block of the kind has two inputs, and no fewer.
+fn has_two_inputs(kind: KindName) -> bool {
+    matches!(kind, KindName::SampleAndHold)
 }
 
 fn type_value(item: ItemType) -> &'static str {
@@ -162,15 +172,24 @@ fn value_of(range: Range) -> &'static str {
         | Range::Register(_)
         | Range::High
         | Range::AtLeast(_, _)
-        | Range::ItemBits => "1",
+        | Range::ItemBits
+        | Range::Steps => "1",
         Range::Long(_) => "4",
-        Range::Switch | Range::KeptOffset | Range::ValuesOffset | Range::Threshold | Range::State =>
-            "0",
+        Range::Switch
+        | Range::KeptOffset
+        | Range::ValuesOffset
+        | Range::Threshold
+        | Range::State
+        | Range::KnownState => "0",
         Range::Period => "2",
         Range::BitOrder => "\"msb_first\"",
         Range::Code => "\"1\"",
         Range::Items | Range::TargetItems | Range::Taps | Range::Bytes | Range::Lengths => "[1]",
-        Range::Places | Range::States | Range::Outputs => "[0]",
+        Range::Places
+        | Range::States
+        | Range::Outputs
+        | Range::FewStates
+        | Range::NumbersOfOutputs => "[0]",
     }
 }
 

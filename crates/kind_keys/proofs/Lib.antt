@@ -5,4 +5,5 @@ pub mod Lists
 pub mod Clips
 pub mod Checksums
 pub mod Machines
+pub mod Trellises
 pub mod Faults

@@ -21,10 +21,10 @@ use Rattle.kind_keys.proofs.Tests.{within-decides, all_in-decides}
 use Rattle.kind_keys.proofs.Makers.{goes, stops}
 use Rattle.kind_keys.proofs.Lists.{all_places-decides}
 
-eq-decides : (m n : ℕ) → Decides (nat_eq m n) (m ≡ n)
+pub eq-decides : (m n : ℕ) → Decides (nat_eq m n) (m ≡ n)
 eq-decides m n = (λ h. grind arith, λ h. grind arith)
 
-states-decides : (symbols : ℕ) (zs : List ℤ) → Decides (are_states symbols zs) (AreStates symbols zs)
+pub states-decides : (symbols : ℕ) (zs : List ℤ) → Decides (are_states symbols zs) (AreStates symbols zs)
 states-decides symbols zs =
     let states = length zs / symbols in
     Decides-like (are_states symbols zs)
@@ -79,7 +79,7 @@ too_many symbols zs rest long = stops (are_states symbols zs) Next rest (states-
 too_many_outputs : (next zs : List ℤ) (rest : Result Meaning Parameter) → length next ≤ 4096 → 4096 < length zs → needs (are_outputs next zs) Output rest ≡ Err Output
 too_many_outputs next zs rest few long = stops (are_outputs next zs) Output rest (outputs-decides next zs) (λ are. let same = are.0 in absurd (omega arith))
 
-long_cut : (zs : List ℤ) → 4096 < length zs → 4096 < length (take 4097 zs)
+pub long_cut : (zs : List ℤ) → 4096 < length zs → 4096 < length (take 4097 zs)
 long_cut zs h = let n = length-take-le 4097 zs (omega arith) in omega arith
 
 -- so a machine is the same of tables that are cut behind 4,097 numbers

@@ -1,5 +1,5 @@
 -- The keys of graph files: their texts, what may stand at them, and what stands for a missing one.
-use Rattle.std.specs.Prelude.{ℕ, ℤ, pos, List, Bool, true, false, codes}
+use Rattle.std.specs.Prelude.{ℕ, ℤ, pos, negsuc, List, Bool, true, false, codes}
 use Rattle.parameters.specs.declared.fault.Parameter.{Parameter}
 use Rattle.parameters.specs.declared.fault.Parameter.TheVariants as parameters
 use Rattle.parameters.specs.Fault.{parameter_text}
@@ -74,6 +74,8 @@ is_needed_parameter parameters.Decimation = false
 is_needed_parameter parameters.Interpolation = false
 is_needed_parameter parameters.Order = false
 is_needed_parameter parameters.Offset = false
+is_needed_parameter parameters.Start = false
+is_needed_parameter parameters.End = false
 is_needed_parameter _ = true
 
 -- whether a table must have the key
@@ -102,6 +104,8 @@ is_needed keys.MarkValue = true
 abbrev pub missing_parameter : Parameter → ℤ
 missing_parameter parameters.Decimation = pos 1
 missing_parameter parameters.Interpolation = pos 1
+missing_parameter parameters.Start = negsuc 0
+missing_parameter parameters.End = negsuc 0
 missing_parameter _ = pos 0
 
 -- the same, of any key

@@ -1,7 +1,7 @@
 -- The parameters of each kind.
 use Rattle.std.specs.Prelude.{◌^◌, List, [], ◌∷◌}
 use Rattle.parameters.specs.declared.fault.Parameter.{Parameter}
-use Rattle.parameters.specs.declared.fault.Parameter.TheVariants.{Value, Factor, Shift, Map, To, Length, Taps, Decimation, Interpolation, K, Modulus, Bits, Mask, Init, N, Ports, Lengths, Low, High, On, Values, Code, Threshold, Order, Places, L, M, Offset, Period, Polynomial, FinalXor, Symbols, Next, Output}
+use Rattle.parameters.specs.declared.fault.Parameter.TheVariants.{Value, Factor, Shift, Map, To, Length, Taps, Decimation, Interpolation, K, Modulus, Bits, Mask, Init, N, Ports, Lengths, Low, High, On, Values, Code, Threshold, Order, Places, L, M, Offset, Period, Polynomial, FinalXor, Symbols, Next, Output, Outputs, Steps, Start, End}
 use Rattle.kinds.specs.declared.kind_name.KindName.{KindName}
 use Rattle.kinds.specs.declared.kind_name.KindName.TheVariants as kinds
 use Rattle.kind_keys.specs.declared.range.ItemTypes.{ItemTypes}
@@ -88,4 +88,7 @@ parameters_of kinds.CorrelateAccessCode = (Code, ranges.Code) ∷ (Threshold, ra
 parameters_of kinds.CrcAppend = checksum_parameters
 parameters_of kinds.CrcCheck = checksum_parameters
 parameters_of kinds.StateMachine = (Symbols, ranges.Number 1 4096) ∷ (Next, ranges.States) ∷ (Output, ranges.Outputs) ∷ (Init, ranges.State) ∷ []
+parameters_of kinds.Viterbi =
+    (Symbols, ranges.Number 1 256) ∷ (Next, ranges.FewStates) ∷ (Outputs, ranges.Number 1 1024) ∷ (Output, ranges.NumbersOfOutputs) ∷ (Steps, ranges.Steps) ∷ (Start, ranges.KnownState)
+    ∷ (End, ranges.KnownState) ∷ []
 parameters_of _ = []

@@ -4,12 +4,13 @@ use Rattle.toml.specs.Data.{Members}
 use Rattle.stream_model.specs.declared.vocabulary.ItemType.{ItemType}
 use Rattle.stream_model.specs.Meaning.{Meaning}
 use Rattle.kind_model.specs.Ends.{vector_source, vector_sink, null_sink}
-use Rattle.kind_model.specs.Math.{add_const, multiply_const, and_const, or_const, xor_const, scale, clip, abs, mute, add, sub, multiply, minimum, maximum, and_of, or_of, xor_of, not_of, convert, map_bb, table, moving_sum, divide_const, divide, binary_slicer, ulaw_encode, alaw_encode}
+use Rattle.kind_model.specs.Math.{add_const, multiply_const, and_const, or_const, xor_const, scale, clip, abs, mute, add, sub, multiply, minimum, maximum, and_of, or_of, xor_of, sample_and_hold, not_of, convert, map_bb, table, moving_sum, divide_const, divide, binary_slicer, ulaw_encode, alaw_encode}
 use Rattle.kind_model.specs.Filters.{fir, interp_fir}
 use Rattle.kind_model.specs.Rates.{keep_one_in_n, keep_m_in_n, integrate, repeat, insert, permute, interleave, deinterleave, stream_mux, head, skiphead, delay, frame_minimum, frame_maximum, argmax, pattern, counter}
 use Rattle.kind_model.specs.Bits.{pack_k_bits, unpack_k_bits, diff_decoder, diff_encoder, scrambler, descrambler, additive_scrambler}
 use Rattle.kind_model.specs.BitStreams.{repack_bits, packed_to_unpacked, unpacked_to_packed, correlate_access_code}
 use Rattle.kind_model.specs.Codes.{crc_append, crc_check, state_machine}
+use Rattle.kind_model.specs.Trellis.{Trellis, viterbi}
 use Rattle.kind_model.specs.declared.vocabulary.Checksum.{Checksum}
 use Rattle.rate_blocks.specs.Lengths.{unsigned}
 use Rattle.parameters.specs.declared.fault.Parameter.{Parameter}
@@ -21,7 +22,7 @@ use Rattle.kind_keys.specs.declared.range.ItemTypes.TheVariants as types
 use Rattle.kind_keys.specs.declared.range.Range.{Range}
 use Rattle.kinds.specs.declared.kind_name.KindName.{KindName}
 use Rattle.kinds.specs.declared.kind_name.KindName.TheVariants as kinds
-use Rattle.kind_keys.specs.Tables.{number_at, count_at, small_at, numbers_at, text_at, type_at, type_or_byte, order_at, order_or_msb, code_at}
+use Rattle.kind_keys.specs.Tables.{number_at, count_at, small_at, known_at, numbers_at, text_at, type_at, type_or_byte, order_at, order_or_msb, code_at}
 use Rattle.kind_keys.specs.Ranges.{parameter, lies_in, are_among}
 use Rattle.kind_keys.specs.KindParameters.{types_of, parameters_of}
 
@@ -54,6 +55,7 @@ keeps_list kinds.Permute = true
 keeps_list kinds.CrcAppend = true
 keeps_list kinds.CrcCheck = true
 keeps_list kinds.StateMachine = true
+keeps_list kinds.Viterbi = true
 keeps_list _ = false
 
 -- what follows, where a parameter passes its test
@@ -75,6 +77,19 @@ checksum_at ms =
       init = count_at ms (parameter parameters.Init);
       final_xor = count_at ms (parameter parameters.FinalXor);
       order = order_or_msb (order_at ms (parameter parameters.Order));
+    }
+
+-- the trellis that a table describes
+abbrev pub trellis_at : Members → Trellis
+trellis_at ms =
+    record {
+      symbols = small_at ms (parameter parameters.Symbols);
+      next = unsigned (numbers_at ms (parameter parameters.Next));
+      output = unsigned (numbers_at ms (parameter parameters.Output));
+      outputs = small_at ms (parameter parameters.Outputs);
+      steps = small_at ms (parameter parameters.Steps);
+      start = known_at ms (parameter parameters.Start);
+      end = known_at ms (parameter parameters.End);
     }
 
 -- what a block of the kind on items of a type means with the parameters of a table
@@ -102,6 +117,7 @@ meant kinds.Maximum t ms = maximum t
 meant kinds.And t ms = and_of t
 meant kinds.Or t ms = or_of t
 meant kinds.Xor t ms = xor_of t
+meant kinds.SampleAndHold t ms = sample_and_hold t
 meant kinds.MapBb t ms = map_bb (numbers_at ms (parameter parameters.Map))
 meant kinds.Table t ms = table (type_or_byte (type_at ms (parameter parameters.To))) (numbers_at ms (parameter parameters.Values))
 meant kinds.Convert t ms = convert t (type_or_byte (type_at ms (parameter parameters.To)))
@@ -143,6 +159,7 @@ meant kinds.CrcAppend t ms = crc_append (small_at ms (parameter parameters.N)) (
 meant kinds.CrcCheck t ms = crc_check (small_at ms (parameter parameters.N)) (checksum_at ms)
 meant kinds.StateMachine t ms =
     state_machine (small_at ms (parameter parameters.Symbols)) (unsigned (numbers_at ms (parameter parameters.Next))) (numbers_at ms (parameter parameters.Output)) (small_at ms (parameter parameters.Init))
+meant kinds.Viterbi t ms = viterbi t (trellis_at ms)
 
 -- the same, where the type and the parameters are such as the kind takes; or the first of them that is bad
 abbrev pub made_of : KindName → ItemType → Members → Result Meaning Parameter

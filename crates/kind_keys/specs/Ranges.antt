@@ -1,5 +1,5 @@
 -- What a parameter of a block may be.
-use Rattle.std.specs.Prelude.{ℕ, ◌+◌, ◌-◌, ◌*◌, ◌/◌, ◌^◌, ℤ, pos, int_le, int_lt, List, [], ◌∷◌, length, sum, Bool, true, false, ◌&&◌, not, nat_eq, nat_le, nat_lt, is_some}
+use Rattle.std.specs.Prelude.{ℕ, ◌+◌, ◌-◌, ◌*◌, ◌/◌, ◌^◌, ℤ, pos, int_le, int_lt, List, [], ◌∷◌, length, sum, Bool, true, false, ◌&&◌, not, nat_eq, nat_le, nat_lt, Option, Some, None, is_some}
 use Rattle.std.specs.List.{list_all}
 use Rattle.std.specs.Ordering.{int_eq}
 use Rattle.toml.specs.Data.{Members}
@@ -15,7 +15,7 @@ use Rattle.kind_keys.specs.declared.range.ItemTypes.{ItemTypes}
 use Rattle.kind_keys.specs.declared.range.ItemTypes.TheVariants as types
 use Rattle.kind_keys.specs.declared.range.Range.{Range}
 use Rattle.kind_keys.specs.declared.range.Range.TheVariants as ranges
-use Rattle.kind_keys.specs.Tables.{number_at, count_at, small_at, numbers_at, text_at, type_at, type_or_byte, order_at}
+use Rattle.kind_keys.specs.Tables.{number_at, count_at, small_at, known_at, numbers_at, text_at, type_at, type_or_byte, order_at}
 
 -- a parameter as a key
 abbrev pub parameter : Parameter → Key
@@ -59,6 +59,20 @@ are_outputs next zs = nat_eq (length zs) (length next) && list_all (is_in Byte) 
 
 abbrev pub is_state : ℕ → List ℤ → ℕ → Bool
 is_state symbols next n = nat_lt n (length next / symbols)
+
+-- next states of at most 1,024 states; a number of an output for each of them; steps of a block; and a state that may be not known
+abbrev pub are_few_states : ℕ → List ℤ → Bool
+are_few_states symbols zs = are_states symbols zs && nat_le (length zs / symbols) 1024
+
+abbrev pub are_numbers_below : ℕ → List ℤ → List ℤ → Bool
+are_numbers_below outputs next zs = nat_eq (length zs) (length next) && list_all (λ z. int_le (pos 0) z && int_lt z (pos outputs)) zs
+
+abbrev pub are_steps : ℕ → ℕ → ℕ → Bool
+are_steps steps outputs states = nat_le 1 steps && (nat_le (steps * outputs) 1024 && nat_le (steps * states) 16384)
+
+abbrev pub is_known_state : ℕ → List ℤ → Option ℕ → Bool
+is_known_state symbols next None = true
+is_known_state symbols next (Some s) = is_state symbols next s
 
 -- a text has 1 to 64 digits, each 0 or 1
 abbrev pub is_code : List ℕ → Bool
@@ -106,3 +120,8 @@ lies_in ranges.Lengths t ms p = are_lengths (numbers_at ms (parameter p))
 lies_in ranges.States t ms p = are_states (small_at ms (parameter parameters.Symbols)) (numbers_at ms (parameter p))
 lies_in ranges.Outputs t ms p = are_outputs (numbers_at ms (parameter parameters.Next)) (numbers_at ms (parameter p))
 lies_in ranges.State t ms p = is_state (small_at ms (parameter parameters.Symbols)) (numbers_at ms (parameter parameters.Next)) (small_at ms (parameter p))
+lies_in ranges.FewStates t ms p = are_few_states (small_at ms (parameter parameters.Symbols)) (numbers_at ms (parameter p))
+lies_in ranges.NumbersOfOutputs t ms p = are_numbers_below (small_at ms (parameter parameters.Outputs)) (numbers_at ms (parameter parameters.Next)) (numbers_at ms (parameter p))
+lies_in ranges.Steps t ms p =
+    are_steps (small_at ms (parameter p)) (small_at ms (parameter parameters.Outputs)) (length (numbers_at ms (parameter parameters.Next)) / small_at ms (parameter parameters.Symbols))
+lies_in ranges.KnownState t ms p = is_known_state (small_at ms (parameter parameters.Symbols)) (numbers_at ms (parameter parameters.Next)) (known_at ms (parameter p))

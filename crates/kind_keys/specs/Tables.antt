@@ -55,6 +55,14 @@ count_at ms key = count_of (number_at ms key)
 abbrev pub small_at : Members → Key → ℕ
 small_at ms key = min (count_at ms key) (2 ^ 32 - 1)
 
+-- the number of a state in 32 bits; none where the number is less than 0
+abbrev pub known_of : ℤ → ℕ → Option ℕ
+known_of (pos n) s = Some s
+known_of (negsuc n) s = None
+
+abbrev pub known_at : Members → Key → Option ℕ
+known_at ms key = known_of (number_at ms key) (small_at ms key)
+
 -- the items of the array at a key; none where there is none
 abbrev pub items_in : Option Items → Items
 items_in None = no_items

@@ -148,6 +148,7 @@ impl Key {
     {
         match self {
             Key::Parameter(Parameter::Decimation | Parameter::Interpolation) | Key::Multiple => 1,
+            Key::Parameter(Parameter::Start | Parameter::End) => -1,
             Key::Capacity => 4096,
             _ => 0,
         }
@@ -180,5 +181,7 @@ fn is_needed_parameter(parameter: Parameter) -> bool
             | Parameter::Interpolation
             | Parameter::Order
             | Parameter::Offset
+            | Parameter::Start
+            | Parameter::End
     )
 }

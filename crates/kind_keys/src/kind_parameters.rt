@@ -33,7 +33,7 @@ pub fn types_of(kind: KindName) -> ItemTypes
 /// The parameters of a block of the kind, in the order in which they are tested, and what each may be.
 pub fn parameters_of(kind: KindName) -> &'static [(Parameter, Range)]
     ensures rows { result.now ≡ parameters_of kind }
-    ensures few { length result.now ≤ 6 }
+    ensures few { length result.now ≤ 7 }
 {
     match kind {
         KindName::VectorSource
@@ -43,6 +43,7 @@ pub fn parameters_of(kind: KindName) -> &'static [(Parameter, Range)]
         | KindName::And
         | KindName::Or
         | KindName::Xor
+        | KindName::SampleAndHold
         | KindName::Not
         | KindName::Abs
         | KindName::Sub
@@ -145,6 +146,15 @@ pub fn parameters_of(kind: KindName) -> &'static [(Parameter, Range)]
             (Parameter::Next, Range::States),
             (Parameter::Output, Range::Outputs),
             (Parameter::Init, Range::State),
+        ],
+        KindName::Viterbi => &[
+            (Parameter::Symbols, Range::Number(1, 256)),
+            (Parameter::Next, Range::FewStates),
+            (Parameter::Outputs, Range::Number(1, 1024)),
+            (Parameter::Output, Range::NumbersOfOutputs),
+            (Parameter::Steps, Range::Steps),
+            (Parameter::Start, Range::KnownState),
+            (Parameter::End, Range::KnownState),
         ],
     }
 }

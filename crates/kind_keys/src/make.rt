@@ -9,7 +9,7 @@ ghost use Rattle.kinds.specs.declared.kind_name.KindName.TheVariants as kinds;
 
 use crate::code::{code_of, is_code};
 use crate::key::Key;
-use crate::make_codes::{make_crc_append, make_crc_check, make_state_machine};
+use crate::make_codes::{make_crc_append, make_crc_check, make_state_machine, make_viterbi};
 use crate::make_lists::{
     make_fir, make_insert, make_interp_fir, make_map_bb, make_pattern, make_permute,
     make_stream_mux, make_table,
@@ -25,7 +25,7 @@ use kinds::{Kind, KindName, NullSink, VectorSink, VectorSource};
 use math_blocks::{
     Abs, Add, AddConst, AlawEncode, And, AndConst, BinarySlicer, Clip, Convert, Divide,
     DivideConst, Maximum, Minimum, MovingSum, Multiply, MultiplyConst, Mute, Not, Or, OrConst,
-    Scale, Sub, UlawEncode, Xor, XorConst,
+    SampleAndHold, Scale, Sub, UlawEncode, Xor, XorConst,
 };
 use parameters::{ParamFault, Parameter};
 use rate_blocks::{
@@ -96,6 +96,7 @@ fn make_of(alloc: Global, kind: KindName, item: ItemType, table: &Table) -> Resu
         KindName::And => Ok(Kind::And(And::new(item))),
         KindName::Or => Ok(Kind::Or(Or::new(item))),
         KindName::Xor => Ok(Kind::Xor(Xor::new(item))),
+        KindName::SampleAndHold => Ok(Kind::SampleAndHold(SampleAndHold::new(item))),
         KindName::Not => Ok(Kind::Not(Not::new(item))),
         KindName::MapBb => make_map_bb(alloc, table),
         KindName::Table => make_table(alloc, table),
@@ -135,6 +136,7 @@ fn make_of(alloc: Global, kind: KindName, item: ItemType, table: &Table) -> Resu
         KindName::CrcAppend => make_crc_append(alloc, table),
         KindName::CrcCheck => make_crc_check(alloc, table),
         KindName::StateMachine => make_state_machine(alloc, table),
+        KindName::Viterbi => make_viterbi(alloc, item, table),
         KindName::KeepOneInN => Ok(Kind::KeepOneInN(KeepOneInN::new(
             item,
             wide(table, Parameter::N),

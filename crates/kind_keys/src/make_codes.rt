@@ -9,8 +9,9 @@ ghost use Rattle.stream_model.specs.declared.vocabulary.ItemType.TheVariants as 
 ghost use Rattle.kinds.specs.declared.kind_name.KindName.TheVariants as kinds;
 ghost use Rattle.kind_keys.specs.declared.key.Key.TheVariants as key;
 
-use crate::parameter_values::{bit_order, count, long_numbers, small, wide};
-use code_blocks::{Checksum, CrcAppend, CrcCheck, StateMachine};
+use crate::parameter_values::{bit_order, count, known, long_numbers, small, wide};
+use code_blocks::{Checksum, CrcAppend, CrcCheck, StateMachine, Trellis, Viterbi};
+use items::ItemType;
 use kinds::Kind;
 use parameters::{ParamFault, Parameter};
 use std::alloc::Global;
@@ -65,6 +66,27 @@ pub(crate) fn make_state_machine(alloc: Global, table: &Table) -> Result<Kind, P
     let output = long_numbers(table, Parameter::Output);
     match StateMachine::new(alloc, symbols, &next, &output, start) {
         Ok(block) => Ok(Kind::StateMachine(block)),
+        Err(fault) => Err(fault),
+    }
+}
+
+pub(crate) fn make_viterbi(alloc: Global, item: ItemType, table: &Table) -> Result<Kind, ParamFault>
+    ensures ok { IfOk result (λ block. made_of kinds.Viterbi item (table_view table.now) ≡ Ok (meaning_of block)) }
+    ensures bad { IfErr result (IsBad true (made_of kinds.Viterbi item (table_view table.now))) }
+{
+    let next = long_numbers(table, Parameter::Next);
+    let output = long_numbers(table, Parameter::Output);
+    let trellis = Trellis {
+        symbols: small(table, Parameter::Symbols),
+        next: &next,
+        outputs: small(table, Parameter::Outputs),
+        output: &output,
+        steps: small(table, Parameter::Steps),
+        start: known(table, Parameter::Start),
+        end: known(table, Parameter::End),
+    };
+    match Viterbi::new(alloc, item, &trellis) {
+        Ok(block) => Ok(Kind::Viterbi(block)),
         Err(fault) => Err(fault),
     }
 }

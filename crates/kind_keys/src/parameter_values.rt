@@ -37,6 +37,13 @@ pub(crate) fn wide(table: &Table, parameter: Parameter) -> u64
     u64::from(small(table, parameter))
 }
 
+/// The state at a parameter; none where the number is less than 0.
+pub(crate) fn known(table: &Table, parameter: Parameter) -> Option<u32>
+    ensures { result ≡ tables.known_at (table_view table.now) (key.Parameter parameter) }
+{
+    (number(table, parameter) >= 0).then_some(small(table, parameter))
+}
+
 /// The list at a parameter, cut behind what is too long for every kind.
 pub(crate) fn numbers(table: &Table, parameter: Parameter) -> ArrayVec<i64, 257>
     ensures { result.items ≡ take 257 (tables.numbers_at (table_view table.now) (key.Parameter parameter)) }

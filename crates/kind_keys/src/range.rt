@@ -66,4 +66,12 @@ pub enum Range {
     Outputs,
     /// The number of a state, of which there are as many as rows of `symbols` in `next`.
     State,
+    /// 1 to 4,096 numbers of states, as many for each of at most 1,024 states as the parameter `symbols` says.
+    FewStates,
+    /// A number for each number of the parameter `next`, less than the parameter `outputs`.
+    NumbersOfOutputs,
+    /// At least 1, and so that a block has at most 1,024 metrics, `outputs` for each step, and 16,384 choices, one for each step and state.
+    Steps,
+    /// The number of a state, as `State`, or less than 0 where none is known.
+    KnownState,
 }

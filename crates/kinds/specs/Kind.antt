@@ -3,7 +3,7 @@ use Rattle.std.specs.Prelude.{◌≡◌, true}
 use Rattle.stream_model.specs.Meaning.{Meaning, IsLawful}
 use Rattle.kinds.specs.contracts.kind.KindPartialEq.TheImpl as equality
 use Rattle.kinds.specs.declared.kind.Kind.{Kind}
-use Rattle.kinds.specs.declared.kind.Kind.TheVariants.{VectorSource, VectorSink, NullSink, AddConst, MultiplyConst, Scale, Add, And, Or, Xor, Not, Convert, MapBb, MovingSum, Fir, InterpFir, KeepOneInN, Integrate, Repeat, Interleave, Deinterleave, StreamMux, Head, SkipHead, Delay, PackKBits, UnpackKBits, DiffDecoder, DiffEncoder, Scrambler, Descrambler, AdditiveScrambler, AndConst, OrConst, XorConst, Clip, Abs, Mute, Multiply, Minimum, Maximum, Table, KeepMInN, Insert, Permute, RepackBits, PackedToUnpacked, UnpackedToPacked, CorrelateAccessCode, CrcAppend, CrcCheck, StateMachine, Sub, DivideConst, Divide, BinarySlicer, UlawEncode, AlawEncode, FrameMinimum, FrameMaximum, Argmax, Pattern, Counter}
+use Rattle.kinds.specs.declared.kind.Kind.TheVariants.{VectorSource, VectorSink, NullSink, AddConst, MultiplyConst, Scale, Add, And, Or, Xor, Not, Convert, MapBb, MovingSum, Fir, InterpFir, KeepOneInN, Integrate, Repeat, Interleave, Deinterleave, StreamMux, Head, SkipHead, Delay, PackKBits, UnpackKBits, DiffDecoder, DiffEncoder, Scrambler, Descrambler, AdditiveScrambler, AndConst, OrConst, XorConst, Clip, Abs, Mute, Multiply, Minimum, Maximum, Table, KeepMInN, Insert, Permute, RepackBits, PackedToUnpacked, UnpackedToPacked, CorrelateAccessCode, CrcAppend, CrcCheck, StateMachine, Viterbi, SampleAndHold, Sub, DivideConst, Divide, BinarySlicer, UlawEncode, AlawEncode, FrameMinimum, FrameMaximum, Argmax, Pattern, Counter}
 use Rattle.kinds.specs.Ends.{source_meaning}
 use Rattle.math_blocks.specs.Kinds.{scale_of, convert_of, map_bb_of, moving_sum_of, constant-same, scale-same, convert-same, map_bb_of-lawful, map_bb-same, clip_of, clip-same, mute_of, mute-same, table_of, table_of-lawful, table-same, binary_slicer_of, binary_slicer-same}
 use Rattle.math_blocks.specs.Joined.{joined-same}
@@ -11,14 +11,14 @@ use Rattle.fir_blocks.specs.Kinds.{filter_of, filter-same}
 use Rattle.rate_blocks.specs.Kinds.{counted_of}
 use Rattle.rate_blocks.specs.Mux.{interleave_of, deinterleave_of, stream_mux_of, interleave_of-lawful, deinterleave_of-lawful, stream_mux_of-lawful, stream_mux_of-same}
 use Rattle.bit_blocks.specs.Kinds.{k_bits_of, diff_decoder_of, diff_encoder_of, register_block_of, some_modulus, same_register, repacking_of, repacking_of-lawful, repacking_of-same, correlate_access_code_of, correlate_access_code-same}
-use Rattle.code_blocks.specs.Kinds.{crc_append_of, crc_append_of-lawful, crc_append_of-same, crc_check_of, crc_check_of-lawful, crc_check_of-same, state_machine_of, state_machine_of-lawful, state_machine_of-same}
+use Rattle.code_blocks.specs.Kinds.{crc_append_of, crc_append_of-lawful, crc_append_of-same, crc_check_of, crc_check_of-lawful, crc_check_of-same, state_machine_of, state_machine_of-lawful, state_machine_of-same, viterbi_of, viterbi_of-lawful, viterbi_of-same}
 use Rattle.kind_laws.specs.Ends.{vector_source-lawful, vector_sink-lawful, null_sink-lawful}
-use Rattle.kind_laws.specs.Math.{add_const-lawful, multiply_const-lawful, scale-lawful, add-lawful, and_of-lawful, or_of-lawful, xor_of-lawful, not_of-lawful, convert-lawful, moving_sum-lawful, and_const-lawful, or_const-lawful, xor_const-lawful, clip-lawful, abs-lawful, mute-lawful, multiply-lawful, minimum-lawful, maximum-lawful, sub-lawful, divide_const-lawful, divide-lawful, binary_slicer-lawful, ulaw_encode-lawful, alaw_encode-lawful}
+use Rattle.kind_laws.specs.Math.{add_const-lawful, multiply_const-lawful, scale-lawful, add-lawful, and_of-lawful, or_of-lawful, xor_of-lawful, sample_and_hold-lawful, not_of-lawful, convert-lawful, moving_sum-lawful, and_const-lawful, or_const-lawful, xor_const-lawful, clip-lawful, abs-lawful, mute-lawful, multiply-lawful, minimum-lawful, maximum-lawful, sub-lawful, divide_const-lawful, divide-lawful, binary_slicer-lawful, ulaw_encode-lawful, alaw_encode-lawful}
 use Rattle.kind_laws.specs.Filters.{fir-lawful, interp_fir-lawful}
 use Rattle.kind_laws.specs.Rates.{keep_one_in_n-lawful, integrate-lawful, repeat-lawful, head-lawful, skiphead-lawful, delay-lawful, frame_minimum-lawful, frame_maximum-lawful, argmax-lawful, counter-lawful}
 use Rattle.kind_laws.specs.Bits.{pack_k_bits-lawful, unpack_k_bits-lawful, diff_decoder-lawful, diff_encoder-lawful, scrambler-lawful, descrambler-lawful, additive_scrambler-lawful}
 use Rattle.kind_model.specs.Ends.{vector_source, vector_sink, null_sink}
-use Rattle.kind_model.specs.Math.{add_const, multiply_const, add, and_of, or_of, xor_of, not_of, moving_sum, and_const, or_const, xor_const, abs, multiply, minimum, maximum, sub, divide_const, divide, ulaw_encode, alaw_encode}
+use Rattle.kind_model.specs.Math.{add_const, multiply_const, add, and_of, or_of, xor_of, sample_and_hold, not_of, moving_sum, and_const, or_const, xor_const, abs, multiply, minimum, maximum, sub, divide_const, divide, ulaw_encode, alaw_encode}
 use Rattle.kind_model.specs.Filters.{fir, interp_fir}
 use Rattle.kind_model.specs.Rates.{keep_one_in_n, integrate, repeat, interleave, deinterleave, head, skiphead, delay, frame_minimum, frame_maximum, argmax, counter}
 use Rattle.kind_model.specs.Bits.{pack_k_bits, unpack_k_bits, diff_decoder, diff_encoder, scrambler, descrambler, additive_scrambler}
@@ -53,6 +53,7 @@ meaning_of (Maximum b) = maximum b.item
 meaning_of (And b) = and_of b.item
 meaning_of (Or b) = or_of b.item
 meaning_of (Xor b) = xor_of b.item
+meaning_of (SampleAndHold b) = sample_and_hold b.item
 meaning_of (MapBb b) = map_bb_of b
 meaning_of (Table b) = table_of b
 meaning_of (Convert b) = convert_of b
@@ -93,6 +94,7 @@ meaning_of (CorrelateAccessCode b) = correlate_access_code_of b
 meaning_of (CrcAppend b) = crc_append_of b
 meaning_of (CrcCheck b) = crc_check_of b
 meaning_of (StateMachine b) = state_machine_of b
+meaning_of (Viterbi b) = viterbi_of b
 
 pub meaning_of-lawful : (b : Kind) → IsLawful (meaning_of b)
 meaning_of-lawful (VectorSource b) = vector_source-lawful b.item
@@ -118,6 +120,7 @@ meaning_of-lawful (Maximum b) = maximum-lawful b.item
 meaning_of-lawful (And b) = and_of-lawful b.item
 meaning_of-lawful (Or b) = or_of-lawful b.item
 meaning_of-lawful (Xor b) = xor_of-lawful b.item
+meaning_of-lawful (SampleAndHold b) = sample_and_hold-lawful b.item
 meaning_of-lawful (MapBb b) = map_bb_of-lawful b
 meaning_of-lawful (Table b) = table_of-lawful b
 meaning_of-lawful (Convert b) = convert-lawful b.item b.to
@@ -158,6 +161,7 @@ meaning_of-lawful (CorrelateAccessCode b) = correlate_access_code-lawful b.code 
 meaning_of-lawful (CrcAppend b) = crc_append_of-lawful b
 meaning_of-lawful (CrcCheck b) = crc_check_of-lawful b
 meaning_of-lawful (StateMachine b) = state_machine_of-lawful b
+meaning_of-lawful (Viterbi b) = viterbi_of-lawful b
 
 -- blocks that the derived test finds equal mean the same
 pub meaning_of-same : (a b : Kind) → equality.ghosts.eq a b ≡ true → meaning_of a ≡ meaning_of b
@@ -184,6 +188,7 @@ meaning_of-same (Maximum a) (Maximum b) e = joined-same maximum a b e
 meaning_of-same (And a) (And b) e = joined-same and_of a b e
 meaning_of-same (Or a) (Or b) e = joined-same or_of a b e
 meaning_of-same (Xor a) (Xor b) e = joined-same xor_of a b e
+meaning_of-same (SampleAndHold a) (SampleAndHold b) e = ap sample_and_hold (same_item a.item b.item e)
 meaning_of-same (MapBb a) (MapBb b) e = map_bb-same a b e
 meaning_of-same (Table a) (Table b) e = table-same a b e
 meaning_of-same (Convert a) (Convert b) e = convert-same a b e
@@ -224,4 +229,5 @@ meaning_of-same (CorrelateAccessCode a) (CorrelateAccessCode b) e = correlate_ac
 meaning_of-same (CrcAppend a) (CrcAppend b) e = crc_append_of-same a b e
 meaning_of-same (CrcCheck a) (CrcCheck b) e = crc_check_of-same a b e
 meaning_of-same (StateMachine a) (StateMachine b) e = state_machine_of-same a b e
+meaning_of-same (Viterbi a) (Viterbi b) e = viterbi_of-same a b e
 meaning_of-same _ _ e = absurd (false≢true e)

@@ -30,6 +30,7 @@ kind_text kinds.Maximum = codes "maximum"
 kind_text kinds.And = codes "and"
 kind_text kinds.Or = codes "or"
 kind_text kinds.Xor = codes "xor"
+kind_text kinds.SampleAndHold = codes "sample_and_hold"
 kind_text kinds.MapBb = codes "map_bb"
 kind_text kinds.Table = codes "table"
 kind_text kinds.Convert = codes "convert"
@@ -70,19 +71,20 @@ kind_text kinds.CorrelateAccessCode = codes "correlate_access_code"
 kind_text kinds.CrcAppend = codes "crc_append"
 kind_text kinds.CrcCheck = codes "crc_check"
 kind_text kinds.StateMachine = codes "state_machine"
+kind_text kinds.Viterbi = codes "viterbi"
 
 -- all kinds
 abbrev pub all_kinds : List KindName
 all_kinds =
     kinds.VectorSource ∷ kinds.VectorSink ∷ kinds.NullSink ∷ kinds.AddConst ∷ kinds.MultiplyConst ∷ kinds.DivideConst
     ∷ kinds.AndConst ∷ kinds.OrConst ∷ kinds.XorConst ∷ kinds.Scale ∷ kinds.Clip ∷ kinds.Abs ∷ kinds.Not ∷ kinds.Mute ∷ kinds.Add
-    ∷ kinds.Sub ∷ kinds.Multiply ∷ kinds.Divide ∷ kinds.Minimum ∷ kinds.Maximum ∷ kinds.And ∷ kinds.Or ∷ kinds.Xor ∷ kinds.MapBb
+    ∷ kinds.Sub ∷ kinds.Multiply ∷ kinds.Divide ∷ kinds.Minimum ∷ kinds.Maximum ∷ kinds.And ∷ kinds.Or ∷ kinds.Xor ∷ kinds.SampleAndHold ∷ kinds.MapBb
     ∷ kinds.Table ∷ kinds.Convert ∷ kinds.BinarySlicer ∷ kinds.UlawEncode ∷ kinds.AlawEncode ∷ kinds.MovingSum ∷ kinds.Fir
     ∷ kinds.InterpFir ∷ kinds.KeepOneInN ∷ kinds.KeepMInN ∷ kinds.Integrate ∷ kinds.FrameMinimum ∷ kinds.FrameMaximum ∷ kinds.Argmax
     ∷ kinds.Repeat ∷ kinds.Insert ∷ kinds.Pattern ∷ kinds.Counter ∷ kinds.Permute ∷ kinds.Interleave ∷ kinds.Deinterleave
     ∷ kinds.StreamMux ∷ kinds.Head ∷ kinds.SkipHead ∷ kinds.Delay ∷ kinds.PackKBits ∷ kinds.UnpackKBits ∷ kinds.RepackBits
     ∷ kinds.PackedToUnpacked ∷ kinds.UnpackedToPacked ∷ kinds.DiffEncoder ∷ kinds.DiffDecoder ∷ kinds.Scrambler ∷ kinds.Descrambler
-    ∷ kinds.AdditiveScrambler ∷ kinds.CorrelateAccessCode ∷ kinds.CrcAppend ∷ kinds.CrcCheck ∷ kinds.StateMachine ∷ []
+    ∷ kinds.AdditiveScrambler ∷ kinds.CorrelateAccessCode ∷ kinds.CrcAppend ∷ kinds.CrcCheck ∷ kinds.StateMachine ∷ kinds.Viterbi ∷ []
 
 -- the kind of a name
 abbrev pub kind_named : List ℕ → Option KindName
@@ -113,6 +115,7 @@ name_of (blocks.Maximum b) = kinds.Maximum
 name_of (blocks.And b) = kinds.And
 name_of (blocks.Or b) = kinds.Or
 name_of (blocks.Xor b) = kinds.Xor
+name_of (blocks.SampleAndHold b) = kinds.SampleAndHold
 name_of (blocks.MapBb b) = kinds.MapBb
 name_of (blocks.Table b) = kinds.Table
 name_of (blocks.Convert b) = kinds.Convert
@@ -153,3 +156,4 @@ name_of (blocks.CorrelateAccessCode b) = kinds.CorrelateAccessCode
 name_of (blocks.CrcAppend b) = kinds.CrcAppend
 name_of (blocks.CrcCheck b) = kinds.CrcCheck
 name_of (blocks.StateMachine b) = kinds.StateMachine
+name_of (blocks.Viterbi b) = kinds.Viterbi

@@ -5,13 +5,13 @@ use bit_blocks::{
     PackedToUnpacked, RepackBits, Scrambler, UnpackKBits, UnpackedToPacked,
 };
 use block_kinds::{Block, ByPace, Held, Shape};
-use code_blocks::{CrcAppend, CrcCheck, StateMachine};
+use code_blocks::{CrcAppend, CrcCheck, StateMachine, Viterbi};
 use fir_blocks::{Fir, InterpFir};
 use items::Items;
 use math_blocks::{
     Abs, Add, AddConst, AlawEncode, And, AndConst, BinarySlicer, Clip, Convert, Divide,
     DivideConst, MapBb, Maximum, Minimum, MovingSum, Multiply, MultiplyConst, Mute, Not, Or,
-    OrConst, Scale, Sub, Table, UlawEncode, Xor, XorConst,
+    OrConst, SampleAndHold, Scale, Sub, Table, UlawEncode, Xor, XorConst,
 };
 use rate_blocks::{
     Argmax, Counter, Deinterleave, Delay, FrameMaximum, FrameMinimum, Head, Insert, Integrate,
@@ -67,6 +67,8 @@ pub enum Kind {
     Or(Or),
     /// Gives the bitwise exclusive or of its inputs.
     Xor(Xor),
+    /// Holds an item until it takes the next.
+    SampleAndHold(SampleAndHold),
     /// Looks bytes up in a table.
     MapBb(MapBb),
     /// Gives a number for each byte.
@@ -147,6 +149,8 @@ pub enum Kind {
     CrcCheck(CrcCheck),
     /// Goes from state to state, and gives a byte for each.
     StateMachine(StateMachine),
+    /// Finds the symbols whose path through a machine has the metrics of the least sum.
+    Viterbi(Viterbi),
 }
 
 // A match on a block, where each arm does the same with the block inside.
@@ -176,6 +180,7 @@ macro_rules! on_block {
             Kind::And($block) => $body,
             Kind::Or($block) => $body,
             Kind::Xor($block) => $body,
+            Kind::SampleAndHold($block) => $body,
             Kind::MapBb($block) => $body,
             Kind::Table($block) => $body,
             Kind::Convert($block) => $body,
@@ -216,6 +221,7 @@ macro_rules! on_block {
             Kind::CrcAppend($block) => $body,
             Kind::CrcCheck($block) => $body,
             Kind::StateMachine($block) => $body,
+            Kind::Viterbi($block) => $body,
         }
     };
 }

@@ -30,6 +30,8 @@ pub enum KindName {
     And,
     Or,
     Xor,
+    /// Holds an item until it takes the next.
+    SampleAndHold,
     MapBb,
     Table,
     Convert,
@@ -71,9 +73,11 @@ pub enum KindName {
     CrcCheck,
     /// Goes from state to state, and gives a byte for each.
     StateMachine,
+    /// Finds the symbols whose path through a machine has the metrics of the least sum.
+    Viterbi,
 }
 
-const KINDS: [KindName; 63] = [
+const KINDS: [KindName; 65] = [
     KindName::VectorSource,
     KindName::VectorSink,
     KindName::NullSink,
@@ -97,6 +101,7 @@ const KINDS: [KindName; 63] = [
     KindName::And,
     KindName::Or,
     KindName::Xor,
+    KindName::SampleAndHold,
     KindName::MapBb,
     KindName::Table,
     KindName::Convert,
@@ -137,6 +142,7 @@ const KINDS: [KindName; 63] = [
     KindName::CrcAppend,
     KindName::CrcCheck,
     KindName::StateMachine,
+    KindName::Viterbi,
 ];
 
 impl KindName {
@@ -185,6 +191,7 @@ impl KindName {
             KindName::And => "and",
             KindName::Or => "or",
             KindName::Xor => "xor",
+            KindName::SampleAndHold => "sample_and_hold",
             KindName::MapBb => "map_bb",
             KindName::Table => "table",
             KindName::Convert => "convert",
@@ -225,6 +232,7 @@ impl KindName {
             KindName::CrcAppend => "crc_append",
             KindName::CrcCheck => "crc_check",
             KindName::StateMachine => "state_machine",
+            KindName::Viterbi => "viterbi",
         }
     }
 }
@@ -258,6 +266,7 @@ impl Kind {
             Kind::And(_) => KindName::And,
             Kind::Or(_) => KindName::Or,
             Kind::Xor(_) => KindName::Xor,
+            Kind::SampleAndHold(_) => KindName::SampleAndHold,
             Kind::MapBb(_) => KindName::MapBb,
             Kind::Table(_) => KindName::Table,
             Kind::Convert(_) => KindName::Convert,
@@ -298,6 +307,7 @@ impl Kind {
             Kind::CrcAppend(_) => KindName::CrcAppend,
             Kind::CrcCheck(_) => KindName::CrcCheck,
             Kind::StateMachine(_) => KindName::StateMachine,
+            Kind::Viterbi(_) => KindName::Viterbi,
         }
     }
 }

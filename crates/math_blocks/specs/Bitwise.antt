@@ -28,7 +28,7 @@ sums_joined =
     with_none z = omega (arith, ints)
 
 -- the bits of a number of the type, which lie below the number of its values
-bits-less : (t : ItemType) (z : ℤ) → bits_in t z < numbers_in t
+pub bits-less : (t : ItemType) (z : ℤ) → bits_in t z < numbers_in t
 bits-less Byte z = residue-less z 256 (omega arith)
 bits-less Short z = residue-less z 65536 (omega arith)
 bits-less Int z = residue-less z 4294967296 (omega arith)
@@ -37,13 +37,13 @@ residue-again : (z : ℤ) (m : ℕ) → 0 < m → residue (pos (residue z m)) m 
 residue-again z m some = mod-eq_of_lt (residue-less z m some)
 
 -- make the number again
-wrap-bits : (t : ItemType) (z : ℤ) → wrap t (pos (bits_in t z)) ≡ wrap t z
+pub wrap-bits : (t : ItemType) (z : ℤ) → wrap t (pos (bits_in t z)) ≡ wrap t z
 wrap-bits Byte z = ap (λ r. pos r) (residue-again z 256 (omega arith))
 wrap-bits Short z = ap (centred 65536) (residue-again z 65536 (omega arith))
 wrap-bits Int z = ap (centred 4294967296) (residue-again z 4294967296 (omega arith))
 
 -- and are its bits
-bits-wrap : (t : ItemType) (b : ℕ) → b < numbers_in t → bits_in t (wrap t (pos b)) ≡ b
+pub bits-wrap : (t : ItemType) (b : ℕ) → b < numbers_in t → bits_in t (wrap t (pos b)) ≡ b
 bits-wrap Byte b h = omega (arith, h)
 bits-wrap Short b h = grind (arith, nat_tests, h)
 bits-wrap Int b h = grind (arith, nat_tests, h)

@@ -1,6 +1,7 @@
 pub mod Bitwise
 pub mod Differences
 pub mod Extremes
+pub mod Holding
 pub mod Joined
 pub mod Kinds
 pub mod PerItem

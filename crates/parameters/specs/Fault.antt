@@ -1,7 +1,7 @@
 -- The numbers, the names and the texts of refusals.
 use Rattle.std.specs.Prelude.{ℕ, List, ◌++◌, codes}
 use Rattle.parameters.specs.declared.fault.Parameter.{Parameter}
-use Rattle.parameters.specs.declared.fault.Parameter.TheVariants.{ItemType, Value, Factor, Shift, Map, To, Length, Taps, Decimation, Interpolation, K, Modulus, Bits, Mask, Init, N, Ports, Lengths, Low, High, On, Values, Code, Threshold, Order, Places, L, M, Offset, Period, Polynomial, FinalXor, Symbols, Next, Output}
+use Rattle.parameters.specs.declared.fault.Parameter.TheVariants.{ItemType, Value, Factor, Shift, Map, To, Length, Taps, Decimation, Interpolation, K, Modulus, Bits, Mask, Init, N, Ports, Lengths, Low, High, On, Values, Code, Threshold, Order, Places, L, M, Offset, Period, Polynomial, FinalXor, Symbols, Next, Output, Outputs, Steps, Start, End}
 use Rattle.parameters.specs.declared.fault.ParamFault.{ParamFault}
 use Rattle.parameters.specs.declared.fault.ParamFault.TheVariants.{BadParameter, Memory}
 
@@ -47,6 +47,10 @@ parameter_text FinalXor = codes "final_xor"
 parameter_text Symbols = codes "symbols"
 parameter_text Next = codes "next"
 parameter_text Output = codes "output"
+parameter_text Outputs = codes "outputs"
+parameter_text Steps = codes "steps"
+parameter_text Start = codes "start"
+parameter_text End = codes "end"
 
 -- what is printed of a refusal
 abbrev pub text_of : ParamFault → List ℕ

@@ -81,6 +81,14 @@ pub enum Parameter {
     Next,
     /// `output`
     Output,
+    /// `outputs`
+    Outputs,
+    /// `steps`
+    Steps,
+    /// `start`
+    Start,
+    /// `end`
+    End,
 }
 
 impl Parameter {
@@ -122,6 +130,10 @@ impl Parameter {
             Parameter::Symbols => "symbols",
             Parameter::Next => "next",
             Parameter::Output => "output",
+            Parameter::Outputs => "outputs",
+            Parameter::Steps => "steps",
+            Parameter::Start => "start",
+            Parameter::End => "end",
             Parameter::Order | Parameter::Places => "order",
         }
     }

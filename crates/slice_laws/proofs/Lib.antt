@@ -11,5 +11,6 @@ pub mod Filters
 pub mod Rates
 pub mod Bits
 pub mod Codes
+pub mod Trellis
 pub mod Placing
 pub mod Jumps

@@ -15,11 +15,13 @@ use Rattle.bit_blocks.specs.declared.repacking.Repacking.{Repacking}
 use Rattle.bit_blocks.specs.Kinds.{repacking_of}
 use Rattle.kinds.specs.Kind.{meaning_of}
 use Rattle.kinds.specs.declared.kind.Kind.{Kind}
-use Rattle.kinds.specs.declared.kind.Kind.TheVariants.{VectorSource, VectorSink, NullSink, AddConst, MultiplyConst, DivideConst, AndConst, OrConst, XorConst, Scale, Clip, Abs, Not, Mute, Add, Sub, Multiply, Divide, Minimum, Maximum, And, Or, Xor, MapBb, Table, Convert, BinarySlicer, UlawEncode, AlawEncode, MovingSum, Fir, InterpFir, KeepOneInN, KeepMInN, Integrate, FrameMinimum, FrameMaximum, Argmax, Repeat, Insert, Pattern, Counter, Permute, Interleave, Deinterleave, StreamMux, Head, SkipHead, Delay, PackKBits, UnpackKBits, RepackBits, PackedToUnpacked, UnpackedToPacked, DiffEncoder, DiffDecoder, Scrambler, Descrambler, AdditiveScrambler, CorrelateAccessCode, CrcAppend, CrcCheck, StateMachine}
+use Rattle.kinds.specs.declared.kind.Kind.TheVariants.{VectorSource, VectorSink, NullSink, AddConst, MultiplyConst, DivideConst, AndConst, OrConst, XorConst, Scale, Clip, Abs, Not, Mute, Add, Sub, Multiply, Divide, Minimum, Maximum, And, Or, Xor, SampleAndHold, MapBb, Table, Convert, BinarySlicer, UlawEncode, AlawEncode, MovingSum, Fir, InterpFir, KeepOneInN, KeepMInN, Integrate, FrameMinimum, FrameMaximum, Argmax, Repeat, Insert, Pattern, Counter, Permute, Interleave, Deinterleave, StreamMux, Head, SkipHead, Delay, PackKBits, UnpackKBits, RepackBits, PackedToUnpacked, UnpackedToPacked, DiffEncoder, DiffDecoder, Scrambler, Descrambler, AdditiveScrambler, CorrelateAccessCode, CrcAppend, CrcCheck, StateMachine, Viterbi}
 use Rattle.slice_laws.specs.Slices.{Settles}
 use Rattle.slice_laws.proofs.Jumps.{head-resumes, additive_scrambler-resumes}
 use Rattle.slice_laws.proofs.Math.{add_const-settles, moving_sum-settles, add-settles, multiply_const-settles, bitwise_const-settles, scale-settles, mute-settles, clip-settles, abs-settles, not-settles, map_bb-settles, table-settles, convert-settles, sub-settles, multiply-settles, minimum-settles, maximum-settles, bitwise-settles, divide_const-settles, divide-settles, binary_slicer-settles, ulaw_encode-settles, alaw_encode-settles}
 use Rattle.kind_model.specs.Codes.{bytes_of}
+use Rattle.slice_laws.proofs.Trellis.{viterbi-settles}
+use Rattle.viterbi_decoder.specs.Model.{trellis_of}
 use Rattle.slice_laws.proofs.Codes.{crc_append-settles, crc_check-settles}
 use Rattle.slice_laws.proofs.Rates.{keep_one_in_n-settles, delay-settles, skiphead-settles, integrate-settles, repeat-settles, interleave-settles, keep_m_in_n-settles, permute-settles, deinterleave-settles, insert-settles, stream_mux-settles, frame_minimum-settles, frame_maximum-settles, argmax-settles}
 use Rattle.slice_laws.proofs.Filters.{fir-settles, interp_fir-settles}
@@ -107,6 +109,7 @@ look_back_of-holds (Maximum b) is = sync _ (λ p. refl) (λ right f reached. max
 look_back_of-holds (And b) is = sync _ (λ p. refl) (λ right f reached. bitwise-settles right f reached bit_and (numbers_in b.item - 1) b.item)
 look_back_of-holds (Or b) is = sync _ (λ p. refl) (λ right f reached. bitwise-settles right f reached bit_or 0 b.item)
 look_back_of-holds (Xor b) is = sync _ (λ p. refl) (λ right f reached. bitwise-settles right f reached bit_xor 0 b.item)
+look_back_of-holds (SampleAndHold b) is = absurd (cc)
 look_back_of-holds (MapBb b) is = sync _ (λ p. refl) (λ right f reached. map_bb-settles right f reached (map pos b.table.items))
 look_back_of-holds (Table b) is = sync _ (λ p. refl) (λ right f reached. table-settles right f reached (type_of b.values) (numbers_of b.values))
 look_back_of-holds (Convert b) is = sync _ (λ p. refl) (λ right f reached. convert-settles right f reached b.item b.to)
@@ -163,6 +166,8 @@ look_back_of-holds (CorrelateAccessCode b) is = past _ (64 + b.length) 1 (λ p. 
 look_back_of-holds (CrcAppend b) is = paced _ b.crc.length (λ p. refl) (λ right f reached. crc_append-settles b.crc.length b.crc.rule right f b.crc.is.some reached)
 look_back_of-holds (CrcCheck b) is = paced _ (b.crc.length + bytes_of b.crc.rule) (λ p. refl) (λ right f reached. crc_check-settles b.crc.length b.crc.rule right f reached)
 look_back_of-holds (StateMachine b) is = absurd (cc)
+look_back_of-holds (Viterbi b) is =
+    paced _ (b.decoder.steps * b.decoder.outputs) (λ p. refl) (λ right f reached. viterbi-settles b.item (trellis_of b.decoder) right f b.decoder.is reached)
 
 -- a block that does not count goes on as it is
 pub counts_of-holds : (k : Kind) → counts_of k ≡ false → (c : ℕ) → later_of k c ≡ meaning_of k

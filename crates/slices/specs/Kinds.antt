@@ -8,7 +8,7 @@ use Rattle.rate_blocks.specs.Kinds.{head_after}
 use Rattle.bit_blocks.specs.Kinds.{scrambler_after}
 use Rattle.kinds.specs.Kind.{meaning_of}
 use Rattle.kinds.specs.declared.kind.Kind.{Kind}
-use Rattle.kinds.specs.declared.kind.Kind.TheVariants.{VectorSource, VectorSink, NullSink, AddConst, MultiplyConst, DivideConst, AndConst, OrConst, XorConst, Scale, Clip, Abs, Not, Mute, Add, Sub, Multiply, Divide, Minimum, Maximum, And, Or, Xor, MapBb, Table, Convert, BinarySlicer, UlawEncode, AlawEncode, MovingSum, Fir, InterpFir, KeepOneInN, KeepMInN, Integrate, FrameMinimum, FrameMaximum, Argmax, Repeat, Insert, Pattern, Counter, Permute, Interleave, Deinterleave, StreamMux, Head, SkipHead, Delay, PackKBits, UnpackKBits, RepackBits, PackedToUnpacked, UnpackedToPacked, DiffEncoder, DiffDecoder, Scrambler, Descrambler, AdditiveScrambler, CorrelateAccessCode, CrcAppend, CrcCheck, StateMachine}
+use Rattle.kinds.specs.declared.kind.Kind.TheVariants.{VectorSource, VectorSink, NullSink, AddConst, MultiplyConst, DivideConst, AndConst, OrConst, XorConst, Scale, Clip, Abs, Not, Mute, Add, Sub, Multiply, Divide, Minimum, Maximum, And, Or, Xor, SampleAndHold, MapBb, Table, Convert, BinarySlicer, UlawEncode, AlawEncode, MovingSum, Fir, InterpFir, KeepOneInN, KeepMInN, Integrate, FrameMinimum, FrameMaximum, Argmax, Repeat, Insert, Pattern, Counter, Permute, Interleave, Deinterleave, StreamMux, Head, SkipHead, Delay, PackKBits, UnpackKBits, RepackBits, PackedToUnpacked, UnpackedToPacked, DiffEncoder, DiffDecoder, Scrambler, Descrambler, AdditiveScrambler, CorrelateAccessCode, CrcAppend, CrcCheck, StateMachine, Viterbi}
 use Rattle.slices.specs.declared.look_back.LookBack.{LookBack}
 use Rattle.slices.specs.declared.look_back.LookBack.TheVariants.{Items, Everything}
 use Rattle.slices.specs.declared.look_back.LookBack.TheVariants as looks
@@ -38,6 +38,7 @@ look_back_of (Maximum b) = Items 0
 look_back_of (And b) = Items 0
 look_back_of (Or b) = Items 0
 look_back_of (Xor b) = Items 0
+look_back_of (SampleAndHold b) = Everything
 look_back_of (MapBb b) = Items 0
 look_back_of (Table b) = Items 0
 look_back_of (Convert b) = Items 0
@@ -87,6 +88,7 @@ look_back_of (CorrelateAccessCode b) = Items (64 + b.length)
 look_back_of (CrcAppend b) = Items 0
 look_back_of (CrcCheck b) = Items 0
 look_back_of (StateMachine b) = Everything
+look_back_of (Viterbi b) = Items 0
 
 -- what a block goes on as behind so many firings: a head has as many fewer items to give, the register of an additive scrambler has gone on by itself, and one that
 -- forgets goes on as it is

@@ -9,7 +9,7 @@ use Rattle.rate_blocks.specs.Mux.{lengths_of}
 use Rattle.kinds.specs.Kind.{meaning_of, meaning_of-lawful}
 use Rattle.kinds.specs.declared.kind.Kind.{Kind}
 use Rattle.kind_model.specs.Codes.{bytes_of}
-use Rattle.kinds.specs.declared.kind.Kind.TheVariants.{VectorSource, VectorSink, NullSink, AddConst, MultiplyConst, DivideConst, AndConst, OrConst, XorConst, Scale, Clip, Abs, Not, Mute, Add, Sub, Multiply, Divide, Minimum, Maximum, And, Or, Xor, MapBb, Table, Convert, BinarySlicer, UlawEncode, AlawEncode, MovingSum, Fir, InterpFir, KeepOneInN, KeepMInN, Integrate, FrameMinimum, FrameMaximum, Argmax, Repeat, Insert, Pattern, Counter, Permute, Interleave, Deinterleave, StreamMux, Head, SkipHead, Delay, PackKBits, UnpackKBits, RepackBits, PackedToUnpacked, UnpackedToPacked, DiffEncoder, DiffDecoder, Scrambler, Descrambler, AdditiveScrambler, CorrelateAccessCode, CrcAppend, CrcCheck, StateMachine}
+use Rattle.kinds.specs.declared.kind.Kind.TheVariants.{VectorSource, VectorSink, NullSink, AddConst, MultiplyConst, DivideConst, AndConst, OrConst, XorConst, Scale, Clip, Abs, Not, Mute, Add, Sub, Multiply, Divide, Minimum, Maximum, And, Or, Xor, SampleAndHold, MapBb, Table, Convert, BinarySlicer, UlawEncode, AlawEncode, MovingSum, Fir, InterpFir, KeepOneInN, KeepMInN, Integrate, FrameMinimum, FrameMaximum, Argmax, Repeat, Insert, Pattern, Counter, Permute, Interleave, Deinterleave, StreamMux, Head, SkipHead, Delay, PackKBits, UnpackKBits, RepackBits, PackedToUnpacked, UnpackedToPacked, DiffEncoder, DiffDecoder, Scrambler, Descrambler, AdditiveScrambler, CorrelateAccessCode, CrcAppend, CrcCheck, StateMachine, Viterbi}
 use Rattle.slice_laws.specs.Tags.{Places}
 use Rattle.slice_laws.proofs.Placing.{shaped-places, stream_mux-places, skiphead-places, delay-places}
 use Rattle.slices.specs.declared.look_back.LookBack.TheVariants.{Items}
@@ -91,6 +91,7 @@ look_back_of-places (Maximum b) is = nearest (Maximum b) 1 1 (λ p. refl) (λ p 
 look_back_of-places (And b) is = nearest (And b) 1 1 (λ p. refl) (λ p s. refl) is
 look_back_of-places (Or b) is = nearest (Or b) 1 1 (λ p. refl) (λ p s. refl) is
 look_back_of-places (Xor b) is = nearest (Xor b) 1 1 (λ p. refl) (λ p s. refl) is
+look_back_of-places (SampleAndHold b) is = absurd (cc)
 look_back_of-places (MapBb b) is = nearest (MapBb b) 1 1 (λ p. refl) (λ p s. refl) is
 look_back_of-places (Table b) is = nearest (Table b) 1 1 (λ p. refl) (λ p s. refl) is
 look_back_of-places (Convert b) is = nearest (Convert b) 1 1 (λ p. refl) (λ p s. refl) is
@@ -133,3 +134,4 @@ look_back_of-places (CorrelateAccessCode b) is = nearest (CorrelateAccessCode b)
 look_back_of-places (CrcAppend b) is = nearest (CrcAppend b) b.crc.length (b.crc.length + bytes_of b.crc.rule) (λ p. refl) (λ p s. refl) is
 look_back_of-places (CrcCheck b) is = nearest (CrcCheck b) (b.crc.length + bytes_of b.crc.rule) 1 (λ p. refl) (λ p s. refl) is
 look_back_of-places (StateMachine b) is = absurd (cc)
+look_back_of-places (Viterbi b) is = nearest (Viterbi b) (b.decoder.steps * b.decoder.outputs) b.decoder.steps (λ p. refl) (λ p s. refl) is

@@ -34,7 +34,8 @@ impl Forgets for Kind {
 
     fn look_back(&self) -> LookBack {
         match self {
-            Kind::Pattern(_)
+            Kind::SampleAndHold(_)
+            | Kind::Pattern(_)
             | Kind::Counter(_)
             | Kind::DiffEncoder(_)
             | Kind::Scrambler(_)

@@ -11,3 +11,9 @@ returns-in-CrcCheck-clause-shape c = rw c.in-CrcCheck.is c.shape-in-CrcCheck.ens
 
 pub returns-in-CrcCheck-clause-placed : goal.returns-in-CrcCheck-clause-placed
 returns-in-CrcCheck-clause-placed c = rw c.in-CrcCheck.is c.shape-in-CrcCheck.ensures.placed
+
+pub returns-in-Viterbi-clause-shape : goal.returns-in-Viterbi-clause-shape
+returns-in-Viterbi-clause-shape c = rw c.in-Viterbi.is c.shape-in-Viterbi.ensures.shape
+
+pub returns-in-Viterbi-clause-placed : goal.returns-in-Viterbi-clause-placed
+returns-in-Viterbi-clause-placed c = rw c.in-Viterbi.is c.shape-in-Viterbi.ensures.placed

@@ -51,6 +51,9 @@ returns-in-Or-clause-word c = rw c.in-Or.is c.work-in-Or.ensures.word
 pub returns-in-Xor-clause-word : goal.returns-in-Xor-clause-word
 returns-in-Xor-clause-word c = rw c.in-Xor.is c.work-in-Xor.ensures.word
 
+pub returns-in-SampleAndHold-clause-word : goal.returns-in-SampleAndHold-clause-word
+returns-in-SampleAndHold-clause-word c = rw c.in-SampleAndHold.is c.work-in-SampleAndHold.ensures.word
+
 pub returns-in-MapBb-clause-word : goal.returns-in-MapBb-clause-word
 returns-in-MapBb-clause-word c = rw c.in-MapBb.is c.work-in-MapBb.ensures.word
 
@@ -182,3 +185,12 @@ returns-in-CrcCheck-clause-word c = rw c.in-CrcCheck.is c.work-in-CrcCheck.ensur
 
 pub returns-in-StateMachine-clause-word : goal.returns-in-StateMachine-clause-word
 returns-in-StateMachine-clause-word c = rw c.in-StateMachine.is c.work-in-StateMachine.ensures.word
+
+pub work-requires-in-Viterbi : goal.work-requires-in-Viterbi
+work-requires-in-Viterbi c = rw c.in-Viterbi.is at c.requires
+
+pub returns-in-Viterbi-clause-items : goal.returns-in-Viterbi-clause-items
+returns-in-Viterbi-clause-items c = rw c.in-Viterbi.is c.work-in-Viterbi.ensures.items
+
+pub returns-in-Viterbi-clause-word : goal.returns-in-Viterbi-clause-word
+returns-in-Viterbi-clause-word c = rw c.in-Viterbi.is c.work-in-Viterbi.ensures.word

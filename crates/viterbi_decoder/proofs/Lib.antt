@@ -1,0 +1,5 @@
+pub mod Cheapest
+pub mod Costs
+pub mod Rows
+pub mod LastStates
+pub mod Traced

@@ -1,0 +1,63 @@
+-- What a decoder has of the paths that it has found.
+use Rattle.std.specs.Prelude.{◌≡◌, ℕ, suc, ◌+◌, ◌*◌, ◌/◌, ◌<◌, ◌==◌, Bool, true, false, ℤ, pos, neg_ℤ, ◌≤ℤ◌, List, [], ◌∷◌, ◌≤◌, int_lt, Option, All, None, Some, length, map, filter, flat_map, slice_index_or}
+use Rattle.std.specs.Option.{option_map, ForSome}
+use Rattle.stream_model.specs.Lists.{below}
+use Rattle.kind_model.specs.Trellis.{Trellis, states_of, may_be, paths_to, cost, cheapest}
+
+-- the path found among those of so many steps to a state
+abbrev pub found : Trellis → List ℤ → ℕ → ℕ → Option (List ℕ)
+found m x k s = cheapest (cost m x 0 k) (paths_to m k s)
+
+-- the path found to a state among those of one step more whose last row is below i
+abbrev pub found_by : Trellis → List ℤ → ℕ → ℕ → ℕ → Option (List ℕ)
+found_by m x k i s =
+    cheapest (cost m x 0 (suc k)) (flat_map (λ r. map (λ path. r ∷ path) (paths_to m k (r / m.symbols))) (filter (λ r. slice_index_or m.next r 0 == s) (below i)))
+
+-- the path found to the state that a row leads from, with this row behind it
+abbrev pub behind : Trellis → List ℤ → ℕ → ℕ → Option (List ℕ)
+behind m x k r = option_map (λ path. r ∷ path) (found m x k (r / m.symbols))
+
+-- the path found among those of a block whose last state is below i
+abbrev pub found_below : Trellis → List ℤ → ℕ → Option (List ℕ)
+found_below m x i = cheapest (cost m x 0 m.steps) (flat_map (paths_to m m.steps) (filter (may_be m.end) (below i)))
+
+-- a sum of so many metrics, each of 2^31 at most
+pub record IsWithin (k : ℕ) (z : ℤ) : Type 0 where
+  pub above : neg_ℤ (pos (2147483648 * k)) ≤ℤ z
+  pub below : z ≤ℤ pos (2147483648 * k)
+
+-- whether there is a first sum, and it is less than the second, if there is one
+abbrev pub is_less : Option ℤ → Option ℤ → Bool
+is_less None than = false
+is_less (Some sum) None = true
+is_less (Some sum) (Some than) = int_lt sum than
+
+-- what a path of so many steps costs, where there is one
+pub record IsSum (m : Trellis) (x : List ℤ) (k : ℕ) (path : Option (List ℕ)) (sum : Option ℤ) : Type 0 where
+  pub is : sum ≡ option_map (cost m x 0 k) path
+  pub within : ForSome sum (IsWithin k)
+
+-- the sums of the paths found of so many steps, one to each state
+pub record AreSums (m : Trellis) (x : List ℤ) (k : ℕ) (sums : List (Option ℤ)) : Type 0 where
+  pub each : (s : ℕ) → s < states_of m → IsSum m x k (found m x k s) (slice_index_or sums s None)
+
+-- the last row of a path of so many steps and one more, where there is a path: behind the path found to the state that the row leads from
+pub record IsLastRow (m : Trellis) (x : List ℤ) (k : ℕ) (path : Option (List ℕ)) (row : ℕ) : Type 0 where
+  pub is : (p : List ℕ) → path ≡ Some p → (rest : List ℕ) × (p ≡ row ∷ rest) × (found m x k (row / m.symbols) ≡ Some rest)
+
+-- the last rows of the paths found of one step to so many, to each state
+pub record AreLastRows (m : Trellis) (x : List ℤ) (k : ℕ) (rows : List ℕ) : Type 0 where
+  pub each : (j s : ℕ) → j < k → s < states_of m → IsLastRow m x j (found m x (suc j) s) (slice_index_or rows (j * states_of m + s) 0)
+
+-- the sums and the last rows of the paths found to each state among those of one step more whose last row is below i
+pub record AreHeld (m : Trellis) (x : List ℤ) (k i : ℕ) (sums : List (Option ℤ)) (rows : List ℕ) : Type 0 where
+  pub sums_are : (s : ℕ) → s < states_of m → IsSum m x (suc k) (found_by m x k i s) (slice_index_or sums s None)
+  pub rows_are : (s : ℕ) → s < states_of m → IsLastRow m x k (found_by m x k i s) (slice_index_or rows (k * states_of m + s) 0)
+
+-- each is a row
+pub record AreRows (m : Trellis) (rows : List ℕ) : Type 0 where
+  pub each : All (λ r. r < length m.next) rows
+
+abbrev pub trellis : ℕ → List ℕ → List ℕ → ℕ → ℕ → Option ℕ → Option ℕ → Trellis
+trellis of_symbols nexts of_rows of_outputs of_steps begin last =
+    record { symbols = of_symbols; next = nexts; output = of_rows; outputs = of_outputs; steps = of_steps; start = begin; end = last }

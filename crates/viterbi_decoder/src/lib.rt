@@ -1,0 +1,10 @@
+//! The decoder of a trellis: the symbols of the path through a machine whose metrics have the least sum.
+#![tactic(auto)]
+
+pub mod decoder;
+mod ends;
+mod steps;
+mod sums;
+mod trace;
+
+pub use decoder::Decoder;

@@ -1,0 +1,130 @@
+//! Steps of all paths at once: row by row, each path found is kept where it costs less than those before it.
+ghost use Rattle.std.specs.Prelude.{◌≡◌, ◌+◌, ◌*◌, ◌/◌, ◌<◌, ◌≤◌, ℕ, ℤ, suc, List, Some, None, length, map, slice_index_or};
+ghost use Rattle.kind_model.specs.Trellis.{states_of};
+ghost use Rattle.viterbi_decoder.specs.Found.{found, IsSum, AreSums, AreLastRows, AreRows, AreHeld};
+
+use crate::decoder::Decoder;
+use crate::sums::is_less;
+use numbers::Number;
+
+impl Decoder {
+    ghost use Rattle.viterbi_decoder.specs.Model.{trellis_of};
+
+    // Finds the paths with one step more whose last row is this one, where they cost less than those before it.
+    #[inline(always)]
+    fn take_row<T: Number>(
+        &self,
+        metrics: &[T],
+        step: usize,
+        row: usize,
+        sum: Option<i64>,
+        after: &mut [Option<i64>],
+        rows: &mut [u16],
+    )
+        requires metrics { length metrics.now ≡ self.now.steps * self.now.outputs }
+        requires step { step < self.now.steps }
+        requires row { row < length self.now.next.items }
+        requires sum { IsSum (trellis_of self.now) (map T.number metrics.now) step (found (trellis_of self.now) (map T.number metrics.now) step (row / self.now.symbols)) sum }
+        requires long { states_of (trellis_of self.now) ≤ length after.old }
+        requires room { self.now.steps * states_of (trellis_of self.now) ≤ length rows.old }
+        requires held { AreHeld (trellis_of self.now) (map T.number metrics.now) step row after.old rows.old }
+        requires rows { AreRows (trellis_of self.now) rows.old }
+        ensures len { length after.new ≡ length after.old }
+        ensures rows_len { length rows.new ≡ length rows.old }
+        ensures held { AreHeld (trellis_of self.now) (map T.number metrics.now) step (row + 1) after.new rows.new }
+        ensures stays { (i : ℕ) → i < step * states_of (trellis_of self.now) → slice_index_or rows.new i 0 ≡ slice_index_or rows.old i 0 }
+        ensures rows { AreRows (trellis_of self.now) rows.new }
+    {
+        let sum = self.sum_behind(metrics, step, row, sum);
+        let to = usize::from(self.next[row]);
+        if is_less(sum, after[to]) {
+            after[to] = sum;
+            rows[step * self.states as usize + to] = row as u16;
+        }
+    }
+
+    // Finds the paths with one step more whose last row is one of this state, where they cost less than those before it.
+    fn take_state<T: Number>(
+        &self,
+        metrics: &[T],
+        step: usize,
+        state: usize,
+        sum: Option<i64>,
+        after: &mut [Option<i64>],
+        rows: &mut [u16],
+    )
+        requires metrics { length metrics.now ≡ self.now.steps * self.now.outputs }
+        requires step { step < self.now.steps }
+        requires state { state < states_of (trellis_of self.now) }
+        requires sum { IsSum (trellis_of self.now) (map T.number metrics.now) step (found (trellis_of self.now) (map T.number metrics.now) step state) sum }
+        requires long { states_of (trellis_of self.now) ≤ length after.old }
+        requires room { self.now.steps * states_of (trellis_of self.now) ≤ length rows.old }
+        requires held { AreHeld (trellis_of self.now) (map T.number metrics.now) step (state * self.now.symbols) after.old rows.old }
+        requires rows { AreRows (trellis_of self.now) rows.old }
+        ensures len { length after.new ≡ length after.old }
+        ensures rows_len { length rows.new ≡ length rows.old }
+        ensures held { AreHeld (trellis_of self.now) (map T.number metrics.now) step ((state + 1) * self.now.symbols) after.new rows.new }
+        ensures stays { (i : ℕ) → i < step * states_of (trellis_of self.now) → slice_index_or rows.new i 0 ≡ slice_index_or rows.old i 0 }
+        ensures rows { AreRows (trellis_of self.now) rows.new }
+    {
+        let symbols = self.symbols as usize;
+        for symbol in 0..symbols {
+            self.take_row(metrics, step, state * symbols + symbol, sum, after, rows);
+        }
+    }
+
+    // Finds the paths with one step more: their sums, and their last rows.
+    fn step<T: Number>(
+        &self,
+        metrics: &[T],
+        step: usize,
+        before: &[Option<i64>],
+        after: &mut [Option<i64>],
+        rows: &mut [u16],
+    )
+        requires metrics { length metrics.now ≡ self.now.steps * self.now.outputs }
+        requires step { step < self.now.steps }
+        requires long { states_of (trellis_of self.now) ≤ length before.now }
+        requires long_after { states_of (trellis_of self.now) ≤ length after.old }
+        requires room { self.now.steps * states_of (trellis_of self.now) ≤ length rows.old }
+        requires sums { AreSums (trellis_of self.now) (map T.number metrics.now) step before.now }
+        requires rows { AreRows (trellis_of self.now) rows.old }
+        requires last { AreLastRows (trellis_of self.now) (map T.number metrics.now) step rows.old }
+        ensures len { length after.new ≡ length after.old }
+        ensures rows_len { length rows.new ≡ length rows.old }
+        ensures sums { AreSums (trellis_of self.now) (map T.number metrics.now) (suc step) after.new }
+        ensures last { AreLastRows (trellis_of self.now) (map T.number metrics.now) (suc step) rows.new }
+        ensures rows { AreRows (trellis_of self.now) rows.new }
+    {
+        self.clear(after);
+        for state in 0..self.states as usize {
+            self.take_state(metrics, step, state, before[state], after, rows);
+        }
+    }
+
+    // Finds the paths of a block, step by step.
+    pub(crate) fn go<T: Number>(
+        &self,
+        metrics: &[T],
+        sums: &mut [Option<i64>],
+        after: &mut [Option<i64>],
+        rows: &mut [u16],
+    )
+        requires metrics { length metrics.now ≡ self.now.steps * self.now.outputs }
+        requires long { states_of (trellis_of self.now) ≤ length sums.old }
+        requires long_after { states_of (trellis_of self.now) ≤ length after.old }
+        requires room { self.now.steps * states_of (trellis_of self.now) ≤ length rows.old }
+        requires sums { AreSums (trellis_of self.now) (map T.number metrics.now) 0 sums.old }
+        requires rows { AreRows (trellis_of self.now) rows.old }
+        ensures len { length sums.new ≡ length sums.old }
+        ensures rows_len { length rows.new ≡ length rows.old }
+        ensures sums { AreSums (trellis_of self.now) (map T.number metrics.now) self.now.steps sums.new }
+        ensures last { AreLastRows (trellis_of self.now) (map T.number metrics.now) self.now.steps rows.new }
+        ensures rows { AreRows (trellis_of self.now) rows.new }
+    {
+        for step in 0..self.steps as usize {
+            self.step(metrics, step, sums, after, rows);
+            self.keep(after, sums);
+        }
+    }
+}

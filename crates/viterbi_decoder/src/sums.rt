@@ -1,0 +1,129 @@
+//! The sums of the metrics of paths.
+ghost use Rattle.std.specs.Prelude.{◌≡◌, ◌+◌, ◌*◌, ◌/◌, ◌<◌, ◌≤◌, ℕ, ℤ, ◌+ℤ◌, suc, pos, List, Some, None, length, map, slice_index_or, if◌then◌else◌};
+ghost use Rattle.kind_model.specs.Trellis.{states_of, may_be, metric};
+ghost use Rattle.viterbi_decoder.specs.Found.{found, behind, is_less, IsWithin, IsSum, AreSums};
+
+use crate::decoder::Decoder;
+use numbers::Number;
+
+/// Whether a state may be the one that is known.
+fn may_be(known: Option<u32>, state: usize) -> bool
+    ensures { result ≡ may_be known state }
+{
+    match known {
+        Some(known) => known as usize == state,
+        None => true,
+    }
+}
+
+/// Whether there is a first sum, and it is less than the second, if there is one.
+#[inline(always)]
+pub(crate) fn is_less(sum: Option<i64>, than: Option<i64>) -> bool
+    ensures { result ≡ is_less sum than }
+{
+    match (sum, than) {
+        (Some(sum), Some(than)) => sum < than,
+        (Some(_), None) => true,
+        (None, _) => false,
+    }
+}
+
+// The sum of a path without a step that begins in a state.
+fn first_sum(start: Option<u32>, state: usize) -> Option<i64>
+    ensures { result ≡ (if may_be start state then Some (pos 0) else None) }
+{
+    if may_be(start, state) { Some(0) } else { None }
+}
+
+// The sum with one metric more.
+#[inline(always)]
+fn added(sum: i64, metric: i64) -> i64
+    requires sum { IsWithin 1024 sum }
+    requires metric { IsWithin 1 metric }
+    ensures { result ≡ sum +ℤ metric }
+{
+    sum + metric
+}
+
+impl Decoder {
+    ghost use Rattle.viterbi_decoder.specs.Model.{trellis_of};
+
+    // The sums of the paths without a step.
+    pub(crate) fn begin(&self, sums: &mut [Option<i64>])
+        requires { states_of (trellis_of self.now) ≤ length sums.old }
+        ensures len { length sums.new ≡ length sums.old }
+        ensures sums { (x : List ℤ) → AreSums (trellis_of self.now) x 0 sums.new }
+    {
+        for state in 0..self.states as usize {
+            sums[state] = first_sum(self.start, state);
+        }
+    }
+
+    // No sums, as before the first row.
+    pub(crate) fn clear(&self, sums: &mut [Option<i64>])
+        requires { states_of (trellis_of self.now) ≤ length sums.old }
+        ensures len { length sums.new ≡ length sums.old }
+        ensures none { (s : ℕ) → s < states_of (trellis_of self.now) → slice_index_or sums.new s None ≡ None }
+    {
+        for state in 0..self.states as usize {
+            sums[state] = None;
+        }
+    }
+
+    // Copies the sums of all states.
+    pub(crate) fn keep(&self, from: &[Option<i64>], to: &mut [Option<i64>])
+        requires from { states_of (trellis_of self.now) ≤ length from.now }
+        requires to { states_of (trellis_of self.now) ≤ length to.old }
+        ensures len { length to.new ≡ length to.old }
+        ensures same { (s : ℕ) → s < states_of (trellis_of self.now) → slice_index_or to.new s None ≡ slice_index_or from.now s None }
+    {
+        for state in 0..self.states as usize {
+            to[state] = from[state];
+        }
+    }
+
+    // The metric of a row's output at a step.
+    #[inline(always)]
+    fn metric<T: Number>(&self, metrics: &[T], step: usize, row: usize) -> i64
+        requires metrics { length metrics.now ≡ self.now.steps * self.now.outputs }
+        requires step { step < self.now.steps }
+        requires row { row < length self.now.next.items }
+        ensures value { result ≡ metric (trellis_of self.now) (map T.number metrics.now) 0 step row }
+        ensures within { IsWithin 1 result }
+    {
+        metrics[step * self.outputs as usize + usize::from(self.output[row])].widen()
+    }
+
+    // The sum of the path found to the state that a row leads from, with this row behind it.
+    #[inline(always)]
+    pub(crate) fn sum_behind<T: Number>(
+        &self,
+        metrics: &[T],
+        step: usize,
+        row: usize,
+        sum: Option<i64>,
+    ) -> Option<i64>
+        requires metrics { length metrics.now ≡ self.now.steps * self.now.outputs }
+        requires step { step < self.now.steps }
+        requires row { row < length self.now.next.items }
+        requires sum { IsSum (trellis_of self.now) (map T.number metrics.now) step (found (trellis_of self.now) (map T.number metrics.now) step (row / self.now.symbols)) sum }
+        ensures { IsSum (trellis_of self.now) (map T.number metrics.now) (suc step) (behind (trellis_of self.now) (map T.number metrics.now) step row) result }
+    {
+        match sum {
+            Some(sum) => Some(added(sum, self.metric(metrics, step, row))),
+            None => None,
+        }
+    }
+
+    // What the path found to a state that may be the last costs.
+    pub(crate) fn end_sum(&self, sums: &[Option<i64>], state: usize) -> Option<i64>
+        requires { state < length sums.now }
+        ensures { result ≡ (if may_be self.now.end state then slice_index_or sums.now state None else None) }
+    {
+        if may_be(self.end, state) {
+            sums[state]
+        } else {
+            None
+        }
+    }
+}

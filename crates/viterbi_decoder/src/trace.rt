@@ -1,0 +1,33 @@
+//! The symbols of the path found for a block.
+ghost use Rattle.std.specs.Prelude.{◌≡◌, ◌*◌, ◌<◌, ◌≤◌, ℕ, ℤ, List, Some, length, slice_index_or};
+ghost use Rattle.kind_model.specs.Trellis.{states_of, symbol_at};
+ghost use Rattle.viterbi_decoder.specs.Found.{found, AreLastRows, AreRows};
+
+use crate::decoder::Decoder;
+
+impl Decoder {
+    ghost use Rattle.viterbi_decoder.specs.Model.{trellis_of};
+
+    // Goes back along the path to its last state, and writes its symbols.
+    pub(crate) fn trace(&self, rows: &[u16], last: usize, out: &mut [u8])
+        requires room { self.now.steps * states_of (trellis_of self.now) ≤ length rows.now }
+        requires rows { AreRows (trellis_of self.now) rows.now }
+        requires last { last < states_of (trellis_of self.now) }
+        requires out { length out.old ≡ self.now.steps }
+        ensures len { length out.new ≡ length out.old }
+        ensures symbols { (x : List ℤ) (path : List ℕ) → AreLastRows (trellis_of self.now) x self.now.steps rows.now
+            → found (trellis_of self.now) x self.now.steps last ≡ Some path
+            → (j : ℕ) → j < self.now.steps → slice_index_or out.new j 0 ≡ symbol_at (trellis_of self.now) (Some path) j }
+    {
+        let states = self.states as usize;
+        let symbols = self.symbols as usize;
+        let steps = self.steps as usize;
+        let mut state = last;
+        for back in 0..steps {
+            let step = steps - 1 - back;
+            let row = usize::from(rows[step * states + state]);
+            out[step] = (row % symbols) as u8;
+            state = row / symbols;
+        }
+    }
+}
