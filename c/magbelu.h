@@ -127,10 +127,10 @@ struct magbelu_stream {
  * status  0: done. 3: the plant came to rest before all blocks were done. 1: refused, and nothing changed. 4: out of memory.
  * number  that of the refusal (docs/user/REFUSALS.md, and those above); 0 with status 0 and 3.
  * what    of a step: MAGBELU_DID, MAGBELU_DONE, MAGBELU_WAITS_ITEMS or MAGBELU_WAITS_ROOM. Of magbelu_need: MAGBELU_READY, MAGBELU_DONE, MAGBELU_WAITS_ITEMS,
- *         MAGBELU_WAITS_ROOM or MAGBELU_WAITS_FEED.
+ *         MAGBELU_WAITS_ROOM or MAGBELU_WAITS_FEED. Of magbelu_firings: MAGBELU_BALANCED, MAGBELU_UNEVEN or MAGBELU_TOO_OFTEN.
  * value   of a feed and a close: how many items the tape has, or a source that streams was fed. Of a setting: the item from which it is in force; with number 27
  *         the first one from which it could be. Of a step: how many firings were done, or the port at which the block waits. Of magbelu_need: that port. Of
- *         magbelu_item_size: that size. Of magbelu_block_count and magbelu_connections: how many there are.
+ *         magbelu_item_size: that size. Of magbelu_block_count, magbelu_connections, magbelu_rooms and magbelu_firings: how many there are.
  */
 struct magbelu_reply {
     uint32_t status;
@@ -145,6 +145,10 @@ struct magbelu_reply {
 #define MAGBELU_WAITS_ROOM 3
 #define MAGBELU_READY 0
 #define MAGBELU_WAITS_FEED 5
+
+#define MAGBELU_BALANCED 0
+#define MAGBELU_UNEVEN 1
+#define MAGBELU_TOO_OFTEN 2
 
 /*
  * What came of a read or a drain: how many items the sink has taken in all, how many bytes an item has, how many bytes the items have that are shown, and how
@@ -208,6 +212,52 @@ struct magbelu_connection {
     size_t out_port;
     size_t in_port;
 };
+
+/*
+ * What of a block may be set, and its own value of that, which is in force until another is set.
+ *
+ * status  0: done. 1: refused.
+ * number  that of the refusal; 0 with status 0.
+ * what    MAGBELU_FIXED where nothing may be set, MAGBELU_NUMBER, or MAGBELU_TAPS.
+ * least, most, value  of a number the least and the greatest that magbelu_set takes, and the block's own; else 0.
+ * count   of taps how many magbelu_set_taps takes, which is how many the block's own are; else 0.
+ */
+struct magbelu_block_setting {
+    uint32_t status;
+    uint32_t number;
+    uint32_t what;
+    int64_t least;
+    int64_t most;
+    int64_t value;
+    size_t count;
+};
+
+#define MAGBELU_FIXED 0
+#define MAGBELU_NUMBER 1
+#define MAGBELU_TAPS 2
+
+/*
+ * What a firing of a block gives. Where nothing is connected to its outputs, `gives` says nothing.
+ *
+ * status   0: done. 1: refused. 4: out of memory.
+ * number   that of the refusal; 0 with status 0.
+ * shift    MAGBELU_ALIKE where all firings take and give as many items. With MAGBELU_SKIPS the first `shifted` firings give nothing, and with MAGBELU_DELAYS they take
+ *          nothing.
+ * gives    how many items a firing gives on each output.
+ * input_count  how many inputs are connected.
+ */
+struct magbelu_block_rates {
+    uint32_t status;
+    uint32_t number;
+    uint32_t shift;
+    uint64_t shifted;
+    uint64_t gives;
+    size_t input_count;
+};
+
+#define MAGBELU_ALIKE 0
+#define MAGBELU_SKIPS 1
+#define MAGBELU_DELAYS 2
 
 /* What a drawing is written in: the language of Graphviz's `dot`, or that of Mermaid. */
 #define MAGBELU_DOT 0
@@ -341,6 +391,14 @@ struct magbelu_listed magbelu_bytes_block(struct magbelu_plant *plant, uint32_t 
 struct magbelu_reply magbelu_bytes_connections(struct magbelu_plant *plant, struct magbelu_connection *connections, size_t room);
 
 struct magbelu_answer magbelu_bytes_draw(struct magbelu_plant *plant, uint32_t format, uint8_t *output, size_t output_room);
+
+struct magbelu_reply magbelu_bytes_rooms(struct magbelu_plant *plant, uint64_t *rooms, size_t room);
+
+struct magbelu_block_setting magbelu_bytes_setting(struct magbelu_plant *plant, uint32_t number, int16_t *taps, size_t room);
+
+struct magbelu_block_rates magbelu_bytes_rates(struct magbelu_plant *plant, uint32_t number, uint64_t *takes, size_t room);
+
+struct magbelu_reply magbelu_bytes_firings(struct magbelu_plant *plant, uint32_t *firings, size_t room);
 
 struct magbelu_slicing magbelu_bytes_slices(struct magbelu_plant *plant, uint32_t tags, struct magbelu_cut_source *sources, size_t source_room,
                                             struct magbelu_cut_sink *sinks, size_t sink_room);
@@ -721,6 +779,53 @@ static inline struct magbelu_answer magbelu_draw(struct magbelu_plant *plant, ui
     return magbelu_bytes_draw(plant, format, magbelu_write_at(output, &none), output_room);
 }
 
+/*
+ * Tells how many items the buffer behind each connection has room for, in the order of magbelu_connections, where all of them fit into the table, and how many connections
+ * there are.
+ */
+static inline struct magbelu_reply magbelu_rooms(struct magbelu_plant *plant, uint64_t *rooms, size_t room) {
+    uint64_t none = 0;
+    if (plant == NULL || magbelu_is_null(rooms, room)) {
+        return magbelu_null_reply();
+    }
+    return magbelu_bytes_rooms(plant, rooms != NULL ? rooms : &none, room);
+}
+
+/* Tells what of the block of this number may be set. Its own taps are in `taps`, where they fit. A number that no block has is refused 20. */
+static inline struct magbelu_block_setting magbelu_setting(struct magbelu_plant *plant, uint32_t number, int16_t *taps, size_t room) {
+    int16_t none = 0;
+    if (plant == NULL || magbelu_is_null(taps, room)) {
+        struct magbelu_block_setting setting = {1, MAGBELU_NULL, 0, 0, 0, 0, 0};
+        return setting;
+    }
+    return magbelu_bytes_setting(plant, number, taps != NULL ? taps : &none, room);
+}
+
+/*
+ * Tells what a firing of the block of this number takes of each connected input, in `takes` where all of them fit, and gives on each output. A number that no block has
+ * is refused 20.
+ */
+static inline struct magbelu_block_rates magbelu_rates(struct magbelu_plant *plant, uint32_t number, uint64_t *takes, size_t room) {
+    uint64_t none = 0;
+    if (plant == NULL || magbelu_is_null(takes, room)) {
+        struct magbelu_block_rates rates = {1, MAGBELU_NULL, 0, 0, 0, 0};
+        return rates;
+    }
+    return magbelu_bytes_rates(plant, number, takes != NULL ? takes : &none, room);
+}
+
+/*
+ * Tells how often each block fires in an iteration, where all of them fit into the table, and how many blocks there are. Where no numbers of firings leave all buffers as
+ * they were (MAGBELU_UNEVEN), or the least are too many (MAGBELU_TOO_OFTEN), nothing is written, and the value is 0.
+ */
+static inline struct magbelu_reply magbelu_firings(struct magbelu_plant *plant, uint32_t *firings, size_t room) {
+    uint32_t none = 0;
+    if (plant == NULL || magbelu_is_null(firings, room)) {
+        return magbelu_null_reply();
+    }
+    return magbelu_bytes_firings(plant, firings != NULL ? firings : &none, room);
+}
+
 /* (not for callers) */
 static inline struct magbelu_slicing magbelu_null_slicing(void) {
     struct magbelu_slicing slicing = {1, MAGBELU_NULL, MAGBELU_NO_BLOCK, 0, 0, 0};
@@ -847,6 +952,22 @@ static inline struct magbelu_reply magbelu_stream_connections(struct magbelu_str
 
 static inline struct magbelu_answer magbelu_stream_draw(struct magbelu_stream *stream, uint32_t format, char *output, size_t output_room) {
     return magbelu_draw(magbelu_streaming(stream), format, output, output_room);
+}
+
+static inline struct magbelu_reply magbelu_stream_rooms(struct magbelu_stream *stream, uint64_t *rooms, size_t room) {
+    return magbelu_rooms(magbelu_streaming(stream), rooms, room);
+}
+
+static inline struct magbelu_block_setting magbelu_stream_setting(struct magbelu_stream *stream, uint32_t number, int16_t *taps, size_t room) {
+    return magbelu_setting(magbelu_streaming(stream), number, taps, room);
+}
+
+static inline struct magbelu_block_rates magbelu_stream_rates(struct magbelu_stream *stream, uint32_t number, uint64_t *takes, size_t room) {
+    return magbelu_rates(magbelu_streaming(stream), number, takes, room);
+}
+
+static inline struct magbelu_reply magbelu_stream_firings(struct magbelu_stream *stream, uint32_t *firings, size_t room) {
+    return magbelu_firings(magbelu_streaming(stream), firings, room);
 }
 
 static inline struct magbelu_slicing magbelu_stream_slices(struct magbelu_stream *stream, uint32_t tags, struct magbelu_cut_source *sources, size_t source_room,

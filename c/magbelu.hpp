@@ -134,6 +134,30 @@ struct block_levels {
     std::uint64_t waiting;
 };
 
+/* A number of a block that may be set, from the least to the greatest, and the block's own. */
+struct number_setting {
+    std::int64_t least;
+    std::int64_t most;
+    std::int64_t value;
+};
+
+/* What of a block may be set: nothing, a number, or as many taps as its own, which these are. */
+struct block_setting {
+    std::optional<number_setting> number;
+    std::optional<std::vector<std::int16_t>> taps;
+};
+
+/* How a block shifts its stream: its first firings give nothing (`skips`), or take nothing (`delays`), or all are alike. */
+enum class shift : std::uint32_t { alike = MAGBELU_ALIKE, skips = MAGBELU_SKIPS, delays = MAGBELU_DELAYS };
+
+/* What a firing of a block takes of each connected input and gives on each output, and how many firings are the first in a shift. */
+struct block_rates {
+    std::vector<std::uint64_t> takes;
+    std::uint64_t gives;
+    magbelu::shift shift;
+    std::uint64_t shifted;
+};
+
 /* How the runs of a graph are cut into slices of time: how many iterations before its own a slice reads, each source, each sink that keeps its items, and the first
  * block whose items rest on how many came before, or MAGBELU_NO_BLOCK. */
 struct slice_plan {
@@ -379,15 +403,55 @@ public:
 
     /* The connections, in the order of the file. They have the numbers of their blocks. */
     std::vector<magbelu_connection> connections() {
-        std::vector<magbelu_connection> all;
+        return table<magbelu_connection>([&](magbelu_connection *at, std::size_t room) { return reply(magbelu_connections(plant(), at, room), ""); });
+    }
+
+    /* How many items the buffer behind each connection has room for. */
+    std::vector<std::uint64_t> rooms() {
+        return table<std::uint64_t>([&](std::uint64_t *at, std::size_t room) { return reply(magbelu_rooms(plant(), at, room), ""); });
+    }
+
+    /* What of the block of a number may be set. */
+    block_setting setting(std::uint32_t number) {
+        std::vector<std::int16_t> taps(64);
         for (;;) {
-            const auto count = static_cast<std::size_t>(reply(magbelu_connections(plant(), all.data(), all.size()), ""));
-            const bool fits = count == all.size();
-            all.resize(count);
+            const auto got = tested(magbelu_setting(plant(), number, taps.data(), taps.size()), "");
+            const bool fits = got.count <= taps.size();
+            taps.resize(got.count);
+            if (got.what == MAGBELU_NUMBER) {
+                return {number_setting{got.least, got.most, got.value}, std::nullopt};
+            }
+            if (got.what == MAGBELU_FIXED || fits) {
+                return {std::nullopt, got.what == MAGBELU_FIXED ? std::nullopt : std::make_optional(std::move(taps))};
+            }
+        }
+    }
+
+    /* What a firing of the block of a number takes and gives. */
+    block_rates rates(std::uint32_t number) {
+        block_rates all{};
+        for (;;) {
+            const auto got = tested(magbelu_rates(plant(), number, all.takes.data(), all.takes.size()), "");
+            const bool fits = got.input_count == all.takes.size();
+            all.takes.resize(got.input_count);
+            all.gives = got.gives;
+            all.shift = static_cast<shift>(got.shift);
+            all.shifted = got.shifted;
             if (fits) {
                 return all;
             }
         }
+    }
+
+    /* How often each block fires in an iteration, or nothing where the rates have no balance. */
+    std::optional<std::vector<std::uint32_t>> firings() {
+        bool is_balanced = true;
+        auto all = table<std::uint32_t>([&](std::uint32_t *at, std::size_t room) {
+            const auto got = tested(magbelu_firings(plant(), at, room), "");
+            is_balanced = got.what == MAGBELU_BALANCED;
+            return got.value;
+        });
+        return is_balanced ? std::make_optional(std::move(all)) : std::nullopt;
     }
 
     /* The graph as text from which Graphviz's `dot` or Mermaid draws it, as `flow draw` writes it. */
@@ -480,6 +544,20 @@ private:
             if (fits) {
                 return {std::move(name), std::move(kind), static_cast<role>(got.role), got.input_count, static_cast<item_type>(got.input_type), got.output_count,
                         static_cast<item_type>(got.output_type)};
+            }
+        }
+    }
+
+    /* The rows that a call writes, which tells how many there are. */
+    template <class Row, class Call>
+    static std::vector<Row> table(Call call) {
+        std::vector<Row> all;
+        for (;;) {
+            const auto count = static_cast<std::size_t>(call(all.data(), all.size()));
+            const bool fits = count == all.size();
+            all.resize(count);
+            if (fits) {
+                return all;
             }
         }
     }

@@ -13,9 +13,10 @@ from typing import Any, Iterable, NamedTuple, Optional, SupportsIndex, TypeVar, 
 from ._arguments import Text, bytes_of, count_of, flag, index, is_bytes, marks_of, numbers_of, numpy, place_of, taps_of, unmasked, within
 from ._errors import refused
 from ._library import Lent, Plant, Room, calls, lent_name
-from ._listing import FORMATS, Block, Connection, Port, blocks_of, connections_of, drawing_of, svg_of
+from ._listing import FORMATS, WAITS, Block, Connection, Need, Port, Rates, Setting
+from ._listing import blocks_of, connections_of, drawing_of, firings_of, rates_of, rooms_of, setting_of, svg_of
 from ._runs import NO_PATH, read_file, refusal
-from ._slices import Slice, Slices, plan_of, slice_of
+from ._slices import NO_BLOCK, Slice, Slices, plan_of, slice_of
 
 # How arrays of items are called, by how many bytes an item has.
 CODES = {1: "B", 2: "h", 4: "i"}
@@ -40,22 +41,6 @@ class Tag(NamedTuple):
     key: str
     value: int
     source: int
-
-
-#: What a block waits for, by the number that the library tells.
-WAITS = {0: "ready", 1: "done", 2: "items", 3: "room", 5: "feed"}
-
-
-class Need(NamedTuple):
-    """What a block waits for: it may act ("ready"), is "done", or waits for "items" at an input or "room" at an output, which is the port; or it is a source that is
-    to be fed or closed ("feed").
-
-    >>> Need("items", 0).port
-    0
-    """
-
-    what: str
-    port: Optional[int]
 
 
 def array_of(item_size: int, data: bytes) -> Array:
@@ -277,6 +262,54 @@ class Held:
         blocks = self.blocks
         with self._lock:
             return connections_of(self._calls, ctypes.byref(self._plant), blocks)
+
+    @functools.cached_property
+    def rooms(self) -> list[int]:
+        """How many items the buffer behind each connection has room for, in the order of `connections`.
+
+        >>> magbelu.Graph(magbelu.EXAMPLE).rooms
+        [4096, 4096]
+        """
+        count = len(self.connections)
+        with self._lock:
+            return rooms_of(self._calls, ctypes.byref(self._plant), count)
+
+    @functools.cached_property
+    def firings(self) -> Optional[dict[str, int]]:
+        """How often each block fires in an iteration, after which all buffers are as they were; nothing where no numbers of firings are, or the least are too many.
+
+        >>> magbelu.Graph(magbelu.EXAMPLE).firings
+        {'src': 1, 'add': 1, 'out': 1}
+        """
+        blocks = self.blocks
+        with self._lock:
+            return firings_of(self._calls, ctypes.byref(self._plant), blocks)
+
+    def _number(self, block: Text) -> int:
+        """The number of a block, or one that none has."""
+        name = bytes_of(block).decode(errors="replace")
+        return next((number for number, it in enumerate(self.blocks) if it.name == name), NO_BLOCK)
+
+    def setting(self, block: Text) -> Optional[Setting]:
+        """What of a block may be set, in which range, and its own value; or nothing.
+
+        >>> magbelu.Graph(magbelu.EXAMPLE).setting("add")
+        Setting(least=0, most=255, value=10)
+        """
+        number = self._number(block)
+        with self._lock:
+            return setting_of(self._calls, ctypes.byref(self._plant), number, lambda it: tested(it, block))
+
+    def rates(self, block: Text) -> Rates:
+        """What a firing of a block takes of each connected input, and gives on each output.
+
+        >>> magbelu.Graph(magbelu.EXAMPLE).rates("add")
+        Rates(takes=[1], gives=1, shift=None, shifted=0)
+        """
+        number = self._number(block)
+        inputs = self.blocks[number].inputs if number != NO_BLOCK else 0
+        with self._lock:
+            return rates_of(self._calls, ctypes.byref(self._plant), number, inputs, lambda it: tested(it, block))
 
     @property
     def sources(self) -> list[Port]:

@@ -56,6 +56,20 @@ class Link(ctypes.Structure):
     _fields_ = [("writer", ctypes.c_uint32), ("reader", ctypes.c_uint32), ("out_port", ctypes.c_size_t), ("in_port", ctypes.c_size_t)]
 
 
+class SettingReply(ctypes.Structure):
+    _fields_ = [
+        ("status", ctypes.c_uint32), ("number", ctypes.c_uint32), ("what", ctypes.c_uint32),
+        ("least", ctypes.c_int64), ("most", ctypes.c_int64), ("value", ctypes.c_int64), ("count", ctypes.c_size_t),
+    ]
+
+
+class RatesReply(ctypes.Structure):
+    _fields_ = [
+        ("status", ctypes.c_uint32), ("number", ctypes.c_uint32), ("shift", ctypes.c_uint32),
+        ("shifted", ctypes.c_uint64), ("gives", ctypes.c_uint64), ("input_count", ctypes.c_size_t),
+    ]
+
+
 class LevelsReply(ctypes.Structure):
     _fields_ = [("status", ctypes.c_uint32), ("number", ctypes.c_uint32), ("taken", ctypes.c_uint64), ("given", ctypes.c_uint64), ("waiting", ctypes.c_uint64)]
 
@@ -150,6 +164,8 @@ def _with_types(library: ctypes.CDLL) -> ctypes.CDLL:
         "need": plant + pair,
         "block_count": plant,
         "connections": plant + pair,
+        "rooms": plant + pair,
+        "firings": plant + pair,
     }.items():
         call = getattr(library, "magbelu_bytes_" + name)
         call.restype, call.argtypes = Reply, types
@@ -159,6 +175,8 @@ def _with_types(library: ctypes.CDLL) -> ctypes.CDLL:
     library.magbelu_bytes_drain.restype, library.magbelu_bytes_drain.argtypes = Piece, plant + pair + u64 + [ctypes.c_uint32] + 2 * pair
     library.magbelu_bytes_read.restype, library.magbelu_bytes_read.argtypes = Piece, plant + pair + 2 * u64 + [ctypes.c_uint32] + 2 * pair
     library.magbelu_bytes_block.restype, library.magbelu_bytes_block.argtypes = Listed, plant + [ctypes.c_uint32] + 2 * pair
+    library.magbelu_bytes_setting.restype, library.magbelu_bytes_setting.argtypes = SettingReply, plant + [ctypes.c_uint32] + pair
+    library.magbelu_bytes_rates.restype, library.magbelu_bytes_rates.argtypes = RatesReply, plant + [ctypes.c_uint32] + pair
     library.magbelu_bytes_levels.restype, library.magbelu_bytes_levels.argtypes = LevelsReply, plant + pair
     library.magbelu_bytes_draw.restype, library.magbelu_bytes_draw.argtypes = Answer, plant + [ctypes.c_uint32] + pair
     library.magbelu_bytes_open_stream_at.restype, library.magbelu_bytes_open_stream_at.argtypes = Answer, plant + pair + u64 + pair

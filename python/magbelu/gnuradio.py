@@ -19,8 +19,7 @@ from ._arguments import Text, bytes_of
 from ._companion import has_port, has_ports, type_of
 from ._gr_block import NO_GNU_RADIO, Block, HierBlock, blocks, gr, pmt
 from ._gr_tags import Tags
-from ._held import Need
-from ._listing import Port
+from ._listing import Need, Port
 from ._ports import Path, Ports, ports, ports_of
 from ._runs import NO_PATH, read_file
 from ._stream import Levels, Stream

@@ -106,6 +106,46 @@ class Lacking(Noting):
         return _library.Reply(0 if self.is_closed else 3, 0, 0, 0)
 
 
+class Telling(Noting):
+    """The same of a graph of three blocks: `a` has 300 taps, `b` a number that may be set, `c` nothing. Its rates have a balance, or not."""
+
+    is_balanced = True
+
+    def magbelu_bytes_block_count(self, plant):
+        return _library.Reply(0, 0, 0, 3)
+
+    def magbelu_bytes_block(self, plant, number, name, name_room, kind, kind_room):
+        ctypes.memmove(name, b"abc"[number : number + 1], 1)
+        return _library.Listed(0, 0, 0, 1, 1, 2, 1, 1, 0)
+
+    def magbelu_bytes_connections(self, plant, rows, room):
+        return _library.Reply(0, 0, 0, 2)
+
+    def magbelu_bytes_rooms(self, plant, rooms, room):
+        ctypes.memmove(rooms, (ctypes.c_uint64 * 2)(4096, 2**32), 8 * room)
+        return _library.Reply(0, 0, 0, 2)
+
+    def magbelu_bytes_setting(self, plant, number, taps, room):
+        if number == 0:
+            if room >= 300:
+                ctypes.memmove(taps, (ctypes.c_int16 * 300)(*range(0, -300, -1)), 600)
+            return _library.SettingReply(0, 0, 2, 0, 0, 0, 300)
+        if number == 1:
+            return _library.SettingReply(0, 0, 1, low, high, -3, 0)
+        return _library.SettingReply(0, 0, 0, 0, 0, 0, 0) if number == 2 else _library.SettingReply(1, 20, 0, 0, 0, 0, 0)
+
+    def magbelu_bytes_rates(self, plant, number, takes, room):
+        if number > 2:
+            return _library.RatesReply(1, 20, 0, 0, 0, 0)
+        ctypes.memmove(takes, (ctypes.c_uint64 * 2)(5, 6), 8 * room)
+        return _library.RatesReply(0, 0, number, 9 * number, 7, 2)
+
+    def magbelu_bytes_firings(self, plant, firings, room):
+        if self.is_balanced:
+            ctypes.memmove(firings, (ctypes.c_uint32 * 3)(1, 2, 3), 4 * room)
+        return _library.Reply(0, 0, 0, 3) if self.is_balanced else _library.Reply(0, 0, 1, 0)
+
+
 library = Noting()
 _library._loaded = library
 graph = magbelu.Graph("")
@@ -377,6 +417,24 @@ def arrays_are_read():
     assert isinstance(items, array.array) and items.typecode == "h", items
 
 
+def what_is_told_of_blocks_is_read():
+    _library._loaded = Telling()
+    told = magbelu.Graph("")
+    assert told.setting("a") == (-32768, 32767, [-at for at in range(300)]) and told.setting("b") == (low, high, -3) and told.setting(b"c") is None
+    assert [told.rates(it) for it in "abc"] == [([5, 6], 7, None, 0), ([5, 6], 7, "skips", 9), ([5, 6], 7, "delays", 18)]
+    assert told.firings == {"a": 1, "b": 2, "c": 3}
+    assert len(told.connections) == 2 and told.rooms == [4096, 2**32]
+    for call in [lambda: told.setting("d"), lambda: told.rates("d")]:
+        try:
+            call()
+            raise AssertionError("no block is told of")
+        except magbelu.Refused as refused:
+            assert refused.number == 20 and refused.detail == "d"
+    _library._loaded.is_balanced = False
+    assert magbelu.Graph("").firings is None
+    _library._loaded = library
+
+
 tests = [
     items_are_integers,
     bytes_are_items,
@@ -391,6 +449,7 @@ tests = [
     paths_are_no_texts,
     texts_are_no_paths,
     copies_have_plants_of_their_own,
+    what_is_told_of_blocks_is_read,
     *([arrays_are_read] if numpy is None else [numpy_items_are_integers, numpy_numbers_are_whole, masked_items_are_none, numpy_is_read]),
 ]
 for test in tests:

@@ -358,6 +358,35 @@ connect = [{ from = "a", to = "b" }, { from = "b", to = "c" }, { from = "c", fro
     assert len(wide.blocks) == 256 and wide.blocks[255].name == ends[127][1] and wide.connections[127] == (ends[127][0], 0, ends[127][1], 0)
 
 
+def graphs_tell_how_blocks_move():
+    """Of `slow` a firing takes six items and gives two, so that those before it fire six times for it, and its sink twice."""
+    text = """block = [{ name = "src", kind = "vector_source", type = "short" }, { name = "skip", kind = "skiphead", type = "short", n = 5 },
+    { name = "zeros", kind = "delay", type = "short", n = 4 }, { name = "slow", kind = "fir", type = "short", taps = [1, -2, 3], decimation = 3, multiple = 2 },
+    { name = "gain", kind = "scale", type = "short", factor = -3, capacity = 9000 }, { name = "out", kind = "vector_sink", type = "short" }]
+connect = [{ from = "src", to = "skip" }, { from = "skip", to = "zeros" }, { from = "zeros", to = "slow" }, { from = "slow", to = "gain" }, { from = "gain", to = "out" }]"""
+    for held in [magbelu.Graph(text), magbelu.Stream(text)]:
+        assert held.rooms == [4096, 4096, 4096, 4096, 9000], held.rooms
+        assert held.firings == {"src": 6, "skip": 6, "zeros": 6, "slow": 1, "gain": 2, "out": 2}, held.firings
+        assert held.rates("skip") == ([1], 1, "skips", 5) and held.rates("zeros") == ([1], 1, "delays", 4) and held.rates("slow") == ([6], 2, None, 0)
+        assert held.rates("src").takes == [] and held.rates("out").takes == [1]
+        assert held.setting("slow") == (-32768, 32767, [1, -2, 3]) and held.setting("gain") == (-32768, 32767, -3) and held.setting("zeros") is None
+        # What is told may be set, and no more.
+        for value in held.setting("gain")[:2]:
+            held.set("gain", value)
+        refuses(29, "WrongSetting", lambda: held.set("gain", 32768))
+        refuses(29, "WrongSetting", lambda: held.set("slow", [1, 2]))
+        refuses(20, "NoSuchBlock", lambda: held.setting("none"))
+        refuses(20, "NoSuchBlock", lambda: held.rates("none"))
+        held.free()
+        refuses(55, "NotOpen", lambda: held.rates("slow"))
+        refuses(55, "NotOpen", lambda: held.setting("slow"))
+    # Ends that fire otherwise often have no balance.
+    uneven = """block = [{ name = "src", kind = "vector_source", type = "byte" }, { name = "half", kind = "keep_one_in_n", type = "byte", n = 2 },
+    { name = "sum", kind = "add", type = "byte" }, { name = "out", kind = "vector_sink", type = "byte" }]
+connect = [{ from = "src", to = "half" }, { from = "src", to = "sum" }, { from = "half", to = "sum", to_port = 1 }, { from = "sum", to = "out" }]"""
+    assert magbelu.Graph(uneven).firings is None and magbelu.Graph("").firings == {}
+
+
 def copies_begin_anew():
     graph = chain("byte")
     graph.feed("src", [1, 2])
@@ -468,6 +497,7 @@ tests = [
     paths_are_told_from_texts,
     graphs_are_drawn_as_by_flow,
     graphs_tell_what_they_are,
+    graphs_tell_how_blocks_move,
     copies_begin_anew,
     builders_build,
     each_kind_is_built,

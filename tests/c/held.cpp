@@ -241,6 +241,41 @@ static void graphs_are_listed() {
     refuses(55, "55 NotOpen", [&] { graph.blocks(); });
 }
 
+/* A source, a block with this kind and these parameters, and a sink, of shorts. */
+static std::string with_block(const std::string &words) {
+    return "block = [{ name = \"src\", kind = \"vector_source\", type = \"short\" }, { name = \"own\", " + words +
+           " },\n    { name = \"out\", kind = \"vector_sink\", type = \"short\" }]\n"
+           "connect = [{ from = \"src\", to = \"own\" }, { from = \"own\", to = \"out\" }]\n";
+}
+
+static void settings_and_rates_are_told() {
+    auto graph = chain("short");
+    must(graph.rooms() == std::vector<std::uint64_t>{4096, 4096}, "rooms");
+    const auto setting = graph.setting(1);
+    must(setting.number && setting.number->least == -32768 && setting.number->most == 32767 && setting.number->value == 10 && !setting.taps, "a number");
+    must(!graph.setting(0).number && !graph.setting(2).taps, "nothing that may be set");
+    refuses(20, "20 NoSuchBlock", [&] { graph.setting(3); });
+    const auto rates = graph.rates(1);
+    must(rates.takes == std::vector<std::uint64_t>{1} && rates.gives == 1 && rates.shift == magbelu::shift::alike && rates.shifted == 0, "rates");
+    must(graph.rates(0).takes.empty() && graph.rates(2).takes.size() == 1, "those of a source and a sink");
+    refuses(20, "20 NoSuchBlock", [&] { graph.rates(3); });
+    must(graph.firings() == std::vector<std::uint32_t>{1, 1, 1}, "firings");
+    std::string taps = "0";
+    for (int at = 1; at < 100; at++) {
+        taps += ", " + std::to_string(at);
+    }
+    const auto own = magbelu::stream(with_block("kind = \"fir\", type = \"short\", taps = [" + taps + "]")).setting(1).taps;
+    must(own && own->size() == 100 && own->at(0) == 0 && own->at(99) == 99, "taps");
+    const std::string halved = "kind = \"keep_one_in_n\", type = \"short\", n = 2 }, { name = \"sum\", kind = \"add\", type = \"short\"";
+    auto uneven = magbelu::graph("block = [{ name = \"src\", kind = \"vector_source\", type = \"short\" }, { name = \"half\", " + halved +
+                                 " },\n    { name = \"out\", kind = \"null_sink\", type = \"short\" }]\n"
+                                 "connect = [{ from = \"src\", to = \"half\" }, { from = \"src\", to = \"sum\" },\n"
+                                 "    { from = \"half\", to = \"sum\", to_port = 1 }, { from = \"sum\", to = \"out\" }]\n");
+    must(!uneven.firings(), "rates without a balance");
+    auto other = std::move(graph);
+    refuses(55, "55 NotOpen", [&] { graph.rates(1); });
+}
+
 /* files PATH: what is opened of a file that is written there */
 static void files_are_opened(const std::string &path) {
     std::ofstream(path) << chain_file("byte");
@@ -254,6 +289,7 @@ static void files_are_opened(const std::string &path) {
 int main(int, char **words) {
     files_are_opened(std::string(words[0]) + ".toml");
     graphs_are_listed();
+    settings_and_rates_are_told();
     slices_are_told();
     reasons_are_told();
     streams_tell_how_far_blocks_are();

@@ -31,6 +31,9 @@ static void not_open(struct magbelu_plant *plant) {
     replied(magbelu_settle(plant), 1, 55, 0, 0, "a settle");
     replied(magbelu_block_count(plant), 1, 55, 0, 0, "how many blocks");
     replied(magbelu_connections(plant, NULL, 0), 1, 55, 0, 0, "connections");
+    replied(magbelu_rooms(plant, NULL, 0), 1, 55, 0, 0, "rooms");
+    replied(magbelu_firings(plant, NULL, 0), 1, 55, 0, 0, "firings");
+    must(magbelu_setting(plant, 1, NULL, 0).number == 55 && magbelu_rates(plant, 1, NULL, 0).number == 55, "a setting and rates");
     must(magbelu_block(plant, 0, bytes, sizeof bytes, NULL, 0).number == 55 && bytes[0] == 'a', "a block");
     is(magbelu_draw(plant, MAGBELU_DOT, bytes, sizeof bytes), 1, 55, 0, NULL, "");
     piece = magbelu_read(plant, "out", 3, 0, 9, 0, bytes, sizeof bytes, NULL, 0);
@@ -89,6 +92,77 @@ static void graph_is_told(struct magbelu_plant *plant) {
     is(magbelu_draw(NULL, MAGBELU_DOT, NULL, 0), 1, 54, 0, NULL, "");
 }
 
+/* setting PLANT NUMBER WHAT LEAST MOST VALUE COUNT: what of the block may be set */
+static void setting(struct magbelu_plant *plant, uint32_t number, uint32_t what, int64_t least, int64_t most, int64_t value, size_t count) {
+    const struct magbelu_block_setting got = magbelu_setting(plant, number, NULL, 0);
+    must(got.status == 0 && got.number == 0 && got.what == what && got.least == least && got.most == most, "what may be set");
+    must(got.value == value && got.count == count, "the block's own");
+}
+
+/* rates PLANT NUMBER SHIFT SHIFTED GIVES INPUTS: what a firing of the block gives */
+static void rates(struct magbelu_plant *plant, uint32_t number, uint32_t shift, uint64_t shifted, uint64_t gives, size_t inputs) {
+    const struct magbelu_block_rates got = magbelu_rates(plant, number, NULL, 0);
+    must(got.status == 0 && got.number == 0 && got.shift == shift && got.shifted == shifted, "how a block shifts");
+    must(got.gives == gives && got.input_count == inputs, "what it gives");
+}
+
+/* The same chain: what may be set, how much a firing moves, and how often each block fires. */
+static void settings_and_rates(struct magbelu_plant *plant) {
+    uint64_t rooms[3] = {9, 9, 9}, takes[2] = {9, 9};
+    uint32_t firings[4] = {9, 9, 9, 9};
+    int16_t taps[1] = {9};
+    replied(magbelu_rooms(plant, rooms, 1), 0, 0, 0, 2, "rooms without room");
+    must(rooms[0] == 9, "nothing is written where not all fits");
+    replied(magbelu_rooms(plant, rooms, 3), 0, 0, 0, 2, "rooms");
+    must(rooms[0] == 4096 && rooms[1] == 4096 && rooms[2] == 9, "the rooms of both connections");
+    replied(magbelu_rooms(plant, NULL, 1), 1, 54, 0, 0, "rooms at NULL");
+    setting(plant, 0, MAGBELU_FIXED, 0, 0, 0, 0);
+    setting(plant, 1, MAGBELU_NUMBER, -32768, 32767, 1, 0);
+    must(magbelu_setting(plant, 1, taps, 1).count == 0 && taps[0] == 9, "no taps");
+    must(magbelu_setting(plant, 3, taps, 1).number == 20 && magbelu_setting(plant, 1, NULL, 1).number == 54, "no such block, and taps at NULL");
+    rates(plant, 0, MAGBELU_ALIKE, 0, 1, 0);
+    rates(plant, 1, MAGBELU_ALIKE, 0, 1, 1);
+    must(magbelu_rates(plant, 1, takes, 2).input_count == 1 && takes[0] == 1 && takes[1] == 9, "what it takes");
+    must(magbelu_rates(plant, 3, takes, 2).number == 20 && magbelu_rates(plant, 1, NULL, 1).number == 54, "no such block, and a table at NULL");
+    replied(magbelu_firings(plant, firings, 2), 0, 0, MAGBELU_BALANCED, 3, "firings without room");
+    must(firings[0] == 9, "nothing is written where not all fits");
+    replied(magbelu_firings(plant, firings, 4), 0, 0, MAGBELU_BALANCED, 3, "firings");
+    must(firings[0] == 1 && firings[1] == 1 && firings[2] == 1 && firings[3] == 9, "each block fires once");
+    replied(magbelu_firings(plant, NULL, 1), 1, 54, 0, 0, "firings at NULL");
+}
+
+/*
+ * A filter that keeps every third sum, two at a time, behind a block that leaves out five items, and one that puts four zeros before. A firing of the filter takes
+ * six items and gives two, so the others fire six times for it, and the sink twice.
+ */
+static void slow_filter(void) {
+    static const char file[] = "block = [{ name = \"src\", kind = \"vector_source\", type = \"short\" }, { name = \"skip\", kind = \"skiphead\", type = \"short\", n = 5 },\n"
+                               "    { name = \"zeros\", kind = \"delay\", type = \"short\", n = 4 },\n"
+                               "    { name = \"fir\", kind = \"fir\", type = \"short\", taps = [1, -2, 3], decimation = 3, multiple = 2 },\n"
+                               "    { name = \"out\", kind = \"vector_sink\", type = \"short\" }]\n"
+                               "connect = [{ from = \"src\", to = \"skip\" }, { from = \"skip\", to = \"zeros\" }, { from = \"zeros\", to = \"fir\" }, "
+                               "{ from = \"fir\", to = \"out\" }]\n";
+    struct magbelu_stream stream = MAGBELU_NO_STREAM;
+    int16_t taps[4] = {9, 9, 9, 9};
+    uint64_t takes[1] = {9};
+    uint32_t firings[5];
+    struct magbelu_block_setting got;
+    is(magbelu_stream_open(&stream, file, strlen(file), NULL, 0), 0, 0, 0, NULL, "");
+    got = magbelu_stream_setting(&stream, 3, taps, 2);
+    must(got.what == MAGBELU_TAPS && got.count == 3 && taps[0] == 9, "taps without room");
+    got = magbelu_stream_setting(&stream, 3, taps, 4);
+    must(got.count == 3 && taps[0] == 1 && taps[1] == -2 && taps[2] == 3 && taps[3] == 9, "taps");
+    setting(&stream.plant, 3, MAGBELU_TAPS, 0, 0, 0, 3);
+    rates(&stream.plant, 1, MAGBELU_SKIPS, 5, 1, 1);
+    rates(&stream.plant, 2, MAGBELU_DELAYS, 4, 1, 1);
+    rates(&stream.plant, 3, MAGBELU_ALIKE, 0, 2, 1);
+    must(magbelu_stream_rates(&stream, 3, takes, 1).gives == 2 && takes[0] == 6, "what the filter takes");
+    replied(magbelu_stream_firings(&stream, firings, 5), 0, 0, MAGBELU_BALANCED, 5, "firings");
+    must(firings[0] == 6 && firings[1] == 6 && firings[2] == 6 && firings[3] == 1 && firings[4] == 2, "how often each block fires");
+    replied(magbelu_stream_rooms(&stream, NULL, 0), 0, 0, 0, 4, "rooms");
+    replied(magbelu_stream_free(&stream), 0, 0, 0, 0, "a free");
+}
+
 static void refusals(struct magbelu_plant *plant) {
     const struct magbelu_tag off = {9, 1, (const uint8_t *)"a", 1}, bad = {0, 1, (const uint8_t *)"a b", 3}, null = {0, 1, NULL, 0};
     const int64_t wide[1] = {40000};
@@ -130,6 +204,8 @@ void held(void) {
     is(magbelu_open(&plant, chain, len, NULL, 0), 1, 56, 0, NULL, "");
     refusals(&plant);
     graph_is_told(&plant);
+    settings_and_rates(&plant);
+    slow_filter();
     replied(magbelu_item_size(&plant, "src", 3), 0, 0, 0, 2, "an item's size");
     replied(magbelu_feed(&plant, "src", 3, 0, "\1\0\2\0\3\0", 6, tags, 2), 0, 0, 0, 3, "a feed");
     replied(magbelu_set(&plant, "add", 3, 2, 10), 0, 0, 0, 2, "a setting");

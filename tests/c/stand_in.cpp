@@ -26,7 +26,7 @@ struct plant {
     std::vector<mark> marks;
     std::map<std::uint64_t, std::int64_t> added{{0, 10}};
     std::map<std::string, std::uint64_t> fired;
-    bool is_closed = false, keeps_all = false;
+    bool is_closed = false, keeps_all = false, has_taps = false, is_uneven = false;
     std::uint64_t drained = 0;
 };
 
@@ -134,6 +134,8 @@ magbelu_answer magbelu_bytes_open(magbelu_plant *held, const std::uint8_t *file,
     }
     held->at = new plant(text.find("\"short\"") != std::string::npos ? 2 : text.find("\"int\"") != std::string::npos ? 4 : 1);
     in(held).keeps_all = text.find("diff_encoder") != std::string::npos;
+    in(held).has_taps = text.find("fir") != std::string::npos;
+    in(held).is_uneven = text.find("keep_one_in_n") != std::string::npos;
     held->is_open = true;
     return {0, 0, 0, 0};
 }
@@ -278,6 +280,51 @@ magbelu_reply magbelu_bytes_connections(magbelu_plant *, magbelu_connection *con
         connections[1] = {1, 2, 0, 0};
     }
     return {0, 0, 0, 2};
+}
+
+magbelu_reply magbelu_bytes_rooms(magbelu_plant *, std::uint64_t *rooms, std::size_t room) {
+    if (room >= 2) {
+        rooms[0] = rooms[1] = 4096;
+    }
+    return {0, 0, 0, 2};
+}
+
+/* (taps are 0, 1, .., 99) */
+magbelu_block_setting magbelu_bytes_setting(magbelu_plant *held, std::uint32_t number, std::int16_t *taps, std::size_t room) {
+    if (number >= std::size(names)) {
+        return {1, 20, 0, 0, 0, 0, 0};
+    }
+    if (number != 1) {
+        return {0, 0, MAGBELU_FIXED, 0, 0, 0, 0};
+    }
+    if (in(held).has_taps) {
+        for (std::size_t at = 0; at < 100 && room >= 100; at++) {
+            taps[at] = static_cast<std::int16_t>(at);
+        }
+        return {0, 0, MAGBELU_TAPS, 0, 0, 0, 100};
+    }
+    const std::int64_t half = std::int64_t(1) << (8 * in(held).size - 1), least = in(held).size == 1 ? 0 : -half;
+    return {0, 0, MAGBELU_NUMBER, least, least + 2 * half - 1, 10, 0};
+}
+
+magbelu_block_rates magbelu_bytes_rates(magbelu_plant *held, std::uint32_t number, std::uint64_t *takes, std::size_t room) {
+    if (!held->is_open || number >= std::size(names)) {
+        return {1, held->is_open ? 20u : 55u, 0, 0, 0, 0};
+    }
+    if (number != 0 && room >= 1) {
+        takes[0] = 1;
+    }
+    return {0, 0, MAGBELU_ALIKE, 0, 1, number != 0};
+}
+
+magbelu_reply magbelu_bytes_firings(magbelu_plant *held, std::uint32_t *firings, std::size_t room) {
+    if (in(held).is_uneven) {
+        return {0, 0, MAGBELU_UNEVEN, 0};
+    }
+    for (std::size_t at = 0; at < std::size(names) && room >= std::size(names); at++) {
+        firings[at] = 1;
+    }
+    return {0, 0, MAGBELU_BALANCED, std::size(names)};
 }
 
 magbelu_answer magbelu_bytes_draw(magbelu_plant *, std::uint32_t format, std::uint8_t *output, std::size_t room) {

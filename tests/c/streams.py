@@ -181,7 +181,7 @@ def streams_are_tagged_set_and_refused():
 
 def streams_tell_how_far_blocks_are():
     text = CHAIN % (3 * ("short",))
-    stream = magbelu.Stream(text.replace('kind = "add_const", value', 'kind = "keep_one_in_n", n'))
+    stream = magbelu.Stream(text.replace("add_const", "keep_one_in_n").replace("value", "n"))
     assert stream.feed("src", range(25)) == 25 and stream.levels("src") == (0, 0, 25)
     assert stream.step("src", 23) == 23 and stream.step("add") == 2
     assert stream.levels("src") == magbelu.Levels(taken=23, given=23, waiting=2)

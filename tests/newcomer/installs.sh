@@ -179,7 +179,7 @@ program_files() {
     (cd -- "$top/python" && find flow_from_grc -name '*.py' -printf 'usr/share/magbelu/%p\n')
     # (dpkg wants long pages compressed, but for examples and pictures)
     printf 'usr/share/doc/magbelu/%s\n' {C,COMMANDS,COVERAGE,FILES,FOR_GNU_RADIO_USERS,GLOSSARY,KINDS,REFUSALS,SPEED,STUDIO,TUTORIAL}.md.gz {echo,trace}.svg studio_{file,signal}.png \
-        tutorial_{step_{1,2,3,4,5},filter,frequency,levels,frames,text,errors}.svg
+        tutorial_{step_{1,2,3,4,5,6},filter,frequency,levels,frames,text,errors}.svg
     (cd -- "$top" && find examples \( -path examples/embed -o -path examples/own_block -o -path examples/pipeline \) -prune -o -type f ! -name '*.pyc' -printf 'usr/share/doc/magbelu/%p\n')
 }
 

@@ -197,10 +197,23 @@ def texts() -> None:
             graph, refused = graphs.GraphFile.draft(edit.with_table("", "block", edit.table_of("a", kind, item_type)))
             # (it is not joined yet)
             assert graph is not None and refused is not None and refused.number == 8, (kind.name, refused)
-    settable = [it for it in kinds.kinds() if kinds.setting_of({"kind": it, "type": "short", "taps": [1, 2]})]
+    settable = [it for it in kinds.kinds() if kinds.settable_of(it)]
     assert settable == ["add_const", "multiply_const", "divide_const", "and_const", "or_const", "xor_const", "scale", "mute", "fir", "interp_fir"], settable
-    ranges = [kinds.setting_of({"kind": it, "type": "byte", "taps": [1, 2]}) for it in ("add_const", "scale", "mute", "fir")]
-    assert ranges == [("value", 0, 255, None), ("factor", -32768, 32767, None), ("on", 0, 1, None), ("taps", -32768, 32767, 2)], ranges
+    tables: list[dict[str, Any]] = [
+        {"kind": "add_const", "type": "byte", "value": 7}, {"kind": "scale", "type": "short", "factor": -3, "shift": 1},
+        {"kind": "mute", "type": "int", "on": 1}, {"kind": "fir", "type": "short", "taps": [1, -2]}, {"kind": "repeat", "type": "short", "n": 2},
+    ]
+    shown = []
+    for table in tables:
+        text = ""
+        ends: list[dict[str, Any]] = [{"name": name, "kind": "vector_" + name, "type": table["type"]} for name in ("source", "sink")]
+        for block in (*ends, {"name": "it", **table}):
+            text = edit.with_table(text, "block", block)
+        for start, end in (("source", "it"), ("it", "sink")):
+            text = edit.with_table(text, "connect", edit.connect_of(start, 0, end, 0))
+        shown.append(graphs.GraphFile.of(text).shown()["blocks"][2]["setting"])
+    ranges = [it and tuple(it.values()) for it in shown]
+    assert ranges == [("value", 0, 255, None, 7), ("factor", -32768, 32767, None, -3), ("on", 0, 1, None, 1), ("taps", -32768, 32767, 2, [1, -2]), None], ranges
 
 
 def keys_and_contrast() -> None:

@@ -18,18 +18,20 @@ EXAMPLE = TOP / "examples/receiver" if len(sys.argv) < 4 else pathlib.Path(sys.a
 #: How many pairs of I and Q are a second, and how many are a bit; and in Hz how far a 1 is above the carrier, and a 0 below it.
 RATE, SAMPLES, DEVIATION = 256_000, 32, 4_000
 LEVEL = 40
+#: How many pairs there are before the signal, by which the graph knows where the bits and frames begin.
+BEFORE = 990
 #: How the command shows what the filter of I gives, and the bits before they are thinned.
 WATCHED = ("low_i=spectrum", "low_i=waterfall", "slice=bits")
 NONE = " ".join(["0"] * 40)
 
 
 def recording(repeats: int) -> bytes:
-    """The bytes that rtl_sdr writes of the lines of the example, without noise, again and again."""
-    sys.path.insert(0, str(EXAMPLE))
-    from frames import sent
+    """The bytes that rtl_sdr writes of the lines of the example, without noise, again and again: silence, alternating bits, and their frames."""
+    import magbelu
 
-    phase, one = 0.0, bytearray()
-    for bit in sent((EXAMPLE / "text.txt").read_text().splitlines()):
+    (sent,), _ = magbelu.run_items((EXAMPLE / "sender.toml").read_bytes(), [("text", (EXAMPLE / "text.txt").read_bytes())], ["bits"])
+    phase, one = 0.0, bytearray([128, 128]) * BEFORE
+    for bit in [1, 0] * 64 + list(sent):
         for _ in range(SAMPLES):
             phase += 2 * math.pi * (DEVIATION if bit else -DEVIATION) / RATE
             one += bytes((round(128 + LEVEL * math.cos(phase)), round(128 + LEVEL * math.sin(phase))))
@@ -99,12 +101,7 @@ def receiver() -> None:
 
 
 def receives_text() -> None:
-    """What the page shows of the bits is what it saves of them, and the example's own scripts read the lines that were sent out of these."""
-    import magbelu
-
-    sys.path.insert(0, str(EXAMPLE))
-    from frames import BODY, bodies, told
-
+    """What the page shows of the bits is what it saves of them, and it saves the lines that were sent."""
     folder = tempfile.TemporaryDirectory()
     path = pathlib.Path(folder.name) / "recording.u8"
     path.write_bytes(recording(2))
@@ -113,11 +110,10 @@ def receives_text() -> None:
         comes_to(driver, "done")
         bits = urllib.request.urlopen(server.address + "items/bits").read()
         until("the last bits", lambda: numbers_of(driver, "bits") == list(bits[-512:]))
-    (frames,), is_done = magbelu.run_items((EXAMPLE / "5_text.toml").read_bytes(), [("bits", b"".join(bodies(bits)))], ["bytes"])
-    lines = [told(frames[at : at + BODY]) for at in range(0, len(frames), BODY)]
-    # (they were sent twice, and the end of the last one is still in the filters)
-    wanted = ["right  " + it for it in (EXAMPLE / "text.txt").read_text().splitlines()]
-    assert is_done and len(lines) >= len(wanted) == 12 and lines == (2 * wanted)[: len(lines)], lines
+        lines = urllib.request.urlopen(server.address + "items/lines").read()
+    # (the second time there are bits before the frames, which the graph does not look for)
+    wanted = b"".join(b"+" + it for it in (EXAMPLE / "text.txt").read_bytes().splitlines(keepends=True))
+    assert lines[: len(wanted)] == wanted and len(wanted) == 12 * 29, lines
 
 
 CASES = [receiver, receives_text]

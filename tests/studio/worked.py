@@ -5,7 +5,7 @@ from __future__ import annotations
 import array
 import asyncio
 import pathlib
-from typing import Any, Optional
+from typing import Any
 
 from browser import PATIENCE, TOP, Server, browser, choose, click, comes_to, fill, numbers_of, text_of, until
 from runs import SAW, THROUGH, folder_with
@@ -23,12 +23,27 @@ connect = [{ from = "src", to = "add" }, { from = "add", to = "low" }, { from = 
 """ % ", ".join(["1"] * 200)
 
 
+def alone(table: dict[str, Any], inputs: int, outputs: int) -> str:
+    """The graph of a block of shorts alone, between sources and sinks."""
+    from magbelu.studio import edit
+
+    text = edit.with_table("", "block", {**table, "name": "it"})
+    for port in range(inputs):
+        text = edit.with_table(text, "block", {"name": "i%d" % port, "kind": "vector_source", "type": "short"})
+        text = edit.with_table(text, "connect", edit.connect_of("i%d" % port, 0, "it", port))
+    for port in range(outputs):
+        text = edit.with_table(text, "block", {"name": "o%d" % port, "kind": "vector_sink", "type": "short"})
+        text = edit.with_table(text, "connect", edit.connect_of("it", port, "o%d" % port, 0))
+    return text
+
+
 def windows() -> None:
     """What a firing takes and gives, by the equations of the kinds."""
-    from magbelu.studio.windows import Window, window_of
-    from magbelu._listing import Block
+    import magbelu
+    from magbelu.studio.profile import NONE, Profile
+    from magbelu.studio.windows import Window
 
-    cases: list[tuple[dict[str, Any], int, int, Optional[Window]]] = [
+    cases: list[tuple[dict[str, Any], int, int, Window]] = [
         ({"kind": "add_const", "type": "short", "value": 1}, 1, 1, Window((1,), (1,))),
         ({"kind": "fir", "type": "short", "taps": [1, 2, 3], "decimation": 10}, 1, 1, Window((10,), (1,))),
         ({"kind": "interp_fir", "type": "short", "taps": [1, 2, 3], "interpolation": 4}, 1, 1, Window((1,), (4,))),
@@ -37,14 +52,16 @@ def windows() -> None:
         ({"kind": "interleave", "type": "short", "ports": 3}, 3, 1, Window((1, 1, 1), (3,))),
         ({"kind": "deinterleave", "type": "short", "ports": 3}, 1, 3, Window((3,), (1, 1, 1))),
         ({"kind": "stream_mux", "type": "short", "lengths": [2, 5]}, 2, 1, Window((2, 5), (7,))),
-        # (as long as it gives some, and once it does)
+        # (once it gives and takes some)
         ({"kind": "head", "type": "short", "n": 0}, 1, 1, Window((1,), (1,))),
         ({"kind": "skiphead", "type": "short", "n": 1000}, 1, 1, Window((1,), (1,))),
         ({"kind": "delay", "type": "short", "n": 1000}, 1, 1, Window((1,), (1,))),
     ]
     for table, inputs, outputs, wanted in cases:
-        found = window_of({"name": "b", **table}, Block("b", table["kind"], "work", inputs, "short", outputs, "short"))
-        assert found == wanted, (table, found)
+        with magbelu.Stream(alone(table, inputs, outputs)) as stream:
+            profile = Profile(stream, [])
+            assert profile.windows["it"] == wanted, (table, profile.windows)
+            assert profile.each_of("it") == (NONE if table["kind"] in ("skiphead", "delay") else wanted), table
     balanced()
 
 
@@ -61,11 +78,10 @@ def balanced() -> None:
         except magbelu.Refused:
             continue
         with magbelu.Stream(graph.text) as stream:
-            each = Profile(graph, stream, []).windows
+            each = Profile(stream, []).windows
             for it in stream.connections if graph.firings else []:
                 writer, reader = each[it.writer], each[it.reader]
-                assert writer is not None and reader is not None, (path, it)
-                given, taken = int(graph.firings[it.writer]) * writer.gives[it.out_port], int(graph.firings[it.reader]) * reader.takes[it.in_port]
+                given, taken = graph.firings[it.writer] * writer.gives[it.out_port], graph.firings[it.reader] * reader.takes[it.in_port]
                 assert given == taken, (path, it, given, taken)
                 count += 1
     assert count > 100, count

@@ -1,6 +1,8 @@
 pub mod CallAnswers
 pub mod AnyPlants
 pub mod Between
+pub mod BlockRates
+pub mod BlockSettings
 pub mod Cuts
 pub mod Draining
 pub mod Explaining
@@ -12,6 +14,7 @@ pub mod Levels
 pub mod Listing
 pub mod Pieces
 pub mod Replies
+pub mod Rooms
 pub mod Settling
 pub mod Slicing
 pub mod Tagging

@@ -2,14 +2,20 @@
 
 ghost use Rattle.std.specs.Prelude.{◌≡◌, length};
 ghost use Rattle.magbelu_c.specs.AnyPlants.{plant_of};
+ghost use Rattle.magbelu_c.specs.BlockRates.{TellsFirings, TellsRates, unrated};
+ghost use Rattle.magbelu_c.specs.BlockSettings.{TellsSetting, unset};
 ghost use Rattle.magbelu_c.specs.Listing.{Draws, Links, Lists, format_of, told, unlisted};
 ghost use Rattle.magbelu_c.specs.Replies.{OnHeld, done, not_open};
+ghost use Rattle.magbelu_c.specs.Rooms.{Rooms};
 ghost use Rattle.magbelu_c.specs.Slicing.{OnGraph};
 
 use crate::answer::Answer;
+use crate::block_rates::{BlockRates, show_firings, show_rates, unrated};
+use crate::block_setting::{BlockSetting, show_setting, unset};
 use crate::handle::Handle;
 use crate::listing::{Link, Listed, format, show_block, show_drawing, show_links, told, unlisted};
 use crate::reply::{Reply, done, not_open};
+use crate::rooms::show_rooms;
 use std::alloc::Global;
 
 /// Tells how many blocks there are.
@@ -79,4 +85,70 @@ pub extern "C" fn magbelu_bytes_draw(
     let answer = show_drawing(alloc, held.graph(), format(mermaid), output);
     plant.put(held);
     answer
+}
+
+/// Tells how many items the buffer behind each connection has room for, in the order of the file.
+#[unsafe(no_mangle)]
+pub extern "C" fn magbelu_bytes_rooms(alloc: Global, plant: &mut Handle, rooms: &mut [u64]) -> Reply
+    ensures { OnGraph plant.old.plant plant.new.plant (λ g. Rooms g rooms.old rooms.new result) ((rooms.new ≡ rooms.old) × (result ≡ not_open)) }
+{
+    let Some(held) = plant.take(alloc) else {
+        return not_open();
+    };
+    let reply = show_rooms(alloc, held.graph(), rooms);
+    plant.put(held);
+    reply
+}
+
+/// Tells what of the block of a number may be set, and its own value of that.
+#[unsafe(no_mangle)]
+pub extern "C" fn magbelu_bytes_setting(
+    alloc: Global,
+    plant: &mut Handle,
+    number: u32,
+    taps: &mut [i16],
+) -> BlockSetting
+    ensures { OnGraph plant.old.plant plant.new.plant (λ g. TellsSetting g number taps.old taps.new result) ((taps.new ≡ taps.old) × (result ≡ unset not_open)) }
+{
+    let Some(held) = plant.take(alloc) else {
+        return unset(not_open());
+    };
+    let setting = show_setting(held.graph(), number, taps);
+    plant.put(held);
+    setting
+}
+
+/// Tells what a firing of the block of a number takes of each connected input, and gives on each output.
+#[unsafe(no_mangle)]
+pub extern "C" fn magbelu_bytes_rates(
+    alloc: Global,
+    plant: &mut Handle,
+    number: u32,
+    takes: &mut [u64],
+) -> BlockRates
+    ensures { OnGraph plant.old.plant plant.new.plant (λ g. TellsRates g number takes.old takes.new result) ((takes.new ≡ takes.old) × (result ≡ unrated not_open)) }
+{
+    let Some(held) = plant.take(alloc) else {
+        return unrated(not_open());
+    };
+    let rates = show_rates(alloc, held.graph(), number, takes);
+    plant.put(held);
+    rates
+}
+
+/// Tells how often each block fires in an iteration, in the order of the file.
+#[unsafe(no_mangle)]
+pub extern "C" fn magbelu_bytes_firings(
+    alloc: Global,
+    plant: &mut Handle,
+    firings: &mut [u32],
+) -> Reply
+    ensures { OnGraph plant.old.plant plant.new.plant (λ g. TellsFirings g firings.old firings.new result) ((firings.new ≡ firings.old) × (result ≡ not_open)) }
+{
+    let Some(held) = plant.take(alloc) else {
+        return not_open();
+    };
+    let reply = show_firings(alloc, held.graph(), firings);
+    plant.put(held);
+    reply
 }

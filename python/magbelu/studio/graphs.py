@@ -6,21 +6,15 @@ from dataclasses import dataclass
 from typing import Any, Optional
 
 from .._errors import Refused
-from .._runs import check
+from .._listing import Setting
 from .._stream import Stream
 from .file import tables_of
-from .kinds import setting_of
+from .kinds import settable_of
 
 # The keys of a block that are no parameters of its kind.
 OWN_KEYS = ("name", "kind")
 # The refusals that come only once all blocks and connections of a file were found to be right: of ports that are not used, of the graph as a whole, and of feeds.
 DRAWN = (5, 7, 8, 11, 12, 20, 21, 24, 25, 26)
-
-
-def firings_of(text: str) -> dict[str, str]:
-    """How often each block fires in an iteration, where the rates are balanced."""
-    lines = [line.split() for line in check(text).splitlines()]
-    return {words[1]: words[2] for words in lines if words[0] == "q"}
 
 
 @dataclass(frozen=True)
@@ -30,16 +24,19 @@ class GraphFile:
     text: str
     blocks: list[dict[str, Any]]
     connects: list[dict[str, Any]]
-    firings: dict[str, str]
-    # The types of what blocks give, where the library tells them.
+    # Where the library has accepted it: how often blocks fire in an iteration, if the rates are balanced, what may be set of them, and the types of what they give.
+    firings: dict[str, int]
+    settings: dict[str, Setting]
     _types: dict[str, str]
 
     @classmethod
     def of(cls, text: str) -> GraphFile:
-        """Of a text. One that `check` refuses is refused as it does."""
+        """Of a text. One that the library refuses is refused as it does."""
         with Stream(text) as stream:
             types = {it.name: it.output_type for it in stream.blocks if it.output_type}
-        return cls._with(text, firings_of(text), types)
+            found = ((it.name, stream.setting(it.name)) for it in stream.blocks)
+            settings = {name: it for name, it in found if it is not None}
+            return cls._with(text, stream.firings or {}, settings, types)
 
     @classmethod
     def draft(cls, text: str) -> tuple[Optional[GraphFile], Optional[Refused]]:
@@ -47,12 +44,12 @@ class GraphFile:
         try:
             return cls.of(text), None
         except Refused as refused:
-            return (cls._with(text, {}, {}) if refused.number in DRAWN else None), refused
+            return (cls._with(text, {}, {}, {}) if refused.number in DRAWN else None), refused
 
     @classmethod
-    def _with(cls, text: str, firings: dict[str, str], types: dict[str, str]) -> GraphFile:
+    def _with(cls, text: str, firings: dict[str, int], settings: dict[str, Setting], types: dict[str, str]) -> GraphFile:
         tables = tables_of(text)
-        return cls(text, tables.get("block", []), tables.get("connect", []), firings, types)
+        return cls(text, tables.get("block", []), tables.get("connect", []), firings, settings, types)
 
     def block(self, name: str) -> Optional[dict[str, Any]]:
         """The block of a name."""
@@ -72,14 +69,21 @@ class GraphFile:
         return {"blocks": [self._block(it) for it in self.blocks], "connects": [self._connect(it) for it in self.connects], "text": self.text}
 
     def _block(self, block: dict[str, Any]) -> dict[str, Any]:
-        setting = setting_of(block)
         return {
             "name": block["name"],
             "kind": block["kind"],
             "parameters": {key: value for key, value in block.items() if key not in OWN_KEYS},
             "firings": self.firings.get(block["name"]),
-            "setting": setting and {**setting._asdict(), "value": block[setting.key]},
+            "setting": self._setting(block),
         }
+
+    def _setting(self, block: dict[str, Any]) -> Optional[dict[str, Any]]:
+        """What of a block may be set while it runs: the key that has its first value, which is shown too, the least and the greatest number, and of taps how many."""
+        it = self.settings.get(block["name"])
+        if it is None:
+            return None
+        taps = len(it.value) if isinstance(it.value, list) else None
+        return {"key": settable_of(block["kind"]), "low": it.least, "high": it.most, "taps": taps, "value": it.value}
 
     def _connect(self, it: dict[str, Any]) -> dict[str, Any]:
         return {"from": it["from"], "from_port": it.get("from_port", 0), "to": it["to"], "to_port": it.get("to_port", 0), "type": self.type_of(it["from"])}

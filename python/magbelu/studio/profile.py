@@ -3,34 +3,27 @@ one by one, which comes to the same items, and each step is timed by the process
 
 from __future__ import annotations
 
-import re
 import time
 from typing import Any, Iterable, Optional
 
 from .._stream import Stream
-from .graphs import GraphFile
-from .windows import CHANGING, Window, window_of
+from .windows import Window, window_of
 
-# An edge of a drawing: the writer, its port, the reader, its port, and behind the type of the items the capacity of the buffer.
-EDGE = re.compile(r'^  "([^"]*)":o(\d+):e -> "([^"]*)":i(\d+):w \[label="\w+ (\d+)"', re.MULTILINE)
 # How much of what was measured before still counts, so that a change shows within some looks.
 KEEPS = 0.8
-# What is known of a block of which nothing is.
+# What each firing of a block takes and gives whose firings are not alike.
 NONE = Window((), ())
 
 
 class Profile:
     """What was measured of a stream, whose inputs are the sources that something feeds. One thread measures, others read what is `shown`."""
 
-    def __init__(self, graph: GraphFile, stream: Stream, inputs: Iterable[str]) -> None:
+    def __init__(self, stream: Stream, inputs: Iterable[str]) -> None:
         self._stream, self._inputs = stream, list(inputs)
         self._edges = stream.connections
-        tables = {it["name"]: it for it in graph.blocks}
-        #: What a firing of each block takes and gives, where that is known.
-        self.windows: dict[str, Optional[Window]] = {it.name: window_of(tables[it.name], it) for it in stream.blocks}
-        rooms = {tuple(ends): int(room) for *ends, room in EDGE.findall(stream.draw())}
-        self._capacities = [rooms[it.writer, str(it.out_port), it.reader, str(it.in_port)] for it in self._edges]
-        self._kinds = {it.name: it.kind for it in stream.blocks}
+        #: What a firing of each block takes and gives.
+        self.windows = {it.name: window_of(stream, it) for it in stream.blocks}
+        self._shifted = {it.name for it in stream.blocks if stream.rates(it.name).shifted}
         self._readers, self._writers = self._numbers("reader"), self._numbers("writer")
         self._seconds = dict.fromkeys(self.windows, 0.0)
         self._firings = dict.fromkeys(self.windows, 0.0)
@@ -71,8 +64,8 @@ class Profile:
             self._take({name: max(it - rounds * call, 0.0) for name, it in seconds.items()}, firings, fills)
 
     def each_of(self, name: str) -> Window:
-        """What each firing of a block takes and gives, and nothing where that is not known, or is not the same for all."""
-        return NONE if self._kinds[name] in CHANGING else self.windows[name] or NONE
+        """What each firing of a block takes and gives, and nothing where that is not the same for all."""
+        return NONE if name in self._shifted else self.windows[name]
 
     def count(self, name: str, firings: int) -> Optional[int]:
         """Counts firings of a block. It gives how many came before, where that is known."""
@@ -88,8 +81,6 @@ class Profile:
     def _move(self, name: str, count: int, levels: list[int], fills: list[int]) -> None:
         """Notes what so many firings of a block put into its outputs and took of its inputs."""
         window = self.windows[name]
-        if window is None:
-            return
         for number in self._writers[name]:
             levels[number] += count * window.gives[self._edges[number].out_port]
             fills[number] = max(fills[number], levels[number])
@@ -100,14 +91,14 @@ class Profile:
         for name in self.windows:
             self._seconds[name] = KEEPS * self._seconds[name] + seconds[name]
             self._firings[name] = KEEPS * self._firings[name] + firings[name]
-        self._fills = [min(it, room) for it, room in zip(fills, self._capacities)]
-        self.shown = {"blocks": {name: self._block(name) for name in self.windows}, "fills": [list(it) for it in zip(self._fills, self._capacities)]}
+        self._fills = [min(it, room) for it, room in zip(fills, self._stream.rooms)]
+        self.shown = {"blocks": {name: self._block(name) for name in self.windows}, "fills": [list(it) for it in zip(self._fills, self._stream.rooms)]}
 
     def _block(self, name: str) -> dict[str, Any]:
         """The share of a block in the work of all, and how many items it takes and gives for each item that comes through an input of the run."""
         fed, window = sum(self._firings[it] for it in self._inputs), self.windows[name]
         each = self._firings[name] / fed if fed else 0.0
-        takes, gives = window or NONE
+        takes, gives = window
         return {
             "share": self._seconds[name] / (sum(self._seconds.values()) or 1.0),
             "takes": [it * each for it in takes],

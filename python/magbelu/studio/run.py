@@ -65,7 +65,7 @@ class Run(threading.Thread):
         sinks = graph.named("vector_sink")
         sizes = {it: self._stream._item_size(it) for it in sinks}
         self.traces = {it: Trace(size, room_of(len(sinks), size)) for it, size in sizes.items()}
-        self._profile = Profile(graph, self._stream, ways.inputs)
+        self._profile = Profile(self._stream, ways.inputs)
         self._open(ways)
 
     def _open(self, ways: Ways) -> None:

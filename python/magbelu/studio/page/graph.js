@@ -168,6 +168,6 @@ export class GraphView {
 export function blockTable(block) {
     const rows = Object.entries(block.parameters).map(([key, value]) =>
         element("tr", {}, element("th", {}, key), element("td", {}, Array.isArray(value) ? value.join(" ") : String(value))));
-    const fires = block.firings ? `fires ${block.firings === "1" ? "once" : `${grouped(block.firings)} times`} in an iteration` : "";
+    const fires = block.firings ? `fires ${block.firings === 1 ? "once" : `${grouped(block.firings)} times`} in an iteration` : "";
     return [element("h2", {}, block.name), element("p", {}, block.kind), element("p", { class: "note" }, fires), element("table", {}, ...rows)];
 }
