@@ -8,14 +8,12 @@ from typing import Callable, Dict, Iterator, List, Tuple
 
 import numpy
 import theory
-from frames import BODY, CODE, bits_of, body, sequence
-from make import DEVIATION, LEVEL, OFFSET, RATE, SAMPLES, lines
-from svg import BLUE, BOTTOM, GREEN, GREY, HEIGHT, LEFT, ORANGE, RED, TOP, Plot
+from make import DEVIATION, LEVEL, OFFSET, RATE, RATIO, SAMPLES
+from svg import BLUE, BOTTOM, GREEN, GREY, HEIGHT, LEFT, ORANGE, PURPLE, RED, TOP, Plot
 
 HERE = Path(__file__).resolve().parent
-# What the filter multiplies with, how many samples it keeps one of, and how many of these a bit has; the phase of step 4.
-GAIN, EVERY, PHASE = 64, 4, 4
-BIT = SAMPLES // EVERY
+# What the filter multiplies with, and how many samples it keeps one of.
+GAIN, EVERY = 64, 4
 # The least power that a spectrum shows, in decibels.
 LEAST = -40
 
@@ -50,9 +48,9 @@ def frequency_plot() -> Plot:
     first, count = 1280, 320
     items = read("frequency.s32", "<i4")[first : first + count]
     # of an amplitude of the filtered signal, without noise
-    amplitude = LEVEL * GAIN / numpy.sqrt(1 + SAMPLES / 10**1.4)
-    plot = Plot((first, first + count), (-9000, 9000))
-    plot.axes([(at, str(at)) for at in range(first, first + count + 1, 40)], [(at, str(at)) for at in range(-8000, 8001, 4000)], "item", "frequency")
+    amplitude = LEVEL * GAIN / numpy.sqrt(1 + SAMPLES / 10 ** (RATIO / 10))
+    plot = Plot((first, first + count), (-3000, 3000))
+    plot.axes([(at, str(at)) for at in range(first, first + count + 1, 40)], [(at, str(at)) for at in range(-3000, 3001, 1000)], "item", "frequency")
     plot.line(list(enumerate(items, first)), BLUE)
     for tone, text in ((DEVIATION, "a 1: 5 kHz"), (0, "the carrier: 1 kHz"), (-DEVIATION, "a 0: -3 kHz")):
         height = amplitude**2 * numpy.sin(2 * numpy.pi * (OFFSET + tone) * EVERY / RATE) / 256
@@ -62,21 +60,26 @@ def frequency_plot() -> Plot:
 
 
 def levels_plot() -> Plot:
-    """Pieces of two bits, one over the other: an eye."""
-    levels = read("levels.s32", "<i4")
-    plot = Plot((0, 2 * BIT), (-60000, 60000))
-    plot.axes([(at, str(at % BIT)) for at in range(2 * BIT + 1)], [(at, str(at)) for at in range(-60000, 60001, 20000)], "phase: item modulo 8", "level")
-    for piece in range(200, 320):
-        plot.line(enumerate(levels[piece * BIT : (piece + 2) * BIT + 1]), BLUE, 0.5)
-    for phase in (PHASE, PHASE + BIT):
-        plot.line([(phase, -60000), (phase, 60000)], RED, 1.5)
+    """How often a level of a 1 and one of a 0 lies in each thousand."""
+    sent = read("sent.u8", "u1")
+    # (frames follow one another, and the first begins an access code before what is behind it)
+    blocks = theory.blocks_of(HERE / "5_order.toml")
+    levels = read("soft.s32", "<i4")[blocks["skip"]["n"] + blocks["frame"]["m"] - blocks["frame"]["n"] :][: len(sent)]
+    edges = numpy.arange(-18_000, 18_001, 1000)
+    plot = Plot((edges[0], edges[-1]), (0, 400))
+    plot.axes([(at, str(at)) for at in range(-15_000, 15_001, 5000)], [(at, str(at)) for at in range(0, 401, 100)], "level", "bits")
+    for bit, colour in ((0, ORANGE), (1, BLUE)):
+        counts, _ = numpy.histogram(levels[sent == bit], edges)
+        plot.line(zip(edges[:-1] + 500, counts), colour)
+    plot.line([(0, 0), (0, 400)], RED)
+    plot.legend([(ORANGE, "sent as 0"), (BLUE, "sent as 1")], LEFT + 12, TOP + 16)
     return plot
 
 
 def frames_plot() -> Plot:
     """How many of the 64 bits before each bit are those of the access code; of 8 bits in a row the most."""
     items = read("bits.u8", "u1")
-    code = numpy.array(bits_of(CODE))
+    code = numpy.array([int(digit) for digit in theory.blocks_of(HERE / "4_frames.toml")["code"]["code"]])
     bits = numpy.concatenate([numpy.zeros(len(code), numpy.int64), items & 1])
     alike = [int((bits[at : at + len(code)] == code).sum()) for at in range(len(items))]
     plot = Plot((0, len(items)), (0, 66))
@@ -99,35 +102,43 @@ def draw_rows(plot: Plot, bits: numpy.ndarray, wanted: numpy.ndarray, top: float
 
 
 def text_plot() -> Plot:
-    """The bits of the frames before the scrambler is taken away, and behind it."""
-    scrambled = read("frames.u8", "u1").reshape(-1, 8 * BODY)
-    clear = numpy.unpackbits(numpy.fromfile("frames.raw", numpy.uint8)).reshape(-1, 8 * BODY)
-    wanted = numpy.array([bits_of(body(line)) for line in lines()])
-    count = len(wanted)
-    plot = Plot((0, 8 * BODY), (0, 2 * count + 1), 340)
-    plot.axes([(at, str(at)) for at in range(0, 8 * BODY, 56)], [], "bit of the frame", "")
-    draw_rows(plot, scrambled, wanted ^ numpy.array(sequence(8 * BODY)), 2 * count + 1)
-    draw_rows(plot, clear, wanted, count)
-    for text, height in (("scrambled", 1.5 * count + 1), ("clear", 0.5 * count)):
+    """The bits of the frames as they came, and the lines that are decoded from them."""
+    blocks = theory.blocks_of(HERE / "5_order.toml")
+    frame = blocks["frame"]
+    sent = read("sent.u8", "u1").reshape(-1, frame["n"])[:, frame["n"] - frame["m"] :]
+    count = len(sent)
+    came = read("soft.s32", "<i4")[blocks["skip"]["n"] :][: count * frame["n"]].reshape(count, -1)[:, : frame["m"]] >= 0
+    shown, wanted = (numpy.frombuffer(path.read_bytes(), numpy.uint8).reshape(count, -1) for path in (Path("lines.txt"), HERE / "text.txt"))
+    lines, right = (numpy.unpackbits(numpy.ascontiguousarray(bits), axis=1) for bits in (shown[:, 1:-1], wanted[:, :-1]))
+    plot = Plot((0, frame["m"]), (0, 2 * count + 1), 340)
+    plot.axes([(at, str(at)) for at in range(0, frame["m"] + 1, 51)], [], "bit", "")
+    draw_rows(plot, came, sent, 2 * count + 1)
+    draw_rows(plot, lines, right, count)
+    for text, height in (("received", 1.5 * count + 1), ("decoded", 0.5 * count)):
         plot.words(LEFT - 6, plot.place((0, height))[1] + 4, text, anchor="end")
     return plot
 
 
 def errors_plot() -> Plot:
-    """The part of the bits that is wrong over Eb/N0."""
-    parts = theory.sum_of(HERE / "receiver.toml")
-    counts = [tuple(map(int, line.split())) for line in (HERE / "ber.txt").read_text().splitlines()]
-    plot = Plot((4, 13), (-5, -0.5), HEIGHT + 120)
-    plot.axes([(at, str(at)) for at in range(4, 14)], [(at, f"1e{at}") for at in range(-5, 0)], "Eb/N0 in dB", "part of the bits that is wrong")
-    for colour, chance in (
-        (GREEN, theory.ideal),
-        (ORANGE, lambda ratio: theory.wrong(parts, ratio, False)),
-        (BLUE, lambda ratio: theory.wrong(parts, ratio, True)),
+    """The part of the bits that is wrong over Eb/N0, without a code and with it."""
+    graph = HERE / "receiver.toml"
+    parts, bits = theory.sum_of(graph), theory.wrong_bits(graph)
+    # a bit of text has the energy of two that are sent
+    rate = 10 * numpy.log10(2)
+    plot = Plot((4, 13), (-5, 0), HEIGHT + 120)
+    plot.axes([(at, str(at)) for at in range(4, 14)], [(at, f"1e{at}") for at in range(-5, 1)], "Eb/N0 in dB", "part of the bits that is wrong")
+    for colour, ratios, chance in (
+        (GREEN, numpy.arange(4, 14), theory.ideal),
+        (ORANGE, numpy.arange(4, 14), lambda ratio: theory.wrong(parts, ratio, False)),
+        (BLUE, numpy.arange(4, 14), lambda ratio: theory.wrong(parts, ratio, True)),
+        (PURPLE, numpy.arange(8, 10, 0.125), lambda ratio: theory.bound(parts, ratio - rate, bits)),
     ):
-        plot.line([(ratio, numpy.log10(chance(ratio))) for ratio in range(4, 14)], colour)
-    plot.dots([(ratio, numpy.log10(wrong / count)) for ratio, count, wrong in counts if wrong], RED)
-    texts = ["the ideal receiver of two tones", "this receiver, with the carrier known", "this receiver, with the mean of 128 bits", "runs of flow"]
-    plot.legend(list(zip((GREEN, ORANGE, BLUE, RED), texts)), LEFT + 12, HEIGHT + 120 - BOTTOM - 68)
+        plot.line([(ratio, numpy.log10(chance(ratio))) for ratio in ratios], colour)
+    counts = [tuple(map(float, line.split())) for line in (HERE / "ber.txt").read_text().splitlines()]
+    plot.dots([(ratio, numpy.log10(wrong / count)) for ratio, count, wrong, _, _ in counts if ratio >= 4], RED)
+    plot.dots([(ratio + rate, numpy.log10(wrong / count)) for ratio, _, _, count, wrong in counts if wrong], PURPLE)
+    texts = ["the ideal receiver of two tones", "this receiver, with the carrier known", "this receiver, with the mean of 128 bits", "runs of flow without a code"]
+    plot.legend(list(zip((GREEN, ORANGE, BLUE, RED, PURPLE), [*texts, "the bound with the code, and runs of flow"])), LEFT + 12, HEIGHT + 120 - BOTTOM - 85)
     return plot
 
 

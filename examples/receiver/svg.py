@@ -6,7 +6,7 @@ from xml.sax.saxutils import escape
 # In pixels: a plot, and its edges at the left, the right, the top and the bottom.
 WIDTH, HEIGHT = 760, 280
 LEFT, RIGHT, TOP, BOTTOM = 70, 16, 16, 44
-BLUE, ORANGE, GREEN, RED, GREY = "#2c6fbb", "#d9822b", "#2e8b57", "#c0392b", "#8a8a8a"
+BLUE, ORANGE, GREEN, PURPLE, RED, GREY = "#2c6fbb", "#d9822b", "#2e8b57", "#7d3c98", "#c0392b", "#8a8a8a"
 Point = Tuple[float, float]
 
 

@@ -5,7 +5,7 @@ import random
 from fractions import Fraction
 from math import lcm
 
-from drawn import RANGES, TYPES, Drawn, Fed
+from drawn import RANGES, TYPES, Drawn, Fed, trellis
 
 BITS = {"byte": 8, "short": 16, "int": 32}
 # How many items of the slowest source a graph is fed.
@@ -171,6 +171,11 @@ def checked(pen, type):
     return keys, frame, 1
 
 
+def decoded(pen, type):
+    keys = {**trellis(pen, type), "steps": pen.chance.randint(1, 9)}
+    return keys, keys["steps"] * keys["outputs"], keys["steps"]
+
+
 def filtered(pen, type):
     return {"taps": [pen.chance.randint(-200, 200) for _ in range(pen.chance.randint(1, 20))], "shift": pen.chance.randint(0, 9)}
 
@@ -234,12 +239,13 @@ ONE = {
     "delay": lambda pen, type: ({"n": pen.chance.choice([0, 1, 7, 90])}, 1, 1),
     "packed_to_unpacked": chunks,
     "unpacked_to_packed": packed,
+    "viterbi": decoded,
     **FILTERS,
     **BYTES,
 }
 JOINS = ["add", "sub", "multiply", "divide", "minimum", "maximum", "and", "or", "xor", "interleave"]
 # What kinds give that say nothing of it.
-GIVES = {kind: "byte" for kind in ("binary_slicer", "ulaw_encode", "alaw_encode")}
+GIVES = {kind: "byte" for kind in ("binary_slicer", "ulaw_encode", "alaw_encode", "viterbi")}
 KINDS = [*ONE, *JOINS, "stream_mux", "deinterleave"]
 
 

@@ -26,7 +26,11 @@ IN_A_ROW = (
     "blocks_tag_share",
     "fec_depuncture_bb",
     "fec_puncture_xx",
+    "trellis_encoder_xx",
+    "trellis_metrics_x",
     "trellis_permutation",
+    "trellis_viterbi_combined_xx",
+    "trellis_viterbi_x",
     "vocoder_alaw_decode_bs",
     "vocoder_ulaw_decode_bs",
 )

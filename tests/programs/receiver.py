@@ -15,7 +15,7 @@ import tempfile
 from pathlib import Path
 from typing import Iterator, List, Tuple
 
-STEPS = ["1_filter", "2_frequency", "3_bits", "4_frames", "5_text"]
+STEPS = ["1_filter", "2_frequency", "3_bits", "4_frames", "5_order", "6_text"]
 # The longest that a command of the page takes, in seconds.
 LONGEST = 300
 
@@ -29,18 +29,6 @@ def calls_of(page: Path) -> Iterator[Tuple[str, str]]:
             while command.endswith("|\n"):
                 command += lines.pop(0)
             yield command.rstrip("\n"), "".join(lines)
-
-
-def counts_of(table: str) -> List[List[str]]:
-    """Of what --stats writes the block, its kind, and its counts: times are of a machine."""
-    return [line.split()[:5] for line in table.splitlines() if re.search(r"[\d,]+ +[\d,]+ +[\d,]+ ", line)]
-
-
-def is_shown(command: str, shown: str, came: str) -> bool:
-    """Whether the command wrote what the page shows."""
-    if "--stats" in command:
-        return counts_of(came) == counts_of(shown) != []
-    return came == shown
 
 
 def set_up(top: Path, start: List[str], room: Path) -> None:
@@ -71,43 +59,47 @@ def commands_differ(page: Path) -> Iterator[str]:
         done = subprocess.run(
             ["bash", "-o", "pipefail", "-c", command], stdin=subprocess.DEVNULL, stdout=subprocess.PIPE, stderr=subprocess.STDOUT, text=True, timeout=LONGEST, check=False
         )
-        if done.returncode != 0 or not is_shown(command, shown, done.stdout):
+        if done.returncode != 0 or done.stdout != shown:
             yield f"$ {command}\nstatus {done.returncode}, wanted\n{shown}and there came\n{done.stdout}"
             return
 
 
 def steps_differ(top: Path) -> Iterator[str]:
     """Compares the files that the commands made with the items of the model."""
-    import frames
     import numpy
     import receiver_model as model
 
     blocks = model.blocks_of(top / "examples/receiver/receiver.toml")
+    text = (top / "examples/receiver/text.txt").read_bytes()
     i, q = model.channel(numpy.fromfile("recording.iq", numpy.uint8), blocks)
     turns = model.frequency(i, q)
     sums = model.levels(turns)
     bits = model.marked(sums, blocks)
     phases = model.phases(sums, model.blocks_of(top / "examples/receiver/3_bits.toml"))
-    bodies = numpy.frombuffer(b"".join(frames.bodies(bits.astype(numpy.uint8).tobytes())), numpy.uint8)
-    clear = numpy.frombuffer(model.text_bytes(bodies, frames.sequence(8 * frames.BODY)), numpy.uint8)
+    soft = model.soft(sums, blocks)
+    coded = model.coded(soft)
+    lines = numpy.frombuffer(model.shown(model.decoded(coded)), numpy.uint8)
     for name, kind, wanted in (
+        ("sent.u8", "u1", model.sent(text)),
         ("i.s16", "<i2", i),
         ("q.s16", "<i2", q),
         ("frequency.s32", "<i4", turns),
         ("levels.s32", "<i4", sums),
         ("phase.s32", "<i4", phases),
+        ("soft.s32", "<i4", soft),
         ("bits.u8", "u1", bits),
+        ("coded.s32", "<i4", coded),
+        ("lines.txt", "u1", lines),
         ("all.u8", "u1", bits),
-        ("frames.u8", "u1", bodies),
-        ("frames.raw", "u1", clear),
+        ("all.txt", "u1", lines),
     ):
         came = numpy.fromfile(name, kind)
         if not numpy.array_equal(came, wanted):
             yield f"{name} has {len(came)} items, and the model gives {len(wanted)} that differ"
-    sent = [frames.body(line) for line in (top / "examples/receiver/text.txt").read_text().splitlines()]
-    wrong = sum(clear[at * frames.BODY : (at + 1) * frames.BODY].tobytes() != frame for at, frame in enumerate(sent))
-    if len(clear) != len(sent) * frames.BODY or wrong != 2:
-        yield f"{wrong} of {len(sent)} frames are not what was sent, and the page says 2"
+    came_lines = Path("lines.txt").read_text().splitlines()
+    wrong = [line for line, sent in zip(came_lines, text.decode().splitlines()) if line != "+" + sent]
+    if len(came_lines) != 12 or [line[0] for line in wrong] != ["-"]:
+        yield f"of {len(came_lines)} lines these are not what was sent, and the page says one: {wrong}"
 
 
 def numbers_of(picture: str) -> Tuple[str, List[float]]:
@@ -144,19 +136,21 @@ def errors(top: Path) -> Iterator[str]:
     import numpy
     import receiver_model as model
 
-    blocks = model.blocks_of(ber.GRAPH)
-    lines = (top / "examples/receiver/ber.txt").read_text().splitlines()
-    for line in lines:
-        ratio = int(line.split()[0])
-        bits, recording = ber.sent(ratio)
-        sums = model.levels(model.frequency(*model.channel(recording, blocks)))
+    blocks = model.blocks_of(ber.HERE / "receiver.toml")
+    shown = (top / "examples/receiver/ber.txt").read_text().splitlines()
+    for line in shown:
+        ratio = float(line.split()[0])
+        text = ber.text(ratio)
+        sent = {"text": text, "bits": model.sent(text.tobytes())}
+        sums = model.levels(model.frequency(*model.channel(ber.recorded(sent["bits"], ratio), blocks)))
+        lines = model.shown(model.decoded(model.coded(model.soft(sums, blocks))))
         # (the bits without the 64 before them)
-        received = model.before(model.sliced(sums, blocks), 64)
-        wanted = f"{ratio} {len(bits)} {ber.errors(bits, received)}"
+        received = {"bits": model.before(model.sliced(sums, blocks), 64), "lines": numpy.frombuffer(lines, numpy.uint8)}
+        wanted = ber.counts(ratio, sent, received)
         if line != wanted:
             yield f"ber.txt has '{line}', and the model counts '{wanted}'"
-    if len(lines) != 10:
-        yield f"ber.txt has {len(lines)} lines"
+    if [float(line.split()[0]) for line in shown] != ber.RATIOS:
+        yield f"ber.txt has {len(shown)} lines"
 
 
 def pictures(top: Path) -> Iterator[str]:
