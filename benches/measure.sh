@@ -1,10 +1,15 @@
 #!/usr/bin/env bash
-# measure.sh PROGRAM [PART]: proves a program of benches/ with the crates below it, builds it as LLVM compiles it, and prints what it measures, or that part of it. That happens
-# in a copy of the checkout, which takes over what `rt` has kept in the crates' out/, and is gone afterwards.
+# measure.sh [--cpu LEVEL] PROGRAM [PART]: proves a program of benches/ with the crates below it, builds it as LLVM compiles it for processors of that level, as x86-64-v3,
+# and prints what it measures, or that part of it. That happens in a copy of the checkout, which takes over what `rt` has kept in the crates' out/, and is gone afterwards.
 set -euo pipefail
 # shellcheck source=tests/apart.sh
 source "$(dirname -- "$(readlink -f -- "${BASH_SOURCE[0]}")")/../tests/apart.sh"
 
+level=x86-64-v2
+if [[ ${1-} == --cpu && $# -gt 1 ]]; then
+    level=$2
+    shift 2
+fi
 room=$(mktemp -d)
 trap 'rm -rf -- "$room"' EXIT
 
@@ -21,4 +26,4 @@ for crate in "$room"/tree/crates/*; do
         fi
     done
 done
-cd -- "$room/tree/crates/$1" && rt run -- measure "${@:2}"
+cd -- "$room/tree/crates/$1" && rt run --cpu "$level" -- measure "${@:2}"

@@ -53,10 +53,12 @@ RATES = [
 ROWS = [
     ("1 adder", adders(1), 1.0),
     ("16 adders", adders(16), 1.0),
-    ("4 filters of 64 taps", filters(4, 64), 0.2),
-    ("4 filters of 256 taps", filters(4, 256), 0.2),
-    ("rates: filters / 5 and x 3, sums of 64, one in 2", RATES, 0.2),
+    ("4 filters of 64 taps", filters(4, 64), 1.0),
+    ("4 filters of 256 taps", filters(4, 256), 1.0),
+    ("rates: filters / 5 and x 3, sums of 64, one in 2", RATES, 1.0),
+    ("the same with a tag on each thousandth item", RATES, 1.0),
 ]
+TAGGED = ROWS[-1][0]
 
 
 def timed(words, count=1):
@@ -75,21 +77,31 @@ def timed(words, count=1):
 class Row:
     """A graph with its input, and each way to run it."""
 
-    def __init__(self, folder, flow, blocks):
-        self.folder, self.flow, self.blocks = folder, flow, blocks
+    def __init__(self, folder, flow, blocks, tagged):
+        """With tags, a mark stands on each item of these numbers."""
+        self.folder, self.flow, self.blocks, self.has_tags = folder, flow, blocks, bool(tagged)
         folder.joinpath("graph.toml").write_text(chain(*blocks), encoding="utf-8")
+        folder.joinpath("marks").write_text("".join("@%d:key=%d\n" % (at, at) for at in tagged), encoding="utf-8")
+
+    def ends(self, way):
+        tags = ["--marks", "in=marks", "--tags", "out=%s.tags" % way] if self.has_tags else []
+        return ["-i", "in=input", "-o", "out=%s" % way, *tags, "graph.toml"]
+
+    def outputs(self, way):
+        return [way, way + ".tags"] if self.has_tags else [way]
 
     def run(self, way, *words):
-        return timed(lambda at: [self.flow, "run", "--quiet", *words, "-i", "in=input", "-o", "out=%s" % way, "graph.toml"])
+        return timed(lambda at: [self.flow, "run", "--quiet", *words, *self.ends(way)])
 
     def processes(self, way, count):
         """Each slice as a process of its own, and the time of joining them not counted."""
         part = "%s.%%d" % way
-        took = timed(lambda at: [self.flow, "run", "--quiet", "--one-thread", "--slice", "%d/%d" % (at + 1, count), "-i", "in=input", "-o", "out=" + part % at, "graph.toml"], count)
-        with open(way, "wb") as joined:
-            for at in range(count):
-                joined.write(pathlib.Path(part % at).read_bytes())
-                os.remove(part % at)
+        took = timed(lambda at: [self.flow, "run", "--quiet", "--one-thread", "--slice", "%d/%d" % (at + 1, count), *self.ends(part % at)], count)
+        for whole, *parts in zip(self.outputs(way), *(self.outputs(part % at) for at in range(count))):
+            with open(whole, "wb") as joined:
+                for path in parts:
+                    joined.write(pathlib.Path(path).read_bytes())
+                    os.remove(path)
         return took
 
     def ways(self):
@@ -105,6 +117,8 @@ def gnu_radio(row):
     """What the same blocks take in GNU Radio with its threads, between the same files; none where it has no block for one of them, or is not installed."""
     script = pathlib.Path(__file__).with_name("between_files.py")
     words = ["/usr/bin/python3", str(script), "input", "gnu_radio"]
+    if row.has_tags:
+        return None
     for kind, parameters in row.blocks:
         if kind not in ("add_const", "fir") or "decimation" in parameters:
             return None
@@ -120,8 +134,9 @@ def measure(row, rounds):
         for name, way in row.ways():
             took = way(name)
             best[name] = min(took, best.get(name, took))
-            if name != "one thread" and not filecmp.cmp("one thread", name, shallow=False):
-                sys.exit("slices.py: %s gives other bytes" % name)
+            for first, other in zip(row.outputs("one thread"), row.outputs(name)):
+                if not filecmp.cmp(first, other, shallow=False):
+                    sys.exit("slices.py: %s gives other bytes" % name)
         took = timed(lambda at: ["sh", "-c", "cat input | cat >copy"])
         best["cat | cat"] = min(took, best.get("cat | cat", took))
         took = gnu_radio(row)
@@ -156,7 +171,8 @@ def main():
                 piece = os.urandom(1 << 20)
                 for at in range(0, 2 * count, len(piece)):
                     file.write(piece[: 2 * count - at])
-            best = measure(Row(pathlib.Path(folder), flow, blocks), called.rounds)
+            tagged = range(0, count, 1000) if name == TAGGED else ()
+            best = measure(Row(pathlib.Path(folder), flow, blocks, tagged), called.rounds)
             os.chdir("/")
         print("| %s | %g |" % (name, count / 1e6), " | ".join(shown(best.get(it)) for it in columns), "|", flush=True)
 

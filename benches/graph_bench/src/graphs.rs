@@ -1,4 +1,6 @@
 //! The graphs that run: a source, one or more chains of blocks behind it that add 1, and a sink behind each.
+//!
+//! Blocks are counted in the order of the stream: the source, then the adders and the sink of each chain.
 
 use crate::feeds::{Fault, marks_of, tape_of};
 use flowgraph::{BlockId, Graph, Options, Policy};
@@ -24,36 +26,57 @@ pub struct Shape {
     pub items: usize,
     /// On each item whose number is a multiple of this lies a tag.
     pub tag_every: Option<usize>,
+    /// Whether the blocks are added against the stream, the last sink first.
+    pub turned: bool,
+}
+
+impl Shape {
+    // How many blocks a chain has: its adders and its sink.
+    fn length(self) -> u32 {
+        self.adders.saturating_add(1)
+    }
+
+    // How many blocks there are.
+    fn blocks(self) -> u32 {
+        self.chains.saturating_mul(self.length()).saturating_add(1)
+    }
+
+    // At which place a block is added, and which block at a place.
+    fn turned_to(self, number: u32) -> u32 {
+        if self.turned {
+            self.blocks().saturating_sub(1).saturating_sub(number)
+        } else {
+            number
+        }
+    }
+
+    fn source(self) -> BlockId {
+        BlockId(self.turned_to(0))
+    }
 }
 
 /// A plant of this shape, fed and closed.
 pub fn fed_plant(alloc: Global, shape: Shape) -> Result<Plant<Kind>, Fault> {
     let mut plant = plant_of(alloc, shape)?;
     let marks = marks_of(alloc, shape.tag_every, shape.items)?;
-    plant.feed(SOURCE, tape_of(alloc, shape.item, shape.items)?, &marks)?;
-    plant.close(SOURCE)?;
+    let source = shape.source();
+    plant.feed(source, tape_of(alloc, shape.item, shape.items)?, &marks)?;
+    plant.close(source)?;
     Ok(plant)
 }
 
 /// The number of the first sink of a shape.
 pub fn first_sink(shape: Shape) -> BlockId {
-    BlockId(shape.adders.saturating_add(1))
+    BlockId(shape.turned_to(shape.length()))
 }
-
-const SOURCE: BlockId = BlockId(0);
 
 fn plant_of(alloc: Global, shape: Shape) -> Result<Plant<Kind>, Fault> {
     let mut graph = Graph::new(alloc);
-    let item = shape.item;
-    let source = Kind::VectorSource(VectorSource::new(item));
-    add(alloc, &mut graph, 0, source, shape)?;
+    for place in 0..shape.blocks() {
+        add(alloc, &mut graph, shape.turned_to(place), shape)?;
+    }
     for chain in 0..shape.chains {
-        add_chain(
-            alloc,
-            &mut graph,
-            chain.saturating_mul(shape.adders.saturating_add(1)),
-            shape,
-        )?;
+        connect_chain(&mut graph, chain.saturating_mul(shape.length()), shape)?;
     }
     let valid = match graph.validate(alloc) {
         Ok(valid) => valid,
@@ -65,52 +88,43 @@ fn plant_of(alloc: Global, shape: Shape) -> Result<Plant<Kind>, Fault> {
     }
 }
 
-// A chain of adders and a sink, behind so many blocks of other chains.
-fn add_chain(
-    alloc: Global,
-    graph: &mut Graph<Kind>,
-    before: u32,
-    shape: Shape,
-) -> Result<(), Fault> {
-    let mut last = SOURCE;
-    for number in 1..=shape.adders {
-        let Ok(adder) = AddConst::new(shape.item, 1) else {
-            return Err(Fault::Run);
-        };
-        let next = add(
-            alloc,
-            graph,
-            before.saturating_add(number),
-            Kind::AddConst(adder),
-            shape,
-        )?;
+// Connects the source, the adders and the sink of a chain, behind so many blocks of other chains.
+fn connect_chain(graph: &mut Graph<Kind>, before: u32, shape: Shape) -> Result<(), Fault> {
+    let mut last = shape.source();
+    for number in 1..=shape.length() {
+        let next = BlockId(shape.turned_to(before.saturating_add(number)));
         graph.connect(last, 0, next, 0)?;
         last = next;
     }
-    let sink = if shape.kept {
-        Kind::VectorSink(VectorSink::new(shape.item))
-    } else {
-        Kind::NullSink(NullSink::new(shape.item))
-    };
-    let number = before.saturating_add(shape.adders).saturating_add(1);
-    let sink = add(alloc, graph, number, sink, shape)?;
-    graph.connect(last, 0, sink, 0)?;
     Ok(())
 }
 
-// A block more, named by its number.
-fn add(
-    alloc: Global,
-    graph: &mut Graph<Kind>,
-    number: u32,
-    block: Kind,
-    shape: Shape,
-) -> Result<BlockId, Fault> {
+// Adds a block, named by its number.
+fn add(alloc: Global, graph: &mut Graph<Kind>, number: u32, shape: Shape) -> Result<(), Fault> {
     let name = format!(in alloc; "b{number}")?;
     let options = Options {
         policy: Policy::All,
         multiple: 1,
         capacity: shape.capacity,
     };
-    Ok(graph.add_block(alloc, name.as_bytes(), block, options)?)
+    graph.add_block(alloc, name.as_bytes(), block_of(number, shape)?, options)?;
+    Ok(())
+}
+
+// The source, or an adder, or the sink at the end of a chain.
+fn block_of(number: u32, shape: Shape) -> Result<Kind, Fault> {
+    if number == 0 {
+        return Ok(Kind::VectorSource(VectorSource::new(shape.item)));
+    }
+    if number % shape.length().max(1) != 0 {
+        return match AddConst::new(shape.item, 1) {
+            Ok(adder) => Ok(Kind::AddConst(adder)),
+            Err(_) => Err(Fault::Run),
+        };
+    }
+    Ok(if shape.kept {
+        Kind::VectorSink(VectorSink::new(shape.item))
+    } else {
+        Kind::NullSink(NullSink::new(shape.item))
+    })
 }

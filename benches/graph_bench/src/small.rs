@@ -14,9 +14,10 @@ const SMALL: Shape = Shape {
     capacity: 3,
     items: 5,
     tag_every: Some(2),
+    turned: false,
 };
 
-const SHAPES: [Shape; 3] = [
+const SHAPES: [Shape; 4] = [
     SMALL,
     Shape {
         item: ItemType::Int,
@@ -30,6 +31,11 @@ const SHAPES: [Shape; 3] = [
         adders: 4,
         capacity: 1,
         items: 4,
+        ..SMALL
+    },
+    Shape {
+        adders: 3,
+        turned: true,
         ..SMALL
     },
 ];

@@ -14,12 +14,13 @@ const PLAIN: Shape = Shape {
     capacity: 4096,
     items: 1_000_000,
     tag_every: None,
+    turned: false,
 };
 
 /// Times each shape and prints its row.
 pub fn print_table(rt: &HostRuntime) -> io::Result<()> {
     println!(rt;
-        "item  adders chains sink capacity    items tags     graph     plain      copy  of plain"
+        "item  adders chains sink capacity    items tags first      graph     plain      copy  of plain"
     )?;
     for item in [ItemType::Byte, ItemType::Int] {
         let plain = Shape { item, ..PLAIN };
@@ -75,7 +76,20 @@ pub fn print_table(rt: &HostRuntime) -> io::Result<()> {
             items: 10_000_000,
             ..PLAIN
         },
-    )
+    )?;
+    // A small piece through the longest chain, in either order of its blocks.
+    for turned in [false, true] {
+        print_row(
+            rt,
+            Shape {
+                adders: 252,
+                items: 1_000,
+                turned,
+                ..PLAIN
+            },
+        )?;
+    }
+    Ok(())
 }
 
 // Rates are in millions of items a second, for each block.
@@ -92,6 +106,7 @@ fn print_row(rt: &HostRuntime, shape: Shape) -> io::Result<()> {
     } else {
         "none"
     };
+    let first = if shape.turned { "sink" } else { "source" };
     let percent = graph.saturating_mul(100) / plain.max(1);
     let (whole, part) = (percent / 100, percent % 100);
     let Shape {
@@ -103,6 +118,6 @@ fn print_row(rt: &HostRuntime, shape: Shape) -> io::Result<()> {
     } = shape;
     let (graph, plain, copy) = (graph / 1000, plain / 1000, copy / 1000);
     println!(rt;
-        "{item:<5} {adders:>6} {chains:>6} {sink:<4} {capacity:>8} {items:>8} {tags:<4} {graph:>9} {plain:>9} {copy:>9} {whole:>6}.{part:02}"
+        "{item:<5} {adders:>6} {chains:>6} {sink:<4} {capacity:>8} {items:>8} {tags:<4} {first:<6} {graph:>9} {plain:>9} {copy:>9} {whole:>6}.{part:02}"
     )
 }

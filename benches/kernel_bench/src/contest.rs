@@ -156,9 +156,10 @@ pub fn print_row(
     } = row;
     let percent = rate.saturating_mul(100) / plain_rate.max(1);
     let (whole, part) = (percent / 100, percent % 100);
-    let (rate, plain_rate) = (rate / 1000, plain_rate / 1000);
+    let (millions, thousands) = (rate / 1000, rate % 1000);
+    let (plain_millions, plain_thousands) = (plain_rate / 1000, plain_rate % 1000);
     let remark = if agree { "" } else { " differs" };
     println!(rt;
-        "{kernel:<18} {item:<16} {length:>8} {rate:>11} {plain_rate:>11} {whole:>4}.{part:02}{remark}"
+        "{kernel:<18} {item:<16} {length:>8} {millions:>8}.{thousands:03} {plain_millions:>8}.{plain_thousands:03} {whole:>4}.{part:02}{remark}"
     )
 }

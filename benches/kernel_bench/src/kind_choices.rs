@@ -1,9 +1,9 @@
-//! The kinds that divide, slice, encode, choose of frames, repeat a list and count: their rows, and each as a plain loop over slices.
+//! The kinds that divide, slice, encode, choose of frames, hold items, repeat a list and count: their rows, and each as a plain loop over slices.
 
 use crate::kind_contest::{PlainLoop, print_kind};
 use crate::kind_table::{EACH, calls, row};
 use items::ItemType::Short;
-use math_blocks::{AlawEncode, BinarySlicer, Divide, DivideConst, UlawEncode};
+use math_blocks::{AlawEncode, BinarySlicer, Divide, DivideConst, SampleAndHold, UlawEncode};
 use rate_blocks::{Argmax, Counter, FrameMaximum, FrameMinimum, Pattern};
 use std::io;
 
@@ -15,6 +15,7 @@ enum Choices<'a> {
     FrameMinimum(usize),
     FrameMaximum(usize),
     Argmax(usize),
+    SampleAndHold,
     Pattern(&'a [i16]),
     Counter(i16),
 }
@@ -28,6 +29,7 @@ impl PlainLoop<i16, i16> for Choices<'_> {
             Choices::FrameMinimum(n) => frame_minimum(*n, a, out),
             Choices::FrameMaximum(n) => frame_maximum(*n, a, out),
             Choices::Argmax(n) => argmax(*n, a, out),
+            Choices::SampleAndHold => sample_and_hold(a, b, out),
             Choices::Pattern(values) => pattern(values, out),
             Choices::Counter(n) => counter(*n, out),
         }
@@ -89,18 +91,22 @@ fn ulaw_encode(x: &[i16], out: &mut [u8]) {
         let s = segment(magnitude);
         let code = (s.wrapping_mul(16)) | (magnitude.wrapping_shr(s.wrapping_add(3)) & 15);
         let sign = if *x < 0 { 127 } else { 255 };
-        *y = (code ^ sign) as u8;
+        *y = ((code ^ sign) & 255) as u8;
     }
 }
 
 fn alaw_encode(x: &[i16], out: &mut [u8]) {
     for (y, x) in out.iter_mut().zip(x) {
         let size = u32::from(x.unsigned_abs());
-        let magnitude = if *x < 0 { size.saturating_sub(8) } else { size.min(32_767) };
+        let magnitude = if *x < 0 {
+            size.saturating_sub(8)
+        } else {
+            size.min(32_767)
+        };
         let s = segment(magnitude);
         let code = (s.wrapping_mul(16)) | (magnitude.wrapping_shr(s.max(1).wrapping_add(3)) & 15);
         let sign = if *x < 0 { 85 } else { 213 };
-        *y = (code ^ sign) as u8;
+        *y = ((code ^ sign) & 255) as u8;
     }
 }
 
@@ -139,13 +145,26 @@ fn argmax(n: usize, x: &[i16], out: &mut [i16]) {
     }
     for (y, frame) in out.iter_mut().zip(x.chunks_exact(n)) {
         let (mut place, mut greatest) = (0, i16::MIN);
-        for (k, item) in frame.iter().enumerate() {
+        let mut k: i16 = 0;
+        for item in frame {
             if greatest < *item {
                 greatest = *item;
                 place = k;
             }
+            k = k.wrapping_add(1);
         }
-        *y = place as i16;
+        *y = place;
+    }
+}
+
+// The item from where another is not 0 on.
+fn sample_and_hold(a: &[i16], b: &[i16], out: &mut [i16]) {
+    let mut held = 0;
+    for ((y, a), b) in out.iter_mut().zip(a).zip(b) {
+        if *b != 0 {
+            held = *a;
+        }
+        *y = held;
     }
 }
 
@@ -173,6 +192,7 @@ pub fn print_choices(rt: &HostRuntime) -> io::Result<()> {
     print_quotients(rt)?;
     print_bits(rt)?;
     print_frames(rt)?;
+    print_held(rt)?;
     let alloc = rt.alloc();
     print_kind(
         rt,
@@ -252,5 +272,15 @@ fn print_frames(rt: &HostRuntime) -> io::Result<()> {
         Argmax::new(Short, 32),
         calls(1, 1, 128),
         &Choices::Argmax(32),
+    )
+}
+
+fn print_held(rt: &HostRuntime) -> io::Result<()> {
+    print_kind(
+        rt,
+        row("sample_and_hold", "short"),
+        Ok(SampleAndHold::new(Short)),
+        calls(2, 1, 4096),
+        &Choices::SampleAndHold,
     )
 }

@@ -13,11 +13,13 @@ const RULE: Checksum = Checksum {
     final_xor: 0,
     order: BitOrder::MsbFirst,
 };
+
 const FRAME: usize = 126;
 
 // The convolutional code of 1 + D^2 and 1 + D + D^2.
-const NEXT: [i64; 8] = [0, 2, 0, 2, 1, 3, 1, 3];
-const OUTPUT: [i64; 8] = [0, 3, 3, 0, 1, 2, 2, 1];
+const NEXT: [u8; 8] = [0, 2, 0, 2, 1, 3, 1, 3];
+
+const OUTPUT: [u8; 8] = [0, 3, 3, 0, 1, 2, 2, 1];
 
 /// The loops, by kind.
 #[derive(Drop)]
@@ -71,11 +73,17 @@ fn check(x: &[u8], out: &mut [u8]) {
 
 // What the machine gives from state 0 on.
 fn encode(x: &[u8], out: &mut [u8]) {
-    let mut state = 0;
+    let mut state: u8 = 0;
     for (y, byte) in out.iter_mut().zip(x) {
-        let row = 2 * state + usize::from(*byte % 2);
-        *y = OUTPUT[row] as u8;
-        state = NEXT[row] as usize;
+        let row = usize::from(state.wrapping_mul(2).wrapping_add(*byte % 2) % 8);
+        *y = match OUTPUT.get(row) {
+            Some(output) => *output,
+            None => 0,
+        };
+        state = match NEXT.get(row) {
+            Some(next) => *next,
+            None => 0,
+        };
     }
 }
 
@@ -96,10 +104,15 @@ pub fn print_codes(rt: &HostRuntime) -> io::Result<()> {
         calls(1, 1, 32),
         &Codes::CrcCheck,
     )?;
+    let (mut next, mut output) = ([0; 8], [0; 8]);
+    for place in 0..8 {
+        next[place] = i64::from(NEXT[place]);
+        output[place] = i64::from(OUTPUT[place]);
+    }
     print_kind(
         rt,
         row("state_machine", "byte 2 8"),
-        StateMachine::new(alloc, 2, &NEXT, &OUTPUT, 0),
+        StateMachine::new(alloc, 2, &next, &output, 0),
         EACH,
         &Codes::StateMachine,
     )

@@ -30,7 +30,7 @@ pub const EACH: Call = Call {
 /// Prints each row once it is measured.
 pub fn print_kinds(rt: &HostRuntime) -> io::Result<()> {
     println!(rt; "")?;
-    println!(rt; "kind               type              items   M items/s  plain loop   ratio")?;
+    println!(rt; "kind               type              items    M items/s   plain loop   ratio")?;
     print_arithmetic(rt)?;
     print_sums(rt)?;
     print_filters(rt)?;

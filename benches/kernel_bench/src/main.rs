@@ -12,6 +12,7 @@ mod kind_contest;
 mod kind_frames;
 mod kind_plain;
 mod kind_table;
+mod kind_trellis;
 mod plain;
 mod plain_arithmetic;
 mod small;
@@ -30,15 +31,26 @@ fn main(rt: HostRuntime) -> io::Result<ExitCode> {
         [] | [_] => small::print_small(&rt)?,
         [_, word] if word.as_str() == "measure" => {
             table::print_table(&rt)?;
-            kind_table::print_kinds(&rt)?;
-            kind_frames::print_frames(&rt)?;
-            kind_choices::print_choices(&rt)?;
-            kind_codes::print_codes(&rt)?;
+            print_all_kinds(&rt)?;
+        }
+        [_, word, part] if word.as_str() == "measure" && part.as_str() == "kinds" => {
+            print_all_kinds(&rt)?;
+        }
+        [_, word, part] if word.as_str() == "measure" && table::is_part(part) => {
+            table::print_part(&rt, part)?;
         }
         _ => {
-            eprintln!(rt; "usage: kernel_bench [measure]")?;
+            eprintln!(rt; "usage: kernel_bench [measure [16|64|near|far|filters|kinds]]")?;
             return Ok(ExitCode::from(BAD_WORDS));
         }
     }
     Ok(ExitCode::SUCCESS)
+}
+
+fn print_all_kinds(rt: &HostRuntime) -> io::Result<()> {
+    kind_table::print_kinds(rt)?;
+    kind_frames::print_frames(rt)?;
+    kind_choices::print_choices(rt)?;
+    kind_codes::print_codes(rt)?;
+    kind_trellis::print_trellis(rt)
 }

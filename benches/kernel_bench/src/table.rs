@@ -14,34 +14,71 @@ use std::io;
 // The distances from 0 of 256 taps over so much sum up to less than `2 ^ 16`.
 const LIGHT: i16 = 128;
 
+// The parts of the table, in its order.
+const PARTS: [&str; 5] = ["16", "64", "near", "far", "filters"];
+
+/// Whether a part of the table has this name.
+pub fn is_part(name: &str) -> bool {
+    PARTS.contains(&name)
+}
+
 /// Prints each row once it is measured.
 pub fn print_table(rt: &HostRuntime) -> io::Result<()> {
-    println!(rt; "kernel             type             length   M items/s  plain loop   ratio")?;
-    print_rows(rt, 16)?;
-    print_rows(rt, 64)?;
-    print_rows(rt, 1024)?;
-    print_rows(rt, 65536)?;
+    print_head(rt)?;
+    for part in PARTS {
+        print_rows(rt, part)?;
+    }
+    Ok(())
+}
+
+/// Prints each row of one part once it is measured.
+pub fn print_part(rt: &HostRuntime, name: &str) -> io::Result<()> {
+    print_head(rt)?;
+    print_rows(rt, name)
+}
+
+fn print_head(rt: &HostRuntime) -> io::Result<()> {
+    println!(rt; "kernel             type             length    M items/s   plain loop   ratio")
+}
+
+// Slices of 16 and of 64 items, those of 4 KiB, which stand in the first cache, and of 256 KiB, which stand in the second, and filters.
+fn print_rows(rt: &HostRuntime, part: &str) -> io::Result<()> {
+    match part {
+        "16" => print_slices(rt, 16, 16, 16),
+        "64" => print_slices(rt, 64, 64, 64),
+        "near" => print_slices(rt, 4096, 2048, 1024),
+        "far" => print_slices(rt, 262_144, 131_072, 65_536),
+        _ => print_filters(rt),
+    }
+}
+
+// So many bytes, shorts and ints a call.
+fn print_slices(rt: &HostRuntime, bytes: u32, shorts: u32, ints: u32) -> io::Result<()>
+    requires some_bytes { 0 < bytes }
+    requires some_shorts { 0 < shorts }
+    requires some_ints { 0 < ints }
+{
+    print_items::<u8>(rt, "byte", bytes)?;
+    print_items::<i16>(rt, "short", shorts)?;
+    print_items::<i32>(rt, "int", ints)?;
+    print_widened::<u8, i16>(rt, "byte short", shorts)?;
+    print_widened::<u8, i32>(rt, "byte int", ints)?;
+    print_widened::<i16, i32>(rt, "short int", ints)?;
+    print_narrowed::<i16, u8>(rt, "short byte", shorts)?;
+    print_narrowed::<i32, u8>(rt, "int byte", ints)?;
+    print_narrowed::<i32, i16>(rt, "int short", ints)?;
+    print_packed(rt, ints)?;
+    print_differences(rt, bytes)
+}
+
+fn print_filters(rt: &HostRuntime) -> io::Result<()> {
     print_dots(rt, 64)?;
     print_dots(rt, 256)?;
+    print_few_taps(rt, 1024)?;
     print_firs(rt, 16)?;
     print_firs(rt, 64)?;
     print_firs(rt, 1024)?;
-    print_firs(rt, 65536)
-}
-
-fn print_rows(rt: &HostRuntime, length: u32) -> io::Result<()>
-    requires { 0 < length }
-{
-    print_items::<u8>(rt, "byte", length)?;
-    print_items::<i16>(rt, "short", length)?;
-    print_items::<i32>(rt, "int", length)?;
-    print_widened::<u8, i16>(rt, "byte short", length)?;
-    print_widened::<u8, i32>(rt, "byte int", length)?;
-    print_widened::<i16, i32>(rt, "short int", length)?;
-    print_narrowed::<i16, u8>(rt, "short byte", length)?;
-    print_narrowed::<i32, u8>(rt, "int byte", length)?;
-    print_narrowed::<i32, i16>(rt, "int short", length)?;
-    print_bytes(rt, length)
+    print_firs(rt, 65_536)
 }
 
 // The kernels of one type.
@@ -128,7 +165,7 @@ fn print_narrowed<T: NarrowsTo<U> + Item, U: SimdLane + Item + Default + Partial
     print_contest::<T, U, Narrow>(rt, row, &Narrow, length as usize, length as usize)
 }
 
-fn print_bytes(rt: &HostRuntime, length: u32) -> io::Result<()> {
+fn print_packed(rt: &HostRuntime, length: u32) -> io::Result<()> {
     let count = length as usize;
     let row = Row {
         kernel: "pack_bits",
@@ -153,7 +190,11 @@ fn print_bytes(rt: &HostRuntime, length: u32) -> io::Result<()> {
         item: "byte k=2",
         length,
     };
-    print_contest(rt, row, &Unpack { k: 2 }, count, 2 * count)?;
+    print_contest(rt, row, &Unpack { k: 2 }, count, 2 * count)
+}
+
+fn print_differences(rt: &HostRuntime, length: u32) -> io::Result<()> {
+    let count = length as usize;
     let row = Row {
         kernel: "diff_decode",
         item: "byte m=4",
@@ -187,6 +228,15 @@ fn print_dots(rt: &HostRuntime, length: u32) -> io::Result<()>
         length,
     };
     print_contest::<i32, i64, Dot>(rt, row, &dot, length as usize, 1)
+}
+
+fn print_few_taps(rt: &HostRuntime, length: u32) -> io::Result<()> {
+    print_fir::<i16>(rt, "short 8 taps", length, 8, 1)?;
+    print_fir::<i16>(rt, "short 8 light", length, 8, LIGHT)?;
+    print_fir::<i32>(rt, "int 8 taps", length, 8, 1)?;
+    print_fir::<i16>(rt, "short 16 taps", length, 16, 1)?;
+    print_fir::<i16>(rt, "short 16 light", length, 16, LIGHT)?;
+    print_fir::<i32>(rt, "int 16 taps", length, 16, 1)
 }
 
 fn print_firs(rt: &HostRuntime, length: u32) -> io::Result<()> {

@@ -3,12 +3,13 @@
 use crate::feeds::{Fault, marks_of, tape_of};
 use crate::filters::TAPS;
 use fir_blocks::Fir;
-use flowgraph::{BlockId, Graph, Options, Policy};
+use flowgraph::{BlockId, Graph, Options, Policy, Valid};
 use items::ItemType;
 use kinds::{Kind, NullSink, VectorSink, VectorSource};
 use math_blocks::AddConst;
 use plant::Plant;
 use std::alloc::Global;
+use streaming::StreamingPlant;
 
 /// What the blocks of a chain do.
 #[derive(Clone, Copy)]
@@ -52,6 +53,34 @@ pub struct Fed {
 
 /// The plant of this shape.
 pub fn fed_plant(alloc: Global, shape: Shape) -> Result<Fed, Fault> {
+    let (valid, sources, sink) = graph_of(alloc, shape)?;
+    let Ok(mut plant) = Plant::open(alloc, valid) else {
+        return Err(Fault::Memory);
+    };
+    let marks = marks_of(alloc, shape.tag_every, shape.items)?;
+    for source in &sources {
+        plant.feed(*source, tape_of(alloc, shape.item, shape.items)?, &marks)?;
+        plant.close(*source)?;
+    }
+    Ok(Fed { plant, sink })
+}
+
+/// The same as one that streams.
+pub fn fed_stream(alloc: Global, shape: Shape) -> Result<StreamingPlant<Kind>, Fault> {
+    let (valid, sources, _) = graph_of(alloc, shape)?;
+    let Ok(mut plant) = StreamingPlant::open(alloc, valid) else {
+        return Err(Fault::Memory);
+    };
+    let marks = marks_of(alloc, shape.tag_every, shape.items)?;
+    for source in &sources {
+        plant.feed(*source, &tape_of(alloc, shape.item, shape.items)?, &marks)?;
+        plant.close(*source)?;
+    }
+    Ok(plant)
+}
+
+// The graph of this shape, with its sources and the sink of its first chain.
+fn graph_of(alloc: Global, shape: Shape) -> Result<(Valid<Kind>, Vec<BlockId>, BlockId), Fault> {
     let mut drawn = Drawn::new(alloc, shape);
     drawn.add_source(alloc)?;
     for chain in 0..shape.chains {
@@ -66,22 +95,10 @@ pub fn fed_plant(alloc: Global, shape: Shape) -> Result<Fed, Fault> {
         first_sink,
         ..
     } = drawn;
-    let valid = match graph.validate(alloc) {
-        Ok(valid) => valid,
-        Err((_, fault)) => return Err(Fault::Graph(fault)),
-    };
-    let Ok(mut plant) = Plant::open(alloc, valid) else {
-        return Err(Fault::Memory);
-    };
-    let marks = marks_of(alloc, shape.tag_every, shape.items)?;
-    for source in &sources {
-        plant.feed(*source, tape_of(alloc, shape.item, shape.items)?, &marks)?;
-        plant.close(*source)?;
+    match graph.validate(alloc) {
+        Ok(valid) => Ok((valid, sources, first_sink)),
+        Err((_, fault)) => Err(Fault::Graph(fault)),
     }
-    Ok(Fed {
-        plant,
-        sink: first_sink,
-    })
 }
 
 // A graph while it is built.

@@ -5,9 +5,10 @@ ghost use Rattle.std.specs.Prelude.{◌≤◌};
 
 use crate::feeds::Fault;
 use crate::filters::{TAPS, filter};
-use crate::graphs::{Shape, Work, fed_plant};
+use crate::graphs::{Shape, Work, fed_plant, fed_stream};
 use crate::plain::{Item, add_one, counted};
 use flowgraph::BlockId;
+use helper_threads::HelperThreads;
 use items::ItemType;
 use kinds::Kind;
 use plant::{Claim, Plant, Settled, Unwatched};
@@ -45,14 +46,15 @@ impl Span {
     }
 }
 
-/// How long a shape takes in plain loops, on one thread, with a thread for each block, and in as many as the work is worth, how long a turn holds the lock in
-/// the mean, how long it takes in threads whose claims and commits are noted in a history, and how many entries that has.
+/// How long a shape takes in plain loops, on one thread, with a thread for each block, in as many as the work is worth, and as a plant that streams, of one thread with
+/// helpers, how long a turn holds the lock in the mean, how long it takes in threads whose claims and commits are noted in a history, and how many entries that has.
 #[derive(Clone, Copy)]
 pub struct Times {
     pub plain: u128,
     pub settled: u128,
     pub threads: Span,
     pub adaptive: Span,
+    pub helped: Span,
     pub hold: u128,
     pub live: u128,
     pub entries: usize,
@@ -70,6 +72,7 @@ pub fn race<R: Host + 'static>(rt: R, alloc: Global, shape: Shape, runs: u32) ->
         settled: u128::MAX,
         threads: Span::LONGEST,
         adaptive: Span::LONGEST,
+        helped: Span::LONGEST,
         hold: u128::MAX,
         live: u128::MAX,
         entries: 0,
@@ -85,6 +88,7 @@ pub fn race<R: Host + 'static>(rt: R, alloc: Global, shape: Shape, runs: u32) ->
             adaptive: times
                 .adaptive
                 .or_shorter(ungated_span(rt, alloc, shape, Threading::Adaptive)?),
+            helped: times.helped.or_shorter(helped_span(rt, alloc, shape)?),
             hold: times.hold.min(hold_time(&rt, alloc, shape)?),
             live: times.live.min(live),
             entries,
@@ -133,6 +137,26 @@ pub fn run_span<G: Gate + Drop + Send + Sync + 'static, R: Host + 'static>(
     match ended {
         Ok(Outcome::Done(_)) => Ok(Span { elapsed, processor }),
         _ => Err(io::Error::from(Fault::Run)),
+    }
+}
+
+// How long a plant that streams takes, in rounds of one thread which helpers help, and the threads their start and their end.
+fn helped_span<R: Host + 'static>(rt: R, alloc: Global, shape: Shape) -> io::Result<Span> {
+    let mut plant = fed_stream(alloc, shape)?;
+    let start = Instant::now(&rt)?;
+    let used = rt.process_cpu_time()?;
+    let mut helpers = HelperThreads::start(rt, alloc, plant.graph())?;
+    for _ in rt.forever() {
+        if !plant.round_with(alloc, MOST_FIRINGS, &mut helpers)? {
+            break;
+        }
+    }
+    helpers.finish();
+    let elapsed = start.elapsed(&rt)?.as_nanos();
+    let processor = rt.process_cpu_time()?.saturating_sub(used).as_nanos();
+    match plant.settle(alloc, MOST_FIRINGS)? {
+        Settled::Done => Ok(Span { elapsed, processor }),
+        Settled::Quiet => Err(io::Error::from(Fault::Run)),
     }
 }
 

@@ -72,7 +72,7 @@ pub fn print_part<R: Host + Print + Drop + 'static>(
 fn print_head<R: Host + Print + 'static>(rt: R) -> io::Result<()> {
     println!(rt; "an entry of a history has {} bytes", size_of::<Entry>())?;
     println!(rt;
-        "item  work   blocks chains source sink capacity multiple turns    items tags    plain us  settle us threads us processor  settle/threads adaptive us processor lock ns    live us entries"
+        "item  work   blocks chains source sink capacity multiple turns    items tags    plain us  settle us threads us processor  settle/threads adaptive us processor helped us processor lock ns    live us entries"
     )
 }
 
@@ -238,6 +238,7 @@ fn print_row<R: Host + Print + 'static>(rt: R, alloc: Global, shape: Shape) -> i
         settled,
         threads,
         adaptive,
+        helped,
         hold,
         live,
         entries,
@@ -263,6 +264,7 @@ fn print_row<R: Host + Print + 'static>(rt: R, alloc: Global, shape: Shape) -> i
     let (plain, settled) = (plain / 1000, settled / 1000);
     let (elapsed, processor) = (threads.elapsed / 1000, threads.processor / 1000);
     let (chosen, its_processor) = (adaptive.elapsed / 1000, adaptive.processor / 1000);
+    let (helped, helpers) = (helped.elapsed / 1000, helped.processor / 1000);
     let live = live / 1000;
     let Shape {
         blocks,
@@ -274,6 +276,6 @@ fn print_row<R: Host + Print + 'static>(rt: R, alloc: Global, shape: Shape) -> i
         ..
     } = shape;
     println!(rt;
-        "{item:<5} {work:<6} {blocks:>6} {chains:>6} {source:<6} {sink:<4} {capacity:>8} {multiple:>8} {turns:>5} {items:>8} {tags:<4} {plain:>11} {settled:>10} {elapsed:>10} {processor:>9} {whole:>12}.{part:02} {chosen:>11} {its_processor:>9} {hold:>7} {live:>10} {entries:>7}"
+        "{item:<5} {work:<6} {blocks:>6} {chains:>6} {source:<6} {sink:<4} {capacity:>8} {multiple:>8} {turns:>5} {items:>8} {tags:<4} {plain:>11} {settled:>10} {elapsed:>10} {processor:>9} {whole:>12}.{part:02} {chosen:>11} {its_processor:>9} {helped:>9} {helpers:>9} {hold:>7} {live:>10} {entries:>7}"
     )
 }
