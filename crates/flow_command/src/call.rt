@@ -1,4 +1,4 @@
-//! What a call of a command on a graph file asks for.
+//! A call of a command on a graph file.
 
 ghost use Rattle.std.specs.Prelude.{◌≡◌, ◌&&◌, ◌||◌, not, if◌then◌else◌, is_some};
 ghost use Rattle.flow.specs.declared.serve.Verbosity.TheVariants.{WithNotes, Quiet};
@@ -14,7 +14,7 @@ use flow::threading::Threading;
 use run_stats::Form;
 use std::alloc::Global;
 
-/// What is asked for of a graph file.
+/// What a call asks for of a graph file.
 #[derive(Drop)]
 pub struct Call<'a> {
     pub action: Action,
@@ -22,24 +22,24 @@ pub struct Call<'a> {
     pub is_quiet: bool,
     /// Whether a refusal is explained.
     pub explains: bool,
-    /// How it is told where the time of the run went, if that is wanted.
+    /// The form of the report of times, if one is wanted.
     pub stats: Option<Form>,
-    /// After how many seconds each it is told while the run goes on too, if that is wanted.
+    /// The seconds between two reports of times while the run goes on, if these are wanted.
     pub every: Option<u64>,
     /// The trace of the run, if one is wanted.
     pub trace: Option<Trace<'a>>,
     pub ends: Ends<'a>,
-    /// Where the lines of a live run come from, and its replies go to.
+    /// Where the lines of a live run come from, and where its replies go.
     pub talk: Talk<'a>,
-    /// Which part of a run is done.
+    /// The part of the whole run that this one does.
     pub stretch: Stretch,
-    /// On how many threads slices are run, if the words say.
+    /// How many threads run slices, if the words say.
     pub jobs: Option<usize>,
-    /// Whether it is told how the graph is cut into slices.
+    /// Whether the report tells how the graph is cut into slices.
     pub tells_slices: bool,
 }
 
-/// Where a trace goes, and for how many turns and waits it has room.
+/// Where a trace goes, and how many turns and waits it has room for.
 #[derive(Clone, Copy, Debug, PartialEq, Eq)]
 pub struct Trace<'a> {
     pub path: &'a str,
@@ -47,21 +47,21 @@ pub struct Trace<'a> {
 }
 
 impl Call<'_> {
-    /// Whether a run may show how far it is: on a terminal, unless the words say no.
+    /// Whether a run may show its progress: on a terminal, unless the words say no.
     pub fn may_show(&self, is_terminal: bool) -> bool
         ensures { result ≡ (is_terminal && not self.now.is_quiet) }
     {
         is_terminal && !self.is_quiet
     }
 
-    /// Whether the run is measured or traced. One between files has one thread then.
+    /// Whether the run is measured or traced. If so, a run between files has one thread.
     pub fn is_measured(&self) -> bool
         ensures { result ≡ (is_some self.now.stats || is_some self.now.trace) }
     {
         self.stats.is_some() || self.trace.is_some()
     }
 
-    /// Whether lines are written that no command asks for, unless the words say no.
+    /// Whether to write lines that no command asks for. The words may say no.
     pub fn verbosity(&self) -> Verbosity
         ensures { result ≡ (if self.now.is_quiet then Quiet else WithNotes) }
     {
@@ -73,7 +73,8 @@ impl Call<'_> {
     }
 }
 
-/// The call of a command on a graph file that words ask for which `clap` took. On a terminal a refusal is explained, unless they say no.
+/// The call of a command on a graph file, by words that `clap` took. On a terminal a refusal is explained, unless the
+/// words say no.
 pub fn call_in<'a>(
     alloc: Global,
     name: &str,
@@ -105,7 +106,7 @@ pub fn call_in<'a>(
     }
 }
 
-// Where lines come from and replies go to.
+// Where lines come from, and where replies go.
 fn talk_of<'a>(name: &str, inner: &ArgMatches<'a>) -> Talk<'a> {
     if name != "live" {
         return Talk {
@@ -119,7 +120,7 @@ fn talk_of<'a>(name: &str, inner: &ArgMatches<'a>) -> Talk<'a> {
     }
 }
 
-// The call, unless a standard stream would have lines or replies and items too.
+// The call, unless a standard stream would have both lines or replies, and items.
 fn talking(call: Call<'_>) -> Result<Call<'_>, EndsFault> {
     if call.action != Action::Live {
         return Ok(call);
@@ -139,7 +140,7 @@ fn talking(call: Call<'_>) -> Result<Call<'_>, EndsFault> {
     Ok(call)
 }
 
-// The trace that words ask for, if they do, beside the path of the graph file.
+// The trace that words ask for, if any. It may not be the graph file at this path.
 fn trace_of<'a>(inner: &ArgMatches<'a>, file: &str) -> Result<Option<Trace<'a>>, EndsFault> {
     let Some(path) = inner.get_str("trace") else {
         return Ok(None);
@@ -155,7 +156,7 @@ fn trace_of<'a>(inner: &ArgMatches<'a>, file: &str) -> Result<Option<Trace<'a>>,
     Ok(Some(Trace { path, size }))
 }
 
-// Which part of a run the words name.
+// The part of a run that the words name.
 fn stretch_of(inner: &ArgMatches<'_>) -> Result<Stretch, EndsFault> {
     if let Some(word) = inner.get_str("slice") {
         return match Slice::of_word(word) {

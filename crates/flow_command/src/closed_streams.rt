@@ -1,4 +1,4 @@
-//! Standard streams that whoever calls the program left closed.
+//! Standard streams that the caller of the program left closed.
 
 use std::fs::OpenOptions;
 use std::os::fd::{AsRawFd, IntoRawFd, RawFd};
@@ -11,8 +11,9 @@ const INPUT: RawFd = 0;
 
 const ERRORS: RawFd = 2;
 
-/// Opens a device under the number of each standard stream that is closed. A file that is opened gets the least number that is free, so that without this what goes to
-/// a standard stream would be written into it. Such a stream can still not be read or written, since the device is opened for the other of the two.
+/// Opens a device under the number of each closed standard stream. An opened file gets the least free number, so
+/// without this it would get what goes to a standard stream. The stream still cannot be read or written: the device is
+/// opened for the other direction.
 pub fn hold_closed_streams(rt: &HostRuntime) {
     let mut writes = OpenOptions::new();
     writes.write(true);
@@ -26,7 +27,7 @@ pub fn hold_closed_streams(rt: &HostRuntime) {
     }
 }
 
-// Opens the device, and leaves it open where its number is this one or less. It returns whether it did.
+// Opens the device, and leaves it open if its number is this one or less. It returns whether it did.
 fn holds_one(rt: &HostRuntime, how: &OpenOptions, last: RawFd) -> bool {
     match how.open(rt, NOWHERE) {
         Ok(device) if device.as_raw_fd() <= last => {

@@ -1,4 +1,4 @@
-//! Graph files that are made to start from.
+//! Writes graph files to start from.
 
 use crate::explaining::explain_device;
 use crate::refusing::{begins_none, begins_none_of};
@@ -8,7 +8,8 @@ use kinds::KindName;
 use std::io::Write;
 use std::{fs, io};
 
-/// Writes a graph file with blocks of these kinds, where there is no file yet, and returns the exit status. Why it cannot be made is told in any case.
+/// Writes a graph file with blocks of these kinds, if there is no file yet, and returns the exit status. It always
+/// tells why it cannot.
 pub fn create_graph(rt: &HostRuntime, path: &str, kinds: &[KindName]) -> u8 {
     let Ok(text) = starting_graph(rt.alloc(), kinds) else {
         return begins_none(rt, StartFault::Memory);

@@ -1,4 +1,4 @@
-//! Which part of a run is done: what it reads of each source, and what it writes of each sink.
+//! A part of a run: what it reads of each source, and what it writes of each sink.
 
 use crate::devices::Extent;
 use crate::held::Held;
@@ -12,7 +12,7 @@ pub struct Cut {
     pub written: Vec<Written>,
     /// How many iterations of the tapes stand before what it reads.
     pub from: u64,
-    /// The iteration from which on the items are the run's own. It reads the overlap before it too.
+    /// The iteration from which on the items are the run's own. The run also reads the overlap before it.
     pub begins: u64,
     /// Whether the tapes go on behind what is read of them.
     pub goes_on: bool,
@@ -23,16 +23,16 @@ pub struct Cut {
 pub struct Written {
     /// The item of the whole stream that the sink takes first.
     pub origin: u64,
-    /// So many are left out in front.
+    /// How many of the first items are left out.
     pub left_out: u64,
-    /// So many are written behind these at most.
+    /// How many items are written behind these at most.
     pub most: u64,
-    /// What the outputs hold already, if they are gone on with. What is written stands behind it.
+    /// What the outputs already hold, if the run continues them. It writes behind that.
     pub held: Option<Held>,
 }
 
 impl Written {
-    /// All that the sink takes, into an output that is made anew.
+    /// All that the sink takes, into a new output.
     pub const WHOLE: Written = Written {
         origin: 0,
         left_out: 0,
@@ -42,7 +42,7 @@ impl Written {
 }
 
 impl Cut {
-    /// That of a whole run.
+    /// The cut of a whole run.
     pub fn whole(alloc: Global) -> Cut {
         Cut {
             extents: Vec::new(alloc),

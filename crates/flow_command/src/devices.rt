@@ -1,4 +1,4 @@
-//! The files and streams that raw items come from and go to.
+//! The files and streams of raw items.
 
 use crate::late_file::LateFile;
 use crate::limited::Limited;
@@ -63,7 +63,7 @@ impl<S: Write, F: Write> Write for Device<S, F> {
     }
 }
 
-/// Which bytes are read of the inputs of a source: from this one on, so many at most.
+/// The bytes to read of the inputs of a source: from this one on, at most so many.
 #[derive(Clone, Copy, Debug, PartialEq, Eq)]
 pub struct Extent {
     pub from: u64,
@@ -88,20 +88,20 @@ struct Part {
 /// The inputs of a source, one behind the other. One that ends within an item is the last.
 #[derive(Drop)]
 pub struct Chain {
-    // What was read and given back, which is read again first, and the failure of the read behind it, if that failed.
+    // What was read and given back: it is read again first. And the failure of the read behind it, if that failed.
     unread: VecDeque<u8>,
     failure: Option<io::Error>,
     parts: Vec<Part>,
-    // How many bytes in front are still passed over, and how many are then read at most.
+    // How many bytes to pass over yet, and how many to read then at most.
     extent: Extent,
-    // Which of them is read, and how many bytes of an item whose end has not come it gave.
+    // The input that is read, and how many bytes of an unfinished item it gave.
     at: usize,
     cut: usize,
     item_size: usize,
 }
 
 impl Chain {
-    /// No inputs, of a source of items of so many bytes, of which this part is read.
+    /// No inputs yet, for a source of items of so many bytes. This part of them is read.
     pub fn new(alloc: Global, item_size: usize, extent: Extent) -> Chain {
         Chain {
             unread: VecDeque::new(alloc),
@@ -114,7 +114,7 @@ impl Chain {
         }
     }
 
-    /// Adds an input behind those that there are, unless all of it lies before what is read.
+    /// Adds an input behind the others, unless all of it lies before the part that is read.
     pub fn push(&mut self, number: usize, source: Source) -> io::Result<()> {
         let mut source = source;
         if self.passes_over(&mut source)? {
@@ -125,7 +125,7 @@ impl Chain {
         Ok(())
     }
 
-    /// Gives back what was read last, to be read again, and to fail again where it failed.
+    /// Gives back what was read last. It is read again, and fails again if it failed.
     pub fn give_back(&mut self, unread: Unread) {
         let Unread { bytes, failure } = unread;
         self.unread = VecDeque::from(bytes);

@@ -1,14 +1,14 @@
-//! The words that name files of raw items, and how they are run.
+//! The words that name files of raw items, and how to run between them.
 
 use super::words::flag;
 use clap::builder::ValueParser;
 use clap::{Arg, ArgAction};
 use std::alloc::{AllocError, Global};
 
-// So many threads run slices at most.
+// The most threads that run slices.
 const MOST_JOBS: u64 = 1024;
 
-/// A word that goes with none of those for files of raw items.
+/// A word that excludes those for files of raw items.
 pub fn without_ends<'a>(word: Arg<'a>) -> Result<Arg<'a>, AllocError> {
     let word = word.conflicts_with("input")?;
     let word = word.conflicts_with("marks")?;
@@ -44,7 +44,7 @@ pub fn with_files<'a>(
     Ok(run.arg(tags)?)
 }
 
-/// The words for a part of a run, of which one is given, and for runs in pieces.
+/// The words for a part of a run, which exclude one another, and for runs in pieces.
 pub fn with_parts<'a>(
     alloc: Global,
     run: clap::Command<'a>,
@@ -82,7 +82,7 @@ fn part<'a>(alloc: Global, name: &'a str, help: &'a str) -> Result<Arg<'a>, Allo
     part.requires_arg("input")
 }
 
-// The word that says on how many threads slices are run.
+// The word that says how many threads run slices.
 fn jobs<'a>(alloc: Global) -> Result<Arg<'a>, AllocError> {
     let jobs = part(alloc, "jobs", "Runs slices on so many threads")?;
     let jobs = jobs
@@ -92,7 +92,7 @@ fn jobs<'a>(alloc: Global) -> Result<Arg<'a>, AllocError> {
     jobs.conflicts_with("stats")?.conflicts_with("trace")
 }
 
-// A word for files, each with its block, whose name may begin with a dash.
+// A word for files, each with its block. A block's name may begin with a dash.
 fn ends<'a>(alloc: Global, name: &'a str, help: &'a str) -> Arg<'a> {
     Arg::new(alloc, name)
         .long(name)

@@ -6,7 +6,7 @@ use clap::ArgMatches;
 use raw_items::ByteOrder;
 use std::alloc::{AllocError, AllocFailed, Global};
 
-/// A block, and the path of the file that it is fed from or written to.
+/// A block, and the path of the file that feeds it or that it is written to.
 #[derive(Clone, Copy)]
 pub struct NamedEnd<'a> {
     pub block: &'a str,
@@ -27,7 +27,7 @@ impl NamedEnd<'_> {
     }
 }
 
-/// Where the raw items of a run and the marks on them come from, and where items and tags go.
+/// The files of a run: of raw items and of the marks on them, and of outputs of items and tags.
 #[derive(Drop)]
 pub struct Ends<'a> {
     pub order: ByteOrder,
@@ -46,7 +46,7 @@ pub enum EndsFault {
     BlockTwice,
     /// A standard stream is named twice.
     StreamTwice,
-    /// A file is named for two outputs, or for an output and for what is read.
+    /// A file is named for two outputs, or for an output and for an input.
     FileTwice,
     /// Marks are named for a block without an input.
     NoInput,
@@ -69,7 +69,7 @@ pub enum EndsFault {
 }
 
 impl EndsFault {
-    /// What is wrong with the words; nothing where memory ran out.
+    /// What is wrong with the words; nothing if memory ran out.
     pub fn text(self) -> Option<&'static str> {
         match self {
             EndsFault::NoPath => Some("a word for a file is no BLOCK=PATH"),
@@ -134,7 +134,8 @@ impl<'a> Ends<'a> {
         }
     }
 
-    // Adds the ends of all words. (It owns nothing that an early return would have to drop, which the prover pays for at each.)
+    // Adds the ends of all words. (It owns nothing that an early return would have to drop: each such return costs the
+    // prover.)
     fn fill(
         &mut self,
         alloc: Global,
@@ -260,7 +261,7 @@ fn sorted_blocks<'a>(alloc: Global, ends: &[NamedEnd<'a>]) -> Result<Vec<&'a str
     Ok(blocks)
 }
 
-/// Whether two that are equal stand side by side.
+/// Whether two equal ones stand side by side.
 pub fn stand_side_by_side<T: PartialEq>(sorted: &[T]) -> bool {
     for pair in sorted.windows(2) {
         if let [first, second] = pair {

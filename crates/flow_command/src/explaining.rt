@@ -1,4 +1,4 @@
-//! What stands behind the line of a refusal, where the words ask for it. Where memory runs out, nothing does.
+//! What follows the line of a refusal, if the words ask for it. If memory runs out, nothing does.
 
 use crate::words::Call;
 use explanations::{KeptLines, at_device, explain};
@@ -7,10 +7,10 @@ use graph_file::Depth;
 use reporting::ByteIn;
 use std::io::Error;
 
-/// The exit status of what is refused.
+/// The exit status of a refusal.
 pub const REFUSED: u8 = 1;
 
-/// Shows the place of a mistake in the graph file, and tells whether there is one.
+/// Shows the place of a mistake in the graph file, and returns whether there is one.
 pub fn explain_file(rt: &HostRuntime, call: &Call<'_>, file: &[u8]) -> bool {
     let depth = match call.action {
         Action::Check | Action::Draw(_) => Depth::Graph,
@@ -40,7 +40,7 @@ pub fn explain_device(rt: &HostRuntime, name: &str, error: &Error) {
     }
 }
 
-/// Says why a device, or what a word names, is refused.
+/// Says why a device, or the thing that a word names, is refused.
 pub fn explain_end(rt: &HostRuntime, name: &str, reason: &str) {
     if let Ok(line) = at_device(rt.alloc(), name, reason) {
         let _ = eprint!(rt; "{line}");

@@ -19,7 +19,8 @@ use std::time::{Clock, CpuClock};
 use streaming::{Helpers, Job, Unwatched, Watch, Worked};
 use threads::GatedWatch;
 
-/// Lets the run go on to its end, and shows how far it is. It returns how the run ended, and why the first input is refused that ended within an item, if one did.
+/// Lets the run go on to its end, and shows how far it is. It returns how the run ended. If an input ended within an
+/// item, it also returns why the first such input is refused.
 pub fn go<R: Threads + Wait + Clock + CpuClock + Copy + Send + Sync + 'static, W: Watch>(
     threads: R,
     rt: &HostRuntime,
@@ -48,7 +49,7 @@ pub fn go<R: Threads + Wait + Clock + CpuClock + Copy + Send + Sync + 'static, W
     ended
 }
 
-// The run, of which nobody asks, and whose inputs threads read, if there are some for that.
+// The run without requests. Threads read its inputs, if there are such threads.
 fn run_read<R: Threads + Wait + Clock + CpuClock + Copy + Send + Sync + 'static, W: Watch>(
     threads: R,
     alloc: Global,
@@ -86,7 +87,7 @@ fn run_read<R: Threads + Wait + Clock + CpuClock + Copy + Send + Sync + 'static,
     ended
 }
 
-// The run, of which lines ask. Each that was answered has its reply when it is over.
+// The run with lines that make requests. When it is over, each answered line has its reply.
 fn run_spoken<R: Threads + Wait + Clock + CpuClock + Copy + Send + Sync + 'static, W: Watch>(
     threads: R,
     alloc: Global,
@@ -113,7 +114,8 @@ fn run_spoken<R: Threads + Wait + Clock + CpuClock + Copy + Send + Sync + 'stati
     ended
 }
 
-// The run, with a thread for each other processor that does work where that pays. One that is measured has none, so that its times are those of one thread.
+// The run, with a helper thread for each other processor, which works if that pays. A measured run has none, so its
+// times are those of one thread.
 fn run_helped<
     R: Threads + Wait + Clock + CpuClock + Copy + Send + Sync + 'static,
     Q: Readiness,
@@ -147,7 +149,7 @@ fn run_helped<
     ended
 }
 
-// The run on one thread, of whose steps the observer is told.
+// The run on one thread. It tells the observer of its steps.
 fn run_alone<R: Wait + Clock + CpuClock + Drop, Q: Readiness, C: Requests, W: Watch>(
     alloc: Global,
     run: &mut Stream<R>,
@@ -171,7 +173,7 @@ fn run_alone<R: Wait + Clock + CpuClock + Drop, Q: Readiness, C: Requests, W: Wa
     )
 }
 
-// The run, in which an input that ends within an item ends with the item before.
+// The run. An input that ends within an item counts as ending with the item before.
 fn run_cut<
     R: Wait + Drop,
     H: Helpers<Job<Kind>, Worked<Kind>>,
@@ -189,7 +191,7 @@ fn run_cut<
     watch: &mut W,
 ) -> Result<(Ended, Option<Stop>), Stop> {
     let mut cut = None;
-    // (each time but the last a source is closed)
+    // (each time except the last closes a source)
     for _ in 0..=run.plant.graph().len() {
         match run.run_asked(alloc, helpers, readiness, requests, watch) {
             Ok(ended) => return Ok((ended, cut)),

@@ -1,13 +1,14 @@
-//! Writes that fail since nobody reads on, as where `| head` has seen enough. That is no fault of a run, which ends all the same.
+//! Writes that fail since nobody reads on, as behind `| head`. That is no fault of a run, but ends it.
 
 use crate::refusing::buffered;
 use crate::words::Call;
 use std::io::{BufWriter, Error, ErrorKind, Write};
 
-/// The exit status then, which a shell shows of a program that a closed pipe ends, as `cat`: 128 and the number of its signal.
+/// The exit status then: 128 and the number of the signal, as a shell shows it for a program that a closed pipe ends,
+/// like `cat`.
 pub const NOBODY_READS: u8 = 141;
 
-/// How standard output is called.
+/// The name of standard output in messages.
 pub const OUTPUT: &str = "standard output";
 
 /// Whether this is why a write failed.
@@ -15,7 +16,8 @@ pub fn is_gone(error: &Error) -> bool {
     error.kind() == ErrorKind::BrokenPipe
 }
 
-/// Ends what a command says of how it ended, and gives the status of the call. Where it ended since nobody reads standard output, that is said alone.
+/// Writes out what a command says of its end, and returns the status of the call. If nobody reads standard output any
+/// more, it says only that.
 pub fn end_of<W: Write + Drop>(
     rt: &HostRuntime,
     call: &Call<'_>,
@@ -36,7 +38,7 @@ pub fn end_of<W: Write + Drop>(
     }
 }
 
-/// Tells that nobody reads what is written under this name, unless the words say no, and gives the status of the call.
+/// Tells that nobody reads the stream of this name, unless the words say no, and returns the status of the call.
 pub fn tell_gone(rt: &HostRuntime, call: &Call<'_>, name: &str) -> u8 {
     if !call.is_quiet {
         tell(rt, name);
@@ -44,7 +46,7 @@ pub fn tell_gone(rt: &HostRuntime, call: &Call<'_>, name: &str) -> u8 {
     NOBODY_READS
 }
 
-/// Tells that nobody reads what is written under this name.
+/// Tells that nobody reads the stream of this name.
 pub fn tell(rt: &HostRuntime, name: &str) {
     let mut errors = buffered(rt.alloc(), rt.stderr()).writer;
     let _ = write!(errors, "flow: nobody reads {name} any more\n");

@@ -1,4 +1,4 @@
-//! What the outputs of a run that did not come to its end hold of it.
+//! What the outputs of a run hold that did not come to its end.
 
 use crate::ends::Ends;
 use crate::lengths::{length_of, length_of_output, size_at, tags_of};
@@ -10,20 +10,20 @@ use std::fs;
 use std::fs::File;
 use std::io::Read;
 
-// So many bytes are read at once.
+// How many bytes are read at once.
 const PIECE: usize = 65_536;
 
 /// How much of the outputs of a sink stands, in whole items and lines.
 #[derive(Clone, Copy, Debug, PartialEq, Eq)]
 pub struct Held {
     pub items: u64,
-    /// The lines of the tags on these items have so many bytes.
+    /// How many bytes the lines of the tags on these items have.
     pub tag_bytes: u64,
 }
 
-/// How much of the outputs of a sink a run may go on with, if these are beginnings of what the whole run writes. Lines of tags come in the order of their items: so all
-/// tags are there of the items before the one that the last whole line names. Of this item and of those behind it nothing tells whether a tag is missing, since items are
-/// written apart from their tags.
+/// How much of a sink's outputs a run may continue, if they are beginnings of what the whole run writes. Lines of tags
+/// come in the order of their items. So all tags are there on items before the one that the last whole line names.
+/// Nothing tells whether a tag of this item, or of one behind it, is missing: items are written apart from their tags.
 pub fn held_of(
     rt: &HostRuntime,
     graph: &Valid<Kind>,
@@ -39,7 +39,7 @@ pub fn held_of(
     };
     let mut lines = Lines::of(items);
     if length_of(rt, end, Uncut::NoFileOut(sink))?.is_some() {
-        // (one that cannot be read holds nothing that is known)
+        // (nothing is known of one that cannot be read)
         if let Ok(file) = fs::open(rt, end.path) {
             lines.read(rt.alloc(), file)?;
         }
@@ -51,7 +51,7 @@ pub fn held_of(
 #[derive(Clone, Copy, Debug, PartialEq, Eq)]
 enum Came {
     Nothing,
-    // `@` and the digits of this number, the item.
+    // `@` and the digits of this number, which is the item.
     Item(u64),
     // All up to `:`, or more.
     Tag(u64),
@@ -60,9 +60,9 @@ enum Came {
 // Lines of tags, as far as they were read.
 #[derive(Drop)]
 struct Lines {
-    // So many items the output has.
+    // How many items the output has.
     items: u64,
-    // So many bytes were read, and where the line begins that comes.
+    // How many bytes were read, and where the next line begins.
     read: u64,
     begin: u64,
     came: Came,
@@ -70,7 +70,7 @@ struct Lines {
 }
 
 impl Lines {
-    // None yet of the tags on so many items.
+    // No line yet of the tags on so many items.
     fn of(items: u64) -> Lines {
         Lines {
             items,
@@ -84,7 +84,7 @@ impl Lines {
         }
     }
 
-    // Reads those of a file, up to its end or what is no such line. A read that fails is an end too.
+    // Reads the lines of a file, up to its end or to a line that is not one. A failed read is an end too.
     fn read(&mut self, alloc: Global, file: File) -> Result<(), Uncut> {
         let mut file = file;
         let mut piece = vec![in alloc; 0; PIECE]?;

@@ -1,4 +1,4 @@
-//! The blocks of a run are joined to the files that the words name.
+//! Joins the blocks of a run to the files that the words name.
 
 use crate::cut::Cut;
 use crate::devices::{Chain, Device, Extent, Source, Target};
@@ -19,12 +19,12 @@ use std::os::unix::fs::FileTypeExt;
 use std::sync::Wait;
 use std::thread::Threads;
 
-/// When a pipe is opened that is read.
+/// When the run opens a pipe that it reads.
 #[derive(Clone, Copy, Debug, PartialEq, Eq)]
 pub enum PipesOpen {
     /// With the other inputs: a pipe that no program has opened to write holds up the run.
     AtOnce,
-    /// When it is first read.
+    /// At its first read.
     AtFirstRead,
 }
 
@@ -56,7 +56,7 @@ impl Opened {
     }
 }
 
-// Opens the inputs, in their order: of each source its own, of which it reads what the cut says.
+// Opens the inputs of each source, in their order. The run reads of them what the cut says.
 fn open_inputs<R: Drop>(
     rt: &HostRuntime,
     run: &Stream<R>,
@@ -92,7 +92,7 @@ fn open_inputs<R: Drop>(
     Ok(chains)
 }
 
-/// Joins each source to its inputs. Where there are threads for that, one reads those of a source that may be silent.
+/// Joins each source to its inputs. If there are reader threads, one reads for each source that may be silent.
 pub fn join_inputs<R: Threads + Wait + Copy + Send + 'static>(
     alloc: Global,
     run: &mut Stream<R>,
@@ -118,7 +118,7 @@ pub fn join_inputs<R: Threads + Wait + Copy + Send + 'static>(
     Ok(())
 }
 
-// Opens the inputs of marks, in their order: of each source its own.
+// Opens the inputs of marks of each source, in their order.
 fn open_marks<R: Drop>(
     rt: &HostRuntime,
     run: &Stream<R>,
@@ -178,7 +178,7 @@ fn add_input(
     }
 }
 
-/// A sink whose items are kept until the run is over, and its tags with them, which go to a file of this number then.
+/// A sink that keeps its items and tags until the run is over. The tags then go to the file of this number.
 #[derive(Drop)]
 pub struct Kept {
     pub sink: BlockId,
@@ -186,7 +186,7 @@ pub struct Kept {
     pub target: Target,
 }
 
-/// Joins each sink with an output of its items to its own. The others are returned.
+/// Joins each sink that has an output of items to it, and returns the others.
 pub fn join_outputs<R: Wait + Drop>(
     alloc: Global,
     run: &mut Stream<R>,
@@ -231,7 +231,7 @@ pub fn join_outputs<R: Wait + Drop>(
     Ok(kept)
 }
 
-/// So many places with nothing.
+/// So many empty places.
 pub fn slots<T: Drop>(alloc: Global, count: usize) -> Result<Vec<Option<T>>, AllocError> {
     let mut slots = Vec::new(alloc);
     for _ in 0..count {

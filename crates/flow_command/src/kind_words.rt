@@ -9,9 +9,9 @@ use std::alloc::{AllocError, Global};
 /// Why words that `clap` took ask for nothing.
 #[derive(Drop)]
 pub enum WordFault {
-    /// They name no ends.
+    /// They name no ends of a run.
     Ends(EndsFault),
-    /// A word is no kind, or none that may stand there, as this says.
+    /// A word is no kind, or none that may stand there. This text says so.
     NoKind(String),
 }
 
@@ -36,7 +36,7 @@ pub fn links_in(alloc: Global, words: &[&str]) -> Result<Vec<KindName>, WordFaul
     Ok(kinds)
 }
 
-// What is said of a kind that stands at an end of a graph.
+// The message about a kind that belongs at an end of a graph.
 fn end_text(alloc: Global, kind: KindName) -> Result<String, AllocError> {
     let name = kind.text();
     format!(in alloc; "a graph begins and ends by itself, and '{name}' is the kind of an end")
@@ -50,7 +50,7 @@ pub fn kind_in(alloc: Global, word: &str) -> Result<KindName, WordFault> {
     }
 }
 
-// What is said of a word that is no kind, beside the name of the kind that is like it.
+// The message about a word that is no kind, with the name of the kind closest to it.
 fn no_kind_text(alloc: Global, word: &str) -> Result<String, AllocError> {
     let mut names = Vec::new(alloc);
     for kind in KindName::all() {

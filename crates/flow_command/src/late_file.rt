@@ -4,7 +4,8 @@ use std::fs::File;
 use std::io::Read;
 use std::{fs, io};
 
-/// A file, or a pipe of this path that is not opened yet: that waits until a program opens it to write, and so it is left to the first read.
+/// A file, or a pipe of this path that is not opened yet. Opening a pipe waits until a program opens it to write, so it
+/// is left to the first read.
 #[derive(Drop)]
 pub enum LateFile {
     Open(File),
@@ -12,7 +13,7 @@ pub enum LateFile {
 }
 
 impl LateFile {
-    /// Whether a read may wait, as that of a pipe or of a terminal: it is not known to be of a regular file.
+    /// Whether a read may wait, as on a pipe or a terminal: the file is not known to be a regular one.
     pub fn may_be_silent(&self) -> bool {
         match self {
             LateFile::Open(file) => match file.metadata() {

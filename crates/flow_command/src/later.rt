@@ -16,8 +16,8 @@ use slices::first_to_count;
 use std::alloc::{AllocError, Global};
 use streaming::StreamingPlant;
 
-/// The plant whose blocks go on where those of a graph stand after so many iterations; none where those of the graph do so themselves. The graph is that of the file,
-/// and has a plan.
+/// The plant whose blocks go on where those of a graph stand after so many iterations; none if the graph's own blocks
+/// do so. The graph is that of the file, and has a plan.
 pub fn later_plant(
     alloc: Global,
     file: &[u8],

@@ -18,7 +18,7 @@ pub fn lengths_of_inputs(
 ) -> Result<Vec<u64>, Uncut> {
     let mut lengths = zeros(rt.alloc(), graph.len())?;
     for (number, end) in ends.inputs.iter().enumerate() {
-        // (a name or a file that is refused is refused where it is opened)
+        // (a bad name or file is refused when it is opened)
         let Ok(source) = source_named(graph, EndPlace::Input(number), end.block.as_bytes()) else {
             continue;
         };
@@ -34,7 +34,7 @@ pub fn lengths_of_inputs(
     Ok(lengths)
 }
 
-/// Whether all ends are regular files, as far as they are there.
+/// Whether all ends that exist are regular files.
 pub fn are_files(rt: &HostRuntime, ends: &[NamedEnd<'_>]) -> bool {
     ends.iter().all(|end| match fs::metadata(rt, end.path) {
         Ok(found) => found.is_file() && !end.is_standard(),
@@ -42,7 +42,7 @@ pub fn are_files(rt: &HostRuntime, ends: &[NamedEnd<'_>]) -> bool {
     })
 }
 
-/// How many bytes of whole items the output of a sink has; none if it is not there.
+/// How many bytes of whole items the output of a sink has; none if it does not exist.
 pub fn length_of_output(
     rt: &HostRuntime,
     graph: &Valid<Kind>,
@@ -92,7 +92,7 @@ pub fn has_input(graph: &Valid<Kind>, ends: &Ends<'_>, source: BlockId) -> bool 
     named(graph, &ends.inputs, source).is_some()
 }
 
-/// How long the file at an end is, if it is there. One that is no regular file is refused as this.
+/// How long the file at an end is, if it exists. One that is no regular file is refused with this.
 pub fn length_of(
     rt: &HostRuntime,
     end: &NamedEnd<'_>,

@@ -1,4 +1,4 @@
-//! The command `flow`: what the words of a call ask for, done between files and the standard streams.
+//! The command `flow`: does what the words of a call ask for, between files and the standard streams.
 #![tactic(auto)]
 
 mod call;
@@ -75,8 +75,8 @@ use std::thread::Threads;
 use std::time::{Clock, CpuClock};
 use std::{env, fs};
 
-/// Does what the words of the call ask for, and returns its exit status. `threads` is the same runtime as `rt`, with the leave to start
-/// threads, which only `main` may hand on.
+/// Does what the words of the call ask for, and returns its exit status. `threads` is the same runtime as `rt`, with
+/// permission to start threads. Only `main` may hand that on.
 pub fn obey<R: Threads + Wait + Clock + CpuClock + Copy + Send + Sync + 'static>(
     threads: R,
     rt: &HostRuntime,
@@ -100,7 +100,7 @@ pub fn obey<R: Threads + Wait + Clock + CpuClock + Copy + Send + Sync + 'static>
     }
 }
 
-// Says what the words ask for that is no call: help, or the version. Or else what is wrong with them.
+// Prints help or the version, if the words ask for that, or else what is wrong with them.
 fn answer(rt: &HostRuntime, error: &clap::Error) -> u8 {
     if error.use_stderr() {
         return refuse(rt, error);
@@ -130,7 +130,7 @@ fn run<R: Threads + Wait + Clock + CpuClock + Copy + Send + Sync + 'static>(
     call: Call<'_>,
     report: ReportStream,
 ) -> u8 {
-    // (a run that writes items or tags to a terminal would write them into the line that shows it)
+    // (a run that writes items or tags to a terminal would write into its progress line)
     let is_shared = call.ends.use_output() && rt.stdout().is_terminal();
     let may_show = call.may_show(rt.stderr().is_terminal() && !is_shared);
     let mut terminal = Terminal::new(rt, rt.stderr(), may_show);
@@ -165,7 +165,7 @@ fn run<R: Threads + Wait + Clock + CpuClock + Copy + Send + Sync + 'static>(
     tell_times(rt, &call, &measured, status)
 }
 
-// Does what the words ask for with a file, between the standard streams.
+// Does what the words ask for with a graph file, between the standard streams.
 fn serve_file<R: Threads + Wait + Clock + CpuClock + Copy + Send + Sync + 'static, W: Watch>(
     threads: R,
     rt: &HostRuntime,

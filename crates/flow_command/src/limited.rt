@@ -1,11 +1,11 @@
-//! A writer that takes no more than so much.
+//! A writer with a limit.
 
 ghost use Rattle.std.specs.Prelude.{◌≤◌};
 
 use std::io;
 use std::io::Write;
 
-/// A writer that passes on so many bytes at most. Those behind are left out.
+/// A writer that passes on at most so many bytes, and leaves out the rest.
 #[derive(Drop)]
 pub struct Limited<W> {
     most: u64,
@@ -13,7 +13,7 @@ pub struct Limited<W> {
 }
 
 impl<W> Limited<W> {
-    /// The writer, to which so many bytes are passed on at most.
+    /// The writer, with this limit of bytes.
     pub fn new(writer: W, most: u64) -> Limited<W> {
         Limited { most, writer }
     }

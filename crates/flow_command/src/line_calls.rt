@@ -1,4 +1,4 @@
-//! What lines ask of a run between files, and the replies.
+//! Requests of lines to a run between files, and the replies.
 
 use crate::stops::name_of;
 use flow::session::calls::value_for;
@@ -12,7 +12,7 @@ use std::alloc::{AllocError, Global};
 use std::sync::Wait;
 use stream_model::Wanted;
 
-// The number by which a line is refused that asks for nothing that a stream answers, and that by which a lack of memory is told.
+// The number that refuses a line that asks for nothing a stream answers, and the number of a lack of memory.
 const BAD_LINE: u32 = 50;
 
 const NO_MEMORY: u32 = 32;
@@ -25,14 +25,14 @@ struct Named {
     setting: Option<Wanted>,
 }
 
-/// The blocks of a graph, as far as lines are concerned with them.
+/// What lines need to know of the blocks of a graph.
 #[derive(Drop)]
 pub struct Blocks {
     blocks: Vec<Named>,
 }
 
 impl Blocks {
-    /// Those of a graph.
+    /// The blocks of this graph.
     pub fn of(alloc: Global, graph: &Valid<Kind>) -> Result<Blocks, AllocError> {
         let mut blocks = Vec::with_capacity(alloc, graph.len())?;
         for block in 0..graph.len() {
@@ -59,16 +59,16 @@ impl Blocks {
     }
 }
 
-/// Whether a line has had its answer.
+/// Whether a line got its answer.
 #[derive(Clone, Copy, Debug, PartialEq, Eq)]
 pub enum Said {
     /// All of it.
     All,
-    /// Not all of it, since nobody answers any more.
+    /// Not all of it: nobody answers any more.
     Ended,
 }
 
-/// Makes the calls that a line asks for, and adds the replies, each a line.
+/// Makes the calls that a line asks for, and adds each reply as a line.
 pub fn reply_to<R: Wait + Drop>(
     alloc: Global,
     caller: &Caller<R>,
@@ -98,7 +98,7 @@ pub fn reply_to<R: Wait + Drop>(
     }
 }
 
-// The value that numbers are for the setting of a block.
+// The value of these numbers for the setting of a block.
 fn value_of(alloc: Global, block: &Named, numbers: &[i64]) -> Result<settings::Value, PlantFault> {
     match block.setting {
         Some(wanted) => value_for(alloc, wanted, numbers),

@@ -13,13 +13,13 @@ use std::thread;
 use std::thread::Threads;
 use threads::RunError;
 
-// So many bytes a line has at most, as each line of a script.
+// The most bytes of a line, as of a script's.
 const LONGEST_LINE: usize = 65_536;
 
-// And so many are read at once.
+// How many bytes are read at once.
 const PIECE: usize = 4_096;
 
-/// A thread that has lines make calls, each answered before the next is read.
+/// A thread that makes the calls of lines, and answers each before it reads the next.
 #[derive(Drop)]
 pub struct LineThread<R: Drop> {
     rt: R,
@@ -32,7 +32,7 @@ enum InHand {
     Nothing,
     // A line whose reply is not written yet.
     Line,
-    // No line is taken any more.
+    // Whether it takes no more lines.
     Over,
 }
 
@@ -51,7 +51,7 @@ impl Hand {
         Ok(Arc::new(alloc, hand)?)
     }
 
-    // Takes a line in hand, and tells whether it may.
+    // Takes a line in hand, and returns whether it may.
     fn fill<R: Wait>(&self, rt: &R) -> bool {
         let mut has = self.has.lock(rt);
         if *has == InHand::Over {
@@ -66,7 +66,7 @@ impl Hand {
         self.emptied.notify_one();
     }
 
-    // Waits until the line in hand is answered, and has no other taken.
+    // Waits until the line in hand is answered, and lets no other be taken.
     fn end<R: Wait>(&self, rt: &R) {
         let mut has = self.has.lock(rt);
         for _ in rt.forever() {
@@ -97,8 +97,9 @@ impl<R: Threads + Wait + Copy + Send + 'static> LineThread<R> {
 }
 
 impl<R: Wait + Drop> LineThread<R> {
-    /// Waits until the reply to the line in hand is written, behind which none is. The box of requests is dropped before, so that each call has an end. The thread is not waited for: it may
-    /// read for as long as there is something to read.
+    /// Waits until the reply to the line in hand is written; no other follows. The box of requests is dropped before,
+    /// so that each call ends. It does not wait for the thread, which may read for as long as there is something to
+    /// read.
     pub fn finish(self) {
         self.hand.end(&self.rt);
     }
@@ -106,11 +107,11 @@ impl<R: Wait + Drop> LineThread<R> {
 
 /// What answers lines on the thread.
 pub trait Speaks<R> {
-    /// Answers each line, until none comes or nobody answers any more.
+    /// Answers each line, until no line comes or nobody answers any more.
     fn answer_all(&mut self, rt: &R, alloc: Global, hand: &Hand);
 }
 
-/// What has lines make calls.
+/// Makes the calls of lines.
 #[derive(Drop)]
 pub struct Speaker<R: Drop> {
     blocks: Blocks,
@@ -139,7 +140,7 @@ impl<R: Wait + Drop> Speaks<R> for Speaker<R> {
 }
 
 impl<R: Drop> Speaker<R> {
-    /// No line was read.
+    /// No line was read yet.
     pub fn new(
         alloc: Global,
         blocks: Blocks,
@@ -183,7 +184,7 @@ enum Came {
 // Lines of bytes that come in pieces.
 #[derive(Drop)]
 struct Lines {
-    // What was read of the lines that come, and the line that came last.
+    // What was read of the next lines, and the last whole line.
     bytes: Vec<u8>,
     line: Vec<u8>,
     piece: Vec<u8>,
@@ -198,7 +199,7 @@ impl Lines {
         })
     }
 
-    // Takes the next line, and waits for it. There is none behind one that is too long, nor where a read fails.
+    // Waits for the next line, and takes it. There is none behind a line that is too long, or a failed read.
     fn next(&mut self, control: &mut Control) -> std::io::Result<Came> {
         for _ in 0..u64::MAX {
             if self.take()? {
@@ -221,7 +222,7 @@ impl Lines {
         Ok(Came::Over)
     }
 
-    // Takes the first line off the bytes, where its end has come.
+    // Takes the first line off the bytes, if its end has come.
     fn take(&mut self) -> Result<bool, AllocError> {
         let Some(end) = self.bytes.iter().position(|byte| *byte == b'\n') else {
             return Ok(false);

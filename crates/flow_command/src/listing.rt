@@ -1,4 +1,4 @@
-//! What is printed without a graph file: the page of kinds, help and the version.
+//! Prints what needs no graph file: the page of kinds, help and the version.
 
 use crate::gone_reader::{NOBODY_READS, OUTPUT, is_gone, tell};
 use crate::refusing::begins_none;

@@ -18,15 +18,15 @@ use std::time::Clock;
 // The status of a run that came to rest before all blocks were done.
 const STALLED: u8 = 3;
 
-/// Whether a run came to rest, by the status in which it ended. Its report is written after that.
+/// Whether a run came to rest, by its status. Its report is written after that.
 pub fn came_to_rest(status: u8) -> bool {
     status == 0 || status == STALLED || status == NOBODY_READS
 }
 
-/// What looks at the run of a call, and the part of it that the run has.
+/// The observer of a call's run, and the part of it that the run has.
 pub type ForRun<R> = (Option<Measured<R>>, Option<Arc<Observer<R>, Global>>);
 
-/// What looks at the run of a call, where its words ask for that and the file is not refused.
+/// The observer of a call's run, if the words ask for one and the file is not refused.
 pub fn measured_for<R: Clock + Copy>(
     clock: R,
     alloc: Global,
@@ -51,7 +51,7 @@ pub fn measured_for<R: Clock + Copy>(
     Ok((Some(measured), Some(observer)))
 }
 
-// The graph of a file; none where the file is refused, or one of its feeds, which the run tells.
+// The graph of a file; none if the file or one of its feeds is refused. The run tells that.
 fn graph_of(alloc: Global, file: &[u8]) -> Result<Option<Arc<Valid<Kind>, Global>>, AllocError> {
     match open_plant(alloc, file) {
         Ok(plant) => Ok(Some(plant.share_graph()?)),
@@ -60,7 +60,7 @@ fn graph_of(alloc: Global, file: &[u8]) -> Result<Option<Arc<Valid<Kind>, Global
     }
 }
 
-/// Writes what was measured of a run that came to rest with this status, and gives the status of the call.
+/// Writes what was measured of a run that came to rest with this status, and returns the status of the call.
 pub fn tell_times<R: Clock + Copy>(
     rt: &HostRuntime,
     call: &Call<'_>,

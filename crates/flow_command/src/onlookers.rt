@@ -1,4 +1,4 @@
-//! What looks at a run between files.
+//! Watches and observers of a run between files.
 
 use flowgraph::BlockId;
 use run_stats::Observer;
@@ -7,14 +7,14 @@ use std::sync::Arc;
 use std::time::Duration;
 use streaming::{Headway, Helpers, Step, Watch};
 
-/// A watch is shown how far the run is, and an observer is told of its steps, if it is measured or traced.
+/// The watch sees how far the run is. If the run is measured or traced, the observer is told of its steps.
 #[derive(Drop)]
 pub struct Onlookers<'a, R: Drop, W> {
     pub watch: &'a mut W,
     pub observer: Option<Arc<Observer<R>, Global>>,
 }
 
-/// Nobody helps, so that the caller makes each step, and this watch is told of it.
+/// Nobody helps: the caller makes each step, and this watch is told of it.
 #[derive(Drop)]
 pub struct Alone<W> {
     steps: W,

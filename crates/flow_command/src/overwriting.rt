@@ -1,4 +1,4 @@
-//! Where what a call writes leads to: paths that differ may lead to one file or pipe, which a standard stream may be as well.
+//! Which files a call writes. Different paths may lead to one file or pipe, and a standard stream may be that file too.
 
 use crate::ends::{EndsFault, NamedEnd, stand_side_by_side};
 use crate::words::Call;
@@ -16,17 +16,18 @@ pub enum ReportStream {
     Errors,
 }
 
-// Where a path leads: the device and the number of its file or pipe; or of its folder, with its name there, where there is no such file as yet.
+// Where a path leads: the device and the number of its file or pipe. If there is no such file yet, those of its folder,
+// and its name there.
 type Place = (u64, u64, String);
 
-// Where the standard streams are found as files, which they are where a shell has redirected them.
+// The paths of the standard streams, which are files if a shell has redirected them.
 const INPUT: &str = "/dev/stdin";
 
 const OUTPUT: &str = "/dev/stdout";
 
 const ERRORS: &str = "/dev/stderr";
 
-// The system follows as many links, one to the next.
+// How many links in a row the system follows.
 const MOST_LINKS: usize = 40;
 
 /// Where the report of a call goes: to standard output, or to standard error if standard output has items or tags. A call is refused if it would write one file or
@@ -51,7 +52,7 @@ pub fn report_stream(rt: &HostRuntime, call: &Call<'_>) -> Result<ReportStream, 
     }
 }
 
-// Where all that a call writes leads, but for what standard error has, and its report; sorted.
+// Where all outputs of a call lead, except standard error and its report; sorted.
 fn written_by(rt: &HostRuntime, call: &Call<'_>) -> Result<Vec<Place>, AllocError> {
     let mut written = Vec::new(rt.alloc());
     for end in call.ends.outputs.iter().chain(call.ends.tags.iter()) {
@@ -67,7 +68,7 @@ fn written_by(rt: &HostRuntime, call: &Call<'_>) -> Result<Vec<Place>, AllocErro
     Ok(written)
 }
 
-// The path of an end, which is this one for the standard stream.
+// The path of an end; this one if it is the standard stream.
 fn path_of<'a>(end: &NamedEnd<'a>, standard: &'static str) -> &'a str {
     if end.is_standard() {
         standard
@@ -102,7 +103,8 @@ fn reads_one_of(rt: &HostRuntime, written: &[Place], call: &Call<'_>) -> Result<
     Ok(false)
 }
 
-// Whether a path leads to one of these, and to a file: what comes out of a pipe or a socket is not what was written there last.
+// Whether a path leads to one of these that is a file. (What comes out of a pipe or a socket is not what was written
+// there last.)
 fn is_file_of(rt: &HostRuntime, places: &[Place], path: &str) -> Result<bool, AllocError> {
     match fs::metadata(rt, path) {
         Ok(found) if !found.is_file() => Ok(false),
@@ -118,7 +120,7 @@ fn leads_to_one_of(rt: &HostRuntime, places: &[Place], path: &str) -> Result<boo
     }
 }
 
-// None is that of a device, which many may write to, or of a folder, which nobody does.
+// None for a device, which many may write to, and for a folder, which nobody writes to.
 fn place_of(rt: &HostRuntime, path: &str) -> Result<Option<Place>, AllocError> {
     match fs::metadata(rt, path) {
         Ok(found) if keeps_order(&found) => Ok(Some((
@@ -155,7 +157,7 @@ fn free_place(rt: &HostRuntime, path: &PathBuf) -> Result<Option<Place>, AllocEr
     }
 }
 
-// The path to which the links at this one lead, of which the last leads to no file; the path itself where there is no link.
+// The path that the links at this one lead to; the path itself if it is no link. The last link leads to no file.
 fn end_of_links(rt: &HostRuntime, path: &str) -> Result<PathBuf, AllocError> {
     let mut path = PathBuf::from_str(rt.alloc(), path)?;
     for _ in 0..MOST_LINKS {

@@ -1,18 +1,18 @@
-//! When something is due that comes again and again.
+//! When something is due again and again.
 
 use std::time::{Clock, Duration, Instant};
 
-/// A clock that tells each time that so long has passed. Once it fails, nothing is due any more.
+/// A clock that tells each time a period has passed. Once it fails, nothing is due any more.
 #[derive(Drop)]
 pub struct Pace<'a, C> {
     clock: &'a C,
     span: Option<Duration>,
-    // When it was due last, or began.
+    // When it was last due, or began.
     last: Option<Instant>,
 }
 
 impl<'a, C: Clock> Pace<'a, C> {
-    /// From now on; without a time from one to the next it is never due.
+    /// From now on. Without a period nothing is ever due.
     pub fn new(clock: &'a C, span: Option<Duration>) -> Pace<'a, C> {
         let last = match span {
             Some(_) => Instant::now(clock).ok(),
@@ -21,7 +21,7 @@ impl<'a, C: Clock> Pace<'a, C> {
         Pace { clock, span, last }
     }
 
-    /// How long it is from one time to the next, if one comes.
+    /// The period, if there is one.
     pub fn span(&self) -> Option<Duration> {
         match self.last {
             Some(_) => self.span,
@@ -29,7 +29,7 @@ impl<'a, C: Clock> Pace<'a, C> {
         }
     }
 
-    /// Whether one has come.
+    /// Whether something is due.
     pub fn is_due(&mut self) -> bool {
         let (Some(last), Some(span)) = (self.last, self.span) else {
             return false;

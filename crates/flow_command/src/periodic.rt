@@ -1,4 +1,4 @@
-//! Times that are told while a run goes on.
+//! Reports of times while a run goes on.
 
 use crate::pace::Pace;
 use flowgraph::BlockId;
@@ -7,7 +7,8 @@ use run_stats::{Form, Measured};
 use std::io::Write;
 use std::time::{Clock, Duration};
 
-/// A watch that tells the times of a run so far, each time that so long has passed. A write that fails is nothing to the run.
+/// A watch that reports the times of a run so far, each time a period has passed. A failed write does not matter to the
+/// run.
 #[derive(Drop)]
 pub struct Periodic<'a, R, W> {
     pace: Pace<'a, HostRuntime>,
@@ -18,7 +19,8 @@ pub struct Periodic<'a, R, W> {
 }
 
 impl<'a, R: Clock + Copy, W: Watch> Periodic<'a, R, W> {
-    /// Tells times beside this watch, after so many seconds each, if the words ask for that. It tells none where the clock fails.
+    /// Reports times beside this watch, every so many seconds, if the words ask for that. It reports none if the clock
+    /// fails.
     pub fn new(
         rt: &'a HostRuntime,
         measured: &'a Option<Measured<R>>,
@@ -40,7 +42,7 @@ impl<'a, R: Clock + Copy, W: Watch> Periodic<'a, R, W> {
             return;
         };
         if let Ok(text) = measured.report(self.rt.alloc(), form) {
-            // (the line that shows how far the run is goes, and comes again)
+            // (the progress line goes, and comes again)
             self.watch.end();
             let mut errors = self.rt.stderr();
             let _ = errors.write_all(&text);

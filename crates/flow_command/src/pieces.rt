@@ -1,4 +1,4 @@
-//! Runs in pieces: threads run slices on what is read, and the rest is left to the run itself.
+//! Runs in pieces: threads run slices on what is read, and leave the rest to the run itself.
 
 use crate::cut::Cut;
 use crate::devices::Chain;
@@ -24,7 +24,8 @@ use std::sync::Wait;
 use std::thread::Threads;
 use streaming::StreamingPlant;
 
-/// Runs slices on pieces of what is read as long as there are whole ones, and writes what they give. What was read and is in no piece is given back.
+/// Runs slices on pieces of what is read, as long as there are whole pieces, and writes what they give. It gives back
+/// what was read and is in no piece.
 pub fn run_pieces<R: Threads + Wait + Copy + Send + 'static, W: Watch>(
     threads: R,
     alloc: Global,
@@ -44,7 +45,7 @@ pub fn run_pieces<R: Threads + Wait + Copy + Send + 'static, W: Watch>(
     rest_of(alloc, graph, cut, team, left, opened)
 }
 
-// What is left of the run behind the pieces.
+// What is left of the run after the pieces.
 fn rest_of(
     alloc: Global,
     graph: &Valid<Kind>,
@@ -71,7 +72,7 @@ fn rest_of(
     Ok(rest)
 }
 
-// What is read of each source, and by what.
+// What is read of each source, and by which reader.
 fn tapes_of(
     alloc: Global,
     graph: &Valid<Kind>,
@@ -114,7 +115,7 @@ fn tapes_of(
     })
 }
 
-// What stands at a block.
+// The entry of a block.
 fn taken<T: Drop>(slots: &mut [Option<T>], block: BlockId) -> Option<T> {
     slots.get_mut(block.0 as usize)?.take()
 }
@@ -178,7 +179,7 @@ fn openers(alloc: Global, file: &[u8], count: usize) -> Result<Vec<GraphText>, A
     Ok(openers)
 }
 
-// What was read and is in no piece is read again.
+// Has what was read and is in no piece read again.
 fn give_back(
     alloc: Global,
     feeds: Feeds,

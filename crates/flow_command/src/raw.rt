@@ -1,4 +1,4 @@
-//! Runs between files and pipes of raw items, which are read and written as the items come.
+//! Runs between files and pipes of raw items, read and written as the items come.
 
 use crate::cut::Cut;
 use crate::devices::Chain;
@@ -42,7 +42,7 @@ use std::thread::Threads;
 use std::time::{Clock, CpuClock};
 use streaming::{StreamingPlant, Watch};
 
-/// Runs a graph file between files. All of them are opened before the first is read.
+/// Runs a graph file between files. It opens all of them before it reads the first.
 pub fn run_raw<R: Threads + Wait + Clock + CpuClock + Copy + Send + Sync + 'static, W: Watch>(
     threads: R,
     rt: &HostRuntime,
@@ -79,7 +79,7 @@ pub fn run_raw<R: Threads + Wait + Clock + CpuClock + Copy + Send + Sync + 'stat
     }
 }
 
-// Which part of a run is done, and how it is done in pieces, if it is.
+// The part of a run, and how it is run in pieces, if it is.
 #[derive(Drop)]
 struct Part<'a> {
     file: &'a [u8],
@@ -99,7 +99,7 @@ fn part_of<'a, R: Threads + Copy>(
     Ok(Part { file, cut, team })
 }
 
-// Tells why the run stopped, and gives the exit status.
+// Tells why the run stopped, and returns the exit status.
 fn tell_stop(rt: &HostRuntime, call: &Call<'_>, file: &[u8], stop: Stop) -> u8 {
     let Stop { fault, reason } = stop;
     let status = match unread_name(&fault, &reason, &call.ends) {
@@ -119,7 +119,8 @@ fn tell_stop(rt: &HostRuntime, call: &Call<'_>, file: &[u8], stop: Stop) -> u8 {
     status
 }
 
-// The run, which is returned if it stalled. Where an input ended within an item that is told last, since all that came of the items before it stands.
+// Runs, and returns the run if it stalled. An input that ended within an item is told last, since all that came of the
+// items before stands.
 fn stream<R: Threads + Wait + Clock + CpuClock + Copy + Send + Sync + 'static, W: Watch>(
     threads: R,
     rt: &HostRuntime,
@@ -144,8 +145,8 @@ fn stream<R: Threads + Wait + Clock + CpuClock + Copy + Send + Sync + 'static, W
     }
 }
 
-// What reads inputs that may be silent: in a run of several sources that may have threads, so that none of them holds up the others, and in a live run, so that none
-// holds up an answer.
+// The threads that read inputs that may be silent. A run of several sources has them, if it may have threads, so that
+// no input holds up the others. A live run has them, so that none holds up an answer.
 fn readers_for<R: Threads + Wait + Copy + Send + 'static>(
     threads: R,
     alloc: Global,
@@ -161,7 +162,8 @@ fn readers_for<R: Threads + Wait + Copy + Send + 'static>(
     }
 }
 
-// Opens all ends, runs the pieces of a run that has some, and joins the blocks to what is left, where they go on as they stand there.
+// Opens all ends, runs the pieces, if there are any, and joins the blocks to the rest. There the blocks go on where
+// they stand.
 fn join<R: Threads + Wait + Clock + Copy + Send + Sync + 'static, W: Watch>(
     threads: R,
     rt: &HostRuntime,
@@ -214,7 +216,7 @@ fn opened<R: Wait + Drop>(rt: &HostRuntime, file: &[u8]) -> Result<Stream<R>, St
     run_of(rt.alloc(), plant)
 }
 
-// The run of a plant, of which nothing is joined.
+// The run of a plant with nothing joined.
 fn run_of<R: Wait + Drop>(alloc: Global, plant: StreamingPlant<Kind>) -> Result<Stream<R>, Stop> {
     match Pipeline::new(alloc, plant) {
         Ok(run) => Ok(run),
@@ -227,7 +229,7 @@ fn close_others<R: Drop>(run: &mut Stream<R>) {
     let mut block = 0u32;
     for _ in 0..run.plant.graph().len() {
         if let Some(End::Open) = run.ends.get(block as usize) {
-            // (what is no source is refused)
+            // (only a source can be closed)
             let _ = run.plant.close(BlockId(block));
         }
         block = block.saturating_add(1);

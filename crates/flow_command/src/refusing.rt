@@ -1,4 +1,4 @@
-//! What the program says of a call that it refuses, a line in one write.
+//! What the program says of a refused call: a line in one write.
 
 ghost use Rattle.std.specs.Prelude.{◌≡◌, []};
 ghost use Rattle.std.specs.Io.Buffered.{writer_inner, writer_buffer};
@@ -10,14 +10,15 @@ use std::alloc::Global;
 use std::env::{Env, FillError};
 use std::io::{BufWriter, Write};
 
-// No line of a refusal or of a stalled run has more bytes.
+// The most bytes of a line of a refusal or of a stalled run.
 const LONGEST_LINE: usize = 1024;
 
-// Of a longer word nothing is said: it is no path either.
+// Messages do not show a longer word, which is no path either.
 const LONGEST_WORD: usize = 4096;
 
-/// A writer behind a buffer, so that the line of a refusal, which comes in pieces, is one write, and stays whole beside those of other programs. Of the lines of a
-/// stalled run, which may be more than the buffer holds, one may be cut. No memory is asked for later; where none is left now, each piece is a write.
+/// A writer behind a buffer. The line of a refusal comes in pieces; the buffer makes them one write, so the line stays
+/// whole beside those of other programs. A stalled run may have more lines than the buffer holds, so one may be cut. It
+/// asks for no memory later; if none is left now, each piece is a write.
 pub fn buffered<W: Write + Copy + Drop>(alloc: Global, writer: W) -> WriteEnd<BufWriter<W>>
     ensures inner { writer_inner result.writer ≡ writer }
     ensures empty { writer_buffer result.writer ≡ [] }
@@ -42,7 +43,7 @@ pub fn begins_none(rt: &HostRuntime, fault: StartFault) -> u8 {
     tell(rt, fault, named)
 }
 
-/// Tells that a file keeps a command from being begun, or from being done whole: its path stands behind the text of the fault.
+/// Tells that a file keeps a command from beginning, or from ending whole. The path follows the text of the fault.
 pub fn begins_none_of(rt: &HostRuntime, fault: StartFault, path: &str) -> u8 {
     let named = match (fault, shown(rt.alloc(), path.as_bytes())) {
         (StartFault::NoFile | StartFault::NoTrace | StartFault::NoOutput, Ok(path))
@@ -52,7 +53,7 @@ pub fn begins_none_of(rt: &HostRuntime, fault: StartFault, path: &str) -> u8 {
     tell(rt, fault, named)
 }
 
-/// The name of a file as it is shown; empty where memory runs out.
+/// The name of a file as it is shown; empty if memory runs out.
 pub fn shown_name(alloc: Global, path: &str) -> String {
     match shown(alloc, path.as_bytes()) {
         Ok(name) => name,
@@ -60,7 +61,7 @@ pub fn shown_name(alloc: Global, path: &str) -> String {
     }
 }
 
-// Tells why no command is begun, by the line that names what keeps it, where there is one.
+// Tells why no command is begun, by the line that names the cause, if there is one.
 fn tell(rt: &HostRuntime, fault: StartFault, named: Option<String>) -> u8 {
     match named {
         Some(line) => {
@@ -74,13 +75,13 @@ fn tell(rt: &HostRuntime, fault: StartFault, named: Option<String>) -> u8 {
     fault.status()
 }
 
-// The line of a fault with what it is about behind it; none where memory runs out.
+// The line of a fault, with its object behind it; none if memory runs out.
 fn naming(rt: &HostRuntime, fault: StartFault, between: &str, name: &str) -> Option<String> {
     let line = fault.text().trim_end();
     format!(in rt.alloc(); "{line}{between}{name}\n").ok()
 }
 
-// The first word that is no UTF-8, as it is shown; none where memory runs out, or where it is too long.
+// The first word that is no UTF-8, as it is shown; none if memory runs out, or if it is too long.
 fn bad_word<R: Env>(alloc: Global, rt: &R) -> Option<String> {
     let mut bytes = vec![in alloc; 0u8; LONGEST_WORD].ok()?;
     for number in 0..usize::MAX {

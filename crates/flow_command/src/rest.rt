@@ -1,4 +1,4 @@
-//! What of a run its pipeline does: all of it, or what is left behind its pieces.
+//! The pipeline's share of a run: all of it, or what is left after its pieces.
 
 use crate::cut::Cut;
 use crate::lengths::{size_at, zeros};
@@ -7,16 +7,16 @@ use kinds::Kind;
 use pipeline::{PipelineFault, StreamPart};
 use std::alloc::{AllocError, Global};
 
-/// What of a run its pipeline does, by block.
+/// The pipeline's share of a run, by block.
 #[derive(Drop)]
 pub struct Rest {
     has_pieces: bool,
     // How many iterations of the whole tapes stand before what is read.
     first: u64,
-    // Of each source the item at which what is read begins, and how many lines of its marks stand before those that are read.
+    // For each source the first item that is read, and how many lines of its marks stand before those that are read.
     origins: Vec<u64>,
     lines: Vec<u64>,
-    // Of each sink how many items it was given of pieces, and which part of its stream comes then.
+    // For each sink how many items the pieces gave it, and which part of its stream comes then.
     given: Vec<u64>,
     parts: Vec<StreamPart>,
 }
@@ -47,19 +47,19 @@ impl Rest {
         })
     }
 
-    /// What is read begins behind so many iterations of the whole tapes.
+    /// Reading begins behind so many iterations of the whole tapes.
     pub fn begin_at(&mut self, first: u64) {
         self.first = first;
     }
 
-    /// What is read of a source begins at this item, and so many lines of its marks stand before.
+    /// Reading of a source begins at this item, and behind so many lines of its marks.
     pub fn begin(&mut self, source: BlockId, origin: u64, lines: u64) {
         self.has_pieces = true;
         set(&mut self.origins, source, origin);
         set(&mut self.lines, source, lines);
     }
 
-    /// A sink was given so many items of pieces, and goes on with this part of its stream.
+    /// The pieces gave a sink so many items, and it goes on with this part of its stream.
     pub fn go_on(&mut self, sink: BlockId, given: u64, part: StreamPart) {
         self.has_pieces = true;
         set(&mut self.given, sink, given);
@@ -71,12 +71,12 @@ impl Rest {
         self.first
     }
 
-    /// Whether it is what is left behind pieces.
+    /// Whether it is what pieces left.
     pub fn has_pieces(&self) -> bool {
         self.has_pieces
     }
 
-    /// The item of the whole tape at which what is read of a source begins.
+    /// The item of the whole tape at which reading of a source begins.
     pub fn origin(&self, source: BlockId) -> u64 {
         at(&self.origins, source)
     }
@@ -89,7 +89,7 @@ impl Rest {
         }
     }
 
-    /// How many items a sink was given in all, where the pipeline gave it so many.
+    /// How many items a sink was given in all, if the pipeline gave it so many.
     pub fn given(&self, sink: BlockId, held: u64) -> u64 {
         let own = held.saturating_sub(self.part(sink).drop);
         at(&self.given, sink).saturating_add(own)

@@ -1,4 +1,4 @@
-//! What is told of slices: how a graph is cut, and how the run of a slice ended.
+//! Reports on slices: how a graph is cut, and how the run of a slice ended.
 
 use crate::cut::Cut;
 use crate::listing::print_text;
@@ -18,7 +18,8 @@ use slices::{Asks, Plan};
 use std::alloc::{AllocError, Global};
 use streaming::StreamingPlant;
 
-/// Tells how the graph of a file that was checked with this status is cut, where the words ask for it, and gives the status of the call.
+/// Tells how the graph of a file is cut that was checked with this status, if the words ask for it, and returns the
+/// status of the call.
 pub fn tell_slices(rt: &HostRuntime, call: &Call<'_>, file: &[u8], status: u8) -> u8 {
     if !call.tells_slices || status != 0 {
         return status;
@@ -32,7 +33,7 @@ pub fn tell_slices(rt: &HostRuntime, call: &Call<'_>, file: &[u8], status: u8) -
     }
 }
 
-// The graph of a file that was not refused before; none where memory runs out.
+// The graph of a file that was not refused before; none if memory runs out.
 fn graph_of(alloc: Global, file: &[u8]) -> Option<Valid<Kind>> {
     let content = read_graph(alloc, file).ok()?;
     let (graph, _) = content.validate(alloc).ok()?;
@@ -67,7 +68,7 @@ fn plan_text(alloc: Global, graph: &Valid<Kind>, plan: &Plan) -> Result<String, 
     Ok(text)
 }
 
-/// The report on a part of a run: how many items each sink was given of it, of pieces and of the rest, and how it ended.
+/// The report on a part of a run: how many items the pieces and the rest gave each sink, and how it ended.
 pub fn part_text(
     alloc: Global,
     plant: &StreamingPlant<Kind>,
@@ -93,7 +94,7 @@ pub fn part_text(
     Ok(text)
 }
 
-// What was given to a block that keeps items.
+// Adds how many items a sink got.
 fn add_sink(
     alloc: Global,
     text: &mut Vec<u8>,

@@ -1,4 +1,4 @@
-//! Parts of a run between files: which part of each input one reads, and what each output leaves out.
+//! Parts of a run between files: what a part reads of each input, and what it leaves out of each output.
 
 ghost use Rattle.std.specs.Prelude.{◌≡◌, ◌≤◌, ◌⊎◌, List, ℕ, IfOk};
 ghost use Rattle.stream_model.specs.Network.{Network};
@@ -24,7 +24,7 @@ use slices::{Asks, MOST_ITERATIONS, Plan, Planned, plan_slices};
 use std::alloc::Global;
 use streaming::StreamingPlant;
 
-/// What the run of this part reads and writes.
+/// What this part of a run reads and writes.
 pub fn cut_of(
     rt: &HostRuntime,
     plant: &StreamingPlant<Kind>,
@@ -45,7 +45,7 @@ pub fn cut_of(
     }
 }
 
-/// What the parts of a run between these ends have to give as the whole run does.
+/// Whether parts of a run between these ends have to give tags as well as items.
 pub fn asks_for(ends: &Ends<'_>) -> Asks {
     if ends.tags.is_empty() {
         Asks::Items
@@ -54,7 +54,7 @@ pub fn asks_for(ends: &Ends<'_>) -> Asks {
     }
 }
 
-/// The numbers by which the runs of a graph are cut, for items or for tags too, with the rates that they rest on.
+/// The plan by which the runs of a graph are cut, for items or for tags too, and its rates.
 pub fn plan_of(alloc: Global, graph: &Valid<Kind>, asks: Asks) -> Result<(Repetitions, Plan), Uncut>
     ensures { IfOk result (λ made. IsPlan (net_of meaning_of graph.now) made.0.firings.items (looks_of look_back_of graph.now) made.1) }
 {
@@ -68,8 +68,8 @@ pub fn plan_of(alloc: Global, graph: &Valid<Kind>, asks: Asks) -> Result<(Repeti
     }
 }
 
-/// Whether no source is fed by the graph file, which each slice would feed to it once more, and each sink has an output: what it keeps in memory is no part of
-/// what others keep.
+/// Whether no source is fed by the graph file, since each slice would feed it once more, and each sink has an output,
+/// since a slice's sink keeps no part of another's.
 pub fn test_ends(plant: &StreamingPlant<Kind>, ends: &Ends<'_>, plan: &Plan) -> Result<(), Uncut> {
     for source in &plan.sources {
         if plant.items_in_memory(source.block) != 0 {
@@ -103,7 +103,7 @@ fn slice_cut(
     cut_at(alloc, graph, rates, plan, begin, end, &[])
 }
 
-// Of each sink its items from this one on.
+// The items of each sink from this one on.
 fn items_cut(
     alloc: Global,
     graph: &Valid<Kind>,
@@ -160,7 +160,8 @@ fn resumed_cut(
     Ok(cut)
 }
 
-// The iteration at which a slice begins, of so many, and that at which it ends; the last goes on to the end. None begins in the midst of the first overlap.
+// The iterations at which a slice of so many begins and ends; the last goes on to the end. None begins in the midst of
+// the first overlap.
 fn slice_between(slice: Slice, all: u64, overlap: u64) -> (u64, Option<u64>)
     ensures begins { (result.0 ≡ 0) ⊎ (overlap ≤ result.0) }
     ensures few { result.0 ≤ MOST_ITERATIONS }
@@ -216,8 +217,8 @@ fn nothing(alloc: Global, graph: &Valid<Kind>) -> Result<Cut, Uncut> {
     })
 }
 
-// The run of what stands between two iterations, or behind the first of them, by a plan that rests on these rates. Of each sink it writes the items from these on, where there is a number for it: none
-// lies before what the run gives.
+// The run of the iterations between two, or of all from the first on, by a plan with these rates. It writes each sink's
+// items from the sink's number on, if it has one. No number lies before what the run gives.
 fn cut_at(
     alloc: Global,
     graph: &Valid<Kind>,

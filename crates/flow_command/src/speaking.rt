@@ -22,7 +22,7 @@ use std::{fs, io};
 pub enum Control {
     Standard(StdinLock<'static>),
     File(File),
-    /// A pipe of this path, which is opened anew whenever all that wrote to it are gone.
+    /// A pipe of this path, opened anew whenever all its writers are gone.
     Pipe(HostRuntime, String, Option<File>),
 }
 
@@ -58,7 +58,7 @@ impl Control {
 pub enum Replies {
     Standard(HostRuntime),
     File(File),
-    /// A pipe of this path, which is opened at the first reply.
+    /// A pipe of this path, opened at the first reply.
     Pipe(HostRuntime, String),
 }
 
@@ -81,14 +81,14 @@ impl Replies {
     }
 }
 
-/// What a live run has its lines from, and its replies go to.
+/// Where a live run gets its lines, and where its replies go.
 #[derive(Drop)]
 pub struct Speech {
     pub control: Control,
     pub replies: Replies,
 }
 
-/// Opens what the words name for lines and replies. Where that fails it is told, and this is the status of the call.
+/// Opens what the words name for lines and replies. If that fails, it tells so and returns the status of the call.
 pub fn speech_for(rt: &HostRuntime, call: &Call<'_>) -> Result<Speech, u8> {
     let control = match call.talk.control {
         None => Control::Standard(rt.reader()),
@@ -123,7 +123,7 @@ fn opened_replies(rt: &HostRuntime, path: &str) -> io::Result<Replies> {
     }
 }
 
-/// Starts the thread that does what the lines say, for the requests of which there is a box.
+/// Starts the thread that makes the calls of the lines, and returns it with the box of its requests.
 pub fn lines_of<R: Threads + Wait + Copy + Send + 'static>(
     threads: R,
     alloc: Global,

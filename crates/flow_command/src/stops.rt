@@ -1,4 +1,4 @@
-//! Why a run between files stops, and what is said of it.
+//! Why a run between files stops, and the message about it.
 
 use crate::devices::{Chain, Target};
 use crate::ends::{Ends, NamedEnd};
@@ -18,7 +18,7 @@ use std::io::{Error, ErrorKind};
 /// A run between files.
 pub type Stream<R> = Pipeline<Kind, ApartReader<Chain, R>, Target>;
 
-/// Why a run stops, and why a device failed at it.
+/// Why a run stops, and why a device failed, if one did.
 #[derive(Drop)]
 pub struct Stop {
     pub fault: RawFault,
@@ -40,7 +40,7 @@ impl From<AllocError> for Stop {
     }
 }
 
-/// Why a run stops where a file could not be opened.
+/// Why a run stops if a file could not be opened.
 pub fn unopened(error: Error, place: EndPlace, fault: EndFault) -> Stop {
     let fault = match error.kind() {
         ErrorKind::OutOfMemory => RawFault::Whole(Fault::Script(ScriptFault::Memory)),
@@ -109,7 +109,7 @@ fn marks_place(graph: &Valid<Kind>, ends: &Ends<'_>, block: BlockId) -> EndPlace
     EndPlace::Marks(number_of(&ends.marks, name_of(graph, block)))
 }
 
-/// The name of a block; empty where there is no such block.
+/// The name of a block; empty if there is no such block.
 pub fn name_of(graph: &Valid<Kind>, block: BlockId) -> &[u8] {
     if (block.0 as usize) < graph.len() {
         graph.name(block)
@@ -128,7 +128,7 @@ fn number_of(ends: &[NamedEnd<'_>], name: &[u8]) -> usize {
     0
 }
 
-// What is wrong at an input, where it is not that memory ran out.
+// What is wrong at an input, unless memory ran out.
 fn end_fault(fault: PlantFault) -> Option<EndFault> {
     match fault {
         PlantFault::NoSuchBlock => Some(EndFault::NoSuchBlock),
@@ -140,7 +140,7 @@ fn end_fault(fault: PlantFault) -> Option<EndFault> {
     }
 }
 
-/// The name of the file or stream whose reader has gone away, where the run stopped for that.
+/// The name of the file or stream whose reader has gone away, if the run stopped for that.
 pub fn unread_name<'a>(
     fault: &RawFault,
     reason: &Option<Error>,
@@ -162,7 +162,8 @@ pub fn unread_name<'a>(
     }
 }
 
-/// What a fault is found in: the graph file of that name, or the word for an end. It is empty where neither is to blame, or where memory runs out.
+/// The place of a fault: the graph file of that name, or the word for an end. It is empty if neither is to blame, or if
+/// memory runs out.
 pub fn found_in(rt: &HostRuntime, ends: &Ends<'_>, file: &str, fault: &RawFault) -> String {
     let word = match fault {
         RawFault::Whole(fault) => String::from_str(rt.alloc(), fault.found_in(file)).ok(),
@@ -174,7 +175,7 @@ pub fn found_in(rt: &HostRuntime, ends: &Ends<'_>, file: &str, fault: &RawFault)
     }
 }
 
-// The word for an end; none where memory runs out.
+// The word for an end; none if memory runs out.
 fn word_at(rt: &HostRuntime, ends: &Ends<'_>, place: EndPlace) -> Option<String> {
     let NamedEnd { block, path } = end_at(ends, place)?;
     format!(in rt.alloc(); "{block}={path}").ok()
@@ -191,7 +192,7 @@ fn end_at<'a>(ends: &Ends<'a>, place: EndPlace) -> Option<NamedEnd<'a>> {
     end.copied()
 }
 
-/// Shows what stands behind a fault, at which a device may have failed for a reason.
+/// Shows what follows a fault: also why a device failed, if one did.
 pub fn explain(
     rt: &HostRuntime,
     call: &Call<'_>,
@@ -223,7 +224,7 @@ pub fn explain(
     }
 }
 
-// What is wrong with what a word names.
+// What is wrong with the thing that a word names.
 fn meaning(fault: EndFault) -> &'static str {
     match fault {
         EndFault::NoSuchBlock => "no block of the graph has this name",

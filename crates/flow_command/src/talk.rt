@@ -1,6 +1,6 @@
-//! Where the lines of a live run between files come from, and its replies go to.
+//! Where the lines of a live run between files come from, and where its replies go.
 
-/// The paths of the files that a live run takes its lines from and writes its replies to, in place of the standard streams.
+/// The files of a live run's lines and replies, in place of the standard streams.
 #[derive(Clone, Copy, Debug)]
 pub struct Talk<'a> {
     pub control: Option<&'a str>,

@@ -1,4 +1,4 @@
-//! The outputs of a run, as they are made for it.
+//! Makes the outputs of a run.
 
 use crate::cut::Cut;
 use crate::devices::{Device, StandardOutput, Target, Writer};
@@ -42,7 +42,7 @@ impl Targets {
     }
 }
 
-// Why a run stops whose write to the output at this place failed.
+// Why a run stops if a write to the output at this place failed.
 fn unwritten(place: EndPlace, error: io::Error) -> Stop {
     Stop {
         fault: RawFault::End(place, EndFault::Write),
@@ -50,7 +50,7 @@ fn unwritten(place: EndPlace, error: io::Error) -> Stop {
     }
 }
 
-/// Makes the outputs, in their order: of each sink its own. Where a name is refused no file is made, and so none is emptied.
+/// Makes the outputs of each sink, in their order. If a name is refused it makes no file, so none is emptied.
 pub fn make_outputs<R: Drop>(
     rt: &HostRuntime,
     run: &Stream<R>,
@@ -141,7 +141,7 @@ fn create(rt: &HostRuntime, end: &NamedEnd<'_>, place: EndPlace) -> Result<Write
     }
 }
 
-// Opens an output that stands, which goes on behind so many bytes of it. What it has behind these is taken away.
+// Opens an output that exists, to continue it behind so many bytes. It cuts off what is behind these.
 fn resume(
     rt: &HostRuntime,
     end: &NamedEnd<'_>,

@@ -1,4 +1,4 @@
-//! Whether a run is done in pieces, on how many threads, and how long the pieces are.
+//! Whether a run goes in pieces, on how many threads, and how long the pieces are.
 
 use crate::lengths::{are_files, has_input, lengths_of_inputs, size_at};
 use crate::slicing::{asks_for, plan_of, test_ends};
@@ -12,8 +12,8 @@ use std::thread;
 use std::thread::Threads;
 use streaming::StreamingPlant;
 
-// A piece has so many bytes of the widest stream, or less where a thread would have fewer pieces than these. It has ten times the overlap at least, and so many
-// bytes at most.
+// How many bytes of the widest stream a piece has. It has fewer if a thread would otherwise have fewer pieces than
+// these. It has at least ten times the overlap, and at most so many bytes.
 const USUAL: u64 = 1 << 21;
 
 const PIECES: u64 = 4;
@@ -22,23 +22,24 @@ const LEAST_OVERLAPS: u64 = 10;
 
 const MOST: u64 = 1 << 26;
 
-// An input of so many bytes is worth the threads, and so are so many blocks, or one filter: with fewer cheap blocks a piece takes longer to go to a thread and back.
+// How many bytes of input, and how many blocks, are worth the threads; one filter is too. With fewer cheap blocks,
+// handing a piece to a thread and back takes longer.
 const LONG: u64 = 1 << 24;
 
 const MANY: usize = 8;
 
-/// How a run is done in pieces.
+/// How a run goes in pieces.
 #[derive(Drop)]
 pub struct Team {
-    /// On so many threads.
+    /// How many threads it has.
     pub jobs: usize,
     pub plan: Plan,
     /// How many iterations a piece has, at most.
     pub iterations: u64,
 }
 
-/// How a run is done in pieces, if it is: where the words ask for it, or where it has long files, and each block forgets and goes on to their end. Where they ask and it cannot be, it is
-/// refused.
+/// How a run goes in pieces, if it does: if the words ask for it, or if it has long files and each block forgets and
+/// goes on to their end. If the words ask and it cannot be, it is refused.
 pub fn team_for<R: Threads + Copy>(
     threads: R,
     rt: &HostRuntime,
@@ -58,7 +59,7 @@ pub fn team_for<R: Threads + Copy>(
     }
 }
 
-// Whether the words leave open how many threads there are.
+// Whether the words leave the number of threads open.
 fn is_free(action: Action) -> bool {
     match action {
         Action::Run(_) => true,
@@ -66,7 +67,7 @@ fn is_free(action: Action) -> bool {
     }
 }
 
-// With a thread for each processor, where the inputs are long.
+// With a thread for each processor, if the inputs are long.
 fn free_team<R: Threads + Copy>(
     threads: R,
     rt: &HostRuntime,
@@ -85,7 +86,7 @@ fn free_team<R: Threads + Copy>(
     if plant.graph().len() < MANY && !has_filter(plant.graph()) {
         return Ok(None);
     }
-    // (one run ends as soon as nothing more comes, and reads no further)
+    // (a run may end before its inputs do, and reads no further)
     if may_end_early(plant.graph()) {
         return Ok(None);
     }
@@ -122,7 +123,7 @@ fn is_filter(block: &Kind) -> bool {
     }
 }
 
-// There is none where pieces would be too long.
+// There is none if pieces would be too long.
 fn team_of(
     rt: &HostRuntime,
     call: &Call<'_>,
@@ -140,7 +141,7 @@ fn team_of(
         Ok(lengths) => whole_iterations(graph, &plan, &lengths),
         // (nobody knows how long it is, and it may have no end)
         Err(Uncut::NoFile(_)) if plan.sources.len() == 1 && !may_end_early(graph) => u64::MAX,
-        // (whoever sends them may write all of one before the next, and a piece needs something of each)
+        // (a sender may write all of one before the next, and a piece needs something of each)
         Err(Uncut::NoFile(_)) => return Ok(None),
         Err(uncut) => return Err(uncut),
     };

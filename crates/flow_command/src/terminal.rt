@@ -1,16 +1,16 @@
-//! How far a run is, on a terminal.
+//! The progress line on a terminal.
 
 use super::pace::Pace;
 use plant::{Headway, Watch};
 use std::io::Write;
 use std::time::{Clock, Duration};
 
-// So many milliseconds lie between two lines, and before the first.
+// The milliseconds between two lines, and before the first.
 const PAUSE: u64 = 250;
-// And between two looks at a run in threads.
+// The milliseconds between two looks at a run in threads.
 const LOOK: u64 = 50;
 
-/// A line on a screen that is written anew as a run goes on. A write that fails is nothing to the run.
+/// A line on a screen, written anew as a run goes on. A failed write does not matter to the run.
 #[derive(Drop)]
 pub struct Terminal<'a, C, S> {
     // When a line is due.
@@ -21,7 +21,7 @@ pub struct Terminal<'a, C, S> {
 }
 
 impl<'a, C: Clock, S: Write> Terminal<'a, C, S> {
-    /// Without leave it shows nothing, nor does it where the clock fails.
+    /// It shows nothing without permission, or if the clock fails.
     pub fn new(clock: &'a C, screen: S, may_show: bool) -> Terminal<'a, C, S> {
         let pause = if may_show {
             Some(Duration::from_millis(PAUSE))

@@ -13,13 +13,14 @@ use std::io::{BufWriter, Write};
 use std::time::Clock;
 use std::{fs, io};
 
-// So many bytes of a trace are written at once.
+// How many bytes of a trace are written at once.
 const PIECE: usize = 65_536;
 
 /// The file of a trace, with the memory for a piece of it.
 pub type TraceFile = BufWriter<File>;
 
-/// Makes the file of the trace that a call asks for, where its run is looked at. Where it cannot be made that is told, and this is the status of the call.
+/// Makes the file of the trace that a call asks for, if its run is observed. If it cannot be made, it tells so and
+/// returns the status of the call.
 pub fn trace_file_for<R: Clock + Copy>(
     rt: &HostRuntime,
     call: &Call<'_>,
@@ -37,7 +38,7 @@ pub fn trace_file_for<R: Clock + Copy>(
     }
 }
 
-/// Writes the trace of a run that came to rest with this status, and gives the status of the call.
+/// Writes the trace of a run that came to rest with this status, and returns the status of the call.
 pub fn tell_trace<R: Clock + Copy>(
     rt: &HostRuntime,
     call: &Call<'_>,
@@ -60,7 +61,7 @@ pub fn tell_trace<R: Clock + Copy>(
     }
 }
 
-// Writes a trace. What a write that failed left over is not tried again.
+// Writes a trace. It does not retry what a failed write left over.
 fn write<R: Clock + Copy>(measured: &Measured<R>, file: TraceFile) -> io::Result<()> {
     let mut file = file;
     let written = match measured.trace(&mut file) {
@@ -84,7 +85,7 @@ fn tell_left_out<R: Clock + Copy>(rt: &HostRuntime, call: &Call<'_>, measured: &
     }
 }
 
-// Tells that a trace could not be written, and gives the status of the call.
+// Tells that a trace could not be written, and returns the status of the call.
 fn refuse(rt: &HostRuntime, call: &Call<'_>, path: &str, error: &io::Error) -> u8 {
     let status = if is_gone(error) {
         tell_gone(rt, call, path)

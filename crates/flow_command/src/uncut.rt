@@ -1,4 +1,4 @@
-//! Why a run is not cut into slices, and what is said of it.
+//! Why a run is not cut into slices, and the message about it.
 
 use crate::explaining::{REFUSED, explain_end};
 use crate::refusing::{begins_none, buffered, shown_name};
@@ -21,7 +21,7 @@ pub enum Uncut {
     Fed(BlockId),
     /// An input of the source is no regular file.
     NoFile(BlockId),
-    /// The output of the sink is no regular file, and is to be gone on with.
+    /// The output of the sink is no regular file, and the run is to continue it.
     NoFileOut(BlockId),
     /// The sink has no output.
     NoOutput(BlockId),
@@ -70,12 +70,12 @@ impl Uncut {
     }
 }
 
-/// The name of a block as text; empty where there is no such block.
+/// The name of a block as text; empty if there is no such block.
 pub fn text_of(graph: &Valid<Kind>, block: BlockId) -> &str {
     std::str::from_utf8(name_of(graph, block)).unwrap_or("")
 }
 
-/// Says why the run of a graph is not cut, and gives the exit status.
+/// Says why the run of a graph is not cut, and returns the exit status.
 pub fn refuse_cut(rt: &HostRuntime, call: &Call<'_>, graph: &Valid<Kind>, uncut: Uncut) -> u8 {
     if uncut == Uncut::Memory {
         return begins_none(rt, StartFault::Memory);

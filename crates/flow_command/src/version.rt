@@ -1,4 +1,4 @@
-//! The version, and which processors the running program is compiled for.
+//! Prints the version, and which processors the program is compiled for.
 
 use crate::listing::print_text;
 use crate::refusing::begins_none;
@@ -7,7 +7,8 @@ use flow::start_fault::StartFault;
 use std::env;
 use std::path::Path;
 
-// What processors of x86-64 have, by levels: an installed program stands in a folder of such a name, and a built one is a file whose name ends in it.
+// The levels of x86-64 processors. An installed program stands in a folder of such a name; a built program's file name
+// ends in it.
 const LEVELS: [&str; 2] = ["x86-64-v2", "x86-64-v3"];
 
 /// Prints the version, with the level that the file of the running program is named by, and returns the exit status.

@@ -15,26 +15,26 @@ use std::alloc::{AllocError, Global};
 /// The version of the program.
 pub const VERSION: &str = "0.1.0";
 
-// For so many turns and waits a trace has room unless the words say another number, and for so many at most.
+// How many turns and waits a trace has room for unless the words say another number, and at most.
 const USUAL_TRACE: &str = "100000";
 
 const LONGEST_TRACE: u64 = 10_000_000;
 
-// So many seconds lie between two reports of times at most: a day.
+// The most seconds between two reports of times: a day.
 const LONGEST_PAUSE: u64 = 86_400;
 
 /// What the words ask for.
 #[derive(Drop)]
 pub enum Asked<'a> {
-    /// The page of all kinds, or of one.
+    /// Print the page of all kinds, or of one.
     Kinds(Option<KindName>),
-    /// A graph file of this path to start from, with blocks of these kinds.
+    /// Write a graph file to start from at this path, with blocks of these kinds.
     New(&'a str, Vec<KindName>),
-    /// Something of a graph file.
+    /// Do something with a graph file.
     Call(Call<'a>),
 }
 
-/// What the words ask for; the first word is none of them. On a terminal a refusal is explained, unless the words say no.
+/// What the words ask for, without the first. On a terminal a refusal is explained, unless the words say no.
 pub fn asked_by<'a>(
     alloc: Global,
     words: &'a [String],
@@ -60,7 +60,7 @@ pub fn asked_by<'a>(
     }
 }
 
-// What is said of a word that is no command: which command is like it, by fewer letters than `clap` asks for.
+// The message about a word that is no command: the command closest to it, which may be less close than `clap` asks for.
 fn unknown_command(
     alloc: Global,
     flow: &mut clap::Command<'_>,
@@ -77,7 +77,7 @@ fn unknown_command(
     }
 }
 
-// What is said of the first word that is no command, where a command is like it.
+// The message about the first word that is no command, if a command is close to it.
 fn tip(
     alloc: Global,
     flow: &clap::Command<'_>,
@@ -100,7 +100,7 @@ fn tip(
     Ok(None)
 }
 
-// What is said of a word beside the name of the command that is like it.
+// The message about a word, with the name of the command closest to it.
 fn tip_text(alloc: Global, word: &str, name: &str) -> Result<Option<String>, AllocError> {
     let word = shown(alloc, word.as_bytes())?;
     let text = format!(in alloc;
@@ -109,7 +109,7 @@ fn tip_text(alloc: Global, word: &str, name: &str) -> Result<Option<String>, All
     Ok(Some(text))
 }
 
-// What is asked for by words that `clap` took.
+// What words ask for that `clap` took.
 fn asked_in<'a>(
     alloc: Global,
     matches: &ArgMatches<'a>,
@@ -144,7 +144,7 @@ fn new_in<'a>(alloc: Global, inner: &ArgMatches<'a>) -> Result<Asked<'a>, WordFa
     }
 }
 
-/// What is said of words whose ends are refused as this.
+/// The message about words whose ends are refused like this.
 pub fn refusal_of(alloc: Global, fault: EndsFault) -> clap::Error {
     match commands(alloc) {
         Ok(mut flow) => error_of(&mut flow, fault),
@@ -152,7 +152,7 @@ pub fn refusal_of(alloc: Global, fault: EndsFault) -> clap::Error {
     }
 }
 
-// What `clap` says of words that name no ends.
+// The message of `clap` about words that name no ends.
 fn error_of(flow: &mut clap::Command<'_>, fault: EndsFault) -> clap::Error {
     let said = match fault.text() {
         Some(text) => flow.error(ErrorKind::ValueValidation, text),
@@ -164,7 +164,8 @@ fn error_of(flow: &mut clap::Command<'_>, fault: EndsFault) -> clap::Error {
     }
 }
 
-// The words that the program knows. (Here and below a value is made where it is handed on, so that no early return has another to drop; and few follow one another.)
+// The words that the program knows. (Here and below a value is made where it is handed on, so no early return has
+// another to drop.)
 fn commands<'a>(alloc: Global) -> Result<clap::Command<'a>, clap::Error> {
     let flow = bare_flow(alloc)?;
     let flow = with_reports(alloc, flow)?;
@@ -172,7 +173,7 @@ fn commands<'a>(alloc: Global) -> Result<clap::Command<'a>, clap::Error> {
 }
 
 fn bare_flow<'a>(alloc: Global) -> Result<clap::Command<'a>, clap::Error> {
-    // The name of the built file is another.
+    // (The built file has another name.)
     Ok(
         clap::Command::new(alloc, "flow")
             .bin_name("flow")?
@@ -193,7 +194,7 @@ fn with_reports<'a>(
     with_command(flow, new_command(alloc))
 }
 
-// And those that do.
+// The commands that run something.
 fn with_runs<'a>(alloc: Global, flow: clap::Command<'a>) -> Result<clap::Command<'a>, clap::Error> {
     let flow = with_command(flow, run_command(alloc))?;
     let flow = with_command(flow, live_command(alloc))?;
@@ -250,7 +251,7 @@ fn run_command<'a>(alloc: Global) -> Result<clap::Command<'a>, clap::Error> {
     with_parts(alloc, with_files(alloc, run)?)
 }
 
-// The words that say how many threads a run has, of which one is given at most. Between files a run has one, and helpers.
+// Threading options. They exclude one another. Between files a run has one thread, and helpers.
 fn with_threading<'a>(
     alloc: Global,
     run: clap::Command<'a>,
@@ -321,7 +322,7 @@ fn script_command<'a>(alloc: Global) -> Result<clap::Command<'a>, clap::Error> {
     )
 }
 
-// The word that turns off what is written beside the report.
+// The word that turns off all that is written beside the report.
 fn quiet<'a>(alloc: Global) -> Arg<'a> {
     flag(
         alloc,

@@ -16,7 +16,7 @@ pub enum Depth {
     Plant,
 }
 
-/// Why a file is refused, or `None` where it is not. It fails only where the allocator refuses.
+/// Why a file is refused, or `None` if it is not. It fails only if the allocator refuses.
 pub fn fault_of(alloc: Global, text: &[u8], depth: Depth) -> Result<Option<FileFault>, AllocError>
     ensures accepted { IfOk result (λ fault. IsNone fault ↔ IsAccepted depth text.now) }
     ensures why { IfOk result (λ fault. IfSome fault (IsWhy depth text.now)) }
@@ -38,7 +38,7 @@ pub fn fault_of(alloc: Global, text: &[u8], depth: Depth) -> Result<Option<FileF
     }
 }
 
-// A fault that says something of the file.
+// A fault of the file itself.
 fn unless_memory(fault: FileFault) -> Result<Option<FileFault>, AllocError>
     ensures { IfOk result (λ kept. (kept ≡ Some fault) × IsSome (told fault)) }
 {

@@ -32,12 +32,12 @@ pub enum FilePlace {
     Feed(usize),
 }
 
-/// Why a graph file is refused. Its text is the number of the refusal, its name, and what the name alone does not say.
+/// Why a graph file is refused. Its text has the number of the refusal, its name, and what the name does not say.
 #[derive(Debug, Drop, Error)]
 pub enum FileFault {
     /// The text is not TOML in UTF-8.
     Syntax,
-    /// A key of a table is unknown, missing, of another type, or has a bad value; or its kind is unknown.
+    /// A key of a table is unknown, missing, of another type, or has a bad value; or the kind is unknown.
     Table {
         place: FilePlace,
         fault: KeyFault,
@@ -48,7 +48,8 @@ pub enum FileFault {
         fault: GraphFault,
         name: ArrayString<32>,
     },
-    /// A port of a connection is negative. `name` is that of the block at this end, and empty where the text there is no block's name.
+    /// A port of a connection is negative. `name` is that of the block at this end, or empty if the text there cannot
+    /// be a block's name.
     NegativePort {
         place: FilePlace,
         name: ArrayString<32>,
@@ -116,7 +117,7 @@ impl<T: Drop> From<AllocFailed<T>> for FileFault {
     }
 }
 
-/// What a fault of a table is reported as.
+/// How a fault of a table is reported.
 pub(crate) fn table_fault(place: FilePlace, fault: KeyFault) -> FileFault
     ensures told { told result ≡ told_table place fault }
     ensures memory { (result ≡ FileFault.Memory) ↔ (fault ≡ KeyFault.Memory) }
@@ -127,7 +128,7 @@ pub(crate) fn table_fault(place: FilePlace, fault: KeyFault) -> FileFault
     }
 }
 
-/// What a refusal of a feed, counted from 0, is reported as.
+/// How a refusal of a feed, counted from 0, is reported.
 pub(crate) fn feed_fault(feed: usize, fault: PlantFault) -> FileFault
     ensures told { told result ≡ told_feed feed fault }
     ensures memory { (result ≡ FileFault.Memory) ↔ (fault ≡ PlantFault.Memory) }
@@ -138,7 +139,7 @@ pub(crate) fn feed_fault(feed: usize, fault: PlantFault) -> FileFault
     }
 }
 
-/// What a fault of the graph is reported as, where it names a block of this name.
+/// How a fault of the graph is reported that names a block of this name.
 pub(crate) fn graph_fault(place: FilePlace, fault: GraphFault, name: &str) -> FileFault
     ensures memory { (result ≡ FileFault.Memory) ↔ (fault ≡ GraphFault.Memory) }
     ensures named { (told result ≡ None) ⊎ (told result ≡ Some (of_graph place fault (short name.now))) }
@@ -166,7 +167,7 @@ pub(crate) fn port_fault(place: FilePlace, end: &str, side: Side, port: i64) -> 
     }
 }
 
-// The text where it is a block's name, or an empty one.
+// The text if it can be a block's name, else an empty one.
 fn block_name(text: &str) -> ArrayString<32>
     ensures { result.bytes ≡ block_name text.now }
 {

@@ -5,9 +5,9 @@ use items::TagKey;
 /// A tag that a file feeds.
 #[derive(Clone, Copy, Debug, PartialEq, Eq)]
 pub struct FileMark {
-    /// The number of its item, as the file says it: it may be negative, and lie on none of the items.
+    /// The number of its item, as in the file: it may be negative, or that of no item.
     pub at: i64,
-    /// What the value is about.
+    /// The key.
     pub key: TagKey,
     /// The value.
     pub value: i64,
@@ -16,7 +16,7 @@ pub struct FileMark {
 /// What a file feeds to a source.
 #[derive(Debug, Drop)]
 pub struct Feed {
-    /// The name of the source, as the file says it.
+    /// The name of the source, as in the file.
     pub source: Vec<u8>,
     /// The numbers of the items, which may lie outside the source's type.
     pub items: Vec<i64>,

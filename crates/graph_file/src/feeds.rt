@@ -86,7 +86,7 @@ fn read_feed(alloc: Global, number: usize, table: &Table) -> Result<Feed, FileFa
     })
 }
 
-// The tags of an array, or `None` where one is none. Memory is asked for only where each is one.
+// The tags of an array, or `None` if a value is no tag. It asks for memory only if each is one.
 fn read_marks(alloc: Global, values: &[Value]) -> Result<Option<Vec<FileMark>>, AllocError>
     ensures ok { IfOk result (λ marks. option_map (λ v. v.items) marks ≡ marks_of (items_view values.now)) }
     ensures memory { OnErr result (IsSome (marks_of (items_view values.now))) }
@@ -115,7 +115,7 @@ fn are_marks(values: &[Value]) -> bool
     true
 }
 
-// The tag of a table, where it is one.
+// The tag of a table, if it is one.
 fn read_mark(value: &Value) -> Option<FileMark>
     ensures { result ≡ mark_in (as_table (view value.now)) }
 {

@@ -30,9 +30,9 @@ pub struct File {
     pub feeds: Vec<Feed>,
 }
 
-/// The graph and the feeds of a graph file, or the first reason why it is refused: the text (UTF-8, then TOML), the keys of the document,
-/// then each block, each connection and each feed in turn; or out of memory. Whether the graph is valid, and whether sources take the feeds,
-/// `validate` and `open` say.
+/// The graph and the feeds of a graph file, or why it is refused, or out of memory. The first reason counts: the text
+/// (UTF-8, then TOML), the keys of the document, then each block, each connection and each feed in turn. `validate`
+/// says whether the graph is valid, and `open` whether sources take the feeds.
 pub fn read_graph(alloc: Global, text: &[u8]) -> Result<File, FileFault>
     ensures ok { IfOk result (λ file. IsUtf8 text.now × (file_of (parse_document text.now) ≡ Ok (seen file))) }
     ensures refused { IsUtf8 text.now → IfErr result (IsRefused (file_of (parse_document text.now))) }
@@ -49,7 +49,7 @@ pub fn read_graph(alloc: Global, text: &[u8]) -> Result<File, FileFault>
     }
 }
 
-/// The blocks of a graph file that is not refused, once more, in the order of the file.
+/// Reads the blocks of an accepted graph file once more, in the order of the file.
 pub(crate) fn read_blocks(alloc: Global, text: &[u8]) -> Result<Vec<Kind>, FileFault>
     ensures ok { IfOk result (λ blocks. IsUtf8 text.now × (meanings_of (parse_document text.now) ≡ Ok (map meaning_of blocks.items))) }
     ensures refused { IsUtf8 text.now → IfErr result (IsRefused (meanings_of (parse_document text.now))) }

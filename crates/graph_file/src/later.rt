@@ -21,8 +21,9 @@ use slices::later_graph;
 use std::alloc::Global;
 use streaming::StreamingPlant;
 
-/// The plant that streams of the graph whose blocks go on where those of `graph` stand after so many iterations, in which they fire so often. Nothing is fed to it.
-/// `text` is the file that `graph` was read of, and all its blocks forget: then it fails only where memory runs out.
+/// A plant that streams, with nothing fed. Its blocks go on where those of `graph` stand after so many iterations, in
+/// which they fire so often. If `graph` was read from the file `text`, and all its blocks forget, it fails only if
+/// memory runs out.
 pub fn open_later(
     alloc: Global,
     text: &[u8],
@@ -39,7 +40,7 @@ pub fn open_later(
     let blocks = read_blocks(alloc, text)?;
     match later_graph(alloc, graph, firings, iterations, blocks) {
         Ok(Some(later)) => TakesFeeds::open(alloc, later),
-        // (blocks of one file are like each other, and what goes on has the ports of what stood there)
+        // (blocks of one file are alike, and a block that goes on keeps its ports)
         Ok(None) | Err(_) => Err(FileFault::Memory),
     }
 }

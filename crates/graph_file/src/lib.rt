@@ -5,10 +5,11 @@
 //! let plant = file.open(alloc)?;           // tested as a graph, opened and fed
 //! ```
 //!
-//! `validate` gives the graph and the feeds alone, and `stream` a plant that streams; [`open_later`] gives one whose blocks go on where those of the file stand. A file that is refused is a [`FileFault`]: a number, a name and the place.
-//! Which cause is reported, where there are several, and that all else is accepted, says the contract of [`read_graph`]. `blocks`, `connections` and `feeds` read
-//! the tables, [`kind_keys`] makes a block of a table, and `only` refuses keys that a table may not have. A fault is made without memory, and its text comes in
-//! [`RefusalText`](reporting::RefusalText) for the same reason.
+//! `validate` gives the graph and the feeds alone, and `stream` a plant that streams; [`open_later`] gives one whose
+//! blocks go on where those of the file stand. A refused file gives a [`FileFault`]: a number, a name and the place.
+//! The contract of [`read_graph`] says which of several causes is reported, and that all other files are accepted.
+//! `blocks`, `connections` and `feeds` read the tables, [`kind_keys`] makes a block of a table, and `only` refuses keys
+//! that a table may not have. A fault takes no memory; so its text is a [`RefusalText`](reporting::RefusalText).
 #![tactic(auto)]
 
 pub mod accepted;

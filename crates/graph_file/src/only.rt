@@ -8,7 +8,7 @@ use kind_keys::table::{has_only, keys_fault};
 use kind_keys::{Key, KeyFault};
 use toml::Table;
 
-/// What is wrong with a table that may have only the known keys, up to the last of those that are tested.
+/// What is wrong with a table that may have only the known keys, up to the last tested key.
 pub(crate) fn only_fault(table: &Table, known: &[Key], tested: &[Key]) -> Option<KeyFault>
     ensures { result ≡ connections.only_fault (tables.has_only known.now (table_view table.now)) (tables.keys_fault (table_view table.now) tested.now) }
 {

@@ -25,7 +25,8 @@ use std::alloc::{AllocError, Global};
 use streaming::StreamingPlant;
 
 impl File {
-    /// The valid graph of the file with its feeds, or what is wrong with the graph as a whole, or out of memory. The feeds are not tested.
+    /// The valid graph of the file with its feeds, or why the graph as a whole is refused, or out of memory. It does
+    /// not test the feeds.
     pub fn validate(self, alloc: Global) -> Result<(Valid<Kind>, Vec<Feed>), FileFault>
         ensures ok { IfOk result (λ valid. validated (seen self).graph ≡ Ok (drafted valid.0)) }
         ensures same { IfOk result (λ valid. (valid.0 ≡ self.graph) × (valid.1 ≡ self.feeds)) }
@@ -37,8 +38,8 @@ impl File {
         }
     }
 
-    /// The plant of the file's graph with its feeds on the tapes, in their order, and its sources open; or what is wrong with the graph as a whole,
-    /// or the first feed that is refused, or out of memory.
+    /// The plant of the file's graph, with its feeds on the tapes, in their order, and its sources open; or why the
+    /// graph as a whole is refused, or the first refused feed, or out of memory.
     pub fn open(self, alloc: Global) -> Result<Plant<Kind>, FileFault>
         ensures ok { IfOk result (λ plant. opened (seen self) ≡ Ok (opened_of plant)) }
         ensures refused { IfErr result (IsRefused (opened (seen self))) }
@@ -47,8 +48,8 @@ impl File {
         plant_fed(alloc, graph, &feeds)
     }
 
-    /// The plant that streams of the file's graph, with its feeds on the tapes, in their order, and its sources open; or why there is none, as
-    /// `open` tells it. But a tape may come to hold as many items as the graph's greatest gain allows.
+    /// Like `open`, for a plant that streams. Its tapes may come to hold as many items as the graph's greatest gain
+    /// allows.
     pub fn stream(self, alloc: Global) -> Result<StreamingPlant<Kind>, FileFault>
         ensures ok { IfOk result (λ plant. streamed (seen self) ≡ Ok (opened_of plant.plant)) }
         ensures none { IfOk result (λ plant. ForgetsNone plant.kept) }
@@ -121,7 +122,7 @@ fn take_feeds<P: TakesFeeds>(alloc: Global, plant: &mut P, feeds: &[Feed]) -> Re
     Ok(())
 }
 
-// Feeds a plant. A feed names a source; its marks may lie before all items. They are copied only for a source.
+// Feeds a plant. Marks may lie before all items. They are copied only if the feed names a source.
 fn take_feed<P: TakesFeeds>(
     alloc: Global,
     plant: &mut P,
@@ -147,7 +148,7 @@ fn take_feed<P: TakesFeeds>(
     }
 }
 
-// The marks of a file. Where there are none, no memory is asked for.
+// The marks of a file. If there are none, it asks for no memory.
 fn marks_of(alloc: Global, marks: &[FileMark]) -> Result<Vec<Mark>, AllocError>
     ensures ok { IfOk result (λ taken. map stores.mark_of taken.items ≡ map mark_of marks.now) }
     ensures copies { OnErr result (0 < length marks.now) }
@@ -159,7 +160,7 @@ fn marks_of(alloc: Global, marks: &[FileMark]) -> Result<Vec<Mark>, AllocError>
     Ok(taken)
 }
 
-// A mark of a file. One before the first item lies outside all items, as one behind every tape does.
+// A mark of a file. One before the first item counts as one behind every tape.
 fn placed(mark: &FileMark) -> Mark
     ensures { stores.mark_of result ≡ mark_of mark.now }
 {

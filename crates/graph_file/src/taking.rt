@@ -1,4 +1,4 @@
-//! What takes the feeds of a file: a plant, or a plant that streams.
+//! Takes the feeds of a file: a plant, or a plant that streams.
 
 ghost use Rattle.std.specs.Prelude.{◌≡◌, ℕ, ⊤, map, IfOk, IfErr};
 ghost use Rattle.stream_model.specs.Machine as machine;
@@ -21,7 +21,7 @@ use plant::{Fed, Plant, PlantFault};
 use std::alloc::Global;
 use streaming::StreamingPlant;
 
-/// What opens on the graph of a file and takes its feeds.
+/// Opens on the graph of a file and takes its feeds.
 pub(crate) trait TakesFeeds: Drop + Sized {
     /// How many items a tape may come to hold.
     ghost longest: { Network → ℕ };
@@ -32,7 +32,7 @@ pub(crate) trait TakesFeeds: Drop + Sized {
     /// It has forgotten nothing.
     ghost whole: { Self → Type 0 };
 
-    /// The plant of a graph of which nothing is fed and nothing fired.
+    /// The plant of a graph, with nothing fed and nothing fired.
     fn open(alloc: Global, graph: Valid<Kind>) -> Result<Self, FileFault>
         ensures opens { IfOk result (λ p. plant p ≡ opening_plant_within (longest (net_of meaning_of graph)) meaning_of graph) }
         ensures whole { IfOk result whole }

@@ -1,4 +1,4 @@
-//! The texts of the faults of a graph file, in parts, so that a fault can be reported without memory.
+//! The texts of a graph file's faults, in parts, so a fault is reported without memory.
 ghost use Rattle.std.specs.Prelude.{◌≡◌, ◌++◌, codes};
 ghost use Rattle.std.specs.List.{flat_map};
 ghost use Rattle.std.specs.Fmt.{decimal};

@@ -5,13 +5,13 @@ pub use bit_blocks::{
     PackedToUnpacked, Register, RepackBits, Scrambler, UnpackKBits, UnpackedToPacked,
 };
 pub use block_kinds::{Taps, Value};
-pub use code_blocks::{Checksum, CrcAppend, CrcCheck, StateMachine};
+pub use code_blocks::{Checksum, CrcAppend, CrcCheck, StateMachine, Trellis, Viterbi};
 pub use fir_blocks::{Fir, InterpFir};
 pub use kinds::{Kind, KindName, NullSink, VectorSink, VectorSource};
 pub use math_blocks::{
     Abs, Add, AddConst, AlawEncode, And, AndConst, BinarySlicer, Clip, Convert, Divide,
     DivideConst, MapBb, Maximum, Minimum, MovingSum, Multiply, MultiplyConst, Mute, Not, Or,
-    OrConst, Scale, Sub, Table, UlawEncode, Xor, XorConst,
+    OrConst, SampleAndHold, Scale, Sub, Table, UlawEncode, Xor, XorConst,
 };
 pub use parameters::{ParamFault, Parameter};
 pub use rate_blocks::{

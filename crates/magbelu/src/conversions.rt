@@ -1,4 +1,5 @@
-//! Conversions into an error, for `?`: of each fault, of a failed allocation, and of what a call that failed hands back, which is dropped.
+//! Conversions into an error, for `?`: of each fault, and of a failed allocation. They drop what a failed call hands
+//! back.
 
 ghost use Rattle.std.specs.Prelude.{◌≡◌};
 ghost use Rattle.magbelu.specs.declared.error.Error.TheVariants.{Items, Block, Graph, Plant, NoJob, File, Pipeline, Run, Memory};
@@ -66,7 +67,7 @@ impl From<PlantFault> for Error {
     }
 }
 
-/// For `Plant::commit`. The refused work is dropped: it is not that of the claim in flight.
+/// For `Plant::commit`. It drops the refused work, which is not that of the claim in flight.
 impl<B: Block> From<Worked<B>> for Error {
     ghost from_gives = { λ _ e. e ≡ NoJob };
 
@@ -75,7 +76,7 @@ impl<B: Block> From<Worked<B>> for Error {
     }
 }
 
-/// For `Plant::abandon`. The refused job is dropped: it is not the claim in flight.
+/// For `Plant::abandon`. It drops the refused job, which is not the claim in flight.
 impl<B: Block> From<Job<B>> for Error {
     ghost from_gives = { λ _ e. e ≡ NoJob };
 

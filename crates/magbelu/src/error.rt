@@ -12,8 +12,9 @@ use reporting::Refusal;
 use std::fmt;
 use threads::RunError;
 
-/// Why a call was refused, why a pipeline stopped, or why a run in threads failed. Number, name and text are those of the fault that it was converted from: 1 to 12,
-/// 20 to 34, 40 to 44, 50 to 53, 58, or 60 to 62, and a name as `Loop` or `Memory`.
+/// Why a call was refused, why a pipeline stopped, or why a run in threads failed. It has the number, name and text of
+/// the fault that it was made of. Numbers are 1 to 12, 20 to 34, 40 to 44, 50 to 53, 58, or 60 to 62; names are as
+/// `Loop` or `Memory`.
 #[derive(Debug, Drop, thiserror::Error)]
 pub enum Error {
     /// Items could not be made.
@@ -24,7 +25,7 @@ pub enum Error {
     Graph(GraphFault),
     /// A call of a plant, of a top block or at a desk is refused.
     Plant(PlantFault),
-    /// A job or its work that is handed in is not that of the claim in flight of its block.
+    /// A job or its work is not that of its block's claim in flight.
     NoJob,
     /// A key of a tag is not 1 to 16 ASCII letters, digits, `_`, `.` and `-`.
     BadKey,

@@ -1,4 +1,4 @@
-//! Graphs: building and testing them, how often their blocks fire for one another, and how large their buffers are.
+//! Graphs: building and testing them, how often their blocks fire in an iteration, and how large their buffers are.
 
 pub use flowgraph::{
     BlockId, BlockOption, Connection, Graph, GraphFault, Input, Limit, MOST_PORTS, Options, Policy,

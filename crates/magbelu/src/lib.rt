@@ -9,7 +9,7 @@
 //! - [`custom`]: writing a block of your own.
 //! - [`prelude`]: what most programs use.
 //!
-//! An [`Error`], and each fault that it is made of, is a [`Refusal`]: a number, which stays what it is from version to version, and a name.
+//! An [`Error`], and each fault that it is made of, is a [`Refusal`]: a name, and a number that no version changes.
 #![tactic(auto)]
 
 pub mod blocks;

@@ -1,6 +1,7 @@
-//! A plant runs a graph call by call: feed, set, step, read. Between a claim and its commit a block works apart from the plant. A plant that streams
-//! forgets what was taken of it, so that it runs in constant memory for as long as it is fed; a pipeline does so between readers and writers, threads may help, and
-//! callers on any threads may ask it meanwhile.
+//! A plant runs a graph call by call: feed, set, step, read. Between a claim and its commit a block works apart from
+//! the plant. A plant that streams forgets what was taken of it, so it runs in constant memory for as long as it is
+//! fed. A pipeline does so between readers and writers. Threads may help it, and callers on any threads may ask it
+//! meanwhile.
 
 pub use helper_threads::HelperThreads;
 pub use pipeline::{

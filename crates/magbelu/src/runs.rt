@@ -1,5 +1,5 @@
-//! Running a graph with a thread for each block, or in as many threads as the work is worth: to its end, or live, with callers that feed, set and read in the
-//! meantime.
+//! Running a graph with a thread for each block, or in as many threads as the work is worth: to its end, or live, with
+//! callers that feed, set and read meanwhile.
 
 pub use run_stats::{
     Deed, Event, Figures, Form, Looks, Measured, Meter, Observer, Stats, Tracer, Waited,

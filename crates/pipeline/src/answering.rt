@@ -1,4 +1,4 @@
-//! Requests are answered.
+//! Answers requests.
 
 ghost use Rattle.std.specs.Prelude.{◌≡◌, Some, None, if◌then◌else◌};
 ghost use Rattle.flowgraph.specs.Flowgraph.{net_of};
@@ -25,7 +25,7 @@ impl<B: Block, R: Read, W: Write> Pipeline<B, R, W> {
         is_stop
     }
 
-    // Makes the plant's call that a request is.
+    // Makes the plant's call that a request asks for.
     fn answer_to(&mut self, request: Request) -> Answer
         ensures ends { self.new.ends.items ≡ self.old.ends.items }
         ensures answers { Answers (net_of B.meaning self.old.plant.plant.graph) self.old.plant self.new.plant record { request = request; answer = result } }

@@ -18,8 +18,8 @@ use streaming::BlockNeed;
 pub(crate) struct Called;
 
 impl<B: Block, R: Read, W: Write> Pipeline<B, R, W> {
-    /// The source that is to be fed next: one whose items a sink lacks, the sinks in turn, or else any that lacks items; where there are several, one that is ready.
-    /// Where none is it waits, for a request too.
+    /// The source to feed next: one whose items a sink lacks, the sinks in turn, or else any that lacks items. If there
+    /// are several, it is one that is ready. If none is ready it waits, for a request too.
     pub(crate) fn next_source<Q: Readiness, C: Requests>(
         &mut self,
         readiness: &mut Q,
@@ -92,7 +92,7 @@ impl<B: Block, R: Read, W: Write> Pipeline<B, R, W> {
         block
     }
 
-    // The block that a block waits for; the block itself where it waits for none.
+    // The block that a block waits for, or the block itself if it waits for none.
     fn needed_by(&self, block: BlockId) -> BlockId
         ensures { result.0 ≡ needed_by (net_of B.meaning self.now.plant.plant.graph) self.now.plant.plant.capacities self.now.plant.plant.state block.0 }
     {
@@ -104,7 +104,7 @@ impl<B: Block, R: Read, W: Write> Pipeline<B, R, W> {
         }
     }
 
-    // The block, where it lacks items.
+    // The block, if it lacks items.
     fn where_lacking(&self, block: BlockId) -> Option<BlockId>
         ensures some { IfSome result (λ source. source ≡ block) }
         ensures lacks { IfSome result (λ _. Lacks (net_of B.meaning self.now.plant.plant.graph) self.now.plant block.0 (end_at self.now.ends.items block.0)) }
@@ -127,8 +127,8 @@ impl<B: Block, R: Read, W: Write> Pipeline<B, R, W> {
         None
     }
 
-    // Of the sinks whose waits lead to a source that lacks items the first whose source is ready, in turn from this one on, and that source. It waits until there is
-    // one, or a request.
+    // The first sink, in turn from this one on, whose waits lead to a source that lacks items and is ready, and that
+    // source. It waits until there is one, or a request.
     fn ready_awaiting<Q: Readiness, C: Requests>(
         &self,
         first: (BlockId, BlockId),
@@ -183,7 +183,7 @@ impl<B: Block, R: Read, W: Write> Pipeline<B, R, W> {
         None
     }
 
-    // Of the sources that lack items one that is ready: this one if it is. It waits until there is one, or a request.
+    // A source that lacks items and is ready: this one if it is. It waits until there is one, or a request.
     fn ready_lacking<Q: Readiness, C: Requests>(
         &self,
         first: BlockId,

@@ -1,4 +1,4 @@
-//! What a sink has taken goes to its writers.
+//! Writes what a sink has taken.
 
 ghost use Rattle.std.specs.Prelude.{◌≡◌, ◌<◌, ◌≤◌, ◌+◌, ◌^◌, length, drop, true, [], ◌∷◌, ◌++◌, IfErr, IfNone, IfSome, OnOk, OnErr};
 ghost use Rattle.std.specs.Io.KnownBytes.{Appends};
@@ -27,7 +27,7 @@ use std::io::Write;
 use streaming::StreamingPlant;
 use tags::Tag;
 
-/// Drains a sink of all that it has taken, and writes that, as far as it is of the part that is written.
+/// Drains a sink of all that it has taken, and writes what of it is in the part to write.
 pub(crate) fn deliver<B: Block, W: Write>(
     plant: &mut StreamingPlant<B>,
     sink: BlockId,
@@ -51,7 +51,7 @@ pub(crate) fn deliver<B: Block, W: Write>(
     write_tags(sink, output)
 }
 
-// A number as it is, of which the check knows here how great it may be.
+// The number itself. Its clause tells the checker here how great it may be.
 fn counted(number: u64) -> u64
     ensures value { result ≡ number }
     ensures small { number < 2 ^ 64 }
@@ -59,7 +59,7 @@ fn counted(number: u64) -> u64
     number
 }
 
-// Writes the items that were drained, but for so many of the first.
+// Writes the drained items, without so many of the first.
 fn write_items<W: Write>(
     sink: BlockId,
     output: &mut Output<W>,
@@ -84,7 +84,7 @@ fn write_items<W: Write>(
     }
 }
 
-// Writes the tags that were drained, as far as they are of the part that is written.
+// Writes the drained tags that are in the part to write.
 fn write_tags<W: Write>(sink: BlockId, output: &mut Output<W>) -> Result<(), PipelineFault>
     ensures rest { output.new ≡ record output.old { tags_to = output.new.tags_to; bytes = output.new.bytes } }
     ensures ok { OnOk result (WriterGrows Appends W.contents output.old.tags_to output.new.tags_to (lines_of_part output.old.part (tags_seen output.old.tags.items))) }
@@ -103,7 +103,7 @@ fn write_tags<W: Write>(sink: BlockId, output: &mut Output<W>) -> Result<(), Pip
     }
 }
 
-// Appends the lines of tags, as far as they are of the part that is written.
+// Appends the lines of the tags that are in the part to write.
 fn push_lines(bytes: &mut Vec<u8>, tags: &[Tag], part: StreamPart) -> Result<(), AllocError>
     ensures { OnOk result (bytes.new.items ≡ bytes.old.items ++ lines_of_part part (tags_seen tags.now)) }
 {
@@ -113,7 +113,7 @@ fn push_lines(bytes: &mut Vec<u8>, tags: &[Tag], part: StreamPart) -> Result<(),
     Ok(())
 }
 
-// Appends that of one tag.
+// Appends the line of one tag.
 fn push_line(bytes: &mut Vec<u8>, tag: Tag, part: StreamPart) -> Result<(), AllocError>
     ensures { OnOk result (bytes.new.items ≡ bytes.old.items ++ lines_of_part part (tag_seen tag ∷ [])) }
 {
@@ -127,7 +127,7 @@ fn push_line(bytes: &mut Vec<u8>, tag: Tag, part: StreamPart) -> Result<(), Allo
     }
 }
 
-// A tag so many items further on, where that number fits.
+// A tag so many items further on, if that number fits.
 fn ahead(origin: u64, tag: Tag) -> Option<Tag>
     ensures moved { IfSome result (λ moved. tag_seen moved ≡ ahead_by origin (tag_seen tag)) }
     ensures none { IfNone result (2 ^ 64 ≤ origin + tag.offset) }
@@ -141,7 +141,7 @@ fn ahead(origin: u64, tag: Tag) -> Option<Tag>
     })
 }
 
-/// Has its writers hand on what they hold back.
+/// Flushes its writers.
 pub(crate) fn flush<W: Write>(sink: BlockId, output: &mut Output<W>) -> Result<(), PipelineFault>
     ensures rest { output.new ≡ record output.old { items_to = output.new.items_to; tags_to = output.new.tags_to } }
     ensures items { WriterGrows Appends W.contents output.old.items_to output.new.items_to [] }

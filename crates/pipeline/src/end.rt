@@ -17,13 +17,13 @@ use std::alloc::Global;
 use std::marker::Model;
 use tags::Tag;
 
-/// A reader whose bytes are the items of a source, and one of its marks where there is one.
+/// A reader whose bytes are the items of a source, and a reader of its marks if there is one.
 #[derive(Drop)]
 pub struct Input<R> {
     pub(crate) reader: Tracked<R>,
-    // What makes items of the bytes.
+    // Makes items of the bytes.
     pub(crate) decoder: Decoder,
-    // What the marks on these items are read from.
+    // Reads the marks on these items.
     pub(crate) marks: Option<MarkReader<R>>,
     // The items of the last piece that was read, and the marks on them.
     pub(crate) items: Items,
@@ -52,7 +52,7 @@ impl<R> Input<R> {
         self.reader.reader()
     }
 
-    /// A reader of which nothing was read, for a source of such items.
+    /// A reader that was not read yet, for a source of such items.
     pub(crate) fn new(alloc: Global, item: ItemType, order: ByteOrder, reader: R) -> Input<R>
         ensures { result ≡ record { reader = reader; has_failed = false; decoder = record { item_type = item; order = order; cut = [] }; marks = None; is_ended = false } }
     {
@@ -68,7 +68,7 @@ impl<R> Input<R> {
 }
 
 impl<R: Drop> Input<R> {
-    /// Joins a reader of marks of this part of a tape, where there is none.
+    /// Joins a reader of marks of this part of a tape, if there is none.
     pub(crate) fn join_marks(
         &mut self,
         alloc: Global,
@@ -99,7 +99,7 @@ pub struct Output<W> {
     pub part: StreamPart,
     /// The writer of the items as raw bytes.
     pub items_to: Option<W>,
-    /// The writer of the tags, of which each is a line.
+    /// The writer of the tags, a line each.
     pub tags_to: Option<W>,
     /// What was drained last.
     pub items: Items,
@@ -109,7 +109,7 @@ pub struct Output<W> {
 }
 
 impl<W> Output<W> {
-    /// Writers for a sink of such items, to which nothing was written.
+    /// Writers for a sink of such items, with nothing written yet.
     pub(crate) fn new(
         alloc: Global,
         item: ItemType,

@@ -11,14 +11,14 @@ use std::error::Error;
 use std::{fmt, io};
 use streaming::PlantFault;
 
-/// Why a pipeline stopped, or what it refused to be joined to. Each names the block.
+/// Why a pipeline stopped, or refused to join a block. Each names the block.
 #[derive(Debug, Drop)]
 pub enum PipelineFault {
     /// The plant refuses the block, or what was read for it.
     Plant(BlockId, PlantFault),
     /// It is joined to a reader or to writers already.
     Joined(BlockId),
-    /// It is joined to no reader of items, on which marks could be.
+    /// It is joined to no reader of items that marks could lie on.
     NotJoined(BlockId),
     /// Its reader failed.
     Read(BlockId, io::Error),
@@ -28,7 +28,7 @@ pub enum PipelineFault {
     ReadMarks(BlockId, io::Error),
     /// The line of this number, from 1, of its marks is no mark.
     BadMark(BlockId, u64),
-    /// The mark in the line of this number is on an item before that of the line above it, or on none that its reader gives.
+    /// The mark in the line of this number lies before that of the line above, or on no item that its reader gives.
     MarkPlace(BlockId, u64),
     /// The writer of its items failed.
     WriteItems(BlockId, io::Error),

@@ -1,11 +1,11 @@
-//! Rounds that are cut short where somebody asks for something.
+//! Rounds that a request cuts short.
 
 use crate::requests::Requests;
 use flowgraph::BlockId;
 use std::time::Duration;
 use streaming::{Headway, Helpers, Step, Watch};
 
-/// Helpers of a round that ends soon where a request waits.
+/// Helpers of a round that ends soon if a request waits.
 #[derive(Drop)]
 pub(crate) struct Hearing<'a, H, C> {
     pub(crate) helpers: &'a mut H,

@@ -1,4 +1,4 @@
-//! What a reader gives goes to its source.
+//! Feeds a source what its reader gives.
 
 ghost use Rattle.std.specs.Prelude.{◌≡◌, [], false, IfErr, OnOk, OnErr};
 ghost use Rattle.std.specs.Io.KnownBytes.{IsAtEnd};
@@ -25,7 +25,8 @@ use streaming::{Fed, StreamingPlant};
 pub(crate) const PIECE: usize = 65_536;
 
 impl<R: Read> Input<R> {
-    /// Reads once into `piece`, and feeds the source what was read; or closes it where the reader is at its end. After that it does nothing.
+    /// Reads once into `piece`, and feeds the source what was read. It closes the source if the reader is at its end,
+    /// and then does nothing.
     pub(crate) fn take_in<B: Block>(
         &mut self,
         plant: &mut StreamingPlant<B>,
@@ -51,7 +52,7 @@ impl<R: Read> Input<R> {
         self.feed(plant, source, &piece[..count])
     }
 
-    // Feeds the source what bytes are.
+    // Feeds the source the items of bytes.
     fn feed<B: Block>(
         &mut self,
         plant: &mut StreamingPlant<B>,
@@ -71,7 +72,7 @@ impl<R: Read> Input<R> {
         self.found.clear();
         let start = start_of(self.marks.is_some(), plant, source)?;
         self.decoder.push(bytes, &mut self.items)?;
-        // No mark is asked for as long as there is no item that it may be on.
+        // It asks for no mark as long as there is no item that it may be on.
         if self.items.is_empty() {
             return Ok(());
         }
@@ -112,7 +113,7 @@ impl<R: Read> Input<R> {
     }
 }
 
-// Where the next items of a source stand, which is asked only where they may have marks.
+// Where the next items of a source stand. Only marks need it.
 fn start_of<B: Block>(
     may_have_marks: bool,
     plant: &StreamingPlant<B>,

@@ -1,4 +1,4 @@
-//! What the blocks of a pipeline are joined to, before it runs.
+//! Joins the blocks of a pipeline to readers and writers, before it runs.
 
 ghost use Rattle.std.specs.Prelude.{◌≡◌, ◌<◌, ◌↔◌, Err, IfErr, IfOk, IsOk, IsTrue, OnErr, OnOk, length, replicate, slice_set};
 ghost use Rattle.stream_model.specs.Network.{node_at};
@@ -23,7 +23,8 @@ use std::io::{Read, Write};
 use streaming::{PlantFault, StreamingPlant};
 
 impl<B: Block, R: Read + Drop, W: Write + Drop> Pipeline<B, R, W> {
-    /// A plant of which no block is joined to anything. It fails only where the allocator refuses, and then returns the plant.
+    /// A pipeline whose blocks are joined to nothing. It fails only if the allocator refuses, and then returns the
+    /// plant.
     pub fn new(
         alloc: Global,
         plant: StreamingPlant<B>,
@@ -47,8 +48,8 @@ impl<B: Block, R: Read + Drop, W: Write + Drop> Pipeline<B, R, W> {
         }
     }
 
-    /// Has a source be fed the items that the bytes of a reader are. Refused are, in this order, `NoSuchBlock`, `NotSource`, and a source that is joined
-    /// already. Then nothing changes.
+    /// Feeds a source the items of a reader's bytes. Refusals, in this order: `NoSuchBlock`, `NotSource`, and `Joined`
+    /// for a source that is joined already. Then nothing changes.
     pub fn read_from(
         &mut self,
         alloc: Global,
@@ -70,8 +71,9 @@ impl<B: Block, R: Read + Drop, W: Write + Drop> Pipeline<B, R, W> {
         self.join(source, End::Input(Input::new(alloc, item, order, reader)))
     }
 
-    /// Has the items of a source be marked by what the lines of a reader say, each a mark `@OFFSET:KEY=VALUE`, in the order of their items. Refused are a block
-    /// that has no reader of items (`NotJoined`), or has one of marks already (`Joined`), and a lack of memory. Then nothing changes.
+    /// Marks the items of a source as the lines of a reader say: each is a mark `@OFFSET:KEY=VALUE`, in the order of
+    /// their items. Refusals: `NotJoined` for a block without a reader of items, `Joined` for one with a reader of
+    /// marks, and a lack of memory. Then nothing changes.
     pub fn mark_from(
         &mut self,
         alloc: Global,
@@ -88,7 +90,8 @@ impl<B: Block, R: Read + Drop, W: Write + Drop> Pipeline<B, R, W> {
         self.mark_part(alloc, source, TapePart::whole(), reader)
     }
 
-    /// As `mark_from`, where the source is fed a part of a whole tape: a mark on item n of the whole is on item n - `part.origin` of the plant's tape.
+    /// Like `mark_from`, for a source that is fed a part of a whole tape: a mark on item n of the whole is on item n -
+    /// `part.origin` of the plant's tape.
     pub fn mark_part(
         &mut self,
         alloc: Global,
@@ -113,8 +116,9 @@ impl<B: Block, R: Read + Drop, W: Write + Drop> Pipeline<B, R, W> {
         }
     }
 
-    /// Has writers take what a sink takes, from the next item that is drained on: one the items as raw bytes, one the tags as lines, where it is given.
-    /// Refused are, in this order, `NoSuchBlock`, `NotSink`, and a sink that is joined already. Then nothing changes.
+    /// Writes what a sink takes, from the next item that is drained on: one writer gets the items as raw bytes, one, if
+    /// given, the tags as lines. Refusals, in this order: `NoSuchBlock`, `NotSink`, and `Joined` for a sink that is
+    /// joined already. Then nothing changes.
     pub fn write_to(
         &mut self,
         alloc: Global,
@@ -133,8 +137,8 @@ impl<B: Block, R: Read + Drop, W: Write + Drop> Pipeline<B, R, W> {
         self.write_part(alloc, sink, StreamPart::whole(), order, items, tags)
     }
 
-    /// As `write_to`, where the sink takes a part of a whole stream: its first `part.drop` items are not written, nor the tags on them, and a tag on item n
-    /// of the sink is written as one on item `part.origin` + n.
+    /// Like `write_to`, for a sink that takes a part of a whole stream. Its first `part.drop` items, and the tags on
+    /// them, are not written. A tag on item n of the sink is written as one on item `part.origin` + n.
     pub fn write_part(
         &mut self,
         alloc: Global,

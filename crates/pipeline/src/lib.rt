@@ -1,5 +1,5 @@
-//! A plant that streams between readers and writers: raw items come from readers, one for a source, and what the sinks take goes to writers as soon as it is
-//! there, items as raw bytes and tags as lines.
+//! A plant that streams between readers and writers. A reader gives the raw items of a source. What a sink takes goes
+//! to writers as soon as it is there, items as raw bytes and tags as lines.
 //!
 //! ```text
 //! let mut pipeline = Pipeline::new(alloc, plant)?;
@@ -8,14 +8,16 @@
 //! let settled = pipeline.run(alloc)?;
 //! ```
 //!
-//! Memory is constant, however long the streams are, where each sink that keeps items has an output. What a writer was given is, at any time and also after a
-//! fault, a beginning of what the equations of the blocks give for all that was read, and all of it where the run is done. A run that ended by a fault is not to
-//! be gone on with: what was read or drained last may be lost. Behind a cut item alone it may, once its source is closed.
+//! Memory is constant, however long the streams are, if each sink that keeps items has an output. At any time, also
+//! after a fault, a writer was given a beginning of what the blocks' equations give for all that was read, and all of
+//! it when the run is done. Do not continue a run that ended by a fault: what was read or drained last may be lost.
+//! Only after a cut item you may, once its source is closed.
 //!
-//! While it runs a pipeline may be asked (`run_asked`, `Requests`): settings, how far a block is, that a source is closed, and that the run ends.
+//! A pipeline answers requests while it runs (`run_asked`, `Requests`): to set a block, to tell how far it is, to close
+//! a source, and to end the run.
 //!
-//! Streams may be parts of whole ones (`TapePart`, `StreamPart`): then the lines of marks and of tags count the items of the whole, and a sink's first items
-//! may be left out.
+//! Streams may be parts of whole ones (`TapePart`, `StreamPart`). Then the lines of marks and tags count the items of
+//! the whole, and a sink may leave out its first items.
 #![tactic(auto)]
 
 mod answering;

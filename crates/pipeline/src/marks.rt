@@ -1,4 +1,4 @@
-//! The marks of a source, which come as lines.
+//! The marks of a source, read as lines.
 
 ghost use Rattle.std.specs.Prelude.{◌≡◌, ℕ, suc, ◌+◌, ◌-◌, ◌^◌, ◌<◌, ◌≤◌, true, false, [], ◌++◌, map, length, None, Some, IsSome, IfErr, IfOk, OnOk, OnErr};
 ghost use Rattle.std.specs.List.{All};
@@ -29,15 +29,15 @@ pub struct MarkReader<R> {
     reader: Tracked<R>,
     // Where it puts the bytes of a piece.
     piece: Box<[u8; PIECE]>,
-    // What makes lines of its bytes.
+    // Makes lines of its bytes.
     lines: LineSplitter,
-    // The mark that was read last, where it is not fed yet.
+    // The mark that was read last, if it is not fed yet.
     held: Option<Mark>,
     // Whether the reader has no more.
     is_over: bool,
     // The number of the line of the mark that was read last, from 1.
     line: u64,
-    // Its item on the whole tape, which the next mark may not be before.
+    // Its item on the whole tape. The next mark may not lie before it.
     least: u64,
     // The part of the whole tape that the source is fed.
     part: TapePart,
@@ -67,7 +67,7 @@ impl<R> Model for MarkReader<R> {
 }
 
 impl<R: Drop> MarkReader<R> {
-    /// A reader of which nothing was read, for the marks of this part of a whole tape.
+    /// A reader that was not read yet, for the marks of this part of a whole tape.
     pub(crate) fn new(alloc: Global, part: TapePart, reader: R) -> Result<MarkReader<R>, AllocError>
         ensures { IfOk result (λ marks. marks ≡ unread part reader) }
     {
@@ -87,7 +87,8 @@ impl<R: Drop> MarkReader<R> {
 }
 
 impl<R: Read> MarkReader<R> {
-    // Appends the marks on items of the part below `end` that were not given yet, of which none may be on an item below `start`. It reads as far as it has to.
+    // Appends the marks on items of the part below `end` that were not given yet. None of them may lie on an item below
+    // `start`. It reads as far as it has to.
     fn take_below(
         &mut self,
         source: BlockId,
@@ -113,7 +114,7 @@ impl<R: Read> MarkReader<R> {
         Err(PipelineFault::Memory)
     }
 
-    // Appends the next mark where it is on an item below `end`, and tells whether it is. One below `start` is refused.
+    // Appends the next mark if it lies on an item below `end`, and tells whether it does. It refuses one below `start`.
     fn take_one(
         &mut self,
         source: BlockId,
@@ -147,7 +148,7 @@ impl<R: Read> MarkReader<R> {
         Ok(true)
     }
 
-    // Refuses a mark that is left behind the last item, where the tape does not go on there.
+    // Refuses a mark that is left behind the last item, if the tape ends there.
     fn end(&mut self, source: BlockId) -> Result<(), PipelineFault>
         ensures ok { OnOk result (GivesTo R.remaining self.old self.new [] []) }
         ensures over { OnOk result (self.new.part.goes_on ≡ false → IsOver self.new) }
@@ -167,7 +168,8 @@ impl<R: Read> MarkReader<R> {
         Ok(())
     }
 
-    // Reads up to the next mark that is not before the part, or to the end of the reader, where none is held. Marks before it are passed over.
+    // Unless a mark is held, reads up to the next one that is not before the part, or to the end of the reader. It
+    // passes over marks before it.
     fn find_own(&mut self, source: BlockId) -> Result<(), PipelineFault>
         ensures ok { OnOk result (GivesTo R.remaining self.old self.new [] []) }
         ensures over { OnOk result (self.new.held ≡ None → IsOver self.new) }
@@ -189,7 +191,7 @@ impl<R: Read> MarkReader<R> {
         Err(PipelineFault::Memory)
     }
 
-    // Passes over the mark that is held where it is before the part, and tells whether it is.
+    // Passes over the held mark if it lies before the part, and tells whether it does.
     fn pass(&mut self) -> bool
         ensures passed { result ≡ true → Passes self.old self.new }
         ensures own { result ≡ false → (mark : model.Mark) → self.old.held ≡ Some mark → self.old.part.origin ≤ mark.offset }
@@ -205,7 +207,7 @@ impl<R: Read> MarkReader<R> {
         true
     }
 
-    // Reads up to the next mark, or to the end of the reader, where none is held.
+    // Unless a mark is held, reads up to the next one, or to the end of the reader.
     fn find(&mut self, source: BlockId) -> Result<(), PipelineFault>
         ensures ok { OnOk result (Gives R.remaining self.old self.new []) }
         ensures over { OnOk result (self.new.held ≡ None → IsOver self.new) }
@@ -226,7 +228,7 @@ impl<R: Read> MarkReader<R> {
         Err(PipelineFault::Memory)
     }
 
-    // Takes the next line, or reads a piece where its end has not come.
+    // Takes the next line, or reads a piece if its end has not come.
     fn read_on(&mut self, source: BlockId) -> Result<(), PipelineFault>
         requires goes_on { self.old.is_over ≡ false }
         requires none { self.old.held ≡ None }
@@ -277,7 +279,7 @@ impl<R: Read> MarkReader<R> {
         Ok(())
     }
 
-    // Takes the line of this number, which the end of the bytes ends, since the reader is at its end.
+    // Takes the line of this number. It ends with the bytes, since the reader is at its end.
     fn end_lines(&mut self, source: BlockId, number: u64) -> Result<(), PipelineFault>
         requires goes_on { self.old.is_over ≡ false }
         requires none { self.old.held ≡ None }
@@ -334,7 +336,8 @@ fn behind(origin: u64, mark: Mark) -> Mark
     }
 }
 
-/// Appends the marks on items of the part from `start` to below `end` that were not given yet, where there is a reader of marks.
+/// Appends the marks on items of the part from `start` to below `end` that were not given yet, if there is a reader of
+/// marks.
 pub(crate) fn find_marks<R: Read>(
     marks: &mut Option<MarkReader<R>>,
     source: BlockId,
@@ -359,7 +362,7 @@ pub(crate) fn find_marks<R: Read>(
     }
 }
 
-/// Refuses a mark that is left behind the last item, where there is a reader of marks, and the tape does not go on there.
+/// Refuses a mark that is left behind the last item, if there is a reader of marks and the tape ends there.
 pub(crate) fn end_marks<R: Read>(
     marks: &mut Option<MarkReader<R>>,
     source: BlockId,

@@ -1,14 +1,14 @@
-//! Parts of streams, which are read and written apart from the rest.
+//! Parts of streams that are read and written separately.
 
 ghost use Rattle.std.specs.Prelude.{◌≡◌};
 ghost use Rattle.pipeline.specs.Parts.{whole_stream, whole_tape};
 
-/// Where what a source is fed stands on a whole tape. It matters to marks alone, whose lines count the items of the whole.
+/// Where a source's tape stands on a whole tape. Only marks need it: their lines count the items of the whole.
 #[derive(Clone, Copy, Debug)]
 pub struct TapePart {
     /// The item of the whole tape at which the plant's tape begins. Marks on items before it are passed over.
     pub origin: u64,
-    /// Whether the whole tape goes on behind the end of the reader. The lines of marks that are left are not read then.
+    /// Whether the whole tape goes on behind the end of the reader. Then the lines of marks that are left are not read.
     pub goes_on: bool,
 }
 
@@ -24,7 +24,7 @@ impl TapePart {
     }
 }
 
-/// Where what a sink takes stands in a whole stream, and which of it is written.
+/// Where a sink's stream stands in a whole stream, and what of it is written.
 #[derive(Clone, Copy, Debug)]
 pub struct StreamPart {
     /// The item of the whole stream at which the plant's stream begins. Lines of tags count the items of the whole.

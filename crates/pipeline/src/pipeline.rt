@@ -30,10 +30,11 @@ use streaming::{Helpers, Job, NoHelpers, Settled, StreamingPlant, Unwatched, Wat
 // How often a block fires in a round, at most.
 const TURN: u32 = 65_536;
 
-// So many items of a sink are written before the plant came to rest.
+// How many items of a sink are worth a write before the plant comes to rest.
 const WORTH_A_WRITE: usize = 65_536;
 
-/// A plant that streams, with a reader for each of some sources and writers for some sinks. A contract sees the plant and what each block is joined to.
+/// A plant that streams, with readers for some sources and writers for some sinks. A contract sees the plant and what
+/// each block is joined to.
 #[derive(Drop)]
 pub struct Pipeline<B: Block, R, W> {
     pub plant: StreamingPlant<B>,
@@ -41,16 +42,18 @@ pub struct Pipeline<B: Block, R, W> {
     pub ends: Vec<End<R, W>>,
     /// The sink whose waits led to the last source that was fed.
     pub sink: BlockId,
-    /// Where each reader puts the bytes of a piece, before they are fed.
+    /// Where readers put the bytes of a piece before they are fed.
     pub piece: Box<[u8; intake::PIECE]>,
 }
 
 impl<B: Block, R: Read, W: Write> Pipeline<B, R, W> {
-    /// Reads, works and writes until each block is done, or none can act and no reader gives more. Then all is written that the sinks have taken.
+    /// Reads, works and writes until each block is done, or none can act and no reader gives more. Then it writes all
+    /// that the sinks have taken.
     ///
-    /// Before each read that may wait, all that came of what was read before is written, and the writers are flushed. A reader is asked only where its
-    /// source has given all that it was fed: first one whose items a sink waits for, else any. Where it stops by a fault, what was written is a beginning, and
-    /// the pipeline is not to be run again: what was read or drained last may be lost. At `CutItem` nothing is: once its source is closed, the pipeline may be run again.
+    /// Before each read that may wait, it writes all that came of earlier reads, and flushes the writers. It reads only
+    /// for a source that has given all that it was fed: first one whose items a sink waits for, else any. After a
+    /// fault, what was written is a beginning. Do not run the pipeline again then: what was read or drained last may be
+    /// lost. At `CutItem` nothing is lost: close its source and run again.
     pub fn run(&mut self, alloc: Global) -> Result<Settled, PipelineFault>
         ensures goes { OnOk result (GoesOn R.remaining W.contents (net_of B.meaning self.old.plant.plant.graph) self.old.plant self.new.plant self.old.ends.items self.new.ends.items) }
         ensures begins { OnErr result (Begins R.remaining W.contents (net_of B.meaning self.old.plant.plant.graph) self.old.plant self.new.plant self.old.ends.items self.new.ends.items) }
@@ -63,8 +66,9 @@ impl<B: Block, R: Read, W: Write> Pipeline<B, R, W> {
         self.run_with(alloc, &mut NoHelpers, &mut AllReady, &mut Unwatched)
     }
 
-    /// As `run`, with helpers that do work of its blocks where they are called. Where several sources may be fed next it reads for one that is ready, and waits where none
-    /// is. It shows to `watch` after each turn how far it is; `watch.end` is the caller's to call.
+    /// Like `run`, with helpers that do work of its blocks if they are called. If several sources may be fed next it
+    /// reads for one that is ready, and waits if none is. After each turn it shows `watch` how far it is. The caller
+    /// calls `watch.end`.
     pub fn run_with<H: Helpers<Job<B>, Worked<B>>, Q: Readiness, V: Watch>(
         &mut self,
         alloc: Global,
@@ -87,9 +91,10 @@ impl<B: Block, R: Read, W: Write> Pipeline<B, R, W> {
         }
     }
 
-    /// As `run_with`, and answers requests meanwhile: one before each round, which is the shorter for others that wait. Each is the plant's call, made between two
-    /// rounds, and is answered with what that replied, in the order in which they come. A stop ends the run: no block fires any more, no reader is read, and what
-    /// the sinks have taken is written. A write that waits holds up the answers; a read does not, where `readiness` is told of requests.
+    /// Like `run_with`, and answers requests meanwhile, in their order: one before each round. Others that wait make
+    /// the round shorter. A request is a call of the plant between two rounds, and its answer is the call's reply. A
+    /// stop ends the run: no block fires any more, no reader is read, and what the sinks have taken is written. A write
+    /// that waits holds up the answers. A read does not, if `readiness` is told of requests.
     pub fn run_asked<H: Helpers<Job<B>, Worked<B>>, Q: Readiness, C: Requests, V: Watch>(
         &mut self,
         alloc: Global,
@@ -122,8 +127,8 @@ impl<B: Block, R: Read, W: Write> Pipeline<B, R, W> {
         Err(PipelineFault::Memory)
     }
 
-    /// One turn of `run`: a round of the plant's blocks, and where none of them moved on, what the sinks have taken is written, and a piece is read. It
-    /// returns how the run ended, if it has.
+    /// One turn of `run`: a round of the plant's blocks. If no block moved on, it writes what the sinks have taken, and
+    /// reads a piece. It returns how the run ended, if it has.
     pub fn turn<H: Helpers<Job<B>, Worked<B>>, Q: Readiness>(
         &mut self,
         alloc: Global,
@@ -141,7 +146,7 @@ impl<B: Block, R: Read, W: Write> Pipeline<B, R, W> {
         self.advance(alloc, helpers, readiness, &NoRequests::new())
     }
 
-    // The same, cut short where a request waits.
+    // The same, cut short if a request waits.
     fn advance<H: Helpers<Job<B>, Worked<B>>, Q: Readiness, C: Requests>(
         &mut self,
         alloc: Global,
@@ -182,7 +187,7 @@ impl<B: Block, R: Read, W: Write> Pipeline<B, R, W> {
         }
     }
 
-    // Writes all that the sinks have taken, and has the writers hand it on.
+    // Writes all that the sinks have taken, and flushes the writers.
     fn write_all(&mut self) -> Result<(), PipelineFault>
         ensures goes { OnOk result (GoesOn R.remaining W.contents (net_of B.meaning self.old.plant.plant.graph) self.old.plant self.new.plant self.old.ends.items self.new.ends.items) }
         ensures begins { OnErr result (Begins R.remaining W.contents (net_of B.meaning self.old.plant.plant.graph) self.old.plant self.new.plant self.old.ends.items self.new.ends.items) }
@@ -207,7 +212,7 @@ impl<B: Block, R: Read, W: Write> Pipeline<B, R, W> {
         Ok(self.plant.round_with(alloc, TURN, helpers)?)
     }
 
-    // Writes what sinks have taken of which at least so many items are in memory.
+    // Writes what sinks have taken, of each sink with at least so many items in memory.
     fn write(&mut self, least: usize) -> Result<(), PipelineFault>
         ensures goes { OnOk result (GoesOn R.remaining W.contents (net_of B.meaning self.old.plant.plant.graph) self.old.plant self.new.plant self.old.ends.items self.new.ends.items) }
         ensures begins { OnErr result (Begins R.remaining W.contents (net_of B.meaning self.old.plant.plant.graph) self.old.plant self.new.plant self.old.ends.items self.new.ends.items) }
@@ -221,7 +226,7 @@ impl<B: Block, R: Read, W: Write> Pipeline<B, R, W> {
         Ok(())
     }
 
-    // Writes what a sink has taken, where it has an output and at least so many of its items are in memory.
+    // Writes what a sink has taken, if it has an output and at least so many of its items are in memory.
     fn deliver(&mut self, block: BlockId, least: usize) -> Result<(), PipelineFault>
         ensures goes { OnOk result (GoesOn R.remaining W.contents (net_of B.meaning self.old.plant.plant.graph) self.old.plant self.new.plant self.old.ends.items self.new.ends.items) }
         ensures begins { OnErr result (Begins R.remaining W.contents (net_of B.meaning self.old.plant.plant.graph) self.old.plant self.new.plant self.old.ends.items self.new.ends.items) }
@@ -243,7 +248,7 @@ impl<B: Block, R: Read, W: Write> Pipeline<B, R, W> {
         }
     }
 
-    // Has all writers hand on what they hold back.
+    // Flushes all writers.
     fn flush(&mut self) -> Result<(), PipelineFault>
         ensures goes { OnOk result (GoesOn R.remaining W.contents (net_of B.meaning self.old.plant.plant.graph) self.old.plant self.new.plant self.old.ends.items self.new.ends.items) }
         ensures begins { OnErr result (Begins R.remaining W.contents (net_of B.meaning self.old.plant.plant.graph) self.old.plant self.new.plant self.old.ends.items self.new.ends.items) }
@@ -257,7 +262,7 @@ impl<B: Block, R: Read, W: Write> Pipeline<B, R, W> {
         Ok(())
     }
 
-    // Those of one sink.
+    // Flushes the writers of one sink.
     fn flush_own(&mut self, block: BlockId) -> Result<(), PipelineFault>
         ensures goes { OnOk result (GoesOn R.remaining W.contents (net_of B.meaning self.old.plant.plant.graph) self.old.plant self.new.plant self.old.ends.items self.new.ends.items) }
         ensures begins { OnErr result (Begins R.remaining W.contents (net_of B.meaning self.old.plant.plant.graph) self.old.plant self.new.plant self.old.ends.items self.new.ends.items) }
@@ -275,7 +280,7 @@ impl<B: Block, R: Read, W: Write> Pipeline<B, R, W> {
         }
     }
 
-    // Takes in a piece of what the reader of a source gives, which is to be fed next.
+    // Takes in a piece from the reader of the source that is fed next.
     fn take_in(&mut self, block: BlockId) -> Result<(), PipelineFault>
         requires { IsNext (net_of B.meaning self.old.plant.plant.graph) self.old.plant self.old.ends.items block.0 }
         ensures goes { OnOk result (GoesOn R.remaining W.contents (net_of B.meaning self.old.plant.plant.graph) self.old.plant self.new.plant self.old.ends.items self.new.ends.items) }

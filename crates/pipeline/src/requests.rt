@@ -1,4 +1,4 @@
-//! What a pipeline is asked while it runs.
+//! Requests to a pipeline while it runs.
 
 ghost use Rattle.std.specs.Prelude.{◌≡◌, ◌∷◌, ◌++◌, List, [], map, Option, Some, None, IfNone, IfSome};
 ghost use Rattle.pipeline.specs.declared.requests.Answer.{Answer};
@@ -20,11 +20,11 @@ pub enum Request {
         at: Option<u64>,
         value: Value,
     },
-    /// Nothing more is to come to a source: its reader is not read any more.
+    /// Close a source: its reader is not read any more.
     Close(BlockId),
-    /// How far is a block?
+    /// Tell how far a block is.
     Levels(BlockId),
-    /// Read no more, have no block fire any more, and write what the sinks have taken.
+    /// Read no more, fire no block any more, and write what the sinks have taken.
     Stop,
 }
 
@@ -52,13 +52,14 @@ pub enum Told {
 /// The answer to a request.
 #[derive(Clone, Copy, Debug, PartialEq, Eq)]
 pub struct Answer {
-    /// How many items of its first input, or of its tape, the block had taken as the call was made; 0 where no block of the graph is asked for.
+    /// How many items of its first input, or of its tape, the block had taken as the call was made; 0 if the request
+    /// names no block of the graph.
     pub come: u64,
     /// What the call replied.
     pub told: Told,
 }
 
-/// How a run ended that could be asked to stop.
+/// How a run ended that takes requests.
 #[derive(Clone, Copy, Debug, PartialEq, Eq)]
 pub enum Ended {
     /// It came to rest.
@@ -67,7 +68,7 @@ pub enum Ended {
     Stopped,
 }
 
-/// A box of requests, at which a pipeline looks between two rounds of its blocks.
+/// A box of requests. A pipeline looks into it between two rounds of its blocks.
 pub trait Requests {
     // The requests that were taken out of it, and the answers that were given, each from the first on.
     ghost asked: { Self → List Request };
@@ -77,10 +78,10 @@ pub trait Requests {
     // The request that was taken last, until it is answered.
     ghost due: { Self → Option Request };
 
-    /// Whether there is one. It is asked before each step of a round that may be cut short, and nothing is required of what it says.
+    /// Whether a request waits. It is asked before each step of a round that may be cut short, and promises nothing.
     fn are_waiting(&self) -> bool;
 
-    /// How many firings a round has about at most, of all blocks together, so that none waits long.
+    /// About how many firings of all blocks a round has at most, so that no request waits long.
     fn most_firings(&self) -> u32;
 
     /// Takes the next request out, if there is one. It does not wait.

@@ -1,4 +1,4 @@
-//! Readers of which is known whether a read failed.
+//! Readers that know whether a read of them failed.
 
 ghost use Rattle.std.specs.Prelude.{◌≡◌, true, false, is_ok, if◌then◌else◌};
 ghost use Rattle.std.specs.Io.{ReadsAtMost};
@@ -7,7 +7,7 @@ ghost use Rattle.std.specs.Io.KnownBytes.{ReadConsumes};
 use std::io;
 use std::io::Read;
 
-/// A reader, and whether a read of it failed. It is read by `read` alone, so that no failure passes unseen.
+/// A reader, and whether a read of it failed. Only `read` reads it, so no failure passes unseen.
 #[derive(Drop)]
 pub struct Tracked<R> {
     reader: R,

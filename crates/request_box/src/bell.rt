@@ -1,9 +1,9 @@
-//! What wakes who waits for several things at once.
+//! Wakes a thread that waits for several things at once.
 
 use std::sync::{Condvar, Mutex, Wait};
 
-/// A bell that threads ring when something has come: a request, or what one of several readers gave. It counts, so that a ring between a look and a wait is not
-/// missed.
+/// A bell that threads ring when something has come: a request, or what one of several readers gave. It counts rings,
+/// so a ring between a look and a wait is not missed.
 #[derive(Drop)]
 pub struct Bell {
     rings: Mutex<u64>,
@@ -19,7 +19,7 @@ impl Bell {
         }
     }
 
-    /// Rings it, and wakes who waits.
+    /// Rings it, and wakes waiting threads.
     pub fn ring<R: Wait>(&self, rt: &R) {
         let mut rings = self.rings.lock(rt);
         *rings = rings.wrapping_add(1);
@@ -32,7 +32,7 @@ impl Bell {
         *self.rings.lock(rt)
     }
 
-    /// Waits until it was rung another number of times than this, and returns that number.
+    /// Waits until the number of rings is not this one, and returns it.
     pub fn wait<R: Wait>(&self, rt: &R, heard: u64) -> u64 {
         let mut rings = self.rings.lock(rt);
         for _ in rt.forever() {

@@ -1,4 +1,4 @@
-//! Who asks.
+//! Callers make requests.
 
 ghost use Rattle.std.specs.Prelude.{◌≡◌, IfOk};
 ghost use Rattle.pipeline.specs.declared.requests.Request.TheVariants as request;
@@ -115,7 +115,8 @@ impl<R: Wait + Drop> Caller<R> {
         self.call(Request::Stop)
     }
 
-    /// Asks this, and waits for the answer. `Ended` is refused where the box is dropped, before or meanwhile; nothing is known then of a request that waited.
+    /// Makes this request, and waits for the answer. `Ended` if the box is dropped, before or meanwhile; nothing is
+    /// known then of a request that waited.
     pub fn call(&self, request: Request) -> Result<Answer, CallFault>
         ensures { IfOk result (IsAnswer request) }
     {

@@ -1,4 +1,5 @@
-//! A box of requests to a pipeline that runs: any number of callers, on threads of their own, put theirs into it, and each waits for its answer.
+//! A box of requests to a running pipeline. Any number of callers, on threads of their own, put requests into it, and
+//! each waits for its answer.
 //!
 //! ```text
 //! let bell = Arc::new(alloc, Bell::new())?;
@@ -7,10 +8,11 @@
 //! let ended = pipeline.run_asked(alloc, &mut NoHelpers, &mut AllReady, &mut requests, &mut Unwatched);
 //! ```
 //!
-//! A caller has one request in the box at a time, so that the box holds no more than there are callers, and each has its answers in the order of its requests. Once
-//! the box is dropped a call is answered that nobody answers any more, also one that waits. An answer comes back by a channel of its own request, whose rule lets no
-//! answer to another through; so what a call returns is an answer to what it asked. Of the channel by which requests come no clause speaks: those of `Requests` say what
-//! was taken out of the box and answered.
+//! A caller has one request in the box at a time. So the box holds at most one of each caller, and each gets its
+//! answers in the order of its requests. Once the box is dropped, each call, also one that waits, learns that nobody
+//! answers any more. Each request has its own channel for its answer, whose rule lets no other answer through. So what
+//! a call returns is an answer to what it asked. No clause speaks of the channel by which requests come; those of
+//! `Requests` say what was taken out of the box and answered.
 #![tactic(auto)]
 
 mod bell;

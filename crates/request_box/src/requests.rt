@@ -12,7 +12,7 @@ use pipeline::{Answer, Request, Requests};
 use std::alloc::{AllocError, Global};
 use std::sync::{Arc, Wait};
 
-// So many firings a round has about at most: some milliseconds of cheap work.
+// About how many firings a round has at most: some milliseconds of cheap work.
 const MOST_FIRINGS: u32 = 262_144;
 
 /// The requests of callers, which a pipeline takes one by one.
@@ -20,7 +20,7 @@ const MOST_FIRINGS: u32 = 262_144;
 pub struct RequestBox<R: Drop> {
     rt: R,
     calls: Receiver<Call, Global>,
-    // Where the answer goes to the request that was taken last.
+    // Where the answer to the last request goes.
     due: Option<Due>,
     asked: Past<Request, ()>,
     answered: Past<Answer, ()>,

@@ -13,7 +13,7 @@ use std::alloc::{AllocError, Global};
 use std::snapshot::Snapshot;
 use std::sync::Wait;
 
-/// All that goes through a channel is of one request, which each pass of it knows.
+/// All that goes through a channel is of one request; each pass of it knows that request.
 pub(crate) struct OneRequest;
 
 impl Protocol<Word, Option<Request>> for OneRequest {
@@ -119,7 +119,7 @@ pub(crate) fn way_back<R: Wait>(
 }
 
 impl Awaited {
-    /// Waits for the answer. There is none where nobody is left who would give it.
+    /// Waits for the answer. There is none if nobody is left to give it.
     pub(crate) fn answer<R: Wait>(self, rt: &R) -> Option<Answer>
         ensures { IfSome result (λ answer. IsAnswer self.request.value answer) }
     {
