@@ -1,22 +1,23 @@
 #!/usr/bin/env bash
 # python/magbelu/gnuradio.py inside GNU Radio, where that is installed and ./build --c has built the library from these sources: tests/gnuradio/cases.py has the cases.
-# tests/gnuradio/own.py, endless.py and television.py hold what stands for GNU Radio's blocks against these, and coverage.py holds the table of all blocks against
-# those that are installed. Graphs that are drawn by chance run beside `flow run`, which is compiled here, unproved, where ./build has not built it. Which graphs are a
-# block is tried over a stand-in for the library too; and that the module says what it lacks where there is no GNU Radio, everywhere.
+# tests/gnuradio/own.py, endless.py, television.py and trellises.py hold what stands for GNU Radio's blocks against these, modem.py the graphs of examples/receiver,
+# and coverage.py holds the table of all blocks against those that are installed. Graphs that are drawn by chance run beside `flow run`, which is compiled here, unproved,
+# where ./build has not built it. Which graphs are a block is tried over a stand-in for the library too; and that the module says what it lacks where there is no GNU Radio, everywhere.
 set -euo pipefail
 # shellcheck source=tests/part.sh
 source "$(dirname -- "$(readlink -f -- "${BASH_SOURCE[0]}")")/../part.sh"
 
 cases=(beside_flow beside_blocks inputs_end inputs_lack graph_ends output_ends stopped tags_after_a_stop stalls refused tags tag_refused settings taps fed_by_file memory companion pages)
 own=(block_interleaver matrix_interleaver permutation patterned_interleaver stream_demux deinterleave puncture depuncture endian_swap short_to_char companding encoding selector
-    tag_share tag_gate delay probe_signal ccsds_encoder encoders bit_orders access_code vectors)
+    sample_and_hold tag_share tag_gate delay probe_signal ccsds_encoder encoders bit_orders access_code vectors)
 endless=(shift_registers noise_of_the_usrp waves uniform noise)
 television=(energy branches inner_coder inner_interleaver frames packet_frames)
+trellises=(encoder code viterbi_combined viterbi far)
 # (Debian's GNU Radio is there for its own Python alone.)
 python=$([[ -x /usr/bin/python3 ]] && echo /usr/bin/python3 || echo python3)
 export PYTHONDONTWRITEBYTECODE=1
 
-list() { printf 'gnuradio/%s\n' without_gnuradio without_library coverage "${own[@]/#/own/}" "${endless[@]/#/endless/}" "${television[@]/#/television/}" "${cases[@]}"; }
+list() { printf 'gnuradio/%s\n' without_gnuradio without_library coverage modem "${own[@]/#/own/}" "${endless[@]/#/endless/}" "${television[@]/#/television/}" "${trellises[@]/#/trellises/}" "${cases[@]}"; }
 
 # lacks_gnuradio: says so where it is not here
 lacks_gnuradio() {
@@ -93,7 +94,8 @@ run() {
     why=$(lacks_gnuradio)
     try "$why" gnuradio/without_library without_library
     try "$why" gnuradio/coverage in_gnuradio coverage.py
-    for it in "${own[@]/#/own/}" "${endless[@]/#/endless/}" "${television[@]/#/television/}"; do
+    try "$why" gnuradio/modem with_program in_gnuradio modem.py
+    for it in "${own[@]/#/own/}" "${endless[@]/#/endless/}" "${television[@]/#/television/}" "${trellises[@]/#/trellises/}"; do
         try "$why" "gnuradio/$it" with_program in_gnuradio "${it%/*}.py" "${it#*/}"
     done
     why=${why:-$(lacks_library)}
