@@ -5,11 +5,10 @@ use Rattle.std.proofs.Common.{◌≡◌, ℕ, suc, ◌+◌, ◌-◌, ◌*◌, �
 use Rattle.std.proofs.lemmas.Int.{ints}
 use Rattle.std.proofs.lemmas.List.{take_more, length-take-le}
 use Rattle.stream_model.specs.declared.vocabulary.ItemType.{ItemType}
-use Rattle.stream_model.specs.Numbers.{IsItem, least_of}
+use Rattle.stream_model.specs.Numbers.{IsItem, least_of, greatest_of}
 use Rattle.stream_model.specs.Lists.{item, listed}
 use Rattle.stream_model.specs.Settings.{Held}
-use Rattle.stream_model.specs.Meaning.{Meaning, IsFed, input, given_items}
-use Rattle.stream_model.specs.Shapes.{ports, at_rate}
+use Rattle.stream_model.specs.Meaning.{IsFed, input, given_items}
 use Rattle.kind_model.specs.Kernels.{lesser, greater}
 use Rattle.kind_model.specs.Math.{least_up_to, greatest_down_to}
 use Rattle.kind_model.specs.Rates.{frame, place_of}
@@ -19,11 +18,9 @@ use Rattle.block_kinds.specs.Shape.{IsPaced}
 use Rattle.block_kinds.proofs.Fills.{paced, item-paced, given-paced}
 use Rattle.lane_work.proofs.Totals.{part_listed}
 use Rattle.numbers.proofs.Mapped.{map_part}
+use Rattle.rate_blocks.specs.PerFrame.{framed}
 
--- a block that makes an item of each frame
-abbrev pub framed : ItemType → ℕ → (List ℤ → ℤ) → Meaning
-framed t n f = record (at_rate (ports 1 t) (ports 1 t) n 1) { out = λ ts xs p k. f (frame n (input xs 0) k) }
-
+-- what is made of the frames of a window is what the firings give
 pub framed-given :
     (t : ItemType) (n : ℕ) (f : List ℤ → ℤ) (ts : List Held) (xs : List (List ℤ)) (first count state : ℕ) (w : List ℤ) (hs : List Held) → 1 ≤ n →
     IsFed (framed t n f) ts xs first count state (w ∷ []) hs → listed count (λ k. f (frame n w k)) ≡ given_items (framed t n f) ts xs first count 0
@@ -66,6 +63,31 @@ least_more most xs k s x h is last =
 pub greatest_more : (least : ℤ) (xs : List ℤ) (k : ℕ) (s x : ℤ) → k < length xs → s ≡ greatest_down_to least (take k xs) → x ≡ item xs k → greater s x ≡ greatest_down_to least (take (k + 1) xs)
 greatest_more least xs k s x h is last =
     (λ i. greater (is i) (last i)) ∙ sym (greatest-push least (take k xs) (item xs k)) ∙ ap (greatest_down_to least) (sym (take_more xs k (pos 0) h))
+
+-- what is chosen from the first item on is what is chosen from the end of the range on
+lesser_swap : (x y z : ℤ) → lesser x (lesser y z) ≡ lesser y (lesser x z)
+lesser_swap x y z = grind (arith, ints)
+
+least_within : (y most : ℤ) (zs : List ℤ) → y ≤ℤ most → lesser y (least_up_to y zs) ≡ lesser y (least_up_to most zs)
+least_within y most [] below = grind (arith, ints, below)
+least_within y most (z ∷ zs) below = lesser_swap y z (least_up_to y zs) ∙ ap (lesser z) (least_within y most zs below) ∙ lesser_swap z y (least_up_to most zs)
+
+pub least_first : (t : ItemType) (xs : List ℤ) (x : ℤ) → 0 < length xs → IsItem t x → x ≡ item xs 0 → least_up_to x xs ≡ least_up_to (greatest_of t) xs
+least_first t [] x some fits is = absurd (omega arith)
+least_first t (y ∷ ys) x some fits is =
+    ap (λ z. least_up_to z (y ∷ ys)) is ∙ least_within y (greatest_of t) ys (subst (λ z. z ≤ℤ greatest_of t) is fits.below)
+
+greater_swap : (x y z : ℤ) → greater x (greater y z) ≡ greater y (greater x z)
+greater_swap x y z = grind (arith, ints)
+
+greatest_within : (y least : ℤ) (zs : List ℤ) → least ≤ℤ y → greater y (greatest_down_to y zs) ≡ greater y (greatest_down_to least zs)
+greatest_within y least [] above = grind (arith, ints, above)
+greatest_within y least (z ∷ zs) above = greater_swap y z (greatest_down_to y zs) ∙ ap (greater z) (greatest_within y least zs above) ∙ greater_swap z y (greatest_down_to least zs)
+
+pub greatest_first : (t : ItemType) (xs : List ℤ) (x : ℤ) → 0 < length xs → IsItem t x → x ≡ item xs 0 → greatest_down_to x xs ≡ greatest_down_to (least_of t) xs
+greatest_first t [] x some fits is = absurd (omega arith)
+greatest_first t (y ∷ ys) x some fits is =
+    ap (λ z. greatest_down_to z (y ∷ ys)) is ∙ greatest_within y (least_of t) ys (subst (λ z. least_of t ≤ℤ z) is fits.above)
 
 same : (z : ℤ) → int_eq z z ≡ true
 same z = (signed_Decides z z).1 refl

@@ -1,7 +1,6 @@
 -- What the blocks write whose inputs or outputs have one item in a round.
-use Rattle.std.proofs.Common.{◌≡◌, ℕ, suc, ◌+◌, ◌*◌, ◌/◌, ◌%◌, ◌<◌, ◌≤◌, ℤ, List, [], ◌∷◌, length, map, get_or, nat_lt, refl, arith, ap, ap₂, sym, ◌∙◌}
-use Rattle.std.specs.Prelude.{if◌then◌else◌, All}
-use Rattle.std.proofs.lemmas.Bool.Decides.{nat_tests}
+use Rattle.std.proofs.Common.{◌≡◌, ℕ, suc, ◌+◌, ◌*◌, ◌/◌, ◌%◌, ◌<◌, ◌≤◌, ℤ, List, [], ◌∷◌, length, map, get_or, refl, arith, ap, ap₂, sym, ◌∙◌}
+use Rattle.std.specs.Prelude.{All}
 use Rattle.std.proofs.lemmas.List.{get_or_default}
 use Rattle.std.proofs.lemmas.Nat.{div_below}
 use Rattle.stream_model.specs.declared.vocabulary.ItemType.{ItemType}
@@ -14,9 +13,7 @@ use Rattle.block_kinds.proofs.Fills.{listed-given}
 use Rattle.block_kinds.proofs.Inputs.{length-port, item-port}
 use Rattle.lane_kernels.specs.Streams.{interleaved}
 use Rattle.rate_blocks.proofs.Paced.{add-mul-div}
-
-if-less : (r l : ℕ) (x y : ℤ) → r < l → (if nat_lt r l then x else y) ≡ x
-if-less r l x y h = grind (arith, nat_tests)
+use Rattle.rate_blocks.proofs.Rounds.{if-less}
 
 -- firings before do not change the place in a round
 pub mod-add : (n first k : ℕ) → 1 ≤ n → (n * first + k) % n ≡ k % n

@@ -144,7 +144,7 @@ sum_take-le ls zero = omega arith
 sum_take-le [] (suc p) = omega arith
 sum_take-le (l ∷ ls) (suc p) = omega (arith, sum-cons l ls, sum-cons l (take p ls), sum_take-le ls p)
 
-if-less : (r l : ℕ) (x y : ℤ) → r < l → (if nat_lt r l then x else y) ≡ x
+pub if-less : (r l : ℕ) (x y : ℤ) → r < l → (if nat_lt r l then x else y) ≡ x
 if-less r l x y h = grind (arith, nat_tests)
 
 if-more : (r l : ℕ) (x y : ℤ) → l ≤ r → (if nat_lt r l then x else y) ≡ y

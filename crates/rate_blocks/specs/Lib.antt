@@ -5,5 +5,6 @@ pub mod Kinds
 pub mod Lengths
 pub mod Mux
 pub mod Orders
+pub mod PerFrame
 pub mod Repeats
 pub mod Turns

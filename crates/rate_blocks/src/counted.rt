@@ -50,7 +50,7 @@ impl<C: Counting> Single for Counted<C> {
         0
     }
 
-    ghost single = { λ b. plain-single (C.plain b.item b.n) };
+    ghost single = { λ b. plain-single (C.plain b.item b.n b.least) };
 }
 
 impl<C: Counting> Block for Counted<C> {

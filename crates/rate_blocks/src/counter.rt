@@ -67,7 +67,7 @@ impl Counting for Counts {
         make_items(&counts, batch.window, batch.count as usize, out);
     }
 
-    ghost plain = { λ _ _. refl };
+    ghost plain = { λ _ _ _. refl };
 
     ghost lawful = { λ t n _ _. counter-lawful t n };
 }

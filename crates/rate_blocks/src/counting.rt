@@ -41,7 +41,7 @@ pub trait Counting: Drop {
         ensures room { spare_of out.old ≤ spare_of out.new + length (numbers_of out.new) };
 
     /// The block has one input and one output, and no past, setting or state.
-    ghost plain: { (item : ItemType) (n : ℕ) → IsPlain item (equation item n) };
+    ghost plain: { (item : ItemType) (n : ℕ) → LEAST ≤ n → IsPlain item (equation item n) };
 
     /// The laws that the runtime rests on.
     ghost lawful: { (item : ItemType) (n : ℕ) → LEAST ≤ n → n ≤ MOST → IsLawful (equation item n) };

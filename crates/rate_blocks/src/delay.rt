@@ -39,7 +39,7 @@ impl Counting for Late {
         out.push_slice(batch.window);
     }
 
-    ghost plain = { λ _ _. refl };
+    ghost plain = { λ _ _ _. refl };
 
     ghost lawful = { λ t n _ most. delay-lawful t n most };
 }

@@ -56,7 +56,7 @@ impl Counting for First {
         out.push_slice(batch.window);
     }
 
-    ghost plain = { λ _ _. refl };
+    ghost plain = { λ _ _ _. refl };
 
     ghost lawful = { λ t n _ _. head-lawful t n };
 }

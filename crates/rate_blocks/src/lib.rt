@@ -15,6 +15,7 @@ pub mod interleave;
 pub mod keep_m_in_n;
 pub mod keep_one_in_n;
 pub mod pattern;
+pub mod per_frame;
 pub mod permute;
 mod port_count;
 pub mod repeat;

@@ -106,7 +106,7 @@ impl Counting for Copies {
         append_items(&Copies { n }, batch.window, (n * batch.count) as usize, out);
     }
 
-    ghost plain = { λ _ _. refl };
+    ghost plain = { λ _ _ _. refl };
 
     ghost lawful = { repeat-lawful };
 }

@@ -40,7 +40,7 @@ impl Counting for Rest {
         out.push_range(window, skipped.min(window.len()), window.len());
     }
 
-    ghost plain = { λ _ _. refl };
+    ghost plain = { λ _ _ _. refl };
 
     ghost lawful = { λ t n _ _. skiphead-lawful t n };
 }
