@@ -1,5 +1,5 @@
 -- Items that are held from a place on.
-use Rattle.std.proofs.Common.{◌≡◌, ℕ, zero, suc, ◌+◌, ◌*◌, ◌<◌, ◌≤◌, ℤ, pos, List, [], ◌∷◌, ◌++◌, length, map, get_or, All, true, false, refl, arith, ap, subst, sym, ◌∙◌}
+use Rattle.std.proofs.Common.{◌≡◌, ℕ, zero, suc, ◌+◌, ◌*◌, ◌<◌, ◌≤◌, ℤ, pos, List, [], ◌∷◌, ◌++◌, length, map, get_or, true, false, refl, arith, ap, sym, ◌∙◌}
 use Rattle.std.specs.Prelude.{cond, if◌then◌else◌}
 use Rattle.std.specs.Ordering.{int_eq}
 use Rattle.std.proofs.lemmas.List.{get_or-map}
@@ -94,10 +94,3 @@ module _ (t : ItemType) (ts : List Held) (xs : List (List ℤ)) (first n state :
 -- a window is an input of the windows
 pub input-window : {X : Type 0} (f : X → List ℤ) (ws : List X) (q : ℕ) (w : X) → q < length ws → w ≡ get_or ws q w → input (map f ws) q ≡ f w
 input-window f ws q w h is = get_or-map f ws q w [] h ∙ ap f (sym is)
-
--- what holds of each element holds of one that is read, and its number stands among the numbers
-pub read-at : {X : Type 0} (P : X → Type 0) (xs : List X) (k : ℕ) (x : X) → x ≡ get_or xs k x → k < length xs → All P xs → P x
-read-at P xs k x is h all = subst P (sym is) (all k x h)
-
-pub read-number : {X : Type 0} (number : X → ℤ) (xs : List X) (k : ℕ) (x : X) → k < length xs → x ≡ get_or xs k x → number x ≡ item (map number xs) k
-read-number number xs k x h is = ap number is ∙ sym (get_or-map number xs k x (pos 0) h)

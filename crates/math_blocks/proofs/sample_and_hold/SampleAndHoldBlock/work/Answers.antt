@@ -10,7 +10,8 @@ use Rattle.items.specs.Items.{type_of, numbers_of}
 use Rattle.settings.specs.Values.{held_of}
 use Rattle.block_kinds.proofs.Outputs.{one_worked}
 use Rattle.math_blocks.specs.Holding.{held_from}
-use Rattle.math_blocks.proofs.Holding.{length-held, held-given, held-word, input-window, read-at}
+use Rattle.math_blocks.proofs.Holding.{length-held, held-given, held-word, input-window}
+use Rattle.math_blocks.proofs.Joining.{All-at}
 use Rattle.math_blocks.proofs.sample_and_hold.SampleAndHoldBlock.work.Goals as goal
 
 pub returns-clause-items : goal.returns-clause-items
@@ -29,7 +30,7 @@ returns-clause-items c =
     let first : numbers_of w ≡ input ws 0 = sym (input-window numbers_of windows 0 w (omega (arith, two)) c.index-windows-0.is) in
     let second : numbers_of v ≡ input ws 1 = sym (input-window numbers_of windows 1 v (omega (arith, two)) c.index-windows-1.is) in
     let type = (can.ready 0 c.index-out-0.result (omega (arith, one))).item in
-    let w_type : type_of w ≡ t = read-at (λ u. type_of u ≡ t) windows 0 w c.index-windows-0.is (omega (arith, two)) can.types in
+    let w_type : type_of w ≡ t = All-at (λ u. type_of u ≡ t) windows 0 w c.index-windows-0.is (omega (arith, two)) can.types in
     let are : AreItems t (input ws 0) = subst (AreItems t) first (subst (λ s. AreItems s (numbers_of w)) w_type c.in_range.ensures) in
     one_worked (sample_and_hold t) c.args._first c.args._count c.args.state windows c.args._held.now out c.index-out-0.result c.hold_items-last.new.out one
     c.hold_items-last.ensures.item_type c.hold_items-last.ensures.room
@@ -56,7 +57,7 @@ returns-clause-word c ts xs fed =
     let first : numbers_of w ≡ input ws 0 = sym (input-window numbers_of windows 0 w (omega (arith, two)) c.index-windows-0.is) in
     let second : numbers_of v ≡ input ws 1 = sym (input-window numbers_of windows 1 v (omega (arith, two)) c.index-windows-1.is) in
     let type = (can.ready 0 c.index-out-0.result (omega (arith, one))).item in
-    let w_type : type_of w ≡ t = read-at (λ u. type_of u ≡ t) windows 0 w c.index-windows-0.is (omega (arith, two)) can.types in
+    let w_type : type_of w ≡ t = All-at (λ u. type_of u ≡ t) windows 0 w c.index-windows-0.is (omega (arith, two)) can.types in
     let are : AreItems t (input ws 0) = subst (AreItems t) first (subst (λ s. AreItems s (numbers_of w)) w_type c.in_range.ensures) in
     let long = length-held t ts xs c.args._first c.args._count c.args.state ws held fed pair 0 (omega arith) in
     c.bits_of.ensures
