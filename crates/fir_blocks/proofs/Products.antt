@@ -5,25 +5,17 @@ use Rattle.std.proofs.lemmas.Int.{ints, unsigned_abs-mul}
 use Rattle.std.proofs.lemmas.List.{get_or-take, get_or-drop, drop-map, take-map}
 use Rattle.std.proofs.Math.Nat.{mul-le-mul}
 use Rattle.stream_model.specs.declared.vocabulary.ItemType.{ItemType}
-use Rattle.stream_model.specs.declared.vocabulary.ItemType.TheVariants.{Byte, Short, Int}
+use Rattle.stream_model.specs.declared.vocabulary.ItemType.TheVariants.{Short}
 use Rattle.stream_model.specs.Numbers.{IsItem, AreItems, total}
 use Rattle.stream_model.specs.Lists.{item, numbers_from, sum_below}
 use Rattle.kind_model.specs.Kernels.{dot}
 use Rattle.shape_laws.specs.Shaped.{IsItem-item, sum_below-same}
-
-abs_add : (x y : ℤ) → unsigned_abs (x +ℤ y) ≤ unsigned_abs x + unsigned_abs y
-abs_add x y = omega (arith, ints)
-
-item_near : (t : ItemType) (z : ℤ) → IsItem t z → unsigned_abs z ≤ 2 ^ 31
-item_near Byte z h = omega (arith, ints, h.above, h.below)
-item_near Short z h = omega (arith, ints, h.above, h.below)
-item_near Int z h = omega (arith, ints, h.above, h.below)
-
-tap_near : (z : ℤ) → IsItem Short z → unsigned_abs z ≤ 2 ^ 15
-tap_near z h = omega (arith, ints, h.above, h.below)
+use Rattle.numbers.proofs.Widths.{short_near}
+use Rattle.lane_filters.proofs.Signed.{abs_add}
+use Rattle.lane_filters.proofs.Taps.{item_near}
 
 product_near : (t : ItemType) (a b : ℤ) → IsItem Short a → IsItem t b → unsigned_abs (a *ℤ b) ≤ 2 ^ 46
-product_near t a b h k = rw (unsigned_abs-mul a b) (mul-le-mul {n₂ = 2 ^ 15} {m₂ = 2 ^ 31} (tap_near a h) (item_near t b k))
+product_near t a b h k = rw (unsigned_abs-mul a b) (mul-le-mul {n₂ = 2 ^ 15} {m₂ = 2 ^ 31} (short_near a h) (item_near t b k))
 
 sum_near : (f : ℕ → ℤ) (a count : ℕ) → ((j : ℕ) → unsigned_abs (f j) ≤ 2 ^ 46) → unsigned_abs (total (map f (numbers_from a count))) ≤ count * 2 ^ 46
 sum_near f a zero near = omega arith
