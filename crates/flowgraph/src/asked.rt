@@ -1,4 +1,4 @@
-//! What blocks are asked at each claim and commit, kept so that no shape has to be made for it.
+//! What claims and commits ask of blocks, kept so that they need not make a shape.
 ghost use Rattle.std.specs.Prelude.{◌≡◌, ℕ, length, Some, slice_get, IfOk};
 ghost use Rattle.block_kinds.specs.Shape.{HasPace};
 ghost use Rattle.flowgraph.specs.Flowgraph.{node_of};
@@ -20,7 +20,7 @@ pub struct Asked {
     pub given: ItemType,
     /// How many base firings one firing is.
     pub multiple: u32,
-    /// Those of its inputs, of a source that of its tape.
+    /// The paces of its inputs; of a source, that of its tape.
     pub paces: Vec<Pace>,
 }
 

@@ -10,7 +10,8 @@ use crate::parts::{Connection, Input};
 use crate::ports::{MOST_PORTS, end_of};
 use std::alloc::{AllocError, Global};
 
-/// For each port that a side of a block may have, 16 for each block, what ends there, in the order of connecting.
+/// For each port that a side of a block may have, 16 a block, the connections that end there, in the order of
+/// connecting.
 #[derive(Drop)]
 pub struct ByPort {
     // By output ports.

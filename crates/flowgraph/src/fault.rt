@@ -18,14 +18,14 @@ pub enum Side {
     Out,
 }
 
-/// What may be wrong with a block that is added. It prints as the name that a graph gives it.
+/// What may be wrong with a block that is added. It prints as its name in a graph.
 #[derive(Clone, Copy, Debug, PartialEq, Eq)]
 pub enum BlockOption {
-    /// It is no name of 1 to 32 letters, digits, `_`, `.` and `-`.
+    /// The name is not 1 to 32 letters, digits, `_`, `.` and `-`.
     Name,
-    /// It lies outside 1 to 64, or is not 1 for a source, a sink, or a block with a limit or without a rate.
+    /// The multiple lies outside 1 to 64, or is not 1 for a source, a sink, or a block with a limit or without a rate.
     Multiple,
-    /// It lies outside 1 to 65,536.
+    /// The capacity lies outside 1 to 65,536.
     Capacity,
 }
 
@@ -62,7 +62,7 @@ pub enum GraphFault {
         side: Side,
         port: usize,
     },
-    /// The output gives items of another type than the input takes, which is the port that is named.
+    /// The output gives items of another type than the input takes. The fault names the input.
     TypeMismatch {
         block: BlockId,
         port: usize,
@@ -79,11 +79,11 @@ pub enum GraphFault {
     TooLarge(Limit),
     /// The block may not have this name, this multiple or this capacity.
     BadParameter(BlockOption),
-    /// Tags are to go from each input to the output of its number, and used inputs and outputs are not equally many.
+    /// Tags are to go from each input to the output of its number, and there are not as many used inputs as outputs.
     OneToOne {
         block: BlockId,
     },
-    /// Along a path that ends at the block the gains have a product above 16,777,216.
+    /// The product of gains along a path that ends at the block is above 16,777,216.
     Gain {
         block: BlockId,
     },
@@ -139,7 +139,7 @@ impl BlockOption {
 }
 
 impl Limit {
-    /// What there are too many of.
+    /// The word for what there are too many of.
     pub fn text(&self) -> &'static str
         ensures { result.now ≡ limit_text self.now }
     {

@@ -1,4 +1,4 @@
-//! How much paths multiply items, and the test for those that do it too much.
+//! How much paths multiply items, and the test for paths that multiply them too much.
 ghost use Rattle.std.specs.Prelude.{◌≡◌, ◌≢◌, ◌<◌, ◌≤◌, ◌*◌, ◌^◌, ◌+◌, ℕ, false, [], ◌∷◌, None, Some, min, length, map, nat_lt, slice_index, All, IfOk, IfErr, OnOk};
 ghost use Rattle.std.specs.List.{find};
 ghost use Rattle.std.specs.Option.{option_map};
@@ -21,8 +21,8 @@ use std::alloc::{AllocError, Global};
 /// The greatest product of gains along a path.
 const MOST_GAIN: u64 = 16_777_216;
 
-/// The greatest product of the gains of blocks along a path, at least 1. Refused is the lowest block at which a path with a product above
-/// 16,777,216 ends.
+/// The greatest product of the blocks' gains along a path, at least 1. It refuses the lowest block at which a path with
+/// a product above 16,777,216 ends.
 pub fn greatest_gain<B: Block>(
     alloc: Global,
     blocks: &[Entry<B>],
@@ -60,8 +60,9 @@ fn greatest(gains: &[u64]) -> u64
     greatest
 }
 
-// For each block the greatest product along a path that ends there. Turns over all connections raise the products until a turn raises
-// none; no more turns are needed than there are blocks, and two where connections were made in the order of the stream.
+// For each block the greatest product along a path that ends there. Turns over all connections raise the products until
+// a turn raises none. That takes at most as many turns as there are blocks, and two if connections were made in the
+// order of the stream.
 fn gains<B: Block>(
     alloc: Global,
     blocks: &[Entry<B>],
@@ -108,7 +109,7 @@ fn own_gain<B: Block>(block: &B) -> u64
     gain
 }
 
-// How many items come of each that a firing takes of this input, rounded up.
+// How many items a block gives for each that a firing takes of this input, rounded up.
 fn gain_on<B: Block>(block: &B, input: usize) -> u64
     ensures { result ≡ gain_at ((B.meaning block.now).rate input) }
 {
@@ -118,7 +119,7 @@ fn gain_on<B: Block>(block: &B, input: usize) -> u64
     }
 }
 
-// All products above the limit count as the next number.
+// Each product above the limit counts as the next number.
 fn cap(gains: &mut [u64])
     ensures { (b : ℕ) → b < length gains.old → slice_index gains.new b ≡ min (most_gain + 1) (slice_index gains.old b) }
 {
@@ -127,8 +128,8 @@ fn cap(gains: &mut [u64])
     }
 }
 
-// Raises the product of each block to which a connection leads, where its own gain times that of the writer is more. It answers
-// whether it raised one.
+// Raises the product of each block that a connection leads to, if its own gain times the writer's product is more. It
+// returns whether it raised one.
 fn raise(connections: &[Connection], own: &[u64], gains: &mut [u64]) -> bool
     requires within { AreWithin (length gains.old) connections.now }
     requires same { length own.now ≡ length gains.old }

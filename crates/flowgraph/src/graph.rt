@@ -34,7 +34,7 @@ pub struct Graph<B: Block> {
     connections: Vec<Connection>,
 }
 
-// By hand, so that no crate above proves the drop of each part again.
+// Written by hand: crates above need not prove the drop of each part again.
 impl<B: Block> Drop for Graph<B> {
     fn drop(self) {
         let Graph {
@@ -90,8 +90,9 @@ impl<B: Block> Graph<B> {
         &self.names[block.0 as usize]
     }
 
-    /// Adds a block, and returns its number. Refused are, in this order, a name that is none, a multiple and a capacity out of range, a name
-    /// that a block has, and a block beyond 256; then out of memory. An `Err` changes nothing, and drops the block.
+    /// Adds a block, and returns its number. Refusals, in this order: a bad name, a multiple or a capacity out of
+    /// range, a name that a block has, a block beyond 256, and out of memory. An `Err` changes nothing, and drops the
+    /// block.
     pub fn add_block(
         &mut self,
         alloc: Global,
@@ -116,10 +117,10 @@ impl<B: Block> Graph<B> {
         Ok(BlockId(number as u32))
     }
 
-    /// Tests the graph, and makes the tables of it. Refused are, each over all blocks before the next and with the lowest block, a port that is
-    /// left out below a used one (inputs first), fewer ports than a block asks for, tags from one to one where inputs and outputs are not equally
-    /// many, a block that reaches itself, and a path whose gains have a product above 16,777,216. `Memory` may come at any of these.
-    /// A graph that is refused comes back as it was.
+    /// Tests the graph, and makes its tables. Each test goes over all blocks before the next, and names the lowest
+    /// block that fails: a port that is left out below a used one (inputs first), fewer ports than a block asks for,
+    /// tags from one to one with unequal numbers of inputs and outputs, a block that reaches itself, and a path whose
+    /// gains have a product above 16,777,216. `Memory` may come at any of these. A refused graph comes back as it was.
     pub fn validate(self, alloc: Global) -> Result<Valid<B>, (Graph<B>, GraphFault)>
         ensures passed { OnOk result (graph_fault (net_of B.meaning self) ≡ None) }
         ensures valid { IfOk result (λ valid. valid ≡ self) }
@@ -139,8 +140,9 @@ impl<B: Block> Graph<B> {
         }
     }
 
-    /// Connects an output port to an input port. Refused are, in this order, a block that is not there, a port out of range (the output
-    /// first), an input that has a connection, ports of two types, and a connection beyond 1,024; then out of memory. An `Err` changes nothing.
+    /// Connects an output port to an input port. Refusals, in this order: a block that is not there, a port out of
+    /// range (the output first), an input that has a connection, ports of two types, a connection beyond 1,024, and out
+    /// of memory. An `Err` changes nothing.
     pub fn connect(
         &mut self,
         from: BlockId,
@@ -215,7 +217,7 @@ fn make_room<B: Block>(
     Ok(key)
 }
 
-// Adds a name that no block has, where there is room for one.
+// Adds a name that no block has, into room that is there.
 fn add_name(names: &mut IndexSet<Vec<u8>>, name: Vec<u8>)
     requires room { 0 < spare names.old }
     requires fresh { list_any (bytes_eq name.items) (map (λ n. n.items) names.old.keys) ≡ false }

@@ -38,8 +38,8 @@ pub fn loop_fault(
     Ok(None)
 }
 
-// Marks the blocks that may reach themselves. Where ranks fall along no connection these are the blocks from which a connection leads to one of
-// the same rank.
+// Marks the blocks that may reach themselves. If ranks fall along no connection, these are the blocks with a connection
+// to one of the same rank.
 fn suspects(
     alloc: Global,
     connections: &[Connection],
@@ -94,7 +94,7 @@ fn reaches_itself(
     Ok(false)
 }
 
-// Marks the blocks to which a connection leads from the start or from a marked block, in one turn over the connections.
+// Marks the blocks that a connection reaches from the start or from a marked block, in one turn over the connections.
 fn spread(connections: &[Connection], start: usize, reached: &mut [bool])
     requires { AreWithin (length reached.old) connections.now }
     ensures spread { All (λ c. (c.from.0 == start || slice_index_or reached.old c.from.0 false) ≡ true → slice_index_or reached.new c.to.0 false ≡ true) connections.now }

@@ -5,7 +5,7 @@ ghost use Rattle.stream_model.specs.declared.vocabulary.Policy.TheVariants.{All}
 
 use stream_model::Policy;
 
-/// A block of a graph, by its number: blocks are numbered from 0 in the order in which they were added.
+/// A block of a graph, by its number: the order in which blocks were added, from 0.
 #[derive(Clone, Copy, Debug, PartialEq, Eq)]
 pub struct BlockId(pub u32);
 
@@ -16,13 +16,14 @@ pub struct Options {
     pub policy: Policy,
     /// How many base firings one firing is, from 1 to 64. It is 1 for sources and sinks, and for blocks with a limit or without a rate.
     pub multiple: u32,
-    /// How many unread items the buffer of each output holds at least, from 1 to 65,536. It holds more where one
-    /// firing of a block at its ends, or the rates, ask for more.
+    /// How many unread items the buffer of each output holds at least, from 1 to 65,536. It holds more if one firing of
+    /// a block at its ends, or the rates, need more.
     pub capacity: u32,
 }
 
 impl Default for Options {
-    /// What a graph file takes where it says nothing: all tags go through, firings one by one, and an output holds at least 4,096 unread items.
+    /// The defaults of a graph file: all tags go through, firings go one by one, and an output holds at least 4,096
+    /// unread items.
     fn default() -> Options
         ensures { result ≡ record { policy = All; multiple = 1; capacity = 4096 } }
     {
@@ -50,7 +51,7 @@ pub struct Connection {
 pub struct Input {
     /// The connection that enters it.
     pub connection: Connection,
-    /// Which of the readers of its writer's output it is, counted from 0 in the order of connecting.
+    /// Its number among the readers of its writer's output, from 0, in the order of connecting.
     pub reader: usize,
 }
 

@@ -13,8 +13,8 @@ use block_kinds::Block;
 use std::alloc::{AllocError, Global};
 use stream_model::Policy;
 
-/// What is refused of the ports that blocks use: the lowest gap, then the lowest block with too few, and then the lowest with tags from one
-/// to one where inputs and outputs are not equally many.
+/// The first refusal of the ports that blocks use: the lowest gap, then the lowest block with too few, then the lowest
+/// with tags from one to one and unequal numbers of inputs and outputs.
 pub fn port_fault<B: Block>(
     alloc: Global,
     blocks: &[Entry<B>],
@@ -79,7 +79,7 @@ fn has_few<B: Block>(entry: &Entry<B>, inputs: &Ports, outputs: &Ports) -> bool
         || outputs.used < entry.block.outputs().least as usize
 }
 
-// Whether tags are to go from one to one and inputs and outputs are not equally many.
+// Whether tags are to go from one to one, and there are not as many inputs as outputs.
 fn is_unequal<B: Block>(entry: &Entry<B>, inputs: &Ports, outputs: &Ports) -> bool
     ensures { result ≡ (is_one (node_of B.meaning entry.now).policy && not (inputs.now.used == outputs.now.used)) }
 {

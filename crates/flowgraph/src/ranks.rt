@@ -15,7 +15,7 @@ struct Step {
     block: usize,
     // The number of the root from which the search came to the block.
     root: usize,
-    // The block is left, since all that the search comes to from it is behind it.
+    // Whether it leaves the block: the search has been to all that it reaches from it.
     leaves: bool,
 }
 
@@ -38,12 +38,12 @@ struct Search {
     found: Found,
 }
 
-/// A rank for each block. Ranks fall along no connection, and are one for blocks that reach one another and for no others; who relies on this
-/// looks at the ranks, since the contract does not say it.
+/// A rank for each block. Ranks fall along no connection. Two blocks have one rank exactly if they reach one another.
+/// The contract does not say this, so who relies on it tests the ranks.
 ///
-/// A search against the connections leaves each block behind its writers, but for those that it reaches. The last that was left leads, of
-/// all blocks, only to such as reach it: so a second search, along the connections, from the last block to the first, comes from each root
-/// to those that reach the root.
+/// A first search, against the connections, leaves each block after its writers, except those that it reaches. So the
+/// last block that it leaves reaches only blocks that reach it. A second search goes along the connections, from the
+/// last block to the first. From each root it comes to the blocks that reach the root.
 pub fn ranks(
     alloc: Global,
     blocks: usize,
@@ -110,8 +110,8 @@ fn neighbours(
     Ok(rows)
 }
 
-// Searches from each root in turn, the last root first, and from each block on to its neighbours. It comes once to each block, and takes no
-// more steps than there are roots, blocks and connections.
+// Searches from each root in turn, the last root first, and from each block on to its neighbours. It comes to each
+// block once, and takes at most as many steps as there are roots, blocks and connections.
 fn searched(
     alloc: Global,
     neighbours: &[Vec<usize>],
@@ -146,7 +146,7 @@ fn begun(alloc: Global, blocks: usize, roots: &[usize]) -> Result<Search, AllocE
     Ok(Search { stack, seen, found })
 }
 
-// Takes the next step of a search, and answers whether there was one.
+// Takes the next step of a search, and returns whether there was one.
 fn take_step(search: &mut Search, neighbours: &[Vec<usize>]) -> Result<bool, AllocError>
     requires neighbours { All (All (λ b. b < length neighbours.now)) (map (λ row. row.items) neighbours.now) }
     requires search { IsSearch (length neighbours.now) search.old }

@@ -16,7 +16,7 @@ use indexmap::IndexSet;
 use items::is_name;
 use stream_model::{Role, Signature};
 
-/// How many blocks a graph may have, connections, bytes of a name, base firings in one, items of a capacity.
+/// The most blocks of a graph, connections, bytes of a name, base firings in a firing, and items of a capacity.
 const MOST_BLOCKS: usize = 256;
 
 const MOST_CONNECTIONS: usize = 1024;

@@ -41,7 +41,7 @@ pub struct Valid<B: Block> {
     gain: u64,
 }
 
-// By hand, so that no crate above proves the drop of each part again.
+// Written by hand: crates above need not prove the drop of each part again.
 impl<B: Block> Drop for Valid<B> {
     fn drop(self) {
         let Valid {
@@ -179,7 +179,7 @@ impl<B: Block> Valid<B> {
         self.asked[block.0 as usize].role
     }
 
-    /// After how many firings a block ends by itself; none where it does not.
+    /// After how many firings a block ends by itself; none if it does not.
     pub fn limit(&self, block: BlockId) -> Option<u64>
         requires { block.0 < length self.now.blocks }
         ensures { result ≡ (node_at (net_of B.meaning self.now) block.0).meaning.limit }
@@ -187,7 +187,7 @@ impl<B: Block> Valid<B> {
         self.asked[block.0 as usize].limit
     }
 
-    /// How the items that a block takes of an input, or a source of its tape, go with those that it gives, for one base firing.
+    /// How many items of an input (of a source: of its tape) one base firing takes, and how many it gives for them.
     pub fn pace(&self, block: BlockId, port: usize) -> Pace
         requires { block.0 < length self.now.blocks }
         ensures { HasPace (node_at (net_of B.meaning self.now) block.0).meaning port result }
@@ -294,8 +294,8 @@ impl<B: Block> Valid<B> {
         given_between(self.pace(block, 0), multiple * first, multiple * next)
     }
 
-    /// How many items a tape may hold so that no path makes more than 2 to the 61st of them: that number, divided by the greatest product of
-    /// gains along a path. Then no count of items or firings comes to 2 to the 62nd.
+    /// How many items a tape may hold: 2^61 divided by the greatest product of gains along a path. So no path makes
+    /// more than 2^61 items of them, and no count of items or firings comes to 2^62.
     pub fn longest_tape(&self) -> u64
         ensures value { result ≡ longest_within_gain (net_of B.meaning self.now) }
         ensures fits { IsWithinGain (net_of B.meaning self.now) result }
@@ -364,7 +364,7 @@ impl<B: Block> Valid<B> {
     }
 }
 
-// The pace of an input beyond those that are kept. Inlined, it would have each caller clear the memory of a shape.
+// The pace of an input beyond those that are kept. If it were inlined, each caller would clear the memory of a shape.
 #[inline(never)]
 fn pace_of<B: Block>(block: &B, port: usize) -> Pace
     ensures { HasPace (B.meaning block.now) port result }

@@ -6,15 +6,15 @@ use items::Items;
 use jobs::Job;
 use tags::Tag;
 
-/// How many items a source's tape holds in all after a `feed`.
+/// How many items a source's tape holds after a `feed`.
 #[derive(Clone, Copy, Debug, PartialEq, Eq)]
 pub struct Fed(pub u64);
 
-/// How many items a source's tape holds as it is closed.
+/// How many items a closed tape holds.
 #[derive(Clone, Copy, Debug, PartialEq, Eq)]
 pub struct Closed(pub u64);
 
-/// From which item of the block's first input on a setting is in force.
+/// The item of the block's first input from which on a setting is in force.
 #[derive(Clone, Copy, Debug, PartialEq, Eq)]
 pub struct Taken(pub u64);
 

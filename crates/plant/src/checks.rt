@@ -16,7 +16,7 @@ use items::{ItemType, Mark};
 use settings::Value;
 use stream_model::{Role, Wanted};
 
-/// The type of the items that a source of the graph gives: what it is fed has this type. Other blocks are refused as `feed` refuses them.
+/// The type of the items that a source gives and is fed. Other blocks are refused as by `feed`.
 pub fn source_type<B: Block>(graph: &Valid<B>, block: BlockId) -> Result<ItemType, PlantFault>
     ensures { result ≡ source_type_of (net_of B.meaning graph.now) block.0 }
 {
@@ -36,7 +36,7 @@ pub fn same_type(one: ItemType, other: ItemType) -> bool
     one == other
 }
 
-/// Whether each mark lies on an item from `first` to before `end`.
+/// Whether each mark lies on an item from `first` to below `end`.
 pub fn fit(marks: &[Mark], first: u64, end: u64) -> bool
     ensures { result ≡ list_all (λ m. nat_le first m.offset && nat_lt m.offset end) (map mark_of marks.now) }
 {

@@ -78,7 +78,7 @@ impl<B: Block> Parts<B> {
         }
     }
 
-    // Decides a claim, and makes it but for what its job needs. Where the block ends, no buffer waits for it any longer.
+    // Decides a claim, and makes it, without what its job needs. If the block ends, no buffer waits for it any longer.
     fn decide(&mut self, block: BlockId, max: u32) -> Decision
         requires right { IsRight B.meaning self.old }
         requires block { block.0 < length (arc_value self.old.graph).blocks }
@@ -196,7 +196,7 @@ impl<B: Block> Parts<B> {
         }
     }
 
-    // Does the work of the claim in flight of a block on what the block was lent, and answers the state word after it.
+    // Does the work of a block's claim in flight on what the block was lent, and returns the state word after it.
     fn work(&mut self, block: BlockId, first: u64, count: u32) -> u64
         requires right { IsRight B.meaning self.old }
         requires flight { let old = plant_of self.old in IsFlight (net_of B.meaning old.graph) old.state block.0 first count }
@@ -220,7 +220,8 @@ impl<B: Block> Parts<B> {
         )
     }
 
-    // Lends a block what a job of its claim in flight needs, in the memory of its last job, and makes room for the commit.
+    // Lends a block what the job of its claim in flight needs, in the memory of its last job, and makes room for the
+    // commit.
     fn lend(
         &mut self,
         alloc: Global,

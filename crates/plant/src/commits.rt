@@ -59,7 +59,7 @@ impl<B: Block> Parts<B> {
         Ok(())
     }
 
-    /// Commits the claim in flight of a block, with what came of its work, which lies where the block was lent what that needed.
+    /// Commits a block's claim in flight. The result of its work lies in the places that the block was lent.
     pub fn store(&mut self, block: BlockId, first: u64, count: u32, word: u64)
         requires right { IsRight B.meaning self.old }
         requires flight { let old = plant_of self.old in IsFlight (net_of B.meaning old.graph) old.state block.0 first count }

@@ -22,11 +22,12 @@ pub enum PlantFault {
     Closed,
     /// The items do not fit the source's type: they are of another type, or a number lies outside its range.
     ItemRange,
-    /// A mark lies outside the items that it was fed with.
+    /// A mark lies on none of the items that it was fed with.
     TagPlace,
-    /// The tape would be longer than the source takes: 2^32 items, and of a plant that streams 2^61, divided by the greatest gain of the graph.
+    /// The tape would be longer than the source takes: 2^32 items, or in a plant that streams 2^61 divided by the
+    /// graph's greatest gain.
     TapeFull,
-    /// The setting would begin before the first item that is still open, which is the floor.
+    /// The setting would begin before the floor: the first item that is still open.
     Late { floor: u64 },
     /// The block has no setting.
     NoSetting,

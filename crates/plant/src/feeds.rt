@@ -143,7 +143,8 @@ impl<B: Block> Parts<B> {
     }
 }
 
-// How long a tape is with so many items more, or why they and their marks cannot be put on it, where it may come to hold `longest`.
+// How long a tape is with so many items more, or why it does not take them and their marks. It may come to hold
+// `longest`.
 fn length_with(tape: Tape, longest: u64, count: u64, marks: &[Mark]) -> Result<u64, PlantFault>
     requires { tape.length + count < 2 ^ 64 }
     ensures { result ≡ length_with tape longest count (map mark_of marks.now) }

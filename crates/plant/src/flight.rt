@@ -23,8 +23,8 @@ use settings::Held;
 use stores::Stores;
 use stream_model::Role;
 
-/// Whether the job is the claim in flight of its block: the same firings of an equal block, with the same windows, settings and state word.
-/// It copies nothing.
+/// Whether the job is its block's claim in flight: the same firings of an equal block, with the same windows, settings
+/// and state word. It copies nothing.
 pub(crate) fn is_in_flight<B: Block>(
     stores: &Stores,
     firings: &Firings,
@@ -75,7 +75,8 @@ fn is_claim<B: Block>(
         )
 }
 
-// Whether something is claimed, and the job is of as many firings from the same one on, of a block with so many used outputs in this state.
+// Whether the block has a claim in flight, and the job has its first firing, its count, its number of used outputs and
+// its state word.
 fn are_its_numbers<B: Block>(job: &Claimed<B>, own: Progress, outputs: usize, word: u64) -> bool
     ensures { IsTrue result ↔ ((0 < own.claimed) × (job.now.first ≡ own.firings) × (job.now.count ≡ own.claimed) × (length job.now.lent.outputs.items ≡ outputs) × (job.now.word ≡ word)) }
 {

@@ -17,8 +17,9 @@ use std::marker::Model;
 use std::sync::Arc;
 use stores::{Intake, IntakeCopy};
 
-/// What a plant was handed, as it was at one moment: its graph, the tapes of its sources, whether they are closed, and the settings. The graph
-/// and the tapes are shared with the plant, so that no item is copied. A source that is fed while this lives copies its tape, once.
+/// What a plant was handed, as it was at one moment: its graph, the tapes of its sources, whether they are closed, and
+/// the settings. It shares the graph and the tapes with the plant, so no item is copied. While it lives, the next feed
+/// of a source copies the tape, once.
 #[derive(Drop)]
 pub struct Handed<B: Block> {
     graph: Arc<Valid<B>, Global>,
@@ -64,8 +65,8 @@ impl<B: Block> Model for Opening<B> {
 }
 
 impl<B: Block> Opening<B> {
-    /// Whether another plant began with the same: an equal graph, the same tapes, closed marks and settings, and as far in each block. Graphs that
-    /// are so equal are one network. It looks at each item once, and takes no memory.
+    /// Whether another plant began with the same: an equal graph, the same tapes, closed marks and settings, and each
+    /// block as far. Graphs that are equal like that are one network. It looks at each item once, and takes no memory.
     pub fn agrees(&self, other: &Opening<B>) -> bool
         ensures nets { IsTrue result → net_of B.meaning self.now.graph ≡ net_of B.meaning other.now.graph }
         ensures same { IsTrue result ↔ ((graphs_agree B.eq self.now.graph other.now.graph ≡ true) × (self.now.state ≡ other.now.state)) }

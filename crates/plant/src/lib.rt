@@ -8,8 +8,8 @@
 //! let piece = plant.read(alloc, sink, 0, u64::MAX)?; // what the sink has taken
 //! ```
 //!
-//! A [`Plant`] has no thread and no clock. Who wants to decide which block acts calls `step`; who wants to work elsewhere claims a [`Job`], does it, and commits
-//! what came of it:
+//! A [`Plant`] has no thread and no clock. To decide which block acts, call `step`. To work elsewhere, claim a [`Job`],
+//! do it, and commit the result:
 //!
 //! ```text
 //! if let Claim::Claimed(job) = plant.claim(alloc, block, 64)? {
@@ -18,10 +18,11 @@
 //! }
 //! ```
 //!
-//! Each call is one of the machine (`stream_model/specs/Machine.antt`): its contract says that the reply and the state after it are the machine's. A call that is
-//! refused changes nothing. Which call is where: `feeds` has what hands something to a block, `claims` and `commits` the firings, `reading` what is shown,
-//! `settle` the loop over all blocks, `waits` why a block cannot act, `handed` what is compared when a plant comes back from elsewhere. All of them are calls of
-//! [`Parts`], of which a plant that streams is made, too.
+//! Each call is one of the machine (`stream_model/specs/Machine.antt`): its contract says that the reply and the state
+//! after it are the machine's. A refused call changes nothing. `feeds` has the calls that hand something to a block,
+//! `claims` and `commits` the firings, `reading` what is shown, `settle` the loop over all blocks, `waits` why a block
+//! cannot act, `handed` what is compared when a plant comes back from elsewhere. All are calls of [`Parts`]. A plant
+//! that streams is made of these too.
 #![tactic(auto)]
 
 pub mod answers;

@@ -26,8 +26,8 @@ struct Fresh {
 }
 
 impl<B: Block> Parts<B> {
-    /// The parts of a graph of which nothing is fed and nothing fired, where a tape may come to hold `longest` items, and is `alone` the plant's or shared with
-    /// copies. If it is out of memory it returns the graph.
+    /// The parts of a graph, with nothing fed and nothing fired. A tape may come to hold `longest` items. It is the
+    /// plant's `alone`, or shared with copies. If memory runs out the graph is returned.
     pub fn open(
         alloc: Global,
         graph: Valid<B>,

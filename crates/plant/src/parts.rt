@@ -1,7 +1,8 @@
 //! What a plant is made of.
 //!
-//! A `Plant` is its `Parts` with an invariant, and each of its calls is one of the parts. So each contract stands twice: here over the parts, where the invariant
-//! is a condition, since in the middle of a call it does not hold (a claim that has no windows yet); there over what a plant shows.
+//! A `Plant` is its `Parts` with an invariant, and each of its calls is one of the parts. So each contract stands
+//! twice. Here it is about the parts, and the invariant is a condition: in the middle of a call it does not hold (a
+//! claim that has no windows yet). There it is about what a plant shows.
 
 use firings::Firings;
 use flowgraph::{Block, Valid};

@@ -61,7 +61,7 @@ impl<B: Block> fmt::Debug for Plant<B> {
     }
 }
 
-// By hand, so that no crate above proves the drop of each part again.
+// Written by hand: crates above need not prove the drop of each part again.
 impl<B: Block> Drop for Plant<B> {
     fn drop(self) {
         let Plant { parts } = self;
@@ -80,8 +80,8 @@ impl<B: Block> Model for Plant<B> {
 }
 
 impl<B: Block> Plant<B> {
-    /// The plant of a graph of which nothing is fed and nothing fired. It computes the rates and allocates the buffers. It fails only where the
-    /// allocator refuses, and then returns the graph.
+    /// The plant of a graph, with nothing fed and nothing fired. It computes the rates and allocates the buffers. It
+    /// fails only if the allocator refuses, and then returns the graph.
     pub fn open(alloc: Global, graph: Valid<B>) -> Result<Plant<B>, (Valid<B>, AllocError)>
         ensures opens { IfOk result (λ plant. plant ≡ opening_plant B.meaning graph) }
         ensures back { IfErr result (λ refusal. refusal.0 ≡ graph) }
@@ -100,14 +100,14 @@ impl<B: Block> Plant<B> {
         &self.parts.graph
     }
 
-    /// A share of the graph, for looking up blocks while the plant is at work elsewhere. It fails where no more shares can be counted.
+    /// A share of the graph, to look up blocks while the plant works elsewhere. It fails if no more can be counted.
     pub fn share_graph(&self) -> Result<Arc<Valid<B>, Global>, AllocError>
         ensures { IfOk result (λ graph. arc_value graph ≡ self.now.graph) }
     {
         Arc::try_clone(&self.parts.graph)
     }
 
-    /// The type of the items that a source takes. `NoSuchBlock`, and `NotSource` of any other block.
+    /// The type of the items that a source takes. Refusals: `NoSuchBlock`, and `NotSource` of any other block.
     pub fn source_type(&self, block: BlockId) -> Result<ItemType, PlantFault>
         ensures { result ≡ source_type_of (net_of B.meaning self.now.graph) block.0 }
     {
@@ -137,8 +137,8 @@ impl<B: Block> Plant<B> {
         self.parts.firings.all_done()
     }
 
-    /// Whether no claim is in flight and each block is done or would wait. It looks at each block. Where the rates are balanced and each
-    /// tape is closed, each block is then done, and each sink holds its whole stream.
+    /// Whether no claim is in flight and each block is done or would wait. It looks at each block. If the rates are
+    /// balanced and each tape is closed, each block is then done, and each sink holds its whole stream.
     pub fn quiet(&self) -> bool
         ensures value { result ≡ is_quiet (net_of B.meaning self.now.graph) self.now.capacities self.now.state }
         ensures whole { result ≡ true → IsSettled (net_of B.meaning self.now.graph) self.now.state }
@@ -152,24 +152,25 @@ impl<B: Block> Plant<B> {
         )
     }
 
-    /// Closes a source's tape, and returns how many items it holds: nothing more comes. Refused are, in this order, `NoSuchBlock`, `NotSource`, and
-    /// `Closed` where it was closed before. It takes no memory.
+    /// Closes a source's tape: nothing more comes. It returns how many items the tape holds. Refusals, in this order:
+    /// `NoSuchBlock`, `NotSource`, and `Closed` if it was closed before. It takes no memory.
     pub fn close(&mut self, source: BlockId) -> Result<Closed, PlantFault>
         ensures { AnsweredAlways (close_of (net_of B.meaning self.old.graph) self.old.state source.0) self.old self.new (reply_of (λ c. machine.Closed c.0) result) }
     {
         self.parts.close(source)
     }
 
-    /// Appends items to a source's tape, with marks on them, at the offsets that these items get. Refused are, in this order, `NoSuchBlock`,
-    /// `NotSource`, `ItemRange` for items of another type, `Closed`, `TagPlace` for a mark on none of the items, `TapeFull` above 2^32 items, and
-    /// `Memory`. An `Err` changes nothing. A tape that a `Handed` or an `Opening` shares is copied first.
+    /// Appends items to a source's tape, with marks at the offsets that these items get. Refusals, in this order:
+    /// `NoSuchBlock`, `NotSource`, `ItemRange` for items of another type, `Closed`, `TagPlace` for a mark on none of
+    /// the items, `TapeFull` above 2^32 items, and `Memory`. An `Err` changes nothing. A tape that a `Handed` or an
+    /// `Opening` shares is copied first.
     pub fn feed(&mut self, source: BlockId, items: Items, marks: &[Mark]) -> Result<Fed, PlantFault>
         ensures { Answered (feed_of (net_of B.meaning self.old.graph) self.old.state source.0 (type_of items) (numbers_of items) (map mark_of marks.now)) self.old self.new (reply_of (λ f. machine.Fed f.0) result) }
     {
         self.feed_from(source, &items, marks)
     }
 
-    /// As `feed`, of items that stay the caller's. `feed` copies them, too.
+    /// Like `feed`, for items that stay the caller's. `feed` copies them too.
     pub fn feed_from(
         &mut self,
         source: BlockId,
@@ -181,8 +182,8 @@ impl<B: Block> Plant<B> {
         self.parts.feed(source, items, marks)
     }
 
-    /// Appends whole numbers to a source's tape, as items of its type, with marks on them. A number outside the type's range is refused
-    /// `ItemRange`, where `feed` refuses items of another type. It makes `Items` of them first, which takes memory. An `Err` changes nothing.
+    /// Appends whole numbers to a source's tape, as items of its type, with marks. Refusals are those of `feed`, with
+    /// `ItemRange` for a number out of range. It makes `Items` first, which takes memory. An `Err` changes nothing.
     pub fn feed_numbers(
         &mut self,
         alloc: Global,
@@ -195,9 +196,10 @@ impl<B: Block> Plant<B> {
         self.parts.feed_numbers(alloc, source, numbers, marks)
     }
 
-    /// Sets the value of a block's setting from item `at` of its first input on, or from the first that is neither taken nor claimed. Refused are,
-    /// in this order, `NoSuchBlock`, `NoSetting`, `WrongSetting` for a value of another sort, range or length, `Late` for an item before that first
-    /// one, and `Memory`. An `Err` changes nothing. A setting that replaces one of the same item needs no memory.
+    /// Sets the value of a block's setting from item `at` of its first input on, or from the first that is neither
+    /// taken nor claimed. Refusals, in this order: `NoSuchBlock`, `NoSetting`, `WrongSetting` for a value of another
+    /// sort, range or length, `Late` for an item before that first one, and `Memory`. An `Err` changes nothing. A
+    /// setting that replaces one at the same item needs no memory.
     pub fn set(
         &mut self,
         block: BlockId,
@@ -211,8 +213,9 @@ impl<B: Block> Plant<B> {
         self.parts.set(block, at, value)
     }
 
-    /// A copy of what a sink holds from item `from` on, at most `max` items, with the tags on them. Refused are, in this order, `NoSuchBlock`,
-    /// `NotSink`, `BeyondEnd` where it holds fewer than `from` items, and `Memory`. A piece that says done comes from a sink that holds all.
+    /// Copies what a sink holds from item `from` on, at most `max` items, with the tags on them. Refusals, in this
+    /// order: `NoSuchBlock`, `NotSink`, `BeyondEnd` if it holds fewer than `from` items, and `Memory`. A piece that
+    /// says done comes from a sink that holds its whole stream.
     pub fn read(
         &self,
         alloc: Global,
@@ -227,8 +230,8 @@ impl<B: Block> Plant<B> {
         self.parts.read(alloc, sink, from, max)
     }
 
-    /// All that a sink holds, with the tags on it, in its place: nothing is copied, and it takes no memory. Refused are `NoSuchBlock` and `NotSink`. A
-    /// view that says done is of a sink that holds all.
+    /// Lends all that a sink holds, with the tags on it. It copies nothing and takes no memory. Refusals:
+    /// `NoSuchBlock`, `NotSink`. A view that says done is of a sink that holds its whole stream.
     pub fn view(&self, sink: BlockId) -> Result<SinkView<'_>, PlantFault>
         ensures answered { reply_of view_reply result ≡ Some (view_of (net_of B.meaning self.now.graph) self.now.state sink.0) }
         ensures typed { IfOk result (λ view. type_of view.items.now ≡ (node_at (net_of B.meaning self.now.graph) sink.0).meaning.inputs.item) }
@@ -237,8 +240,8 @@ impl<B: Block> Plant<B> {
         self.parts.view(sink)
     }
 
-    /// How many unread items the buffer of an output holds at most: the capacity that was asked for, or more where the graph needs more. Refused
-    /// are `NoSuchBlock`, and `NoSuchPort` of an output without a connection. It takes no memory.
+    /// How many unread items the buffer of an output holds at most: the capacity asked for, or more if the graph needs
+    /// it. Refusals: `NoSuchBlock`, and `NoSuchPort` for an output without a connection. It takes no memory.
     pub fn capacity(&self, block: BlockId, port: usize) -> Result<u32, PlantFault>
         ensures refused { fault_in result ≡ port_fault (net_of B.meaning self.now.graph) block.0 port }
         ensures value { IfOk result (λ items. items ≡ capacity_at self.now.capacities block.0 port) }
@@ -246,8 +249,8 @@ impl<B: Block> Plant<B> {
         self.parts.capacity(block, port)
     }
 
-    /// How much the buffer of an output keeps: no more than its capacity and the greatest history of its readers require. Refused are
-    /// `NoSuchBlock`, and `NoSuchPort` of an output without a connection. It takes no memory.
+    /// How much the buffer of an output keeps: no more than its capacity and the greatest history of its readers
+    /// require. Refusals: `NoSuchBlock`, and `NoSuchPort` for an output without a connection. It takes no memory.
     pub fn stored(&self, block: BlockId, port: usize) -> Result<Stored, PlantFault>
         ensures refused { fault_in result ≡ port_fault (net_of B.meaning self.now.graph) block.0 port }
         ensures kept { IfOk result (IsKeptOf (net_of B.meaning self.now.graph) self.now.capacities self.now.state block.0 port) }
@@ -255,8 +258,8 @@ impl<B: Block> Plant<B> {
         self.parts.stored(block, port)
     }
 
-    /// Claims at most `max` firings of a block: as many as there are items for, room for, and left of its limit. It reserves all memory that
-    /// their work and their commit need, so that these take none. Refused are `NoSuchBlock` and `Memory`. An `Err` changes nothing.
+    /// Claims at most `max` firings of a block: as many as there are items for, room for, and left of its limit. It
+    /// reserves all memory of their work and their commit. Refusals: `NoSuchBlock`, `Memory`. An `Err` changes nothing.
     pub fn claim(&mut self, alloc: Global, block: BlockId, max: u32) -> Result<Claim<B>, PlantFault>
         requires { 1 ≤ max }
         ensures answered { Answered (next (net_of B.meaning self.old.graph) self.old.capacities self.old.state (machine.Claim block.0 max)) self.old self.new (reply_of claim_reply result) }
@@ -265,7 +268,7 @@ impl<B: Block> Plant<B> {
         self.parts.claim(alloc, block, max)
     }
 
-    /// Claims at most `max` firings of a block, does their work and commits it. Refused are `NoSuchBlock` and `Memory`. An `Err` changes nothing.
+    /// Does at most `max` firings of a block: claim, work, commit. Refusals as for `claim`. An `Err` changes nothing.
     pub fn step(&mut self, alloc: Global, block: BlockId, max: u32) -> Result<Step, PlantFault>
         requires { 1 ≤ max }
         ensures { Answered (step_of (net_of B.meaning self.old.graph) self.old.capacities self.old.state block.0 max) self.old self.new (reply_of step_reply result) }
@@ -273,9 +276,10 @@ impl<B: Block> Plant<B> {
         self.parts.step(alloc, block, max)
     }
 
-    /// Steps all blocks in turn, writers before readers, at most `max` firings each, again and again, until all are done, or a whole round did nothing: the plant
-    /// is then quiet. Once all are done each sink holds its whole stream, and so it ends where the rates are balanced and each tape is closed.
-    /// Where it is out of memory it stops, and the plant stays where its steps took it.
+    /// Steps all blocks in turn, writers before readers, at most `max` firings each, again and again, until all are
+    /// done, or a whole round did nothing: the plant is then quiet. Once all are done, each sink holds its whole stream.
+    /// It ends like that if the rates are balanced and each tape is closed. If memory runs out it stops, and the plant
+    /// stays where its steps took it.
     pub fn settle(&mut self, alloc: Global, max: u32) -> Result<Settled, AllocError>
         requires idle { is_idle self.old.state ≡ true }
         requires some { 1 ≤ max }
@@ -288,7 +292,7 @@ impl<B: Block> Plant<B> {
         self.settle_watched(alloc, max, &mut Unwatched)
     }
 
-    /// As `settle`; it calls `watch.show` after each round of all blocks, and `watch.end` when it is over, however it ends.
+    /// Like `settle`. It calls `watch.show` after each round of all blocks, and `watch.end` however it ends.
     pub fn settle_watched<W: Watch>(
         &mut self,
         alloc: Global,
@@ -316,8 +320,8 @@ impl<B: Block> Plant<B> {
         self.parts.headway()
     }
 
-    /// What was handed to the plant so far: a share of its graph and of its tapes, and a copy of its settings. It takes memory for blocks and
-    /// settings alone, and fails only where the allocator refuses.
+    /// What was handed to the plant so far: a share of its graph and of its tapes, and a copy of its settings. It takes
+    /// memory only for blocks and settings, and fails only if the allocator refuses.
     pub fn handed(&self, alloc: Global) -> Result<Handed<B>, AllocError>
         ensures graph { IfOk result (λ h. h.graph ≡ self.now.graph) }
         ensures handed { IfOk result (λ h. h.handed ≡ self.now.state.handed) }
@@ -325,8 +329,8 @@ impl<B: Block> Plant<B> {
         self.parts.handed(alloc)
     }
 
-    /// Whether that is what was handed to the plant: an equal graph, block by block by `==`, and the same tapes, closed marks and settings. It
-    /// looks at each item once, and takes no memory. Graphs that are so equal are one network.
+    /// Whether that is what was handed to the plant: an equal graph, block by block by `==`, and the same tapes, closed
+    /// marks and settings. It looks at each item once, and takes no memory. Graphs equal like that are one network.
     pub fn agrees(&self, handed: &Handed<B>) -> bool
         ensures nets { IsTrue result → net_of B.meaning self.now.graph ≡ net_of B.meaning handed.now.graph }
         ensures same { IsTrue result ↔ ((graphs_agree B.eq self.now.graph handed.now.graph ≡ true) × (handed.now.handed ≡ self.now.state.handed)) }
@@ -334,8 +338,7 @@ impl<B: Block> Plant<B> {
         self.parts.agrees(handed)
     }
 
-    /// What was handed to the plant so far, and how far each block is. It takes memory as `handed` does, and fails only where the allocator
-    /// refuses.
+    /// What was handed to the plant so far, and how far each block is. It takes memory and fails as `handed` does.
     pub fn opening(&self, alloc: Global) -> Result<Opening<B>, AllocError>
         ensures graph { IfOk result (λ o. o.graph ≡ self.now.graph) }
         ensures state { IfOk result (λ o. o.state ≡ self.now.state) }
@@ -344,16 +347,17 @@ impl<B: Block> Plant<B> {
         self.parts.opening(alloc)
     }
 
-    /// What a claim of a block would come to, or what it waits for, and of which block. `NoSuchBlock` is refused. Nothing changes, and it takes no
-    /// memory.
+    /// What a claim of a block would come to, or what it waits for, and of which block. Refusal: `NoSuchBlock`. Nothing
+    /// changes, and it takes no memory.
     pub fn need(&self, block: BlockId) -> Result<BlockNeed, PlantFault>
         ensures { wait_in result ≡ need_of (net_of B.meaning self.now.graph) self.now.capacities self.now.state block.0 }
     {
         self.parts.need(block)
     }
 
-    /// Where as many waits lead as there are blocks, from the lowest block that is not done; none where all are done. Where each tape is closed and
-    /// the plant is quiet, the block is on a ring: the waits lead from it back to it, and on the way each block waits for another.
+    /// The block reached after as many waits as there are blocks, from the lowest block that is not done; none if all
+    /// are done. If each tape is closed and the plant is quiet, it is on a ring: the waits lead from it back to it, and
+    /// on the way each block waits for another.
     pub fn ring(&self) -> Option<BlockId>
         ensures value { option_map (λ block. block.0) result ≡ ring_of (net_of B.meaning self.now.graph) self.now.capacities self.now.state }
         ensures comes_back { AreClosed (net_of B.meaning self.now.graph) self.now.state → is_quiet (net_of B.meaning self.now.graph) self.now.capacities self.now.state ≡ true →
@@ -362,25 +366,26 @@ impl<B: Block> Plant<B> {
         self.parts.ring()
     }
 
-    /// Commits a job that was done, and returns how many firings it was of. Work that is not that of the claim in flight of its block comes back,
-    /// and nothing changes: it has to agree with it in the block (by number, by the number of its used outputs, and as a block), first firing,
-    /// count, windows, settings and opening state word. It takes no memory.
+    /// Commits a job that was done, and returns how many firings it had. The work has to be that of its block's claim
+    /// in flight: block (number, number of used outputs, and the block itself), first firing, count, windows, settings
+    /// and opening state word agree. Other work comes back, and nothing changes. It takes no memory.
     pub fn commit(&mut self, worked: Worked<B>) -> Result<Did, Worked<B>>
         ensures { IsTaken (λ d. machine.Did d.0) (commit_of (net_of B.meaning self.old.graph) self.old.state (is_own B.eq self.old.graph worked.graph worked.job.block) worked.job) self.old self.new worked result }
     {
         self.parts.commit(worked)
     }
 
-    /// Gives up a job: its firings are as if never claimed. A job that is not the claim in flight of its block comes back, as from `commit`. It
-    /// takes no memory.
+    /// Gives up a job: its firings are as if never claimed. A job that is not its block's claim in flight comes back,
+    /// as from `commit`. It takes no memory.
     pub fn abandon(&mut self, job: Job<B>) -> Result<(), Job<B>>
         ensures { IsTaken (λ u. machine.Abandoned) (abandon_of (net_of B.meaning self.old.graph) self.old.state (is_own B.eq self.old.graph job.graph job.job.block) job.job) self.old self.new job result }
     {
         self.parts.abandon(job)
     }
 
-    /// Recalls what every plant keeps: the graph can run, the capacities are those of its rates, the state is sound (`Sound`), and whatever
-    /// list of calls is made, each answered as its contract says, replies and state are a run of the machine. It does nothing.
+    /// Recalls what every plant keeps: the graph can run, the capacities are those of its rates, and the state is sound
+    /// (`Sound`). After any list of calls, each answered as its contract says, replies and state are a run of the
+    /// machine. It does nothing.
     pub fn recall(&self)
         ensures runs { CanRun (net_of B.meaning self.now.graph) }
         ensures capacities { self.now.capacities ≡ capacities_of (net_of B.meaning self.now.graph) (balance_of (net_of B.meaning self.now.graph)) }

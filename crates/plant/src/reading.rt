@@ -20,7 +20,7 @@ use std::alloc::Global;
 use stores::Stored;
 
 impl<B: Block> Parts<B> {
-    /// What a sink holds from item `from` on, which is kept, at most `max` items of it, with the tags on them.
+    /// What a sink holds from item `from` on, at most `max` items, with the tags on them. Item `from` is kept.
     pub fn read(
         &self,
         alloc: Global,

@@ -1,4 +1,4 @@
-//! Windows and settings, compared with what is stored without a copy.
+//! Compares windows and settings with what is stored, without a copy.
 
 ghost use Rattle.std.specs.Prelude.{◌≡◌, ◌∷◌, [], ◌*◌, ◌<◌, ◌≤◌, ◌^◌, ◌↔◌, ℕ, ℤ, List, length, map, slice_range, All, IsTrue};
 ghost use Rattle.stream_model.specs.Network.{node_at, taken_by};

@@ -18,9 +18,9 @@ use std::alloc::{AllocError, Global};
 use std::sync::Arc;
 use std::time::Duration;
 
-/// What is shown the progress of a run. Nothing is required of it.
+/// Is shown the progress of a run. It promises nothing.
 pub trait Watch {
-    /// How long a run in threads goes on between two calls of `show`. With `None` there is no such call. `settle` does not ask.
+    /// How long a run in threads goes on between two calls of `show`. With `None` it makes none. `settle` does not ask.
     fn pause(&self) -> Option<Duration>;
 
     /// The plant is so far: after each round of all blocks on one thread, and after each pause in threads.
@@ -29,7 +29,7 @@ pub trait Watch {
     /// `settle` begins a step of this block. A run in threads tells its gate of turns instead.
     fn begins(&mut self, _block: BlockId) {}
 
-    /// The step that `settle` began came to this. There is no such call where memory ran out.
+    /// The result of the step that `settle` began. There is no such call if memory ran out.
     fn stepped(&mut self, _block: BlockId, _step: Step) {}
 
     /// The run is over, however it ended.
@@ -147,8 +147,8 @@ impl<B: Block> Parts<B> {
         }
     }
 
-    /// How many items all sources were fed, and how many of these they have given. Where tapes grow beyond the usual, no number goes beyond the
-    /// greatest of a word.
+    /// How many items all sources were fed, and how many of these they have given. A number that grows beyond a word
+    /// stays at the greatest.
     pub fn headway(&self) -> Headway
         requires { IsRight B.meaning self.now }
         ensures value { let plant = plant_of self.now in KeepsAll (spans_in self.now) → result ≡ headway_of (net_of B.meaning plant.graph) plant.state }

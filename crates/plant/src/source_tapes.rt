@@ -33,7 +33,7 @@ impl Tapes for SourceTapes<'_> {
     }
 }
 
-/// What counts of the tape of a block.
+/// What claims ask about the tape of a block.
 pub fn counts_of(intake: &Intake) -> Tape
     ensures { result ≡ tape_of (handed_of intake.now) }
 {

@@ -30,7 +30,7 @@ impl<B: Block> Parts<B> {
         Ok(self.own_need(block))
     }
 
-    /// Where as many waits lead as there are blocks, from the lowest block that is not done.
+    /// The block reached after as many waits as there are blocks, from the lowest block that is not done.
     pub fn ring(&self) -> Option<BlockId>
         requires { IsRight B.meaning self.now }
         ensures value { let plant = plant_of self.now in option_map (λ block. block.0) result ≡ ring_of (net_of B.meaning plant.graph) plant.capacities plant.state }
@@ -60,7 +60,7 @@ impl<B: Block> Parts<B> {
         None
     }
 
-    // The block that a block waits for, or the block itself where it waits for none.
+    // The block that a block waits for, or the block itself if it waits for none.
     fn next_of(&self, block: BlockId) -> BlockId
         requires right { IsRight B.meaning self.now }
         requires block { block.0 < length (arc_value self.now.graph).blocks }

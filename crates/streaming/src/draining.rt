@@ -1,4 +1,4 @@
-//! What sinks have taken is drained of them.
+//! Drains sinks of what they have taken.
 
 ghost use Rattle.std.specs.Prelude.{◌≡◌, ◌+◌, ◌++◌, ◌<◌, ◌≤◌, length, map, min, true, false, Err, None, IsOk, IfOk, IfErr, OnOk, OnErr, slice_index_or, slice_range, slice_set, vec_len, vec_capacity};
 ghost use Rattle.stream_model.specs.Numbers.{types_agree};
@@ -39,7 +39,7 @@ struct Extent {
     to: u64,
 }
 
-/// A copy of at most `max` items of those that a sink has taken and that were not drained yet, with the tags on them.
+/// A copy of at most `max` items that a sink has taken and that were not drained yet, with the tags on them.
 pub(crate) fn peek<B: Block>(
     parts: &Parts<B>,
     alloc: Global,
@@ -99,7 +99,7 @@ fn drained<B: Block>(parts: &Parts<B>, sink: BlockId) -> u64
     }
 }
 
-/// Takes away what `drain` takes, and gives it to nobody.
+/// Takes away what `drain` takes, and returns nothing of it.
 pub(crate) fn consume<B: Block>(
     parts: &mut Parts<B>,
     sink: BlockId,
@@ -199,8 +199,8 @@ fn extent_of<B: Block>(parts: &Parts<B>, sink: BlockId, max: u64) -> Result<Exte
     Ok(Extent { appended, to })
 }
 
-// Appends items `from` to below `to` of what a sink has collected, which are kept, with the tags on them. `ItemRange` where the items are of another
-// type, and `Memory`; then nothing is appended.
+// Appends items `from` to below `to` of what a sink has collected, with the tags on them. These items are kept.
+// `ItemRange` if the items are of another type, and `Memory`; then nothing is appended.
 fn append(
     collected: &Recording,
     from: u64,

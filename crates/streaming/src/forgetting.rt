@@ -1,4 +1,4 @@
-//! What sources have taken of their tapes is forgotten, and the settings that no item is read with any more.
+//! Forgets what sources have taken of their tapes, and settings that no future item can use.
 
 ghost use Rattle.std.specs.Prelude.{◌≡◌, ◌<◌, ◌≤◌, ℕ, All, length, true, false, IsSome, slice_index_or};
 ghost use Rattle.std.specs.Arc.{arc_value};
@@ -10,7 +10,7 @@ ghost use Rattle.plant.specs.Plant.{IsRight, plant_of, spans_in};
 use flowgraph::{Block, BlockId};
 use plant::Parts;
 
-/// Forgets what each source has taken of its tape, and of each other block the settings that none of its items is read with any more.
+/// Forgets what each source has taken of its tape, and of each other block the settings that no future item can use.
 pub(crate) fn forget_taken<B: Block>(parts: &mut Parts<B>)
     requires right { IsRight B.meaning parts.old }
     requires own { All (λ o. o ≡ true) (spans_in parts.old).own }
@@ -74,7 +74,7 @@ fn forget_tape<B: Block>(parts: &mut Parts<B>, block: BlockId)
     parts.stores.handed[block.0 as usize].forget(taken);
 }
 
-// Forgets the settings that no item that a block has not taken is read with.
+// Forgets the settings that no future item of a block can use.
 fn forget_settings<B: Block>(parts: &mut Parts<B>, block: BlockId)
     requires right { IsRight B.meaning parts.old }
     requires block { block.0 < length (arc_value parts.old.graph).blocks }

@@ -1,4 +1,4 @@
-//! Rounds of which helpers do a part.
+//! Rounds in which helpers do a part of the work.
 
 ghost use Rattle.std.specs.Prelude.{◌≡◌, ◌<◌, ◌≤◌, ℕ, length, true, IfOk};
 ghost use Rattle.std.specs.Arc.{arc_value};
@@ -15,11 +15,13 @@ use plant::{Claim, Job, Parts, Step, Worked};
 use std::alloc::{AllocError, Global};
 use std::sync::Arc;
 
-// How often a round with helpers looks at each block. A sink takes at most what its buffer holds each time, so that this bounds what a round adds to it.
+// How often a round with helpers looks at each block. A sink takes at most what its buffer holds each time, so this
+// bounds what a round adds to it.
 const LOOKS: u32 = 256;
 
-/// Steps each block once, and returns whether one moved on. Where helpers are called, it then has them work until nobody has anything to do, or the caller is
-/// wanted elsewhere, or for as many looks at each block as there may be. When it returns, nothing is in flight.
+/// Steps each block once, and returns whether one moved on. If helpers are called, they then work until nobody has
+/// anything to do, the caller is wanted elsewhere, or each block was looked at as often as a round may. When it
+/// returns, nothing is in flight.
 pub(crate) fn helped_round<B: Block, H: Helpers<Job<B>, Worked<B>>>(
     parts: &mut Parts<B>,
     alloc: Global,
@@ -43,7 +45,7 @@ pub(crate) fn helped_round<B: Block, H: Helpers<Job<B>, Worked<B>>>(
     Ok(moved)
 }
 
-// Has helpers work, and takes back or gives up all that they were given.
+// Lets helpers work, and takes back or gives up all that they were given.
 fn help<B: Block, H: Helpers<Job<B>, Worked<B>>>(
     parts: &mut Parts<B>,
     alloc: Global,
@@ -80,7 +82,8 @@ fn look_again<B: Block, H: Helpers<Job<B>, Worked<B>>>(
     Ok(())
 }
 
-// Looks at each block once, writers before readers, and returns whether something was done or given away: nothing where the caller is wanted elsewhere.
+// Looks at each block once, writers before readers, and returns whether something was done or given away; false as soon
+// as the caller is wanted elsewhere.
 fn look<B: Block, H: Helpers<Job<B>, Worked<B>>>(
     parts: &mut Parts<B>,
     alloc: Global,
@@ -141,7 +144,8 @@ fn step<B: Block>(
     }
 }
 
-// Claims firings of a block for a helper, and returns whether there were some. Where no helper is free, they are done here.
+// Claims firings of a block for a helper, and returns whether there were some. If no helper is free, they are done
+// here.
 fn give_away<B: Block, H: Helpers<Job<B>, Worked<B>>>(
     parts: &mut Parts<B>,
     alloc: Global,
@@ -165,7 +169,7 @@ fn give_away<B: Block, H: Helpers<Job<B>, Worked<B>>>(
     }
 }
 
-// Commits work, and returns whether it was of a claim in flight. Other work is dropped.
+// Commits work of a claim in flight, and returns whether it was. Drops other work.
 fn take_back<B: Block>(parts: &mut Parts<B>, work: Worked<B>) -> bool
     requires right { IsRight B.meaning parts.old }
     ensures { (most : ℕ) → IsLedOn B.meaning most parts.old parts.new }
@@ -173,7 +177,7 @@ fn take_back<B: Block>(parts: &mut Parts<B>, work: Worked<B>) -> bool
     parts.commit(work).is_ok()
 }
 
-// Commits work that is done, if there is some, and returns whether it was of a claim in flight.
+// Commits the next work that is done, if there is some, and returns whether it was of a claim in flight.
 fn take_done<B: Block, H: Helpers<Job<B>, Worked<B>>>(parts: &mut Parts<B>, helpers: &mut H) -> bool
     requires right { IsRight B.meaning parts.old }
     ensures { (most : ℕ) → IsLedOn B.meaning most parts.old parts.new }
@@ -198,7 +202,7 @@ fn take_next<B: Block, H: Helpers<Job<B>, Worked<B>>>(parts: &mut Parts<B>, help
     }
 }
 
-// Commits all work that is still to come.
+// Commits all work that still comes.
 fn take_all_back<B: Block, H: Helpers<Job<B>, Worked<B>>>(parts: &mut Parts<B>, helpers: &mut H)
     requires right { IsRight B.meaning parts.old }
     ensures { (most : ℕ) → IsLedOn B.meaning most parts.old parts.new }

@@ -12,7 +12,7 @@ ghost use Rattle.streaming.specs.Levels.{first_writer, levels_at, levels_by};
 use flowgraph::{Block, BlockId};
 use plant::{Parts, PlantFault};
 
-/// How far a block is, in items of the streams from their beginnings on.
+/// How far a block is, in items from the beginnings of the streams on.
 #[derive(Clone, Copy, Debug, PartialEq, Eq)]
 pub struct Levels {
     /// How many items it has taken of its first input; a source, of its tape.
@@ -51,7 +51,7 @@ fn writer_of_first<B: Block>(parts: &Parts<B>, block: BlockId) -> Option<BlockId
     }
 }
 
-// How far a source is, of which a firing gives one item.
+// How far a source is; each of its firings gives one item.
 fn of_source<B: Block>(parts: &Parts<B>, block: BlockId) -> Levels
     requires right { IsRight B.meaning parts.now }
     requires block { block.0 < length (arc_value parts.now.graph).blocks }
@@ -67,7 +67,7 @@ fn of_source<B: Block>(parts: &Parts<B>, block: BlockId) -> Levels
     }
 }
 
-// How far a block is whose first input this one writes.
+// How far a block is, whose first input another block writes.
 fn of_reader<B: Block>(parts: &Parts<B>, block: BlockId, writer: BlockId) -> Levels
     requires right { IsRight B.meaning parts.now }
     requires block { block.0 < length (arc_value parts.now.graph).blocks }

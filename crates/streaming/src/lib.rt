@@ -1,5 +1,5 @@
-//! A plant that streams: it forgets what its sources have taken and what was drained of its sinks, so that it runs in constant memory for as long
-//! as it is fed.
+//! A plant that streams. It forgets what its sources have taken and what was drained of its sinks, so it runs in
+//! constant memory for as long as it is fed.
 //!
 //! ```text
 //! let mut plant = StreamingPlant::open(alloc, graph)?;
@@ -10,8 +10,8 @@
 //! }
 //! ```
 //!
-//! What is drained of a sink, piece after piece, is a beginning of the one stream that the equations of the blocks give for all that was ever fed, and
-//! the whole of it when the sink is done.
+//! The pieces drained of a sink are a beginning of the one stream that the blocks' equations give for all that was ever
+//! fed. They are all of it when the sink is done.
 #![tactic(auto)]
 
 pub mod draining;

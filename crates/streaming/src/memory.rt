@@ -39,7 +39,7 @@ pub(crate) fn items_in_memory<B: Block>(parts: &Parts<B>, block: BlockId) -> usi
     }
 }
 
-/// How many tags are in memory of these: just those on items that are kept.
+/// How many of their tags are in memory: just those on items that are kept.
 pub(crate) fn tags_in_memory<B: Block>(parts: &Parts<B>, block: BlockId) -> usize
     requires { IsRight B.meaning parts.now }
     ensures source { let plant = plant_of parts.now in let net = net_of B.meaning plant.graph in block.0 < length net.nodes → is_source (role_at net block.0) ≡ true →
@@ -59,8 +59,8 @@ pub(crate) fn tags_in_memory<B: Block>(parts: &Parts<B>, block: BlockId) -> usiz
     }
 }
 
-/// How many settings of a block are in memory: all that may still be read, no more than were made, and at most one more than were made at the first item that may
-/// read them or later.
+/// How many settings of a block are in memory: all that may still be read, no more than were made, and at most one made
+/// before the first item that may read them.
 pub(crate) fn settings_in_memory<B: Block>(parts: &Parts<B>, block: BlockId) -> usize
     requires { IsRight B.meaning parts.now }
     ensures read { let plant = plant_of parts.now in let net = net_of B.meaning plant.graph in let made = (handed_at plant.state.handed block.0).settings in

@@ -51,8 +51,8 @@ use tags::Tag;
 
 /// A flowgraph that runs in constant memory, for as long as it is fed. A contract sees it as a plant that forgets nothing, with how much is kept.
 ///
-/// In memory are the buffers, what was fed and not taken by its source, and what a sink took and was not drained; what was forgotten of these makes it at
-/// most twice as many items. Memory that was taken is kept for what comes, so it is that of the longest piece so far.
+/// In memory are the buffers, what was fed and not taken by its source, and what a sink took and was not drained.
+/// Memory is at most twice what is still needed. The memory of the longest piece so far stays for what comes.
 pub struct StreamingPlant<B: Block> {
     parts: Parts<B>,
 }
@@ -63,7 +63,7 @@ impl<B: Block> fmt::Debug for StreamingPlant<B> {
     }
 }
 
-// By hand, so that no crate above proves the drop of each part again.
+// Written by hand: crates above need not prove the drop of each part again.
 impl<B: Block> Drop for StreamingPlant<B> {
     fn drop(self) {
         let StreamingPlant { parts } = self;
@@ -83,8 +83,9 @@ impl<B: Block> Model for StreamingPlant<B> {
 }
 
 impl<B: Block> StreamingPlant<B> {
-    /// The plant of a graph of which nothing is fed and nothing fired. It computes the rates and allocates the buffers. A source takes 2^61 items,
-    /// divided by the greatest gain of the graph. It fails only where the allocator refuses, and then returns the graph.
+    /// The plant of a graph, with nothing fed and nothing fired. It computes the rates and allocates the buffers. A
+    /// source takes 2^61 items divided by the greatest gain. It fails only if the allocator refuses, and returns the
+    /// graph.
     pub fn open(alloc: Global, graph: Valid<B>) -> Result<StreamingPlant<B>, (Valid<B>, AllocError)>
         ensures opens { IfOk result (λ plant. plant.plant ≡ streaming_opening B.meaning graph) }
         ensures none { IfOk result (λ plant. ForgetsNone plant.kept) }
@@ -104,7 +105,7 @@ impl<B: Block> StreamingPlant<B> {
         &self.parts.graph
     }
 
-    /// The type of the items that a source takes. `NoSuchBlock`, and `NotSource` of any other block.
+    /// The type of the items that a source takes. Refusals: `NoSuchBlock`, and `NotSource` of any other block.
     pub fn source_type(&self, block: BlockId) -> Result<ItemType, PlantFault>
         ensures { result ≡ source_type_of (net_of B.meaning self.now.plant.graph) block.0 }
     {
@@ -120,9 +121,9 @@ impl<B: Block> StreamingPlant<B> {
         self.parts.firings.all_done()
     }
 
-    /// Appends items to what a source is fed, with marks on them, at the offsets that these items get. Refused are, in this order, `NoSuchBlock`,
-    /// `NotSource`, `ItemRange` for items of another type, `Closed`, `TagPlace` for a mark on none of the items, `TapeFull` where the source would be
-    /// fed more than it takes, and `Memory`. An `Err` changes nothing.
+    /// Appends items to what a source is fed, with marks at the offsets that these items get. Refusals, in this order:
+    /// `NoSuchBlock`, `NotSource`, `ItemRange` for items of another type, `Closed`, `TagPlace` for a mark on none of
+    /// the items, `TapeFull` if the source would be fed more than it takes, and `Memory`. An `Err` changes nothing.
     pub fn feed(
         &mut self,
         source: BlockId,
@@ -135,8 +136,9 @@ impl<B: Block> StreamingPlant<B> {
         self.parts.feed(source, items, marks)
     }
 
-    /// Appends whole numbers to what a source is fed, as items of its type, with marks on them. A number outside the type's range is refused
-    /// `ItemRange`, where `feed` refuses items of another type. It makes `Items` of them first, which takes memory. An `Err` changes nothing.
+    /// Appends whole numbers to what a source is fed, as items of its type, with marks. Refusals are those of `feed`,
+    /// with `ItemRange` for a number out of range. It makes `Items` first, which takes memory. An `Err` changes
+    /// nothing.
     pub fn feed_numbers(
         &mut self,
         alloc: Global,
@@ -150,8 +152,8 @@ impl<B: Block> StreamingPlant<B> {
         self.parts.feed_numbers(alloc, source, numbers, marks)
     }
 
-    /// Says that nothing more comes to a source, and returns how many items it was fed. Refused are, in this order, `NoSuchBlock`, `NotSource`, and
-    /// `Closed` where it was said before. It takes no memory.
+    /// Closes a source: nothing more comes. It returns how many items the source was fed. Refusals, in this order:
+    /// `NoSuchBlock`, `NotSource`, and `Closed` if it was closed before. It takes no memory.
     pub fn close(&mut self, source: BlockId) -> Result<Closed, PlantFault>
         ensures answered { AnsweredAlways (close_of (net_of B.meaning self.old.plant.graph) self.old.plant.state source.0) self.old.plant self.new.plant (reply_of (λ c. machine.Closed c.0) result) }
         ensures kept { self.new.kept ≡ self.old.kept }
@@ -175,7 +177,7 @@ impl<B: Block> StreamingPlant<B> {
         self.parts.set(block, at, value)
     }
 
-    /// Has a block do at most `max` firings, as `Plant::step` does. What a source has taken so stays in memory until `release` or `settle`.
+    /// Like `Plant::step`. What a source takes by it stays in memory until `release` or `settle`.
     pub fn step(&mut self, alloc: Global, block: BlockId, max: u32) -> Result<Step, PlantFault>
         requires { 1 ≤ max }
         ensures answered { Answered (step_of (net_of B.meaning self.old.plant.graph) self.old.plant.capacities self.old.plant.state block.0 max) self.old.plant self.new.plant (reply_of step_reply result) }
@@ -185,7 +187,7 @@ impl<B: Block> StreamingPlant<B> {
         self.parts.step(alloc, block, max)
     }
 
-    /// Forgets all that sources have taken, and the settings that no item is read with any more. It takes no memory.
+    /// Forgets all that sources have taken, and settings that no future item can use. It takes no memory.
     pub fn release(&mut self)
         ensures plant { self.new.plant ≡ self.old.plant }
         ensures sinks { self.new.kept.sinks ≡ self.old.kept.sinks }
@@ -194,8 +196,9 @@ impl<B: Block> StreamingPlant<B> {
         forget_taken(&mut self.parts);
     }
 
-    /// Steps all blocks in turn, writers before readers, at most `max` firings each, again and again, until all are done, or a whole round did nothing. Then it
-    /// forgets what sources have taken, and settings that are past. Where it is out of memory it stops, and stays where its steps took it.
+    /// Steps all blocks in turn, writers before readers, at most `max` firings each, until all are done or a whole
+    /// round did nothing. Then it forgets what sources have taken, and past settings. If memory runs out it stops where
+    /// its steps took it.
     pub fn settle(&mut self, alloc: Global, max: u32) -> Result<Settled, AllocError>
         requires { 1 ≤ max }
         ensures same { self.new.plant ≡ record self.old.plant { state = self.new.plant.state } }
@@ -210,9 +213,9 @@ impl<B: Block> StreamingPlant<B> {
         Ok(settled)
     }
 
-    /// Steps each block once, writers before readers, at most `max` firings each, forgets what sources have taken, and returns whether a block moved on. It is
-    /// for a caller who has more to do than to settle: where none moved on, the plant is quiet. Where it is out of memory it stops, and stays where
-    /// its steps took it.
+    /// Steps each block once, writers before readers, at most `max` firings each, forgets what sources have taken, and
+    /// returns whether a block moved on. It is for a caller who has more to do than to settle. If no block moved on, the
+    /// plant is quiet. If memory runs out it stops, and the plant stays where its steps took it.
     pub fn round(&mut self, alloc: Global, max: u32) -> Result<bool, AllocError>
         requires { 1 ≤ max }
         ensures same { self.new.plant ≡ record self.old.plant { state = self.new.plant.state } }
@@ -226,8 +229,8 @@ impl<B: Block> StreamingPlant<B> {
         Ok(moved)
     }
 
-    /// As `round`; and where helpers are called, they do the work of some blocks meanwhile, which so may fire more often. When it returns, all that they were
-    /// given has come back, or was given up.
+    /// Like `round`. Helpers that are called do the work of some blocks meanwhile, which may then fire more often. When
+    /// it returns, all that helpers were given has come back, or was given up.
     pub fn round_with<H: Helpers<Job<B>, Worked<B>>>(
         &mut self,
         alloc: Global,
@@ -245,9 +248,9 @@ impl<B: Block> StreamingPlant<B> {
         Ok(moved)
     }
 
-    /// Takes at most `max` items away of those that a sink has taken and that were not drained yet, with the tags on them. Refused are, in this
-    /// order, `NoSuchBlock`, `NotSink`, and `Memory`; an `Err` changes nothing. A piece that says done comes from a sink that has taken its whole
-    /// stream.
+    /// Takes away at most `max` undrained items of a sink, with the tags on them. Refusals, in this order:
+    /// `NoSuchBlock`, `NotSink`, `Memory`. An `Err` changes nothing. A piece that says done is of a sink that took its
+    /// whole stream.
     pub fn drain(&mut self, alloc: Global, sink: BlockId, max: u64) -> Result<Piece, PlantFault>
         ensures answered { AnsweredBy (read_of (net_of B.meaning self.old.plant.graph) self.old.plant.state sink.0 (drained self.old sink.0) max) (reply_of piece_reply result) }
         ensures typed { IfOk result (λ piece. type_of piece.items ≡ (node_at (net_of B.meaning self.old.plant.graph) sink.0).meaning.inputs.item) }
@@ -259,7 +262,7 @@ impl<B: Block> StreamingPlant<B> {
         drain(&mut self.parts, alloc, sink, max)
     }
 
-    /// A copy of what `drain` would take away, which stays. Refused are, in this order, `NoSuchBlock`, `NotSink`, and `Memory`.
+    /// Copies what `drain` would take away, and leaves it there. Refusals are those of `drain`.
     pub fn peek(&self, alloc: Global, sink: BlockId, max: u64) -> Result<Piece, PlantFault>
         ensures answered { AnsweredBy (read_of (net_of B.meaning self.now.plant.graph) self.now.plant.state sink.0 (drained self.now sink.0) max) (reply_of piece_reply result) }
         ensures typed { IfOk result (λ piece. type_of piece.items ≡ (node_at (net_of B.meaning self.now.plant.graph) sink.0).meaning.inputs.item) }
@@ -269,8 +272,8 @@ impl<B: Block> StreamingPlant<B> {
         peek(&self.parts, alloc, sink, max)
     }
 
-    /// Takes away what `drain` would take, and gives it to nobody, as where `peek` has shown it. Refused are, in this order, `NoSuchBlock` and
-    /// `NotSink`; an `Err` changes nothing. It takes no memory.
+    /// Takes away what `drain` would take, and returns nothing of it: `peek` may have shown it. Refusals, in this
+    /// order: `NoSuchBlock`, `NotSink`. An `Err` changes nothing. It takes no memory.
     pub fn consume(&mut self, sink: BlockId, max: u64) -> Result<Appended, PlantFault>
         ensures absent { length (net_of B.meaning self.old.plant.graph).nodes ≤ sink.0 → result ≡ Err NoSuchBlock }
         ensures no_sink { let net = net_of B.meaning self.old.plant.graph in sink.0 < length net.nodes → is_keeper (role_at net sink.0) ≡ false → result ≡ Err NotSink }
@@ -283,9 +286,9 @@ impl<B: Block> StreamingPlant<B> {
         consume(&mut self.parts, sink, max)
     }
 
-    /// Takes away what `drain` takes, and appends it to items of the sink's type and to tags, so that a caller uses the same memory again and again:
-    /// where there is room, it takes none. Refused are, in this order, `NoSuchBlock`, `NotSink`, `ItemRange` for items of another type, and `Memory`;
-    /// an `Err` changes nothing.
+    /// Takes away what `drain` takes, and appends it to items of the sink's type and to tags, so a caller can use the
+    /// same memory again and again. It takes none if there is room. Refusals, in this order: `NoSuchBlock`, `NotSink`,
+    /// `ItemRange` for items of another type, `Memory`. An `Err` changes nothing.
     pub fn drain_into(
         &mut self,
         sink: BlockId,
@@ -310,24 +313,23 @@ impl<B: Block> StreamingPlant<B> {
         drain_into(&mut self.parts, sink, max, items, tags)
     }
 
-    /// What a step of a block would come to, or what it waits for, and of which block. `NoSuchBlock` is refused. Nothing changes, and it takes no
-    /// memory.
+    /// What a step of a block would come to, or what it waits for, as `Plant::need` tells it. It takes no memory.
     pub fn need(&self, block: BlockId) -> Result<BlockNeed, PlantFault>
         ensures { wait_in result ≡ need_of (net_of B.meaning self.now.plant.graph) self.now.plant.capacities self.now.plant.state block.0 }
     {
         self.parts.need(block)
     }
 
-    /// How far a block is: what it has taken of its first input, what it has given, and what has come to that input and is not taken. `NoSuchBlock` is refused.
-    /// Nothing changes, and it takes no memory.
+    /// How far a block is: how much it has taken of its first input, how much it has given, and how much waits at that
+    /// input. Refusal: `NoSuchBlock`. Nothing changes, and it takes no memory.
     pub fn levels(&self, block: BlockId) -> Result<Levels, PlantFault>
         ensures { result ≡ levels_at (net_of B.meaning self.now.plant.graph) self.now.plant.state block.0 }
     {
         read_levels(&self.parts, block)
     }
 
-    /// How many items all sources were fed, and how many of these they have given, with those that are forgotten: where the numbers grow beyond 64 bits, they
-    /// stay there. It looks at each block, and takes no memory.
+    /// How many items all sources were fed, and how many of these they have given, forgotten ones too. Numbers beyond
+    /// 64 bits stay at the greatest. It looks at each block, and takes no memory.
     pub fn headway(&self) -> Headway
         ensures value { result ≡ headway_shown (net_of B.meaning self.now.plant.graph) self.now.plant.state }
         ensures within { result.given ≤ result.fed }
@@ -335,15 +337,15 @@ impl<B: Block> StreamingPlant<B> {
         self.parts.headway()
     }
 
-    /// Where as many waits lead as there are blocks, from the lowest block that is not done; none where all are done. It takes no memory.
+    /// The block that the waits lead to, as `Plant::ring` tells it; none if all are done. It takes no memory.
     pub fn ring(&self) -> Option<BlockId>
         ensures { option_map (λ block. block.0) result ≡ ring_of (net_of B.meaning self.now.plant.graph) self.now.plant.capacities self.now.plant.state }
     {
         self.parts.ring()
     }
 
-    /// How many items are in memory of what a source was fed, or of what a sink has taken: all that are kept, and at most twice as many. There are none of
-    /// any other block, whose outputs have buffers.
+    /// How many items are in memory of what a source was fed, or of what a sink has taken: all that are kept, and at
+    /// most twice as many. Any other block has none; its outputs have buffers.
     pub fn items_in_memory(&self, block: BlockId) -> usize
         ensures source { let net = net_of B.meaning self.now.plant.graph in block.0 < length net.nodes → is_source (role_at net block.0) ≡ true →
             result ≤ 2 * (length (handed_at self.now.plant.state.handed block.0).tape - tape_kept self.now block.0) }
@@ -357,7 +359,7 @@ impl<B: Block> StreamingPlant<B> {
         items_in_memory(&self.parts, block)
     }
 
-    /// How many tags are in memory of these: just those on items that are kept, of what a source was fed or of what a sink has taken.
+    /// How many tags are in memory of what a source was fed or a sink has taken: just those on kept items.
     pub fn tags_in_memory(&self, block: BlockId) -> usize
         ensures source { let net = net_of B.meaning self.now.plant.graph in block.0 < length net.nodes → is_source (role_at net block.0) ≡ true →
             result ≡ length (tags_from (tape_kept self.now block.0) (handed_at self.now.plant.state.handed block.0).tags) }
@@ -367,8 +369,8 @@ impl<B: Block> StreamingPlant<B> {
         tags_in_memory(&self.parts, block)
     }
 
-    /// How many settings of a block are in memory: all that may still be read, no more than were made, and at most one more than were made at the first item
-    /// that may read them or later. That one was in force there as what is past was forgotten, and stays until that is done again.
+    /// How many settings of a block are in memory: all that may still be read, no more than were made, and at most one
+    /// made before the first item that may read them: the one in force there at the last forgetting.
     pub fn settings_in_memory(&self, block: BlockId) -> usize
         ensures read { let net = net_of B.meaning self.now.plant.graph in let made = (handed_at self.now.plant.state.handed block.0).settings in
             (own : model.Value) → block.0 < length net.nodes → (node_at net block.0).meaning.own ≡ Some own →
@@ -379,9 +381,10 @@ impl<B: Block> StreamingPlant<B> {
         settings_in_memory(&self.parts, block)
     }
 
-    /// Recalls what every plant that streams keeps: the graph can run, the state is sound (`Sound`), nothing is in flight, each block has a place for how much
-    /// was drained of it, no more was drained of a sink than it has taken, and whatever is called later, what was drained stays the beginning of the one stream
-    /// that the equations of the blocks give. It does nothing.
+    /// Recalls what every plant that streams keeps: the graph can run, the state is sound (`Sound`), nothing is in
+    /// flight, each block has a place for how much was drained of it, and that is no more than a sink has taken.
+    /// Whatever is called later, what was drained stays the beginning of the one stream that the equations give. It
+    /// does nothing.
     pub fn recall(&self)
         ensures runs { CanRun (net_of B.meaning self.now.plant.graph) }
         ensures sound { Sound (net_of B.meaning self.now.plant.graph) self.now.plant.capacities self.now.plant.state }

@@ -20,9 +20,10 @@ use std::sync::Wait;
 use std::thread::Threads;
 use std::time::Clock;
 
-/// Runs a plant to its end in as many threads as its work is worth, and waits for that: on the caller's own and, once the work of several blocks is found
-/// to be worth it, in up to one a processor. It calls `watch.show` where a pause is over, now and then while the run is on one thread, and then
-/// `watch.end`, however the run ends.
+/// Runs a plant to its end in as many threads as its work is worth, and waits for the end. It begins on the caller's
+/// own thread. Once the work of several blocks is worth it, it takes up to one thread a processor. It calls
+/// `watch.show` after each pause, only now and then while the run is on one thread, and `watch.end` however the run
+/// ends.
 pub fn run_adaptive<
     B: Block + Send + Sync + 'static,
     G: Gate + Drop + Send + Sync + 'static,
@@ -53,7 +54,7 @@ where
     outcome
 }
 
-// How a run goes on whose rounds on one thread ended so.
+// How a run goes on after its rounds on one thread.
 fn went_on<
     B: Block + Send + Sync + 'static,
     G: Gate + Drop + Send + Sync + 'static,
@@ -83,7 +84,7 @@ where
     }
 }
 
-// Runs a plant in a pool of threads, of which the caller's is the first.
+// Runs a plant in a pool of threads. The caller's is the first.
 fn in_pool<
     B: Block + Send + Sync + 'static,
     G: Gate + Drop + Send + Sync + 'static,

@@ -26,8 +26,8 @@ pub enum Ended {
     Splits(NumberSet),
 }
 
-/// Steps all blocks in turn, writers before readers, again and again, and tells the gate of each step. Where a round is timed and its pause is over, `watch` is shown
-/// how far the plant is.
+/// Steps all blocks in turn, writers before readers, again and again, and tells the gate of each step. After a timed
+/// round whose pause is over it shows `watch` how far the plant is.
 pub fn settle_alone<B: Block, R: Clock, G: Gate, W: Watch>(
     rt: &R,
     alloc: Global,
@@ -132,7 +132,7 @@ fn turn_of<B: Block, R: Clock, G: Gate>(
     Ok(seen)
 }
 
-// Steps a block, and times it where that is wanted.
+// Steps a block, and times it if that is wanted.
 fn step_seen<B: Block, R: Clock>(
     rt: &R,
     alloc: Global,
@@ -178,7 +178,7 @@ fn stepped<B: Block>(
     plant.step(alloc, block, most)
 }
 
-// A step, and how many nanoseconds its work took, and its claim with its commit.
+// A step, and how many nanoseconds its work, and its claim with its commit, took.
 #[derive(Clone, Copy)]
 struct Weighed {
     step: Step,

@@ -1,4 +1,4 @@
-//! A run in threads in which callers make calls of the plant.
+//! Runs in threads, with callers that make calls of the plant.
 
 ghost use Rattle.std.specs.Prelude.{◌≡◌, ◌≤◌, map, true, not, Some, IfOk, IfErr, IfSome, vec_len};
 ghost use Rattle.std.specs.Option.{is_some};
@@ -36,7 +36,8 @@ use std::time::Clock;
 pub struct Finished<B: Block, C: Drop> {
     /// How it ended, with the plant.
     pub outcome: Outcome<B>,
-    /// Each claim that handed out firings or found its block done, each commit, and each call of a caller that was not out of memory, in one order.
+    /// In one order: each claim that handed out firings or found its block done, each commit, and each call of a caller
+    /// that did not run out of memory.
     pub history: Vec<Entry>,
     /// For each caller the entries of its calls, in their order.
     pub logs: Vec<Vec<Entry>>,
@@ -46,9 +47,10 @@ pub struct Finished<B: Block, C: Drop> {
     pub turns: Turns,
 }
 
-/// Starts a worker for each block of a plant that has no claim in flight, and a thread for each of at most 16 callers, with a desk of its own, and
-/// waits for all of them. Once all callers have returned, the workers go on until all blocks are done or none can act; where a caller asks for a
-/// stop, they leave after their commits. The history takes memory for each entry. Fails as `Running::wait` does, and with `RunFault::Thread`.
+/// Starts a worker for each block of a plant that has no claim in flight, and a thread for each of at most 16 callers,
+/// with a desk of its own, and waits for all of them. Once all callers have returned, the workers go on until all
+/// blocks are done or none can act. If a caller asks for a stop, they leave after their commits. The history takes
+/// memory for each entry. Fails as `Running::wait` does, and with `RunFault::Thread`.
 pub fn live<
     B: Block + Send + Sync,
     G: Gate + Drop + Send + Sync,
@@ -82,10 +84,12 @@ where
     live_with(rt, alloc, plant, callers, options, &mut Unwatched)
 }
 
-/// As `live`, but as these options say: with a worker for each block, or in as many threads as the work is worth, which are the caller's own, and, once
-/// the work of several blocks is found to be worth it, up to one a processor; each of the callers has its own beside them. What is stepped is recorded as
-/// its claim and its commit. Once all callers have returned it calls `watch.show` after each pause until the run ends, and then `watch.end`. Fails as
-/// `live` does; where threads are started as the work is worth it, with `RunFault::Thread` only if that of a caller could not be started.
+/// Like `live`, as these options say: with a worker for each block, or in as many threads as the work is worth. The
+/// latter begins on the caller's own thread. Once the work of several blocks is worth it, it takes up to one thread a
+/// processor. Each caller has a thread of its own beside them. A step is recorded as its claim and its commit. Once all
+/// callers have returned it calls `watch.show` after each pause until the run ends, and then `watch.end`. Fails as
+/// `live` does. In as many threads as the work is worth, `RunFault::Thread` comes only if the thread of a caller could
+/// not be started.
 pub fn live_with<
     B: Block + Send + Sync,
     G: Gate + Drop + Send + Sync,
@@ -131,7 +135,7 @@ where
     ended(locked.into_inner(), &opening, came, turns)
 }
 
-// Runs all threads and returns once they have ended: with what the callers left, where each thread could be started.
+// Runs all threads and returns once they have ended: with what the callers left, if each thread could be started.
 fn in_scope<
     B: Block + Send + Sync,
     G: Gate + Drop + Send + Sync,
@@ -179,7 +183,7 @@ where
     )
 }
 
-// How a run ended that left this.
+// How the run ended, by what it left.
 fn ended<B: Block, C: Drop>(
     locked: Locked<B>,
     opening: &Opening<B>,

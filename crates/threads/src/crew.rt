@@ -13,12 +13,12 @@ use std::alloc::{AllocError, Global};
 pub enum Crew {
     /// A worker for each.
     Workers,
-    /// A pool of threads for all. Of these blocks it is known that they are heavy.
+    /// A pool of threads for all. These blocks are known to be heavy.
     Pool(NumberSet),
 }
 
 impl Crew {
-    /// Who acts where nothing is known of the blocks as yet.
+    /// Who acts while nothing is known of the blocks yet.
     pub fn new(threading: Threading) -> Crew {
         match threading {
             Threading::PerBlock => Crew::Workers,
@@ -26,7 +26,7 @@ impl Crew {
         }
     }
 
-    /// What is known under the lock of who waits and who acts, where turns have such a length.
+    /// What the lock guards of who waits and who acts, for turns of this length.
     pub fn waiting_and_pool<B: Block>(
         self,
         alloc: Global,

@@ -24,8 +24,8 @@ use std::fmt;
 use std::marker::Model;
 use std::sync::{Arc, Wait};
 
-/// Who makes calls of a plant while its workers run. Its ghost member `ran` relates a caller before its run, the caller after it, the desk as it was
-/// handed, and the log of the desk after the run. Unless a type says more, it always holds.
+/// Makes calls of a plant while its workers run. Its ghost member `ran` relates the caller before its run, the caller
+/// after it, the desk as it was handed, and the log of the desk after the run. By default it always holds.
 pub trait Caller<B: Block> {
     ghost ran: { Self → Self → DeskState B → List Noted → Type 0 } = { λ _ _ _ _. ⊤ };
 
@@ -35,9 +35,10 @@ pub trait Caller<B: Block> {
         ensures { ran self.old self.new desk.old desk.new.log };
 }
 
-/// Where one caller makes calls of a plant at work. Each call takes the lock, returns what the plant returns, and is added with that to the desk's
-/// log and to the history of the run; both take memory. A call that is out of memory returns `PlantFault::Memory`, changes nothing and is in
-/// neither. A contract sees the plant's graph, the desk's number and its log.
+/// Where one caller makes calls of a plant at work. Each call takes the lock and returns what the plant returns. The
+/// desk's log and the history of the run record the call with its reply; both take memory. A call that runs out of
+/// memory returns `PlantFault::Memory`, changes nothing and is in neither. A contract sees the plant's graph, the
+/// desk's number and its log.
 #[derive(Drop)]
 pub struct Desk<'a, B: Block, G: Gate + Drop> {
     shared: &'a Shared<B, G>,
@@ -88,7 +89,7 @@ impl<'a, B: Block, G: Gate + Drop> Desk<'a, B, G> {
         log
     }
 
-    /// The plant's graph, in which blocks are found by their names.
+    /// The plant's graph, to find blocks by their names.
     pub fn graph(&self) -> &Valid<B>
         ensures { result.now ≡ self.now.graph }
     {
@@ -102,8 +103,7 @@ impl<'a, B: Block, G: Gate + Drop> Desk<'a, B, G> {
         &self.log
     }
 
-    /// Appends items to a source's tape, with marks on them, as `Plant::feed` does, and has the source's worker, or a thread of the pool, look. The log
-    /// keeps the items and marks.
+    /// Like `Plant::feed`. It wakes the source's worker, or a thread of the pool. The log keeps the items and marks.
     pub fn feed<R: Wait>(
         &mut self,
         rt: &R,
@@ -130,7 +130,7 @@ impl<'a, B: Block, G: Gate + Drop> Desk<'a, B, G> {
         }
     }
 
-    /// Closes a source's tape, as `Plant::close` does, but with memory for the log, so that it may be refused `Memory`.
+    /// Like `Plant::close`. The log takes memory, so it may be refused `Memory`.
     pub fn close<R: Wait>(&mut self, rt: &R, source: BlockId) -> Result<Closed, PlantFault>
         ensures { IsLogged (Asks (machine.Close source.0)) self.old self.new (reply_of (λ c. machine.Closed c.0) result) }
     {
@@ -163,8 +163,8 @@ impl<'a, B: Block, G: Gate + Drop> Desk<'a, B, G> {
         }
     }
 
-    /// A copy of what a sink holds from item `from` on, at most `max` items, with the tags on them, as `Plant::read` returns it. The log shares
-    /// it. The lock is held while the items are copied: ask for what is new.
+    /// Like `Plant::read`. The log shares the piece. The lock is held while the items are copied, so ask for new items
+    /// only.
     pub fn read<R: Wait>(
         &mut self,
         rt: &R,
@@ -182,7 +182,7 @@ impl<'a, B: Block, G: Gate + Drop> Desk<'a, B, G> {
         }
     }
 
-    // Makes a call. It is logged with the response, unless memory lacks for one of them; then nothing changes.
+    // Makes a call, and logs it with the response. If memory lacks for one of them, nothing changes.
     fn call<R: Wait>(
         &mut self,
         rt: &R,
@@ -204,8 +204,8 @@ impl<'a, B: Block, G: Gate + Drop> Desk<'a, B, G> {
         Ok(response)
     }
 
-    /// Asks for the end of the run: each worker commits what it works on and claims no more. Callers go on until they return. It takes no memory, and
-    /// is in no log.
+    /// Asks for the end of the run: each worker commits what it works on and claims no more. Callers go on until they
+    /// return. It takes no memory, and no log has it.
     pub fn stop<R: Wait>(&mut self, rt: &R)
         ensures { self.new ≡ self.old }
     {

@@ -24,7 +24,8 @@ pub struct Returned<C: Drop> {
     pub logs: Vec<Vec<Entry>>,
 }
 
-/// A caller that is put at the desk of this number, of a plant of this graph. Its thread returns what the run makes of the caller, and the desk's log.
+/// A caller at the desk of this number, of a plant of this graph. Its thread returns what the run makes of the caller,
+/// and the desk's log.
 #[derive(Drop)]
 pub struct DeskPromise<B: Block, C> {
     graph: Snapshot<Valid<B>>,
@@ -39,7 +40,8 @@ impl<B: Block, C: Caller<B>> Promise<(C, Vec<Entry>)> for DeskPromise<B, C> {
 /// The thread of a caller.
 pub type Handle<B, C> = PromisedHandle<(C, Vec<Entry>), DeskPromise<B, C>>;
 
-/// Room for what callers leave, and for the handles of their threads. It is made before a thread is started, so that none runs where memory lacks.
+/// Room for what callers leave, and for the handles of their threads. It is made before a thread is started, so none
+/// runs if memory lacks.
 #[derive(Drop)]
 pub struct Room<B: Block, C: Caller<B> + Drop> {
     pub callers: Vec<C>,
@@ -60,7 +62,7 @@ impl<B: Block, C: Caller<B> + Drop + Send> Room<B, C> {
     }
 }
 
-/// Starts a thread for each caller. `None` where one cannot be started; those that are there go on.
+/// Starts a thread for each caller. `None` if one cannot be started; the others go on.
 pub fn seated<
     's,
     'r: 's,
@@ -102,7 +104,7 @@ where
     Some(desks)
 }
 
-/// Waits for the threads of callers, and has what they return.
+/// Waits for the threads of callers, and returns what they return.
 pub fn return_callers<B: Block, C: Caller<B> + Drop, R: Threads>(
     rt: &R,
     desks: Vec<Handle<B, C>>,

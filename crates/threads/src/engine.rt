@@ -14,8 +14,8 @@ use jobs::Worked;
 use plant::{Claim, Did, Plant, PlantFault, Step};
 use std::alloc::{AllocError, Global};
 
-/// What workers and callers make their calls of. A caller's call of a plant that records nothing is out of memory; but callers are only there
-/// where calls are recorded.
+/// Takes the calls of workers and callers. A caller's call of a plant that records nothing is out of memory; but
+/// callers are there only if calls are recorded.
 #[derive(Drop)]
 pub enum Engine<B: Block> {
     /// Nothing is recorded.
@@ -68,7 +68,7 @@ impl<B: Block> Engine<B> {
         }
     }
 
-    /// Has the plant respond to a caller, and returns the response with what is noted of it.
+    /// Makes a caller's call, and returns the response with its note.
     pub fn call(
         &mut self,
         alloc: Global,

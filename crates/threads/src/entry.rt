@@ -1,4 +1,4 @@
-//! What a history of calls is made of.
+//! The entries of a history of calls.
 
 ghost use Rattle.std.specs.Prelude.{◌≡◌, ◌≤◌, ℕ, map, false, IsTrue, IfOk};
 ghost use Rattle.std.specs.Arc.{arc_value};
@@ -26,7 +26,7 @@ pub enum CallerId {
     Worker(BlockId),
 }
 
-/// What a source was fed with in one call.
+/// The feed of a source in one call.
 #[derive(Debug, Drop)]
 pub struct Feed {
     /// The source.
@@ -37,16 +37,16 @@ pub struct Feed {
     pub marks: Vec<Mark>,
 }
 
-/// What a block was set to in one call.
+/// The setting of a block in one call.
 #[derive(Debug, Drop)]
 pub struct Setting {
     pub block: BlockId,
-    /// From which item of its first input on; with `None` from the first that was neither taken nor claimed.
+    /// The item of its first input from which on it holds; with `None` the first that was neither taken nor claimed.
     pub at: Option<u64>,
     pub value: Value,
 }
 
-/// A call of a plant with its arguments. What may be long is shared.
+/// A call of a plant with its arguments. Long arguments are shared.
 #[derive(Debug, Drop)]
 pub enum Call {
     /// Of a source.
@@ -70,7 +70,7 @@ pub enum Answer {
     Fed(u64),
     /// How many items the tape holds.
     Closed(u64),
-    /// From which item on the setting is in force.
+    /// The item from which on the setting is in force.
     Taken(u64),
     /// What a sink showed.
     Piece(Arc<Piece, Global>),
@@ -78,7 +78,7 @@ pub enum Answer {
     Claimed(u64, u32),
     /// The block is done.
     Done,
-    /// How many firings the commit was of.
+    /// How many firings the commit had.
     Did(u32),
     /// The call was refused, and changed nothing.
     Refused(PlantFault),

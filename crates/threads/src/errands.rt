@@ -1,4 +1,5 @@
-//! The turn of a thread of a pool, under the lock: what it did is committed, light blocks are stepped, and firings of a heavy one are claimed.
+//! The turn of a thread of a pool, under the lock: it commits what it did, steps light blocks, and claims firings of a
+//! heavy one.
 
 ghost use Rattle.std.specs.Prelude.{Some};
 ghost use Rattle.std.specs.Option.{option_map};
@@ -20,7 +21,7 @@ use std::time::Clock;
 /// What a thread of a pool has to do next.
 #[derive(Drop)]
 pub enum Errand<B: Block> {
-    /// The work of a claim, which took so many nanoseconds.
+    /// The work of a claim. The claim took so many nanoseconds.
     Work(Job<B>, u64),
     /// To take its turn again.
     Again,
@@ -30,7 +31,7 @@ pub enum Errand<B: Block> {
     Leave,
 }
 
-/// What a thread brings back: what it did, and how many nanoseconds its claim took, and its work.
+/// What a thread brings back: what it did, and how many nanoseconds its claim and its work took.
 #[derive(Drop)]
 pub struct Brought<B: Block> {
     pub worked: Worked<B>,
@@ -142,7 +143,7 @@ impl<B: Block> Locked<B> {
         }
     }
 
-    // What a thread did is committed. It returns the number behind that of its block.
+    // Commits what a thread did, and returns the number behind that of its block.
     fn bring<R: Clock>(&mut self, rt: &R, brought: Option<Brought<B>>, woken: &mut Woken) -> usize
         ensures { HasBrought B.meaning B.eq (option_map (λ b. b.worked) brought) self.old.engine self.new.engine }
     {
@@ -163,7 +164,7 @@ impl<B: Block> Locked<B> {
                 let held = held.saturating_add(nanos_since(rt, start));
                 self.pool.worked(block, did.0, nanos, held);
             }
-            // What comes back is none of the plant's: then the run ends, and what is held is looked at.
+            // The plant does not take the work: then the run ends, and the plant is compared.
             Err(_) => {
                 let _ = self.end(woken);
             }
@@ -171,7 +172,7 @@ impl<B: Block> Locked<B> {
         (block.0 as usize).saturating_add(1)
     }
 
-    // A block is stepped under the lock.
+    // Steps a block under the lock.
     fn step_light<R: Clock, G: Gate>(
         &mut self,
         rt: &R,
@@ -206,7 +207,7 @@ impl<B: Block> Locked<B> {
         }
     }
 
-    // Firings of a block are claimed for work outside of the lock, if it can act.
+    // Claims firings of a block for work outside of the lock, if it can act.
     fn claim_heavy<R: Clock, G: Gate>(
         &mut self,
         rt: &R,
@@ -245,7 +246,8 @@ impl<B: Block> Locked<B> {
         }
     }
 
-    // No block can act that nobody works for. Once nobody works and no caller is left the run is over, or a block was not marked though it can act.
+    // No block that nobody works for can act. Once nobody works and no caller is left, the run is over, or a block was
+    // not marked though it can act.
     fn rest(&mut self, thread: usize, woken: &mut Woken) -> Errand<B>
         ensures errand { HasStep B.meaning self.old.engine self.new.engine self.new.ends (Some result) }
     {

@@ -8,15 +8,16 @@ use plant::Plant;
 use reporting::Refusal;
 use std::fmt;
 
-/// Why a run did not come to its end. A plant that is returned has what was handed to it, after `live` by its callers too, with no claim in flight,
-/// and may be run again.
+/// Why a run did not come to its end. A returned plant has what was handed to it, after `live` by its callers too, and
+/// no claim in flight. It may be run again.
 #[derive(Debug, Drop)]
 pub enum RunFault<B: Block> {
     /// Out of memory before the run, or for a claim during it.
     Memory(Plant<B>),
     /// A thread could not be started. Those that were started have been stopped.
     Thread(Plant<B>),
-    /// What the threads left does not hold what was handed in, or has a claim in flight, or no outcome fits it. This should never happen.
+    /// The plant that the threads left does not hold what was handed in, has a claim in flight, or fits no outcome.
+    /// This should never happen.
     Foreign,
 }
 

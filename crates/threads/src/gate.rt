@@ -5,23 +5,25 @@ use plant::Need;
 use std::alloc::Global;
 use std::sync::Arc;
 
-/// What a run tells of itself, for tests and for probes; `Open` does nothing. Only `pass` is called with no lock held, and may wait. The others do nothing
-/// unless a gate has bodies for them, and may come with the lock held: such a body is short, and waits for nobody.
+/// Is told of a run, for tests and probes; `Open` does nothing. Only `pass` is called with no lock held, and may wait.
+/// The others do nothing by default, and may be called with the lock held: a body must be short, and wait for nobody.
 pub trait Gate {
-    /// Firings of this block were claimed from this one on, counted from 0, and their work comes next. A gate that waits here delays that work, and
-    /// whoever waits for its items.
+    /// Firings of this block were claimed, from this one on, counted from 0; their work comes next. A gate that waits
+    /// here delays that work, and whoever waits for its items.
     fn pass(&self, block: BlockId, firing: u64);
 
-    /// All workers slept or had left though a block could act, so that all are woken to look again. It should never be called; a probe may count it.
+    /// All workers slept or had left though a block could act, so all are woken to look again. It should never be
+    /// called; a probe may count it.
     fn missed(&self) {}
 
-    /// A turn of this block begins: the work of a claim, or where one thread acts for several blocks a step, which is a claim, its work and its commit.
+    /// A turn of this block begins: the work of a claim. If one thread acts for several blocks, it is a step: a claim,
+    /// its work and its commit.
     fn begins(&self, _block: BlockId) {}
 
-    /// The turn that began last for this block ended with so many firings. Where a step came to none there is no such call.
+    /// The last turn of this block ended with so many firings. A step without firings makes no such call.
     fn worked(&self, _block: BlockId, _firings: u32) {}
 
-    /// No firing of this block fits as yet: it waits for that, at least until its next turn begins.
+    /// No firing of this block fits yet. It waits, at least until its next turn begins.
     fn waits(&self, _block: BlockId, _need: Need) {}
 }
 

@@ -1,4 +1,4 @@
-//! A run on one thread, told to a gate.
+//! Tells a gate of a run on one thread.
 
 use crate::gate::Gate;
 use flowgraph::BlockId;
@@ -7,7 +7,8 @@ use std::alloc::Global;
 use std::sync::Arc;
 use std::time::Duration;
 
-/// A watch that tells a gate, if there is one, of the steps of `Plant::settle_watched`, as runs in threads tell theirs of turns.
+/// A watch that tells a gate, if there is one, of the steps of `Plant::settle_watched`, as runs in threads tell a gate
+/// of turns.
 #[derive(Drop)]
 pub struct GatedWatch<'a, G: Drop, W> {
     gate: Option<Arc<G, Global>>,

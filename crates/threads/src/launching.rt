@@ -40,9 +40,9 @@ where
     launch_with(rt, alloc, plant, RunOptions::per_block(Some(gate)))
 }
 
-/// Starts a run as these options say, and returns: as `launch`, or with one thread that starts others as their work is worth them. The run goes on
-/// until all blocks are done, none can act, or a stop is asked for. Open sources stay open. Fails with `RunFault::Memory` or `RunFault::Thread`,
-/// which return the plant.
+/// Starts a run as these options say, and returns: like `launch`, or with one thread that starts others if the work is
+/// worth them. The run goes on until all blocks are done, none can act, or a stop is asked for. Open sources stay open.
+/// Fails with `RunFault::Memory` or `RunFault::Thread`, which return the plant.
 pub fn launch_with<
     B: Block + Send + Sync + 'static,
     G: Gate + Drop + Send + Sync + 'static,
@@ -143,7 +143,7 @@ where
     workers.push(leader.ok()?).ok()
 }
 
-// Has the workers that were started leave, and gives the plant back.
+// Lets the started workers leave, and returns the plant.
 fn called_back<B: Block, G: Gate + Drop, R: Threads + Wait + Copy>(
     rt: R,
     shared: Arc<Shared<B, G>, Global>,

@@ -1,4 +1,4 @@
-//! The calls of turns, which are lent the plant that lies under the lock.
+//! The calls of turns on the plant under the lock, which they are lent.
 
 ghost use Rattle.std.specs.Prelude.{◌≡◌, ◌≤◌, IfOk};
 ghost use Rattle.stream_model.specs.Machine as machine;

@@ -11,13 +11,14 @@
 //!
 //! - [`launch`], [`run`] and [`live`] have a worker for each block. [`launch_with`], [`run_with`] and [`live_with`] take [`RunOptions`]: whether each block has
 //!   a thread, how long a turn is, and a gate.
-//! - `live` has callers at desks make calls while the blocks work, and returns the history of all calls.
-//! - With a thread for each block, whose progress wakes which worker is decided in `waiting`. A run in as many threads as the work is worth goes by `policy`, a
-//!   page to read; whom it calls is decided in `pool`.
+//! - In `live`, callers at desks make calls while the blocks work. It returns the history of all calls.
+//! - With a thread for each block, `waiting` decides whose progress wakes which worker. A run in as many threads as the
+//!   work is worth goes by `policy`, a page to read; `pool` decides whom it calls.
 //!
-//! The plant lies under one lock, and each call that is made of it there is one call of `Locked`, whose contract is exact. At each turn a worker takes
-//! the lock once: it commits what it did and claims anew. Then it works without the lock. What comes out of the lock is compared with what was handed in, since a lock tells nothing but a
-//! type of what it holds. So the contracts say what a plant holds at the end, for every schedule.
+//! One lock guards the plant. Each call of it there is one call of `Locked`, whose contract is exact. At each turn a
+//! worker takes the lock once: it commits what it did and claims anew. Then it works without the lock. Of what a lock
+//! holds, a contract knows only the type; so what comes out is compared with what was handed in. So the contracts say
+//! what a plant holds at the end, for every schedule.
 #![tactic(auto)]
 
 mod adaptive;

@@ -19,8 +19,8 @@ use std::sync::Wait;
 use std::thread::{Scope, Threads};
 use std::time::Clock;
 
-/// Starts a thread for each caller and has the blocks' work done: by a worker for each, or by a pool that this thread leads until the run ends. Then
-/// it waits for the callers. `None` where a thread cannot be started; those that are there go on.
+/// Starts a thread for each caller, and a worker for each block or a pool that this thread leads until the run ends.
+/// Then it waits for the callers. `None` if a thread cannot be started; the others go on.
 pub fn run_all<
     's,
     'r: 's,

@@ -24,7 +24,7 @@ use std::alloc::{AllocError, Global};
 use std::sync::Arc;
 use std::thread::Parker;
 
-/// What a run needs that lies beside its lock.
+/// What a run needs beside its lock.
 #[derive(Drop)]
 pub struct LiveRooms<B: Block, C: Caller<B> + Drop> {
     pub opening: Opening<B>,
@@ -83,7 +83,8 @@ fn rooms_of<B: Block, C: Caller<B> + Drop + Send>(
     })
 }
 
-// What a run needs under its lock. It records where the plant begins once more: what comes out from under the lock is compared with the other.
+// What a run needs under its lock. It records once more where the plant begins, to compare that with what comes out of
+// the lock.
 fn locked_rooms_of<B: Block>(
     alloc: Global,
     plant: &Plant<B>,

@@ -20,7 +20,7 @@ use std::alloc::Global;
 pub enum Next<B: Block> {
     /// The work of a claim.
     Work(Job<B>),
-    /// To sleep until it is woken: its block waits for that.
+    /// To sleep until it is woken. Its block waits for this.
     Sleep(Need),
     /// To leave: its block is done, or the run ends.
     Leave,
@@ -30,9 +30,9 @@ pub enum Next<B: Block> {
 #[derive(Drop)]
 pub struct Locked<B: Block> {
     pub engine: Engine<B>,
-    /// What the worker of each block does, where each has one.
+    /// What the worker of each block does, if each has one.
     pub waiting: Waiting,
-    /// What a pool of threads does, where it acts for all blocks.
+    /// What a pool of threads does, if it acts for all blocks.
     pub pool: Pool,
     /// How many callers have not returned.
     pub callers: usize,
@@ -73,7 +73,7 @@ impl<B: Block> Locked<B> {
         }
     }
 
-    /// The next turn of a worker: what it has done is committed, and its next firings are claimed.
+    /// The next turn of a worker: commits what it has done, and claims its next firings.
     pub fn turn(&mut self, alloc: Global, worker: &mut Worker<B>, woken: &mut Woken) -> Next<B>
         ensures turned { HasTurned B.meaning B.eq worker.old.block.0 worker.old.most worker.old.brought self.old self.new result }
         ensures own { IsOwn worker.old.block.0 result }
@@ -87,12 +87,12 @@ impl<B: Block> Locked<B> {
         self.claim(alloc, worker.block, worker.most, woken)
     }
 
-    /// Whether nobody works any more, or is to.
+    /// Whether nobody works or will work any more.
     pub fn is_over(&self) -> bool {
         self.ends || (self.callers == 0 && self.waiting.all_rest())
     }
 
-    /// A caller has returned. Once none is left the run ends as all rest, which a thread of a pool finds.
+    /// A caller has returned. Once none is left, the run ends when all rest; a thread of a pool finds that.
     pub fn caller_leaves(&mut self, woken: &mut Woken)
         ensures { self.new ≡ record self.old { callers = self.old.callers - 1; waiting = self.new.waiting; pool = self.new.pool; ends = self.new.ends } }
     {
@@ -115,7 +115,7 @@ impl<B: Block> Locked<B> {
         Next::Leave
     }
 
-    // What a worker did is committed, and who waits for it is woken. Work that is none of the plant's ends the run.
+    // Commits what a worker did, and wakes who waits for it. Work that is none of the plant's ends the run.
     fn take_back(&mut self, brought: Option<Worked<B>>, woken: &mut Woken)
         ensures committed { HasBrought B.meaning B.eq brought self.old.engine self.new.engine }
         ensures others { self.new ≡ record self.old { engine = self.new.engine; waiting = self.new.waiting; pool = self.new.pool; ends = self.new.ends } }
@@ -137,7 +137,7 @@ impl<B: Block> Locked<B> {
         }
     }
 
-    // The next firings of a block are claimed, unless the run ends.
+    // Claims the next firings of a block, unless the run ends.
     fn claim(&mut self, alloc: Global, block: BlockId, most: u32, woken: &mut Woken) -> Next<B>
         requires { 1 ≤ most }
         ensures claimed { HasNext B.meaning block.0 most self.old self.new result }

@@ -12,8 +12,8 @@ use flowgraph::Block;
 use std::alloc::{AllocError, Global};
 
 impl<B: Block> Locked<B> {
-    /// Has the plant respond to a caller, and returns the response with what is noted of it. After a feed or a close the source's worker is to look, or
-    /// a thread of the pool.
+    /// Makes a caller's call, and returns the response with its note. After a feed or a close the source's worker, or a
+    /// thread of the pool, has to look.
     pub fn call(
         &mut self,
         alloc: Global,

@@ -6,8 +6,8 @@ ghost use Rattle.threads.specs.Outcomes.{plant_in};
 use flowgraph::Block;
 use plant::Plant;
 
-/// How a run came to its end, with the plant. It has what was handed in, after `live` what its callers fed, closed and set too, and no claim in
-/// flight.
+/// How a run came to its end, with the plant. The plant has what was handed in, after `live` also what callers fed,
+/// closed and set, and no claim in flight.
 #[derive(Debug, Drop)]
 pub enum Outcome<B: Block> {
     /// Each block is done, and each sink holds its whole stream.

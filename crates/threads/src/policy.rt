@@ -1,44 +1,48 @@
-//! The policy of adaptive runs, whole: what work is worth a thread, how that is measured, and who does it. What sinks hold does not depend on it, nor
-//! does any contract.
+//! The whole policy of adaptive runs: what work is worth a thread, how that is measured, and who does it. Neither what
+//! sinks hold nor any contract depends on it.
 //!
-//! **What it is for.** Two threads that hand items to one another sleep and wake for each buffer that is full or empty, and a sleep with its wake-up
-//! costs several microseconds of the kernel's time. A step of a cheap block costs less than one. So a graph of cheap blocks is fastest on one thread,
-//! and a graph of dear ones on as many as there are processors; and which it is shows only as it runs.
+//! **What it is for.** Two threads that hand items to one another sleep and wake for each buffer that is full or empty,
+//! and a sleep with its wake-up costs several microseconds of the kernel's time. A step of a cheap block costs less
+//! than one. So a graph of cheap blocks is fastest on one thread, and a graph of dear ones on as many as there are
+//! processors. Only a run shows which a graph is.
 //!
-//! **Alone.** A run begins on the caller's thread. It steps all blocks in turn, round after round, as `settle` does, with no lock and no other
-//! thread. One round in `TIMED_ROUND` is timed. Where it was `2 * LONG` or more, each step of the next round is timed; and where two blocks or more
-//! took `LONG`, the next round has their work timed apart from their claim and commit (`Rounds`). Where the work of two blocks or more is worth a
-//! thread (`is_worth`), the run splits; one such block alone could not be worked beside another.
+//! **Alone.** A run begins on the caller's thread. It steps all blocks in turn, round after round, as `settle` does,
+//! with no lock and no other thread. One round in `TIMED_ROUND` is timed. If it took `2 * LONG` or more, each
+//! step of the next round is timed. If two blocks or more took `LONG`, the next round times their work apart from their
+//! claim and commit (`Rounds`). If the work of two blocks or more is worth a thread (`is_worth`), the run splits. One
+//! such block alone would have no other to work beside.
 //!
-//! **A pool.** From then on the plant lies under a lock, and threads take turns of it (`errands`). A thread that has the lock commits what it did,
-//! steps the light blocks that may act, one after another, claims firings of a heavy block, lets the lock go, and does their work. So light blocks
-//! never cost a wake-up: whoever has the lock steps them. Where another thread waits with work in hand, or nothing light may act, a heavy block comes
-//! first.
+//! **A pool.** From then on the plant lies under a lock, and threads take turns of it (`errands`). A thread that has
+//! the lock commits what it did, steps the light blocks that may act, one after another, claims firings of a heavy
+//! block, lets the lock go, and does their work. So light blocks never cost a wake-up: whoever has the lock steps them.
+//! If another thread waits with work in hand, or no light block may act, a heavy block comes first.
 //!
 //! **Who is heavy.** In a pool one step of a block in `TIMED_STEP` is timed, and `SIGNS` long ones in a row make the block heavy (`Habit::stepped`).
 //! Each of a heavy block's turns is weighed against its claim and commit, and `SIGNS` in a row that are not worth it make it light again
 //! (`Habit::worked`). Then it is tried again after a pause that doubles each time, so that a block on the border does not swing. A turn is as many
 //! firings as take about `TURN`, as far as the block's share of its buffers goes.
 //!
-//! **Who is woken.** A thread that leaves with work, while another heavy block may act, calls one sleeper, unless one that was called has not come
-//! yet (`Pool::goes`, `Pool::call`). Where nobody sleeps the first thread starts one more when it comes back from its own work, up to one a processor and one a block. So threads
-//! come one by one, as far as there is work. Any progress of a block marks its neighbours as ready, whatever they wait for: to ask them costs less
-//! than to know.
+//! **Who is woken.** A thread that leaves with work, while another heavy block may act, calls one sleeper, unless one
+//! that was called has not come yet (`Pool::goes`, `Pool::call`). If nobody sleeps, the first thread starts one more
+//! when it comes back from its own work, up to one a processor and one a block. So threads come one by one, as far as
+//! there is work. Any progress of a block marks its neighbours as ready, whatever they wait for: trying a block costs
+//! less than keeping what it waits for.
 //!
-//! **How long the lock is held.** For at most `STEPS` steps, of which each light one takes less than about `LONG`; a heavy block that no other could be
-//! worked beside is stepped there too. A guest (a stop, a look at the headway) is looked for before each step, and let go first. A sink, or the history of
-//! a run with callers, that outgrows its room is moved to a larger one under the lock: that is rare, but takes the longer the more they hold.
+//! **How long the lock is held.** For at most `STEPS` steps; each light one takes less than about `LONG`. A lone heavy
+//! block is stepped there too. Before each step the thread looks for a guest (a stop, a look at the headway), and lets
+//! it go first. A sink, or the history of a run with callers, that outgrows its room moves to a larger one under the
+//! lock. That is rare, but takes longer the more they hold.
 //!
-//! **How a run ends.** A thread with nothing to do sleeps while another is at work, since what that brings may be work for it. The last one asks the
-//! plant: if all blocks are done or it is quiet, the run is over; else a block that may act was not marked, which should never happen, and all look
-//! again (`Gate::missed`).
+//! **How a run ends.** A thread with nothing to do sleeps while another is at work, whose result may be work for it.
+//! The last one asks the plant: if all blocks are done or it is quiet, the run is over; else a block that may act was
+//! not marked, which should never happen, and all look again (`Gate::missed`).
 
 ghost use Rattle.std.specs.Prelude.{◌≤◌};
 
 use crate::number_set::NumberSet;
 
-/// What takes so many nanoseconds may be worth a thread. To wake one and have it come takes about as long, so shorter work is done before it is
-/// there.
+/// What takes so many nanoseconds may be worth a thread. Waking a thread takes about as long, so shorter work is done
+/// before the thread is there.
 const LONG: u64 = 4_000;
 
 /// A heavy block stays heavy above this, so that one at the border does not swing.
@@ -52,7 +56,8 @@ const WORTH: u64 = 2;
 /// keep the blocks behind it waiting.
 const TURN: u64 = 100_000;
 
-/// Of so many rounds alone one is timed. A clock is read in some 30 nanoseconds, so that this costs nothing even in rounds of a few blocks.
+/// One of so many rounds alone is timed. Reading a clock takes some 30 nanoseconds, so this costs nothing even in
+/// rounds of a few blocks.
 const TIMED_ROUND: u64 = 32;
 
 /// The first rounds, in which a split may be decided, and how many firings a block has in each at most: as many as a usual buffer holds, so that a
@@ -67,7 +72,8 @@ const TIMED_STEP: u32 = 16;
 /// The first step of a block in a pool has so many firings at most, as the turns of a usual run, since it may be dear.
 const FIRST_STEP: u32 = 1_024;
 
-/// So many measurements in a row count. One alone may have been long since the kernel had the processor do something else; two seldom are.
+/// So many measurements in a row count. One alone may be long because the kernel used the processor for something else;
+/// two seldom are.
 const SIGNS: u32 = 2;
 
 /// How often the pause before a block is tried again is doubled at most: to 16,384 steps, which are a part of a second.
@@ -86,7 +92,7 @@ pub fn is_long(nanos: u64) -> bool {
     LONG <= nanos
 }
 
-/// Whether work of so many nanoseconds is worth a thread, where its claim and its commit take `held`.
+/// Whether work of so many nanoseconds is worth a thread, if its claim and its commit take `held`.
 pub fn is_worth(nanos: u64, held: u64) -> bool {
     is_long(nanos) && held.saturating_mul(WORTH) <= nanos
 }

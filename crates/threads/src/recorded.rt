@@ -67,7 +67,7 @@ impl<B: Block> Recorded<B> {
         &self.plant
     }
 
-    /// Has the plant respond to a caller, and returns the response with what is noted of it. An `Err` changes nothing.
+    /// Makes a caller's call, and returns the response with its note. An `Err` changes nothing.
     pub fn call(
         &mut self,
         alloc: Global,
@@ -89,8 +89,8 @@ impl<B: Block> Recorded<B> {
         Ok((response, other))
     }
 
-    /// Claims at most `max` firings for a block's worker. What is handed out and the end of the block are recorded, and room is kept for the
-    /// commit to come.
+    /// Claims at most `max` firings for a block's worker. It records what is handed out, or the end of the block, and
+    /// keeps room for the commit to come.
     pub fn claim(&mut self, alloc: Global, block: BlockId, max: u32) -> Result<Claim<B>, PlantFault>
         requires { 1 ≤ max }
         ensures noted { IsClaimNoted B.meaning (caller.Worker block) (asked_by (call.Claim block max)) self.old self.new (reply_of claim_reply result) }
@@ -158,7 +158,7 @@ impl<B: Block> Recorded<B> {
         }
     }
 
-    /// The plant with what was recorded of it, where it has no claim in flight and began there.
+    /// The plant with what was recorded of it, if it has no claim in flight and began there.
     pub fn have_returned(self, opening: &Opening<B>) -> Option<(Plant<B>, Vec<Entry>)>
         ensures { IfSome result (λ r. HasReached B.meaning B.eq opening.now (map noted_by r.1.items) r.0) }
     {

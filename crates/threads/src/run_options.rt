@@ -1,4 +1,4 @@
-//! What may be chosen of a run in threads.
+//! Options of a run in threads.
 
 ghost use Rattle.std.specs.Prelude.{◌≡◌, None};
 ghost use Rattle.threads.specs.declared.run_options.Threading.TheVariants as threading;
@@ -8,25 +8,25 @@ use crate::turns::Turns;
 use std::alloc::Global;
 use std::sync::Arc;
 
-/// In how many threads the blocks of a run work. What the sinks hold does not depend on it.
+/// How many threads the blocks of a run work in. What the sinks hold does not depend on it.
 #[derive(Clone, Copy, Debug, PartialEq, Eq)]
 pub enum Threading {
-    /// In as many as their work is worth: on one, which steps all blocks in turn as `Plant::settle` does, and, once the work of several blocks
-    /// is found to be worth it, in up to one a processor. The gate is passed before work that another thread could do, and not by steps on one
-    /// thread, of which it is told. The work of a block must not wait for that of another.
+    /// As many as the work is worth: first one, which steps all blocks in turn as `Plant::settle` does. Once the
+    /// work of several blocks is worth it, up to one a processor. Work that another thread could do passes the gate.
+    /// Steps on one thread do not; the gate is told of them. The work of a block must not wait for that of another.
     Adaptive,
-    /// In one for each block. The gate is passed before each work.
+    /// One for each block. All work passes the gate.
     PerBlock,
 }
 
-/// What may be chosen of a run.
+/// Options of a run.
 #[derive(Drop)]
 pub struct RunOptions<G: Gate + Drop> {
-    /// In how many threads the blocks work.
+    /// How many threads the blocks work in.
     pub threading: Threading,
     /// How many firings are claimed at most in one turn.
     pub turns: Turns,
-    /// The gate that threads pass, where there is one.
+    /// The gate that threads pass, if there is one.
     pub gate: Option<Arc<G, Global>>,
 }
 
@@ -44,7 +44,8 @@ impl RunOptions<Open> {
 }
 
 impl<G: Gate + Drop> RunOptions<G> {
-    /// What `launch`, `run` and the top block's `start` and `run` choose: a thread for each block, turns of at most 1,024 firings, and such a gate.
+    /// The options of `launch`, `run` and the top block's `start` and `run`: a thread for each block, turns of at most
+    /// 1,024 firings, and this gate.
     pub fn per_block(gate: Option<Arc<G, Global>>) -> RunOptions<G>
         ensures threading { result.threading ≡ threading.PerBlock }
         ensures turns { result.turns.most ≡ 1024 }

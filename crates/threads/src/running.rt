@@ -24,9 +24,9 @@ use std::sync::{Arc, Wait};
 use std::thread::{JoinHandle, Threads};
 use std::time::Clock;
 
-/// A plant at work in threads: one for each of its blocks, or a pool that acts for all. Where it is dropped the threads go on by themselves, and are cut
-/// off as the program ends; `wait` gives the plant back. A contract sees what was handed in, whether a stop was asked for, how many firings are claimed
-/// at most at once, and the gate.
+/// A plant at work in threads: one for each of its blocks, or a pool that acts for all. If it is dropped, the threads
+/// go on by themselves until the program ends. `wait` gives the plant back. A contract sees what was handed in, whether
+/// a stop was asked for, how many firings a claim has at most, and the gate.
 #[derive(Drop)]
 pub struct Running<B: Block, G: Gate + Drop> {
     pub(crate) shared: Arc<Shared<B, G>, Global>,
@@ -73,7 +73,7 @@ impl<B: Block, G: Gate + Drop> Running<B, G> {
         self.shared.headway(rt)
     }
 
-    /// Waits as `wait` does, and until then calls `watch.show` after each pause, and `watch.end` at the end.
+    /// Like `wait`, and calls `watch.show` after each pause until then, and `watch.end` at the end.
     pub fn wait_watched<R: Threads + Wait, W: Watch>(
         self,
         rt: &R,
@@ -110,7 +110,7 @@ impl<B: Block, G: Gate + Drop> Running<B, G> {
     }
 }
 
-// How a run ended of which this came back.
+// How a run ended, by what came back of it.
 fn ended<B: Block>(
     locked: Locked<B>,
     handed: &Handed<B>,
@@ -154,7 +154,7 @@ pub(crate) fn came_back<B: Block>(plant: &Plant<B>, handed: &Handed<B>) -> bool
     plant.idle() && plant.agrees(handed)
 }
 
-/// Runs a plant to its end in threads, one for each block, and waits for that: `launch` and `wait`. It is never `Stopped`.
+/// Runs a plant to its end in threads, one for each block: `launch` and `wait`. It is never `Stopped`.
 pub fn run<
     B: Block + Send + Sync + 'static,
     G: Gate + Drop + Send + Sync + 'static,
@@ -175,10 +175,11 @@ where
     )
 }
 
-/// Runs a plant to its end as these options say, and waits for that. It is never `Stopped`. Sources that are open stay open. It calls `watch.show` after
-/// each pause, where the run is on one thread now and then, and `watch.end` as it is over, however it ends. Fails with `RunFault::Memory`, and with
-/// `RunFault::Thread` where each block has a thread and one could not be started; both return the plant. Where the run takes as many threads as its work
-/// is worth, and none can be started, the caller's does all.
+/// Runs a plant to its end as these options say, and waits for the end. It is never `Stopped`. Open sources stay open.
+/// It calls `watch.show` after each pause, only now and then while the run is on one thread, and `watch.end` however
+/// the run ends. Fails with `RunFault::Memory`, and with `RunFault::Thread` if each block has a thread and one could
+/// not be started; both return the plant. A run in as many threads as its work is worth goes on with the caller's
+/// thread if no other can be started.
 pub fn run_with<
     B: Block + Send + Sync + 'static,
     G: Gate + Drop + Send + Sync + 'static,

@@ -1,5 +1,5 @@
-//! What workers and callers share, and the calls that they make under its lock. Each takes the lock for one call of `Locked`, whose clauses say what
-//! it does; of what lies under a lock no clause of these can speak.
+//! What workers and callers share, and the calls that they make under its lock. Each takes the lock for one call of
+//! `Locked`, whose clauses say what it does. No clause here can speak of what lies under a lock.
 
 ghost use Rattle.std.specs.Prelude.{◌≡◌, ◌≤◌, None, IfOk};
 ghost use Rattle.threads.specs.Locked.{IsOwn};
@@ -23,27 +23,28 @@ use std::sync::{Arc, Mutex, MutexGuard, Wait};
 use std::thread::Parker;
 use std::time::Clock;
 
-// So often a worker looks whether the lock is free before it sleeps for it, some microseconds long: most turns hold it for less.
+// How often a worker looks whether the lock is free before it sleeps for it: some microseconds long. Most turns hold it
+// for less.
 const LOOKS: u32 = 500;
 
 /// What all workers and callers share.
 #[derive(Drop)]
 pub struct Shared<B: Block, G: Gate + Drop> {
     pub locked: Mutex<Locked<B>>,
-    /// Who waits for it, in a run whose threads act for all blocks: they hold it long.
+    /// Who waits for the lock, in a run whose threads act for all blocks: these hold it long.
     pub queue: LockQueue,
-    /// For each block where its worker sleeps, or for each thread of a pool.
+    /// Where each block's worker, or each thread of a pool, sleeps.
     pub parkers: Vec<Parker>,
-    /// Where who looks on sleeps between two looks.
+    /// Where a watcher sleeps between two looks.
     pub watcher: Parker,
-    /// What is told of turns, where something is.
+    /// The gate that is told of turns, if there is one.
     pub gate: Option<Arc<G, Global>>,
     /// How much a worker does in one turn.
     pub turns: Turns,
 }
 
 impl<B: Block, G: Gate + Drop> Shared<B, G> {
-    /// What is shared as a run begins: nobody has the lock or waits for it.
+    /// The shared state as a run begins: nobody has the lock or waits for it.
     pub fn new(
         locked: Locked<B>,
         parkers: Vec<Parker>,
@@ -96,7 +97,7 @@ impl<B: Block, G: Gate + Drop> Shared<B, G> {
         Some(locked.engine.plant().headway())
     }
 
-    /// Shows `watch` how far the plant is until the run is over, each time that its pause is over.
+    /// Shows `watch` how far the plant is after each pause, until the run is over.
     pub fn show<R: Wait, W: Watch>(&self, rt: &R, watch: &mut W) {
         if let Some(pause) = watch.pause() {
             for _ in rt.forever() {
@@ -141,7 +142,8 @@ impl<B: Block, G: Gate + Drop> Shared<B, G> {
         self.locked(rt).turn(alloc, worker, woken)
     }
 
-    /// The next turn of a thread of a pool. A thread that brings something back is counted while it waits for the lock, so that who has it goes soon.
+    /// The next turn of a thread of a pool. A thread that brings something back is counted while it waits for the lock,
+    /// so that the thread that has it leaves soon.
     pub fn errand<R: Wait + Clock>(
         &self,
         rt: &R,
@@ -166,7 +168,7 @@ impl<B: Block, G: Gate + Drop> Shared<B, G> {
         locked
     }
 
-    // The lock for a guest, who is let go first.
+    // The lock for a guest, who goes first.
     fn as_guest<R: Wait>(&self, rt: &R) -> MutexGuard<'_, Locked<B>> {
         self.queue.guests.fetch_add(1, Ordering::SeqCst);
         let locked = self.locked.lock(rt);
@@ -174,7 +176,7 @@ impl<B: Block, G: Gate + Drop> Shared<B, G> {
         locked
     }
 
-    // The lock, for which it sleeps only once it was looked for some time.
+    // The lock. It looks for it for some time before it sleeps.
     fn locked<R: Wait>(&self, rt: &R) -> MutexGuard<'_, Locked<B>> {
         for _ in 0..LOOKS {
             if let Some(locked) = self.locked.try_lock() {

@@ -35,14 +35,14 @@ pub struct Pauses {
 }
 
 impl Pauses {
-    /// The first begins here. There are none where the watch wants none, and then no clock is read.
+    /// The first pause begins here. If the watch wants none, there are none, and no clock is read.
     pub fn of<R: Clock, W: Watch>(rt: &R, watch: &W) -> Pauses {
         let pause = watch.pause();
         let began = if pause.is_some() { now(rt) } else { None };
         Pauses { pause, began }
     }
 
-    /// How long somebody sleeps at most so as not to miss the end of a pause.
+    /// How long one may sleep without missing the end of a pause.
     pub fn length(&self) -> Option<Duration> {
         self.pause
     }

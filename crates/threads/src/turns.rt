@@ -3,10 +3,11 @@
 ghost use Rattle.std.specs.Prelude.{◌≡◌, ◌≤◌, Some, None, if◌then◌else◌, ◌&&◌, nat_le};
 ghost use Rattle.std.specs.Option.{option_map};
 
-/// How many firings a worker claims at most in one turn: it takes the lock, commits what it did and claims anew, releases the lock, and works. A
-/// worker also claims no more than half of a buffer that its block fills or empties, but at least one firing. A turn costs some microseconds in the
-/// lock and in waking others, whatever it moves; so long turns suit cheap blocks with large buffers, and with short ones a stop takes effect sooner.
-/// What the sinks hold does not depend on it.
+/// How many firings a worker claims at most in one turn: it takes the lock, commits what it did and claims anew,
+/// releases the lock, and works. A worker also claims no more than half of a buffer that its block fills or empties,
+/// but at least one firing. Whatever it moves, a turn costs some microseconds for the lock and for waking others. So
+/// long turns suit cheap blocks with large buffers. With short turns a stop takes effect sooner. What the sinks hold
+/// does not depend on it.
 #[derive(Clone, Copy, Debug)]
 pub struct Turns {
     most: u32,

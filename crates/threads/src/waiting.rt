@@ -1,5 +1,5 @@
-//! Which workers work, which wait and for what, and whom the progress of a block concerns. It is the runtime's policy: nothing that a sink shows
-//! depends on it, and a wake-up that is lost costs time, since the last worker to rest looks at the whole graph.
+//! Which workers work, which wait and for what, and whom the progress of a block concerns. It is policy: nothing that a
+//! sink shows depends on it. A lost wake-up costs only time, since the last worker to rest looks at the whole graph.
 
 ghost use Rattle.std.specs.Prelude.{◌<◌, ◌≤◌, length};
 
@@ -10,7 +10,8 @@ use flowgraph::{Block, BlockId, Valid};
 use plant::Need;
 use std::alloc::{AllocError, Global};
 
-// A sleeper is woken for so great a part of the buffer that it waits at, or for less once who fills or empties that buffer rests too.
+// A sleeper is woken for this part of the buffer that it waits at, or for less once the worker at the other end rests
+// too.
 const PART: u32 = 2;
 
 // A claim takes no more than such a part of a buffer.
@@ -48,7 +49,7 @@ impl Waiting {
         })
     }
 
-    /// No worker: whoever acts has no block of its own.
+    /// No workers: threads that act have no block of their own.
     pub fn none(alloc: Global) -> Waiting {
         Waiting {
             states: Vec::new(alloc),
@@ -71,7 +72,7 @@ impl Waiting {
         }
     }
 
-    /// A block has fired so often. Those that wait at it are woken where that was enough for them.
+    /// A block has fired so often. Wakes those that wait at it, if that was enough for them.
     pub fn commits<B: Block>(
         &mut self,
         graph: &Valid<B>,
@@ -88,7 +89,7 @@ impl Waiting {
         self.tell(graph, block, headway, woken);
     }
 
-    /// The worker of a block sleeps. Those that wait at it are woken for whatever came for them.
+    /// The worker of a block sleeps. Wakes those that wait at it for whatever came.
     pub fn waits<B: Block>(
         &mut self,
         graph: &Valid<B>,
@@ -106,7 +107,8 @@ impl Waiting {
         self.tell(graph, block, headway, woken);
     }
 
-    /// The worker of a block leaves, since its block is done. Its neighbours are woken, whatever they wait for: a writer may end now too.
+    /// The worker of a block leaves, since its block is done. Wakes its neighbours, whatever they wait for: a writer
+    /// may end now too.
     pub fn leaves<B: Block>(&mut self, graph: &Valid<B>, block: BlockId, woken: &mut Woken)
         requires { block.0 < length graph.now.blocks }
     {
@@ -208,15 +210,15 @@ impl Waiting {
         }
         let came = came.saturating_add(items);
         *state = WorkerState::Waits(own, came);
-        // (for nothing nobody is woken: two that wait for one another would go on waking each other)
+        // (do not wake a waiter for zero items, or two waiters wake each other forever)
         if 0 < came && (is_all || part <= came) {
             self.wake(block, woken);
         }
     }
 }
 
-/// How many firings a worker claims at most: no more than a turn has, nor, where that is one firing or more, than half of a buffer holds that its block
-/// fills or empties, so that who waits at the other end of it finds something to do meanwhile.
+/// How many firings a worker claims at most: no more than a turn has, and no more than half of a buffer that its block
+/// fills or empties, if that half is a firing or more. So the worker at the other end finds something to do meanwhile.
 pub fn share_of<B: Block>(graph: &Valid<B>, block: BlockId, turns: Turns) -> u32
     requires { block.0 < length graph.now.blocks }
     ensures some { 1 ≤ result }
@@ -244,7 +246,8 @@ fn firings_in<B: Block>(graph: &Valid<B>, block: BlockId, writer: BlockId, items
     u64::from(graph.options(writer).capacity / HALVES) / firing
 }
 
-// The part of its buffers for which those that wait at a block are woken, in items. What was asked for as capacity stands for what there is.
+// The items for which those that wait at a block are woken, as a part of its buffers. It goes by the capacity that was
+// asked for.
 fn part_of<B: Block>(graph: &Valid<B>, block: BlockId) -> u64 {
     if (block.0 as usize) < graph.len() {
         u64::from(graph.options(block).capacity / PART)

@@ -8,7 +8,7 @@ pub struct Woken {
     threads: NumberSet,
     /// Whether all rested though a block could act.
     pub missed: bool,
-    /// Whether the run is over, so that who looks on is woken too.
+    /// Whether the run is over, so that the watcher is woken too.
     pub ends: bool,
     /// Whether a pool has work for one thread more than it has.
     pub wants: bool,
