@@ -14,8 +14,8 @@ from .trees import Tree
 KIND, KIND_SPEC = "crates/kinds/src/kind.rt", "crates/kinds/specs/Kind.antt"
 NAME, NAME_SPEC = "crates/kinds/src/kind_name.rt", "crates/kinds/specs/KindNames.antt"
 WORD_ANSWERS = "crates/kinds/proofs/kind/KindBlock/work/Answers.antt"
-PARAMETERS, PARAMETERS_SPEC = "crates/kind_keys/src/kind_parameters.rt", "crates/kind_keys/specs/KindParameters.antt"
-KEYS_SPEC = "crates/kind_keys/specs/Kinds.antt"
+PARAMETERS, PARAMETERS_SPEC = "crates/kind_schema/src/kind_parameters.rt", "crates/kind_schema/specs/KindParameters.antt"
+KEYS_SPEC = "crates/kind_schema/specs/Kinds.antt"
 FACADE = "crates/magbelu/src/blocks.rt"
 _SLICES = (("Kinds", "look_back_of"), ("Forgetting", "look_back_of-holds"), ("Placing", "look_back_of-places"))
 

@@ -12,12 +12,12 @@ from .sources import arms_of, body, inside, last, named_there, rows, said, texts
 from .tables import camel
 from .trees import Tree
 
-FAULT, FAULT_SPEC = "crates/parameters/src/fault.rt", "crates/parameters/specs/Fault.antt"
-KEY, KEY_SPEC = "crates/kind_keys/src/key.rt", "crates/kind_keys/specs/Keys.antt"
-KEYS, KEYS_SPEC = "crates/kind_keys/src/keys.rt", "crates/kind_keys/specs/Kinds.antt"
-RANGE, RANGE_SPEC = "crates/kind_keys/src/range.rt", "crates/kind_keys/specs/Ranges.antt"
-ABOUT, EXPECTED = "crates/explanations/src/about.rt", "crates/explanations/src/expected.rt"
-GNU_RADIO = "crates/explanations/src/gnu_radio.rt"
+FAULT, FAULT_SPEC = "crates/block_parameters/src/fault.rt", "crates/block_parameters/specs/Fault.antt"
+KEY, KEY_SPEC = "crates/kind_schema/src/key.rt", "crates/kind_schema/specs/Keys.antt"
+KEYS, KEYS_SPEC = "crates/kind_schema/src/keys.rt", "crates/kind_schema/specs/Kinds.antt"
+RANGE, RANGE_SPEC = "crates/kind_schema/src/range.rt", "crates/kind_schema/specs/Ranges.antt"
+ABOUT, EXPECTED = "crates/diagnostics/src/about.rt", "crates/diagnostics/src/expected.rt"
+GNU_RADIO = "crates/diagnostics/src/gnu_radio.rt"
 FILES = "docs/user/FILES.md"
 # Ranges that a parameter of a kind has with numbers of its own.
 _WITH_NUMBERS = ("Number", "Long", "Register", "AtLeast")

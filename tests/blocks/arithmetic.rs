@@ -1,6 +1,6 @@
 //! The blocks of arithmetic, logic, tables and conversion.
 use super::runs::{LANE_COUNTS, Trials, is_bad, number_set, ramp};
-use parameters::Parameter;
+use block_parameters::Parameter;
 use items::ItemType::{Byte, Int, Short};
 use kinds::{Kind, VectorSource};
 use math_blocks::{AddConst, Convert, MapBb, MultiplyConst, Not};

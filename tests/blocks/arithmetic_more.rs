@@ -4,7 +4,7 @@ use items::ItemType::{Byte, Int, Short};
 use math_blocks::{
     Abs, AndConst, Clip, Maximum, Minimum, Multiply, Mute, OrConst, Sub, Table, XorConst,
 };
-use parameters::Parameter;
+use block_parameters::Parameter;
 use std::alloc::Global;
 use std::process::Abort;
 use std::test::Fail;

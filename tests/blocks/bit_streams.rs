@@ -2,8 +2,8 @@
 use super::runs::{LANE_COUNTS, Trials, is_bad, ramp};
 use bit_blocks::BitOrder::{LsbFirst, MsbFirst};
 use bit_blocks::{CorrelateAccessCode, PackedToUnpacked, RepackBits, UnpackedToPacked};
+use block_parameters::Parameter;
 use items::ItemType::{Byte, Int, Short};
-use parameters::Parameter;
 use std::alloc::Global;
 use std::process::Abort;
 use std::test::Fail;

@@ -4,7 +4,7 @@ use bit_blocks::register::Register;
 use bit_blocks::{
     AdditiveScrambler, Descrambler, DiffDecoder, DiffEncoder, PackKBits, Scrambler, UnpackKBits,
 };
-use parameters::Parameter;
+use block_parameters::Parameter;
 use std::alloc::Global;
 use std::process::Abort;
 use std::test::Fail;

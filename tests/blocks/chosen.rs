@@ -1,8 +1,8 @@
 //! The blocks that choose an item of each frame, hold one, repeat a list and count.
 use super::runs::{LANE_COUNTS, Trials, is_bad, ramp};
+use block_parameters::Parameter;
 use items::ItemType::{Byte, Int, Short};
 use math_blocks::SampleAndHold;
-use parameters::Parameter;
 use rate_blocks::{Argmax, Counter, FrameMaximum, FrameMinimum, Pattern};
 use std::test::Fail;
 

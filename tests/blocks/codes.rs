@@ -1,8 +1,8 @@
 //! The blocks that check and code frames and symbols.
 use super::runs::{LANE_COUNTS, Trials, is_bad, ramp};
+use block_parameters::Parameter;
 use code_blocks::BitOrder::{self, LsbFirst, MsbFirst};
 use code_blocks::{Checksum, CrcAppend, CrcCheck, StateMachine};
-use parameters::Parameter;
 use std::alloc::Global;
 use std::test::Fail;
 

@@ -1,8 +1,8 @@
 //! The blocks that divide items, slice them by a threshold, and encode them by the laws of G.711.
 use super::runs::{LANE_COUNTS, Trials, is_bad, number_set, ramp};
+use block_parameters::Parameter;
 use items::ItemType::{Byte, Int, Short};
 use math_blocks::{AlawEncode, BinarySlicer, Divide, DivideConst, UlawEncode};
-use parameters::Parameter;
 use std::test::Fail;
 
 const LEAST_INT: i64 = -2_147_483_648;

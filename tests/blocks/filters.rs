@@ -1,6 +1,6 @@
 //! The filters.
 use super::runs::{LANE_COUNTS, Trials, is_bad, ramp, taps_set};
-use parameters::Parameter;
+use block_parameters::Parameter;
 use fir_blocks::{Fir, InterpFir};
 use items::ItemType::{Byte, Int, Short};
 use std::alloc::Global;

@@ -1,7 +1,7 @@
 //! The blocks that keep some items of each frame, put a list into each, or give each another order.
 use super::runs::{LANE_COUNTS, Trials, is_bad, ramp};
+use block_parameters::Parameter;
 use items::ItemType::{Byte, Int, Short};
-use parameters::Parameter;
 use rate_blocks::{Insert, KeepMInN, Permute};
 use std::alloc::Global;
 use std::process::Abort;

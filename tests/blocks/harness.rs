@@ -1,6 +1,6 @@
 //! Runs a block of any kind over whole streams, in cuts, and looks whether it gives what it should.
 
-use block_kinds::{Block, Held, Role, Value, Wanted};
+use block_trait::{Block, Held, Role, Value, Wanted};
 use items::Items;
 use settings::Timeline;
 use std::alloc::Global;

@@ -3,7 +3,7 @@ ghost use Rattle.std.specs.Prelude.{◌*◌, ◌/◌, ℕ, Some, None};
 ghost use Rattle.stream_model.specs.Meaning.{Meaning};
 ghost use Rattle.kinds.specs.Kind.{meaning_of};
 
-use block_kinds::{Block, Held, Pace, Placing, Policy, Shape};
+use block_trait::{Block, Held, Pace, Placing, Policy, Shape};
 use either_block::Either;
 use flowgraph::{BlockId, Graph, Options};
 use items::{ItemType, Items, Mark, TagKey};

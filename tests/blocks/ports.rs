@@ -1,6 +1,6 @@
 //! The blocks with several inputs or outputs, and those that sum.
 use super::runs::{LANE_COUNTS, Trials, is_bad, number_set, ramp};
-use parameters::{ParamFault, Parameter};
+use block_parameters::{ParamFault, Parameter};
 use items::ItemType::{Byte, Int, Short};
 use math_blocks::{Add, And, MovingSum, Or, Scale, Xor};
 use rate_blocks::{Deinterleave, Integrate, Interleave, StreamMux};

@@ -1,7 +1,7 @@
 //! The blocks that change a rate or move a stream.
 use super::runs::{LANE_COUNTS, Trials, is_bad, ramp};
-use block_kinds::Block;
-use parameters::Parameter;
+use block_parameters::Parameter;
+use block_trait::Block;
 use items::ItemType::{Byte, Int, Short};
 use rate_blocks::{Delay, Head, KeepOneInN, Repeat, SkipHead};
 use std::test::Fail;

@@ -1,8 +1,8 @@
 //! A block's work over whole streams, compared with what it should give.
 
 use super::harness::{are_wanted, has_ports, held_over, places_for, windows_of};
-use block_kinds::{Block, Held, Taps, Value};
-use parameters::{ParamFault, Parameter};
+use block_parameters::{ParamFault, Parameter};
+use block_trait::{Block, Held, Taps, Value};
 use items::Items;
 use std::alloc::Global;
 use std::process::Abort;

@@ -1,8 +1,8 @@
 //! The block that finds the symbols that took a machine through metrics.
 use super::runs::{Trials, is_bad, ramp};
+use block_parameters::Parameter;
 use code_blocks::{Trellis, Viterbi};
 use items::ItemType::{Byte, Int, Short};
-use parameters::Parameter;
 use std::alloc::Global;
 use std::test::Fail;
 

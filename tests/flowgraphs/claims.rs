@@ -1,8 +1,8 @@
 //! What claims decide, played over counts alone.
 
 use super::drawn::{Drawn, Make, SINK, SOURCE, Wire, build, plain};
-use block_kinds::Block;
-use firings::{Decision, Firings, Need, Tape, Tapes};
+use block_trait::Block;
+use firing_rules::{Decision, Firings, Need, Tape, Tapes};
 use flowgraph::{BlockId, Valid};
 use kinds::Kind;
 use rates::{balance, capacities};

@@ -1,11 +1,11 @@
 //! Graphs as the tests write them down.
 use bit_blocks::register::Register;
 use bit_blocks::{AdditiveScrambler, DiffEncoder};
+use block_parameters::ParamFault;
 use flowgraph::{BlockId, Graph, GraphFault, Options, Policy, Valid};
 use items::ItemType;
 use kinds::{Kind, VectorSink, VectorSource};
 use math_blocks::{Add, MovingSum, Not};
-use parameters::ParamFault;
 use rate_blocks::{Delay, Head, KeepOneInN, Repeat, SkipHead, StreamMux};
 use std::alloc::Global;
 

@@ -1,6 +1,6 @@
 //! A file that is cut, or has another byte somewhere: it is read and opened, or refused.
 use graph_file::read_graph;
-use reporting::Refusal;
+use refusal_codes::Refusal;
 use std::alloc::{AllocError, Global};
 use std::test::Fail;
 

@@ -1,5 +1,5 @@
 //! Graph files to start from, as `flow new` writes them.
-use explanations::{is_link, starting_graph};
+use diagnostics::{is_link, starting_graph};
 use graph_file::read_graph;
 use kinds::KindName;
 use std::test::Fail;

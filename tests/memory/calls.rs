@@ -1,5 +1,5 @@
 //! Calls that build a graph, open a plant of it, and run it.
-use parameters::ParamFault;
+use block_parameters::ParamFault;
 use fir_blocks::Fir;
 use flowgraph::{BlockId, Graph, GraphFault, Options, Policy, Valid};
 use items::{ItemType, Items, Mark, TagKey};

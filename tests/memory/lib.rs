@@ -25,9 +25,9 @@ mod words;
 
 use launches::Way;
 use piped::Left;
+use refusal_codes::Refusal;
 use served::Case;
 use crate::Host;
-use reporting::Refusal;
 use std::alloc::Global;
 use std::env;
 use std::process::{Abort, ExitCode};

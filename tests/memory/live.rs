@@ -1,5 +1,5 @@
 //! A run in threads of which a caller makes calls. A plant that comes back since memory ran out is run again.
-use parameters::ParamFault;
+use block_parameters::ParamFault;
 use fir_blocks::Fir;
 use flowgraph::{BlockId, Graph, Options, Policy};
 use items::{ItemType, Items, Mark, TagKey};

@@ -1,11 +1,11 @@
 //! A graph file that streams between readers and writers in memory, one of marks among them, alone and with threads that help, of which one allocation may fail.
 use super::streams::Page;
-use flow::opening::open_stream;
+use flow_core::opening::open_stream;
 use graph_file::FileFault;
 use helper_threads::HelperThreads;
 use kinds::Kind;
 use pipeline::{AllReady, BlockId, ByteOrder, End, Output, Pipeline, PipelineFault, Settled};
-use reporting::Refusal;
+use refusal_codes::Refusal;
 use std::alloc::Global;
 use std::io::{Read, Write};
 use std::io;

@@ -1,15 +1,15 @@
 //! A run between raw input and raw outputs in memory, of which one allocation may fail.
 use super::streams::{Page, Text};
-use flow::fault::Fault;
-use flow::opening::open_plant;
-use flow::raw_fault::EndPlace::{Output, Tags};
-use flow::raw_fault::RawFault;
-use flow::raw_input::feed_from;
-use flow::raw_output::{write_items, write_tags};
-use flow::run::settle_plant;
+use flow_core::fault::Fault;
+use flow_core::opening::open_plant;
+use flow_core::raw_fault::EndPlace::{Output, Tags};
+use flow_core::raw_fault::RawFault;
+use flow_core::raw_input::feed_from;
+use flow_core::raw_output::{write_items, write_tags};
+use flow_core::run::settle_plant;
 use plant::{BlockId, Unwatched};
 use raw_items::ByteOrder;
-use reporting::Refusal;
+use refusal_codes::Refusal;
 use std::alloc::Global;
 
 // A source of shorts, a block that adds one, and a sink. An item with a tag stands on the tape.

@@ -1,7 +1,7 @@
 //! Standard streams in memory, which ask for none.
 ghost use Rattle.std.specs.Prelude.{None};
 
-use reporting::{Broken, ByteIn, ByteOut};
+use byte_io::{Broken, ByteIn, ByteOut};
 
 const ROOM: usize = 512;
 

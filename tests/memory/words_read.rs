@@ -2,8 +2,8 @@
 use super::words::{Asked, asked_by};
 use crate::Host;
 use clap::error::ErrorKind;
-use flow::serve::Action;
-use flow::start_fault::StartFault;
+use flow_core::serve::Action;
+use flow_core::start_fault::StartFault;
 use std::alloc::Global;
 use std::{env, fs};
 

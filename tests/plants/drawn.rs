@@ -1,7 +1,7 @@
 //! Plants as the tests write them down.
 ghost use Rattle.std.specs.Prelude.{◌≤◌};
 
-use parameters::ParamFault;
+use block_parameters::ParamFault;
 use flowgraph::{BlockId, Graph, Options, Policy, Valid};
 use items::{ItemType, Items, Mark, TagKey};
 use kinds::{Kind, VectorSink, VectorSource};

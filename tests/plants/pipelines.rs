@@ -7,7 +7,7 @@ use items::{Items, Mark};
 use kinds::Kind;
 use pipeline::{ByteOrder, End, Pipeline, PipelineFault, PlantFault, Settled};
 use plant::Plant;
-use reporting::Refusal;
+use refusal_codes::Refusal;
 use std::alloc::Global;
 use std::io::{ErrorKind, Read, Write};
 use std::io;

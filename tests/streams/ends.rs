@@ -1,7 +1,7 @@
 //! Readers and writers as ends of a script: a call that failed is not tried again.
 ghost use Rattle.std.specs.Prelude.{◌≤◌, IfOk};
 
-use reporting::{Broken, ByteIn, ByteOut, ReadEnd, WriteEnd};
+use byte_io::{Broken, ByteIn, ByteOut, ReadEnd, WriteEnd};
 use std::io::{ErrorKind, Read, Write};
 use std::io;
 use std::test::Fail;

@@ -1,7 +1,7 @@
 //! Streams over memory that fail where they are told to.
 ghost use Rattle.std.specs.Prelude.{None};
 
-use reporting::{Broken, ByteIn, ByteOut};
+use byte_io::{Broken, ByteIn, ByteOut};
 
 /// A text that comes in pieces.
 #[derive(Drop)]

@@ -3,9 +3,9 @@ ghost use Rattle.std.specs.Prelude.{None};
 
 use super::fakes::{Pieces, Written, lines_in};
 use super::served::{Ends, GOOD, served};
-use flow::serve::{Action, Verbosity, serve};
+use byte_io::{Broken, ByteIn, ByteOut};
+use flow_core::serve::{Action, Verbosity, serve};
 use plant::{Headway, Unwatched, Watch};
-use reporting::{Broken, ByteIn, ByteOut};
 use std::alloc::Global;
 use std::sync::Arc;
 use std::sync::atomic::{AtomicU64, Ordering};

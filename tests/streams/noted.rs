@@ -1,5 +1,5 @@
 //! Devices that note why they failed: the failure is told, and its reason is kept.
-use explanations::Noted;
+use diagnostics::Noted;
 use std::io::{ErrorKind, Read, Write};
 use std::io;
 use std::test::Fail;

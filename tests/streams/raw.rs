@@ -1,14 +1,14 @@
 //! Runs between raw inputs and outputs that come in pieces, or fail.
 use super::fakes::{Pieces, Written};
-use flow::fault::Fault;
-use flow::raw_fault::EndPlace::{Input, Output, Tags};
-use flow::raw_fault::{EndFault, RawFault};
-use flow::opening::open_plant;
-use flow::raw_input::{feed_from, sink_named, source_named};
-use flow::raw_output::{write_items, write_tags};
-use flow::refusal_line::report_raw;
-use flow::run::settle_plant;
-use flow::script::ScriptFault;
+use flow_core::fault::Fault;
+use flow_core::raw_fault::EndPlace::{Input, Output, Tags};
+use flow_core::raw_fault::{EndFault, RawFault};
+use flow_core::opening::open_plant;
+use flow_core::raw_input::{feed_from, sink_named, source_named};
+use flow_core::raw_output::{write_items, write_tags};
+use flow_core::refusal_line::report_raw;
+use flow_core::run::settle_plant;
+use flow_core::script::ScriptFault;
 use graph_file::FileFault;
 use items::Items;
 use kinds::Kind;

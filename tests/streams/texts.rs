@@ -1,7 +1,7 @@
 //! The texts of replies, reports and faults.
-use flow::fault::Fault;
-use flow::script::ScriptFault;
-use flow::start_fault::StartFault;
+use flow_core::fault::Fault;
+use flow_core::script::ScriptFault;
+use flow_core::start_fault::StartFault;
 use graph_file::FileFault;
 use items::{ItemType, Items, Tag, TagKey};
 use plant::PlantFault;

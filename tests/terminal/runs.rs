@@ -1,10 +1,10 @@
 //! What a whole run shows, and what the words say of it.
 use super::terminal::Terminal;
 use super::words::{Asked, asked_by};
+use byte_io::{ReadEnd, WriteEnd};
 use clap::error::ErrorKind;
-use flow::threading::Threading;
-use flow::serve::{Action, Verbosity, serve};
-use reporting::{ReadEnd, WriteEnd};
+use flow_core::threading::Threading;
+use flow_core::serve::{Action, Verbosity, serve};
 use std::alloc::Global;
 use std::cell::Cell;
 use std::io;

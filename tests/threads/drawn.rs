@@ -1,6 +1,6 @@
 //! Plants as the tests write them down.
-use block_kinds::Block;
-use parameters::ParamFault;
+use block_parameters::ParamFault;
+use block_trait::Block;
 use flowgraph::{BlockId, Graph, Options, Policy, Valid};
 use items::{ItemType, Mark, TagKey};
 use kinds::{Kind, VectorSink, VectorSource};

@@ -2,7 +2,7 @@
 ghost use Rattle.kinds.specs.Kind.{meaning_of};
 
 use super::gates::Flag;
-use block_kinds::{Block, ByPace, Held, Shape};
+use block_trait::{Block, ByPace, Held, Shape};
 use items::Items;
 use kinds::Kind;
 use std::alloc::Global;

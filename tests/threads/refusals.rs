@@ -5,7 +5,7 @@ use super::probes::{Habit, Probe};
 use super::runs::{share, shared};
 use flowgraph::BlockId;
 use plant::Plant;
-use reporting::Refusal;
+use refusal_codes::Refusal;
 use std::alloc::Global;
 use std::process::Abort;
 use std::test::Fail;

@@ -1,7 +1,7 @@
 //! Histories that are played again, and whether what is noted is the same.
 use super::drawn::{Drawing, plant};
+use claimed_work::Job;
 use flowgraph::BlockId;
-use jobs::Job;
 use kinds::Kind;
 use plant::{Claim, Piece, Plant};
 use std::alloc::Global;

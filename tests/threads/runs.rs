@@ -2,7 +2,7 @@
 use super::drawn::{Drawing, Make, fed, tape_item};
 use super::gates::Counts;
 use super::ways::per_block;
-use block_kinds::Block;
+use block_trait::Block;
 use flowgraph::BlockId;
 use kinds::Kind;
 use plant::{Piece, Plant, Unwatched};

@@ -2,7 +2,7 @@
 use super::drawn::Drawing;
 use super::gates::Counts;
 use super::runs::{End, Host, share, shared, split};
-use block_kinds::Block;
+use block_trait::Block;
 use plant::{Plant, Unwatched};
 use std::alloc::Global;
 use std::io;

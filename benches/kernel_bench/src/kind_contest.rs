@@ -5,13 +5,13 @@ ghost use Rattle.stream_model.specs.Meaning.{input};
 ghost use Rattle.stream_model.specs.Meaning as meanings;
 ghost use Rattle.items.specs.Items.{type_of, numbers_of};
 ghost use Rattle.settings.specs.Values as values;
-ghost use Rattle.block_kinds.specs.Work.{least_windows, most_windows, IsReady};
+ghost use Rattle.block_trait.specs.Work.{least_windows, most_windows, IsReady};
 ghost use Rattle.kernel_bench.specs.Calls.{CanCall};
 
 use crate::contest::{RUN_TIME, RUNS, Row, copies, noise, print_row};
 use crate::item::Item;
-use block_kinds::{Block, Held, Role};
-use parameters::ParamFault;
+use block_parameters::ParamFault;
+use block_trait::{Block, Held, Role};
 use items::Items;
 use settings::Timeline;
 use std::alloc::Global;

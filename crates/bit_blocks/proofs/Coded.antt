@@ -8,8 +8,8 @@ use Rattle.kind_model.specs.Kernels.{previous, diff_decode}
 use Rattle.stream_model.specs.Settings.{Held}
 use Rattle.stream_model.specs.Meaning.{IsFed, input, given_items}
 use Rattle.kind_model.specs.Bits.{diff_decoder}
-use Rattle.block_kinds.specs.Shape.{IsPaced}
-use Rattle.block_kinds.proofs.Fills.{paced, length-paced, past-paced, before-none, given-paced}
+use Rattle.block_trait.specs.Shape.{IsPaced}
+use Rattle.block_trait.proofs.Fills.{paced, length-paced, past-paced, before-none, given-paced}
 
 -- the item before one of those behind the first
 before_it : (w : List ℤ) (j : ℕ) → previous (item w 0) (drop 1 w) j ≡ item w j

@@ -5,10 +5,10 @@ use Rattle.stream_model.specs.Lists.{item, numbers_from}
 use Rattle.stream_model.specs.Settings.{Held}
 use Rattle.stream_model.specs.Meaning.{Meaning, IsFed, input, given_items}
 use Rattle.items.specs.declared.stream_items.Items.{Items}
-use Rattle.block_kinds.specs.declared.single.Batch.{Batch}
-use Rattle.block_kinds.specs.Fill.{CanFill}
-use Rattle.block_kinds.specs.Shape.{IsPaced}
-use Rattle.block_kinds.proofs.Fills.{paced, there-fill, length-paced, item-paced}
+use Rattle.block_trait.specs.declared.single.Batch.{Batch}
+use Rattle.block_trait.specs.Fill.{CanFill}
+use Rattle.block_trait.specs.Shape.{IsPaced}
+use Rattle.block_trait.proofs.Fills.{paced, there-fill, length-paced, item-paced}
 use Rattle.bit_blocks.specs.Codes.{coded, word_after, IsCode, CanCode}
 
 -- the numbers of the first bytes and one more

@@ -8,8 +8,8 @@ use Rattle.stream_model.specs.Settings.{Held}
 use Rattle.stream_model.specs.Meaning.{IsFed, input, given_items}
 use Rattle.kind_model.specs.Bits.{low_bit}
 use Rattle.kind_model.specs.BitStreams.{number_by, bit_before, word_before, distance, correlate_access_code}
-use Rattle.block_kinds.specs.Shape.{IsPaced}
-use Rattle.block_kinds.proofs.Fills.{paced, length-paced, past-paced, given-paced}
+use Rattle.block_trait.specs.Shape.{IsPaced}
+use Rattle.block_trait.proofs.Fills.{paced, length-paced, past-paced, given-paced}
 use Rattle.lane_filters.proofs.Streams.{numbered}
 use Rattle.bit_blocks.specs.Marked.{word_at, marked}
 

@@ -2,8 +2,8 @@
 use Rattle.std.proofs.Common.{◌≡◌, ℕ, ◌*◌, ℤ, List, [], ◌∷◌, length, arith, ap, subst, sym, ◌∙◌}
 use Rattle.stream_model.specs.Settings.{Held}
 use Rattle.stream_model.specs.Meaning.{Meaning, IsFed}
-use Rattle.block_kinds.specs.Shape.{IsPaced}
-use Rattle.block_kinds.proofs.Fills.{paced, length-paced}
+use Rattle.block_trait.specs.Shape.{IsPaced}
+use Rattle.block_trait.proofs.Fills.{paced, length-paced}
 use Rattle.bit_blocks.specs.Packed.{IsPacking}
 
 pub all_taken :

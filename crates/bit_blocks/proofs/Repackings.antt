@@ -9,8 +9,8 @@ use Rattle.stream_model.specs.Settings.{Held}
 use Rattle.stream_model.specs.Meaning.{IsFed, input, given_items}
 use Rattle.kind_model.specs.BitStreams.{place_by, number_by, stream_bit, repack, repacked, repacking, common_divisor}
 use Rattle.kind_laws.specs.BitStreams.{same_bits, bit_of_firing, repacking-some}
-use Rattle.block_kinds.specs.Shape.{IsPaced}
-use Rattle.block_kinds.proofs.Fills.{paced, length-paced, item-paced, given-paced}
+use Rattle.block_trait.specs.Shape.{IsPaced}
+use Rattle.block_trait.proofs.Fills.{paced, length-paced, item-paced, given-paced}
 use Rattle.lane_filters.proofs.Streams.{numbered}
 
 -- bit b of a window that begins with item a is one of the whole stream

@@ -10,7 +10,7 @@ use Rattle.stream_model.specs.Shapes.{sync}
 use Rattle.kind_model.specs.Bits.{place_in, masked, places_of, low_bit}
 use Rattle.items.specs.declared.stream_items.Items.{Items}
 use Rattle.items.specs.Items.{type_of, numbers_of, spare_of}
-use Rattle.block_kinds.specs.Fill.{IsSingle}
+use Rattle.block_trait.specs.Fill.{IsSingle}
 
 -- what is given for the bytes, from a word on
 abbrev pub coded : (ℕ → ℤ → ℕ) → (ℕ → ℤ → ℕ) → ℕ → List ℤ → List ℤ

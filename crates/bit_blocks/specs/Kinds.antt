@@ -2,7 +2,7 @@
 use Rattle.std.specs.Prelude.{◌≡◌, ◌≤◌, ℕ, true, ◌&&◌, nat_eq, refl}
 use denote.Enum.Bare.{sameb}
 use Rattle.std.specs.Cmp.{first_so, second_so}
-use Rattle.block_kinds.specs.SameItem.{same_item, same_number}
+use Rattle.block_trait.specs.SameItem.{same_item, same_number}
 use Rattle.std.proofs.Common.{arith}
 use Rattle.stream_model.specs.Meaning.{Meaning, IsLawful}
 use Rattle.kind_model.specs.declared.vocabulary.BitOrder.{BitOrder}

@@ -13,9 +13,9 @@ use Rattle.stream_model.specs.Shapes.{ports, at_rate}
 use Rattle.kind_model.specs.Bits.{pack_k_bits, unpack_k_bits}
 use Rattle.shape_laws.specs.Shaped.{sum_below-same}
 use Rattle.kind_laws.specs.Rates.{item_of_firing}
-use Rattle.block_kinds.specs.Fill.{IsSingle}
-use Rattle.block_kinds.specs.Shape.{IsPaced}
-use Rattle.block_kinds.proofs.Fills.{paced, length-paced, item-paced, given-paced}
+use Rattle.block_trait.specs.Fill.{IsSingle}
+use Rattle.block_trait.specs.Shape.{IsPaced}
+use Rattle.block_trait.proofs.Fills.{paced, length-paced, item-paced, given-paced}
 
 -- a block of bytes that takes d and gives i in a firing: all that the firings give is made of the window alone
 pub record IsPacking (m : Meaning) (d i : ℕ) (makes : List ℤ → List ℤ) : Type 0 where

@@ -3,7 +3,7 @@ ghost use Rattle.std.specs.Prelude.{◌≡◌, ◌≤◌, ◌<◌, ◌+◌, ◌*
 ghost use Rattle.kind_model.specs.BitStreams.{distance};
 ghost use Rattle.bit_blocks.specs.Marked.{word_at};
 
-use lane_work::ByteWork;
+use item_dispatch::ByteWork;
 
 /// A code that is looked for from output `first` on.
 #[derive(Clone, Copy)]

@@ -3,10 +3,10 @@ ghost use Rattle.std.specs.Prelude.{◌≡◌, ◌≤◌, ◌<◌, ◌^◌, ◌�
 ghost use Rattle.kind_model.specs.BitStreams.{correlate_access_code};
 
 use crate::code_search::CodeSearch;
-use block_kinds::{Batch, Block, ByPace, Held, Shape, Single, work_single};
+use block_parameters::{ParamFault, Parameter};
+use block_trait::{Batch, Block, ByPace, Held, Shape, Single, work_single};
+use item_dispatch::make_bytes;
 use items::{ItemType, Items};
-use lane_work::make_bytes;
-use parameters::{ParamFault, Parameter};
 
 /// Delays bits by 64 items and sets bit 1 of the first item behind each access code. Bit 0 of an output is the lowest bit of the item 64 before it, 0 where
 /// there is none. Bit 1 is set where the items before that one, as many as the code has bits, differ from the code in at most `threshold` bits; items before

@@ -3,11 +3,11 @@ ghost use Rattle.std.specs.Prelude.{◌≡◌, ◌≤◌, ◌↔◌, IsOk, IfOk,
 ghost use Rattle.kind_model.specs.Bits.{diff_decoder};
 
 use crate::modulus::Modulus;
-use block_kinds::{Batch, Block, ByPace, Held, Shape, Single, work_single};
+use block_parameters::{ParamFault, Parameter};
+use block_trait::{Batch, Block, ByPace, Held, Shape, Single, work_single};
+use item_dispatch::{ByteWork, make_bytes};
 use items::{ItemType, Items};
 use lane_filters::diff_decode;
-use lane_work::{ByteWork, make_bytes};
-use parameters::{ParamFault, Parameter};
 
 /// The difference of each byte and the one before it, modulo `modulus`, as GNU Radio's `diff_decoder_bb`.
 #[derive(Debug, Drop, PartialEq, Eq)]
@@ -62,7 +62,7 @@ impl Block for DiffDecoder {
     ghost use Rattle.std.proofs.Common.{ap};
     ghost use Rattle.kind_model.specs.Bits.{diff_decoder};
     ghost use Rattle.kind_laws.specs.Bits.{diff_decoder-lawful};
-    ghost use Rattle.block_kinds.specs.SameItem.{same_number};
+    ghost use Rattle.block_trait.specs.SameItem.{same_number};
     ghost use Rattle.bit_blocks.specs.Kinds.{diff_decoder_of, some_modulus};
 
     ghost meaning = { diff_decoder_of };

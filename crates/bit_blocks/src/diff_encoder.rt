@@ -6,9 +6,9 @@ ghost use Rattle.kind_model.specs.Bits.{diff_encoder};
 
 use crate::code::{Coder, code};
 use crate::modulus::Modulus;
-use block_kinds::{Batch, Block, ByPace, Held, Shape, Single, work_single};
+use block_parameters::{ParamFault, Parameter};
+use block_trait::{Batch, Block, ByPace, Held, Shape, Single, work_single};
 use items::{ItemType, Items};
-use parameters::{ParamFault, Parameter};
 
 /// The sum of all bytes so far, modulo `modulus`, as GNU Radio's `diff_encoder_bb`.
 #[derive(Debug, Drop, PartialEq, Eq)]
@@ -86,7 +86,7 @@ impl Block for DiffEncoder {
     ghost use Rattle.std.proofs.Common.{ap};
     ghost use Rattle.kind_model.specs.Bits.{diff_encoder};
     ghost use Rattle.kind_laws.specs.Bits.{diff_encoder-lawful};
-    ghost use Rattle.block_kinds.specs.SameItem.{same_number};
+    ghost use Rattle.block_trait.specs.SameItem.{same_number};
     ghost use Rattle.bit_blocks.specs.Kinds.{diff_encoder_of, some_modulus};
 
     ghost meaning = { diff_encoder_of };

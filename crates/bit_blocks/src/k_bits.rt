@@ -2,10 +2,10 @@
 ghost use Rattle.std.specs.Prelude.{◌≡◌, ◌≤◌, ◌↔◌, IsOk, IfOk, IfErr};
 
 use crate::packing::Packing;
-use block_kinds::{Batch, Block, ByPace, Held, Shape, Single, ports, work_single};
+use block_parameters::{ParamFault, Parameter};
+use block_trait::{Batch, Block, ByPace, Held, Shape, Single, ports, work_single};
+use item_dispatch::{ByteWork, make_bytes};
 use items::{ItemType, Items};
-use lane_work::{ByteWork, make_bytes};
-use parameters::{ParamFault, Parameter};
 use std::marker::PhantomData;
 
 /// A block that goes between `k` bits and a byte. `P` says which way.
@@ -67,7 +67,7 @@ impl<P: Packing> Single for KBits<P> {
 
 impl<P: Packing> Block for KBits<P> {
     ghost use Rattle.std.proofs.Common.{ap};
-    ghost use Rattle.block_kinds.specs.SameItem.{same_number};
+    ghost use Rattle.block_trait.specs.SameItem.{same_number};
     ghost use Rattle.bit_blocks.specs.Kinds.{k_bits_of};
 
     ghost meaning = { k_bits_of P.equation };

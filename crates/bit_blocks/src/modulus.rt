@@ -1,7 +1,7 @@
 //! Moduli of bytes.
 ghost use Rattle.std.specs.Prelude.{◌≡◌, ◌≤◌, ◌↔◌, IsOk, IfOk, IfErr};
 
-use parameters::{ParamFault, Parameter};
+use block_parameters::{ParamFault, Parameter};
 
 /// The number modulo which bytes are added or subtracted: 2 to 256.
 #[derive(Clone, Copy, Debug, PartialEq, Eq)]

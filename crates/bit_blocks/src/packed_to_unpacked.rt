@@ -4,9 +4,9 @@ ghost use Rattle.stream_model.specs.Numbers.{bits_of};
 ghost use Rattle.kind_model.specs.BitStreams.{packed_to_unpacked};
 
 use crate::repacking::{Repacking, width_of};
+use block_parameters::{ParamFault, Parameter};
 use items::ItemType;
 use kind_model::BitOrder;
-use parameters::{ParamFault, Parameter};
 
 /// All bits of each item, one after the other, in items of `bits` bits. As GNU Radio's `packed_to_unpacked_xx`, its `endianness` the order in which an
 /// item's bits are taken: the first bit of an output is its highest in either order. But a firing takes whole rounds, as many items as fill whole outputs,

@@ -4,7 +4,7 @@ ghost use Rattle.kind_model.specs.Bits.{masked, places_of};
 ghost use Rattle.bit_blocks.specs.Jumps.{stepped};
 ghost use Rattle.bit_blocks.specs.Registers.{IsRegister};
 
-use parameters::{ParamFault, Parameter};
+use block_parameters::{ParamFault, Parameter};
 
 /// No register has more bits.
 pub(crate) const MOST_BITS: usize = 32;

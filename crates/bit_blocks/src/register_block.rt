@@ -3,7 +3,7 @@ ghost use Rattle.std.specs.Prelude.{◌≡◌};
 
 use crate::register::Register;
 use crate::scrambling::Scrambling;
-use block_kinds::{Batch, Block, ByPace, Held, Shape, Single, work_single};
+use block_trait::{Batch, Block, ByPace, Held, Shape, Single, work_single};
 use items::{ItemType, Items};
 use std::marker::PhantomData;
 

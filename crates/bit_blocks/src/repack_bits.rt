@@ -3,9 +3,9 @@ ghost use Rattle.std.specs.Prelude.{◌≡◌, ◌≤◌, ◌<◌, ◌↔◌, �
 ghost use Rattle.kind_model.specs.BitStreams.{repack_bits};
 
 use crate::repacking::Repacking;
+use block_parameters::{ParamFault, Parameter};
 use items::ItemType;
 use kind_model::BitOrder;
-use parameters::{ParamFault, Parameter};
 
 /// The lowest `k` bits of each byte, one after the other, in bytes of `l` bits, in one order on both sides. As GNU Radio's `repack_bits_bb` without a
 /// length tag, its `endianness` the order; but a firing takes whole rounds, as many bytes as fill whole bytes of `l` bits, so that of a last round that

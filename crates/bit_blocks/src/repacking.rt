@@ -4,7 +4,7 @@ ghost use Rattle.stream_model.specs.Numbers.{bits_of};
 ghost use Rattle.items.specs.Items.{type_of, numbers_of, spare_of};
 ghost use Rattle.kind_model.specs.BitStreams.{repack, repacking, common_divisor};
 
-use block_kinds::{Batch, Block, ByPace, Held, Shape, Single, ports, work_single};
+use block_trait::{Batch, Block, ByPace, Held, Shape, Single, ports, work_single};
 use items::{ItemType, Items};
 use kind_model::BitOrder;
 use lane_filters::append_repacked;

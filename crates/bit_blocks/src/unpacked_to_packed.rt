@@ -4,9 +4,9 @@ ghost use Rattle.stream_model.specs.Numbers.{bits_of};
 ghost use Rattle.kind_model.specs.BitStreams.{unpacked_to_packed};
 
 use crate::repacking::{Repacking, width_of};
+use block_parameters::{ParamFault, Parameter};
 use items::ItemType;
 use kind_model::BitOrder;
-use parameters::{ParamFault, Parameter};
 
 /// The lowest `bits` bits of each item, one after the other, in items that they fill: it undoes `PackedToUnpacked`. As GNU Radio's
 /// `unpacked_to_packed_xx`, its `endianness` the order in which an output is filled: the first bit of an item taken is its highest in either order. But a

@@ -16,8 +16,8 @@ use Rattle.kind_model.specs.declared.vocabulary.Checksum.{Checksum}
 use Rattle.kind_model.specs.Codes.{bytes_of, checksum, checksum_byte, with_checksum, is_checked, crc_append, crc_check, IsChecksum}
 use Rattle.kind_laws.specs.Codes.{checksum-same, with_checksum-same, is_checked-same}
 use Rattle.kind_laws.specs.Rates.{item_of_firing}
-use Rattle.block_kinds.specs.Shape.{IsPaced}
-use Rattle.block_kinds.proofs.Fills.{paced, length-paced, item-paced, given-paced}
+use Rattle.block_trait.specs.Shape.{IsPaced}
+use Rattle.block_trait.proofs.Fills.{paced, length-paced, item-paced, given-paced}
 
 -- an item that is written, and the others
 pub item-written : (out : List ℕ) (k v : ℕ) → k < length out → item (map pos (set out k v)) k ≡ pos v

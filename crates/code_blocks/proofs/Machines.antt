@@ -8,8 +8,8 @@ use Rattle.stream_model.specs.Settings.{Held}
 use Rattle.stream_model.specs.Meaning.{Meaning, IsFed, input, given_items}
 use Rattle.kind_model.specs.Codes.{row_of, state_after, state_machine, IsMachine}
 use Rattle.kind_laws.specs.Codes.{row_within}
-use Rattle.block_kinds.specs.Shape.{IsPaced}
-use Rattle.block_kinds.proofs.Fills.{paced, length-paced, item-paced, given-paced}
+use Rattle.block_trait.specs.Shape.{IsPaced}
+use Rattle.block_trait.proofs.Fills.{paced, length-paced, item-paced, given-paced}
 use Rattle.code_blocks.specs.Machines.{AreTables, given_from}
 
 -- one item more of a list that is given item by item

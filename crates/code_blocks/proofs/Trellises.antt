@@ -16,8 +16,8 @@ use Rattle.kind_model.specs.Trellis as model
 use Rattle.kind_model.specs.Trellis.{IsTrellis, decoded, viterbi}
 use Rattle.kind_laws.specs.Rates.{item_of_firing}
 use Rattle.kind_laws.specs.Trellis.{decoded-same}
-use Rattle.block_kinds.specs.Shape.{IsPaced}
-use Rattle.block_kinds.proofs.Fills.{paced, length-paced, item-paced, given-paced}
+use Rattle.block_trait.specs.Shape.{IsPaced}
+use Rattle.block_trait.proofs.Fills.{paced, length-paced, item-paced, given-paced}
 use Rattle.viterbi_decoder.specs.Found.{trellis}
 use Rattle.code_blocks.specs.declared.viterbi.Trellis.{Trellis}
 use Rattle.code_blocks.specs.Trellises.{AreTrellisTables}

@@ -2,10 +2,10 @@
 use Rattle.std.specs.Prelude.{◌<◌, ◌≤◌, ◌^◌, ℕ}
 use Rattle.kind_model.specs.declared.vocabulary.Checksum.{Checksum}
 use Rattle.kind_model.specs.Codes.{IsChecksum}
-use Rattle.parameters.specs.declared.fault.Parameter.{Parameter}
-use Rattle.parameters.specs.declared.fault.Parameter.TheVariants as parameters
-use Rattle.parameters.specs.declared.fault.ParamFault.{ParamFault}
-use Rattle.parameters.specs.declared.fault.ParamFault.TheVariants.{BadParameter, Memory}
+use Rattle.block_parameters.specs.declared.fault.Parameter.{Parameter}
+use Rattle.block_parameters.specs.declared.fault.Parameter.TheVariants as parameters
+use Rattle.block_parameters.specs.declared.fault.ParamFault.{ParamFault}
+use Rattle.block_parameters.specs.declared.fault.ParamFault.TheVariants.{BadParameter, Memory}
 
 -- how many bits a checksum has
 abbrev pub HasBits : Checksum → Type 0

@@ -10,7 +10,7 @@ use Rattle.kind_laws.specs.Codes.{crc_append-lawful, crc_check-lawful, state_mac
 use Rattle.kind_laws.specs.Trellis.{viterbi-lawful}
 use denote.Enum.Bare.{sameb}
 use Rattle.stream_model.specs.contracts.vocabulary.ItemType.{the_type}
-use Rattle.block_kinds.specs.SameItem.{same_item, same_number}
+use Rattle.block_trait.specs.SameItem.{same_item, same_number}
 use Rattle.viterbi_decoder.specs.Same.{decoders_agree, same_trellis}
 use Rattle.code_blocks.specs.declared.crc_append.CrcAppend.{CrcAppend}
 use Rattle.code_blocks.specs.declared.crc_check.CrcCheck.{CrcCheck}

@@ -4,10 +4,10 @@ use Rattle.stream_model.specs.declared.vocabulary.ItemType.TheVariants.{Byte}
 use Rattle.stream_model.specs.Numbers.{AreItems}
 use Rattle.stream_model.specs.Lists.{item, listed}
 use Rattle.kind_model.specs.Codes.{row_of, state_after}
-use Rattle.parameters.specs.declared.fault.Parameter.{Parameter}
-use Rattle.parameters.specs.declared.fault.Parameter.TheVariants as parameters
-use Rattle.parameters.specs.declared.fault.ParamFault.{ParamFault}
-use Rattle.parameters.specs.declared.fault.ParamFault.TheVariants.{BadParameter, Memory}
+use Rattle.block_parameters.specs.declared.fault.Parameter.{Parameter}
+use Rattle.block_parameters.specs.declared.fault.Parameter.TheVariants as parameters
+use Rattle.block_parameters.specs.declared.fault.ParamFault.{ParamFault}
+use Rattle.block_parameters.specs.declared.fault.ParamFault.TheVariants.{BadParameter, Memory}
 
 -- how many symbols there may be
 abbrev pub AreSymbols : ℕ → Type 0

@@ -8,7 +8,7 @@ use Rattle.kind_model.specs.declared.vocabulary.BitOrder.{BitOrder}
 use Rattle.kind_model.specs.declared.vocabulary.BitOrder.TheVariants.{MsbFirst, LsbFirst}
 use Rattle.kind_model.specs.declared.vocabulary.Checksum.{Checksum}
 use Rattle.stream_model.specs.Meaning.{Meaning}
-use Rattle.block_kinds.specs.SameItem.{same_number}
+use Rattle.block_trait.specs.SameItem.{same_number}
 use Rattle.code_blocks.specs.declared.crc.Crc.{Crc}
 use Rattle.code_blocks.specs.declared.division.Division.{Division}
 

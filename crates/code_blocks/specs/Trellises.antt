@@ -2,10 +2,10 @@
 use Rattle.std.specs.Prelude.{◌≡◌, ◌<◌, ◌≤◌, ◌*◌, ◌/◌, ℕ, ℤ, pos, ◌≤ℤ◌, ◌<ℤ◌, List, All, Option, length, map, unsigned_abs}
 use Rattle.std.specs.Option.{ForSome}
 use Rattle.kind_model.specs.Trellis as model
-use Rattle.parameters.specs.declared.fault.Parameter.{Parameter}
-use Rattle.parameters.specs.declared.fault.Parameter.TheVariants as parameters
-use Rattle.parameters.specs.declared.fault.ParamFault.{ParamFault}
-use Rattle.parameters.specs.declared.fault.ParamFault.TheVariants.{BadParameter, Memory}
+use Rattle.block_parameters.specs.declared.fault.Parameter.{Parameter}
+use Rattle.block_parameters.specs.declared.fault.Parameter.TheVariants as parameters
+use Rattle.block_parameters.specs.declared.fault.ParamFault.{ParamFault}
+use Rattle.block_parameters.specs.declared.fault.ParamFault.TheVariants.{BadParameter, Memory}
 use Rattle.viterbi_decoder.specs.Found.{trellis}
 use Rattle.code_blocks.specs.Machines.{AreStates}
 use Rattle.code_blocks.specs.declared.viterbi.Trellis.{Trellis}

@@ -7,8 +7,8 @@ ghost use Rattle.code_blocks.specs.Divided.{bits_of_byte, bits_by};
 ghost use Rattle.code_blocks.specs.Faults.{IsFirstBad, IsRefusal};
 
 use crate::division::Division;
+use block_parameters::{ParamFault, Parameter};
 use kind_model::{BitOrder, Checksum};
-use parameters::{ParamFault, Parameter};
 use std::alloc::Global;
 
 /// Frames of `length` bytes, and how their checksums are computed.

@@ -5,11 +5,11 @@ ghost use Rattle.kind_model.specs.Codes.{IsChecksum, bytes_of, crc_append, with_
 ghost use Rattle.code_blocks.specs.Faults.{IsRefusal};
 
 use crate::crc::Crc;
-use block_kinds::{Batch, Block, ByPace, Held, Shape, Single, ports, work_single};
+use block_parameters::ParamFault;
+use block_trait::{Batch, Block, ByPace, Held, Shape, Single, ports, work_single};
+use item_dispatch::{ByteWork, make_bytes};
 use items::{ItemType, Items};
 use kind_model::Checksum;
-use lane_work::{ByteWork, make_bytes};
-use parameters::ParamFault;
 use std::alloc::Global;
 
 /// Each frame of so many bytes, and then its checksum: the highest byte first where bits come highest first, else the lowest. As GNU Radio's

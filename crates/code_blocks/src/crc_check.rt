@@ -5,11 +5,11 @@ ghost use Rattle.kind_model.specs.Codes.{IsChecksum, bytes_of, crc_check, is_che
 ghost use Rattle.code_blocks.specs.Faults.{IsRefusal};
 
 use crate::crc::Crc;
-use block_kinds::{Batch, Block, ByPace, Held, Shape, Single, ports, work_single};
+use block_parameters::ParamFault;
+use block_trait::{Batch, Block, ByPace, Held, Shape, Single, ports, work_single};
+use item_dispatch::{ByteWork, make_bytes};
 use items::{ItemType, Items};
 use kind_model::Checksum;
-use lane_work::{ByteWork, make_bytes};
-use parameters::ParamFault;
 use std::alloc::Global;
 
 /// 1 for each frame of so many bytes with its checksum behind it, and 0 for each with other bytes there. GNU Radio's `crc_check` of messages and

@@ -5,10 +5,10 @@ ghost use Rattle.items.specs.Items.{type_of, numbers_of, spare_of};
 ghost use Rattle.kind_model.specs.Codes.{IsMachine, state_after, state_machine};
 ghost use Rattle.code_blocks.specs.Machines.{AreOutputs, AreStates, AreTables, IsBadTable, IsTableRefusal, given_from};
 
-use block_kinds::{Batch, Block, ByPace, Held, Shape, Single, work_single};
+use block_parameters::{ParamFault, Parameter};
+use block_trait::{Batch, Block, ByPace, Held, Shape, Single, work_single};
 use items::{ItemType, Items};
 use numbers::vectors::narrowed;
-use parameters::{ParamFault, Parameter};
 use std::alloc::{AllocError, Global};
 
 /// A machine that goes from state to state: for each byte it gives what a table has for its state and the byte, and goes on to the state that another has

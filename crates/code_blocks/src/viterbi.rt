@@ -8,11 +8,11 @@ ghost use Rattle.viterbi_decoder.specs.Model.{trellis_of};
 ghost use Rattle.code_blocks.specs.Trellises.{AreFewStates, AreNumbersBelow, AreSteps, AreTrellisTables, IsBadTrellis, IsState, IsTrellisRefusal, trellis_in};
 
 use crate::state_machine::{are_states, narrow_states};
-use block_kinds::{Batch, Block, ByPace, Held, Shape, Single, ports, work_single};
+use block_parameters::{ParamFault, Parameter};
+use block_trait::{Batch, Block, ByPace, Held, Shape, Single, ports, work_single};
 use items::{ItemType, Items};
 use numbers::Number;
 use numbers::vectors::append_copies;
-use parameters::{ParamFault, Parameter};
 use std::alloc::Global;
 use viterbi_decoder::Decoder;
 

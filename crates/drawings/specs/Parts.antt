@@ -12,8 +12,8 @@ use Rattle.stream_model.specs.Network.{no_connection, node_at, writers_of, used_
 use Rattle.stream_model.specs.Machine.{Capacities, capacity_at}
 use Rattle.graph_model.specs.Rates.{Balance, Balanced, Uneven, TooLarge}
 use Rattle.flowgraph.specs.Flowgraph.{Flowgraph, net_of}
-use Rattle.block_kinds.specs.declared.shape.Pace.{Pace}
-use Rattle.block_kinds.specs.declared.shape.Pace.TheVariants as paces
+use Rattle.block_trait.specs.declared.shape.Pace.{Pace}
+use Rattle.block_trait.specs.declared.shape.Pace.TheVariants as paces
 use Rattle.kinds.specs.declared.kind.Kind.{Kind}
 use Rattle.kinds.specs.Kind.{meaning_of}
 use Rattle.kinds.specs.KindNames.{kind_text, name_of}

@@ -6,7 +6,7 @@ ghost use Rattle.kinds.specs.Kind.{meaning_of};
 ghost use Rattle.rates.specs.Answer.{answer_of, sizes_of};
 ghost use Rattle.drawings.specs.Parts.{box_seen, end_seen, arrow_seen, box_at, end_at, arrow_of, firings_at, note_of, moved_note, shift_by};
 
-use block_kinds::{Block, Pace, Setting};
+use block_trait::{Block, Pace, Setting};
 use flowgraph::{BlockId, Connection, Valid};
 use kinds::Kind;
 use rates::{BufferCapacities, Rates};

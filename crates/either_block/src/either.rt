@@ -1,7 +1,7 @@
 //! A block of one of two types.
 ghost use Rattle.either_block.specs.Either.{meaning_of, place_of};
 
-use block_kinds::{Block, Held, Placing, Shape};
+use block_trait::{Block, Held, Placing, Shape};
 use items::Items;
 
 /// A block of one of two types. It means what the block inside means.

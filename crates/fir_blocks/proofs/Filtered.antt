@@ -11,9 +11,9 @@ use Rattle.stream_model.specs.Shapes.{taps_at, taps_set}
 use Rattle.kind_model.specs.Filters.{tapped, fir, interp_fir, branch_taps}
 use Rattle.shape_laws.specs.Shaped.{sum_below-same}
 use Rattle.kind_laws.specs.Rates.{item_of_firing}
-use Rattle.block_kinds.specs.Shape.{IsPaced}
-use Rattle.block_kinds.proofs.Fills.{paced, past-paced, given-paced}
-use Rattle.block_kinds.proofs.InForce.{AreOver-between, latest-between}
+use Rattle.block_trait.specs.Shape.{IsPaced}
+use Rattle.block_trait.proofs.Fills.{paced, past-paced, given-paced}
+use Rattle.block_trait.proofs.InForce.{AreOver-between, latest-between}
 use Rattle.fir_blocks.specs.declared.polyphase.Polyphase.{Polyphase}
 use Rattle.fir_blocks.specs.Filters.{IsFilter}
 use Rattle.fir_blocks.specs.Polyphase.{phased, taps_among, AreOverFirings}

@@ -6,8 +6,8 @@ use Rattle.std.proofs.lemmas.Grind.{div_ceil_times}
 use Rattle.std.proofs.lemmas.List.{drop-map, length-map, drop_all}
 use Rattle.stream_model.specs.Settings.{Held}
 use Rattle.stream_model.specs.Shapes.{taps_set}
-use Rattle.block_kinds.specs.InForce.{AreOver}
-use Rattle.block_kinds.proofs.InForce.{latest-taken, latest-later, latest-rising}
+use Rattle.block_trait.specs.InForce.{AreOver}
+use Rattle.block_trait.proofs.InForce.{latest-taken, latest-later, latest-rising}
 use Rattle.fir_blocks.specs.Polyphase.{taps_among, end_before, AreOverFirings}
 
 -- the first firing that takes an item at `at` or later

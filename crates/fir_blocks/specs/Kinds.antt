@@ -8,7 +8,7 @@ use denote.Enum.Bare.{sameb}
 use Rattle.stream_model.specs.contracts.vocabulary.ItemType.{the_type}
 use Rattle.stream_model.specs.declared.vocabulary.ItemType.{ItemType}
 use Rattle.stream_model.specs.Meaning.{Meaning}
-use Rattle.block_kinds.specs.SameItem.{same_item, same_number}
+use Rattle.block_trait.specs.SameItem.{same_item, same_number}
 use Rattle.fir_blocks.specs.declared.filter.Filter.{Filter}
 
 -- a filter of which this is the equation

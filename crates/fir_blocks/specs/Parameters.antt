@@ -3,10 +3,10 @@ use Rattle.std.specs.Prelude.{◌≡◌, ◌≢◌, ◌≤◌, ◌⊎◌, ℕ, �
 use Rattle.stream_model.specs.declared.vocabulary.ItemType.{ItemType}
 use Rattle.stream_model.specs.declared.vocabulary.ItemType.TheVariants as types
 use Rattle.stream_model.specs.Numbers.{AreItems}
-use Rattle.parameters.specs.declared.fault.Parameter.{Parameter}
-use Rattle.parameters.specs.declared.fault.Parameter.TheVariants as parameters
-use Rattle.parameters.specs.declared.fault.ParamFault.{ParamFault}
-use Rattle.parameters.specs.declared.fault.ParamFault.TheVariants.{BadParameter, Memory}
+use Rattle.block_parameters.specs.declared.fault.Parameter.{Parameter}
+use Rattle.block_parameters.specs.declared.fault.Parameter.TheVariants as parameters
+use Rattle.block_parameters.specs.declared.fault.ParamFault.{ParamFault}
+use Rattle.block_parameters.specs.declared.fault.ParamFault.TheVariants.{BadParameter, Memory}
 
 -- the taps of a filter: 1 to 256 short numbers
 pub record AreTaps (taps : List ℤ) : Type 0 where

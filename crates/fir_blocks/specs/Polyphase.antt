@@ -6,7 +6,7 @@ use Rattle.stream_model.specs.Numbers.{sat, rnd}
 use Rattle.stream_model.specs.Lists.{item, sum_below}
 use Rattle.stream_model.specs.Settings.{Held, latest}
 use Rattle.stream_model.specs.Shapes.{taps_set}
-use Rattle.block_kinds.specs.InForce.{AreRising}
+use Rattle.block_trait.specs.InForce.{AreRising}
 use Rattle.fir_blocks.specs.declared.polyphase.Polyphase.{Polyphase}
 
 -- output n under the taps h: branch n % given of them, over the newest item of firing n / given and those before it

@@ -6,10 +6,10 @@ use crate::filter_rate::FilterRate;
 use crate::first_bad::first_bad;
 use crate::polyphase::Polyphase;
 use crate::stretch::filter_items;
-use block_kinds::{Batch, Block, ByPace, Held, Setting, Shape, Single, ports, work_single};
+use block_parameters::ParamFault;
+use block_trait::{Batch, Block, ByPace, Held, Setting, Shape, Single, ports, work_single};
 use items::{ItemType, Items};
 use numbers::vectors::narrowed;
-use parameters::ParamFault;
 use std::alloc::Global;
 use std::marker::PhantomData;
 

@@ -2,12 +2,12 @@
 ghost use Rattle.std.specs.Prelude.{◌≡◌, ◌≤◌, ℕ, ℤ, List, length};
 ghost use Rattle.stream_model.specs.declared.vocabulary.ItemType.{ItemType};
 ghost use Rattle.stream_model.specs.Meaning.{Meaning, IsLawful};
-ghost use Rattle.parameters.specs.declared.fault.Parameter.{Parameter};
-ghost use Rattle.block_kinds.specs.Fill.{IsSingle};
+ghost use Rattle.block_parameters.specs.declared.fault.Parameter.{Parameter};
+ghost use Rattle.block_trait.specs.Fill.{IsSingle};
 ghost use Rattle.fir_blocks.specs.Filters.{IsFilter};
 
 use crate::polyphase::Polyphase;
-use parameters::Parameter;
+use block_parameters::Parameter;
 
 /// What the rate of a filter is.
 pub trait FilterRate: Drop {

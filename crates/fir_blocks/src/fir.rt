@@ -3,7 +3,7 @@
 use crate::filter::Filter;
 use crate::filter_rate::FilterRate;
 use crate::polyphase::Polyphase;
-use parameters::Parameter;
+use block_parameters::Parameter;
 
 /// A filter that gives one item for each `decimation` of its input, as GNU Radio's `fir_filter_xxx` over integers.
 pub type Fir = Filter<Decimation>;
@@ -15,7 +15,7 @@ pub struct Decimation;
 impl FilterRate for Decimation {
     ghost use Rattle.std.specs.Prelude.{refl};
     ghost use Rattle.kind_model.specs.Filters.{fir};
-    ghost use Rattle.parameters.specs.declared.fault.Parameter.TheVariants as parameters;
+    ghost use Rattle.block_parameters.specs.declared.fault.Parameter.TheVariants as parameters;
     ghost use Rattle.kind_laws.specs.Filters.{fir-lawful};
 
     ghost equation = { fir };

@@ -2,9 +2,9 @@
 ghost use Rattle.std.specs.Prelude.{◌≡◌, ◌↔◌, IfSome, IsNone, IsTrue};
 ghost use Rattle.fir_blocks.specs.Parameters.{AreTaps, AreParameters, IsFirstBad};
 
+use block_parameters::Parameter;
 use items::ItemType;
 use numbers::range::is_item;
-use parameters::Parameter;
 
 // Whether a filter may have these taps.
 fn are_taps(taps: &[i64]) -> bool

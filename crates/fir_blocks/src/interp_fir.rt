@@ -3,7 +3,7 @@
 use crate::filter::Filter;
 use crate::filter_rate::FilterRate;
 use crate::polyphase::Polyphase;
-use parameters::Parameter;
+use block_parameters::Parameter;
 
 /// An interpolating filter, as GNU Radio's `interp_fir_filter_xxx` over integers: for each item it gives `interpolation` items, one by each branch of
 /// the taps (polyphase).
@@ -16,7 +16,7 @@ pub struct Interpolation;
 impl FilterRate for Interpolation {
     ghost use Rattle.std.specs.Prelude.{refl};
     ghost use Rattle.kind_model.specs.Filters.{interp_fir};
-    ghost use Rattle.parameters.specs.declared.fault.Parameter.TheVariants as parameters;
+    ghost use Rattle.block_parameters.specs.declared.fault.Parameter.TheVariants as parameters;
     ghost use Rattle.kind_laws.specs.Filters.{interp_fir-lawful};
 
     ghost equation = { interp_fir };

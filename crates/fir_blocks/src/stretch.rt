@@ -9,7 +9,7 @@ ghost use Rattle.fir_blocks.specs.Polyphase.{phased, IsSized, taps_among, end_be
 
 use crate::polyphase::Polyphase;
 use crate::tap_lane::TapLane;
-use block_kinds::{Held, Value};
+use block_trait::{Held, Value};
 use items::Items;
 use numbers::vectors::append_copies;
 

@@ -2,8 +2,8 @@
 
 use crate::explaining::explain_device;
 use crate::refusing::{begins_none, begins_none_of};
-use explanations::starting_graph;
-use flow::start_fault::StartFault;
+use diagnostics::starting_graph;
+use flow_core::start_fault::StartFault;
 use kinds::KindName;
 use std::io::Write;
 use std::{fs, io};

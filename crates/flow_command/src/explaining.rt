@@ -1,10 +1,10 @@
 //! What follows the line of a refusal, if the words ask for it. If memory runs out, nothing does.
 
 use crate::words::Call;
-use explanations::{KeptLines, at_device, explain};
-use flow::serve::Action;
+use byte_io::ByteIn;
+use diagnostics::{KeptLines, at_device, explain};
+use flow_core::serve::Action;
 use graph_file::Depth;
-use reporting::ByteIn;
 use std::io::Error;
 
 /// The exit status of a refusal.

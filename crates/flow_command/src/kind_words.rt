@@ -2,7 +2,7 @@
 
 use super::ends::EndsFault;
 use clap::{Arg, ArgAction};
-use explanations::{is_link, near_name, shown};
+use diagnostics::{is_link, near_name, shown};
 use kinds::KindName;
 use std::alloc::{AllocError, Global};
 

@@ -2,8 +2,8 @@
 
 use crate::ends::{Ends, NamedEnd};
 use crate::uncut::Uncut;
-use flow::raw_fault::EndPlace;
-use flow::raw_input::source_named;
+use flow_core::raw_fault::EndPlace;
+use flow_core::raw_input::source_named;
 use flowgraph::{BlockId, Valid};
 use kinds::Kind;
 use raw_items::item_size;

@@ -1,11 +1,11 @@
 //! Requests of lines to a run between files, and the replies.
 
 use crate::stops::name_of;
-use flow::session::calls::value_for;
+use flow_core::session::calls::value_for;
 use flowgraph::{Block, BlockId, Valid};
 use kinds::Kind;
 use pipeline::{Answer, Closed, Levels, PlantFault, Taken, Told};
-use reporting::Refusal;
+use refusal_codes::Refusal;
 use request_box::{CallFault, Caller};
 use script_text::{Command, Line, Reply, parse_line};
 use std::alloc::{AllocError, Global};

@@ -3,8 +3,8 @@
 use crate::line_calls::{Blocks, Said, reply_to};
 use crate::speaking::{Control, Speech};
 use crate::stops::Stop;
-use flow::fault::Fault;
-use flow::raw_fault::RawFault;
+use flow_core::fault::Fault;
+use flow_core::raw_fault::RawFault;
 use request_box::Caller;
 use std::alloc::{AllocError, Global};
 use std::io::Read;

@@ -2,8 +2,8 @@
 
 use crate::gone_reader::{NOBODY_READS, OUTPUT, is_gone, tell};
 use crate::refusing::begins_none;
-use explanations::{page_of_kind, page_of_kinds};
-use flow::start_fault::StartFault;
+use diagnostics::{page_of_kind, page_of_kinds};
+use flow_core::start_fault::StartFault;
 use kinds::KindName;
 
 /// Prints the page of all kinds, or of one, and returns the exit status.

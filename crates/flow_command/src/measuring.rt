@@ -3,12 +3,12 @@
 use crate::gone_reader::NOBODY_READS;
 use crate::refusing::begins_none;
 use crate::words::Call;
-use flow::fault::NO_MEMORY;
-use flow::opening::open_plant;
-use flow::start_fault::StartFault;
+use flow_core::fault::NO_MEMORY;
+use flow_core::opening::open_plant;
+use flow_core::start_fault::StartFault;
 use flowgraph::Valid;
 use kinds::Kind;
-use reporting::Refusal;
+use refusal_codes::Refusal;
 use run_stats::{Looks, Measured, Observer};
 use std::alloc::{AllocError, Global};
 use std::io::Write;

@@ -10,7 +10,7 @@ use crate::rest::Rest;
 use crate::stops::Stop;
 use crate::targets::Targets;
 use crate::team::Team;
-use flow::opening::open_stream;
+use flow_core::opening::open_stream;
 use flowgraph::{BlockId, Valid};
 use kinds::Kind;
 use plant::Watch;

@@ -3,9 +3,9 @@
 ghost use Rattle.std.specs.Prelude.{◌≡◌, []};
 ghost use Rattle.std.specs.Io.Buffered.{writer_inner, writer_buffer};
 
-use explanations::shown;
-use flow::start_fault::StartFault;
-use reporting::WriteEnd;
+use byte_io::WriteEnd;
+use diagnostics::shown;
+use flow_core::start_fault::StartFault;
 use std::alloc::Global;
 use std::env::{Env, FillError};
 use std::io::{BufWriter, Write};

@@ -8,7 +8,7 @@ use crate::slicing::plan_of;
 use crate::stops::name_of;
 use crate::uncut::{Uncut, text_of};
 use crate::words::Call;
-use flow::start_fault::StartFault;
+use flow_core::start_fault::StartFault;
 use flowgraph::{BlockId, Valid};
 use graph_file::read_graph;
 use kinds::Kind;

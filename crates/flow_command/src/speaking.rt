@@ -6,7 +6,7 @@ use crate::line_thread::{LineThread, Speaker};
 use crate::refusing::begins_none_of;
 use crate::stops::{Stop, Stream};
 use crate::words::Call;
-use flow::start_fault::StartFault;
+use flow_core::start_fault::StartFault;
 use reader_threads::ReaderThreads;
 use request_box::{RequestBox, request_box};
 use std::alloc::Global;

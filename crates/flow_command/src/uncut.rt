@@ -4,7 +4,7 @@ use crate::explaining::{REFUSED, explain_end};
 use crate::refusing::{begins_none, buffered, shown_name};
 use crate::stops::name_of;
 use crate::words::Call;
-use flow::start_fault::StartFault;
+use flow_core::start_fault::StartFault;
 use flowgraph::{BlockId, Valid};
 use kinds::Kind;
 use std::alloc::AllocError;

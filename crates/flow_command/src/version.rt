@@ -3,7 +3,7 @@
 use crate::listing::print_text;
 use crate::refusing::begins_none;
 use crate::words::VERSION;
-use flow::start_fault::StartFault;
+use flow_core::start_fault::StartFault;
 use std::env;
 use std::path::Path;
 

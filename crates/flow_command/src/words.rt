@@ -8,7 +8,7 @@ use super::kind_words::{WordFault, kind_in, kinds_command, links_in, new_command
 use clap::builder::ValueParser;
 use clap::error::ErrorKind;
 use clap::{Arg, ArgAction, ArgMatches};
-use explanations::{near_name, shown};
+use diagnostics::{near_name, shown};
 use kinds::KindName;
 use std::alloc::{AllocError, Global};
 

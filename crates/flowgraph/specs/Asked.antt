@@ -2,8 +2,8 @@
 use Rattle.std.specs.Prelude.{ℕ, ◌≡◌, List, Some, length, slice_get}
 use Rattle.stream_model.specs.Meaning.{Meaning}
 use Rattle.stream_model.specs.Network.{Node}
-use Rattle.block_kinds.specs.declared.shape.Pace.{Pace}
-use Rattle.block_kinds.specs.Shape.{HasPace}
+use Rattle.block_trait.specs.declared.shape.Pace.{Pace}
+use Rattle.block_trait.specs.Shape.{HasPace}
 use Rattle.flowgraph.specs.declared.asked.Asked.{Asked}
 use Rattle.flowgraph.specs.declared.parts.Entry.{Entry}
 use Rattle.flowgraph.specs.Flowgraph.{node_of}

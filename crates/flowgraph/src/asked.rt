@@ -1,12 +1,12 @@
 //! What claims and commits ask of blocks, kept so that they need not make a shape.
 ghost use Rattle.std.specs.Prelude.{◌≡◌, ℕ, length, Some, slice_get, IfOk};
-ghost use Rattle.block_kinds.specs.Shape.{HasPace};
+ghost use Rattle.block_trait.specs.Shape.{HasPace};
 ghost use Rattle.flowgraph.specs.Flowgraph.{node_of};
 ghost use Rattle.flowgraph.specs.Asked.{IsAsked, AreAsked};
 
 use crate::parts::Entry;
 use crate::ports::MOST_PORTS;
-use block_kinds::{Block, Pace, Role};
+use block_trait::{Block, Pace, Role};
 use std::alloc::{AllocError, Global};
 use stream_model::ItemType;
 

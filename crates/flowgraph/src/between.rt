@@ -1,8 +1,8 @@
 //! How many items firings take and give, from one firing to another.
 ghost use Rattle.std.specs.Prelude.{◌≡◌, ◌≤◌, ◌<◌, ◌*◌, ◌-◌, ◌^◌};
-ghost use Rattle.block_kinds.specs.Shape.{taken_at, given_at};
+ghost use Rattle.block_trait.specs.Shape.{taken_at, given_at};
 
-use block_kinds::Pace;
+use block_trait::Pace;
 
 /// How many items base firings `from` to below `to` take.
 pub fn taken_between(pace: Pace, from: u64, to: u64) -> u64

@@ -4,7 +4,7 @@ ghost use Rattle.flowgraph.specs.Fault.{row_of, side_text, limit_text, option_te
 ghost use Rattle.flowgraph.specs.declared.fault.GraphFault.TheVariants.{Memory};
 
 use crate::parts::BlockId;
-use reporting::Refusal;
+use refusal_codes::Refusal;
 use std::alloc::AllocError;
 use std::error::Error;
 use std::fmt;

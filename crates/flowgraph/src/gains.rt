@@ -15,7 +15,7 @@ ghost use Rattle.flowgraph.specs.Turns.{carried, carried_to};
 use crate::fault::{GraphFault, Limit};
 use crate::parts::{BlockId, Connection, Entry};
 use crate::ports::MOST_PORTS;
-use block_kinds::Block;
+use block_trait::Block;
 use std::alloc::{AllocError, Global};
 
 /// The greatest product of gains along a path.

@@ -21,7 +21,7 @@ use crate::port_tests::port_fault;
 use crate::refusals::{refused_block, refused_connection};
 use crate::valid::Valid;
 use crate::wiring::{Wiring, tables};
-use block_kinds::Block;
+use block_trait::Block;
 use indexmap::IndexSet;
 use std::alloc::{AllocError, Global};
 use std::fmt;

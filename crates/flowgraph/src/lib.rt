@@ -19,7 +19,7 @@ mod step_order;
 pub mod valid;
 mod wiring;
 
-pub use block_kinds::Block;
+pub use block_trait::Block;
 pub use fault::{BlockOption, GraphFault, Limit, Side};
 pub use graph::Graph;
 pub use parts::{BlockId, Connection, Input, Options};

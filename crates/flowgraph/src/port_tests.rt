@@ -9,7 +9,7 @@ ghost use Rattle.flowgraph.specs.Tests.{port_faults, gap_in};
 use crate::fault::{GraphFault, Limit, Side};
 use crate::parts::{BlockId, Connection, Entry};
 use crate::ports::{Ports, used_ports};
-use block_kinds::Block;
+use block_trait::Block;
 use std::alloc::{AllocError, Global};
 use stream_model::Policy;
 

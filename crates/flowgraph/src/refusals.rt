@@ -11,7 +11,7 @@ ghost use Rattle.flowgraph.specs.Flowgraph.{net_of, node_of, graph_of, entry, co
 use crate::fault::{BlockOption, GraphFault, Limit, Side};
 use crate::parts::{BlockId, Connection, Entry, Options};
 use crate::ports::MOST_PORTS;
-use block_kinds::Block;
+use block_trait::Block;
 use indexmap::IndexSet;
 use items::is_name;
 use stream_model::{Role, Signature};

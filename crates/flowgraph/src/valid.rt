@@ -7,7 +7,7 @@ ghost use Rattle.graph_model.specs.Gains.{IsWithinGain, greatest_gain, longest_w
 ghost use Rattle.graph_model.specs.Graphs.{IsValidGraph};
 ghost use Rattle.graph_model.specs.Rates.{CanCount};
 ghost use Rattle.graph_laws.specs.Running.{AreLawful};
-ghost use Rattle.block_kinds.specs.Shape.{HasPace};
+ghost use Rattle.block_trait.specs.Shape.{HasPace};
 ghost use Rattle.flowgraph.specs.Agreeing.{graphs_agree};
 ghost use Rattle.flowgraph.specs.Asked.{AreAsked};
 ghost use Rattle.flowgraph.specs.Fault.{id};
@@ -20,7 +20,7 @@ use crate::between::{given_between, taken_between};
 use crate::parts::{BlockId, Connection, Entry, Input, Options};
 use crate::ports::MOST_PORTS;
 use crate::wiring::Wiring;
-use block_kinds::{Block, Pace, Role};
+use block_trait::{Block, Pace, Role};
 use indexmap::IndexSet;
 use std::fmt;
 use std::marker::Model;

@@ -10,7 +10,7 @@ use Rattle.stream_model.specs.Machine.{Reply}
 use Rattle.items.specs.declared.marks.Mark.{Mark}
 use Rattle.flowgraph.specs.declared.parts.BlockId.{BlockId}
 use Rattle.flowgraph.specs.Fault.{id}
-use Rattle.stores.specs.Stores as stores
+use Rattle.plant_storage.specs.Stores as stores
 use Rattle.kinds.specs.declared.kind.Kind.{Kind}
 use Rattle.plant.specs.declared.fault.PlantFault.{PlantFault}
 use Rattle.plant.specs.declared.fault.PlantFault.TheVariants as plant

@@ -12,10 +12,10 @@ use Rattle.flowgraph.specs.Fault.{reported}
 use Rattle.flowgraph.specs.Flowgraph.{Flowgraph, net_of}
 use Rattle.kinds.specs.declared.kind.Kind.{Kind}
 use Rattle.kinds.specs.Kind.{meaning_of}
-use Rattle.kind_keys.specs.declared.key.Key.TheVariants as keys
-use Rattle.kind_keys.specs.declared.fault.KeyFault.{KeyFault}
-use Rattle.kind_keys.specs.Tables.{at_key, string_in, text_at, small_at, policy_named}
-use Rattle.kind_keys.specs.Reading.{block_in, takes_memory}
+use Rattle.kind_schema.specs.declared.key.Key.TheVariants as keys
+use Rattle.kind_schema.specs.declared.fault.KeyFault.{KeyFault}
+use Rattle.kind_schema.specs.Tables.{at_key, string_in, text_at, small_at, policy_named}
+use Rattle.kind_schema.specs.Reading.{block_in, takes_memory}
 use Rattle.graph_file.specs.declared.fault.FilePlace.TheVariants as places
 use Rattle.graph_file.specs.Refusals.{Refusal, at_table, of_graph, short}
 

@@ -10,11 +10,11 @@ use Rattle.flowgraph.specs.declared.fault.Side.{Side}
 use Rattle.flowgraph.specs.declared.fault.Side.TheVariants.{In, Out}
 use Rattle.flowgraph.specs.declared.fault.Limit.TheVariants.{Connections}
 use Rattle.flowgraph.specs.Fault.{reported}
-use Rattle.kind_keys.specs.declared.key.Key.{Key}
-use Rattle.kind_keys.specs.declared.key.Key.TheVariants as keys
-use Rattle.kind_keys.specs.declared.fault.KeyFault.{KeyFault}
-use Rattle.kind_keys.specs.declared.fault.KeyFault.TheVariants.{UnknownKey}
-use Rattle.kind_keys.specs.Tables.{text_at, number_at, count_at, keys_fault, has_only}
+use Rattle.kind_schema.specs.declared.key.Key.{Key}
+use Rattle.kind_schema.specs.declared.key.Key.TheVariants as keys
+use Rattle.kind_schema.specs.declared.fault.KeyFault.{KeyFault}
+use Rattle.kind_schema.specs.declared.fault.KeyFault.TheVariants.{UnknownKey}
+use Rattle.kind_schema.specs.Tables.{text_at, number_at, count_at, keys_fault, has_only}
 use Rattle.graph_file.specs.declared.fault.FilePlace.TheVariants as places
 use Rattle.graph_file.specs.Refusals.{Refusal, of_graph, negative_port, short, block_name}
 use Rattle.graph_file.specs.Blocks.{Draft}

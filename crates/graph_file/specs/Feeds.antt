@@ -1,11 +1,11 @@
 -- The feeds of a graph file.
 use Rattle.std.specs.Prelude.{ℕ, ℤ, List, [], ◌∷◌, ◌++◌, Option, Some, None, option_and_then, Result, Ok, Err, IsOk}
 use Rattle.toml.specs.Data.{Items, no_items, item, Members, as_table}
-use Rattle.kind_keys.specs.declared.key.Key.{Key}
-use Rattle.kind_keys.specs.declared.key.Key.TheVariants as keys
-use Rattle.kind_keys.specs.declared.fault.KeyFault.{KeyFault}
-use Rattle.kind_keys.specs.declared.fault.KeyFault.TheVariants.{WrongType}
-use Rattle.kind_keys.specs.Tables.{text_at, number_at, numbers_at, items_at, keys_fault, has_only}
+use Rattle.kind_schema.specs.declared.key.Key.{Key}
+use Rattle.kind_schema.specs.declared.key.Key.TheVariants as keys
+use Rattle.kind_schema.specs.declared.fault.KeyFault.{KeyFault}
+use Rattle.kind_schema.specs.declared.fault.KeyFault.TheVariants.{WrongType}
+use Rattle.kind_schema.specs.Tables.{text_at, number_at, numbers_at, items_at, keys_fault, has_only}
 use Rattle.graph_file.specs.declared.fault.FilePlace.TheVariants as places
 use Rattle.graph_file.specs.declared.feed.FileMark.{FileMark}
 use Rattle.graph_file.specs.declared.feed.Feed.{Feed}

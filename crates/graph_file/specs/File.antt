@@ -3,9 +3,9 @@ use Rattle.std.specs.Prelude.{◌≡◌, ◌⊎◌, List, [], ◌∷◌, map, Op
 use Rattle.toml.specs.Data.{Members}
 use Rattle.stream_model.specs.Meaning.{Meaning}
 use Rattle.flowgraph.specs.Flowgraph.{graph_of}
-use Rattle.kind_keys.specs.declared.key.Key.{Key}
-use Rattle.kind_keys.specs.declared.key.Key.TheVariants as keys
-use Rattle.kind_keys.specs.Tables.{items_at, keys_fault, has_only}
+use Rattle.kind_schema.specs.declared.key.Key.{Key}
+use Rattle.kind_schema.specs.declared.key.Key.TheVariants as keys
+use Rattle.kind_schema.specs.Tables.{items_at, keys_fault, has_only}
 use Rattle.graph_file.specs.declared.fault.FilePlace.TheVariants.{Top}
 use Rattle.graph_file.specs.declared.file.File.{File}
 use Rattle.graph_file.specs.Refusals.{Refusal, syntax}

@@ -1,7 +1,7 @@
 -- Going over the tables of an array, one after the other.
 use Rattle.std.specs.Prelude.{◌⊎◌, ℕ, suc, Option, Some, None, Result, Ok, Err, IsOkAnd}
 use Rattle.toml.specs.Data.{Items, no_items, item, Members, as_table}
-use Rattle.kind_keys.specs.declared.fault.KeyFault.{KeyFault}
+use Rattle.kind_schema.specs.declared.fault.KeyFault.{KeyFault}
 use Rattle.graph_file.specs.declared.fault.FilePlace.{FilePlace}
 use Rattle.graph_file.specs.Refusals.{Refusal, at_table}
 

@@ -5,15 +5,15 @@ use Rattle.flowgraph.specs.declared.fault.GraphFault.{GraphFault}
 use Rattle.flowgraph.specs.declared.fault.GraphFault.TheVariants as graph
 use Rattle.flowgraph.specs.declared.fault.Side.{Side}
 use Rattle.flowgraph.specs.Fault.{side_text, limit_text, option_text}
-use Rattle.kind_keys.specs.declared.fault.KeyFault.{KeyFault}
-use Rattle.kind_keys.specs.declared.fault.KeyFault.TheVariants as key
-use Rattle.parameters.specs.Fault.{parameter_text}
-use Rattle.kind_keys.specs.Keys.{text_of}
+use Rattle.kind_schema.specs.declared.fault.KeyFault.{KeyFault}
+use Rattle.kind_schema.specs.declared.fault.KeyFault.TheVariants as key
+use Rattle.block_parameters.specs.Fault.{parameter_text}
+use Rattle.kind_schema.specs.Keys.{text_of}
 use Rattle.graph_file.specs.declared.fault.FilePlace.{FilePlace}
 use Rattle.graph_file.specs.declared.fault.FilePlace.TheVariants.{Top, Block, Connect, Feed}
 use Rattle.graph_file.specs.declared.fault.FileFault.{FileFault}
 use Rattle.graph_file.specs.declared.fault.FileFault.TheVariants as file
-use Rattle.reporting.specs.Texts.{head}
+use Rattle.refusal_codes.specs.Texts.{head}
 use Rattle.graph_file.specs.Refusals.{row_of}
 
 -- the words for places

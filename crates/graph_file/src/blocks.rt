@@ -2,8 +2,8 @@
 ghost use Rattle.std.specs.Prelude.{◌≡◌, [], map, Ok, IfOk, OnOk, IfErr, IsErrOf};
 ghost use Rattle.toml.specs.Data.{as_table};
 ghost use Rattle.toml.specs.View.{view, table_view, items_view};
-ghost use Rattle.kind_keys.specs.Tables.{at_key, string_in};
-ghost use Rattle.kind_keys.specs.declared.key.Key.TheVariants as keys;
+ghost use Rattle.kind_schema.specs.Tables.{at_key, string_in};
+ghost use Rattle.kind_schema.specs.declared.key.Key.TheVariants as keys;
 ghost use Rattle.graph_file.specs.Refusals.{IsRefused};
 ghost use Rattle.graph_file.specs.Steps.{steps, step_in, StepsTake, TakesIn};
 ghost use Rattle.kinds.specs.Kind.{meaning_of};
@@ -11,8 +11,8 @@ ghost use Rattle.graph_file.specs.Blocks.{drafted, block_step, meaning_step, pol
 
 use crate::fault::{FileFault, FilePlace, graph_fault, table_fault};
 use flowgraph::{Graph, Options, Policy};
-use kind_keys::table::{policy_named, small_at, string_at, text_at};
-use kind_keys::{Key, read_kind};
+use kind_schema::table::{policy_named, small_at, string_at, text_at};
+use kind_schema::{Key, read_kind};
 use kinds::Kind;
 use std::alloc::Global;
 use toml::{Table, Value};

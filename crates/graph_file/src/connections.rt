@@ -10,8 +10,8 @@ ghost use Rattle.graph_file.specs.Connections.{connect_step, joined, number_from
 use crate::fault::{FileFault, FilePlace, graph_fault, port_fault, table_fault};
 use crate::only::only_fault;
 use flowgraph::{BlockId, Graph, GraphFault, Side};
-use kind_keys::Key;
-use kind_keys::table::{count_at, keys_fault, number_at, text_at};
+use kind_schema::Key;
+use kind_schema::table::{count_at, keys_fault, number_at, text_at};
 use kinds::Kind;
 use toml::{Table, Value};
 

@@ -2,16 +2,16 @@
 ghost use Rattle.std.specs.Prelude.{◌≡◌, ◌↔◌, ◌⊎◌, None, Some};
 ghost use Rattle.graph_file.specs.declared.fault.FileFault.TheVariants.{Memory};
 ghost use Rattle.graph_file.specs.Refusals.{told, told_table, told_feed, of_graph, negative_port, short, block_name, row_of};
-ghost use Rattle.reporting.specs.Texts.{refusal_text};
+ghost use Rattle.refusal_codes.specs.Texts.{refusal_text};
 ghost use Rattle.graph_file.specs.Texts as texts;
 
 use crate::texts::{feed_text, graph_text, negative_text, table_text};
 use arrayvec::ArrayString;
 use flowgraph::{GraphFault, Side};
 use items::is_name;
-use kind_keys::KeyFault;
+use kind_schema::KeyFault;
 use plant::PlantFault;
-use reporting::{Refusal, RefusalText};
+use refusal_codes::{Refusal, RefusalText};
 use std::alloc::{AllocError, AllocFailed};
 use std::fmt;
 use thiserror::Error;

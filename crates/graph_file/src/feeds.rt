@@ -11,8 +11,8 @@ use crate::fault::{FileFault, FilePlace, table_fault};
 use crate::feed::{Feed, FileMark};
 use crate::only::only_fault;
 use items::TagKey;
-use kind_keys::table::{number_at, numbers_at, text_at, values_at};
-use kind_keys::{Key, KeyFault};
+use kind_schema::table::{number_at, numbers_at, text_at, values_at};
+use kind_schema::{Key, KeyFault};
 use std::alloc::{AllocError, Global};
 use toml::{Table, Value};
 

@@ -1,11 +1,11 @@
 //! The tests of a table that may have only some keys.
 ghost use Rattle.std.specs.Prelude.{◌≡◌};
 ghost use Rattle.toml.specs.View.{table_view};
-ghost use Rattle.kind_keys.specs.Tables as tables;
+ghost use Rattle.kind_schema.specs.Tables as tables;
 ghost use Rattle.graph_file.specs.Connections as connections;
 
-use kind_keys::table::{has_only, keys_fault};
-use kind_keys::{Key, KeyFault};
+use kind_schema::table::{has_only, keys_fault};
+use kind_schema::{Key, KeyFault};
 use toml::Table;
 
 /// What is wrong with a table that may have only the known keys, up to the last tested key.

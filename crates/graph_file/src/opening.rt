@@ -4,7 +4,7 @@ ghost use Rattle.std.specs.Prelude.{◌≡◌, ◌≢◌, ◌↔◌, Ok, Some, I
 ghost use Rattle.graph_model.specs.Graphs as graph_model;
 ghost use Rattle.flowgraph.specs.declared.fault.Limit.TheVariants.{Blocks};
 ghost use Rattle.flowgraph.specs.Fault.{told};
-ghost use Rattle.stores.specs.Stores as stores;
+ghost use Rattle.plant_storage.specs.Stores as stores;
 ghost use Rattle.kinds.specs.Kind.{meaning_of};
 ghost use Rattle.plant.specs.Plant.{ForgetsNone};
 ghost use Rattle.graph_file.specs.Refusals.{IsRefused};

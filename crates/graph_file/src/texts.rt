@@ -4,17 +4,17 @@ ghost use Rattle.std.specs.List.{flat_map};
 ghost use Rattle.std.specs.Fmt.{decimal};
 ghost use Rattle.flowgraph.specs.Fault as graphs;
 ghost use Rattle.flowgraph.specs.Fault.{side_text};
-ghost use Rattle.kind_keys.specs.Fault as tables;
+ghost use Rattle.kind_schema.specs.Fault as tables;
 ghost use Rattle.plant.specs.Fault as feeds;
 ghost use Rattle.graph_file.specs.Texts as texts;
-ghost use Rattle.reporting.specs.Texts.{head, part_text, refusal_text};
+ghost use Rattle.refusal_codes.specs.Texts.{head, part_text, refusal_text};
 
 use crate::fault::FilePlace;
 use flowgraph::{GraphFault, Side};
-use kind_keys::KeyFault;
+use kind_schema::KeyFault;
 use plant::PlantFault;
-use reporting::text::{EMPTY, SPACE};
-use reporting::{Refusal, RefusalText, TextPart};
+use refusal_codes::text::{EMPTY, SPACE};
+use refusal_codes::{Refusal, RefusalText, TextPart};
 
 /// What is wrong with the table of a place.
 pub(crate) fn table_text(place: FilePlace, fault: KeyFault) -> RefusalText<'static>

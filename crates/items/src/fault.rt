@@ -3,7 +3,7 @@ ghost use Rattle.std.specs.Prelude.{◌≡◌, Some};
 ghost use Rattle.items.specs.Fault.{row_of, text_of};
 ghost use Rattle.items.specs.declared.fault.ItemFault.TheVariants.{Memory};
 
-use reporting::Refusal;
+use refusal_codes::Refusal;
 use std::alloc::AllocError;
 use std::error::Error;
 use std::fmt;

@@ -4,7 +4,7 @@ use Rattle.stream_model.specs.declared.vocabulary.ItemType.{ItemType}
 use Rattle.stream_model.specs.Settings.{Held}
 use Rattle.stream_model.specs.Meaning.{IsFed, input, given_items}
 use Rattle.kind_model.specs.Ends.{vector_source}
-use Rattle.block_kinds.proofs.Fills.{length-fill, item-fill, before-none, whole-given}
+use Rattle.block_trait.proofs.Fills.{length-fill, item-fill, before-none, whole-given}
 
 pub tape-given :
     (t : ItemType) (ts : List Held) (xs : List (List ℤ)) (first count state : ℕ) (w : List ℤ) (hs : List Held) → IsFed (vector_source t) ts xs first count state (w ∷ []) hs →

@@ -24,7 +24,7 @@ use Rattle.kind_model.specs.Rates.{keep_one_in_n, integrate, repeat, interleave,
 use Rattle.kind_model.specs.Bits.{pack_k_bits, unpack_k_bits, diff_decoder, diff_encoder, scrambler, descrambler, additive_scrambler}
 use Rattle.rate_blocks.specs.Framed.{keep_m_in_n_of, keep_m_in_n_of-lawful, keep_m_in_n_of-same, insert_of, insert_of-lawful, insert_of-same, permute_of, permute_of-lawful, permute_of-same, pattern_of, pattern_of-lawful, pattern_of-same}
 use Rattle.kind_laws.specs.BitStreams.{correlate_access_code-lawful}
-use Rattle.block_kinds.specs.SameItem.{same_item, same_number, same_sized}
+use Rattle.block_trait.specs.SameItem.{same_item, same_number, same_sized}
 use Rattle.std.proofs.Common.{ap}
 use Rattle.std.proofs.lemmas.Bool.{false≢true}
 

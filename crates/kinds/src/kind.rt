@@ -4,7 +4,7 @@ use bit_blocks::{
     AdditiveScrambler, CorrelateAccessCode, Descrambler, DiffDecoder, DiffEncoder, PackKBits,
     PackedToUnpacked, RepackBits, Scrambler, UnpackKBits, UnpackedToPacked,
 };
-use block_kinds::{Block, ByPace, Held, Shape};
+use block_trait::{Block, ByPace, Held, Shape};
 use code_blocks::{CrcAppend, CrcCheck, StateMachine, Viterbi};
 use fir_blocks::{Fir, InterpFir};
 use items::Items;

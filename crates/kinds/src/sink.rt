@@ -1,7 +1,7 @@
 //! The sinks.
 ghost use Rattle.std.specs.Prelude.{◌≡◌};
 
-use block_kinds::{Block, ByPace, Held, Role, Shape, ports};
+use block_trait::{Block, ByPace, Held, Role, Shape, ports};
 use items::{ItemType, Items};
 
 /// A sink that keeps its input or drops it. `work` writes nothing.
@@ -28,7 +28,7 @@ impl<const KEEPS: bool> Sink<KEEPS> {
 }
 
 impl<const KEEPS: bool> Block for Sink<KEEPS> {
-    ghost use Rattle.block_kinds.specs.SameItem.{same_item};
+    ghost use Rattle.block_trait.specs.SameItem.{same_item};
     ghost use Rattle.kinds.specs.Ends.{sink_of, sink_of-lawful};
 
     ghost meaning = { λ b. sink_of KEEPS b.item };

@@ -2,7 +2,7 @@
 ghost use Rattle.std.specs.Prelude.{◌≡◌};
 ghost use Rattle.kind_model.specs.Ends.{vector_source};
 
-use block_kinds::{Batch, Block, ByPace, Held, Role, Shape, Single, ports, work_single};
+use block_trait::{Batch, Block, ByPace, Held, Role, Shape, Single, ports, work_single};
 use items::{ItemType, Items};
 
 /// The tape that the block is fed, item for item. As GNU Radio's `vector_source_x`, but it starts empty and does not repeat.
@@ -39,7 +39,7 @@ impl Single for VectorSource {
 impl Block for VectorSource {
     ghost use Rattle.kind_model.specs.Ends.{vector_source};
     ghost use Rattle.kind_laws.specs.Ends.{vector_source-lawful};
-    ghost use Rattle.block_kinds.specs.SameItem.{same_item};
+    ghost use Rattle.block_trait.specs.SameItem.{same_item};
     ghost use Rattle.kinds.specs.Ends.{source_meaning};
 
     ghost meaning = { source_meaning };

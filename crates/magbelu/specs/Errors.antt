@@ -1,6 +1,6 @@
 -- Errors, by the faults that they come from: their numbers, names and texts.
 use Rattle.std.specs.Prelude.{ℕ, List, Option, Some, codes}
-use Rattle.parameters.specs.Fault as params
+use Rattle.block_parameters.specs.Fault as params
 use Rattle.flowgraph.specs.Fault as graphs
 use Rattle.graph_file.specs.Refusals as files
 use Rattle.graph_file.specs.Texts.{fault_text}

@@ -4,7 +4,8 @@ pub use bit_blocks::{
     AdditiveScrambler, CorrelateAccessCode, Descrambler, DiffDecoder, DiffEncoder, PackKBits,
     PackedToUnpacked, Register, RepackBits, Scrambler, UnpackKBits, UnpackedToPacked,
 };
-pub use block_kinds::{Taps, Value};
+pub use block_parameters::{ParamFault, Parameter};
+pub use block_trait::{Taps, Value};
 pub use code_blocks::{Checksum, CrcAppend, CrcCheck, StateMachine, Trellis, Viterbi};
 pub use fir_blocks::{Fir, InterpFir};
 pub use kinds::{Kind, KindName, NullSink, VectorSink, VectorSource};
@@ -13,7 +14,6 @@ pub use math_blocks::{
     DivideConst, MapBb, Maximum, Minimum, MovingSum, Multiply, MultiplyConst, Mute, Not, Or,
     OrConst, SampleAndHold, Scale, Sub, Table, UlawEncode, Xor, XorConst,
 };
-pub use parameters::{ParamFault, Parameter};
 pub use rate_blocks::{
     Argmax, Counter, Deinterleave, Delay, FrameMaximum, FrameMinimum, Head, Insert, Integrate,
     Interleave, KeepMInN, KeepOneInN, Pattern, Permute, Repeat, SkipHead, StreamMux,

@@ -6,11 +6,11 @@ ghost use Rattle.magbelu.specs.declared.error.Error.TheVariants.{Items, Block, G
 ghost use Rattle.threads.specs.Fault as threads;
 
 use crate::error::Error;
-use block_kinds::Block;
+use block_parameters::ParamFault;
+use block_trait::Block;
 use flowgraph::{Graph, GraphFault, Valid};
 use graph_file::FileFault;
 use items::ItemFault;
-use parameters::ParamFault;
 use pipeline::PipelineFault;
 use plant::{Job, PlantFault, Worked};
 use std::alloc::{AllocError, AllocFailed};

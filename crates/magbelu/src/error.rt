@@ -2,13 +2,13 @@
 
 ghost use Rattle.magbelu.specs.Errors.{row_of, text_of};
 
+use block_parameters::ParamFault;
 use flowgraph::GraphFault;
 use graph_file::FileFault;
 use items::ItemFault;
-use parameters::ParamFault;
 use pipeline::PipelineFault;
 use plant::PlantFault;
-use reporting::Refusal;
+use refusal_codes::Refusal;
 use std::fmt;
 use threads::RunError;
 

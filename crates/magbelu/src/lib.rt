@@ -24,5 +24,5 @@ pub mod runs;
 pub mod streams;
 
 pub use error::Error;
-pub use reporting::Refusal;
+pub use refusal_codes::Refusal;
 pub use runs::RunError;

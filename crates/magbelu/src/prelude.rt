@@ -9,4 +9,4 @@ pub use crate::graphs::{BlockId, Graph, Options, Policy};
 pub use crate::plants::{Claim, Piece, Plant, Settled, Step, StreamingPlant};
 pub use crate::runs::{Outcome, RunError, TopBlock};
 pub use crate::streams::{ItemFault, ItemType, Items, Mark, Tag, TagKey};
-pub use reporting::Refusal;
+pub use refusal_codes::Refusal;

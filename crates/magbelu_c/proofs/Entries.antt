@@ -7,11 +7,11 @@ use Rattle.flowgraph.specs.declared.parts.BlockId.{BlockId}
 use Rattle.graph_file.specs.Blocks.{Draft}
 use Rattle.graph_file.specs.Opening.{Opened}
 use Rattle.raw_items.specs.declared.byte_order.ByteOrder.{ByteOrder}
-use Rattle.flow.specs.declared.fault.Fault.TheVariants.{Script}
-use Rattle.flow.specs.declared.script.ScriptFault.TheVariants.{Memory}
-use Rattle.flow.specs.declared.raw_fault.RawFault.{RawFault}
-use Rattle.flow.specs.declared.raw_fault.RawFault.TheVariants.{Whole}
-use Rattle.flow.specs.Serve.{plant_in}
+use Rattle.flow_core.specs.declared.fault.Fault.TheVariants.{Script}
+use Rattle.flow_core.specs.declared.script.ScriptFault.TheVariants.{Memory}
+use Rattle.flow_core.specs.declared.raw_fault.RawFault.{RawFault}
+use Rattle.flow_core.specs.declared.raw_fault.RawFault.TheVariants.{Whole}
+use Rattle.flow_core.specs.Serve.{plant_in}
 use Rattle.magbelu_c.specs.declared.tables.Input.{Input}
 use Rattle.magbelu_c.specs.declared.tables.Output.{Output}
 use Rattle.magbelu_c.specs.Between.{AreFed, AreHeld, AreMisfed, FailsBetween, IsFed, IsMisnamed, IsTaken, NoMemory, Misnamed, RunsBetween, output_bytes, sink_of}

@@ -19,7 +19,7 @@ use Rattle.plant.specs.Answers.{AnsweredBy, piece_reply, refusal_of, takes_memor
 use Rattle.plant.specs.Plant.{PlantState}
 use Rattle.raw_items.specs.declared.byte_order.ByteOrder.{ByteOrder}
 use Rattle.streaming.specs.Streaming.{HasDrainedTo, StreamingState, drained}
-use Rattle.flow.specs.RawEnds.{held_type}
+use Rattle.flow_core.specs.RawEnds.{held_type}
 use Rattle.streaming.specs.declared.draining.Appended.{Appended}
 use Rattle.streaming.specs.Draining.{end_of}
 use Rattle.streaming.proofs.Pieces.{is_piece}

@@ -3,8 +3,8 @@ use Rattle.std.proofs.Common.{◌≡◌, ℕ, List, [], ◌++◌, sym, ◌∙◌
 use Rattle.std.specs.Prelude.{Option, Some, Result}
 use Rattle.std.specs.Io.KnownBytes.{Appends}
 use Rattle.graph_file.specs.Refusals.{Refusal}
-use Rattle.flow.specs.declared.fault.Fault.{Fault}
-use Rattle.flow.specs.Serve.{IsScript, StopsScript, Stream, Tries, Writes, WritesNot, stream}
+use Rattle.flow_core.specs.declared.fault.Fault.{Fault}
+use Rattle.flow_core.specs.Serve.{IsScript, StopsScript, Stream, Tries, Writes, WritesNot, stream}
 use Rattle.magbelu_c.specs.CallAnswers.{IsScripted, WasNot, WasNotScripted}
 
 -- a line was put together from nothing

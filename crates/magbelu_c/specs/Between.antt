@@ -8,14 +8,14 @@ use Rattle.graph_file.specs.Blocks.{Draft}
 use Rattle.graph_file.specs.Opening.{Opened}
 use Rattle.graph_file.specs.Refusals.{IsRefused}
 use Rattle.raw_items.specs.declared.byte_order.ByteOrder.{ByteOrder}
-use Rattle.flow.specs.declared.fault.Fault.TheVariants.{File, Script}
-use Rattle.flow.specs.declared.script.ScriptFault.TheVariants as script
-use Rattle.flow.specs.declared.raw_fault.EndPlace.TheVariants.{Input as at_input, Output as at_output}
-use Rattle.flow.specs.declared.raw_fault.RawFault.{RawFault}
-use Rattle.flow.specs.declared.raw_fault.RawFault.TheVariants.{Whole}
-use Rattle.flow.specs.RawEnds.{StepsToRest, held_bytes, held_lines}
-use Rattle.flow.specs.RawFeeds.{IsFedBy, StopsFeeding, sink_at, source_at}
-use Rattle.flow.specs.Serve.{plant_in}
+use Rattle.flow_core.specs.declared.fault.Fault.TheVariants.{File, Script}
+use Rattle.flow_core.specs.declared.script.ScriptFault.TheVariants as script
+use Rattle.flow_core.specs.declared.raw_fault.EndPlace.TheVariants.{Input as at_input, Output as at_output}
+use Rattle.flow_core.specs.declared.raw_fault.RawFault.{RawFault}
+use Rattle.flow_core.specs.declared.raw_fault.RawFault.TheVariants.{Whole}
+use Rattle.flow_core.specs.RawEnds.{StepsToRest, held_bytes, held_lines}
+use Rattle.flow_core.specs.RawFeeds.{IsFedBy, StopsFeeding, sink_at, source_at}
+use Rattle.flow_core.specs.Serve.{plant_in}
 use Rattle.magbelu_c.specs.declared.tables.Input.{Input}
 use Rattle.magbelu_c.specs.declared.tables.Output.{Output}
 

@@ -1,13 +1,13 @@
 -- What calls from C answer, and what they write into the caller's buffers.
 use Rattle.std.specs.Prelude.{◌≡◌, ℕ, ◌==◌, List, [], ◌++◌, length, drop, nat_le, Option, Some, Result, if◌then◌else◌}
 use Rattle.graph_file.specs.Refusals.{Refusal}
-use Rattle.flow.specs.declared.fault.Fault.{Fault}
-use Rattle.flow.specs.Faults.{fault_line, row_of, status_of}
+use Rattle.flow_core.specs.declared.fault.Fault.{Fault}
+use Rattle.flow_core.specs.Faults.{fault_line, row_of, status_of}
 use Rattle.raw_items.specs.declared.byte_order.ByteOrder.{ByteOrder}
 use Rattle.raw_items.specs.declared.byte_order.ByteOrder.TheVariants.{Little, Big}
-use Rattle.flow.specs.declared.raw_fault.RawFault.{RawFault}
-use Rattle.flow.specs.RawFaults.{raw_fault_line, raw_row, raw_status_of}
-use Rattle.flow.specs.Serve.{IsScript, StopsScript, Tries, WritesNot, stream}
+use Rattle.flow_core.specs.declared.raw_fault.RawFault.{RawFault}
+use Rattle.flow_core.specs.RawFaults.{raw_fault_line, raw_row, raw_status_of}
+use Rattle.flow_core.specs.Serve.{IsScript, StopsScript, Tries, WritesNot, stream}
 use Rattle.magbelu_c.specs.declared.answer.Answer.{Answer}
 use Rattle.magbelu_c.specs.declared.tables.Input.{Input}
 use Rattle.magbelu_c.specs.declared.tables.Output.{Output}

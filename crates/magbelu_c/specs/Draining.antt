@@ -11,7 +11,7 @@ use Rattle.plant.specs.Answers.{AnsweredBy, refusal_of}
 use Rattle.plant.specs.declared.fault.PlantFault.{PlantFault}
 use Rattle.raw_items.specs.declared.byte_order.ByteOrder.{ByteOrder}
 use Rattle.streaming.specs.Streaming.{HasDrainedTo, StreamingState, drained}
-use Rattle.flow.specs.RawEnds.{held_type}
+use Rattle.flow_core.specs.RawEnds.{held_type}
 use Rattle.magbelu_c.specs.declared.any_plant.AnyPlant.{AnyPlant}
 use Rattle.magbelu_c.specs.declared.any_plant.AnyPlant.TheVariants.{Whole, Streaming}
 use Rattle.magbelu_c.specs.declared.piece.Piece.{Piece}

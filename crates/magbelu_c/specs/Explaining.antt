@@ -2,9 +2,9 @@
 use Rattle.std.specs.Prelude.{◌≡◌, ℕ, List, [], IsOk}
 use Rattle.graph_file.specs.declared.fault.FileFault.{FileFault}
 use Rattle.graph_file.specs.Refusals.{IsRefused}
-use Rattle.flow.specs.declared.fault.Fault.{Fault}
-use Rattle.flow.specs.declared.fault.Fault.TheVariants.{File}
-use Rattle.flow.specs.Serve.{plant_in}
+use Rattle.flow_core.specs.declared.fault.Fault.{Fault}
+use Rattle.flow_core.specs.declared.fault.Fault.TheVariants.{File}
+use Rattle.flow_core.specs.Serve.{plant_in}
 
 -- the plant of the file can be opened, and nothing is shown
 abbrev pub Accepts : List ℕ → List ℕ → ℕ → Type 0

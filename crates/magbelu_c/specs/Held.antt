@@ -1,8 +1,8 @@
 -- What calls of a plant that is held come to.
 use Rattle.std.specs.Prelude.{◌≡◌, ℕ, ◌-◌, ◌^◌, ◌==◌, List, [], Bool, Option, Some, None, if◌then◌else◌}
 use Rattle.raw_items.specs.declared.byte_order.ByteOrder.{ByteOrder}
-use Rattle.flow.specs.declared.fault.Fault.{Fault}
-use Rattle.flow.specs.Serve.{Refuses}
+use Rattle.flow_core.specs.declared.fault.Fault.{Fault}
+use Rattle.flow_core.specs.Serve.{Refuses}
 use Rattle.magbelu_c.specs.declared.answer.Answer.{Answer}
 use Rattle.magbelu_c.specs.declared.any_plant.AnyPlant.{AnyPlant}
 use Rattle.magbelu_c.specs.declared.piece.Piece.{Piece}

@@ -14,8 +14,8 @@ use Rattle.slices.specs.Firings.{looks_of}
 use Rattle.slices.specs.Kinds.{look_back_of}
 use Rattle.slices.specs.Plans.{HasGoneOn}
 use Rattle.streaming.specs.Streaming.{StreamingState, streaming_opening}
-use Rattle.flow.specs.declared.fault.Fault.TheVariants.{File}
-use Rattle.flow.specs.Serve.{streamed_in}
+use Rattle.flow_core.specs.declared.fault.Fault.TheVariants.{File}
+use Rattle.flow_core.specs.Serve.{streamed_in}
 use Rattle.magbelu_c.specs.declared.answer.Answer.{Answer}
 use Rattle.magbelu_c.specs.declared.any_plant.AnyPlant.{AnyPlant}
 use Rattle.magbelu_c.specs.declared.any_plant.AnyPlant.TheVariants.{Whole, Streaming}

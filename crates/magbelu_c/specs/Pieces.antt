@@ -18,7 +18,7 @@ use Rattle.items.specs.Tags.{tag_of}
 use Rattle.raw_items.specs.declared.byte_order.ByteOrder.{ByteOrder}
 use Rattle.raw_items.specs.Layout.{size_of}
 use Rattle.raw_items.specs.Values.{all_bytes_of}
-use Rattle.flow.specs.RawEnds.{held_type, tag_line}
+use Rattle.flow_core.specs.RawEnds.{held_type, tag_line}
 use Rattle.magbelu_c.specs.declared.any_plant.AnyPlant.{AnyPlant}
 use Rattle.magbelu_c.specs.declared.any_plant.AnyPlant.TheVariants.{Whole, Streaming}
 use Rattle.magbelu_c.specs.declared.piece.Piece.{Piece}

@@ -8,7 +8,7 @@ use Rattle.plant.specs.Settling.{StepsLead, HasSettled, HoldsSettled}
 use Rattle.plant.specs.declared.answers.Settled.{Settled}
 use Rattle.plant.specs.declared.answers.Settled.TheVariants as rest
 use Rattle.streaming.specs.Streaming.{KeepsNoTaken, StreamingState}
-use Rattle.flow.specs.Session.{in_state, turn}
+use Rattle.flow_core.specs.Session.{in_state, turn}
 use Rattle.magbelu_c.specs.declared.any_plant.AnyPlant.{AnyPlant}
 use Rattle.magbelu_c.specs.declared.any_plant.AnyPlant.TheVariants.{Whole, Streaming}
 use Rattle.magbelu_c.specs.declared.reply.Reply.{Reply}

@@ -4,10 +4,11 @@ ghost use Rattle.std.specs.Prelude.{◌≡◌};
 ghost use Rattle.magbelu_c.specs.CallAnswers.{ToldBadly, ToldRaw, ToldWell};
 
 use crate::shows::show;
-use flow::fault::Fault;
-use flow::raw_fault::RawFault;
-use flow::refusal_line::{report, report_raw};
-use reporting::{Refusal, WriteEnd};
+use byte_io::WriteEnd;
+use flow_core::fault::Fault;
+use flow_core::raw_fault::RawFault;
+use flow_core::refusal_line::{report, report_raw};
+use refusal_codes::Refusal;
 use std::alloc::Global;
 
 /// What came of a call. A text that does not fit its buffer is not written there, and its length is given all the same.

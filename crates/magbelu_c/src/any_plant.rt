@@ -10,15 +10,15 @@ ghost use Rattle.plant.specs.Answers.{Answered, AnsweredAlways, reply_of, source
 ghost use Rattle.plant.specs.Feeding.{feed_numbers};
 ghost use Rattle.plant.specs.Waits.{need_of, wait_in};
 ghost use Rattle.settings.specs.Values.{value_of};
-ghost use Rattle.stores.specs.Stores.{mark_of};
+ghost use Rattle.plant_storage.specs.Stores.{mark_of};
 ghost use Rattle.graph_file.specs.Refusals.{IsRefused};
 ghost use Rattle.magbelu_c.specs.AnyPlants.{IsOpened, opening_in, plant_of, with_plant};
 ghost use Rattle.magbelu_c.specs.Settling.{SettlesOn, SettlesStream};
 
 use crate::idle::Idle;
 use crate::reply::{Reply, at_rest, done, no_memory};
-use flow::opening::open_stream;
-use flow::turn::TURN;
+use flow_core::opening::open_stream;
+use flow_core::turn::TURN;
 use flowgraph::{BlockId, Valid};
 use graph_file::FileFault;
 use items::{ItemType, Items, Mark};

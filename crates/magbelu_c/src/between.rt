@@ -2,25 +2,25 @@
 
 ghost use Rattle.std.specs.Prelude.{◌≡◌, ◌+◌, ◌++◌, ◌⊎◌, Err, IfOk, IfErr, OnOk};
 ghost use Rattle.graph_file.specs.Blocks.{drafted};
-ghost use Rattle.flow.specs.declared.fault.Fault.TheVariants.{Script};
-ghost use Rattle.flow.specs.declared.script.ScriptFault.TheVariants.{Memory};
-ghost use Rattle.flow.specs.declared.raw_fault.RawFault.TheVariants.{Whole};
-ghost use Rattle.flow.specs.RawFeeds.{raw_writes};
-ghost use Rattle.flow.specs.Session.{in_state};
+ghost use Rattle.flow_core.specs.declared.fault.Fault.TheVariants.{Script};
+ghost use Rattle.flow_core.specs.declared.script.ScriptFault.TheVariants.{Memory};
+ghost use Rattle.flow_core.specs.declared.raw_fault.RawFault.TheVariants.{Whole};
+ghost use Rattle.flow_core.specs.RawFeeds.{raw_writes};
+ghost use Rattle.flow_core.specs.Session.{in_state};
 ghost use Rattle.magbelu_c.specs.Between.{AreFed, AreHeld, AreMisfed, FailsBetween, IsFed, IsMisfed, IsMisnamed, IsTaken, RunsBetween, output_bytes, sink_of};
 
 use crate::idle::Idle;
 use crate::tables::{Input, Output};
-use flow::command_output::status_of;
-use flow::fault::Fault;
-use flow::raw_fault::{EndPlace, RawFault};
-use flow::raw_input::{sink_named, source_named};
-use flow::raw_output::{write_items, write_tags};
+use byte_io::{ReadEnd, WriteEnd};
+use flow_core::command_output::status_of;
+use flow_core::fault::Fault;
+use flow_core::raw_fault::{EndPlace, RawFault};
+use flow_core::raw_input::{sink_named, source_named};
+use flow_core::raw_output::{write_items, write_tags};
 use flowgraph::{BlockId, Valid};
 use kinds::Kind;
 use plant::Plant;
 use raw_items::ByteOrder;
-use reporting::{ReadEnd, WriteEnd};
 use std::alloc::{AllocError, Global};
 
 /// What a run gives: the bytes of all outputs, one behind the other, and how many each has.

@@ -10,7 +10,7 @@ ghost use Rattle.items.specs.Items.{type_of, numbers_of};
 ghost use Rattle.plant.specs.Feeding.{feed_numbers};
 ghost use Rattle.raw_items.specs.Layout.{cut_of};
 ghost use Rattle.raw_items.specs.Values.{items_of};
-ghost use Rattle.stores.specs.Marks.{mark_of};
+ghost use Rattle.plant_storage.specs.Marks.{mark_of};
 ghost use Rattle.settings.specs.Values.{value_of};
 ghost use Rattle.magbelu_c.specs.AnyPlants.{plant_of, with_plant};
 ghost use Rattle.magbelu_c.specs.Pieces.{IsRead};

@@ -11,7 +11,7 @@ ghost use Rattle.magbelu_c.specs.BlockRates.{TellsFirings, TellsRates, rates_tol
 
 use crate::reply::{Reply, done, no_memory, refusal};
 use crate::shows::show;
-use block_kinds::Block;
+use block_trait::Block;
 use flowgraph::{BlockId, Valid};
 use kinds::Kind;
 use plant::PlantFault;

@@ -5,7 +5,7 @@ ghost use Rattle.magbelu_c.specs.BlockSettings.{TellsSetting, number_told, taps_
 
 use crate::reply::{Reply, done, refusal};
 use crate::shows::show;
-use block_kinds::{Block, Setting};
+use block_trait::{Block, Setting};
 use flowgraph::{BlockId, Valid};
 use kinds::Kind;
 use plant::PlantFault;

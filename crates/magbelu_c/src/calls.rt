@@ -1,15 +1,15 @@
 //! Calls that a graph file and a script go into as bytes, and texts come out of.
 
 ghost use Rattle.std.specs.Prelude.{◌≡◌};
-ghost use Rattle.flow.specs.Serve.{IsCheck, IsRunAlone, graph_in, plant_in};
+ghost use Rattle.flow_core.specs.Serve.{IsCheck, IsRunAlone, graph_in, plant_in};
 ghost use Rattle.magbelu_c.specs.CallAnswers.{Answers, WasNot, IsScripted, WasNotScripted};
 
 use crate::answer::{Answer, badly, well};
-use flow::check::check;
-use flow::run::run_alone;
-use flow::script::run_script;
+use byte_io::{ReadEnd, WriteEnd};
+use flow_core::check::check;
+use flow_core::run::run_alone;
+use flow_core::script::run_script;
 use plant::Unwatched;
-use reporting::{ReadEnd, WriteEnd};
 use std::alloc::Global;
 
 const VERSION: u32 = 1;

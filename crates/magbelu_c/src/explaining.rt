@@ -5,8 +5,8 @@ ghost use Rattle.magbelu_c.specs.Explaining.{Accepts, Explains};
 
 use crate::answer::{Answer, badly, well};
 use crate::idle::Idle;
-use explanations::explain;
-use flow::fault::Fault;
+use diagnostics::explain;
+use flow_core::fault::Fault;
 use graph_file::Depth;
 use std::alloc::Global;
 

@@ -6,7 +6,7 @@ ghost use Rattle.stream_model.specs.Settings.{Number, Taps};
 ghost use Rattle.flowgraph.specs.Flowgraph.{net_of};
 ghost use Rattle.kinds.specs.Kind.{meaning_of};
 ghost use Rattle.plant.specs.Feeding.{feed_numbers};
-ghost use Rattle.flow.specs.Serve.{Refuses};
+ghost use Rattle.flow_core.specs.Serve.{Refuses};
 ghost use Rattle.magbelu_c.specs.CallAnswers.{order_of};
 ghost use Rattle.magbelu_c.specs.AnyPlants.{IsOpened, opening_in, plant_of};
 ghost use Rattle.magbelu_c.specs.Held.{Drains, Frees, Opens, Shows, answered, at_of};
@@ -30,8 +30,8 @@ use crate::reply::{Reply, done, not_open};
 use crate::slicing::{Uncut, not_cut};
 use crate::tables::Mark;
 use crate::{block_calls, tagging};
-use flow::fault::Fault;
-use flow::script::ScriptFault;
+use flow_core::fault::Fault;
+use flow_core::script::ScriptFault;
 use std::alloc::Global;
 
 // The number of the refusal where a plant is held already.

@@ -6,7 +6,7 @@ ghost use Rattle.magbelu_c.specs.Later.{HasNoLater, IsLater, IsLaterStream, OfGr
 use crate::any_plant::AnyPlant;
 use crate::slice_plans::plan_of;
 use crate::slicing::Uncut;
-use flow::opening::open_stream;
+use flow_core::opening::open_stream;
 use flowgraph::Valid;
 use graph_file::{FileFault, open_later};
 use kinds::Kind;

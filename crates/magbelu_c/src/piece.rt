@@ -9,7 +9,7 @@ use crate::any_plant::AnyPlant;
 use crate::block_calls;
 use crate::reply::{Reply, no_memory, not_open, refusal};
 use crate::shows::show;
-use flow::tag_text::tag_lines;
+use flow_core::tag_text::tag_lines;
 use items::Items;
 use kinds::Kind;
 use plant::Plant;

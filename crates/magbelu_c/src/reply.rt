@@ -2,12 +2,12 @@
 
 ghost use Rattle.std.specs.Prelude.{◌≡◌};
 ghost use Rattle.plant.specs.Answers.{refusal_of, step_reply};
-ghost use Rattle.firings.specs.Waits.{wait_seen};
+ghost use Rattle.firing_rules.specs.Waits.{wait_seen};
 ghost use Rattle.magbelu_c.specs.Replies.{at_rest, done, no_memory, not_open, refused, told_maybe, told_of};
 ghost use Rattle.magbelu_c.specs.Waiting.{waiting};
 
 use plant::{BlockNeed, Need, PlantFault, Step};
-use reporting::Refusal;
+use refusal_codes::Refusal;
 
 /// What came of a call of a held plant.
 #[repr(C)]

@@ -6,7 +6,7 @@ ghost use Rattle.magbelu_c.specs.Slicing.{no_block, not_cut, number_of, refused,
 use crate::reply::not_open;
 use flowgraph::BlockId;
 use plant::PlantFault;
-use reporting::Refusal;
+use refusal_codes::Refusal;
 
 // The number of the refusal of a graph that is not cut.
 const NO_SLICES: u32 = 63;

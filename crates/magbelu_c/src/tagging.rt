@@ -3,7 +3,7 @@
 ghost use Rattle.std.specs.Prelude.{◌≡◌, ◌<◌, length, map, false, None, IfOk, IfSome, OnErr};
 ghost use Rattle.std.specs.List.{Any};
 ghost use Rattle.items.specs.Name.{IsName};
-ghost use Rattle.stores.specs.Marks.{mark_of};
+ghost use Rattle.plant_storage.specs.Marks.{mark_of};
 ghost use Rattle.plant.specs.Feeding.{feed_numbers};
 ghost use Rattle.magbelu_c.specs.AnyPlants.{plant_of};
 ghost use Rattle.magbelu_c.specs.Replies.{CallsOn, fed_bytes, is_fed, named, wants};

@@ -12,8 +12,8 @@ use Rattle.stream_model.specs.Meaning.{Meaning, IsFed, input, given_items}
 use Rattle.kind_model.specs.Kernels.{bits_in}
 use Rattle.kind_model.specs.Math.{last_taken, sample_and_hold}
 use Rattle.shape_laws.specs.Shaped.{IsItem-item}
-use Rattle.block_kinds.proofs.Fills.{listed-given}
-use Rattle.block_kinds.proofs.Inputs.{length-port, item-port}
+use Rattle.block_trait.proofs.Fills.{listed-given}
+use Rattle.block_trait.proofs.Inputs.{length-port, item-port}
 use Rattle.math_blocks.specs.Bitwise.{bits-less, wrap-bits, bits-wrap}
 use Rattle.math_blocks.specs.Wrapping.{wrap_own}
 use Rattle.math_blocks.specs.Holding.{held_from}

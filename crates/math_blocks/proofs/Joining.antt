@@ -8,8 +8,8 @@ use Rattle.stream_model.specs.Meaning.{IsFed, given_items}
 use Rattle.kind_model.specs.Math.{items_at}
 use Rattle.stream_model.specs.Lists.{item, listed}
 use Rattle.shape_laws.specs.Shaped.{item-listed, length-listed}
-use Rattle.block_kinds.proofs.Fills.{listed-given}
-use Rattle.block_kinds.proofs.Inputs.{length-inputs, length-port, item-port}
+use Rattle.block_trait.proofs.Fills.{listed-given}
+use Rattle.block_trait.proofs.Inputs.{length-inputs, length-port, item-port}
 use Rattle.math_blocks.specs.Joined.{AreJoined, joined_of}
 
 -- the items at one place of some inputs and of one more

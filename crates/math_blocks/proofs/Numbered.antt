@@ -6,10 +6,10 @@ use Rattle.stream_model.specs.Lists.{item, listed}
 use Rattle.stream_model.specs.Settings.{Value, Held, Number, Taps, between}
 use Rattle.stream_model.specs.Meaning.{IsWanted, AreWanted, IsFed, input, given_items}
 use Rattle.stream_model.specs.Shapes.{number_set, number_at}
-use Rattle.block_kinds.proofs.Fills.{paced, length-paced, each-given}
-use Rattle.block_kinds.specs.InForce.{AreOver}
+use Rattle.block_trait.proofs.Fills.{paced, length-paced, each-given}
+use Rattle.block_trait.specs.InForce.{AreOver}
 use Rattle.math_blocks.specs.Stretch.{IsBetween, SetBetween, each_of, number_among}
-use Rattle.block_kinds.proofs.InForce.{All-between, AreOver-between}
+use Rattle.block_trait.proofs.InForce.{All-between, AreOver-between}
 use Rattle.math_blocks.proofs.Settings.{number_among-between}
 
 -- a value that such a setting may have sets a number from low to high

@@ -5,9 +5,9 @@ use Rattle.stream_model.specs.Lists.{item, listed}
 use Rattle.stream_model.specs.Settings.{Held, latest}
 use Rattle.stream_model.specs.Shapes.{number_set}
 use Rattle.shape_laws.specs.Shaped.{item-listed, length-listed}
-use Rattle.block_kinds.specs.InForce.{AreOver}
+use Rattle.block_trait.specs.InForce.{AreOver}
 use Rattle.math_blocks.specs.Stretch.{IsBetween, SetBetween, number_among, end_before}
-use Rattle.block_kinds.proofs.InForce.{latest-taken, latest-later, latest-rising}
+use Rattle.block_trait.proofs.InForce.{latest-taken, latest-later, latest-rising}
 
 -- the setting at place k of a list, with those behind it
 pub drop-map-cons : {X : Type 0} (f : X → Held) (xs : List X) (k : ℕ) (x : X) → k < length xs → x ≡ get_or xs k x → drop k (map f xs) ≡ f x ∷ drop (k + 1) (map f xs)

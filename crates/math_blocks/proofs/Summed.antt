@@ -10,10 +10,10 @@ use Rattle.stream_model.specs.Settings.{Held}
 use Rattle.stream_model.specs.Meaning.{IsFed, input, given_items}
 use Rattle.kind_model.specs.Math.{moving_sum}
 use Rattle.shape_laws.specs.Shaped.{sum_below-same}
-use Rattle.lane_work.proofs.Written.{read_item}
-use Rattle.lane_work.proofs.Totals.{total_part, comes_fits, comes_sum, goes_fits, goes_sum}
-use Rattle.block_kinds.specs.Shape.{IsPaced}
-use Rattle.block_kinds.proofs.Fills.{paced, length-paced, past-paced, given-paced}
+use Rattle.item_dispatch.proofs.Written.{read_item}
+use Rattle.item_dispatch.proofs.Totals.{total_part, comes_fits, comes_sum, goes_fits, goes_sum}
+use Rattle.block_trait.specs.Shape.{IsPaced}
+use Rattle.block_trait.proofs.Fills.{paced, length-paced, past-paced, given-paced}
 
 -- a sum by its first number and the others
 map-shifted : (f : ℕ → ℤ) (a count : ℕ) → map f (numbers_from (a + 1) count) ≡ map (λ j. f (j + 1)) (numbers_from a count)

@@ -12,7 +12,7 @@ use Rattle.stream_model.specs.Shapes.{ports, any_ports, at_rate}
 use Rattle.kind_model.specs.Math.{items_at, difference, product, least_up_to, greatest_down_to, all_bits}
 use Rattle.items.specs.declared.stream_items.Items.{Items}
 use Rattle.items.specs.Items.{type_of, numbers_of, spare_of}
-use Rattle.block_kinds.specs.SameItem.{same_item}
+use Rattle.block_trait.specs.SameItem.{same_item}
 use Rattle.math_blocks.specs.declared.joined.Joined.{Joined}
 
 -- one input or more, and one output, whose items are what `joins` makes of the inputs' items

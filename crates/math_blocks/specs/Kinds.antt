@@ -15,7 +15,7 @@ use Rattle.kind_model.specs.Math.{scale, clip, binary_slicer, mute, convert, map
 use Rattle.items.specs.Equality.{items_eq}
 use Rattle.items.proofs.Same.{items_eq_decides}
 use Rattle.items.specs.Items.{type_of, numbers_of}
-use Rattle.block_kinds.specs.SameItem.{same_item, same_number}
+use Rattle.block_trait.specs.SameItem.{same_item, same_number}
 use Rattle.math_blocks.specs.declared.binary_slicer.AtLeast.{AtLeast}
 use Rattle.math_blocks.specs.declared.constant.Constant.{Constant}
 use Rattle.math_blocks.specs.declared.convert.Convert.{Convert}

@@ -5,7 +5,7 @@ use Rattle.stream_model.specs.declared.vocabulary.ItemType.{ItemType}
 use Rattle.stream_model.specs.Lists.{item}
 use Rattle.stream_model.specs.Meaning.{Meaning, input}
 use Rattle.stream_model.specs.Shapes.{sync}
-use Rattle.block_kinds.specs.Fill.{IsSingle}
+use Rattle.block_trait.specs.Fill.{IsSingle}
 
 -- each item made of the one at its place
 abbrev pub made_of : ItemType → (ℤ → ℤ) → Meaning

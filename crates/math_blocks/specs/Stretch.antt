@@ -7,7 +7,7 @@ use Rattle.stream_model.specs.Lists.{item}
 use Rattle.stream_model.specs.Meaning.{Meaning, input}
 use Rattle.stream_model.specs.Settings.{Held, Number, latest}
 use Rattle.stream_model.specs.Shapes.{sync, number_set, number_at}
-use Rattle.block_kinds.specs.Fill.{IsSingle}
+use Rattle.block_trait.specs.Fill.{IsSingle}
 
 -- z is a number from low to high
 pub record IsBetween (low high z : ℤ) : Type 0 where

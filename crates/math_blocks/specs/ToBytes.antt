@@ -6,7 +6,7 @@ use Rattle.stream_model.specs.declared.vocabulary.ItemType.TheVariants.{Byte}
 use Rattle.stream_model.specs.Lists.{item}
 use Rattle.stream_model.specs.Meaning.{Meaning, input}
 use Rattle.stream_model.specs.Shapes.{sync}
-use Rattle.block_kinds.specs.Fill.{IsSingle}
+use Rattle.block_trait.specs.Fill.{IsSingle}
 
 -- a byte made of each item
 abbrev pub bytes_of : ItemType → (ℤ → ℤ) → Meaning

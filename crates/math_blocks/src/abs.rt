@@ -32,7 +32,7 @@ impl Makes for Magnitude {
     ghost use Rattle.kind_model.specs.Kernels.{absolute};
     ghost use Rattle.kind_model.specs.Math.{abs};
     ghost use Rattle.kind_laws.specs.Math.{abs-lawful};
-    ghost use Rattle.block_kinds.specs.SameItem.{same_item};
+    ghost use Rattle.block_trait.specs.SameItem.{same_item};
 
     ghost takes = { λ m. m.item };
 

@@ -4,10 +4,10 @@ ghost use Rattle.stream_model.specs.Numbers.{IsItem};
 ghost use Rattle.kind_model.specs.Math.{binary_slicer};
 
 use crate::to_bytes::{MakesByte, ToBytes};
+use block_parameters::{ParamFault, Parameter};
 use items::ItemType;
 use numbers::Number;
 use numbers::range::is_item;
-use parameters::{ParamFault, Parameter};
 
 /// The byte 1 for each item that is at least the threshold, and 0 for each other. With a threshold of 0 it decides as GNU Radio's `binary_slicer_fb`.
 pub type BinarySlicer = ToBytes<AtLeast>;

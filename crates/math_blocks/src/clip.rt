@@ -4,11 +4,11 @@ ghost use Rattle.stream_model.specs.Numbers.{IsItem};
 ghost use Rattle.kind_model.specs.Math.{clip};
 
 use crate::per_item::{Makes, PerItem};
+use block_parameters::{ParamFault, Parameter};
 use items::ItemType;
 use lane_kernels::{SimdLane, append_clip};
 use numbers::Number;
 use numbers::range::is_item;
-use parameters::{ParamFault, Parameter};
 
 /// The number nearest to each item in the range from `low` to `high`, as GNU Radio's `rail_ff` has it for floats.
 pub type Clip = PerItem<Nearest>;

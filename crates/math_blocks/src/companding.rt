@@ -121,7 +121,7 @@ fn a_law_byte(number: i64) -> u8
 impl MakesByte for MuLaw {
     ghost use Rattle.std.specs.Prelude.{refl};
     ghost use Rattle.kind_laws.specs.Math.{ulaw_encode-lawful};
-    ghost use Rattle.block_kinds.specs.SameItem.{same_item};
+    ghost use Rattle.block_trait.specs.SameItem.{same_item};
 
     ghost takes = { λ m. m.item };
 
@@ -148,7 +148,7 @@ impl MakesByte for MuLaw {
 impl MakesByte for ALaw {
     ghost use Rattle.std.specs.Prelude.{refl};
     ghost use Rattle.kind_laws.specs.Math.{alaw_encode-lawful};
-    ghost use Rattle.block_kinds.specs.SameItem.{same_item};
+    ghost use Rattle.block_trait.specs.SameItem.{same_item};
 
     ghost takes = { λ m. m.item };
 

@@ -7,12 +7,12 @@ ghost use Rattle.stream_model.specs.Meaning.{Meaning, IsLawful};
 ghost use Rattle.math_blocks.specs.Stretch.{each_of};
 
 use crate::stretch::{EachItem, fill_each};
-use block_kinds::{Batch, Block, ByPace, Held, Setting, Shape, Single, work_single};
+use block_parameters::{ParamFault, Parameter};
+use block_trait::{Batch, Block, ByPace, Held, Setting, Shape, Single, work_single};
 use items::{ItemType, Items};
 use lane_kernels::SimdLane;
 use numbers::Number;
 use numbers::range::{greatest, is_item, least};
-use parameters::{ParamFault, Parameter};
 use std::marker::PhantomData;
 
 /// How a constant is applied to items.

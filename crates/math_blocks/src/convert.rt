@@ -4,7 +4,7 @@ ghost use Rattle.kind_model.specs.Math.{convert};
 ghost use Rattle.kind_model.specs.Kernels as kernels;
 ghost use Rattle.items.specs.Items.{type_of, numbers_of, spare_of};
 
-use block_kinds::{Batch, Block, ByPace, Held, Shape, Single, work_single};
+use block_trait::{Batch, Block, ByPace, Held, Shape, Single, work_single};
 use items::{ItemType, Items};
 use lane_kernels::{NarrowsTo, SimdLane, WidensTo, narrow, widen};
 use numbers::Number;

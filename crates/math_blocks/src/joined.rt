@@ -7,7 +7,7 @@ ghost use Rattle.kind_model.specs.Math.{items_at};
 ghost use Rattle.items.specs.Items.{type_of, numbers_of, spare_of};
 ghost use Rattle.math_blocks.specs.Joined.{AreJoined, CanJoin, joined_of};
 
-use block_kinds::{Block, ByPace, Held, Shape, any_ports, ports};
+use block_trait::{Block, ByPace, Held, Shape, any_ports, ports};
 use items::{ItemType, Items};
 use lane_kernels::SimdLane;
 use numbers::vectors::append;

@@ -5,11 +5,11 @@ ghost use Rattle.stream_model.specs.declared.vocabulary.ItemType.TheVariants as 
 ghost use Rattle.stream_model.specs.Lists.{item, listed};
 ghost use Rattle.kind_model.specs.Math.{looked_up, map_bb};
 
-use block_kinds::{Batch, Block, ByPace, Held, Shape, Single, work_single};
+use block_parameters::{ParamFault, Parameter};
+use block_trait::{Batch, Block, ByPace, Held, Shape, Single, work_single};
+use item_dispatch::{ByteWork, make_bytes};
 use items::{ItemType, Items};
-use lane_work::{ByteWork, make_bytes};
 use numbers::vectors::narrowed;
-use parameters::{ParamFault, Parameter};
 use std::alloc::Global;
 
 /// For each byte the table's number at it, and bytes past the table's end as they are; as GNU Radio's `map_bb`.

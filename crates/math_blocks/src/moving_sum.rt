@@ -2,12 +2,12 @@
 ghost use Rattle.std.specs.Prelude.{◌≡◌, ◌≤◌, ◌↔◌, IsOk, IfOk, IfErr};
 ghost use Rattle.kind_model.specs.Math.{moving_sum};
 
-use block_kinds::{Batch, Block, ByPace, Held, Shape, Single, work_single};
+use block_parameters::{ParamFault, Parameter};
+use block_trait::{Batch, Block, ByPace, Held, Shape, Single, work_single};
+use item_dispatch::{LaneWork, make_items, sum_of};
 use items::{ItemType, Items};
 use lane_kernels::SimdLane;
-use lane_work::{LaneWork, make_items, sum_of};
 use numbers::vectors::are_in_range;
-use parameters::{ParamFault, Parameter};
 
 /// For each item the sum of it and those before it, `length` in all, wrapped to the items' type. As GNU Radio's `moving_average_xx` without its
 /// scale.
@@ -74,7 +74,7 @@ impl Single for MovingSum {
 impl Block for MovingSum {
     ghost use Rattle.kind_model.specs.Math.{moving_sum};
     ghost use Rattle.kind_laws.specs.Math.{moving_sum-lawful};
-    ghost use Rattle.block_kinds.specs.SameItem.{same_sized};
+    ghost use Rattle.block_trait.specs.SameItem.{same_sized};
     ghost use Rattle.math_blocks.specs.Kinds.{moving_sum_of};
 
     ghost meaning = { moving_sum_of };

@@ -3,11 +3,11 @@ ghost use Rattle.std.specs.Prelude.{◌≡◌, ◌≤ℤ◌, ◌↔◌, pos, IsO
 ghost use Rattle.kind_model.specs.Math.{mute};
 
 use crate::stretch::{EachItem, fill_each};
-use block_kinds::{Batch, Block, ByPace, Held, Setting, Shape, Single, work_single};
+use block_parameters::{ParamFault, Parameter};
+use block_trait::{Batch, Block, ByPace, Held, Setting, Shape, Single, work_single};
 use items::{ItemType, Items};
 use lane_kernels::SimdLane;
 use numbers::vectors::{append, append_copies};
-use parameters::{ParamFault, Parameter};
 
 /// Zeros while 1 is in force, and each item while 0 is, as GNU Radio's `mute_xx`. Its parameter `on` is in force until a setting replaces it.
 #[derive(Debug, Drop, PartialEq, Eq)]

@@ -31,7 +31,7 @@ impl Makes for Inverse {
     ghost use Rattle.kind_model.specs.Kernels.{turned};
     ghost use Rattle.kind_model.specs.Math.{not_of};
     ghost use Rattle.kind_laws.specs.Math.{not_of-lawful};
-    ghost use Rattle.block_kinds.specs.SameItem.{same_item};
+    ghost use Rattle.block_trait.specs.SameItem.{same_item};
 
     ghost takes = { λ m. m.item };
 

@@ -4,13 +4,13 @@ ghost use Rattle.stream_model.specs.declared.vocabulary.ItemType.{ItemType};
 ghost use Rattle.stream_model.specs.Lists.{item, listed};
 ghost use Rattle.stream_model.specs.Meaning.{Meaning, IsLawful};
 ghost use Rattle.items.specs.Items.{type_of, numbers_of, spare_of};
-ghost use Rattle.block_kinds.specs.Fill.{CanFill, HasFilled};
+ghost use Rattle.block_trait.specs.Fill.{CanFill, HasFilled};
 ghost use Rattle.math_blocks.specs.PerItem.{made_of};
 
-use block_kinds::{Batch, Block, ByPace, Held, Shape, Single, work_single};
+use block_trait::{Batch, Block, ByPace, Held, Shape, Single, work_single};
+use item_dispatch::{AppendWork, append_items};
 use items::{ItemType, Items};
 use lane_kernels::SimdLane;
-use lane_work::{AppendWork, append_items};
 
 /// How an item is made of one item.
 pub trait Makes: Eq + Drop {

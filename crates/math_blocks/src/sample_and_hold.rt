@@ -8,7 +8,7 @@ ghost use Rattle.kind_model.specs.Math.{sample_and_hold};
 ghost use Rattle.items.specs.Items.{type_of, numbers_of, spare_of};
 ghost use Rattle.math_blocks.specs.Holding.{held_from};
 
-use block_kinds::{Block, ByPace, Held, Shape, ports};
+use block_trait::{Block, ByPace, Held, Shape, ports};
 use items::{ItemType, Items};
 use numbers::Number;
 
@@ -111,7 +111,7 @@ fn hold_items(bits: u64, items: &Items, control: &Items, out: &mut Items) -> i64
 
 impl Block for SampleAndHold {
     ghost use Rattle.std.proofs.Common.{ap};
-    ghost use Rattle.block_kinds.specs.SameItem.{same_item};
+    ghost use Rattle.block_trait.specs.SameItem.{same_item};
     ghost use Rattle.kind_model.specs.Math.{sample_and_hold};
     ghost use Rattle.kind_laws.specs.Math.{sample_and_hold-lawful};
 

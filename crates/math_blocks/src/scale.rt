@@ -5,12 +5,12 @@ ghost use Rattle.stream_model.specs.Numbers.{IsItem, least_of, greatest_of};
 ghost use Rattle.kind_model.specs.Math.{scale};
 
 use crate::stretch::{EachItem, fill_each};
-use block_kinds::{Batch, Block, ByPace, Held, Setting, Shape, Single, work_single};
+use block_parameters::{ParamFault, Parameter};
+use block_trait::{Batch, Block, ByPace, Held, Setting, Shape, Single, work_single};
 use items::{ItemType, Items};
 use lane_kernels::{SimdLane, append_scale_sat};
 use numbers::Number;
 use numbers::range::{greatest, is_item, least};
-use parameters::{ParamFault, Parameter};
 
 /// Each item times the factor in force at it over `2 ^ shift`, rounded to the nearest whole number (ties round up) and clamped to the range of the
 /// items' type. Its parameter `factor` is in force until a setting replaces it. GNU Radio has no block like it.

@@ -5,11 +5,11 @@ ghost use Rattle.stream_model.specs.Lists.{item, listed};
 ghost use Rattle.stream_model.specs.Shapes.{number_set};
 ghost use Rattle.items.specs.Items.{type_of, numbers_of, spare_of};
 ghost use Rattle.settings.specs.Values.{value_of, held_of};
-ghost use Rattle.block_kinds.specs.Fill.{CanFill, HasFilled};
-ghost use Rattle.block_kinds.specs.InForce.{AreOver};
+ghost use Rattle.block_trait.specs.Fill.{CanFill, HasFilled};
+ghost use Rattle.block_trait.specs.InForce.{AreOver};
 ghost use Rattle.math_blocks.specs.Stretch.{IsBetween, SetBetween, each_of, number_among, end_before};
 
-use block_kinds::{Batch, Held, Value};
+use block_trait::{Batch, Held, Value};
 use items::Items;
 use lane_kernels::SimdLane;
 

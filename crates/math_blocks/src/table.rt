@@ -6,12 +6,12 @@ ghost use Rattle.stream_model.specs.Lists.{item, listed};
 ghost use Rattle.kind_model.specs.Math.{number_for, table};
 ghost use Rattle.items.specs.Items.{type_of, numbers_of, spare_of};
 
-use block_kinds::{Batch, Block, ByPace, Held, Shape, Single, work_single};
+use block_parameters::{ParamFault, Parameter};
+use block_trait::{Batch, Block, ByPace, Held, Shape, Single, work_single};
 use items::{ItemFault, ItemType, Items};
 use lane_kernels::SimdLane;
 use numbers::Number;
 use numbers::vectors::append_copies;
-use parameters::{ParamFault, Parameter};
 use std::alloc::Global;
 
 /// For each byte the number at its place of a list of up to 256, and the last of them for a byte behind their end. As GNU Radio's `chunks_to_symbols` of

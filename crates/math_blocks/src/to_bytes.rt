@@ -5,10 +5,10 @@ ghost use Rattle.stream_model.specs.declared.vocabulary.ItemType.TheVariants as 
 ghost use Rattle.stream_model.specs.Lists.{item, listed};
 ghost use Rattle.stream_model.specs.Meaning.{Meaning, IsLawful};
 ghost use Rattle.items.specs.Items.{type_of, numbers_of, spare_of};
-ghost use Rattle.block_kinds.specs.Fill.{CanFill, HasFilled};
+ghost use Rattle.block_trait.specs.Fill.{CanFill, HasFilled};
 ghost use Rattle.math_blocks.specs.ToBytes.{bytes_of};
 
-use block_kinds::{Batch, Block, ByPace, Held, Shape, Single, work_single};
+use block_trait::{Batch, Block, ByPace, Held, Shape, Single, work_single};
 use items::{ItemType, Items};
 use numbers::Number;
 use numbers::vectors::append_copies;

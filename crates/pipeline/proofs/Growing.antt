@@ -3,7 +3,7 @@ use Rattle.std.proofs.Common.{◌≡◌, ℕ, suc, ◌+◌, List, [], ◌∷◌,
 use Rattle.std.proofs.lemmas.List.{append-nil}
 use Rattle.std.specs.Prelude.{Option, Some, None}
 use Rattle.std.specs.Io.KnownBytes.{Appends, Consumes}
-use Rattle.reporting.specs.Ends.{AppendsBeginning}
+use Rattle.byte_io.specs.Ends.{AppendsBeginning}
 use Rattle.pipeline.specs.Pipeline.{Growth, WriterGrows}
 
 pub appends_none : (a : Option (List ℕ)) → Appends a a []

@@ -5,7 +5,7 @@ use Rattle.std.specs.List.{flat_map}
 use Rattle.pipeline.specs.declared.part.StreamPart.{StreamPart}
 use Rattle.std.specs.Io.KnownBytes.{Appends}
 use Rattle.std.proofs.lemmas.List.{get_or_default, set-get_or}
-use Rattle.reporting.specs.Ends.{AppendsBeginning}
+use Rattle.byte_io.specs.Ends.{AppendsBeginning}
 use Rattle.std.proofs.lemmas.Grind.{flat_map-append}
 use Rattle.std.proofs.lemmas.Bool.{cases_eq}
 use Rattle.stream_model.specs.declared.vocabulary.ItemType.{ItemType}

@@ -4,7 +4,7 @@ use Rattle.std.proofs.lemmas.List.{append-nil, map-append}
 use Rattle.std.proofs.lemmas.List.Elements.{All-append, All-cons, All-nil}
 use Rattle.std.specs.Prelude.{All, Option, Some, None, IfSome, slice_index_or}
 use Rattle.std.specs.Io.KnownBytes.{Appends}
-use Rattle.reporting.specs.Ends.{AppendsBeginning}
+use Rattle.byte_io.specs.Ends.{AppendsBeginning}
 use Rattle.stream_model.specs.Meaning.{Meaning}
 use Rattle.stream_model.specs.Machine as machine
 use Rattle.stream_model.specs.Machine.{Call, Reply, next, set_of}

@@ -8,7 +8,7 @@ use Rattle.machine_laws.specs.Waits.{ForFeed, wait_of}
 use Rattle.items.specs.Items.{type_of}
 use Rattle.raw_items.specs.Values.{all_bytes_of}
 use Rattle.raw_items.specs.Decoding.{HasDecoded}
-use Rattle.reporting.specs.Ends.{AppendsBeginning}
+use Rattle.byte_io.specs.Ends.{AppendsBeginning}
 use Rattle.streaming.specs.Streaming.{StreamingState, drained, stream_into, tags_into}
 use Rattle.pipeline.specs.declared.end.End.{End}
 use Rattle.pipeline.specs.declared.end.End.TheVariants as ends

@@ -5,7 +5,7 @@ ghost use Rattle.pipeline.specs.declared.fault.PipelineFault.TheVariants.{Memory
 ghost use Rattle.pipeline.specs.Faults.{of_plant, row_of, text_of};
 
 use flowgraph::BlockId;
-use reporting::Refusal;
+use refusal_codes::Refusal;
 use std::alloc::AllocError;
 use std::error::Error;
 use std::{fmt, io};

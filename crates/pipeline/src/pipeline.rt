@@ -2,7 +2,7 @@
 
 ghost use Rattle.std.specs.Prelude.{◌≡◌, ℕ, Ok, Some, IfErr, IfOk, IfSome, OnErr, OnOk};
 ghost use Rattle.std.specs.Io.KnownBytes.{Appends};
-ghost use Rattle.reporting.specs.Ends.{AppendsBeginning};
+ghost use Rattle.byte_io.specs.Ends.{AppendsBeginning};
 ghost use Rattle.stream_model.specs.Machine.{IsWhole};
 ghost use Rattle.flowgraph.specs.Flowgraph.{net_of};
 ghost use Rattle.plant.specs.declared.answers.Settled.TheVariants.{Done, Quiet};

@@ -6,8 +6,8 @@ ghost use Rattle.pipeline.specs.declared.requests.Request.{Request};
 ghost use Rattle.pipeline.specs.Requests.{IsAnswer, is_stop};
 
 use flowgraph::BlockId;
-use past::Past;
 use plant::PlantFault;
+use recordings::Past;
 use settings::Value;
 use streaming::{Closed, Levels, Settled, Taken};
 

@@ -8,12 +8,12 @@ use Rattle.stream_laws.specs.CanRun.{CanRun}
 use Rattle.graph_model.specs.Gains.{AreWithinGain}
 use Rattle.machine_laws.specs.Sound.{Sound}
 use Rattle.machine_laws.proofs.Sounds.{calls_keep_sound}
-use Rattle.firings.specs.Firings.{abandoned}
+use Rattle.firing_rules.specs.Firings.{abandoned}
 use Rattle.plant_laws.specs.Holds.{Holds}
 use Rattle.plant_laws.proofs.Handing.{abandoning_holds}
-use Rattle.stores.specs.declared.stores.Stores.{Stores}
-use Rattle.stores.specs.Stores.{state_of, stored_in}
-use Rattle.stores.specs.Lending.{HasRoom}
+use Rattle.plant_storage.specs.declared.stores.Stores.{Stores}
+use Rattle.plant_storage.specs.Stores.{state_of, stored_in}
+use Rattle.plant_storage.specs.Lending.{HasRoom}
 use Rattle.plant.specs.Plant.{PlantState, Keeps, without_claim}
 use Rattle.plant.proofs.Limits.{gain_stays}
 

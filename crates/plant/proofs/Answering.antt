@@ -7,9 +7,9 @@ use Rattle.stream_model.specs.Network.{Network, State, node_at}
 use Rattle.stream_model.specs.Claims as claims
 use Rattle.stream_model.specs.Machine.{Claim, Job, Reply, Claimed, Did, counts_of, claim_of, next, step_of}
 use Rattle.machine_laws.specs.Stays.{in_flight}
-use Rattle.firings.specs.Decision.{answer_of}
-use Rattle.firings.specs.declared.decision.Decision.{Decision}
-use Rattle.firings.specs.declared.decision.Decision.TheVariants as decision
+use Rattle.firing_rules.specs.Decision.{answer_of}
+use Rattle.firing_rules.specs.declared.decision.Decision.{Decision}
+use Rattle.firing_rules.specs.declared.decision.Decision.TheVariants as decision
 use Rattle.flowgraph.specs.Flowgraph.{net_of}
 use Rattle.rates.specs.Answer.{sizes_of}
 use Rattle.plant.specs.declared.parts.Parts.{Parts}

@@ -17,16 +17,16 @@ use Rattle.plant_laws.specs.Flights.{BringsTheSame}
 use Rattle.plant_laws.specs.Holds.{Holds}
 use Rattle.plant_laws.proofs.Ending.{ending_holds}
 use Rattle.plant_laws.proofs.Handing.{claiming_holds}
-use Rattle.firings.specs.Decision.{answer_of}
-use Rattle.firings.specs.declared.decision.Decision.TheVariants as decision
-use Rattle.stores.specs.declared.intake.Intake.{Intake}
-use Rattle.stores.specs.declared.stores.Stores.{Stores}
-use Rattle.stores.specs.Stores.{state_of, stored_in}
-use Rattle.stores.specs.Delivery.{CanRelease}
-use Rattle.stores.specs.Lending.{HasRoom, KeepsAllRoom}
-use Rattle.stores.proofs.Flights.{is_claim_of, flight_was, flight_room}
-use Rattle.stores.proofs.Releasable.{can_release}
-use Rattle.stores.proofs.Rooms.{room_stays}
+use Rattle.firing_rules.specs.Decision.{answer_of}
+use Rattle.firing_rules.specs.declared.decision.Decision.TheVariants as decision
+use Rattle.plant_storage.specs.declared.intake.Intake.{Intake}
+use Rattle.plant_storage.specs.declared.stores.Stores.{Stores}
+use Rattle.plant_storage.specs.Stores.{state_of, stored_in}
+use Rattle.plant_storage.specs.Delivery.{CanRelease}
+use Rattle.plant_storage.specs.Lending.{HasRoom, KeepsAllRoom}
+use Rattle.plant_storage.proofs.Flights.{is_claim_of, flight_was, flight_room}
+use Rattle.plant_storage.proofs.Releasable.{can_release}
+use Rattle.plant_storage.proofs.Rooms.{room_stays}
 use Rattle.plant.specs.Plant.{Keeps, KeepsBut}
 use Rattle.plant.specs.Answers.{is_claimed}
 use Rattle.plant.proofs.Limits.{gain_stays}

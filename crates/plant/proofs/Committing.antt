@@ -12,18 +12,18 @@ use Rattle.machine_laws.specs.Stays.{in_flight}
 use Rattle.machine_laws.proofs.Sounds.{calls_keep_sound}
 use Rattle.items.specs.declared.stream_items.Items.{Items}
 use Rattle.items.specs.Items.{numbers_of}
-use Rattle.firings.specs.Firings.{committed}
+use Rattle.firing_rules.specs.Firings.{committed}
 use Rattle.plant_laws.specs.Holds.{Holds}
 use Rattle.plant_laws.specs.Calls.{IsWorked}
 use Rattle.plant_laws.proofs.Committing.{committing_holds}
-use Rattle.stores.specs.declared.intake.Intake.{Intake}
-use Rattle.stores.specs.declared.stores.Stores.{Stores}
-use Rattle.stores.specs.Stores.{state_of, stored_in}
-use Rattle.stores.specs.Lending.{HasRoom, KeepsRoom}
-use Rattle.stores.specs.Delivery.{CanDeliver, delivered}
-use Rattle.stores.proofs.Deliverable.{can_deliver}
-use Rattle.stores.proofs.Delivered.{delivered_is_committed}
-use Rattle.stores.proofs.Flights.{flight_was, flight_room-other}
+use Rattle.plant_storage.specs.declared.intake.Intake.{Intake}
+use Rattle.plant_storage.specs.declared.stores.Stores.{Stores}
+use Rattle.plant_storage.specs.Stores.{state_of, stored_in}
+use Rattle.plant_storage.specs.Lending.{HasRoom, KeepsRoom}
+use Rattle.plant_storage.specs.Delivery.{CanDeliver, delivered}
+use Rattle.plant_storage.proofs.Deliverable.{can_deliver}
+use Rattle.plant_storage.proofs.Delivered.{delivered_is_committed}
+use Rattle.plant_storage.proofs.Flights.{flight_was, flight_room-other}
 use Rattle.plant.proofs.InFlight.{flight_decides}
 use Rattle.plant.specs.Plant.{Keeps, IsFlight, IsItsWork, with_claim_done}
 use Rattle.plant.proofs.Limits.{gain_stays}

@@ -10,17 +10,17 @@ use Rattle.stream_model.specs.Claims as claims
 use Rattle.stream_model.specs.Machine.{Capacities, counts_of, claim_of}
 use Rattle.stream_laws.specs.CanRun.{CanRun}
 use Rattle.plant_laws.specs.Changes.{with_released}
-use Rattle.firings.specs.Decision as firings_decision
-use Rattle.firings.specs.State as firings
-use Rattle.firings.specs.declared.decision.Decision.{Decision}
-use Rattle.firings.specs.declared.decision.Decision.TheVariants as decision
+use Rattle.firing_rules.specs.Decision as firings_decision
+use Rattle.firing_rules.specs.State as firings
+use Rattle.firing_rules.specs.declared.decision.Decision.{Decision}
+use Rattle.firing_rules.specs.declared.decision.Decision.TheVariants as decision
 use Rattle.flowgraph.specs.Flowgraph.{Flowgraph, net_of}
 use Rattle.rates.specs.Answer.{sizes_of}
-use Rattle.stores.specs.declared.intake.Intake as stores
-use Rattle.stores.specs.declared.stores.Stores.{Stores}
-use Rattle.stores.specs.Stores.{handed_of, state_of, stored_in}
-use Rattle.stores.specs.Delivery.{CanRelease}
-use Rattle.stores.specs.Lending.{KeepsAllRoom}
+use Rattle.plant_storage.specs.declared.intake.Intake as stores
+use Rattle.plant_storage.specs.declared.stores.Stores.{Stores}
+use Rattle.plant_storage.specs.Stores.{handed_of, state_of, stored_in}
+use Rattle.plant_storage.specs.Delivery.{CanRelease}
+use Rattle.plant_storage.specs.Lending.{KeepsAllRoom}
 use Rattle.plant.specs.declared.parts.Parts.{Parts}
 use Rattle.plant.specs.Plant.{IsRight, IsRightBut, plant_of}
 use Rattle.plant.specs.Answers.{is_claimed}

@@ -13,13 +13,13 @@ use Rattle.stream_laws.specs.CanRun.{CanRun}
 use Rattle.machine_laws.specs.Stays.{in_flight}
 use Rattle.machine_laws.proofs.Deciding.{Reason, decide-reason}
 use Rattle.plant_laws.proofs.Handing.{abandoning_holds}
-use Rattle.firings.specs.Decision.{answer_of}
-use Rattle.firings.specs.Firings.{abandoned}
-use Rattle.firings.specs.declared.decision.Decision.{Decision}
-use Rattle.firings.specs.declared.decision.Decision.TheVariants as decision
+use Rattle.firing_rules.specs.Decision.{answer_of}
+use Rattle.firing_rules.specs.Firings.{abandoned}
+use Rattle.firing_rules.specs.declared.decision.Decision.{Decision}
+use Rattle.firing_rules.specs.declared.decision.Decision.TheVariants as decision
 use Rattle.machine_laws.proofs.Agreeing.{jobs_agree-same}
-use Rattle.stores.specs.declared.stores.Stores.{Stores}
-use Rattle.stores.specs.Stores.{state_of, stored_in}
+use Rattle.plant_storage.specs.declared.stores.Stores.{Stores}
+use Rattle.plant_storage.specs.Stores.{state_of, stored_in}
 use Rattle.plant.specs.Plant.{Keeps, KeepsBut, IsFlight, with_claim_done, without_claim}
 use Rattle.plant.specs.Answers.{waiting_reply}
 use Rattle.plant.proofs.Claiming.{all_room, keeps_called, keeps_from}

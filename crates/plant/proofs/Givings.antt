@@ -5,7 +5,7 @@ use Rattle.stream_model.specs.Meaning.{Meaning}
 use Rattle.stream_model.specs.Network.{Progress}
 use Rattle.stream_laws.specs.CanRun.{CanRun}
 use Rattle.flowgraph.specs.Flowgraph.{Flowgraph, net_of}
-use Rattle.firings.specs.Firings.{abandoned}
+use Rattle.firing_rules.specs.Firings.{abandoned}
 use Rattle.rates.specs.Answer.{sizes_of}
 use Rattle.plant.specs.declared.parts.Parts.{Parts}
 use Rattle.plant.specs.Plant.{PlantState, Keeps, IsFlight, IsRight, IsRightBut, plant_of}

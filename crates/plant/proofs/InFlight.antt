@@ -14,8 +14,8 @@ use Rattle.machine_laws.specs.Stays.{in_flight}
 use Rattle.plant_laws.specs.Stored.{word_at}
 use Rattle.flowgraph.specs.declared.parts.Entry.{Entry}
 use Rattle.flowgraph.specs.Flowgraph.{Flowgraph, net_of, node_of}
-use Rattle.stores.specs.declared.stores.Stores.{Stores}
-use Rattle.stores.specs.Stores.{stored_in, state_of}
+use Rattle.plant_storage.specs.declared.stores.Stores.{Stores}
+use Rattle.plant_storage.specs.Stores.{stored_in, state_of}
 use Rattle.plant.specs.Flight.{IsStored, IsClaim}
 use Rattle.plant.specs.Own.{same_blocks, is_own}
 use Rattle.machine_laws.proofs.Agreeing.{jobs_same, jobs_agree-same}

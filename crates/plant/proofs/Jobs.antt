@@ -10,12 +10,12 @@ use Rattle.machine_laws.specs.Stays.{in_flight}
 use Rattle.plant_laws.specs.Stored.{word_at}
 use Rattle.items.specs.declared.stream_items.Items.{Items}
 use Rattle.settings.specs.declared.value.Held.{Held}
-use Rattle.block_kinds.specs.Work.{CanWork}
+use Rattle.block_trait.specs.Work.{CanWork}
 use Rattle.flowgraph.specs.Flowgraph.{Flowgraph, net_of}
-use Rattle.jobs.specs.Jobs.{job_of}
+use Rattle.claimed_work.specs.Jobs.{job_of}
 use Rattle.rates.specs.Answer.{sizes_of}
-use Rattle.stores.specs.Stores.{stored_in}
-use Rattle.stores.specs.Lending.{IsLent}
+use Rattle.plant_storage.specs.Stores.{stored_in}
+use Rattle.plant_storage.specs.Lending.{IsLent}
 use Rattle.plant.specs.declared.parts.Parts.{Parts}
 use Rattle.plant.specs.Plant.{PlantState, IsFlight, IsRightBut, plant_of}
 use Rattle.plant.proofs.Lending.{may_work, job_lent}

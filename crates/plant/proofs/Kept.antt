@@ -11,9 +11,9 @@ use Rattle.ring_readers.specs.State.{slowest_of, most_kept}
 use Rattle.plant_laws.specs.Stored.{Stored, buffer_at}
 use Rattle.plant_laws.specs.Holds.{Holds, IsBuffer, place_of, has_no_reader}
 use Rattle.plant_laws.proofs.Finding.{buffers_keep_no_more}
-use Rattle.stores.proofs.Beginning.{some_history}
-use Rattle.stores.proofs.Delivered.{read_is}
-use Rattle.stores.specs.declared.stored.Stored as answers
+use Rattle.plant_storage.proofs.Beginning.{some_history}
+use Rattle.plant_storage.proofs.Delivered.{read_is}
+use Rattle.plant_storage.specs.declared.stored.Stored as answers
 use Rattle.plant.specs.Keeping.{KeepsFor, IsKeptOf}
 
 module _ (net : Network) (caps : Capacities) (st : State) (stored : Stored) (can : CanRun net) (sound : Sound net caps st) (holds : Holds net caps st stored) (b p : ℕ) (in' : b < length net.nodes) (used : p < used_outputs net b)

@@ -9,17 +9,17 @@ use Rattle.std.specs.Arc.{arc_value}
 use Rattle.stream_model.specs.Meaning.{Meaning}
 use Rattle.stream_model.specs.Network.{Network}
 use Rattle.flowgraph.specs.Flowgraph.{Flowgraph, net_of}
-use Rattle.firings.specs.declared.decision.Decision.{Decision}
-use Rattle.firings.specs.declared.decision.Decision.TheVariants.{Claimed}
+use Rattle.firing_rules.specs.declared.decision.Decision.{Decision}
+use Rattle.firing_rules.specs.declared.decision.Decision.TheVariants.{Claimed}
 use Rattle.items.specs.declared.stream_items.Items.{Items}
 use Rattle.items.specs.Items.{type_of, numbers_of, spare_of}
-use Rattle.block_kinds.specs.Work.{IsReady}
-use Rattle.jobs.specs.declared.lent.Lent.{Lent}
+use Rattle.block_trait.specs.Work.{IsReady}
+use Rattle.claimed_work.specs.declared.lent.Lent.{Lent}
 use Rattle.plant_laws.specs.Stored.{timeline_at}
-use Rattle.stores.specs.declared.stores.Stores.{Stores}
-use Rattle.stores.specs.Stores.{stored_in}
-use Rattle.transfers.specs.Places.{KeepRoom, Suffices}
-use Rattle.transfers.specs.Spare.{HasSpareFor}
+use Rattle.plant_storage.specs.declared.stores.Stores.{Stores}
+use Rattle.plant_storage.specs.Stores.{stored_in}
+use Rattle.plant_transfers.specs.Places.{KeepRoom, Suffices}
+use Rattle.plant_transfers.specs.Spare.{HasSpareFor}
 use Rattle.plant.specs.declared.parts.Parts.{Parts}
 use Rattle.plant.specs.Memory.{LosesNone, NeedsNone}
 

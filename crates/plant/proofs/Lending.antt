@@ -15,15 +15,15 @@ use Rattle.items.specs.declared.stream_items.Items.{Items}
 use Rattle.items.specs.Items.{numbers_of}
 use Rattle.settings.specs.declared.value.Held.{Held}
 use Rattle.settings.specs.Values.{held_of}
-use Rattle.block_kinds.specs.Work.{CanWork, HasWorked, IsWorkOf}
-use Rattle.jobs.specs.Jobs.{job_of}
-use Rattle.jobs.proofs.Feeding.{given_like}
-use Rattle.stores.specs.declared.stores.Stores.{Stores}
-use Rattle.stores.specs.Stores.{state_of, stored_in}
-use Rattle.stores.specs.Lending.{CanLend, IsLent}
-use Rattle.stores.proofs.Lendable.{can_lend}
-use Rattle.stores.proofs.Workable.{lent_is_job, job_is, can_do}
-use Rattle.stores.proofs.Worked.{is_worked}
+use Rattle.block_trait.specs.Work.{CanWork, HasWorked, IsWorkOf}
+use Rattle.claimed_work.specs.Jobs.{job_of}
+use Rattle.claimed_work.proofs.Feeding.{given_like}
+use Rattle.plant_storage.specs.declared.stores.Stores.{Stores}
+use Rattle.plant_storage.specs.Stores.{state_of, stored_in}
+use Rattle.plant_storage.specs.Lending.{CanLend, IsLent}
+use Rattle.plant_storage.proofs.Lendable.{can_lend}
+use Rattle.plant_storage.proofs.Workable.{lent_is_job, job_is, can_do}
+use Rattle.plant_storage.proofs.Worked.{is_worked}
 use Rattle.plant.specs.Plant.{KeepsBut, IsFlight, IsItsWork}
 
 module _ (names : List (List ℕ)) (net : Network) (can : CanRun net) (valid : IsValidGraph names net) (caps : Capacities) (s : Stores) (ps : List Progress) (b : ℕ)

@@ -1,6 +1,6 @@
 -- What a plant keeps stays true as a block is handed something.
 use Rattle.std.proofs.Common.{◌≡◌, ℕ, ℤ, zero, suc, ◌<◌, ◌≤◌, ◌+◌, List, ◌++◌, [], ◌∷◌, map, length, get_or, set, refl, arith, ap, sym, ◌∙◌, subst, true, false, Some, Ok, Err}
-use Rattle.stores.specs.SourceTapes.{tape_in}
+use Rattle.plant_storage.specs.SourceTapes.{tape_in}
 use Rattle.std.proofs.lemmas.List.{map-set, length-map}
 use Rattle.std.proofs.Math.Seq.{map-set_same}
 use Rattle.stream_model.specs.Network as model
@@ -16,20 +16,20 @@ use Rattle.graph_model.specs.Gains.{AreWithinGain, most_grown}
 use Rattle.machine_laws.specs.Sound.{Sound}
 use Rattle.machine_laws.proofs.Bounding.{alone_fits}
 use Rattle.machine_laws.proofs.Sounds.{calls_keep_sound}
-use Rattle.firings.specs.declared.progress.Tape.{Tape}
-use Rattle.firings.specs.State as firings
+use Rattle.firing_rules.specs.declared.progress.Tape.{Tape}
+use Rattle.firing_rules.specs.State as firings
 use Rattle.plant_laws.specs.Stored as stored
 use Rattle.plant_laws.specs.Stored.{Stored}
 use Rattle.tags.specs.TagList.{insert_tags}
 use Rattle.plant_laws.specs.Holds.{Holds}
-use Rattle.stores.specs.declared.intake.Intake.{Intake}
-use Rattle.stores.specs.Stores.{handed_of, tape_of, state_of, stored_in, rows_in, IsFed, IsAsBefore}
-use Rattle.stores.specs.declared.stores.Stores.{Stores}
-use Rattle.stores.specs.Stores.{stored_of}
+use Rattle.plant_storage.specs.declared.intake.Intake.{Intake}
+use Rattle.plant_storage.specs.Stores.{handed_of, tape_of, state_of, stored_in, rows_in, IsFed, IsAsBefore}
+use Rattle.plant_storage.specs.declared.stores.Stores.{Stores}
+use Rattle.plant_storage.specs.Stores.{stored_of}
 use Rattle.stream_model.specs.Tags.{tags_within}
 use Rattle.plant_laws.specs.Changes.{tags_waiting}
-use Rattle.stores.specs.Lending.{HasRoom, KeepsAllRoom, sink_state}
-use Rattle.stores.proofs.Rooms.{room_stays}
+use Rattle.plant_storage.specs.Lending.{HasRoom, KeepsAllRoom, sink_state}
+use Rattle.plant_storage.proofs.Rooms.{room_stays}
 use Rattle.plant_laws.proofs.Flying.{flights_keep_tags}
 use Rattle.plant.specs.Plant.{PlantState, Keeps}
 use Rattle.plant.specs.Answers.{refusal_of}

@@ -12,10 +12,10 @@ use Rattle.stream_laws.specs.CanRun.{CanRun}
 use Rattle.machine_laws.specs.Sound.{fired, Sound}
 use Rattle.machine_laws.specs.Stays.{in_flight}
 use Rattle.machine_laws.proofs.Following.{jobs_are_fed}
-use Rattle.block_kinds.specs.Work.{least_windows}
+use Rattle.block_trait.specs.Work.{least_windows}
 use Rattle.plant_laws.specs.Calls.{IsWorked}
 use Rattle.plant_laws.proofs.Windows.{windows-at, length-windows}
-use Rattle.jobs.specs.Jobs.{WasFed, IsDone}
+use Rattle.claimed_work.specs.Jobs.{WasFed, IsDone}
 
 -- a block is given at least one window
 some_windows : (m : Meaning) (r : Role) → KeepsRole m r → 1 ≤ least_windows r m.inputs

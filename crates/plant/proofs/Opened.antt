@@ -15,9 +15,9 @@ use Rattle.plant_laws.proofs.Opening.{opening_holds}
 use Rattle.graph_model.specs.Gains.{IsWithinGain}
 use Rattle.graph_model.specs.Rates.{balance_of, capacities_of}
 use Rattle.rates.specs.Answer.{sizes_of}
-use Rattle.stores.specs.declared.intake.Intake.{Intake}
-use Rattle.stores.specs.Stores.{handed_of, state_of, stored_in}
-use Rattle.stores.specs.SourceTapes.{is_own}
+use Rattle.plant_storage.specs.declared.intake.Intake.{Intake}
+use Rattle.plant_storage.specs.Stores.{handed_of, state_of, stored_in}
+use Rattle.plant_storage.specs.SourceTapes.{is_own}
 use Rattle.plant.specs.declared.opening.Fresh.{Fresh}
 use Rattle.plant.specs.Plant.{ForgetsNone, Keeps}
 use Rattle.plant.specs.Opening.{IsFresh}

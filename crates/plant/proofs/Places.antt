@@ -2,9 +2,9 @@
 use Rattle.std.proofs.Common.{◌≡◌, ℕ, List, get_or, sym, subst}
 use Rattle.stream_model.specs.Network.{Network, State}
 use Rattle.items.specs.declared.stream_items.Items.{Items}
-use Rattle.jobs.specs.declared.lent.Lent.{Lent}
+use Rattle.claimed_work.specs.declared.lent.Lent.{Lent}
 use Rattle.plant_laws.specs.Stored.{Stored}
-use Rattle.stores.specs.Lending.{IsLent}
+use Rattle.plant_storage.specs.Lending.{IsLent}
 use Rattle.plant.specs.Plant.{IsItsWork}
 
 -- what lies there, as it is read

@@ -8,7 +8,7 @@ use Rattle.stream_model.specs.Machine as machine
 use Rattle.stream_model.specs.Machine.{Reply, Refused, marks_fit, close_of, feed_of, with_handed, with_tape}
 use Rattle.plant.specs.declared.fault.PlantFault.{PlantFault}
 use Rattle.plant.specs.declared.fault.PlantFault.TheVariants.{NoSuchBlock, NotSource, Closed, TagPlace, TapeFull}
-use Rattle.firings.specs.State.{tape_of}
+use Rattle.firing_rules.specs.State.{tape_of}
 use Rattle.plant.specs.Plant.{PlantState}
 use Rattle.plant.specs.Answers.{Answered, refusal_of, source_type_of}
 use Rattle.plant.specs.Feeding.{length_with}

@@ -12,10 +12,10 @@ use Rattle.machine_laws.specs.Sound.{Sound}
 use Rattle.items.specs.declared.stream_items.Items.{Items}
 use Rattle.items.specs.Items.{type_of, numbers_of}
 use Rattle.flowgraph.specs.Flowgraph.{Flowgraph, net_of}
-use Rattle.jobs.specs.Jobs.{AreTaken, AreGiven, WasFed, IsDone}
+use Rattle.claimed_work.specs.Jobs.{AreTaken, AreGiven, WasFed, IsDone}
 use Rattle.plant_laws.specs.Calls.{IsWorked}
-use Rattle.stores.specs.declared.stores.Stores.{Stores}
-use Rattle.stores.specs.Stores.{state_of}
+use Rattle.plant_storage.specs.declared.stores.Stores.{Stores}
+use Rattle.plant_storage.specs.Stores.{state_of}
 use Rattle.plant.specs.Flight.{IsClaim}
 use Rattle.plant.specs.Own.{is_own}
 use Rattle.plant.proofs.InFlight.{flight_decides, own_means}

@@ -8,11 +8,11 @@ use Rattle.stream_model.specs.Network.{progress_at}
 use Rattle.stream_laws.specs.CanRun.{CanRun}
 use Rattle.graph_model.specs.Graphs.{IsValidGraph}
 use Rattle.flowgraph.specs.Flowgraph.{Flowgraph, net_of}
-use Rattle.jobs.specs.declared.lent.Lent.{Lent}
+use Rattle.claimed_work.specs.declared.lent.Lent.{Lent}
 use Rattle.rates.specs.Answer.{sizes_of}
-use Rattle.stores.specs.declared.stores.Stores.{Stores}
-use Rattle.stores.specs.Stores.{stored_in}
-use Rattle.stores.specs.Lending.{CanLend, HasRoom, KeepsAllRoom}
+use Rattle.plant_storage.specs.declared.stores.Stores.{Stores}
+use Rattle.plant_storage.specs.Stores.{stored_in}
+use Rattle.plant_storage.specs.Lending.{CanLend, HasRoom, KeepsAllRoom}
 use Rattle.plant.specs.declared.parts.Parts.{Parts}
 use Rattle.plant.specs.Plant.{IsFlight, IsRight, IsRightBut, plant_of}
 use Rattle.plant.proofs.Claiming.{keeps_from, keeps_roomier}

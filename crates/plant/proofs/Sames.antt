@@ -5,9 +5,9 @@ use mathlib.Core.Bool.{beq}
 use Rattle.std.specs.Cmp.Lexicographic.{pointwise}
 use Rattle.std.proofs.lemmas.Bool.Decides.{Decides-eqb, Decides-and, Decides-like}
 use Rattle.stream_model.specs.Network as model
-use Rattle.firings.specs.declared.progress.Progress.{Progress}
-use Rattle.firings.specs.State.{progress_of}
-use Rattle.stores.proofs.Views.{same_views}
+use Rattle.firing_rules.specs.declared.progress.Progress.{Progress}
+use Rattle.firing_rules.specs.State.{progress_of}
+use Rattle.plant_storage.proofs.Views.{same_views}
 
 same_flag : (x y : Bool) → Decides (beq x y) (x ≡ y)
 same_flag true true = (λ e. refl, λ e. refl)

@@ -26,10 +26,10 @@ use Rattle.plant_laws.specs.Calls.{TakesOneMore}
 use Rattle.plant_laws.specs.Changes.{with_settings}
 use Rattle.plant_laws.specs.Holds.{Holds}
 use Rattle.plant_laws.proofs.Handing.{setting_holds}
-use Rattle.stores.specs.declared.intake.Intake.{Intake}
-use Rattle.stores.specs.declared.stores.Stores.{Stores}
-use Rattle.stores.specs.Stores.{handed_of, settings_in, state_of, stored_in, rows_in, IsSet}
-use Rattle.stores.proofs.Handing.{timeline_before, setting_before, stored_setting}
+use Rattle.plant_storage.specs.declared.intake.Intake.{Intake}
+use Rattle.plant_storage.specs.declared.stores.Stores.{Stores}
+use Rattle.plant_storage.specs.Stores.{handed_of, settings_in, state_of, stored_in, rows_in, IsSet}
+use Rattle.plant_storage.proofs.Handing.{timeline_before, setting_before, stored_setting}
 use Rattle.plant.specs.declared.fault.PlantFault.{PlantFault}
 use Rattle.plant.specs.declared.fault.PlantFault.TheVariants.{NoSuchBlock, NotSource, NotSink, Closed, ItemRange, TagPlace, TapeFull, Late, NoSetting, WrongSetting, BeyondEnd, NoSuchPort, Memory}
 use Rattle.plant.specs.Plant.{Keeps}

@@ -10,13 +10,13 @@ use Rattle.stream_model.specs.Machine.{Capacities, Refused, Piece, HoldsAll, rea
 use Rattle.stream_laws.specs.CanRun.{CanRun}
 use Rattle.machine_laws.specs.Sound.{fired}
 use Rattle.machine_laws.proofs.Wholes.{done_piece_is_whole}
-use Rattle.firings.specs.declared.progress.Progress.{Progress}
-use Rattle.firings.specs.State.{progress_of}
+use Rattle.firing_rules.specs.declared.progress.Progress.{Progress}
+use Rattle.firing_rules.specs.State.{progress_of}
 use Rattle.plant_laws.specs.Stored.{Collected, sink_at}
 use Rattle.plant_laws.specs.Calls.{IsCutOut}
 use Rattle.plant_laws.proofs.Reading.{reads_are_cut_out}
-use Rattle.stores.specs.declared.stores.Stores.{Stores}
-use Rattle.stores.specs.Stores.{state_of, stored_in}
+use Rattle.plant_storage.specs.declared.stores.Stores.{Stores}
+use Rattle.plant_storage.specs.Stores.{state_of, stored_in}
 use Rattle.plant.specs.Plant.{Keeps}
 use Rattle.plant.specs.Answers.{takes_memory}
 

@@ -24,13 +24,13 @@ use Rattle.plant_laws.specs.Stored.{tape_at, timeline_at, settings_from, buffer_
 use Rattle.plant_laws.specs.Claims.{MayFire, Serves, held_over, input_buffer, input_reader}
 use Rattle.plant_laws.proofs.Windows.{length-windows}
 use Rattle.plant_laws.proofs.Serving.{flights_may_fire, firings_are_served, is_end, enough, job_window}
-use Rattle.stores.specs.SourceTapes.{tape_in}
-use Rattle.stores.specs.declared.intake.Intake.{Intake}
-use Rattle.stores.specs.declared.stores.Stores.{Stores}
-use Rattle.stores.specs.Stores.{rows_in, stored_in, state_of, tape_of, buffer_of}
-use Rattle.stores.specs.Lending.{no_buffer, HasInput, CanLend}
-use Rattle.stores.proofs.Lendable.{can_lend}
-use Rattle.transfers.proofs.Wires.{no_input, as_many_inputs, input_connection, writer_there, output_there, input_number}
+use Rattle.plant_storage.specs.SourceTapes.{tape_in}
+use Rattle.plant_storage.specs.declared.intake.Intake.{Intake}
+use Rattle.plant_storage.specs.declared.stores.Stores.{Stores}
+use Rattle.plant_storage.specs.Stores.{rows_in, stored_in, state_of, tape_of, buffer_of}
+use Rattle.plant_storage.specs.Lending.{no_buffer, HasInput, CanLend}
+use Rattle.plant_storage.proofs.Lendable.{can_lend}
+use Rattle.plant_transfers.proofs.Wires.{no_input, as_many_inputs, input_connection, writer_there, output_there, input_number}
 use Rattle.plant.specs.Flight.{IsStored}
 use Rattle.plant.specs.Seen.{buffer_behind, ring_behind, CanSee, CanSeeAll, AreEnds, AreSeen, seen_of}
 

@@ -12,11 +12,11 @@ use Rattle.stream_model.specs.Network.{Network, longest_tape, role_at, is_keeper
 use Rattle.plant_laws.specs.Stored.{Tape, Collected, Stored, firsts_of, no_tape, nothing_collected, settings_from, sink_at}
 use Rattle.plant_laws.specs.Changes.{collected, tags_waiting}
 use Rattle.plant_laws.proofs.Forgetting.{firsts-sink}
-use Rattle.stores.specs.declared.intake.Intake.{Intake}
-use Rattle.stores.specs.declared.stores.Stores.{Stores}
-use Rattle.stores.specs.Stores.{IsWhole, rows_in, stored_in, stored_of, tape_of}
-use Rattle.stores.specs.Delivery.{delivered}
-use Rattle.stores.specs.SourceTapes.{is_own}
+use Rattle.plant_storage.specs.declared.intake.Intake.{Intake}
+use Rattle.plant_storage.specs.declared.stores.Stores.{Stores}
+use Rattle.plant_storage.specs.Stores.{IsWhole, rows_in, stored_in, stored_of, tape_of}
+use Rattle.plant_storage.specs.Delivery.{delivered}
+use Rattle.plant_storage.specs.SourceTapes.{is_own}
 use Rattle.plant.specs.Plant.{Spans, ForgetsNone, KeepsAll, spans_of}
 
 -- no tape of a plant grows beyond the usual

@@ -3,8 +3,8 @@ use Rattle.std.proofs.Common.{◌≡◌, ℕ, ◌<◌, List, map, length, get_or
 use Rattle.std.proofs.lemmas.Option.{slice_get_read}
 use Rattle.std.proofs.lemmas.List.{get_or-map, length-map}
 use Rattle.stream_model.specs.Network.{Handed}
-use Rattle.firings.specs.declared.progress.Tape.{Tape}
-use Rattle.firings.specs.State.{tape_of}
+use Rattle.firing_rules.specs.declared.progress.Tape.{Tape}
+use Rattle.firing_rules.specs.State.{tape_of}
 
 -- the tape of a block that is there
 pub tape_at : {A : Type 0} (view : A → Handed) (own : List A) (b : ℕ) (a : A) (tape : Tape) → a ≡ get_or own b a → b < length (map tape_of (map view own)) → tape ≡ tape_of (view a) → slice_get (map tape_of (map view own)) b ≡ Some tape

@@ -10,11 +10,11 @@ use Rattle.graph_model.specs.Graphs.{IsValidGraph}
 use Rattle.plant_laws.specs.Stored.{word_at}
 use Rattle.items.specs.declared.stream_items.Items.{Items}
 use Rattle.settings.specs.declared.value.Held.{Held}
-use Rattle.block_kinds.specs.Work.{CanWork, HasWorked, IsWorkOf}
+use Rattle.block_trait.specs.Work.{CanWork, HasWorked, IsWorkOf}
 use Rattle.flowgraph.specs.Flowgraph.{Flowgraph, net_of}
 use Rattle.rates.specs.Answer.{sizes_of}
-use Rattle.stores.specs.Stores.{stored_in}
-use Rattle.stores.specs.Lending.{IsLent}
+use Rattle.plant_storage.specs.Stores.{stored_in}
+use Rattle.plant_storage.specs.Lending.{IsLent}
 use Rattle.plant.specs.declared.parts.Parts.{Parts}
 use Rattle.plant.specs.Plant.{KeepsBut, IsFlight, IsItsWork, IsRight, plant_of}
 use Rattle.plant.proofs.Claiming.{but_from}

@@ -6,10 +6,10 @@ use Rattle.stream_model.specs.Machine as machine
 use Rattle.stream_model.specs.Machine.{Reply, Refused}
 use Rattle.items.specs.Items.{numbers_of}
 use Rattle.flowgraph.specs.Flowgraph.{Flowgraph}
-use Rattle.firings.specs.declared.decision.Decision.{Decision}
-use Rattle.firings.specs.declared.decision.Decision.TheVariants as decision
-use Rattle.firings.specs.declared.decision.Need.{Need}
-use Rattle.firings.specs.declared.decision.Need.TheVariants as need
+use Rattle.firing_rules.specs.declared.decision.Decision.{Decision}
+use Rattle.firing_rules.specs.declared.decision.Decision.TheVariants as decision
+use Rattle.firing_rules.specs.declared.decision.Need.{Need}
+use Rattle.firing_rules.specs.declared.decision.Need.TheVariants as need
 use Rattle.items.specs.Tags.{tag_of}
 use Rattle.plant.specs.declared.answers.Piece.{Piece}
 use Rattle.plant.specs.declared.answers.SinkView.{SinkView}

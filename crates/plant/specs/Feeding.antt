@@ -7,7 +7,7 @@ use Rattle.stream_model.specs.Tags.{Mark}
 use Rattle.stream_model.specs.Network.{Network, State, node_at, role_at, is_source}
 use Rattle.stream_model.specs.Machine as machine
 use Rattle.stream_model.specs.Machine.{Reply, Refused}
-use Rattle.firings.specs.declared.progress.Tape.{Tape}
+use Rattle.firing_rules.specs.declared.progress.Tape.{Tape}
 use Rattle.plant.specs.declared.fault.PlantFault.{PlantFault}
 use Rattle.plant.specs.declared.fault.PlantFault.TheVariants.{Closed, TagPlace, TapeFull}
 

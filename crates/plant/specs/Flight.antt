@@ -6,8 +6,8 @@ use Rattle.graph_model.specs.Gains.{AreWithinGain}
 use Rattle.machine_laws.specs.Sound.{Sound}
 use Rattle.machine_laws.specs.Stays.{in_flight}
 use Rattle.plant_laws.specs.Holds.{Holds}
-use Rattle.stores.specs.declared.stores.Stores.{Stores}
-use Rattle.stores.specs.Stores.{stored_in, state_of}
+use Rattle.plant_storage.specs.declared.stores.Stores.{Stores}
+use Rattle.plant_storage.specs.Stores.{stored_in, state_of}
 
 -- what is stored is that of a sound state with this progress, under some capacities
 pub record IsStored (net : Network) (s : Stores) (progress : List Progress) : Type 0 where

@@ -6,7 +6,7 @@ use Rattle.stream_model.specs.Machine.{Capacities, capacity_at}
 use Rattle.machine_laws.specs.Sound.{fired}
 use Rattle.ring_readers.specs.State.{most_kept, slowest_of}
 use Rattle.plant_laws.specs.Holds.{place_of, greatest_history}
-use Rattle.stores.specs.declared.stored.Stored.{Stored}
+use Rattle.plant_storage.specs.declared.stored.Stored.{Stored}
 use Rattle.plant.specs.declared.fault.PlantFault.{PlantFault}
 use Rattle.plant.specs.declared.fault.PlantFault.TheVariants.{NoSuchBlock, NoSuchPort}
 

@@ -5,13 +5,13 @@ use Rattle.stream_model.specs.Meaning.{Meaning}
 use Rattle.stream_model.specs.Network.{Network, node_at}
 use Rattle.stream_model.specs.Machine.{Job}
 use Rattle.items.specs.Items.{numbers_of}
-use Rattle.block_kinds.specs.Work.{IsReady}
+use Rattle.block_trait.specs.Work.{IsReady}
 use Rattle.flowgraph.specs.Flowgraph.{net_of}
-use Rattle.jobs.specs.declared.lent.Lent.{Lent}
+use Rattle.claimed_work.specs.declared.lent.Lent.{Lent}
 use Rattle.plant_laws.specs.Stored.{timeline_at}
-use Rattle.stores.specs.Stores.{stored_in}
-use Rattle.transfers.specs.Places.{Suffices}
-use Rattle.transfers.specs.Spare.{HasSpareFor}
+use Rattle.plant_storage.specs.Stores.{stored_in}
+use Rattle.plant_transfers.specs.Places.{Suffices}
+use Rattle.plant_transfers.specs.Spare.{HasSpareFor}
 use Rattle.plant.specs.declared.parts.Parts.{Parts}
 
 -- what block b was lent suffices for firings from k up to the next ones, before memory is needed

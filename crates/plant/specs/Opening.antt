@@ -6,9 +6,9 @@ use Rattle.graph_model.specs.Rates.{balance_of, capacities_of}
 use Rattle.flowgraph.specs.Flowgraph.{Flowgraph, net_of}
 use Rattle.rates.specs.Answer.{AreRates, answer_of, sizes_of}
 use Rattle.plant_laws.specs.Opening.{stored_opening}
-use Rattle.stores.specs.Stores.{handed_of, stored_in}
-use Rattle.stores.specs.SourceTapes.{is_own}
-use Rattle.stores.specs.declared.intake.Intake.{Intake}
+use Rattle.plant_storage.specs.Stores.{handed_of, stored_in}
+use Rattle.plant_storage.specs.SourceTapes.{is_own}
+use Rattle.plant_storage.specs.declared.intake.Intake.{Intake}
 use Rattle.plant.specs.Plant.{PlantState}
 use Rattle.plant.specs.declared.opening.Fresh.{Fresh}
 

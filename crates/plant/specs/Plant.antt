@@ -12,16 +12,16 @@ use Rattle.machine_laws.specs.Stalls.{AreClosed}
 use Rattle.items.specs.declared.stream_items.Items.{Items}
 use Rattle.items.specs.Items.{type_of, numbers_of}
 use Rattle.flowgraph.specs.Flowgraph.{Flowgraph, net_of}
-use Rattle.jobs.specs.declared.lent.Lent.{Lent}
+use Rattle.claimed_work.specs.declared.lent.Lent.{Lent}
 use Rattle.rates.specs.Answer.{AreRates, answer_of, sizes_of}
 use Rattle.plant_laws.specs.Stored.{Firsts, firsts_of}
 use Rattle.plant_laws.specs.Holds.{Holds}
 use Rattle.plant_laws.specs.Calls.{IsWorked}
-use Rattle.stores.specs.declared.intake.Intake.{Intake}
-use Rattle.stores.specs.declared.stores.Stores.{Stores}
-use Rattle.stores.specs.Stores.{state_of, stored_in}
-use Rattle.stores.specs.SourceTapes.{is_own}
-use Rattle.stores.specs.Lending.{HasRoom, IsLent}
+use Rattle.plant_storage.specs.declared.intake.Intake.{Intake}
+use Rattle.plant_storage.specs.declared.stores.Stores.{Stores}
+use Rattle.plant_storage.specs.Stores.{state_of, stored_in}
+use Rattle.plant_storage.specs.SourceTapes.{is_own}
+use Rattle.plant_storage.specs.Lending.{HasRoom, IsLent}
 use Rattle.plant.specs.declared.parts.Parts.{Parts}
 
 -- the graph, the capacity of each output of each block, and the machine's state

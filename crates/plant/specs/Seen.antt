@@ -6,7 +6,7 @@ use Rattle.stream_model.specs.Network.{Node, taken_by}
 use Rattle.flowgraph.specs.declared.parts.Input.{Input}
 use Rattle.ring_readers.specs.State.{RingState, IsLive, IsEndOf, reader_at, unread_of, past_of}
 use Rattle.buffers.specs.Buffer.{BufferState}
-use Rattle.stores.specs.Lending.{no_buffer}
+use Rattle.plant_storage.specs.Lending.{no_buffer}
 
 -- the buffer that an input reads, and its ring
 abbrev pub buffer_behind : List (List BufferState) → Input → BufferState

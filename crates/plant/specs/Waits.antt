@@ -3,8 +3,8 @@ use Rattle.std.specs.Prelude.{ℕ, length, not, nat_lt, if◌then◌else◌, Res
 use Rattle.stream_model.specs.Network.{Network, State}
 use Rattle.stream_model.specs.Machine.{Capacities}
 use Rattle.machine_laws.specs.Waits.{Wait, wait_of}
-use Rattle.firings.specs.declared.waits.BlockNeed.{BlockNeed}
-use Rattle.firings.specs.Waits.{wait_seen}
+use Rattle.firing_rules.specs.declared.waits.BlockNeed.{BlockNeed}
+use Rattle.firing_rules.specs.Waits.{wait_seen}
 use Rattle.plant.specs.declared.fault.PlantFault.{PlantFault}
 use Rattle.plant.specs.declared.fault.PlantFault.TheVariants.{NoSuchBlock}
 

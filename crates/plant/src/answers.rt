@@ -1,9 +1,9 @@
 //! What the calls of a plant answer.
 
-use firings::Need;
+use claimed_work::Job;
+use firing_rules::Need;
 use flowgraph::Block;
 use items::Items;
-use jobs::Job;
 use tags::Tag;
 
 /// How many items a source's tape holds after a `feed`.

@@ -6,7 +6,7 @@ ghost use Rattle.settings.specs.Values.{value_of};
 ghost use Rattle.std.specs.List.{list_all};
 ghost use Rattle.stream_model.specs.Numbers.{types_agree};
 ghost use Rattle.flowgraph.specs.Flowgraph.{net_of};
-ghost use Rattle.stores.specs.Stores.{mark_of};
+ghost use Rattle.plant_storage.specs.Stores.{mark_of};
 ghost use Rattle.plant.specs.Answers.{source_type_of};
 ghost use Rattle.plant.specs.Setting.{fault_in, setting_fault};
 

@@ -8,7 +8,7 @@ ghost use Rattle.stream_model.specs.Machine as machine;
 ghost use Rattle.stream_model.specs.Machine.{counts_of, claim_of, next, step_of};
 ghost use Rattle.machine_laws.specs.Stays.{in_flight};
 ghost use Rattle.flowgraph.specs.Flowgraph.{net_of};
-ghost use Rattle.firings.specs.Decision.{answer_of};
+ghost use Rattle.firing_rules.specs.Decision.{answer_of};
 ghost use Rattle.plant.specs.Plant.{IsRight, IsRightBut, IsFlight, IsLentTo, IsDoneBy, plant_of, with_claim_done, without_claim, spans_in};
 ghost use Rattle.plant.specs.Memory.{LosesNone, NeedsNone};
 ghost use Rattle.plant.specs.Answers.{Answered, IsOf, is_claimed, claim_reply, reply_of, step_reply};
@@ -17,13 +17,13 @@ use crate::answers::{Claim, Step};
 use crate::fault::PlantFault;
 use crate::parts::Parts;
 use crate::source_tapes::SourceTapes;
-use firings::Decision;
+use claimed_work::{Claimed, Job, Lent};
+use firing_rules::Decision;
 use flowgraph::{Block, BlockId};
-use jobs::{Claimed, Job, Lent};
+use plant_transfers::{lend, make_room, release};
 use std::alloc::{AllocError, Global};
 use std::mem::replace;
 use std::sync::Arc;
-use transfers::{lend, make_room, release};
 
 impl<B: Block> Parts<B> {
     /// Claims at most `max` firings of a block, and makes room for their commit.

@@ -12,9 +12,9 @@ ghost use Rattle.plant.specs.Answers.{IsTaken};
 use crate::answers::Did;
 use crate::flight::is_in_flight;
 use crate::parts::Parts;
+use claimed_work::{Job, Worked};
 use flowgraph::{Block, BlockId};
-use jobs::{Job, Worked};
-use transfers::deliver;
+use plant_transfers::deliver;
 
 impl<B: Block> Parts<B> {
     /// Commits the work of the claim in flight of a block. Any other work comes back.

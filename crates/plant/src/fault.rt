@@ -4,7 +4,7 @@ ghost use Rattle.std.specs.Prelude.{◌≡◌, Some};
 ghost use Rattle.plant.specs.Fault.{row_of, text_of};
 ghost use Rattle.plant.specs.declared.fault.PlantFault.TheVariants.{Memory};
 
-use reporting::Refusal;
+use refusal_codes::Refusal;
 use std::alloc::AllocError;
 use std::error::Error;
 use std::fmt;

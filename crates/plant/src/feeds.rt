@@ -9,7 +9,7 @@ ghost use Rattle.stream_model.specs.Machine.{feed_of, close_of, set_of, floor_of
 ghost use Rattle.items.specs.Items.{type_of, numbers_of};
 ghost use Rattle.settings.specs.Values.{value_of};
 ghost use Rattle.flowgraph.specs.Flowgraph.{net_of};
-ghost use Rattle.stores.specs.Stores.{mark_of};
+ghost use Rattle.plant_storage.specs.Stores.{mark_of};
 ghost use Rattle.plant.specs.Plant.{IsRight, plant_of, spans_in};
 ghost use Rattle.plant.specs.Answers.{Answered, AnsweredAlways, reply_of};
 ghost use Rattle.plant.specs.Feeding.{feed_numbers, length_with};
@@ -19,7 +19,7 @@ use crate::checks::{fit, same_type, source_type, wanted};
 use crate::fault::PlantFault;
 use crate::parts::Parts;
 use crate::source_tapes::counts_of;
-use firings::Tape;
+use firing_rules::Tape;
 use flowgraph::{Block, BlockId};
 use items::{ItemFault, Items, Mark};
 use settings::Value;

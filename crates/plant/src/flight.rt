@@ -8,19 +8,19 @@ ghost use Rattle.items.specs.Items.{numbers_of};
 ghost use Rattle.settings.specs.Values.{held_of};
 ghost use Rattle.flowgraph.specs.Flowgraph.{net_of};
 ghost use Rattle.std.specs.Arc.{arc_value};
-ghost use Rattle.jobs.specs.Jobs.{AreTaken, job_in};
-ghost use Rattle.stores.specs.Stores.{state_of};
+ghost use Rattle.claimed_work.specs.Jobs.{AreTaken, job_in};
+ghost use Rattle.plant_storage.specs.Stores.{state_of};
 ghost use Rattle.plant.specs.Flight.{IsStored, IsClaim};
 ghost use Rattle.plant.specs.Own.{is_own};
 
 use crate::seen::{are_held, are_seen, is_cut};
-use block_kinds::Block;
-use firings::{Firings, Progress};
+use block_trait::Block;
+use claimed_work::Claimed;
+use firing_rules::{Firings, Progress};
 use flowgraph::{BlockId, Valid};
 use items::Items;
-use jobs::Claimed;
+use plant_storage::Stores;
 use settings::Held;
-use stores::Stores;
 use stream_model::Role;
 
 /// Whether the job is its block's claim in flight: the same firings of an equal block, with the same windows, settings

@@ -2,20 +2,20 @@
 
 ghost use Rattle.std.specs.Prelude.{◌≡◌, ◌<◌, ◌^◌, ◌↔◌, length, map, true, All, IsTrue, IfOk};
 ghost use Rattle.std.specs.Arc.{arc_value};
-ghost use Rattle.firings.specs.State.{progress_of};
+ghost use Rattle.firing_rules.specs.State.{progress_of};
 ghost use Rattle.flowgraph.specs.Agreeing.{graphs_agree};
 ghost use Rattle.flowgraph.specs.Flowgraph.{net_of};
-ghost use Rattle.stores.specs.Stores.{IsWhole, handed_of};
+ghost use Rattle.plant_storage.specs.Stores.{IsWhole, handed_of};
 ghost use Rattle.plant.specs.Plant.{ForgetsNone, plant_of, spans_in};
 
 use crate::parts::Parts;
-use firings::{Firings, Progress};
+use firing_rules::{Firings, Progress};
 use flowgraph::{Block, BlockId, Valid};
+use plant_storage::{Intake, IntakeCopy};
 use std::alloc::{AllocError, Global};
 use std::fmt;
 use std::marker::Model;
 use std::sync::Arc;
-use stores::{Intake, IntakeCopy};
 
 /// What a plant was handed, as it was at one moment: its graph, the tapes of its sources, whether they are closed, and
 /// the settings. It shares the graph and the tapes with the plant, so no item is copied. While it lives, the next feed
@@ -56,7 +56,7 @@ impl<B: Block> fmt::Debug for Opening<B> {
 
 impl<B: Block> Model for Opening<B> {
     ghost use Rattle.std.specs.Prelude.{map};
-    ghost use Rattle.firings.specs.State.{progress_of};
+    ghost use Rattle.firing_rules.specs.State.{progress_of};
     ghost use Rattle.plant.specs.Handed.{OpeningState};
 
     ghost Value = { OpeningState B };

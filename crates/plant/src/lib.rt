@@ -44,12 +44,12 @@ mod waits;
 
 pub use answers::{Claim, Closed, Did, Fed, Headway, Piece, Settled, SinkView, Step, Taken};
 pub use checks::source_type;
+pub use claimed_work::{Job, Worked};
 pub use fault::PlantFault;
-pub use firings::{BlockNeed, Need};
+pub use firing_rules::{BlockNeed, Need};
 pub use flowgraph::{Block, BlockId, Valid};
 pub use handed::{Handed, Opening};
-pub use jobs::{Job, Worked};
 pub use parts::Parts;
 pub use plant::Plant;
+pub use plant_storage::Stored;
 pub use settle::{Unwatched, Watch};
-pub use stores::Stored;

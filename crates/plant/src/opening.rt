@@ -7,13 +7,13 @@ ghost use Rattle.plant.specs.Plant.{ForgetsNone, IsRight, plant_of, spans_in};
 ghost use Rattle.plant.specs.Opening.{IsFresh, opening_plant_within};
 
 use crate::parts::Parts;
-use firings::Firings;
+use claimed_work::Lent;
+use firing_rules::Firings;
 use flowgraph::{Block, Valid};
-use jobs::Lent;
+use plant_storage::Stores;
 use rates::{BufferCapacities, Rates, balance, capacities};
 use std::alloc::{AllocError, Global};
 use std::sync::Arc;
-use stores::Stores;
 
 // All of a plant but its graph.
 #[derive(Drop)]

@@ -4,13 +4,13 @@
 //! twice. Here it is about the parts, and the invariant is a condition: in the middle of a call it does not hold (a
 //! claim that has no windows yet). There it is about what a plant shows.
 
-use firings::Firings;
+use claimed_work::Lent;
+use firing_rules::Firings;
 use flowgraph::{Block, Valid};
-use jobs::Lent;
+use plant_storage::Stores;
 use rates::{BufferCapacities, Rates};
 use std::alloc::Global;
 use std::sync::Arc;
-use stores::Stores;
 
 /// The parts of a plant. Contracts speak of them by `plant_of` and `Keeps`.
 #[derive(Drop)]

@@ -19,7 +19,7 @@ ghost use Rattle.graph_model.specs.Rates.{balance_of, capacities_of};
 ghost use Rattle.machine_laws.specs.Sound.{Sound};
 ghost use Rattle.machine_laws.specs.Stalls.{AreClosed};
 ghost use Rattle.machine_laws.specs.Waits.{IsOnRing, ring_of};
-ghost use Rattle.stores.specs.Stores.{mark_of};
+ghost use Rattle.plant_storage.specs.Stores.{mark_of};
 ghost use Rattle.plant.specs.Answers.{Answered, AnsweredAlways, AnsweredBy, IsOf, IsTaken, claim_reply, piece_reply, reply_of, source_type_of, step_reply, view_of, view_reply};
 ghost use Rattle.plant.specs.Keeping.{IsKeptOf, port_fault};
 ghost use Rattle.plant.specs.Setting.{fault_in};
@@ -38,17 +38,17 @@ use crate::handed::{Handed, Opening};
 use crate::parts::Parts;
 use crate::settle::{Unwatched, Watch};
 use crate::source_tapes::SourceTapes;
-use firings::BlockNeed;
+use claimed_work::{Job, Worked};
+use firing_rules::BlockNeed;
 use flowgraph::{Block, BlockId, Valid};
 use items::{ItemType, Items, Mark};
-use jobs::{Job, Worked};
+use plant_storage::Stored;
 use rates::Rates;
 use settings::Value;
 use std::alloc::{AllocError, Global};
 use std::fmt;
 use std::marker::Model;
 use std::sync::Arc;
-use stores::Stored;
 
 /// A flowgraph with what it was handed and how far it is. A contract sees the graph, the capacities, and the machine's state.
 pub struct Plant<B: Block> {

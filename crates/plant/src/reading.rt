@@ -6,7 +6,7 @@ ghost use Rattle.stream_model.specs.Network.{node_at};
 ghost use Rattle.items.specs.Items.{type_of};
 ghost use Rattle.flowgraph.specs.Flowgraph.{net_of};
 ghost use Rattle.plant_laws.specs.Stored.{sink_at};
-ghost use Rattle.stores.specs.Stores.{stored_in};
+ghost use Rattle.plant_storage.specs.Stores.{stored_in};
 ghost use Rattle.plant.specs.Plant.{IsRight, plant_of};
 ghost use Rattle.plant.specs.Answers.{AnsweredBy, reply_of, piece_reply, view_of, view_reply};
 ghost use Rattle.plant.specs.Keeping.{IsKeptOf, port_fault};
@@ -16,8 +16,8 @@ use crate::answers::{Piece, SinkView};
 use crate::fault::PlantFault;
 use crate::parts::Parts;
 use flowgraph::{Block, BlockId};
+use plant_storage::Stored;
 use std::alloc::Global;
-use stores::Stored;
 
 impl<B: Block> Parts<B> {
     /// What a sink holds from item `from` on, at most `max` items, with the tags on them. Item `from` is kept.

@@ -10,13 +10,13 @@ ghost use Rattle.plant_laws.specs.Stored.{settings_from};
 ghost use Rattle.plant_laws.specs.Claims.{held_over};
 ghost use Rattle.plant.specs.Seen.{CanSee, CanSeeAll, AreEnds, AreSeen, ring_behind, seen_of};
 
-use block_kinds::Block;
+use block_trait::Block;
 use buffers::{Buffer, Reader};
 use flowgraph::{BlockId, Input, Valid};
 use items::Items;
 use numbers::Number;
+use plant_storage::{RecentSettings, Recording};
 use settings::Held;
-use stores::{RecentSettings, Recording};
 
 // Whether the items are those of `whole` from place `from` to below place `to`.
 #[tactic(auto, using(items::proofs::Numbers::map_same, numbers::proofs::Mapped::map_slice_range))]

@@ -1,12 +1,12 @@
 //! The tapes of a plant's sources, as firings look at them.
 
 ghost use Rattle.std.specs.Prelude.{◌≡◌, map};
-ghost use Rattle.stores.specs.Stores.{handed_of};
-ghost use Rattle.firings.specs.State.{tape_of};
+ghost use Rattle.plant_storage.specs.Stores.{handed_of};
+ghost use Rattle.firing_rules.specs.State.{tape_of};
 
-use firings::{Tape, Tapes};
+use firing_rules::{Tape, Tapes};
 use flowgraph::BlockId;
-use stores::{Intake, Stores};
+use plant_storage::{Intake, Stores};
 
 /// The tapes of the sources of a plant.
 #[derive(Clone, Copy)]

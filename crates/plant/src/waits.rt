@@ -7,14 +7,14 @@ ghost use Rattle.stream_model.specs.Machine.{is_quiet};
 ghost use Rattle.machine_laws.specs.Stalls.{AreClosed};
 ghost use Rattle.machine_laws.specs.Waits.{IsOnRing, lowest_live, next_of, ring_of, wait_of};
 ghost use Rattle.flowgraph.specs.Flowgraph.{net_of};
-ghost use Rattle.firings.specs.Waits.{wait_seen};
+ghost use Rattle.firing_rules.specs.Waits.{wait_seen};
 ghost use Rattle.plant.specs.Plant.{IsRight, plant_of};
 ghost use Rattle.plant.specs.Waits.{need_of, wait_in};
 
 use crate::fault::PlantFault;
 use crate::parts::Parts;
 use crate::source_tapes::SourceTapes;
-use firings::BlockNeed;
+use firing_rules::BlockNeed;
 use flowgraph::{Block, BlockId};
 
 impl<B: Block> Parts<B> {

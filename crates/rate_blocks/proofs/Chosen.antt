@@ -14,9 +14,9 @@ use Rattle.kind_model.specs.Math.{least_up_to, greatest_down_to}
 use Rattle.kind_model.specs.Rates.{frame, place_of}
 use Rattle.kind_laws.specs.Math.{least-push, greatest-push}
 use Rattle.kind_laws.specs.Rates.{item_of_firing, frame-same}
-use Rattle.block_kinds.specs.Shape.{IsPaced}
-use Rattle.block_kinds.proofs.Fills.{paced, item-paced, given-paced}
-use Rattle.lane_work.proofs.Totals.{part_listed}
+use Rattle.block_trait.specs.Shape.{IsPaced}
+use Rattle.block_trait.proofs.Fills.{paced, item-paced, given-paced}
+use Rattle.item_dispatch.proofs.Totals.{part_listed}
 use Rattle.numbers.proofs.Mapped.{map_part}
 use Rattle.rate_blocks.specs.PerFrame.{framed}
 

@@ -10,8 +10,8 @@ use Rattle.stream_model.specs.Settings.{Held}
 use Rattle.stream_model.specs.Meaning.{IsFed, input, given_items}
 use Rattle.kind_model.specs.Rates.{IsKept, keep_m_in_n}
 use Rattle.kind_laws.specs.Rates.{kept_item}
-use Rattle.block_kinds.specs.Shape.{IsPaced}
-use Rattle.block_kinds.proofs.Fills.{paced, length-paced, item-paced, given-paced}
+use Rattle.block_trait.specs.Shape.{IsPaced}
+use Rattle.block_trait.proofs.Fills.{paced, length-paced, item-paced, given-paced}
 use Rattle.rate_blocks.proofs.Interleaved.{mod-add}
 use Rattle.rate_blocks.proofs.Paced.{add-mul-div}
 use Rattle.rate_blocks.proofs.Rounds.{item-inside, item-outside, map-put_mid}

@@ -9,8 +9,8 @@ use Rattle.stream_model.specs.Settings.{Held}
 use Rattle.stream_model.specs.Meaning.{IsFed, input, given_items}
 use Rattle.kind_model.specs.Rates.{interleave, deinterleave}
 use Rattle.kind_laws.specs.Rates.{item_of_firing}
-use Rattle.block_kinds.proofs.Fills.{listed-given}
-use Rattle.block_kinds.proofs.Inputs.{length-port, item-port}
+use Rattle.block_trait.proofs.Fills.{listed-given}
+use Rattle.block_trait.proofs.Inputs.{length-port, item-port}
 use Rattle.lane_kernels.specs.Streams.{interleaved}
 use Rattle.rate_blocks.proofs.Paced.{add-mul-div}
 use Rattle.rate_blocks.proofs.Rounds.{if-less}

@@ -8,7 +8,7 @@ use Rattle.stream_model.specs.Lists.{item, item_before}
 use Rattle.stream_model.specs.Settings.{Held}
 use Rattle.stream_model.specs.Meaning.{IsFed, input, given_items}
 use Rattle.kind_model.specs.Rates.{head, skiphead, delay}
-use Rattle.block_kinds.proofs.Fills.{length-fill, item-fill, before-none, whole-given}
+use Rattle.block_trait.proofs.Fills.{length-fill, item-fill, before-none, whole-given}
 
 module _ (t : ItemType) (n : ℕ) (ts : List Held) (xs : List (List ℤ)) (first count state : ℕ) (w : List ℤ) (hs : List Held) where
   pub head-given : IsFed (head t n) ts xs first count state (w ∷ []) hs → w ≡ given_items (head t n) ts xs first count 0

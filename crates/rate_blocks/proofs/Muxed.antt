@@ -11,8 +11,8 @@ use Rattle.stream_model.specs.Settings.{Held}
 use Rattle.stream_model.specs.Meaning.{IsFed, input, given_items}
 use Rattle.kind_model.specs.Rates.{IsMux, turn_of, round_item, stream_mux}
 use Rattle.kind_laws.specs.Rates.{item_of_firing, round_some}
-use Rattle.block_kinds.proofs.Fills.{listed-given}
-use Rattle.block_kinds.proofs.Inputs.{length-port, item-port}
+use Rattle.block_trait.proofs.Fills.{listed-given}
+use Rattle.block_trait.proofs.Inputs.{length-port, item-port}
 use Rattle.rate_blocks.specs.Lengths.{AreLengths, unsigned}
 use Rattle.rate_blocks.proofs.Paced.{add-mul-div}
 use Rattle.rate_blocks.proofs.Interleaved.{mod-add}

@@ -7,8 +7,8 @@ use Rattle.stream_model.specs.Lists.{item, listed}
 use Rattle.stream_model.specs.Settings.{Held}
 use Rattle.stream_model.specs.Meaning.{IsFed, input, given_items}
 use Rattle.kind_model.specs.Rates.{repeat}
-use Rattle.block_kinds.specs.Shape.{IsPaced}
-use Rattle.block_kinds.proofs.Fills.{paced, item-paced, given-paced}
+use Rattle.block_trait.specs.Shape.{IsPaced}
+use Rattle.block_trait.proofs.Fills.{paced, item-paced, given-paced}
 
 -- item n * first + k is given for item first + k / n
 pub add-mul-div : (n first k : ℕ) → 1 ≤ n → (n * first + k) / n ≡ 1 * first + k / n

@@ -13,9 +13,9 @@ use Rattle.stream_model.specs.Settings.{Held}
 use Rattle.stream_model.specs.Meaning.{IsFed, input, given_items}
 use Rattle.kind_model.specs.Rates.{IsInsert, insert, inserted}
 use Rattle.kind_laws.specs.Rates.{item_of_firing, inserted-same}
-use Rattle.block_kinds.specs.Shape.{IsPaced}
-use Rattle.block_kinds.proofs.Fills.{paced, length-paced, item-paced, given-paced}
-use Rattle.lane_work.proofs.Totals.{item_small}
+use Rattle.block_trait.specs.Shape.{IsPaced}
+use Rattle.block_trait.proofs.Fills.{paced, length-paced, item-paced, given-paced}
+use Rattle.item_dispatch.proofs.Totals.{item_small}
 use Rattle.rate_blocks.proofs.Frames.{write_run, item-part}
 use Rattle.rate_blocks.proofs.Interleaved.{mod-add}
 use Rattle.rate_blocks.proofs.Paced.{add-mul-div}

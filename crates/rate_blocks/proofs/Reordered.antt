@@ -16,9 +16,9 @@ use Rattle.stream_model.specs.Meaning.{IsFed, input, given_items}
 use Rattle.kind_model.specs.Rates.{IsOrder, from_place, permute}
 use Rattle.kind_laws.specs.Rates.{item_of_firing, from_place-within}
 use Rattle.shape_laws.specs.Shaped.{item-listed}
-use Rattle.block_kinds.specs.Shape.{IsPaced}
-use Rattle.block_kinds.proofs.Fills.{paced, length-paced, item-paced, given-paced}
-use Rattle.lane_work.proofs.Written.{read_item}
+use Rattle.block_trait.specs.Shape.{IsPaced}
+use Rattle.block_trait.proofs.Fills.{paced, length-paced, item-paced, given-paced}
+use Rattle.item_dispatch.proofs.Written.{read_item}
 use Rattle.rate_blocks.specs.Lengths.{unsigned}
 use Rattle.rate_blocks.specs.Orders.{ArePlaces}
 use Rattle.rate_blocks.proofs.Frames.{write_run, item-part}

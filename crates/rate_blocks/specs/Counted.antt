@@ -4,7 +4,7 @@ use Rattle.std.proofs.Common.{subst, sym}
 use Rattle.stream_model.specs.declared.vocabulary.ItemType.{ItemType}
 use Rattle.stream_model.specs.Meaning.{Meaning}
 use Rattle.stream_model.specs.Shapes.{sync}
-use Rattle.block_kinds.specs.Fill.{IsSingle}
+use Rattle.block_trait.specs.Fill.{IsSingle}
 
 -- as `sync` in its ports, and in that it has no past, no setting and no state; its counts, limit, places of tags and items are its own
 abbrev pub IsPlain : ItemType → Meaning → Type 0

@@ -8,7 +8,7 @@ use denote.Enum.Bare.{sameb}
 use Rattle.std.proofs.Common.{sym}
 use Rattle.stream_model.specs.contracts.vocabulary.ItemType.{the_type}
 use Rattle.stream_model.specs.Meaning.{Meaning, IsLawful}
-use Rattle.block_kinds.specs.SameItem.{same_item, same_number}
+use Rattle.block_trait.specs.SameItem.{same_item, same_number}
 use Rattle.kind_laws.specs.Rates.{keep_m_in_n-lawful, insert-lawful, permute-lawful, pattern-lawful}
 use Rattle.kind_model.specs.Rates.{keep_m_in_n, insert, permute, pattern}
 use Rattle.rate_blocks.specs.declared.insert.Insert.{Insert}

@@ -3,10 +3,10 @@ use Rattle.std.specs.Prelude.{◌≡◌, ◌<◌, ◌≤◌, ◌-◌, ◌⊎◌,
 use Rattle.stream_model.specs.declared.vocabulary.ItemType.{ItemType}
 use Rattle.stream_model.specs.Numbers.{AreItems}
 use Rattle.kind_model.specs.Rates.{IsInsert}
-use Rattle.parameters.specs.declared.fault.Parameter.{Parameter}
-use Rattle.parameters.specs.declared.fault.Parameter.TheVariants as parameters
-use Rattle.parameters.specs.declared.fault.ParamFault.{ParamFault}
-use Rattle.parameters.specs.declared.fault.ParamFault.TheVariants.{BadParameter, Memory}
+use Rattle.block_parameters.specs.declared.fault.Parameter.{Parameter}
+use Rattle.block_parameters.specs.declared.fault.Parameter.TheVariants as parameters
+use Rattle.block_parameters.specs.declared.fault.ParamFault.{ParamFault}
+use Rattle.block_parameters.specs.declared.fault.ParamFault.TheVariants.{BadParameter, Memory}
 
 -- 1 to 256 items of the type
 pub record AreValues (item : ItemType) (values : List ℤ) : Type 0 where

@@ -6,7 +6,7 @@ use Rattle.std.specs.Cmp.Lexicographic.{pointwise, same_text}
 use denote.Enum.Bare.{sameb}
 use Rattle.stream_model.specs.contracts.vocabulary.ItemType.{the_type}
 use Rattle.std.proofs.Common.{arith, nat_eq, sym}
-use Rattle.block_kinds.specs.SameItem.{same_item, same_number}
+use Rattle.block_trait.specs.SameItem.{same_item, same_number}
 use Rattle.stream_model.specs.Meaning.{Meaning, IsLawful}
 use Rattle.kind_laws.specs.Rates.{interleave-lawful, deinterleave-lawful, stream_mux-lawful}
 use Rattle.kind_model.specs.Rates.{interleave, deinterleave, stream_mux}

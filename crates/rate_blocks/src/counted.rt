@@ -2,9 +2,9 @@
 ghost use Rattle.std.specs.Prelude.{◌≡◌, ◌≤◌, ◌↔◌, IsOk, IfOk, IfErr};
 
 use crate::counting::Counting;
-use block_kinds::{Batch, Block, ByPace, Held, Shape, Single, work_single};
+use block_parameters::{ParamFault, Parameter};
+use block_trait::{Batch, Block, ByPace, Held, Shape, Single, work_single};
 use items::{ItemType, Items};
-use parameters::{ParamFault, Parameter};
 use std::marker::PhantomData;
 
 /// A block of one stream with a number `n`. `C` says what it is for.
@@ -54,7 +54,7 @@ impl<C: Counting> Single for Counted<C> {
 }
 
 impl<C: Counting> Block for Counted<C> {
-    ghost use Rattle.block_kinds.specs.SameItem.{same_sized};
+    ghost use Rattle.block_trait.specs.SameItem.{same_sized};
     ghost use Rattle.rate_blocks.specs.Kinds.{counted_of};
 
     ghost meaning = { counted_of C.equation };

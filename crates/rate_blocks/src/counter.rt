@@ -6,10 +6,10 @@ ghost use Rattle.stream_model.specs.Lists.{listed};
 use crate::counted::Counted;
 use crate::counting::Counting;
 use crate::pattern::after;
-use block_kinds::{Batch, Shape};
+use block_trait::{Batch, Shape};
+use item_dispatch::{LaneWork, make_items};
 use items::{ItemType, Items};
 use lane_kernels::SimdLane;
-use lane_work::{LaneWork, make_items};
 
 /// For each item its number modulo `n`, from 0 on, wrapped to the items' type: the input is only its clock. GNU Radio has no block like it; a
 /// `vector_source` that repeats stands for it there.

@@ -3,11 +3,11 @@ ghost use Rattle.std.specs.Prelude.{◌≡◌, ◌≤◌, ◌+◌, ℕ, length};
 ghost use Rattle.stream_model.specs.declared.vocabulary.ItemType.{ItemType};
 ghost use Rattle.stream_model.specs.Meaning.{Meaning, IsLawful};
 ghost use Rattle.items.specs.Items.{type_of, numbers_of, spare_of};
-ghost use Rattle.block_kinds.specs.Fill.{CanFill, HasFilled};
-ghost use Rattle.block_kinds.specs.Shape.{IsShape, IsPlacedBy};
+ghost use Rattle.block_trait.specs.Fill.{CanFill, HasFilled};
+ghost use Rattle.block_trait.specs.Shape.{IsShape, IsPlacedBy};
 ghost use Rattle.rate_blocks.specs.Counted.{IsPlain};
 
-use block_kinds::{Batch, Shape};
+use block_trait::{Batch, Shape};
 use items::{ItemType, Items};
 
 /// What a block makes of one stream by a number.

@@ -3,11 +3,11 @@ ghost use Rattle.std.specs.Prelude.{◌≡◌, ◌≤◌, ◌<◌, ◌^◌, ◌�
 ghost use Rattle.kind_model.specs.Rates.{deinterleave};
 
 use crate::port_count::PortCount;
-use block_kinds::{Block, ByPace, Held, Shape, ports};
+use block_parameters::{ParamFault, Parameter};
+use block_trait::{Block, ByPace, Held, Shape, ports};
+use item_dispatch::{AppendWork, append_items};
 use items::{ItemType, Items};
 use lane_kernels::SimdLane;
-use lane_work::{AppendWork, append_items};
-use parameters::{ParamFault, Parameter};
 
 /// An item to each output in turn, as GNU Radio's `deinterleave` with a block size of 1.
 #[derive(Debug, Drop, PartialEq, Eq)]
@@ -53,7 +53,7 @@ impl AppendWork for EachOf {
 }
 
 impl Block for Deinterleave {
-    ghost use Rattle.block_kinds.specs.SameItem.{same_sized};
+    ghost use Rattle.block_trait.specs.SameItem.{same_sized};
     ghost use Rattle.rate_blocks.specs.Mux.{deinterleave_of, deinterleave_of-lawful};
     ghost use Rattle.kind_model.specs.Rates.{deinterleave};
 

@@ -2,7 +2,7 @@
 
 use crate::counted::Counted;
 use crate::counting::Counting;
-use block_kinds::{Batch, Pace, Shape};
+use block_trait::{Batch, Pace, Shape};
 use items::{ItemType, Items};
 
 /// `n` zeros, and then all of the input with its tags. GNU Radio's `delay` gives only as many items as come in.

@@ -6,7 +6,7 @@ ghost use Rattle.rate_blocks.specs.Kinds.{counted_of, head_after};
 
 use crate::counted::Counted;
 use crate::counting::Counting;
-use block_kinds::{Batch, Shape};
+use block_trait::{Batch, Shape};
 use items::{ItemType, Items};
 use std::marker::PhantomData;
 

@@ -4,13 +4,13 @@ ghost use Rattle.stream_model.specs.Numbers.{AreItems};
 ghost use Rattle.kind_model.specs.Rates.{IsInsert, insert, inserted};
 ghost use Rattle.rate_blocks.specs.Inserts.{AreValues, IsFirstBad, IsRefusal};
 
-use block_kinds::{Batch, Block, ByPace, Held, Shape, Single, ports, work_single};
+use block_parameters::{ParamFault, Parameter};
+use block_trait::{Batch, Block, ByPace, Held, Shape, Single, ports, work_single};
+use item_dispatch::{LaneWork, make_items};
 use items::{ItemType, Items};
 use lane_kernels::SimdLane;
-use lane_work::{LaneWork, make_items};
 use numbers::range::is_item;
 use numbers::vectors::copied;
-use parameters::{ParamFault, Parameter};
 use std::alloc::Global;
 
 /// The values once in each `period` items of the output, from item `offset` of these on, and the input in all other places. GNU Radio's

@@ -1,7 +1,7 @@
 //! The block that sums up each `n` items.
 use crate::counted::Counted;
 use crate::per_frame::{MakesOne, PerFrame};
-use lane_work::sum_of;
+use item_dispatch::sum_of;
 use numbers::Number;
 
 /// The sum of each `n` items, wrapped to the items' type, as GNU Radio's `integrate_xx`.

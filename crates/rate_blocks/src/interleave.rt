@@ -3,11 +3,11 @@ ghost use Rattle.std.specs.Prelude.{◌≡◌, ◌≤◌, ◌^◌, ◌↔◌, Is
 ghost use Rattle.kind_model.specs.Rates.{interleave};
 
 use crate::port_count::PortCount;
-use block_kinds::{Block, ByPace, Held, Shape, ports};
+use block_parameters::{ParamFault, Parameter};
+use block_trait::{Block, ByPace, Held, Shape, ports};
+use item_dispatch::{InputWork, append_inputs};
 use items::{ItemType, Items};
 use lane_kernels::SimdLane;
-use lane_work::{InputWork, append_inputs};
-use parameters::{ParamFault, Parameter};
 
 /// An item of each input in turn, as GNU Radio's `interleave` with a block size of 1.
 #[derive(Debug, Drop, PartialEq, Eq)]
@@ -52,7 +52,7 @@ impl InputWork for Rounds {
 }
 
 impl Block for Interleave {
-    ghost use Rattle.block_kinds.specs.SameItem.{same_sized};
+    ghost use Rattle.block_trait.specs.SameItem.{same_sized};
     ghost use Rattle.rate_blocks.specs.Mux.{interleave_of, interleave_of-lawful};
     ghost use Rattle.kind_model.specs.Rates.{interleave};
 

@@ -3,11 +3,11 @@ ghost use Rattle.std.specs.Prelude.{◌≡◌, ◌<◌, ◌≤◌, ◌+◌, ◌*
 ghost use Rattle.kind_model.specs.Rates.{IsKept, keep_m_in_n};
 ghost use Rattle.stream_model.specs.Lists.{item, listed};
 
-use block_kinds::{Batch, Block, ByPace, Held, Shape, Single, ports, work_single};
+use block_parameters::{ParamFault, Parameter};
+use block_trait::{Batch, Block, ByPace, Held, Shape, Single, ports, work_single};
+use item_dispatch::{LaneWork, make_items};
 use items::{ItemType, Items};
 use lane_kernels::SimdLane;
-use lane_work::{LaneWork, make_items};
-use parameters::{ParamFault, Parameter};
 
 /// Of each `n` items the `m` from item `offset` on, as GNU Radio's `keep_m_in_n`. There `offset` may be any number below `n`: here the items that are
 /// kept lie whole in the `n`.

@@ -6,12 +6,12 @@ ghost use Rattle.kind_model.specs.Rates.{pattern};
 ghost use Rattle.rate_blocks.specs.Inserts.{AreValues};
 
 use crate::insert::are_values;
-use block_kinds::{Batch, Block, ByPace, Held, Shape, Single, work_single};
+use block_parameters::{ParamFault, Parameter};
+use block_trait::{Batch, Block, ByPace, Held, Shape, Single, work_single};
+use item_dispatch::{LaneWork, make_items};
 use items::{ItemType, Items};
 use lane_kernels::SimdLane;
-use lane_work::{LaneWork, make_items};
 use numbers::vectors::copied;
-use parameters::{ParamFault, Parameter};
 use std::alloc::Global;
 
 /// A list of 1 to 256 values again and again, an item for each item of the input, which is only its clock. GNU Radio has no block like it; a

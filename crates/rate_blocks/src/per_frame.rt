@@ -3,14 +3,14 @@ ghost use Rattle.std.specs.Prelude.{◌≡◌, ◌≤◌, ◌+◌, ℕ, ℤ, Lis
 ghost use Rattle.stream_model.specs.declared.vocabulary.ItemType.{ItemType};
 ghost use Rattle.stream_model.specs.Meaning.{Meaning, IsLawful};
 ghost use Rattle.items.specs.Items.{type_of, numbers_of, spare_of};
-ghost use Rattle.block_kinds.specs.Fill.{CanFill, HasFilled};
+ghost use Rattle.block_trait.specs.Fill.{CanFill, HasFilled};
 ghost use Rattle.rate_blocks.specs.PerFrame.{framed};
 
 use crate::counting::Counting;
-use block_kinds::{Batch, Shape, ports};
+use block_trait::{Batch, Shape, ports};
+use item_dispatch::{LaneWork, make_items};
 use items::{ItemType, Items};
 use lane_kernels::SimdLane;
-use lane_work::{LaneWork, make_items};
 use numbers::Number;
 use std::marker::PhantomData;
 

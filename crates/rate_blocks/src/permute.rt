@@ -6,12 +6,12 @@ ghost use Rattle.kind_model.specs.Rates.{IsOrder, from_place, permute};
 ghost use Rattle.rate_blocks.specs.Lengths.{unsigned};
 ghost use Rattle.rate_blocks.specs.Orders.{ArePlaces};
 
-use block_kinds::{Batch, Block, ByPace, Held, Shape, Single, ports, work_single};
+use block_parameters::{ParamFault, Parameter};
+use block_trait::{Batch, Block, ByPace, Held, Shape, Single, ports, work_single};
+use item_dispatch::{LaneWork, make_items};
 use items::{ItemType, Items};
 use lane_kernels::SimdLane;
-use lane_work::{LaneWork, make_items};
 use numbers::vectors::narrowed;
-use parameters::{ParamFault, Parameter};
 use std::alloc::Global;
 
 /// The items of each frame in another order: item `order[j]` of a frame goes to place `j` of it. A frame has as many items as the order has places. A tag

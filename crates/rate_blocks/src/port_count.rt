@@ -1,7 +1,7 @@
 //! How many inputs or outputs take turns.
 ghost use Rattle.std.specs.Prelude.{◌≡◌, ◌≤◌, ◌↔◌, IsOk, IfOk, IfErr};
 
-use parameters::{ParamFault, Parameter};
+use block_parameters::{ParamFault, Parameter};
 
 /// The number of inputs or outputs that take turns, an item each: 1 to 16.
 #[derive(Clone, Copy, Debug, PartialEq, Eq)]

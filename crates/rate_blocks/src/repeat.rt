@@ -4,10 +4,10 @@ ghost use Rattle.rate_blocks.specs.Repeats.{repeated};
 
 use crate::counted::Counted;
 use crate::counting::Counting;
-use block_kinds::{Batch, Shape, ports};
+use block_trait::{Batch, Shape, ports};
+use item_dispatch::{AppendWork, append_items};
 use items::{ItemType, Items};
 use lane_kernels::SimdLane;
-use lane_work::{AppendWork, append_items};
 use std::mem;
 
 /// Each item `n` times, as GNU Radio's `repeat`.

@@ -2,7 +2,7 @@
 
 use crate::counted::Counted;
 use crate::counting::Counting;
-use block_kinds::{Batch, Pace, Shape};
+use block_trait::{Batch, Pace, Shape};
 use items::{ItemType, Items};
 
 /// All but the first `n` items, as GNU Radio's `skiphead`. A tag on one of these goes to the first item that is given.

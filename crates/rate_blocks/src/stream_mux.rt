@@ -4,9 +4,9 @@ ghost use Rattle.kind_model.specs.Rates.{IsMux, stream_mux};
 ghost use Rattle.rate_blocks.specs.Lengths.{AreLengths, unsigned};
 
 use crate::turns::{TakesTurns, Turn, merge_turns};
-use block_kinds::{Block, ByPace, Held, Pace, Shape, ports};
+use block_parameters::{ParamFault, Parameter};
+use block_trait::{Block, ByPace, Held, Pace, Shape, ports};
 use items::{ItemType, Items};
-use parameters::{ParamFault, Parameter};
 
 /// The most inputs.
 const MOST: usize = 16;

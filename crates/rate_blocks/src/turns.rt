@@ -6,9 +6,9 @@ ghost use Rattle.kind_model.specs.Rates.{turn_of, round_item};
 ghost use Rattle.items.specs.Items.{type_of, numbers_of, spare_of};
 ghost use Rattle.rate_blocks.specs.Turns.{CanTurn, HasTurned, IsTurnOf};
 
+use item_dispatch::{LaneChange, change_items};
 use items::Items;
 use lane_kernels::SimdLane;
-use lane_work::{LaneChange, change_items};
 
 /// The turn of one input in each of some rounds.
 #[derive(Drop)]

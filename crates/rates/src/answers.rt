@@ -10,7 +10,7 @@ use crate::fraction::Fraction;
 use crate::needs::needs;
 use crate::ratios::ratios;
 use crate::tables::{Link, Supply, links, supplies};
-use block_kinds::Block;
+use block_trait::Block;
 use flowgraph::Valid;
 use std::alloc::{AllocError, Global};
 

@@ -10,7 +10,7 @@ ghost use Rattle.rates.specs.Tables.{HasRates};
 
 use crate::answers::Rates;
 use crate::tables::{Link, gives, links};
-use block_kinds::Block;
+use block_trait::Block;
 use flowgraph::{BlockId, MOST_PORTS, Valid};
 use std::alloc::{AllocError, Global};
 

@@ -6,7 +6,7 @@ ghost use Rattle.stream_model.specs.Firings.{gives as gives_of, takes as takes_o
 ghost use Rattle.flowgraph.specs.Flowgraph.{net_of, connection_of};
 ghost use Rattle.rates.specs.Tables.{HasRates, supply_of, link_of, supplies_of, links_of};
 
-use block_kinds::Block;
+use block_trait::Block;
 use flowgraph::{BlockId, Connection, Valid};
 use std::alloc::{AllocError, Global};
 use stream_model::{Role, Shift};

@@ -2,3 +2,4 @@ pub mod Parts
 pub mod Forgetting
 pub mod Counts
 pub mod PastSettings
+pub mod Walks

@@ -15,11 +15,13 @@
 //! What is forgotten stands in a `Past`, which is there for contracts alone. Items are moved in memory only once more are forgotten than are kept.
 #![tactic(auto)]
 
+pub mod past;
 pub mod recent_items;
 pub mod recent_settings;
 pub mod recent_tags;
 pub mod recording;
 
+pub use past::Past;
 pub use recent_items::{Kept, RecentItems};
 pub use recent_settings::RecentSettings;
 pub use recent_tags::RecentTags;

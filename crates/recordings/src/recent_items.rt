@@ -3,8 +3,8 @@
 ghost use Rattle.std.specs.Prelude.{◌≡◌, ◌+◌, ◌-◌, ◌*◌, ◌<◌, ◌≤◌, ◌^◌, [], ◌++◌, length, take, drop, slice_range, IfOk, OnOk, IsOk, max, vec_len, vec_capacity};
 ghost use Rattle.items.specs.Items.{type_of, numbers_of, spare_of};
 
+use crate::past::Past;
 use items::{ItemFault, ItemType, Items};
-use past::Past;
 use std::alloc::{AllocError, Global};
 use std::fmt;
 use std::marker::Model;

@@ -6,7 +6,7 @@ ghost use Rattle.stream_model.specs.Settings as model;
 ghost use Rattle.settings.specs.Values.{value_of, held_of};
 ghost use Rattle.settings.specs.Timelines.{held_at, kept_from};
 
-use past::Past;
+use crate::past::Past;
 use settings::{Held, Timeline, Value};
 use std::alloc::{AllocError, Global};
 use std::fmt;

@@ -6,7 +6,7 @@ ghost use Rattle.items.specs.Tags.{tag_of};
 ghost use Rattle.tags.specs.TagList.{insert_tags, tags_from};
 ghost use Rattle.recordings.specs.Recent.{LieBefore, LieFrom, forgotten_tags};
 
-use past::Past;
+use crate::past::Past;
 use std::alloc::{AllocError, Global};
 use std::fmt;
 use std::marker::Model;

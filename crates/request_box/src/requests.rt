@@ -7,8 +7,8 @@ use crate::bell::Bell;
 use crate::caller::{Call, Caller};
 use crate::way_back::Due;
 use crossbeam_channel::{Receiver, unbounded};
-use past::Past;
 use pipeline::{Answer, Request, Requests};
+use recordings::Past;
 use std::alloc::{AllocError, Global};
 use std::sync::{Arc, Wait};
 

@@ -2,7 +2,7 @@
 
 ghost use Rattle.std.specs.Prelude.{◌<◌, length};
 
-use block_kinds::{Block, Pace};
+use block_trait::{Block, Pace};
 use flowgraph::{BlockId, Valid};
 
 /// How many items a block took of all its inputs in its first firings.

@@ -8,7 +8,7 @@ use Rattle.std.proofs.lemmas.List.{length-append, length-map, get_or_append_left
 use Rattle.std.proofs.Math.Seq.{get_or-append_seam, take-length}
 use Rattle.stream_model.specs.Meaning.{Meaning}
 use Rattle.stream_model.specs.Network.{Network, Node, no_node, node_at}
-use Rattle.block_kinds.specs.SameItem.{same_number}
+use Rattle.block_trait.specs.SameItem.{same_number}
 use Rattle.stream_laws.specs.CanRun.{CanRun}
 use Rattle.flowgraph.specs.declared.parts.Connection.{Connection}
 use Rattle.flowgraph.specs.declared.parts.Entry.{Entry}

@@ -7,7 +7,7 @@ ghost use Rattle.slices.specs.Counts.{CanCut, AreBelow, IsNext, HasCounted, AreC
 ghost use Rattle.slices.specs.Order.{AreWithin};
 
 use crate::rising::raise;
-use block_kinds::{Block, Pace};
+use block_trait::{Block, Pace};
 use flowgraph::{BlockId, Connection, Valid};
 use std::alloc::{AllocError, Global};
 

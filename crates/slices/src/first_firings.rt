@@ -10,7 +10,7 @@ ghost use Rattle.slices.specs.Order.{AreWithin};
 use crate::MOST_FIRINGS;
 use crate::reach::Reach;
 use crate::rising::raise;
-use block_kinds::Block;
+use block_trait::Block;
 use flowgraph::{BlockId, Connection, Valid};
 use std::alloc::{AllocError, Global};
 

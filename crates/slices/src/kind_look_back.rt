@@ -4,7 +4,7 @@ ghost use Rattle.kinds.specs.Kind.{meaning_of};
 ghost use Rattle.slices.specs.Kinds.{shown_by};
 
 use crate::look_back::{Forgets, LookBack};
-use block_kinds::{Block, Shift};
+use block_trait::{Block, Shift};
 use kinds::Kind;
 
 /// No register has more bits. How many a descrambler's has its block does not tell.

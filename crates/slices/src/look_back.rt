@@ -4,7 +4,7 @@ ghost use Rattle.stream_model.specs.Meaning.{Meaning};
 ghost use Rattle.slices.specs.LookBack.{is_forgetful, back_of, start_of, tags_back_of, tags_start_of, HasLookBack, HasPlaces};
 
 use crate::MOST_FIRINGS;
-use block_kinds::Block;
+use block_trait::Block;
 
 /// How far back a block looks.
 #[derive(Clone, Copy, Debug, PartialEq, Eq)]

@@ -4,7 +4,7 @@ ghost use Rattle.stream_model.specs.Network.{used_outputs};
 ghost use Rattle.flowgraph.specs.Flowgraph.{net_of};
 ghost use Rattle.slices.specs.Order.{AreWithin};
 
-use block_kinds::Block;
+use block_trait::Block;
 use flowgraph::{BlockId, Valid};
 use std::alloc::{AllocError, Global};
 

@@ -6,7 +6,7 @@ ghost use Rattle.slices.specs.Firings.{CanRise, firing_at};
 ghost use Rattle.slices.specs.Plans.{CanWait, HasWaited};
 
 use crate::first_firings::settled_at;
-use block_kinds::Block;
+use block_trait::Block;
 use flowgraph::{BlockId, Valid};
 
 /// After how many more iterations, each of so many items, there are so many.

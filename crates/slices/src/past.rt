@@ -6,7 +6,7 @@ ghost use Rattle.slices.specs.Counts.{CanCut, AreCounted, IsFirstPast};
 ghost use Rattle.slices.specs.Order.{AreWithin};
 
 use crate::counts::counts;
-use block_kinds::{Block, Shift};
+use block_trait::{Block, Shift};
 use flowgraph::{BlockId, Valid};
 use std::alloc::{AllocError, Global};
 

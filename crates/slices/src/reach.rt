@@ -7,7 +7,7 @@ ghost use Rattle.slices.specs.Firings.{looks_of, look_at};
 ghost use Rattle.slices.specs.Reaches.{heeds, reaches_of, reach_at};
 
 use crate::look_back::{Forgets, LookBack};
-use block_kinds::Block;
+use block_trait::Block;
 use flowgraph::{BlockId, Valid};
 use std::alloc::{AllocError, Global};
 use stream_model::Policy;

@@ -9,8 +9,8 @@ use Rattle.stream_laws.specs.CanRun.{CanRun}
 use Rattle.stream_laws.proofs.Writers.{All-writers}
 use Rattle.machine_laws.specs.Bounds.{IsSmall}
 use Rattle.machine_laws.specs.Sound.{fired, reached}
-use Rattle.stores.specs.declared.stores.Stores.{Stores}
-use Rattle.stores.specs.Stores.{state_of}
+use Rattle.plant_storage.specs.declared.stores.Stores.{Stores}
+use Rattle.plant_storage.specs.Stores.{state_of}
 use Rattle.plant.specs.Plant.{Keeps}
 use Rattle.plant.proofs.Sets.{small}
 use Rattle.streaming.specs.Levels.{first_writer}

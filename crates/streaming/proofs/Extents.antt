@@ -14,8 +14,8 @@ use Rattle.recordings.specs.Recording.{RecordingState}
 use Rattle.plant_laws.specs.Calls.{IsCutOut}
 use Rattle.plant_laws.specs.Stored.{Collected, nothing_collected, sink_at}
 use Rattle.plant_laws.proofs.Reading.{reads_are_cut_out}
-use Rattle.stores.specs.declared.stores.Stores.{Stores}
-use Rattle.stores.specs.Stores.{collected_of, state_of, stored_in}
+use Rattle.plant_storage.specs.declared.stores.Stores.{Stores}
+use Rattle.plant_storage.specs.Stores.{collected_of, state_of, stored_in}
 use Rattle.plant.specs.declared.fault.PlantFault.{PlantFault}
 use Rattle.plant.specs.declared.fault.PlantFault.TheVariants.{ItemRange}
 use Rattle.plant.specs.Plant.{Keeps}

@@ -11,7 +11,7 @@ use Rattle.stream_model.specs.Machine.{Abandon, Reply, is_idle}
 use Rattle.stream_laws.specs.CanRun.{CanRun}
 use Rattle.machine_laws.specs.Stays.{in_flight}
 use Rattle.flowgraph.specs.Flowgraph.{net_of}
-use Rattle.firings.specs.Firings.{abandoned}
+use Rattle.firing_rules.specs.Firings.{abandoned}
 use Rattle.plant.specs.declared.parts.Parts.{Parts}
 use Rattle.plant.specs.Plant.{PlantState, IsRight, plant_of}
 use Rattle.plant.proofs.Givings.{right_given_up}

@@ -1,7 +1,7 @@
 -- How much is in memory of what is kept.
 use Rattle.std.proofs.Common.{◌≡◌, ℕ, ◌+◌, ◌-◌, ◌<◌, ◌≤◌, ◌∙◌, true, List, [], ◌∷◌, length, map, get_or, refl, sym, ap, subst, arith, zero-le, nat_le, nat_lt, inl, inr}
 use Rattle.std.specs.Prelude.{Option, Some, None}
-use Rattle.stores.specs.SourceTapes.{tape_in}
+use Rattle.plant_storage.specs.SourceTapes.{tape_in}
 use Rattle.std.proofs.lemmas.Bool.{cases_Bool, le-leb, ltb-true}
 use Rattle.std.proofs.lemmas.List.{get_or-map, length-map}
 use Rattle.stream_model.specs.Tags.{Tag, sorted_tags, tags_within}
@@ -18,9 +18,9 @@ use Rattle.settings.specs.Timelines.{kept_from}
 use Rattle.stream_model.specs.Settings.{Value, Held, setting_at}
 use Rattle.plant_laws.specs.Holds.{IsTimeline}
 use Rattle.plant_laws.specs.Stored.{Collected, Tape, no_tape, nothing_collected, settings_from, sink_at, tape_at, timeline_at}
-use Rattle.stores.specs.declared.intake.Intake.{Intake}
-use Rattle.stores.specs.declared.stores.Stores.{Stores}
-use Rattle.stores.specs.Stores.{collected_of, handed_of, settings_in, state_of, stored_in, tape_of}
+use Rattle.plant_storage.specs.declared.intake.Intake.{Intake}
+use Rattle.plant_storage.specs.declared.stores.Stores.{Stores}
+use Rattle.plant_storage.specs.Stores.{collected_of, handed_of, settings_in, state_of, stored_in, tape_of}
 use Rattle.plant.specs.Plant.{Keeps}
 use Rattle.streaming.specs.Streaming.{tags_into}
 use Rattle.streaming.proofs.Pieces.{collected_all, drained_at, drains}

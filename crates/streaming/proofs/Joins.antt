@@ -17,8 +17,8 @@ use Rattle.machine_laws.proofs.Following.{what_is_shown_stays}
 use Rattle.machine_laws.proofs.Ports.{keeper_takes_all, keeper_takes_each}
 use Rattle.machine_laws.proofs.Sounds.{calls_keep_sound}
 use Rattle.plant_laws.proofs.Staying.{input_tags-stay}
-use Rattle.stores.specs.declared.stores.Stores.{Stores}
-use Rattle.stores.specs.Stores.{state_of}
+use Rattle.plant_storage.specs.declared.stores.Stores.{Stores}
+use Rattle.plant_storage.specs.Stores.{state_of}
 use Rattle.plant.specs.Plant.{Keeps}
 use Rattle.streaming.specs.Streaming.{GoesOn, StaysBegun, stream_into, tags_into}
 use Rattle.streaming.proofs.Pieces.{collected_all}

@@ -2,8 +2,8 @@
 use Rattle.std.proofs.Common.{◌≡◌, ℕ, ◌<◌, Bool, true, All, List, length, map, set, get_or, ap, sym, ◌∙◌, subst}
 use Rattle.std.proofs.lemmas.List.{get_or-map, length-map}
 use Rattle.std.proofs.Math.Seq.{map-set_same}
-use Rattle.stores.specs.declared.intake.Intake.{Intake}
-use Rattle.stores.specs.SourceTapes.{is_own}
+use Rattle.plant_storage.specs.declared.intake.Intake.{Intake}
+use Rattle.plant_storage.specs.SourceTapes.{is_own}
 use Rattle.plant.specs.Plant.{Spans}
 
 pub alone_still : (new old : List Bool) → new ≡ old → All (λ o. o ≡ true) old → All (λ o. o ≡ true) new

@@ -15,8 +15,8 @@ use Rattle.machine_laws.proofs.Choices.{if_both, not_false}
 use Rattle.recordings.specs.Recording.{RecordingState}
 use Rattle.plant_laws.specs.Stored.{Collected, nothing_collected, sink_at}
 use Rattle.plant_laws.proofs.Reading.{reads_are_cut_out}
-use Rattle.stores.specs.declared.stores.Stores.{Stores}
-use Rattle.stores.specs.Stores.{collected_of, state_of, stored_in}
+use Rattle.plant_storage.specs.declared.stores.Stores.{Stores}
+use Rattle.plant_storage.specs.Stores.{collected_of, state_of, stored_in}
 use Rattle.plant.specs.Plant.{Keeps}
 use Rattle.streaming.specs.Streaming.{stream_into, tags_into}
 

@@ -19,11 +19,11 @@ use Rattle.plant_laws.specs.Holds.{IsTimeline, Holds}
 use Rattle.plant_laws.specs.Changes.{with_tape_from, with_sink_from, with_settings_to, with_settings_from, tags_brought}
 use Rattle.plant_laws.specs.Flights.{BringsTheSame}
 use Rattle.plant_laws.proofs.Forgetting.{what_is_taken_may_go}
-use Rattle.stores.specs.declared.intake.Intake.{Intake}
-use Rattle.stores.specs.declared.stores.Stores.{Stores}
-use Rattle.stores.specs.Stores.{HasForgotten, HasForgottenSettings, handed_of, tape_of, collected_of, state_of, stored_in}
-use Rattle.stores.specs.Lending.{KeepsAllRoom, no_sink}
-use Rattle.stores.proofs.Rooms.{room_stays}
+use Rattle.plant_storage.specs.declared.intake.Intake.{Intake}
+use Rattle.plant_storage.specs.declared.stores.Stores.{Stores}
+use Rattle.plant_storage.specs.Stores.{HasForgotten, HasForgottenSettings, handed_of, tape_of, collected_of, state_of, stored_in}
+use Rattle.plant_storage.specs.Lending.{KeepsAllRoom, no_sink}
+use Rattle.plant_storage.proofs.Rooms.{room_stays}
 use Rattle.plant.specs.Plant.{Keeps}
 use Rattle.stream_model.specs.Settings.{Value, Held}
 use Rattle.recordings.specs.Recent.{SettingsState}

@@ -17,7 +17,7 @@ ghost use Rattle.settings.specs.Timelines.{kept_from};
 ghost use Rattle.settings.specs.Values.{value_of};
 ghost use Rattle.tags.specs.TagList.{tags_from};
 ghost use Rattle.flowgraph.specs.Flowgraph.{net_of};
-ghost use Rattle.stores.specs.Stores.{mark_of};
+ghost use Rattle.plant_storage.specs.Stores.{mark_of};
 ghost use Rattle.plant.specs.declared.fault.PlantFault.TheVariants.{NoSuchBlock, NotSink};
 ghost use Rattle.plant.specs.Plant.{ForgetsNone};
 ghost use Rattle.plant.specs.Answers.{Answered, AnsweredAlways, AnsweredBy, piece_reply, reply_of, source_type_of, step_reply};
@@ -36,7 +36,7 @@ use crate::helped::helped_round;
 use crate::helpers::Helpers;
 use crate::levels::{Levels, read_levels};
 use crate::memory::{items_in_memory, settings_in_memory, tags_in_memory};
-use firings::BlockNeed;
+use firing_rules::BlockNeed;
 use flowgraph::{Block, BlockId, Valid};
 use items::{ItemType, Items, Mark};
 use plant::{

@@ -11,8 +11,8 @@ use Rattle.flowgraph.specs.Flowgraph.{net_of}
 use Rattle.plant.specs.Answers.{Answered, AnsweredAlways, AnsweredBy, refusal_of, waiting_reply}
 use Rattle.plant_laws.specs.Calls.{tells_change}
 use Rattle.plant_laws.proofs.Resting.{otherwise_nothing_changes}
-use Rattle.firings.specs.declared.decision.Need.{Need}
-use Rattle.firings.specs.declared.decision.Need.TheVariants as need
+use Rattle.firing_rules.specs.declared.decision.Need.{Need}
+use Rattle.firing_rules.specs.declared.decision.Need.TheVariants as need
 use Rattle.plant.specs.declared.fault.PlantFault.{PlantFault}
 use Rattle.plant.specs.declared.fault.PlantFault.TheVariants.{NoSuchBlock, NotSource, NotSink, Closed, ItemRange, TagPlace, TapeFull, Late, NoSetting, WrongSetting, BeyondEnd, NoSuchPort, Memory}
 use Rattle.plant.specs.Handed.{OpeningState}

@@ -5,7 +5,7 @@ use Rattle.stream_model.specs.Network.{Network, State}
 use Rattle.stream_model.specs.Machine.{Capacities, next}
 use Rattle.items.specs.Items.{type_of, numbers_of}
 use Rattle.settings.specs.Values.{value_of}
-use Rattle.stores.specs.Stores.{mark_of}
+use Rattle.plant_storage.specs.Stores.{mark_of}
 use Rattle.threads.specs.declared.request.Request.{Request}
 use Rattle.threads.specs.declared.request.Request.TheVariants as request
 use Rattle.threads.specs.History.{call_in, is_at_desks}

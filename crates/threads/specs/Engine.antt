@@ -6,7 +6,7 @@ use Rattle.stream_model.specs.Machine as machine
 use Rattle.stream_model.specs.Machine.{Reply, next, commit_of, step_of}
 use Rattle.flowgraph.specs.Fault.{id}
 use Rattle.flowgraph.specs.Flowgraph.{net_of}
-use Rattle.jobs.specs.Jobs.{WorkedState}
+use Rattle.claimed_work.specs.Jobs.{WorkedState}
 use Rattle.plant.specs.Own.{is_own}
 use Rattle.plant.specs.Answers.{Answered, IsTaken}
 use Rattle.plant.specs.Plant.{PlantState}

@@ -3,7 +3,7 @@ use Rattle.std.specs.Prelude.{ℕ, zero, suc, ◌≡◌, ◌⊎◌, Bool, true, 
 use Rattle.stream_model.specs.Meaning.{Meaning}
 use Rattle.stream_model.specs.Machine as machine
 use Rattle.stream_model.specs.Machine.{Job}
-use Rattle.jobs.specs.Jobs.{WorkedState}
+use Rattle.claimed_work.specs.Jobs.{WorkedState}
 use Rattle.plant.specs.Answers.{claim_reply, reply_of, step_reply}
 use Rattle.plant.specs.declared.answers.Claim.{Claim}
 use Rattle.plant.specs.declared.answers.Claim.TheVariants as claim

@@ -7,7 +7,7 @@ use Rattle.stream_model.specs.Machine.{Capacities, Reply, next, run_of}
 use Rattle.machine_laws.specs.Stays.{in_flight}
 use Rattle.items.specs.Items.{type_of, numbers_of}
 use Rattle.settings.specs.Values.{value_of}
-use Rattle.stores.specs.Stores.{mark_of}
+use Rattle.plant_storage.specs.Stores.{mark_of}
 use Rattle.plant.specs.Answers.{piece_reply, refusal_of}
 use Rattle.threads.specs.declared.entry.CallerId.{CallerId}
 use Rattle.threads.specs.declared.entry.CallerId.TheVariants as caller

@@ -2,7 +2,7 @@
 use Rattle.std.specs.Prelude.{ℕ, ◌≡◌, ◌⊎◌, ⊤, Bool, true, Option, Some, None, Result}
 use Rattle.stream_model.specs.Meaning.{Meaning}
 use Rattle.stream_model.specs.Machine as machine
-use Rattle.jobs.specs.Jobs.{WorkedState}
+use Rattle.claimed_work.specs.Jobs.{WorkedState}
 use Rattle.plant.specs.Answers.{refusal_of, waiting_reply}
 use Rattle.plant.specs.declared.answers.Did.{Did}
 use Rattle.plant.specs.declared.fault.PlantFault.{PlantFault}

@@ -1,6 +1,6 @@
 -- What a worker brings to its next turn.
 use Rattle.std.specs.Prelude.{◌≡◌, Option, Some, None}
-use Rattle.jobs.specs.Jobs.{JobState, WorkedState}
+use Rattle.claimed_work.specs.Jobs.{JobState, WorkedState}
 
 -- what was made of this job
 abbrev pub BringsJob : {B : Type 0} → JobState B → Option (WorkedState B) → Type 0

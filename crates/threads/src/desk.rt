@@ -5,7 +5,7 @@ ghost use Rattle.std.specs.Arc.{arc_value};
 ghost use Rattle.stream_model.specs.Machine as machine;
 ghost use Rattle.items.specs.Items.{type_of, numbers_of};
 ghost use Rattle.settings.specs.Values.{value_of};
-ghost use Rattle.stores.specs.Stores.{mark_of};
+ghost use Rattle.plant_storage.specs.Stores.{mark_of};
 ghost use Rattle.plant.specs.Answers.{piece_reply, reply_of};
 ghost use Rattle.threads.specs.History.{Asks, Noted, noted_by};
 ghost use Rattle.threads.specs.Desk.{DeskState, IsLogged};

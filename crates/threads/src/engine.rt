@@ -9,8 +9,8 @@ use crate::entry::Answer;
 use crate::lent_calls::{claim_in, commit_in, step_in};
 use crate::recorded::Recorded;
 use crate::request::{Request, Response};
+use claimed_work::Worked;
 use flowgraph::{Block, BlockId};
-use jobs::Worked;
 use plant::{Claim, Did, Plant, PlantFault, Step};
 use std::alloc::{AllocError, Global};
 

@@ -4,7 +4,7 @@ ghost use Rattle.std.specs.Prelude.{◌≡◌, ◌≤◌, ℕ, map, false, IsTru
 ghost use Rattle.std.specs.Arc.{arc_value};
 ghost use Rattle.items.specs.Items.{type_of, numbers_of};
 ghost use Rattle.settings.specs.Values.{value_of};
-ghost use Rattle.stores.specs.Stores.{mark_of};
+ghost use Rattle.plant_storage.specs.Stores.{mark_of};
 ghost use Rattle.plant.specs.Answers.{piece_reply};
 ghost use Rattle.threads.specs.Live.{is_at};
 ghost use Rattle.threads.specs.History.{asked_by, said_by, noted_by};
@@ -12,10 +12,10 @@ ghost use Rattle.threads.specs.History.{asked_by, said_by, noted_by};
 use flowgraph::BlockId;
 use items::{Items, Mark};
 use plant::{Piece, PlantFault};
+use plant_storage::are_same;
 use settings::Value;
 use std::alloc::{AllocError, Global};
 use std::sync::Arc;
-use stores::are_same;
 
 /// Who made a call.
 #[derive(Clone, Copy, Debug, PartialEq, Eq)]

@@ -5,7 +5,7 @@ ghost use Rattle.threads.specs.Fault.{error_of, row_of, text_of};
 
 use flowgraph::Block;
 use plant::Plant;
-use reporting::Refusal;
+use refusal_codes::Refusal;
 use std::fmt;
 
 /// Why a run did not come to its end. A returned plant has what was handed to it, after `live` by its callers too, and

@@ -7,8 +7,8 @@ ghost use Rattle.flowgraph.specs.Flowgraph.{net_of};
 ghost use Rattle.plant.specs.Own.{is_own};
 ghost use Rattle.plant.specs.Answers.{Answered, IsOf, IsTaken, claim_reply, reply_of, step_reply};
 
+use claimed_work::Worked;
 use flowgraph::{Block, BlockId};
-use jobs::Worked;
 use plant::{Claim, Did, Plant, PlantFault, Step};
 use std::alloc::Global;
 

@@ -10,8 +10,8 @@ use crate::turns::Turns;
 use crate::waiting::{Waiting, share_of};
 use crate::woken::Woken;
 use crate::worker::Worker;
+use claimed_work::{Job, Worked};
 use flowgraph::{Block, BlockId};
-use jobs::{Job, Worked};
 use plant::{Claim, Need};
 use std::alloc::Global;
 

@@ -14,8 +14,8 @@ ghost use Rattle.threads.specs.Request.{AreFor, IsReady, asked_of, replied, resp
 
 use crate::entry::{Answer, Call, CallerId, Entry};
 use crate::request::{Request, Response};
+use claimed_work::Worked;
 use flowgraph::{Block, BlockId};
-use jobs::Worked;
 use plant::{Claim, Did, Opening, Plant, PlantFault, Step};
 use std::alloc::{AllocError, Global};
 use std::marker::Model;

@@ -5,7 +5,7 @@ ghost use Rattle.std.specs.Prelude.{◌<◌, ◌≤◌, length};
 
 use crate::turns::Turns;
 use crate::woken::Woken;
-use block_kinds::Pace;
+use block_trait::Pace;
 use flowgraph::{Block, BlockId, Valid};
 use plant::Need;
 use std::alloc::{AllocError, Global};

@@ -7,8 +7,8 @@ use crate::gate::Gate;
 use crate::locked::Next;
 use crate::shared::Shared;
 use crate::woken::Woken;
+use claimed_work::{Job, Worked};
 use flowgraph::{Block, BlockId};
-use jobs::{Job, Worked};
 use std::alloc::Global;
 use std::sync::Wait;
 

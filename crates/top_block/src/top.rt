@@ -9,7 +9,7 @@ ghost use Rattle.items.specs.Items.{type_of, numbers_of};
 ghost use Rattle.flowgraph.specs.Flowgraph.{net_of};
 ghost use Rattle.kinds.specs.Kind.{meaning_of};
 ghost use Rattle.kinds.specs.declared.kind.Kind.{Kind};
-ghost use Rattle.stores.specs.Stores.{mark_of};
+ghost use Rattle.plant_storage.specs.Stores.{mark_of};
 ghost use Rattle.plant.specs.Answers.{Answered, AnsweredAlways, reply_of};
 ghost use Rattle.settings.specs.Values.{value_of};
 ghost use Rattle.plant.specs.Opening.{opening_plant};

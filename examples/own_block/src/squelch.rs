@@ -58,7 +58,7 @@ impl Single for Squelch {
 
 impl Block for Squelch {
     ghost use Rattle.std.proofs.Common.{ap};
-    ghost use Rattle.block_kinds.specs.SameItem.{same_number};
+    ghost use Rattle.block_trait.specs.SameItem.{same_number};
     ghost use Rattle.own_block.specs.Squelch.{squelch, squelch-lawful};
 
     ghost meaning = { squelch_of };

@@ -1,7 +1,7 @@
 use Rattle.std.proofs.Common.{◌≡◌, ◌+◌, ◌-◌, ◌*◌, ◌<◌, length, map, pos, take, drop, rules, arith, ap, sym, ◌∙◌}
 use Rattle.std.proofs.lemmas.List.{length-take-le, length-drop}
 use Rattle.std.proofs.lemmas.Slice.{overwrites}
-use Rattle.lane_work.proofs.Written.{written_all}
+use Rattle.item_dispatch.proofs.Written.{written_all}
 use Rattle.viterbi_decoder.specs.Model.{trellis_of}
 use Rattle.code_blocks.proofs.Trellises.{block-more, block-within, all-blocks}
 use Rattle.code_blocks.proofs.viterbi.write_symbols.Goals as goal

@@ -1,7 +1,7 @@
 use Rattle.std.proofs.Common.{◌≡◌, ℕ, length}
 use Rattle.std.specs.Prelude.{Some, slice_get}
-use Rattle.block_kinds.specs.declared.shape.Pace.{Pace}
-use Rattle.block_kinds.specs.Shape.{HasPace}
+use Rattle.block_trait.specs.declared.shape.Pace.{Pace}
+use Rattle.block_trait.specs.Shape.{HasPace}
 use Rattle.flowgraph.proofs.asked.paces.Given as goal
 
 abbrev pub invariant-loop-input : goal.invariant-loop-input

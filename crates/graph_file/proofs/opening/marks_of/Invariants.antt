@@ -1,5 +1,5 @@
 use Rattle.std.proofs.Common.{◌≡◌, ◌++◌, drop, map, length, vec_len, vec_capacity, ◌≤◌}
-use Rattle.stores.specs.Stores as stores
+use Rattle.plant_storage.specs.Stores as stores
 use Rattle.graph_file.specs.Opening.{mark_of}
 use Rattle.graph_file.proofs.opening.marks_of.Given as goal
 

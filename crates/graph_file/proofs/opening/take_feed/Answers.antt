@@ -1,7 +1,7 @@
 use Rattle.std.proofs.Common.{◌≡◌, map, Some, ap, ◌∙◌, sym, subst, position, bytes_eq}
 use Rattle.stream_model.specs.Machine.{Reply}
 use Rattle.stream_model.specs.Network.{State}
-use Rattle.stores.specs.Stores as stores
+use Rattle.plant_storage.specs.Stores as stores
 use Rattle.plant.specs.Feeding.{feed_numbers}
 use Rattle.graph_file.specs.Refusals.{IsTold, told_feed}
 use Rattle.graph_file.specs.Blocks.{drafted}

@@ -1,7 +1,7 @@
 use Rattle.std.proofs.Common.{rules, ◌≡◌, []}
 use Rattle.std.specs.Prelude.{Some}
-use Rattle.flow.specs.RawFaults.{raw_fault_line}
-use Rattle.flow.specs.Serve.{stream}
+use Rattle.flow_core.specs.RawFaults.{raw_fault_line}
+use Rattle.flow_core.specs.Serve.{stream}
 use Rattle.magbelu_c.proofs.Texts.{tells}
 use Rattle.magbelu_c.proofs.answer.badly_raw.Goals as goal
 

@@ -2,7 +2,7 @@ use Rattle.std.proofs.Common.{ap, ◌∙◌}
 use Rattle.kinds.specs.declared.kind.Kind.{Kind}
 use Rattle.plant.specs.Plant.{PlantState}
 use Rattle.graph_file.specs.Blocks.{drafted}
-use Rattle.flow.specs.Session.{in_state}
+use Rattle.flow_core.specs.Session.{in_state}
 use Rattle.magbelu_c.proofs.Entries.{fed_more, misfed_more}
 use Rattle.magbelu_c.proofs.between.feed_all.Goals as goal
 

@@ -1,8 +1,8 @@
 use Rattle.std.proofs.Common.{◌≡◌, drop}
 use Rattle.stream_model.specs.Network.{State}
 use Rattle.graph_file.specs.Blocks.{drafted}
-use Rattle.flow.specs.declared.raw_fault.RawFault.{RawFault}
-use Rattle.flow.specs.Session.{in_state}
+use Rattle.flow_core.specs.declared.raw_fault.RawFault.{RawFault}
+use Rattle.flow_core.specs.Session.{in_state}
 use Rattle.magbelu_c.specs.Between.{AreFed, AreMisfed}
 use Rattle.magbelu_c.proofs.between.feed_all.Given as goal
 

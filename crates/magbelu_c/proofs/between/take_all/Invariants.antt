@@ -1,6 +1,6 @@
 use Rattle.std.proofs.Common.{◌≡◌, ℕ, List, ◌++◌, drop}
 use Rattle.graph_file.specs.Blocks.{drafted}
-use Rattle.flow.specs.declared.raw_fault.RawFault.{RawFault}
+use Rattle.flow_core.specs.declared.raw_fault.RawFault.{RawFault}
 use Rattle.magbelu_c.specs.Between.{AreHeld, IsMisnamed}
 use Rattle.magbelu_c.proofs.between.take_all.Given as goal
 

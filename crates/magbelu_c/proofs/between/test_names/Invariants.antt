@@ -1,6 +1,6 @@
 use Rattle.std.proofs.Common.{drop}
 use Rattle.graph_file.specs.Blocks.{drafted}
-use Rattle.flow.specs.declared.raw_fault.RawFault.{RawFault}
+use Rattle.flow_core.specs.declared.raw_fault.RawFault.{RawFault}
 use Rattle.magbelu_c.specs.Between.{IsMisnamed}
 use Rattle.magbelu_c.proofs.between.test_names.Given as goal
 

@@ -5,7 +5,7 @@ use Rattle.flowgraph.specs.Flowgraph.{net_of}
 use Rattle.kinds.specs.Kind.{meaning_of}
 use Rattle.items.specs.declared.stream_items.Items.{Items}
 use Rattle.items.specs.Items.{type_of, numbers_of}
-use Rattle.stores.specs.Marks.{mark_of}
+use Rattle.plant_storage.specs.Marks.{mark_of}
 use Rattle.plant.specs.Answers.{refusal_of}
 use Rattle.raw_items.specs.Values.{items_of}
 use Rattle.magbelu_c.specs.AnyPlants.{plant_of}

@@ -4,7 +4,7 @@ use Rattle.stream_model.specs.Machine as machine
 use Rattle.stream_model.specs.Network.{Network, State}
 use Rattle.flowgraph.specs.Flowgraph.{net_of}
 use Rattle.kinds.specs.Kind.{meaning_of}
-use Rattle.stores.specs.Marks.{mark_of}
+use Rattle.plant_storage.specs.Marks.{mark_of}
 use Rattle.plant.specs.Feeding.{feed_numbers}
 use Rattle.plant.specs.Answers.{refusal_of}
 use Rattle.magbelu_c.specs.AnyPlants.{plant_of}

@@ -3,7 +3,7 @@ use mir.Val.{of_z, to_z}
 use Rattle.stream_model.specs.declared.vocabulary.Wanted.TheVariants as wanted
 use Rattle.stream_model.specs.Meaning.{Meaning}
 use Rattle.stream_model.specs.Settings.{Number, Taps}
-use Rattle.block_kinds.specs.Shape.{own_by, wanted_by}
+use Rattle.block_trait.specs.Shape.{own_by, wanted_by}
 use Rattle.magbelu_c.specs.BlockSettings.{NumberIsSet, TapsAreSet, meaning_at, number_told}
 use Rattle.magbelu_c.proofs.block_setting.show_setting.Goals as goal
 

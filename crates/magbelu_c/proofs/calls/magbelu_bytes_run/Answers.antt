@@ -1,5 +1,5 @@
 use Rattle.std.proofs.Common.{rules, ◌≡◌, [], refl}
-use Rattle.flow.specs.Serve.{IsRunAlone, plant_in}
+use Rattle.flow_core.specs.Serve.{IsRunAlone, plant_in}
 use Rattle.magbelu_c.specs.CallAnswers.{Done, Failed}
 use Rattle.magbelu_c.proofs.Texts.{was, was_not}
 use Rattle.magbelu_c.proofs.calls.magbelu_bytes_run.Goals as goal

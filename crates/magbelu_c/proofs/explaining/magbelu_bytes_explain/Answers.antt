@@ -1,6 +1,6 @@
 use Rattle.std.proofs.Common.{[], refl, sym, subst}
 use Rattle.std.specs.Prelude.{IsOk}
-use Rattle.flow.specs.declared.fault.Fault.TheVariants.{File}
+use Rattle.flow_core.specs.declared.fault.Fault.TheVariants.{File}
 use Rattle.magbelu_c.specs.CallAnswers.{Done, Failed}
 use Rattle.magbelu_c.proofs.explaining.magbelu_bytes_explain.Goals as goal
 

@@ -1,5 +1,5 @@
 use Rattle.std.proofs.Common.{rules, ◌≡◌, ℕ, List, [], None, refl, sym, subst}
-use Rattle.flow.specs.declared.fault.Fault.TheVariants.{File}
+use Rattle.flow_core.specs.declared.fault.Fault.TheVariants.{File}
 use Rattle.magbelu_c.specs.CallAnswers.{ToldBadly}
 use Rattle.magbelu_c.specs.Later.{HasNone, IsOpenAlready, OpenedLater, OpensNot, RefusedLater}
 use Rattle.magbelu_c.specs.declared.later.Unopened.TheVariants as unopened

@@ -4,7 +4,7 @@ use Rattle.items.specs.Items.{type_of, numbers_of}
 use Rattle.items.specs.Tags.{tag_of}
 use Rattle.raw_items.specs.Layout.{size_of}
 use Rattle.raw_items.specs.Values.{all_bytes_of}
-use Rattle.flow.specs.RawEnds.{tag_line}
+use Rattle.flow_core.specs.RawEnds.{tag_line}
 use Rattle.magbelu_c.specs.CallAnswers.{shown}
 use Rattle.magbelu_c.specs.Pieces.{Shown, ShownNot, unshown}
 use Rattle.magbelu_c.proofs.piece.shown.Goals as goal

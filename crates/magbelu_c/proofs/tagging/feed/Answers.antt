@@ -2,7 +2,7 @@ use Rattle.std.proofs.Common.{Vec, Global, ◌≡◌, List, map, refl, ap, ◌�
 use Rattle.std.specs.Prelude.{Option, IfSome}
 use Rattle.stream_model.specs.Tags.{Mark}
 use Rattle.items.specs.declared.marks.Mark as items
-use Rattle.stores.specs.Marks.{mark_of}
+use Rattle.plant_storage.specs.Marks.{mark_of}
 use Rattle.magbelu_c.specs.AnyPlants.{plant_of}
 use Rattle.magbelu_c.specs.Replies.{CallsOn, fed_bytes, is_fed, named, wants}
 use Rattle.magbelu_c.specs.Tagging.{BadKey, Fed, NoMarks, given}

@@ -3,7 +3,7 @@ use Rattle.std.specs.Prelude.{Option, IfSome}
 use Rattle.stream_model.specs.Tags.{Mark}
 use Rattle.plant.specs.Feeding.{feed_numbers}
 use Rattle.items.specs.declared.marks.Mark as items
-use Rattle.stores.specs.Marks.{mark_of}
+use Rattle.plant_storage.specs.Marks.{mark_of}
 use Rattle.magbelu_c.specs.AnyPlants.{plant_of}
 use Rattle.magbelu_c.specs.Replies.{CallsOn, named}
 use Rattle.magbelu_c.specs.Tagging.{BadKey, Fed, NoMarks, given}

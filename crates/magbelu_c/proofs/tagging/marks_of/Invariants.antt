@@ -1,5 +1,5 @@
 use Rattle.std.proofs.Common.{◌≡◌, map, take}
-use Rattle.stores.specs.Marks.{mark_of}
+use Rattle.plant_storage.specs.Marks.{mark_of}
 use Rattle.magbelu_c.specs.Tagging.{given}
 use Rattle.magbelu_c.proofs.tagging.marks_of.Given as goal
 

@@ -6,7 +6,7 @@ use Rattle.stream_model.specs.Lists.{item}
 use Rattle.kind_model.specs.Kernels as kernels
 use Rattle.shape_laws.specs.Shaped.{item-listed, length-listed}
 use Rattle.items.specs.Items.{type_of, numbers_of}
-use Rattle.block_kinds.specs.SameItem.{same_item}
+use Rattle.block_trait.specs.SameItem.{same_item}
 use Rattle.math_blocks.specs.Wrapping.{wrap_own}
 use Rattle.math_blocks.proofs.convert.convert_items.Goals as goal
 

@@ -2,7 +2,7 @@ use Rattle.std.proofs.Common.{ℕ, ◌∙◌, pos, map, length, ap, sym, arith}
 use Rattle.std.proofs.lemmas.List.{get_or-map}
 use Rattle.stream_model.specs.Lists.{item}
 use Rattle.kind_model.specs.Math.{looked_up}
-use Rattle.lane_work.proofs.Written.{write_next, written_all}
+use Rattle.item_dispatch.proofs.Written.{write_next, written_all}
 use Rattle.math_blocks.proofs.map_bb.look_up.Goals as goal
 
 pub loop-k-preserved : goal.loop-k-preserved

@@ -3,7 +3,7 @@ use Rattle.std.specs.Prelude.{if◌then◌else◌}
 use Rattle.std.specs.Ordering.{int_eq}
 use Rattle.std.proofs.lemmas.List.{map-append}
 use Rattle.stream_model.specs.Lists.{item, listed}
-use Rattle.lane_work.proofs.Written.{read_item}
+use Rattle.item_dispatch.proofs.Written.{read_item}
 use Rattle.math_blocks.specs.Holding.{held_from}
 use Rattle.math_blocks.proofs.Holding.{listed-push}
 use Rattle.math_blocks.proofs.sample_and_hold.hold.Goals as goal

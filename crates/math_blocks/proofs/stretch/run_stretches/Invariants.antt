@@ -1,7 +1,7 @@
 use Rattle.std.proofs.Common.{◌≡◌, ℕ, ◌+◌, ◌-◌, ◌<◌, ◌≤◌, map, take, drop, length, vec_len, vec_capacity}
 use Rattle.stream_model.specs.Lists.{item, listed}
 use Rattle.settings.specs.Values.{held_of}
-use Rattle.block_kinds.specs.InForce.{AreOver}
+use Rattle.block_trait.specs.InForce.{AreOver}
 use Rattle.math_blocks.specs.Stretch.{number_among}
 use Rattle.math_blocks.proofs.stretch.run_stretches.Given as goal
 

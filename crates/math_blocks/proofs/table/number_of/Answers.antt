@@ -1,7 +1,7 @@
 use Rattle.std.proofs.Common.{◌≡◌, ◌-◌, ◌∙◌, length, map, min, ap, sym, arith}
 use Rattle.std.proofs.lemmas.List.{length-map}
 use Rattle.stream_model.specs.Lists.{item}
-use Rattle.lane_work.proofs.Written.{read_item}
+use Rattle.item_dispatch.proofs.Written.{read_item}
 use Rattle.math_blocks.proofs.table.number_of.Goals as goal
 
 pub returns : goal.returns

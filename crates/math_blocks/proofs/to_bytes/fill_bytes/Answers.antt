@@ -1,7 +1,7 @@
 use Rattle.std.proofs.Common.{◌∙◌, map, refl, arith}
 use Rattle.items.specs.Items.{numbers_of}
 use Rattle.settings.specs.Values.{held_of}
-use Rattle.block_kinds.proofs.Fills.{paced, plain-given}
+use Rattle.block_trait.proofs.Fills.{paced, plain-given}
 use Rattle.math_blocks.specs.ToBytes.{bytes_of}
 use Rattle.math_blocks.proofs.to_bytes.fill_bytes.Goals as goal
 

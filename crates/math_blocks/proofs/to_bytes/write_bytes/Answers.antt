@@ -1,6 +1,6 @@
 use Rattle.std.proofs.Common.{ℕ, ◌∙◌, pos, map, length, ap, arith}
 use Rattle.stream_model.specs.Lists.{item}
-use Rattle.lane_work.proofs.Written.{read_item, write_next, written_all}
+use Rattle.item_dispatch.proofs.Written.{read_item, write_next, written_all}
 use Rattle.math_blocks.proofs.to_bytes.write_bytes.Goals as goal
 
 pub loop-k-preserved : goal.loop-k-preserved

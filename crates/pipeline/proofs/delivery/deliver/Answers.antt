@@ -4,7 +4,7 @@ use Rattle.std.specs.Io.KnownBytes.{Appends}
 use Rattle.flowgraph.specs.Flowgraph.{net_of}
 use Rattle.items.specs.Items.{type_of, numbers_of}
 use Rattle.items.specs.Tags.{tag_of}
-use Rattle.reporting.specs.Ends.{AppendsBeginning}
+use Rattle.byte_io.specs.Ends.{AppendsBeginning}
 use Rattle.script_text.specs.Printed.{tags_seen}
 use Rattle.streaming.specs.Streaming.{stream_into}
 use Rattle.pipeline.specs.Parts.{lines_of_part}

@@ -1,6 +1,6 @@
 use Rattle.std.proofs.Common.{◌≡◌, ◌&&◌, nat_le, nat_lt, map, drop}
 use Rattle.std.specs.List.{list_all}
-use Rattle.stores.specs.Stores.{mark_of}
+use Rattle.plant_storage.specs.Stores.{mark_of}
 use Rattle.plant.proofs.checks.fit.Given as goal
 
 abbrev pub invariant-loop-mark : goal.invariant-loop-mark

@@ -5,7 +5,7 @@ use Rattle.stream_model.specs.Machine.{Job}
 use Rattle.items.specs.Items.{numbers_of}
 use Rattle.settings.specs.Values.{held_of}
 use Rattle.flowgraph.specs.Flowgraph.{net_of, node_of}
-use Rattle.jobs.specs.Jobs.{job_in}
+use Rattle.claimed_work.specs.Jobs.{job_in}
 use Rattle.plant.proofs.InFlight.{AreOwn, is_claim, claim_is}
 use Rattle.plant.proofs.flight.is_claim.Given.{Over}
 use Rattle.plant.proofs.flight.is_claim.Goals.{After-are_its_numbers}

@@ -4,9 +4,9 @@ use Rattle.std.proofs.lemmas.List.{length-map}
 use Rattle.stream_model.specs.Network.{Progress, node_at, role_at, is_source}
 use Rattle.items.specs.Items.{numbers_of}
 use Rattle.flowgraph.specs.Flowgraph.{net_of, node_of}
-use Rattle.stores.specs.Stores.{rows_in}
-use Rattle.stores.specs.Tapes.{TapeState}
-use Rattle.transfers.proofs.States.{Row, rows}
+use Rattle.plant_storage.specs.Stores.{rows_in}
+use Rattle.plant_storage.specs.Tapes.{TapeState}
+use Rattle.plant_transfers.proofs.States.{Row, rows}
 use Rattle.plant.specs.Seen.{CanSeeAll, AreEnds, AreSeen}
 use Rattle.plant.proofs.Sights as sights
 use Rattle.plant.proofs.Sights.{IsRead}

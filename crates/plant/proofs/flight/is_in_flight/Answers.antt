@@ -5,8 +5,8 @@ use Rattle.std.proofs.lemmas.Bool.Decides.{same_from_decides}
 use Rattle.stream_model.specs.Meaning.{Meaning}
 use Rattle.stream_model.specs.Machine.{is_in_flight}
 use Rattle.flowgraph.specs.Flowgraph.{net_of, node_of}
-use Rattle.jobs.specs.Jobs.{job_in}
-use Rattle.stores.specs.Stores.{state_of}
+use Rattle.claimed_work.specs.Jobs.{job_in}
+use Rattle.plant_storage.specs.Stores.{state_of}
 use Rattle.plant.specs.Own.{is_own}
 use Rattle.plant.proofs.InFlight.{flight_decides, own_inside, own_means}
 use Rattle.plant.proofs.flight.is_in_flight.Goals as goal

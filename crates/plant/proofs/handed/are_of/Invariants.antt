@@ -1,6 +1,6 @@
 use Rattle.std.proofs.Common.{◌≡◌, map, drop}
 use Rattle.std.specs.Prelude.{◌↔◌}
-use Rattle.stores.specs.Stores.{handed_of}
+use Rattle.plant_storage.specs.Stores.{handed_of}
 use Rattle.plant.proofs.handed.are_of.Given as goal
 
 abbrev pub invariant-loop-intake : goal.invariant-loop-intake

@@ -1,5 +1,5 @@
 use Rattle.std.proofs.Common.{◌≡◌, ◌≤◌, map, take, length, vec_len, vec_capacity}
-use Rattle.stores.specs.Stores.{handed_of}
+use Rattle.plant_storage.specs.Stores.{handed_of}
 use Rattle.plant.proofs.handed.copies.Given as goal
 
 abbrev pub invariant-loop-intake : goal.invariant-loop-intake

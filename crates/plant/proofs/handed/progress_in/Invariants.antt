@@ -1,5 +1,5 @@
 use Rattle.std.proofs.Common.{◌≡◌, ◌≤◌, map, take, vec_len, vec_capacity}
-use Rattle.firings.specs.State.{progress_of}
+use Rattle.firing_rules.specs.State.{progress_of}
 use Rattle.plant.proofs.handed.progress_in.Given as goal
 
 abbrev pub invariant-loop-block : goal.invariant-loop-block

@@ -1,8 +1,8 @@
 use Rattle.std.proofs.Common.{sym, subst, ◌∙◌}
 use Rattle.flowgraph.specs.Flowgraph.{net_of}
 use Rattle.rates.specs.Answer.{answer_of}
-use Rattle.stores.specs.Opening.{HaveCapacities}
-use Rattle.stores.proofs.Capacities.{have_capacities}
+use Rattle.plant_storage.specs.Opening.{HaveCapacities}
+use Rattle.plant_storage.proofs.Capacities.{have_capacities}
 use Rattle.plant.proofs.opening.prepare.Goals as goal
 
 pub open-requires : goal.open-requires

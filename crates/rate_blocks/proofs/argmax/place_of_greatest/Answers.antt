@@ -3,7 +3,7 @@ use Rattle.std.proofs.lemmas.Int.{ints}
 use Rattle.std.proofs.lemmas.List.{length-map}
 use Rattle.stream_model.specs.Numbers.{IsItem, least_of}
 use Rattle.kind_model.specs.Rates.{place_of}
-use Rattle.lane_work.proofs.Written.{read_item}
+use Rattle.item_dispatch.proofs.Written.{read_item}
 use Rattle.rate_blocks.proofs.Chosen.{first_alone, greater_comes, none_comes}
 use Rattle.rate_blocks.proofs.argmax.place_of_greatest.Goals as goal
 use Rattle.rate_blocks.proofs.argmax.place_of_greatest.Goals.{then-widen, else-widen}

@@ -1,7 +1,7 @@
 use Rattle.std.proofs.Common.{◌<◌, ◌∙◌, length, map, arith, ap}
 use Rattle.std.proofs.lemmas.Int.{ints}
 use Rattle.std.proofs.lemmas.List.{length-map}
-use Rattle.lane_work.proofs.Written.{read_item}
+use Rattle.item_dispatch.proofs.Written.{read_item}
 use Rattle.rate_blocks.proofs.Chosen.{least_more, lesser_takes, lesser_keeps}
 use Rattle.rate_blocks.proofs.frame_extremes.least_among.Goals as goal
 use Rattle.rate_blocks.proofs.frame_extremes.least_among.Goals.{then-widen, else-widen}

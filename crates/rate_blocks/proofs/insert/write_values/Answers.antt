@@ -1,7 +1,7 @@
 use Rattle.std.proofs.Common.{pos, map, arith}
 use Rattle.std.proofs.lemmas.List.{length-map, ext_get_or}
 use Rattle.stream_model.specs.Lists.{item}
-use Rattle.lane_work.proofs.Written.{write_next}
+use Rattle.item_dispatch.proofs.Written.{write_next}
 use Rattle.rate_blocks.proofs.Periods.{read_value}
 use Rattle.rate_blocks.proofs.insert.write_values.Goals as goal
 

@@ -1,6 +1,6 @@
 use Rattle.std.proofs.Common.{ℕ, ◌+◌, ◌*◌, ◌/◌, ◌%◌, length, map, take, drop, arith, ap, ◌∙◌}
 use Rattle.stream_model.specs.Lists.{item}
-use Rattle.lane_work.proofs.Written.{written_all}
+use Rattle.item_dispatch.proofs.Written.{written_all}
 use Rattle.rate_blocks.proofs.Frames.{kept_more, frame_within, all_frames}
 use Rattle.rate_blocks.proofs.keep_m_in_n.copy_kept.Goals as goal
 

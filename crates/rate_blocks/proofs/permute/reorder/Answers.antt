@@ -1,7 +1,7 @@
 use Rattle.std.proofs.Common.{length, map, arith}
 use Rattle.stream_model.specs.Lists.{item}
 use Rattle.kind_model.specs.Rates.{from_place}
-use Rattle.lane_work.proofs.Written.{write_next, written_all}
+use Rattle.item_dispatch.proofs.Written.{write_next, written_all}
 use Rattle.rate_blocks.proofs.Reordered.{read_place}
 use Rattle.rate_blocks.proofs.permute.reorder.Goals as goal
 

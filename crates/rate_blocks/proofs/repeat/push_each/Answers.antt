@@ -1,6 +1,6 @@
 use Rattle.std.proofs.Common.{length, map, arith}
 use Rattle.lane_kernels.proofs.Appended.{room_left}
-use Rattle.lane_work.proofs.Written.{read_item}
+use Rattle.item_dispatch.proofs.Written.{read_item}
 use Rattle.rate_blocks.proofs.Copies.{copies_more, first_room}
 use Rattle.rate_blocks.proofs.repeat.push_each.Goals as goal
 

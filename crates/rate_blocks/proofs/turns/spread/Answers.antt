@@ -1,6 +1,6 @@
 use Rattle.std.proofs.Common.{◌≤◌, ◌+◌, ◌*◌, length, map, arith, rules, ap}
 use Rattle.std.proofs.lemmas.List.{length-map}
-use Rattle.lane_work.proofs.Written.{read_item}
+use Rattle.item_dispatch.proofs.Written.{read_item}
 use Rattle.rate_blocks.proofs.Rounds.{turn_within, round_spread}
 use Rattle.rate_blocks.proofs.turns.spread.Goals as goal
 

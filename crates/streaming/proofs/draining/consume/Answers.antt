@@ -2,7 +2,7 @@ use Rattle.std.proofs.Common.{◌≡◌, ◌+◌, min, set, arith, ap, refl, sym
 use Rattle.std.specs.Arc.{arc_value}
 use Rattle.machine_laws.specs.Sound.{fired}
 use Rattle.flowgraph.specs.Flowgraph.{net_of}
-use Rattle.stores.specs.Stores.{state_of}
+use Rattle.plant_storage.specs.Stores.{state_of}
 use Rattle.streaming.proofs.Pieces.{drains, drains_with}
 use Rattle.streaming.proofs.Releases.{keeps_sink}
 use Rattle.streaming.proofs.Extents as extent

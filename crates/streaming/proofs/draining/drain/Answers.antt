@@ -6,7 +6,7 @@ use Rattle.items.specs.Items.{numbers_of}
 use Rattle.items.specs.Tags.{tag_of}
 use Rattle.flowgraph.specs.Flowgraph.{net_of}
 use Rattle.plant_laws.specs.Stored.{Collected, nothing_collected, sink_at}
-use Rattle.stores.specs.Stores.{collected_of, state_of, stored_in}
+use Rattle.plant_storage.specs.Stores.{collected_of, state_of, stored_in}
 use Rattle.streaming.proofs.Pieces.{collected_all, drained_at, drains, drains_with, is_piece, taken_few}
 use Rattle.streaming.proofs.Releases.{keeps_sink}
 use Rattle.streaming.proofs.draining.drain.Goals as goal

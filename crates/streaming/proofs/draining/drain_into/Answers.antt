@@ -8,7 +8,7 @@ use Rattle.items.specs.Items.{type_of, numbers_of, spare_of}
 use Rattle.items.specs.Tags.{tag_of}
 use Rattle.flowgraph.specs.Flowgraph.{net_of}
 use Rattle.recordings.specs.Recording.{RecordingState}
-use Rattle.stores.specs.Stores.{state_of}
+use Rattle.plant_storage.specs.Stores.{state_of}
 use Rattle.streaming.specs.Streaming.{GoesOn, stream_into, tags_into}
 use Rattle.streaming.specs.Draining.{HasRoom}
 use Rattle.streaming.proofs.Pieces.{drains, drains_with}

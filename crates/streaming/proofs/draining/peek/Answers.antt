@@ -5,7 +5,7 @@ use Rattle.stream_model.specs.Machine.{read_of}
 use Rattle.items.specs.Items.{numbers_of}
 use Rattle.items.specs.Tags.{tag_of}
 use Rattle.flowgraph.specs.Flowgraph.{net_of}
-use Rattle.stores.specs.Stores.{state_of}
+use Rattle.plant_storage.specs.Stores.{state_of}
 use Rattle.plant.specs.declared.answers.Piece.{Piece}
 use Rattle.plant.specs.declared.fault.PlantFault.{PlantFault}
 use Rattle.plant.specs.Answers.{AnsweredBy, piece_reply, reply_of}

@@ -4,7 +4,7 @@ use Rattle.std.proofs.lemmas.List.{length-map}
 use Rattle.stream_model.specs.Network.{Progress, node_at, taken_by, progress_at}
 use Rattle.stream_laws.specs.CanRun.{CanRun}
 use Rattle.flowgraph.specs.Flowgraph.{net_of, node_of}
-use Rattle.stores.specs.Stores.{state_of}
+use Rattle.plant_storage.specs.Stores.{state_of}
 use Rattle.plant.specs.Plant.{plant_of}
 use Rattle.plant.proofs.Moves.{handed_long}
 use Rattle.plant.proofs.Sets.{small}

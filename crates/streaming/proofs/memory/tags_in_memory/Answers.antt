@@ -2,7 +2,7 @@ use Rattle.std.proofs.Common.{◌∙◌, length, ap}
 use Rattle.std.specs.Arc.{arc_value}
 use Rattle.tags.specs.TagList.{tags_from}
 use Rattle.flowgraph.specs.Flowgraph.{net_of}
-use Rattle.stores.specs.Tapes.{TapeState}
+use Rattle.plant_storage.specs.Tapes.{TapeState}
 use Rattle.streaming.proofs.InMemory.{tags_of_tape, tags_of_sink}
 use Rattle.streaming.proofs.memory.tags_in_memory.Goals as goal
 

@@ -4,7 +4,7 @@ use Rattle.std.proofs.Math.Nat.{pow-le-pow_right, mod-eq_of_lt}
 use Rattle.std.proofs.lemmas.List.{length-map}
 use Rattle.kind_model.specs.Bits.{low_bit}
 use Rattle.kind_model.specs.BitStreams.{distance}
-use Rattle.lane_work.proofs.Written.{write_next, written_all}
+use Rattle.item_dispatch.proofs.Written.{write_next, written_all}
 use Rattle.bit_blocks.specs.Marked.{word_at, marked}
 use Rattle.bit_blocks.proofs.Marks.{low_bit-byte, word_at-begun, word_at-next}
 use Rattle.bit_blocks.proofs.code_search.CodeSearchByteWork.make.Goals as goal

@@ -1,7 +1,7 @@
 use Rattle.std.proofs.Common.{◌/◌, refl, subst, sym}
 use Rattle.kind_model.specs.BitStreams.{common_divisor}
 use Rattle.kind_laws.specs.BitStreams.{repacking-some}
-use Rattle.block_kinds.specs.Shape.{IsPacedAt, IsShape}
+use Rattle.block_trait.specs.Shape.{IsPacedAt, IsShape}
 use Rattle.bit_blocks.specs.Kinds.{repacking_of}
 use Rattle.bit_blocks.proofs.repacking.RepackingBlock.shape.Goals as goal
 

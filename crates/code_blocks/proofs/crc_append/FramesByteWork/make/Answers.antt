@@ -2,7 +2,7 @@ use Rattle.std.proofs.Common.{◌≡◌, ◌⊎◌, ◌+◌, ◌-◌, ◌*◌, �
 use Rattle.std.proofs.lemmas.List.{length-map}
 use Rattle.stream_model.specs.Lists.{item}
 use Rattle.kind_model.specs.Codes.{bytes_of, with_checksum}
-use Rattle.lane_work.proofs.Written.{written_all}
+use Rattle.item_dispatch.proofs.Written.{written_all}
 use Rattle.code_blocks.proofs.Frames.{frame_within, all_frames, framed-more}
 use Rattle.code_blocks.proofs.crc_append.FramesByteWork.make.Goals as goal
 

@@ -3,7 +3,7 @@ use Rattle.std.specs.Prelude.{if◌then◌else◌}
 use mir.Val.{bool_byte}
 use Rattle.std.proofs.lemmas.List.{length-map}
 use Rattle.kind_model.specs.Codes.{bytes_of, is_checked}
-use Rattle.lane_work.proofs.Written.{write_next, written_all}
+use Rattle.item_dispatch.proofs.Written.{write_next, written_all}
 use Rattle.code_blocks.proofs.Frames.{frame_within, checked-part}
 use Rattle.code_blocks.proofs.crc_check.CrcCheckByteWork.make.Goals as goal
 

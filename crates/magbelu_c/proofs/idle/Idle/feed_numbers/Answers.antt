@@ -1,7 +1,7 @@
 use Rattle.std.proofs.Common.{map}
 use Rattle.flowgraph.specs.Flowgraph.{net_of}
 use Rattle.kinds.specs.Kind.{meaning_of}
-use Rattle.stores.specs.Stores.{mark_of}
+use Rattle.plant_storage.specs.Stores.{mark_of}
 use Rattle.plant.specs.Feeding.{feed_numbers}
 use Rattle.plant.proofs.Idles.{answered-idle}
 use Rattle.streaming.proofs.Idles.{feed_numbers-progress}

@@ -4,7 +4,7 @@ use Rattle.kind_model.specs.Kernels as kernels
 use Rattle.kind_model.specs.Math.{convert}
 use Rattle.items.specs.Items.{numbers_of}
 use Rattle.settings.specs.Values.{held_of}
-use Rattle.block_kinds.proofs.Fills.{paced, plain-given}
+use Rattle.block_trait.proofs.Fills.{paced, plain-given}
 use Rattle.math_blocks.proofs.convert.ConvertSingle.fill.Goals as goal
 
 pub returns-clause-items : goal.returns-clause-items

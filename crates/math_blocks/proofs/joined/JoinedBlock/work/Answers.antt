@@ -3,8 +3,8 @@ use Rattle.stream_model.specs.Lists.{listed}
 use Rattle.kind_model.specs.Math.{items_at}
 use Rattle.items.specs.Items.{numbers_of}
 use Rattle.settings.specs.Values.{held_of}
-use Rattle.block_kinds.specs.Work.{CanWork, HasWorked}
-use Rattle.block_kinds.proofs.Outputs.{one_worked}
+use Rattle.block_trait.specs.Work.{CanWork, HasWorked}
+use Rattle.block_trait.proofs.Outputs.{one_worked}
 use Rattle.math_blocks.specs.Joined.{joined_of}
 use Rattle.math_blocks.proofs.Joining.{length-joined, joined-given}
 use Rattle.math_blocks.proofs.joined.JoinedBlock.work.Goals as goal

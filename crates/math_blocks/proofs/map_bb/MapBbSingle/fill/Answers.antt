@@ -2,7 +2,7 @@ use Rattle.std.proofs.Common.{◌∙◌, map, pos, refl, arith}
 use Rattle.kind_model.specs.Math.{looked_up, map_bb}
 use Rattle.items.specs.Items.{numbers_of}
 use Rattle.settings.specs.Values.{held_of}
-use Rattle.block_kinds.proofs.Fills.{paced, each-given}
+use Rattle.block_trait.proofs.Fills.{paced, each-given}
 use Rattle.math_blocks.proofs.map_bb.MapBbSingle.fill.Goals as goal
 
 pub returns-clause-items : goal.returns-clause-items

@@ -3,7 +3,7 @@ use Rattle.std.proofs.lemmas.Int.{to_z-of_z}
 use Rattle.std.proofs.lemmas.List.{length-map, take-map}
 use Rattle.stream_model.specs.Numbers.{total, wrap}
 use Rattle.stream_model.specs.Lists.{item, sum_below}
-use Rattle.lane_work.proofs.Written.{write_next, written_all}
+use Rattle.item_dispatch.proofs.Written.{write_next, written_all}
 use Rattle.math_blocks.proofs.Summed.{added_fits, added_sum, taken_fits, taken_sum}
 use Rattle.math_blocks.proofs.moving_sum.MovingSumLaneWork.make.Goals as goal
 

@@ -1,5 +1,5 @@
 use Rattle.std.proofs.Common.{subst}
-use Rattle.block_kinds.specs.Fill.{HasFilled}
+use Rattle.block_trait.specs.Fill.{HasFilled}
 use Rattle.math_blocks.proofs.per_item.PerItemSingle.fill.Goals as goal
 
 pub returns-clause-items : goal.returns-clause-items

@@ -8,7 +8,7 @@ use Rattle.kind_model.specs.Kernels.{bits_in}
 use Rattle.kind_model.specs.Math.{sample_and_hold}
 use Rattle.items.specs.Items.{type_of, numbers_of}
 use Rattle.settings.specs.Values.{held_of}
-use Rattle.block_kinds.proofs.Outputs.{one_worked}
+use Rattle.block_trait.proofs.Outputs.{one_worked}
 use Rattle.math_blocks.specs.Holding.{held_from}
 use Rattle.math_blocks.proofs.Holding.{length-held, held-given, held-word, input-window}
 use Rattle.math_blocks.proofs.Joining.{All-at}

@@ -2,7 +2,7 @@ use Rattle.std.proofs.Common.{◌∙◌, map, refl, arith}
 use Rattle.kind_model.specs.Math.{number_for, table}
 use Rattle.items.specs.Items.{type_of, numbers_of}
 use Rattle.settings.specs.Values.{held_of}
-use Rattle.block_kinds.proofs.Fills.{paced, plain-given}
+use Rattle.block_trait.proofs.Fills.{paced, plain-given}
 use Rattle.math_blocks.proofs.table.TableSingle.fill.Goals as goal
 
 pub returns-clause-items : goal.returns-clause-items

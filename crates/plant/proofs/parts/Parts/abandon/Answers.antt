@@ -3,9 +3,9 @@ use Rattle.std.specs.List.{All}
 use Rattle.std.proofs.lemmas.Grind.{get_or-set_at}
 use Rattle.stream_model.specs.Network.{node_at}
 use Rattle.items.specs.Items.{numbers_of}
-use Rattle.block_kinds.specs.Work.{IsReady}
+use Rattle.block_trait.specs.Work.{IsReady}
 use Rattle.flowgraph.specs.Flowgraph.{net_of}
-use Rattle.jobs.specs.declared.lent.Lent.{Lent}
+use Rattle.claimed_work.specs.declared.lent.Lent.{Lent}
 use Rattle.plant.specs.Own.{is_own}
 use Rattle.plant.specs.Plant.{plant_of}
 use Rattle.plant.proofs.Returning.{asked, inside}

@@ -2,7 +2,7 @@ use Rattle.std.proofs.Common.{◌≡◌, true, Ok, Err, refl, sym, ◌∙◌}
 use Rattle.std.proofs.lemmas.Result.{err_from_is_err_and}
 use Rattle.std.specs.Arc.{arc_value}
 use Rattle.flowgraph.specs.Flowgraph.{net_of}
-use Rattle.stores.specs.Stores.{state_of}
+use Rattle.plant_storage.specs.Stores.{state_of}
 use Rattle.plant.specs.Answers.{source_type_of}
 use Rattle.plant.proofs.Refusals.{source_there, close-refused}
 use Rattle.plant.proofs.Moves.{counted, close_again, closes, handed_long, keeps_closed}

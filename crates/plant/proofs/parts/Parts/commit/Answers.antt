@@ -2,7 +2,7 @@ use Rattle.std.proofs.Common.{◌<◌, length, refl, arith, ap, sym, ◌∙◌, 
 use Rattle.std.proofs.lemmas.List.{get_or-set_same}
 use Rattle.stream_model.specs.Machine.{Job}
 use Rattle.flowgraph.specs.Flowgraph.{net_of}
-use Rattle.jobs.specs.declared.lent.Lent.{Lent}
+use Rattle.claimed_work.specs.declared.lent.Lent.{Lent}
 use Rattle.plant.specs.Own.{is_own}
 use Rattle.plant.specs.Plant.{IsFlight, IsItsWork, plant_of}
 use Rattle.plant.proofs.Returning.{asked, commit_refused, commit_taken, place_there, inside, flight, work}

@@ -8,7 +8,7 @@ use Rattle.stream_model.specs.Network.{Handed, State}
 use Rattle.plant_laws.specs.Stored as stored
 use Rattle.items.specs.Items.{type_of, numbers_of}
 use Rattle.flowgraph.specs.Flowgraph.{net_of}
-use Rattle.stores.specs.Stores.{mark_of, state_of}
+use Rattle.plant_storage.specs.Stores.{mark_of, state_of}
 use Rattle.plant.specs.Answers.{source_type_of, takes_memory}
 use Rattle.plant.specs.Feeding.{length_with}
 use Rattle.plant.proofs.Refusals.{source_there, feed-refused, feed-other_type, answered}

@@ -7,7 +7,7 @@ use Rattle.stream_model.specs.Machine as machine
 use Rattle.stream_model.specs.Machine.{feed_of, Reply}
 use Rattle.items.specs.Items.{type_of, numbers_of}
 use Rattle.flowgraph.specs.Flowgraph.{net_of}
-use Rattle.stores.specs.Stores.{mark_of, state_of}
+use Rattle.plant_storage.specs.Stores.{mark_of, state_of}
 use Rattle.plant.specs.Plant.{plant_of}
 use Rattle.plant.specs.Answers.{Answered, reply_of, source_type_of, takes_memory}
 use Rattle.plant.proofs.Refusals.{source_there, answered}

@@ -5,7 +5,7 @@ use Rattle.stream_model.specs.Meaning.{Meaning}
 use Rattle.stream_model.specs.Network.{Progress, node_at}
 use Rattle.machine_laws.specs.Sound.{reached}
 use Rattle.flowgraph.specs.Flowgraph.{net_of}
-use Rattle.stores.specs.Stores.{state_of}
+use Rattle.plant_storage.specs.Stores.{state_of}
 use Rattle.plant.proofs.Sets.{small, same_product}
 use Rattle.plant.proofs.parts.Parts.floor.Goals as goal
 

@@ -3,9 +3,9 @@ use Rattle.std.specs.Arc.{arc_value}
 use Rattle.std.proofs.lemmas.List.{length-set, get_or-set_same}
 use Rattle.std.proofs.lemmas.Result.{on_ok_weaker}
 use Rattle.flowgraph.specs.Flowgraph.{Flowgraph, net_of}
-use Rattle.jobs.specs.declared.lent.Lent.{Lent}
-use Rattle.stores.specs.Stores.{stored_in}
-use Rattle.stores.specs.Lending.{IsLent}
+use Rattle.claimed_work.specs.declared.lent.Lent.{Lent}
+use Rattle.plant_storage.specs.Stores.{stored_in}
+use Rattle.plant_storage.specs.Lending.{IsLent}
 use Rattle.plant.proofs.Lasting.{Serves, lasts}
 use Rattle.plant.proofs.Roomy.{may_lend_from, right_but_roomy, right_roomy}
 use Rattle.plant.proofs.parts.Parts.lend.Goals as goal

@@ -3,8 +3,8 @@ use Rattle.std.specs.Arc.{arc_value}
 use Rattle.std.proofs.lemmas.List.{length-map}
 use Rattle.stream_model.specs.Network.{used_outputs}
 use Rattle.flowgraph.specs.Flowgraph.{Flowgraph, net_of, node_of}
-use Rattle.stores.specs.Stores.{stored_in}
-use Rattle.stores.specs.Lending.{IsLent}
+use Rattle.plant_storage.specs.Stores.{stored_in}
+use Rattle.plant_storage.specs.Lending.{IsLent}
 use Rattle.plant.specs.Plant.{PlantState}
 use Rattle.plant.proofs.Jobs.{may_do, its_job}
 use Rattle.plant.proofs.Places.{lent_here}

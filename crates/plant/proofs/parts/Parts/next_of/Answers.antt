@@ -3,7 +3,7 @@ use Rattle.std.proofs.lemmas.List.{length-map}
 use Rattle.machine_laws.specs.Waits.{waited_for}
 use Rattle.machine_laws.proofs.Waiting.{next_inside}
 use Rattle.flowgraph.specs.Flowgraph.{net_of, node_of}
-use Rattle.firings.specs.Waits.{wait_seen}
+use Rattle.firing_rules.specs.Waits.{wait_seen}
 use Rattle.plant.specs.Plant.{plant_of}
 use Rattle.plant.proofs.parts.Parts.next_of.Goals as goal
 

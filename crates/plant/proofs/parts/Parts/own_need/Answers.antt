@@ -1,5 +1,5 @@
 use Rattle.std.proofs.Common.{map, refl}
-use Rattle.stores.specs.Stores.{handed_of}
+use Rattle.plant_storage.specs.Stores.{handed_of}
 use Rattle.plant.proofs.parts.Parts.own_need.Goals as goal
 
 pub returns : goal.returns

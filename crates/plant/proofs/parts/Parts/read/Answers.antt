@@ -9,7 +9,7 @@ use Rattle.items.specs.Tags.{tag_of}
 use Rattle.flowgraph.specs.Flowgraph.{net_of}
 use Rattle.stream_model.specs.Tags.{tags_within}
 use Rattle.plant_laws.specs.Stored.{Collected, nothing_collected, sink_at}
-use Rattle.stores.specs.Stores.{collected_of, state_of, stored_in}
+use Rattle.plant_storage.specs.Stores.{collected_of, state_of, stored_in}
 use Rattle.plant.proofs.Shows.{read-absent, read-no_sink, read-past, sink_holds, read_takes, shown, shown_whole}
 use Rattle.plant.proofs.parts.Parts.read.Given.{Over}
 use Rattle.plant.proofs.parts.Parts.read.Goals.{After-index-collected}

@@ -6,7 +6,7 @@ use Rattle.stream_model.specs.Network.{State}
 use Rattle.stream_model.specs.Machine.{Reply, floor_of}
 use Rattle.settings.specs.Values.{value_of}
 use Rattle.flowgraph.specs.Flowgraph.{net_of}
-use Rattle.stores.specs.Stores.{state_of}
+use Rattle.plant_storage.specs.Stores.{state_of}
 use Rattle.plant.specs.Setting.{fault_in}
 use Rattle.plant.proofs.Refusals.{answered}
 use Rattle.plant.proofs.Moves.{keeps_same, state_same}
@@ -17,7 +17,7 @@ use Rattle.plant.proofs.Spans.{spans_handed}
 use Rattle.plant.proofs.Moves.{handed_long}
 use Rattle.recordings.specs.Recent.{SettingsState}
 use Rattle.stream_model.specs.Settings.{Held}
-use Rattle.stores.specs.Stores.{HasOneMore}
+use Rattle.plant_storage.specs.Stores.{HasOneMore}
 use Rattle.plant.proofs.parts.Parts.set.Goals as goal
 
 unread_same : {h : Held} {old new : Option SettingsState} → HasOneMore h old new → stored.settings_from new ≡ stored.settings_from old

@@ -3,7 +3,7 @@ use Rattle.std.specs.Arc.{arc_value}
 use Rattle.machine_laws.proofs.Wholes.{all_done_is_whole}
 use Rattle.flowgraph.specs.Flowgraph.{net_of}
 use Rattle.rates.specs.Answer.{answer_of, sizes_of}
-use Rattle.stores.specs.Stores.{handed_of}
+use Rattle.plant_storage.specs.Stores.{handed_of}
 use Rattle.plant.specs.Plant.{plant_of}
 use Rattle.plant.proofs.Resting.{quiet_misses}
 use Rattle.plant.proofs.Settles.{fewer_left, is_led_on, settled_quiet}

@@ -2,7 +2,7 @@ use Rattle.std.proofs.Common.{length, refl, arith, ap, ◌∙◌, subst, inl, in
 use Rattle.std.proofs.lemmas.Result.{err_from_is_err_and}
 use Rattle.stream_model.specs.Machine as machine
 use Rattle.stream_model.specs.Network.{progress_at}
-use Rattle.firings.specs.Decision.{answer_of}
+use Rattle.firing_rules.specs.Decision.{answer_of}
 use Rattle.flowgraph.specs.Flowgraph.{Flowgraph}
 use Rattle.plant.specs.Memory.{NeedsNone}
 use Rattle.plant.specs.Answers.{waiting_reply}

@@ -7,7 +7,7 @@ use Rattle.items.specs.Items.{numbers_of}
 use Rattle.items.specs.Tags.{tag_of}
 use Rattle.flowgraph.specs.Flowgraph.{net_of}
 use Rattle.plant_laws.specs.Stored.{Collected, nothing_collected}
-use Rattle.stores.specs.Stores.{collected_of, state_of}
+use Rattle.plant_storage.specs.Stores.{collected_of, state_of}
 use Rattle.plant.proofs.Shows.{read-absent, read-no_sink, view_shown, view_whole}
 use Rattle.plant.proofs.parts.Parts.view.Goals as goal
 

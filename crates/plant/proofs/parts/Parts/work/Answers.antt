@@ -4,9 +4,9 @@ use Rattle.std.proofs.lemmas.List.{length-map, take_at, get_or-set_same}
 use Rattle.stream_model.specs.Network.{node_at}
 use Rattle.items.specs.Items.{type_of}
 use Rattle.flowgraph.specs.Flowgraph.{Flowgraph, net_of}
-use Rattle.jobs.specs.declared.lent.Lent.{Lent}
-use Rattle.stores.specs.Stores.{stored_in}
-use Rattle.transfers.proofs.PlaceLists.{still_hold_outputs}
+use Rattle.claimed_work.specs.declared.lent.Lent.{Lent}
+use Rattle.plant_storage.specs.Stores.{stored_in}
+use Rattle.plant_transfers.proofs.PlaceLists.{still_hold_outputs}
 use Rattle.plant.specs.Plant.{IsItsWork, plant_of}
 use Rattle.plant.proofs.Places.{lent_here}
 use Rattle.plant.proofs.Working.{firings_fit, can_work, has_worked}

@@ -1,5 +1,5 @@
 use Rattle.std.proofs.Common.{map, sym, ◌∙◌}
-use Rattle.stores.specs.Stores.{handed_of}
+use Rattle.plant_storage.specs.Stores.{handed_of}
 use Rattle.machine_laws.proofs.Wholes.{all_done_is_whole}
 use Rattle.plant.proofs.plant.Plant.all_done.Goals as goal
 

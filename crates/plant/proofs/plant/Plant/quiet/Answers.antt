@@ -4,7 +4,7 @@ use Rattle.flowgraph.specs.Flowgraph.{net_of}
 use Rattle.plant.specs.Plant.{IsSettled}
 use Rattle.rates.specs.Answer.{answer_of, sizes_of}
 use Rattle.std.specs.Arc.{arc_value}
-use Rattle.stores.specs.Stores.{handed_of, state_of}
+use Rattle.plant_storage.specs.Stores.{handed_of, state_of}
 use Rattle.plant.proofs.Resting.{quiet_settles}
 use Rattle.plant.proofs.plant.Plant.quiet.Goals as goal
 

@@ -1,5 +1,5 @@
 use Rattle.std.proofs.Common.{arith}
-use Rattle.stores.specs.Stores.{stored_in}
+use Rattle.plant_storage.specs.Stores.{stored_in}
 use Rattle.plant.proofs.Spans.{sink_whole}
 use Rattle.plant.proofs.plant.Plant.read.Goals as goal
 

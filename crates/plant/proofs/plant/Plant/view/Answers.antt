@@ -1,4 +1,4 @@
-use Rattle.stores.specs.Stores.{stored_in}
+use Rattle.plant_storage.specs.Stores.{stored_in}
 use Rattle.plant.proofs.Spans.{sink_whole}
 use Rattle.plant.proofs.plant.Plant.view.Goals as goal
 

@@ -1,6 +1,6 @@
 use Rattle.std.proofs.Common.{ap, sym, ◌∙◌}
-use Rattle.firings.specs.State.{tape_of}
-use Rattle.stores.specs.Stores.{handed_of}
+use Rattle.firing_rules.specs.State.{tape_of}
+use Rattle.plant_storage.specs.Stores.{handed_of}
 use Rattle.plant.proofs.Tapes.{tape_at}
 use Rattle.plant.proofs.source_tapes.SourceTapesTapes.tape.Goals as goal
 

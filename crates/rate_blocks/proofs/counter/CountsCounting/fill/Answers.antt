@@ -3,7 +3,7 @@ use Rattle.stream_model.specs.Numbers.{wrap}
 use Rattle.kind_model.specs.Rates.{counter}
 use Rattle.items.specs.Items.{numbers_of}
 use Rattle.settings.specs.Values.{held_of}
-use Rattle.block_kinds.proofs.Fills.{paced, given-paced}
+use Rattle.block_trait.proofs.Fills.{paced, given-paced}
 use Rattle.rate_blocks.proofs.counter.CountsCounting.fill.Goals as goal
 
 pub returns-clause-items : goal.returns-clause-items

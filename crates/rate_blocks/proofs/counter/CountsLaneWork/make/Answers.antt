@@ -1,7 +1,7 @@
 use Rattle.std.proofs.Common.{ℕ, suc, ◌+◌, ◌%◌, ◌<◌, pos, length, arith, ap, ◌∙◌, w64}
 use Rattle.std.proofs.lemmas.Int.{to_z_pos}
 use Rattle.stream_model.specs.Numbers.{wrap}
-use Rattle.lane_work.proofs.Written.{write_next, written_all}
+use Rattle.item_dispatch.proofs.Written.{write_next, written_all}
 use Rattle.rate_blocks.proofs.Cycles.{next_rest}
 use Rattle.rate_blocks.proofs.counter.CountsLaneWork.make.Goals as goal
 

@@ -1,7 +1,7 @@
 use Rattle.std.proofs.Common.{◌<◌, length, map, arith, ◌∙◌, subst, sym}
 use Rattle.std.proofs.lemmas.List.{length-map}
 use Rattle.stream_model.specs.Numbers.{IsItem}
-use Rattle.lane_work.proofs.Written.{read_item}
+use Rattle.item_dispatch.proofs.Written.{read_item}
 use Rattle.rate_blocks.proofs.Chosen.{least_first}
 use Rattle.rate_blocks.proofs.frame_extremes.LeastsMakesOne.of_frame.Goals as goal
 

@@ -1,6 +1,6 @@
 use Rattle.std.proofs.Common.{rules, ◌≤◌, ◌+◌, ◌-◌, ◌*◌, ◌/◌, ◌%◌, length, map, take, drop, refl, arith, ap, ◌∙◌}
 use Rattle.kind_model.specs.Rates.{inserted}
-use Rattle.lane_work.proofs.Written.{written_all}
+use Rattle.item_dispatch.proofs.Written.{written_all}
 use Rattle.rate_blocks.proofs.Frames.{frame_within, all_frames}
 use Rattle.rate_blocks.proofs.Periods.{period_written}
 use Rattle.rate_blocks.proofs.insert.PeriodsLaneWork.make.Goals as goal

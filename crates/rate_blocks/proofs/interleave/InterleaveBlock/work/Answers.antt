@@ -2,7 +2,7 @@ use Rattle.std.proofs.Common.{◌≡◌, ◌*◌, length, map, arith, ap, sym, �
 use Rattle.std.proofs.lemmas.List.{length-map}
 use Rattle.items.specs.Items.{numbers_of}
 use Rattle.settings.specs.Values.{held_of}
-use Rattle.block_kinds.proofs.Outputs.{one_worked}
+use Rattle.block_trait.proofs.Outputs.{one_worked}
 use Rattle.rate_blocks.specs.Mux.{interleave_of}
 use Rattle.rate_blocks.proofs.Interleaved.{all-interleaved, interleave-given}
 use Rattle.rate_blocks.proofs.interleave.InterleaveBlock.work.Goals as goal

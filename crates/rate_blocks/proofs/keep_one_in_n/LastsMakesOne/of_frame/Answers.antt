@@ -1,7 +1,7 @@
 use Rattle.std.proofs.Common.{◌-◌, map, arith, ap, sym, ◌∙◌}
 use Rattle.std.proofs.lemmas.List.{length-map}
 use Rattle.stream_model.specs.Lists.{item}
-use Rattle.lane_work.proofs.Written.{read_item}
+use Rattle.item_dispatch.proofs.Written.{read_item}
 use Rattle.rate_blocks.proofs.keep_one_in_n.LastsMakesOne.of_frame.Goals as goal
 
 pub returns : goal.returns

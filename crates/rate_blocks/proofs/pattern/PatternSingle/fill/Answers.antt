@@ -3,7 +3,7 @@ use Rattle.stream_model.specs.Lists.{item}
 use Rattle.kind_model.specs.Rates.{pattern}
 use Rattle.items.specs.Items.{numbers_of}
 use Rattle.settings.specs.Values.{held_of}
-use Rattle.block_kinds.proofs.Fills.{paced, given-paced}
+use Rattle.block_trait.proofs.Fills.{paced, given-paced}
 use Rattle.rate_blocks.proofs.pattern.PatternSingle.fill.Goals as goal
 
 pub make_items-requires-clause-can : goal.make_items-requires-clause-can

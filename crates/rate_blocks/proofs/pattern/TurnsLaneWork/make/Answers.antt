@@ -1,6 +1,6 @@
 use Rattle.std.proofs.Common.{ℕ, suc, ◌+◌, ◌%◌, ◌<◌, length, arith, ap, ◌∙◌}
 use Rattle.stream_model.specs.Lists.{item}
-use Rattle.lane_work.proofs.Written.{write_next, written_all}
+use Rattle.item_dispatch.proofs.Written.{write_next, written_all}
 use Rattle.rate_blocks.proofs.Cycles.{next_rest}
 use Rattle.rate_blocks.proofs.Periods.{read_value}
 use Rattle.rate_blocks.proofs.pattern.TurnsLaneWork.make.Goals as goal

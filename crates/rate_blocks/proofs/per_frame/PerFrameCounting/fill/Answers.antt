@@ -1,5 +1,5 @@
 use Rattle.std.proofs.Common.{subst}
-use Rattle.block_kinds.specs.Fill.{HasFilled}
+use Rattle.block_trait.specs.Fill.{HasFilled}
 use Rattle.rate_blocks.proofs.per_frame.PerFrameCounting.fill.Goals as goal
 
 pub returns-clause-items : goal.returns-clause-items

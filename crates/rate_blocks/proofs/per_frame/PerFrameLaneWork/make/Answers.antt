@@ -1,6 +1,6 @@
 use Rattle.std.proofs.Common.{ℕ, ◌+◌, ◌*◌, ◌≤◌, length, map, arith, ap, ◌∙◌}
 use Rattle.kind_model.specs.Rates.{frame}
-use Rattle.lane_work.proofs.Written.{write_next, written_all}
+use Rattle.item_dispatch.proofs.Written.{write_next, written_all}
 use Rattle.rate_blocks.proofs.Chosen.{part_framed}
 use Rattle.rate_blocks.proofs.Frames.{frame_within}
 use Rattle.rate_blocks.proofs.per_frame.PerFrameLaneWork.make.Goals as goal

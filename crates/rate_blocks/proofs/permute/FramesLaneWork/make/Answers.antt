@@ -1,7 +1,7 @@
 use Rattle.std.proofs.Common.{◌+◌, ◌*◌, ◌/◌, ◌%◌, length, map, refl, arith}
 use Rattle.stream_model.specs.Lists.{item}
 use Rattle.kind_model.specs.Rates.{from_place}
-use Rattle.lane_work.proofs.Written.{written_all}
+use Rattle.item_dispatch.proofs.Written.{written_all}
 use Rattle.rate_blocks.proofs.Frames.{frame_within, all_frames}
 use Rattle.rate_blocks.proofs.Reordered.{permuted_more}
 use Rattle.rate_blocks.proofs.permute.FramesLaneWork.make.Goals as goal

@@ -2,7 +2,7 @@ use Rattle.std.proofs.Common.{◌*◌, map, arith, ap, ◌∙◌}
 use Rattle.std.proofs.lemmas.List.{length-map}
 use Rattle.items.specs.Items.{numbers_of}
 use Rattle.settings.specs.Values.{held_of}
-use Rattle.block_kinds.proofs.Outputs.{one_worked}
+use Rattle.block_trait.proofs.Outputs.{one_worked}
 use Rattle.rate_blocks.specs.Mux.{lengths_of, stream_mux_of}
 use Rattle.rate_blocks.proofs.Muxed.{length-muxed, mux-given}
 use Rattle.rate_blocks.proofs.stream_mux.StreamMuxBlock.work.Goals as goal

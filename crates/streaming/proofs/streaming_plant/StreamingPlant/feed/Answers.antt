@@ -2,7 +2,7 @@ use Rattle.std.proofs.Common.{map}
 use Rattle.stream_model.specs.Machine.{feed_of}
 use Rattle.flowgraph.specs.Flowgraph.{net_of}
 use Rattle.items.specs.Items.{type_of, numbers_of}
-use Rattle.stores.specs.Stores.{mark_of}
+use Rattle.plant_storage.specs.Stores.{mark_of}
 use Rattle.plant.specs.Plant.{plant_of, spans_in}
 use Rattle.plant.proofs.Idles.{answered-idle, feed-progress}
 use Rattle.streaming.proofs.Owning.{spans_alone}

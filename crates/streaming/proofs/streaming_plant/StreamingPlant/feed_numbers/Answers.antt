@@ -1,6 +1,6 @@
 use Rattle.std.proofs.Common.{map}
 use Rattle.flowgraph.specs.Flowgraph.{net_of}
-use Rattle.stores.specs.Stores.{mark_of}
+use Rattle.plant_storage.specs.Stores.{mark_of}
 use Rattle.plant.specs.Feeding.{feed_numbers}
 use Rattle.plant.specs.Plant.{plant_of, spans_in}
 use Rattle.plant.proofs.Idles.{answered-idle}

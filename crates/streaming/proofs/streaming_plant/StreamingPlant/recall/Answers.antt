@@ -3,7 +3,7 @@ use Rattle.std.proofs.lemmas.List.{length-map}
 use Rattle.std.specs.Arc.{arc_value}
 use Rattle.flowgraph.specs.Flowgraph.{net_of}
 use Rattle.plant_laws.specs.Stored.{Collected}
-use Rattle.stores.specs.Stores.{state_of, stored_in}
+use Rattle.plant_storage.specs.Stores.{state_of, stored_in}
 use Rattle.streaming.proofs.Joins.{stays_begun}
 use Rattle.streaming.proofs.Pieces.{drained_few}
 use Rattle.streaming.proofs.streaming_plant.StreamingPlant.recall.Goals as goal

@@ -3,7 +3,7 @@ use Rattle.stream_model.specs.Machine.{feed_of}
 use Rattle.flowgraph.specs.Flowgraph.{net_of}
 use Rattle.items.specs.Items.{type_of, numbers_of}
 use Rattle.kinds.specs.Kind.{meaning_of}
-use Rattle.stores.specs.Stores.{mark_of}
+use Rattle.plant_storage.specs.Stores.{mark_of}
 use Rattle.plant.proofs.Idles.{answered-idle, feed-progress}
 use Rattle.top_block.proofs.top.TopBlock.feed.Goals as goal
 

@@ -1,8 +1,0 @@
-use Rattle.std.proofs.Common.{length}
-use Rattle.flow.proofs.Rings.{all_inside, ring_inside}
-use Rattle.flow.proofs.stalls.stalled_plant.StreamingPlantKindStalledPlant.ring.Goals as goal
-
-pub returns-clause-inside : goal.returns-clause-inside
-returns-clause-inside c =
-    let p = c.args.self.now.plant in
-    all_inside c.ring.result _ (length p.graph.blocks) c.ring.ensures (ring_inside p c.recall.ensures.runs c.recall.ensures.sound.progress_count)

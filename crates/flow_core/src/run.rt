@@ -1,0 +1,137 @@
+//! The command `run`: the plant of a file runs until it comes to rest, and what its sinks hold is written.
+
+ghost use Rattle.std.specs.Prelude.{◌≡◌, ◌+◌, ◌<◌, ◌-◌, ◌^◌, true, IfOk, IfErr};
+ghost use Rattle.std.specs.Option.{option_map};
+ghost use Rattle.stream_model.specs.Machine.{is_idle};
+ghost use Rattle.flowgraph.specs.Flowgraph.{net_of};
+ghost use Rattle.kinds.specs.Kind.{meaning_of};
+ghost use Rattle.plant.specs.Settling.{HasSettled};
+ghost use Rattle.graph_file.specs.Opening.{opened_of};
+ghost use Rattle.flow_core.specs.RawEnds.{StepsToRest};
+ghost use Rattle.flow_core.specs.Serve.{Fails, IsRun, IsRunAlone, IsRunAloneTo, IsRunTo, Refuses, RunsNot, Writes, WritesNot, plant_in, writes_in};
+
+use crate::command_output::{CommandEnd, RunOutput, run_output, write_run};
+use crate::fault::Fault;
+use crate::opening::open_plant;
+use crate::threading::{Threading, run_plant};
+use crate::turn::TURN;
+use byte_io::ByteOut;
+use kinds::Kind;
+use plant::{Plant, Settled, Watch};
+use std::alloc::{AllocError, Global};
+use std::sync::{Arc, Wait};
+use std::thread::Threads;
+use std::time::Clock;
+use threads::Gate;
+use top_block::close_all;
+
+/// Runs the plant of a file in threads until it comes to rest, and writes what its sinks hold.
+pub(crate) fn run<
+    G: Gate + Drop + Send + Sync + 'static,
+    R: Threads + Wait + Clock + Copy + Send + Sync + 'static,
+    O: ByteOut,
+    W: Watch,
+>(
+    rt: R,
+    alloc: Global,
+    threading: Threading,
+    file: &[u8],
+    output: &mut O,
+    gate: Option<Arc<G, Global>>,
+    watch: &mut W,
+) -> Result<CommandEnd, Fault>
+    requires writes { O.failed output.old < 2 ^ 64 - 1 }
+    ensures does { IfOk result (λ ended. Writes (IsRunTo file.now (option_map opened_of ended.stalled)) (O.contents output.old) (O.contents output.new) ended.status) }
+    ensures does_not { IfErr result (RunsNot (IsRun file.now) (plant_in file.now) (O.contents output.old) (O.contents output.new)) }
+    ensures failed_writes { O.failed output.new ≡ O.failed output.old + writes_in result }
+{
+    match run_file(rt, alloc, threading, file, gate, watch) {
+        Ok(ran) => write_run(output, ran),
+        Err(fault) => Err(fault),
+    }
+}
+
+/// Runs the plant of a file on one thread until it comes to rest, writes what its sinks hold, and gives the status. It starts no thread and waits for none.
+pub fn run_alone<O: ByteOut, W: Watch>(
+    alloc: Global,
+    file: &[u8],
+    output: &mut O,
+    watch: &mut W,
+) -> Result<u8, Fault>
+    requires writes { O.failed output.old < 2 ^ 64 - 1 }
+    ensures does { IfOk result (Writes (IsRunAlone file.now) (O.contents output.old) (O.contents output.new)) }
+    ensures does_not { IfErr result (WritesNot (IsRunAlone file.now) (plant_in file.now) (O.contents output.old) (O.contents output.new)) }
+    ensures failed_writes { O.failed output.new ≡ O.failed output.old + writes_in result }
+{
+    match run_on_one(alloc, file, output, watch) {
+        Ok(ended) => Ok(ended.status),
+        Err(fault) => Err(fault),
+    }
+}
+
+/// Runs the plant of a file on one thread until it comes to rest, and writes what its sinks hold.
+pub(crate) fn run_on_one<O: ByteOut, W: Watch>(
+    alloc: Global,
+    file: &[u8],
+    output: &mut O,
+    watch: &mut W,
+) -> Result<CommandEnd, Fault>
+    requires writes { O.failed output.old < 2 ^ 64 - 1 }
+    ensures does { IfOk result (λ ended. Writes (IsRunAloneTo file.now (option_map opened_of ended.stalled)) (O.contents output.old) (O.contents output.new) ended.status) }
+    ensures does_not { IfErr result (WritesNot (IsRunAlone file.now) (plant_in file.now) (O.contents output.old) (O.contents output.new)) }
+    ensures failed_writes { O.failed output.new ≡ O.failed output.old + writes_in result }
+{
+    match run_file_alone(alloc, file, watch) {
+        Ok(ran) => write_run(output, ran),
+        Err(fault) => Err(fault),
+    }
+}
+
+// Lets the plant of a file run in threads until it comes to rest, where its sources give no more, and tells what it holds then.
+fn run_file<
+    G: Gate + Drop + Send + Sync + 'static,
+    R: Threads + Wait + Clock + Copy + Send + Sync + 'static,
+    W: Watch,
+>(
+    rt: R,
+    alloc: Global,
+    threading: Threading,
+    file: &[u8],
+    gate: Option<Arc<G, Global>>,
+    watch: &mut W,
+) -> Result<RunOutput, Fault>
+    ensures ok { IfOk result (λ ran. IsRunTo file.now (option_map opened_of ran.stalled) ran.given.text.items ran.given.status) }
+    ensures failed { IfErr result (Fails (plant_in file.now)) }
+{
+    let plant = open_plant(alloc, file)?;
+    plant.recall();
+    let (plant, settled) = run_plant(rt, alloc, threading, plant, gate, watch)?;
+    plant.recall();
+    Ok(run_output(alloc, plant, settled)?)
+}
+
+// Lets the plant of a file run on one thread until it comes to rest, where its sources give no more, and tells what it holds then.
+fn run_file_alone<W: Watch>(alloc: Global, file: &[u8], watch: &mut W) -> Result<RunOutput, Fault>
+    ensures ok { IfOk result (λ ran. IsRunAloneTo file.now (option_map opened_of ran.stalled) ran.given.text.items ran.given.status) }
+    ensures refused { IfErr result (Refuses (plant_in file.now)) }
+{
+    let plant = open_plant(alloc, file)?;
+    let (plant, settled) = settle_plant(alloc, plant, watch)?;
+    Ok(run_output(alloc, plant, settled)?)
+}
+
+/// Closes the sources of a plant, and steps its blocks until none can act. It gives the plant back as it is then.
+pub fn settle_plant<W: Watch>(
+    alloc: Global,
+    plant: Plant<Kind>,
+    watch: &mut W,
+) -> Result<(Plant<Kind>, Settled), AllocError>
+    requires { is_idle plant.state ≡ true }
+    ensures rests { IfOk result (λ r. StepsToRest (opened_of plant) (opened_of r.0)) }
+    ensures settled { IfOk result (λ r. HasSettled (net_of meaning_of r.0.graph) r.0.capacities r.0.state r.1) }
+{
+    let mut plant = plant;
+    close_all(&mut plant);
+    let settled = plant.settle_watched(alloc, TURN, watch)?;
+    Ok((plant, settled))
+}
