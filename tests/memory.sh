@@ -15,10 +15,10 @@ refused=400
 # left out, since another task makes them too: `check` reads and tests a file as all do that take one, and `calls` opens a plant as `live` does before its run.
 # The bounds are near, since each case takes its time; the cases at the bounds, which are always tried, test them.
 file=130
-declare -A most=([calls]=165 [live]=165 [live_adaptive]=165 [launch]=345 [whole_run]=345 [start]=346 [launch_nothing]=14 [adaptive]=345 [pool]=345 [check]=172 [feeds]=202 [draw]=165 [run]=236 [per_block]=254 [alone]=226
-    [chain]=195 [script]=244 [lines]=230 [tags]=255 [settings]=215 [fork]=245 [raw]=208 [piped]=260 [helped]=320 [stall]=208 [words]=26 [call]=330 [file]=24 [steady]=171)
-declare -A left_out=([calls]=0 [live]=96 [live_adaptive]=96 [launch]=240 [whole_run]=240 [start]=240 [launch_nothing]=0 [adaptive]=240 [pool]=240 [check]=0 [feeds]=$file [draw]=$file [run]=$file [per_block]=$file [alone]=$file
-    [chain]=0 [script]=$file [lines]=$file [tags]=$file [settings]=$file [fork]=$file [raw]=$file [piped]=$file [helped]=$file [stall]=$file [words]=0 [call]=0 [file]=0 [steady]=163)
+declare -A most=([calls]=171 [live]=171 [live_adaptive]=171 [launch]=365 [whole_run]=365 [start]=366 [launch_nothing]=14 [adaptive]=365 [pool]=365 [check]=172 [feeds]=210 [draw]=168 [run]=236 [per_block]=254 [alone]=232
+    [chain]=195 [script]=244 [lines]=235 [tags]=260 [settings]=215 [fork]=245 [raw]=208 [piped]=260 [helped]=320 [stall]=220 [words]=26 [call]=330 [file]=24 [steady]=183)
+declare -A left_out=([calls]=0 [live]=102 [live_adaptive]=102 [launch]=264 [whole_run]=264 [start]=264 [launch_nothing]=0 [adaptive]=264 [pool]=264 [check]=0 [feeds]=$file [draw]=$file [run]=$file [per_block]=$file [alone]=$file
+    [chain]=0 [script]=$file [lines]=$file [tags]=$file [settings]=$file [fork]=$file [raw]=$file [piped]=$file [helped]=$file [stall]=$file [words]=0 [call]=0 [file]=0 [steady]=175)
 
 # list_memory: each case has the number of the allocation of its task that is refused
 list_memory() {
