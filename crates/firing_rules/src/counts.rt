@@ -1,4 +1,5 @@
-//! What a claim looks at: how many items have come to the inputs of a block, and how far the readers of its outputs are.
+//! What a claim looks at: how many items have come to the inputs of a block, and how far the readers of its outputs
+//! are.
 
 ghost use Rattle.std.specs.Prelude.{◌≡◌, ◌^◌, ◌<◌, length, slice_index_or};
 ghost use Rattle.stream_model.specs.Machine.{reader_counts};

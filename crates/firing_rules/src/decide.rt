@@ -32,7 +32,7 @@ impl<B: Block, T: Tapes> Situation<'_, B, T> {
         self.fire_or_wait(own.firings, max)
     }
 
-    // Whether the block has outputs and nobody reads any of them any more.
+    // Whether the block has outputs, and nobody reads any of them any more.
     fn is_unread(&self) -> bool
         ensures { result ≡ claims.is_unread (counts_seen B.meaning self.now) }
     {
@@ -59,7 +59,8 @@ impl<B: Block, T: Tapes> Situation<'_, B, T> {
         true
     }
 
-    // What a claim decides of a block that is free and is read: how many firings fit, else whether any ever will, else what the next lacks.
+    // What a claim decides for a block that has no claim in flight and still has readers: how many firings fit, else
+    // whether any ever will, else what the next firing lacks.
     fn fire_or_wait(&self, first: u64, max: u32) -> Decision
         requires first { first ≡ (counts_seen B.meaning self.now).firings }
         requires few { first < 2 ^ 62 }
@@ -84,7 +85,7 @@ impl<B: Block, T: Tapes> Situation<'_, B, T> {
         if let Some(port) = room.lacking {
             return Decision::Waiting(Need::Room(port));
         }
-        // One fits at least: only a claim of none comes to nothing.
+        // At least one fits, so only a claim of zero firings comes to nothing.
         if max == 0 {
             return Decision::Done;
         }
@@ -94,7 +95,8 @@ impl<B: Block, T: Tapes> Situation<'_, B, T> {
         }
     }
 
-    // Up to which firing a claim of at most `most` from the first on may come, by the limit alone. It asks for one at least.
+    // The firing up to which a claim may go by the block's limit alone: at most `most` firings from the first on, and
+    // at least one.
     fn asked(&self, first: u64, most: u32) -> u64
         requires { first < 2 ^ 62 }
         ensures { result ≡ limit_allows (node_seen B.meaning self.now).meaning.limit (first + max most 1) }

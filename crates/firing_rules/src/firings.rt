@@ -20,7 +20,8 @@ use flowgraph::{BlockId, Valid};
 use std::alloc::{AllocError, Global};
 use std::marker::Model;
 
-/// How far each block of a graph is: its firings that are committed and claimed, and whether it is done. A contract sees the list of these.
+/// How far each block of a graph is: its committed and claimed firings, and whether it is done. Contracts see the list
+/// of these.
 #[derive(Debug, Drop)]
 pub struct Firings {
     progress: Vec<Progress>,
@@ -44,7 +45,7 @@ impl Model for Firings {
 }
 
 impl Firings {
-    /// Nothing fired yet, of so many blocks.
+    /// The state of so many blocks, none of which has fired.
     pub fn new(alloc: Global, blocks: usize) -> Result<Firings, AllocError>
         ensures { IfOk result (λ firings. firings ≡ replicate blocks no_progress) }
     {
@@ -83,8 +84,9 @@ impl Firings {
         self.done == self.progress.len()
     }
 
-    /// Decides a claim of at most `max` firings of a block, and makes it: the claim is in flight, or the block is done, from now on. The
-    /// cases come in the order of `Decision`; counts are all that is looked at, those of the block's own ports and readers.
+    /// Decides a claim of at most `max` firings of a block, and makes it: from now on the claim is in flight, or the
+    /// block is done. The cases come in the order of `Decision`. It looks only at counts, those of the block's own
+    /// ports and readers.
     pub fn claim<B: Block, T: Tapes>(
         &mut self,
         graph: &Valid<B>,
@@ -110,7 +112,7 @@ impl Firings {
         decision
     }
 
-    /// Commits the claim in flight of a block, and returns how many firings it was of.
+    /// Commits a block's claim in flight, and returns the number of its firings.
     pub fn commit(&mut self, block: BlockId) -> u32
         requires block { block.0 < length self.old }
         requires claimed { 0 < (progress_at self.old block.0).claimed }
@@ -131,7 +133,7 @@ impl Firings {
         own.claimed
     }
 
-    /// Gives up the claim in flight of a block.
+    /// Gives up a block's claim in flight.
     pub fn abandon(&mut self, block: BlockId)
         requires block { block.0 < length self.old }
         requires claimed { 0 < (progress_at self.old block.0).claimed }
@@ -164,7 +166,7 @@ impl Firings {
         true
     }
 
-    /// What a claim of a block would come to, or what it waits for. Nothing changes.
+    /// What a claim of a block would come to, or what the block waits for. It changes nothing.
     pub fn need<B: Block, T: Tapes>(
         &self,
         graph: &Valid<B>,
@@ -180,7 +182,7 @@ impl Firings {
         Situation::of(graph, capacities, tapes, self, block).need()
     }
 
-    // Puts other progress of a block in the place of the old.
+    // Replaces the progress of a block.
     fn put(&mut self, block: BlockId, next: Progress)
         requires block { block.0 < length self.old }
         requires small { next.firings + next.claimed < 2 ^ 62 }

@@ -1,4 +1,4 @@
-//! How many firings of a block fit, and what it lacks where the next does not.
+//! How many firings of a block fit, and what the next one lacks if it does not fit.
 
 ghost use Rattle.std.specs.Prelude.{◌≡◌, ℕ, ◌≤◌, ◌<◌, min, map, nat_le, not, Some, None, ◌&&◌, ◌||◌, if◌then◌else◌};
 ghost use Rattle.std.specs.Option.{option_or};
@@ -17,14 +17,14 @@ use block_trait::Block;
 /// How many firings fit on one side of a block.
 #[derive(Clone, Copy)]
 pub(crate) struct Fit {
-    /// The number of firings, at most those asked for, that each port allows.
+    /// The number of firings that each port allows, at most as many as asked for.
     pub allowed: u64,
     /// The lowest port that lacks what the next firing needs.
     pub lacking: Option<usize>,
 }
 
 impl Fit {
-    // Nothing looked at yet.
+    // No port was looked at yet.
     fn of(bound: u64) -> Fit
         ensures allowed { result.allowed ≡ bound }
         ensures lacking { result.lacking ≡ None }
@@ -36,7 +36,7 @@ impl Fit {
         }
     }
 
-    // With one port more, which allows so many.
+    // The same with one more port, which allows so many.
     fn with(self, port: usize, allowed: u64, next: u64) -> Fit
         requires { Tells next self }
         ensures tells { Tells next result }
@@ -55,12 +55,12 @@ impl Fit {
 #[derive(Clone, Copy)]
 pub(crate) struct Supply {
     pub fit: Fit,
-    /// Whether an input that has ended lacks items of the next.
+    /// Whether an ended input lacks items for the next firing.
     pub over: bool,
 }
 
 impl Supply {
-    // With one input more, which allows so many.
+    // The same with one more input, which allows so many.
     fn with(self, port: usize, input: Input, allowed: u64, next: u64) -> Supply
         requires { Tells next self.fit }
         ensures tells { Tells next result.fit }
@@ -76,7 +76,7 @@ impl Supply {
 }
 
 impl<B: Block, T: Tapes> Situation<'_, B, T> {
-    /// As many of `bound` firings as the items on each input allow, and what firing `next` lacks.
+    /// How many of `bound` firings the items on each input allow, and what firing `next` lacks.
     pub(crate) fn supply(&self, next: u64, bound: u64) -> Supply
         requires { next ≤ bound }
         ensures allowed { result.fit.allowed ≡ allow.items_allow (node_seen B.meaning self.now) 0 (map (λ i. i.written) (counts_seen B.meaning self.now).inputs) bound }
@@ -97,7 +97,7 @@ impl<B: Block, T: Tapes> Situation<'_, B, T> {
         supply
     }
 
-    /// As many as each output has room for, and what firing `next` lacks.
+    /// How many of `bound` firings each output has room for, and what firing `next` lacks.
     pub(crate) fn room(&self, next: u64, bound: u64) -> Fit
         requires { next ≤ bound }
         ensures allowed { result.allowed ≡ allow.room_allows (node_seen B.meaning self.now) (counts_seen B.meaning self.now).outputs bound }
@@ -113,7 +113,7 @@ impl<B: Block, T: Tapes> Situation<'_, B, T> {
         fit
     }
 
-    // As many as leave room before each live reader of an output.
+    // How many of `bound` firings fit before each live reader of an output.
     fn room_at(&self, port: usize, bound: u64) -> u64
         requires { port < used_outputs (net_seen B.meaning self.now) self.now.block }
         ensures value { let output = output_counts (net_seen B.meaning self.now) self.now.capacities (state_seen self.now) self.now.block port in

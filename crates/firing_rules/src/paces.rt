@@ -40,7 +40,7 @@ impl<B: Block, T: Tapes> Situation<'_, B, T> {
     }
 }
 
-// The quotient of items by those of one firing. These are most often one, and then nothing has to be divided.
+// The items divided by those of one firing. Most blocks take one item a firing; then it divides nothing.
 fn quotient(items: u64, each: u64) -> u64
     requires { 0 < each }
     ensures { result ≡ items / each }

@@ -9,13 +9,13 @@ use flowgraph::BlockId;
 pub struct Progress {
     /// The firings that are committed.
     pub firings: u64,
-    /// The firings of the claim in flight, 0 where there is none.
+    /// The firings of the claim in flight; 0 if there is none.
     pub claimed: u32,
     /// Whether the block is done.
     pub done: bool,
 }
 
-/// What counts of a source's tape. Of any other block nothing is looked at.
+/// The length of a source's tape, and whether it is closed. Decisions do not look at those of other blocks.
 #[derive(Clone, Copy, Debug, PartialEq, Eq)]
 pub struct Tape {
     /// How many items it has.
@@ -24,14 +24,14 @@ pub struct Tape {
     pub closed: bool,
 }
 
-/// What knows the tapes of the sources. Firings look at them where they lie.
+/// Knows the tapes of the sources. Firings read them in their place.
 pub trait Tapes {
     ghost use Rattle.firing_rules.specs.declared.progress.Tape.{Tape};
 
-    /// For each block, what counts of its tape.
+    /// For each block, the length of its tape and whether it is closed.
     ghost tapes: { Self → List Tape };
 
-    /// What counts of the tape of a block.
+    /// The length of a block's tape, and whether it is closed.
     fn tape(&self, block: BlockId) -> Tape
         requires { block.0 < length (tapes self.now) }
         ensures { slice_get (tapes self.now) block.0 ≡ Some result };

@@ -1,4 +1,4 @@
-//! What a decision about a block is made over.
+//! All that a decision about a block looks at.
 
 ghost use Rattle.std.specs.Prelude.{◌≡◌, ◌+◌, ◌^◌, ◌<◌, length, map, All, Some, None, IfSome, if◌then◌else◌};
 ghost use Rattle.std.specs.Option.{option_map};
@@ -16,7 +16,8 @@ use block_trait::Block;
 use flowgraph::{BlockId, Connection, Valid};
 use std::marker::Model;
 
-/// A block with all that a decision about it looks at: the graph, capacities, tapes and the progress of each block, which are those of a sound state.
+/// A block with all that a decision about it looks at: the graph, the capacities, the tapes and the progress of each
+/// block. They are those of a sound state.
 #[derive(Drop)]
 pub(crate) struct Situation<'a, B: Block, T: Tapes> {
     pub(crate) graph: &'a Valid<B>,
@@ -63,7 +64,7 @@ impl<'a, B: Block, T: Tapes> Situation<'a, B, T> {
         }
     }
 
-    /// Recalls that the graph can run. It does nothing.
+    /// Recalls, for the proof, that the graph can run. It does nothing.
     pub(crate) fn recall(&self)
         ensures { CanRun (net_seen B.meaning self.now) }
     {
@@ -86,7 +87,7 @@ impl<'a, B: Block, T: Tapes> Situation<'a, B, T> {
         self.firings.progress(block)
     }
 
-    /// The block that writes an input; none where a source's tape does.
+    /// The block that writes an input; none if a source's tape does.
     pub(crate) fn writer(&self, port: usize) -> Option<BlockId>
         requires { port < length (counts_seen B.meaning self.now).inputs }
         ensures value { let net = net_seen B.meaning self.now in
@@ -106,7 +107,7 @@ impl<'a, B: Block, T: Tapes> Situation<'a, B, T> {
         self.graph.outputs(self.block)
     }
 
-    /// The connections from an output, which lead to inputs that there are.
+    /// The connections from an output. They lead to inputs that exist.
     pub(crate) fn readers(&self, port: usize) -> &[Connection]
         requires { port < used_outputs (net_seen B.meaning self.now) self.now.block }
         ensures value { map connection_of result.now ≡ readers_of (net_seen B.meaning self.now) self.now.block port }
@@ -115,7 +116,7 @@ impl<'a, B: Block, T: Tapes> Situation<'a, B, T> {
         self.graph.readers(self.block, port)
     }
 
-    /// The capacity of an output, 0 where it has none.
+    /// The capacity of an output; 0 if it has none.
     pub(crate) fn capacity(&self, port: usize) -> u32
         ensures { result ≡ capacity_at self.now.capacities self.now.block port }
     {

@@ -1,4 +1,4 @@
-//! What a block waits for, and of which block.
+//! What a block waits for, and for which block.
 
 ghost use Rattle.std.specs.Prelude.{◌≡◌, ◌<◌, length, map, None, All};
 ghost use Rattle.std.specs.Option.{option_map};
@@ -15,7 +15,7 @@ use crate::situation::Situation;
 use block_trait::Block;
 use flowgraph::{BlockId, Connection};
 
-/// What a claim of a block comes to, or what it waits for, and of which block.
+/// What a claim of a block comes to, or what the block waits for and which block has to act.
 #[derive(Clone, Copy, Debug, PartialEq, Eq)]
 pub enum BlockNeed {
     /// The block is done.
@@ -24,11 +24,11 @@ pub enum BlockNeed {
     Busy,
     /// A claim would fire it, or find that it is done.
     Ready,
-    /// It is a source that has given all items of its tape, which is open.
+    /// It is a source that has given all items of its open tape.
     Feed,
-    /// Items on this input, the lowest that lacks those of one firing, of the block that writes them.
+    /// Items on this input, the lowest that lacks items for one firing, and the block that writes it.
     Items { port: usize, writer: BlockId },
-    /// Room on this output, the lowest without room for one firing, of the live block that is the slowest to read it.
+    /// Room on this output, the lowest without room for one firing, and its slowest live reader.
     Room { port: usize, reader: BlockId },
 }
 
@@ -49,7 +49,7 @@ impl<B: Block, T: Tapes> Situation<'_, B, T> {
         }
     }
 
-    // What it waits for that lacks items of an input, or a source those of its tape.
+    // What the block waits for if it lacks items of an input, or, as a source, of its tape.
     fn need_of_items(&self, port: usize) -> BlockNeed
         requires { port < length (counts_seen B.meaning self.now).inputs }
         ensures { wait_seen result ≡ items_wait (net_seen B.meaning self.now) self.now.block port }
@@ -60,7 +60,7 @@ impl<B: Block, T: Tapes> Situation<'_, B, T> {
         }
     }
 
-    // The slowest live reader of an output. (An output without room has one.)
+    // The slowest live reader of an output. An output without room has one.
     fn slowest_reader(&self, port: usize) -> BlockId
         requires { port < used_outputs (net_seen B.meaning self.now) self.now.block }
         ensures { result.0 ≡ slowest_reader (net_seen B.meaning self.now) (state_seen self.now) self.now.block port }
@@ -71,7 +71,7 @@ impl<B: Block, T: Tapes> Situation<'_, B, T> {
         }
     }
 
-    // The slowest live reader among some, the first of those that are.
+    // The slowest live reader among some; the first of them if several are.
     fn slowest(&self, readers: &[Connection]) -> Option<Connection>
         requires { All (IsReader (net_seen B.meaning self.now)) readers.now }
         ensures { option_map connection_of result ≡ slowest (net_seen B.meaning self.now) (state_seen self.now) None (map connection_of readers.now) }
@@ -83,7 +83,7 @@ impl<B: Block, T: Tapes> Situation<'_, B, T> {
         best
     }
 
-    // The slower of the slowest reader so far and another.
+    // The slower one of the slowest reader so far and another.
     fn slower(&self, best: Option<Connection>, connection: &Connection) -> Option<Connection>
         requires known { IsReader (net_seen B.meaning self.now) connection.now }
         requires best { IsKnown (net_seen B.meaning self.now) best }

@@ -24,7 +24,8 @@ pub struct Repetitions {
 }
 
 impl Repetitions {
-    /// The firings of each block in an iteration, in the order of the blocks; each is at least 1. A firing is `multiple` base firings.
+    /// The firings of each block in an iteration, in the order of the blocks; each is at least 1. A firing is
+    /// `multiple` base firings.
     pub fn firings(&self) -> &[u32]
         ensures { result.now ≡ self.now.firings.items }
     {
@@ -43,7 +44,7 @@ pub enum Rates {
     TooLarge,
 }
 
-/// The answer where each block's firings are known, and few: a balance, if no buffer for it is too large.
+/// The answer if each block's firings are known and within the limit: a balance, unless a buffer for it is too large.
 fn sized(
     alloc: Global,
     supplies: &[Supply],
@@ -60,7 +61,7 @@ fn sized(
     }
 }
 
-/// The answer where each block has a ratio.
+/// The answer if each block has a ratio.
 fn solved(
     alloc: Global,
     supplies: &[Supply],
@@ -103,7 +104,8 @@ fn rates_of<B: Block>(alloc: Global, graph: &Valid<B>) -> Result<Rates, AllocErr
     answer(alloc, &supplies, &links)
 }
 
-/// The rates of a graph: the least balance, that there is none, or that it would pass the limits. It fails only where the allocator refuses.
+/// The rates of a graph: the least balance, or that there is none, or that it would pass the limits. It fails only if
+/// the allocator refuses.
 pub fn balance<B: Block>(alloc: Global, graph: &Valid<B>) -> Result<Rates, AllocError>
     ensures { IfOk result (AreRates (net_of B.meaning graph.now)) }
 {

@@ -49,13 +49,14 @@ fn allowed(shift: Shift, takes: u64, items: u64) -> u64
 /// What a connection says in a step.
 #[derive(Clone, Copy, Drop)]
 pub struct Lead {
-    /// How many items the writer is ahead of the reader, which stands where it stood before the step.
+    /// How many items the writer, after the step, is ahead of the reader as it was before the step.
     pub ahead: u64,
     /// How many firings the writer's items allow the reader.
     pub allowed: u64,
 }
 
-/// Looks at a connection whose reader has fired `before` times, and its writer, with the step, `after` times.
+/// Looks at a connection whose reader has fired `before` times before the step, and whose writer has fired `after`
+/// times with the step.
 fn follow(writer: Shift, reader: Shift, link: Link, before: u64, after: u64) -> Lead
     requires { AreHeld writer reader link before after }
     ensures { IsLead writer reader link before after result }
@@ -82,7 +83,8 @@ pub fn start(supplies: &[Supply], firings: &[u32], step: u64, after: &mut [u64])
     }
 }
 
-/// Follows the connections in order: each reader fires as often as all its writers allow. It ends where a writer is too far ahead.
+/// Follows the connections in order. Each reader fires as often as all its writers allow. It ends early if a writer is
+/// too far ahead.
 pub fn pass(
     supplies: &[Supply],
     links: &[Link],

@@ -11,7 +11,7 @@ use crate::fraction::{Fraction, gcd};
 use crate::tables::{Link, Supply};
 use std::alloc::{AllocError, Global};
 
-/// With a greater whole number a block of the part fires more often than the limit, since no denominator is above the limit.
+/// With a greater whole number a block of the part fires more often than the limit: no denominator is above the limit.
 const MOST_WHOLE: u64 = 8_589_934_592;
 
 /// Whether ends with these ratios put as many items on a connection as they take.
@@ -45,7 +45,8 @@ fn lcm(a: u64, b: u64) -> u64
     a / gcd(a, b) * b
 }
 
-/// The least common multiple of each part's denominators, or that one is so great that a block would fire too often.
+/// Finds the least common multiple of each part's denominators. It returns false if one is so great that a block would
+/// fire too often.
 fn find_wholes(ratios: &[Fraction], wholes: &mut [u64]) -> bool
     ghost net: { Network }
     requires { CanBeWhole net ratios.now wholes.old }
@@ -71,7 +72,7 @@ fn count(whole: u64, ratio: Fraction) -> u64
     whole / ratio.under * ratio.over
 }
 
-/// The firings of each block, or that they or the items that they give are more than the limit.
+/// Finds the firings of each block. It returns false if these, or the items that they give, are more than the limit.
 fn find_firings(
     supplies: &[Supply],
     ratios: &[Fraction],
@@ -93,7 +94,8 @@ fn find_firings(
     true
 }
 
-/// The firings of each block, with the whole numbers of the parts beside them.
+/// Fills in the firings of each block, and the whole numbers of the parts. It returns false if these or the items are
+/// too many.
 fn fill(supplies: &[Supply], ratios: &[Fraction], wholes: &mut [u64], firings: &mut [u32]) -> bool
     ghost net: { Network }
     requires { CanFill net supplies.now ratios.now wholes.old firings.old }
@@ -103,7 +105,7 @@ fn fill(supplies: &[Supply], ratios: &[Fraction], wholes: &mut [u64], firings: &
     find_wholes(ratios, wholes) && find_firings(supplies, ratios, wholes, firings)
 }
 
-/// The firings of each block in an iteration, or nothing where they or the items that they give are too many.
+/// The firings of each block in an iteration; `None` if these, or the items that they give, are too many.
 pub fn firings(
     alloc: Global,
     supplies: &[Supply],

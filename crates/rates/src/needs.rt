@@ -1,4 +1,4 @@
-//! The capacities that connections need, found by running the counts of firings until no first item is left out any more.
+//! The capacities that connections need, found by running the counts of firings until all skips are past.
 
 ghost use Rattle.std.specs.Prelude.{◌≡◌, length, false, slice_index, IfOk, IsTrue};
 ghost use Rattle.std.specs.List.{list_all};
@@ -14,7 +14,7 @@ use crate::tables::{Link, Supply};
 use std::alloc::{AllocError, Global};
 use stream_model::Shift;
 
-/// Whether a block that leaves out its first items has left them out.
+/// Whether a block that skips its first items has skipped them.
 fn is_past(shift: Shift, firings: u64) -> bool
     ensures { result ≡ is_past_skip shift firings }
 {
@@ -25,7 +25,7 @@ fn is_past(shift: Shift, firings: u64) -> bool
     }
 }
 
-/// Whether each such block has.
+/// Whether each block that skips its first items has skipped them.
 fn are_past(supplies: &[Supply], counts: &[u64]) -> bool
     ghost net: { Network }
     requires { AreCounted net supplies.now counts.now }
@@ -39,7 +39,7 @@ fn are_past(supplies: &[Supply], counts: &[u64]) -> bool
     true
 }
 
-/// Steps until all first items that are left out are past, and one more. It ends early where a writer is too far ahead of a reader.
+/// Steps until all skips are past, and once more. It ends early if a writer is too far ahead of a reader.
 pub fn run(
     supplies: &[Supply],
     links: &[Link],
@@ -68,7 +68,8 @@ pub fn run(
     false
 }
 
-/// What each connection needs, or nothing where it or the iterations until the skips are past are too many.
+/// What each connection needs; `None` if that, or the number of iterations until the skips are past, is above the
+/// limit.
 pub fn needs(
     alloc: Global,
     supplies: &[Supply],

@@ -1,4 +1,4 @@
-//! An order of a graph's connections in which those to a block come before those from it.
+//! An order of a graph's connections: those to a block come before those from it.
 
 ghost use Rattle.std.specs.Prelude.{IfOk};
 ghost use Rattle.stream_model.specs.Network.{Network};
@@ -8,7 +8,7 @@ ghost use Rattle.rates.specs.Counts.{AreReady, CanMark, CanPlace, HasPlaced, Can
 use crate::tables::Link;
 use std::alloc::{AllocError, Global};
 
-/// Marks the blocks to which no connection is left that is not placed.
+/// Marks the blocks whose incoming connections are all placed.
 fn mark(links: &[Link], placed: &[bool], ready: &mut [bool])
     ghost net: { Network }
     requires { CanMark net links.now placed.now ready.old }
@@ -42,7 +42,7 @@ fn place(
     Ok(())
 }
 
-/// Places all connections: after each round those from blocks of one level more are placed.
+/// Places all connections. Each round places those from the blocks of one more level.
 fn rounds(
     links: &[Link],
     placed: &mut [bool],

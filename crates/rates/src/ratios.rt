@@ -10,7 +10,8 @@ use crate::fraction::{Fraction, times};
 use crate::tables::Link;
 use std::alloc::{AllocError, Global};
 
-/// The first connection with exactly one known end, in the order of connecting, gives the block at the other end its ratio.
+/// The ratio that the first connection with exactly one known end, in the order of connecting, gives the block at its
+/// other end.
 fn told(links: &[Link], known: &[Option<Fraction>]) -> Option<(usize, Fraction)>
     ghost net: { Network }
     requires { CanTell net links.now known.now }
@@ -35,7 +36,7 @@ fn first_unknown(known: &[Option<Fraction>]) -> Option<usize>
     known.iter().position(|f| f.is_none())
 }
 
-/// The next ratio and its block: the one that a connection gives, and where there is none 1 for the lowest block without a ratio.
+/// The next ratio and its block: the ratio that a connection gives, or else 1 for the lowest block without a ratio.
 fn next_ratio(links: &[Link], known: &[Option<Fraction>]) -> Option<(usize, Fraction)>
     ghost net: { Network }
     requires { CanTell net links.now known.now }
@@ -58,7 +59,7 @@ fn next_ratio(links: &[Link], known: &[Option<Fraction>]) -> Option<(usize, Frac
     }
 }
 
-/// Finds the ratios, a block each turn, or reports that one is too large.
+/// Finds the ratios, one block in each turn. It returns false if one is too large.
 fn find_ratios(links: &[Link], known: &mut [Option<Fraction>]) -> bool
     ghost net: { Network }
     requires { CanStart net links.now known.old }
@@ -87,7 +88,7 @@ fn all_known(alloc: Global, known: &[Option<Fraction>]) -> Result<Vec<Fraction>,
     known.iter().filter_map(|f| *f).collect(alloc)
 }
 
-/// A ratio for each block, found in the slots for them; nothing where one has a numerator or denominator above the limit.
+/// A ratio for each block, found in `known`; `None` if one has a numerator or denominator above the limit.
 fn ratios_in(
     alloc: Global,
     links: &[Link],
@@ -104,7 +105,7 @@ fn ratios_in(
     }
 }
 
-/// A ratio for each block; nothing where one has a numerator or denominator above the limit.
+/// A ratio for each block; `None` if one has a numerator or denominator above the limit.
 pub fn ratios(
     alloc: Global,
     links: &[Link],

@@ -20,7 +20,7 @@ pub struct BufferCapacities {
     rows: Vec<Vec<u32>>,
 }
 
-// By hand, so that no crate above proves the drop of each part again.
+// Written by hand: crates above need not prove the drop of each part again.
 impl Drop for BufferCapacities {
     fn drop(self) {
         let BufferCapacities { rows } = self;
@@ -31,7 +31,7 @@ impl Drop for BufferCapacities {
 impl BufferCapacities {
     ghost use Rattle.rates.specs.Answer.{sizes_of};
 
-    /// For each block those of its used outputs.
+    /// The capacities of the used outputs of each block.
     pub fn rows(&self) -> &[Vec<u32>]
         ensures { map (λ row. row.items) result.now ≡ sizes_of self.now }
     {
@@ -39,7 +39,7 @@ impl BufferCapacities {
     }
 }
 
-/// What a connection needs, nothing without a balance.
+/// What a connection needs; 0 without a balance.
 fn needed(rates: &Rates, number: usize) -> u64
     ensures { result ≡ needed_at rates.now number }
 {
@@ -49,7 +49,8 @@ fn needed(rates: &Rates, number: usize) -> u64
     }
 }
 
-/// What is asked of the buffer of each output, 16 numbers for each block: the most that a firing of a reader takes or its connection needs.
+/// What each output's buffer must hold, 16 numbers for each block: the most that a firing of a reader takes or that its
+/// connection needs.
 fn asked<B: Block>(
     alloc: Global,
     graph: &Valid<B>,
@@ -70,8 +71,8 @@ fn asked<B: Block>(
     Ok(asked)
 }
 
-/// The capacities of the used outputs of a block: of each the greatest of the configured one, of what a firing of the block gives, and of
-/// what is asked of it.
+/// The capacities of the used outputs of a block. Each is the greatest of the configured capacity, of what a firing of
+/// the block gives, and of what is asked of the output.
 fn row<B: Block>(
     alloc: Global,
     graph: &Valid<B>,
@@ -93,7 +94,7 @@ fn row<B: Block>(
     Ok(row)
 }
 
-/// The capacities of the buffers of a graph with these rates, which are its own. It fails only where the allocator refuses.
+/// The capacities of the buffers of a graph. The rates must be the graph's own. It fails only if the allocator refuses.
 pub fn capacities<B: Block>(
     alloc: Global,
     graph: &Valid<B>,

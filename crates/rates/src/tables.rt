@@ -1,4 +1,4 @@
-//! What is kept of a graph to find its rates.
+//! The tables of a graph from which its rates are found.
 
 ghost use Rattle.std.specs.Prelude.{◌≡◌, ◌<◌, length, IfOk};
 ghost use Rattle.stream_model.specs.Network.{node_at, is_source as source_role};
@@ -61,7 +61,7 @@ fn takes<B: Block>(graph: &Valid<B>, block: BlockId, port: usize) -> u64
     }
 }
 
-/// Whether it is the role of a source.
+/// Whether the role is that of a source.
 fn is_source(role: Role) -> bool
     ensures { result ≡ source_role role }
 {

@@ -11,7 +11,7 @@ use block_trait::{Block, Pace};
 use flowgraph::{BlockId, Connection, Valid};
 use std::alloc::{AllocError, Global};
 
-/// How many firings of its reader a connection allows, where its writer has fired so often.
+/// How many firings of its reader a connection allows if its writer has fired so often.
 fn allowed<B: Block>(graph: &Valid<B>, connection: Connection, firings: u64) -> u64
     requires { IsCarried (net_of B.meaning graph.now) (connection_of connection) firings }
     ensures value { result ≡ model.allowed (node_at (net_of B.meaning graph.now) connection.to.0) connection.in_port (given_by (node_at (net_of B.meaning graph.now) connection.from.0) firings) }
@@ -50,7 +50,7 @@ fn next<B: Block>(
     fewest
 }
 
-/// Raises the count of each block to what is known of its writers. It answers whether it raised one.
+/// Raises the count of each block to what is known of its writers, and returns whether it raised one.
 fn turn<B: Block>(graph: &Valid<B>, firings: &[u32], iterations: u64, counts: &mut [u64]) -> bool
     requires { AreBelow (net_of B.meaning graph.now) firings.now iterations counts.old }
     ensures { HasCounted (net_of B.meaning graph.now) firings.now iterations counts.old counts.new result }
@@ -65,7 +65,7 @@ fn turn<B: Block>(graph: &Valid<B>, firings: &[u32], iterations: u64, counts: &m
     risen
 }
 
-/// Does so block by block in this order.
+/// Raises the counts block by block, in this order.
 fn pass<B: Block>(
     graph: &Valid<B>,
     order: &[BlockId],
@@ -83,8 +83,8 @@ fn pass<B: Block>(
     }
 }
 
-/// Raises counts until they are those after so many iterations: in a pass in the order of the stream, and then in turns over all blocks until a turn raises
-/// none. The first turn finds none, if the order is right.
+/// Raises counts until they are those after so many iterations. It makes a pass in the order of the stream, and then
+/// turns over all blocks until a turn raises none. If the order is right, the first turn raises none.
 fn rise<B: Block>(
     graph: &Valid<B>,
     order: &[BlockId],
@@ -100,7 +100,7 @@ fn rise<B: Block>(
     'turns: while turn(graph, firings, iterations, counts) {}
 }
 
-/// How often each block has fired after so many iterations, where every block fires as often as it can.
+/// How often each block has fired after so many iterations, if every block fires as often as it can.
 pub fn counts<B: Block>(
     alloc: Global,
     graph: &Valid<B>,

@@ -1,4 +1,5 @@
-//! The firings from which on blocks give what they would have given, whatever came before their inputs, and from which on their tags are right.
+//! The firings from which on blocks give what they would have given, whatever came before their inputs, and those from
+//! which on their tags are right too.
 ghost use Rattle.std.specs.Prelude.{◌≡◌, ◌<◌, ◌≤◌, ◌+◌, ◌*◌, ℕ, true, false, All, length, slice_index, IfOk, MatchOption};
 ghost use Rattle.stream_model.specs.Network.{node_at};
 ghost use Rattle.stream_model.specs.Firings.{taken_at};
@@ -28,7 +29,7 @@ fn taken<B: Block>(graph: &Valid<B>, block: BlockId, port: usize) -> u64
     }
 }
 
-/// From which item on what a block gives is right, if it is from these firings on.
+/// The item from which on a block's output is right, if its output is right from these firings on.
 pub fn settled_at<B: Block>(graph: &Valid<B>, block: BlockId, first: &[u64]) -> u64
     requires there { block.0 < length graph.now.blocks }
     requires can { CanRise (net_of B.meaning graph.now) first.now }
@@ -42,7 +43,7 @@ pub fn settled_at<B: Block>(graph: &Valid<B>, block: BlockId, first: &[u64]) -> 
     }
 }
 
-/// The first firing that leaves so many items behind, and some more, where each takes some.
+/// The first firing that starts at least so many items, and `back` more, into its input, if each firing takes `taken`.
 fn first_behind(right: u64, back: u64, taken: u64) -> u64
     requires some { 1 ≤ taken }
     requires few { taken ≤ 1024 }
@@ -81,7 +82,7 @@ fn needed<B: Block>(
     }
 }
 
-/// Raises the first firing of each block to which a connection leads, where that needs a later one. It answers whether it raised one.
+/// Raises the first firing of each reader whose connection needs a later one, and returns whether it raised one.
 fn turn<B: Block>(graph: &Valid<B>, reaches: &[Reach], first: &mut [u64]) -> bool
     requires reaches { length reaches.now ≡ length graph.now.blocks }
     requires can { CanRise (net_of B.meaning graph.now) first.old }
@@ -98,7 +99,7 @@ fn turn<B: Block>(graph: &Valid<B>, reaches: &[Reach], first: &mut [u64]) -> boo
     risen
 }
 
-/// The firings before which no block is right.
+/// For each block, how many firings come before those that may be right by the block alone.
 fn starts<B: Block>(
     alloc: Global,
     graph: &Valid<B>,
@@ -128,7 +129,7 @@ fn look_at_inputs<B: Block>(graph: &Valid<B>, reaches: &[Reach], block: BlockId,
     }
 }
 
-/// Does so block by block.
+/// Raises the first firings block by block, in this order.
 fn pass<B: Block>(graph: &Valid<B>, reaches: &[Reach], order: &[BlockId], first: &mut [u64])
     requires reaches { length reaches.now ≡ length graph.now.blocks }
     requires order { AreWithin (length graph.now.blocks) order.now }
@@ -140,8 +141,8 @@ fn pass<B: Block>(graph: &Valid<B>, reaches: &[Reach], order: &[BlockId], first:
     }
 }
 
-/// Raises firings until they are far enough along each connection: in a pass in the order of the stream, and then in turns over all connections until a
-/// turn raises none. The first turn finds none, if the order is right.
+/// Raises firings until they are far enough along each connection. It makes a pass in the order of the stream, and then
+/// turns over all connections until a turn raises none. If the order is right, the first turn raises none.
 fn rise<B: Block>(graph: &Valid<B>, reaches: &[Reach], order: &[BlockId], first: &mut [u64])
     requires reaches { length reaches.now ≡ length graph.now.blocks }
     requires order { AreWithin (length graph.now.blocks) order.now }
@@ -165,7 +166,7 @@ fn are_early(first: &[u64]) -> bool
     true
 }
 
-/// Raises firings until they are the least that are far enough, and answers whether none is too late.
+/// Raises firings until they are the least that are far enough, and returns whether none is too late.
 fn settle<B: Block>(
     graph: &Valid<B>,
     reaches: &[Reach],
@@ -183,7 +184,8 @@ fn settle<B: Block>(
     are_early(first)
 }
 
-/// The least firings that are far enough where blocks look at these items, one for each block; nothing where one is later than `MOST_FIRINGS`.
+/// For each block the least firing that is far enough, if blocks look at these items; `None` if one is later than
+/// `MOST_FIRINGS`.
 pub fn first_firings<B: Block>(
     alloc: Global,
     graph: &Valid<B>,

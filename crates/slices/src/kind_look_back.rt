@@ -7,10 +7,10 @@ use crate::look_back::{Forgets, LookBack};
 use block_trait::{Block, Shift};
 use kinds::Kind;
 
-/// No register has more bits. How many a descrambler's has its block does not tell.
+/// The most bits of a register. A descrambler's block does not tell how many its register has.
 const MOST_BITS: u64 = 32;
 
-/// How far back a block looks whose shift and history show it.
+/// How far back a block looks, if its shift and its history show it.
 fn shown(block: &Kind) -> LookBack
     ensures { result ≡ shown_by (meaning_of block.now).shift (meaning_of block.now).history }
 {

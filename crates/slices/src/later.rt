@@ -1,4 +1,4 @@
-//! The graph by which a slice is run: its blocks go on where those of the whole graph stand.
+//! The graph that runs a slice: its blocks go on where those of the whole graph stand.
 ghost use Rattle.std.specs.Prelude.{◌≡◌, ◌<◌, ◌++◌, ℕ, List, ⊤, [], true, length, IfNone, IfOk, MatchOption};
 ghost use Rattle.stream_model.specs.Network.{node_at};
 ghost use Rattle.flowgraph.specs.Flowgraph.{net_of};
@@ -11,7 +11,8 @@ use crate::reach::look_at;
 use flowgraph::{BlockId, Graph, GraphFault, Valid};
 use std::alloc::Global;
 
-/// The first block whose items rest on how many firings came before. If there is none, the graph of blocks that forget is its own later graph.
+/// The first block whose items depend on how many firings came before. If there is none, a graph of blocks that forget
+/// is its own later graph.
 pub fn first_to_count<B: Forgets>(graph: &Valid<B>) -> Option<BlockId>
     ensures first { MatchOption result (NoneCounts (counting_of B.counting graph.now)) (λ block. IsFirstToCount (counting_of B.counting graph.now) block.0) }
     ensures own { IfNone result (AllForget (looks_of B.looks_back graph.now) → (q : List ℕ) (k : ℕ)
@@ -27,7 +28,7 @@ pub fn first_to_count<B: Forgets>(graph: &Valid<B>) -> Option<BlockId>
     None
 }
 
-/// How many base firings of a block are in so many iterations; none where it is no number.
+/// How many base firings of a block are in so many iterations; none if they overflow.
 fn firings_in<B: Forgets>(
     graph: &Valid<B>,
     block: BlockId,
@@ -55,7 +56,8 @@ fn is_like<B: Forgets>(graph: &Valid<B>, block: BlockId, like: &B) -> bool
     }
 }
 
-/// What goes on where a block stands after so many firings, made of one like it; none where that is another block, or one that does not forget.
+/// The block that goes on where a block stands after so many firings, made of one like it; none if `like` is not like
+/// it, or does not forget.
 fn gone_on<B: Forgets>(graph: &Valid<B>, block: BlockId, like: B, firings: u64) -> Option<B>
     requires { block.0 < length graph.now.blocks }
     ensures { MatchOption result ⊤ (λ later. GoesOnAs (node_at (net_of B.meaning graph.now) block.0).meaning (look_at (looks_of B.looks_back graph.now) block.0) firings (B.meaning later)) }
@@ -68,7 +70,8 @@ fn gone_on<B: Forgets>(graph: &Valid<B>, block: BlockId, like: B, firings: u64) 
     None
 }
 
-/// A graph without connections of what goes on where the blocks stand; none where `blocks` are not like them, or one does not forget.
+/// A graph without connections, of the blocks that go on where those of a graph stand; none if `blocks` are not like
+/// these, or one does not forget.
 fn all_gone_on<B: Forgets>(
     alloc: Global,
     graph: &Valid<B>,
@@ -114,9 +117,10 @@ fn connected<B: Forgets>(graph: &Valid<B>, made: Graph<B>) -> Result<Graph<B>, G
     Ok(joined)
 }
 
-/// The graph in which each block goes on where that of another graph stands after so many iterations, in which blocks fire so often. It is made of blocks like those
-/// of the graph, as they are read of one file; none where they are not like them, where one does not forget, or where a count is no number.
-/// Else it fails only where memory runs out: what goes on has the ports and rates of what stood there.
+/// The graph whose blocks go on where those of another graph stand after so many iterations, if blocks fire so often in
+/// each. It is made of blocks like those of the graph, such as those read from the same file. There is none if the
+/// blocks are not like them, if one does not forget, or if a count overflows. Otherwise it fails only if memory runs
+/// out: each block has the ports and rates of the one that it continues.
 pub fn later_graph<B: Forgets>(
     alloc: Global,
     graph: &Valid<B>,

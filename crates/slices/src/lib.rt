@@ -1,4 +1,5 @@
-//! How a run is cut into slices of time: how far each block looks back, how much slices overlap, and what each of them drops.
+//! How a run is cut into slices of time: how far back each block looks, how much slices overlap, and what each slice
+//! drops.
 #![tactic(auto)]
 
 mod counts;

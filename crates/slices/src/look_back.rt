@@ -13,7 +13,7 @@ pub enum LookBack {
     Items(u64),
     /// The stream comes so many items late.
     Delay(u64),
-    /// The first items are left out, this many.
+    /// So many first items are left out.
     Skip(u64),
     /// What a firing gives depends on all items that ever came.
     Everything,
@@ -50,7 +50,8 @@ impl LookBack {
         }
     }
 
-    /// How many items before those at its own place have tags that go to what a firing gives, where so many do by the rate of the block.
+    /// How many items before those at its own place have tags that go to what a firing gives. By the block's rate these
+    /// are `nearest`.
     pub(crate) fn tags_back(self, nearest: u64) -> u64
         ensures { result ≡ tags_back_of self nearest }
     {
@@ -61,7 +62,8 @@ impl LookBack {
         }
     }
 
-    /// How many firings come before those whose tags may be right. Tags on items that are left out go to the first that is given, so it is not right.
+    /// How many firings come before those whose tags may be right. Tags on skipped items go to the first item that is
+    /// given, so that one is not right.
     pub(crate) fn tags_start(self) -> u64
         ensures { result ≡ tags_start_of self }
     {
@@ -72,37 +74,39 @@ impl LookBack {
     }
 }
 
-/// A block that says how far back it looks, and goes on where it stands.
+/// A block that tells how far back it looks, and that can go on from where it stands.
 pub trait Forgets: Block {
     ghost use Rattle.slices.specs.declared.look_back.LookBack.{LookBack};
 
     /// How far back the block looks.
     ghost looks_back: { Self → LookBack };
 
-    /// What it goes on as behind so many firings.
+    /// What it goes on as after so many firings.
     ghost later: { Self → ℕ → Meaning };
 
     /// How far back the block looks.
     fn look_back(&self) -> LookBack
         ensures { result ≡ looks_back self.now };
 
-    /// The block that goes on where this one stands after so many firings. One that forgets goes on as it is.
+    /// The block that goes on where this one stands after so many firings. One that does not count them goes on
+    /// unchanged.
     fn after(self, firings: u64) -> Self
         ensures { Self.meaning result ≡ later self firings };
 
-    /// Whether what it gives rests on how many firings came before.
+    /// Whether its output depends on how many firings came before.
     ghost counting: { Self → Bool };
 
-    /// Whether what it gives rests on how many firings came before.
+    /// Whether its output depends on how many firings came before.
     fn counts(&self) -> bool
         ensures { result ≡ counting self.now };
 
-    /// If not, it goes on as it is.
+    /// If not, it goes on unchanged.
     ghost stays: { (b : Self) → counting b ≡ false → (c : ℕ) → later b c ≡ Self.meaning b };
 
-    /// It looks no further back: what goes on behind some firings gives what it would have given, as soon as its inputs are right from there on.
+    /// It looks no further back: the block that goes on after some firings gives what this one would have given, as
+    /// soon as its inputs are right from there on.
     ghost forgets: { (b : Self) → HasLookBack (Self.meaning b) (later b) (looks_back b) };
 
-    /// Nor do its tags: they are right as soon as those of its inputs are right from there on.
+    /// Its tags reach no further back either: they are right as soon as those of its inputs are right from there on.
     ghost places: { (b : Self) → HasPlaces (Self.meaning b) (looks_back b) };
 }

@@ -28,7 +28,7 @@ fn begin<B: Block>(
     Ok(())
 }
 
-/// Counts off an input of each reader of an output, and places those that were the last.
+/// Counts off an input of each reader of an output. A reader whose last input this was is placed.
 fn count_off<B: Block>(
     graph: &Valid<B>,
     block: BlockId,
@@ -53,7 +53,7 @@ fn count_off<B: Block>(
     Ok(())
 }
 
-/// Does so at each output of a block.
+/// Counts off the readers at each output of a block.
 fn follow<B: Block>(
     graph: &Valid<B>,
     block: BlockId,
@@ -71,7 +71,7 @@ fn follow<B: Block>(
     Ok(())
 }
 
-/// Places the blocks, each when the last of its writers is followed.
+/// Places the blocks, each when the last of its writers has been followed.
 fn place<B: Block>(
     graph: &Valid<B>,
     waits: &mut [usize],
@@ -91,8 +91,8 @@ fn place<B: Block>(
     Ok(())
 }
 
-/// The blocks, each behind its writers. It takes a step for each connection. Who relies on the order looks at the blocks, since the contract does
-/// not say it.
+/// The blocks, each after its writers. It takes a step for each connection. The contract does not state the order, so
+/// who relies on it tests the blocks.
 pub fn in_order<B: Block>(alloc: Global, graph: &Valid<B>) -> Result<Vec<BlockId>, AllocError>
     ensures { IfOk result (λ order. AreWithin (length graph.now.blocks) order.items) }
 {

@@ -9,7 +9,7 @@ use crate::first_firings::settled_at;
 use block_trait::Block;
 use flowgraph::{BlockId, Valid};
 
-/// After how many more iterations, each of so many items, there are so many.
+/// After how many more iterations there are `items` items, if there are `there` now and each gives `period`.
 fn wait(items: u64, there: u64, period: u64) -> u64
     requires { 1 ≤ period }
     ensures least { (i : ℕ) → items ≤ there + i * period → result ≤ i }
@@ -19,7 +19,8 @@ fn wait(items: u64, there: u64, period: u64) -> u64
     items.saturating_sub(there).div_ceil(period)
 }
 
-/// From which item on a block's items are right by some firings, and their tags by others.
+/// The item from which on a block's items and their tags are right: items are right from the firings `first` on, tags
+/// from `tagged` on.
 pub fn right_at<B: Block>(graph: &Valid<B>, block: BlockId, first: &[u64], tagged: &[u64]) -> u64
     requires there { block.0 < length graph.now.blocks }
     requires first { CanRise (net_of B.meaning graph.now) first.now }
@@ -29,8 +30,8 @@ pub fn right_at<B: Block>(graph: &Valid<B>, block: BlockId, first: &[u64], tagge
     settled_at(graph, block, first).max(settled_at(graph, block, tagged))
 }
 
-/// After how many more iterations each sink has got what is not right yet, where it has got `there` items and gets as many more in an iteration as
-/// it fires.
+/// After how many more iterations each sink has got all that is not right yet. It has got `there` items, and gets as
+/// many more in each iteration as it fires.
 pub fn longest_wait<B: Block>(
     graph: &Valid<B>,
     firings: &[u32],

@@ -1,4 +1,4 @@
-//! The iterations until all first items that are left out are past.
+//! The iterations until all skips are past.
 ghost use Rattle.std.specs.Prelude.{◌≡◌, ◌≤◌, ℕ, List, length, IfOk};
 ghost use Rattle.graph_model.specs.Rates.{is_past_skip, is_past_skips};
 ghost use Rattle.flowgraph.specs.Flowgraph.{net_of};
@@ -10,17 +10,17 @@ use block_trait::{Block, Shift};
 use flowgraph::{BlockId, Valid};
 use std::alloc::{AllocError, Global};
 
-/// All first items that are left out are past within so many iterations, where rates are not too large.
+/// All skips are past within so many iterations, if rates are not too large.
 const LIMIT: u64 = 65536;
 
-/// The first iterations after which they are, and how often each block has fired by then.
+/// How many iterations it takes until all skips are past, and how often each block has fired by then.
 #[derive(Drop)]
 pub struct Past {
     pub iterations: u64,
     pub counts: Vec<u64>,
 }
 
-/// Whether a block that leaves out its first items has left them out.
+/// Whether a block that skips its first items has skipped them.
 fn is_past(shift: Shift, firings: u64) -> bool
     ensures { result ≡ is_past_skip shift firings }
 {
@@ -31,7 +31,7 @@ fn is_past(shift: Shift, firings: u64) -> bool
     }
 }
 
-/// Whether each such block has.
+/// Whether each block that skips its first items has skipped them.
 fn are_past<B: Block>(graph: &Valid<B>, counts: &[u64]) -> bool
     requires { length counts.now ≡ length (net_of B.meaning graph.now).nodes }
     ensures { (q : List ℕ) (j : ℕ) → AreCounted (net_of B.meaning graph.now) q j counts.now → result ≡ is_past_skips (net_of B.meaning graph.now) q j }
@@ -44,7 +44,7 @@ fn are_past<B: Block>(graph: &Valid<B>, counts: &[u64]) -> bool
     true
 }
 
-/// The first iterations after which all first items that are left out are past, by halving: what is past stays past.
+/// The least number of iterations after which all skips are past, found by halving: what is past stays past.
 pub fn first_past<B: Block>(
     alloc: Global,
     graph: &Valid<B>,

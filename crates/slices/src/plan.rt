@@ -1,4 +1,4 @@
-//! The numbers by which the runs of a graph are cut into slices of time.
+//! The numbers that cut the runs of a graph into slices of time.
 ghost use Rattle.std.specs.Prelude.{◌≡◌, ◌<◌, ◌≤◌, ◌*◌, ◌+◌, ◌^◌, List, map, length, IfOk, MatchOption, All, true, ℕ};
 ghost use Rattle.flowgraph.specs.Flowgraph.{net_of};
 ghost use Rattle.rates.specs.Answer.{AreRates};
@@ -20,12 +20,12 @@ use flowgraph::{BlockId, Valid};
 use rates::Repetitions;
 use std::alloc::{AllocError, Global};
 
-/// What slices have to give as the whole run does.
+/// What slices must give exactly as the whole run does.
 #[derive(Clone, Copy, Debug, PartialEq, Eq)]
 pub enum Asks {
     /// The items of sinks.
     Items,
-    /// And the tags that come to sinks.
+    /// The items of sinks, and their tags.
     ItemsAndTags,
 }
 
@@ -45,26 +45,27 @@ pub struct Sink {
     pub block: BlockId,
     /// How many items it takes in an iteration.
     pub period: u64,
-    /// From which item on a slice gives it what the whole run does: items, and tags where they are asked for.
+    /// The item from which on a slice gives it what the whole run does: items, and tags if they are asked for.
     pub settled: u64,
     /// How many items of a slice are dropped.
     pub drop: u64,
 }
 
-/// The numbers by which the runs of a graph are cut: a slice reads some iterations before its own, and drops what these give.
+/// The numbers that cut the runs of a graph. A slice reads some iterations before its own, and drops what these give.
 #[derive(Debug, Drop)]
 pub struct Plan {
     /// What it was asked for.
     pub asks: Asks,
-    /// How many iterations before its own a slice reads: the least after which all skips are past and each sink has got what is not right yet.
+    /// How many iterations before its own a slice reads: the least number after which all skips are past, and each sink
+    /// has got all that is not right yet.
     pub overlap: u64,
-    /// Those of the sources, in the order of the blocks.
+    /// The numbers of the sources, in the order of the blocks.
     pub sources: Vec<Source>,
-    /// Those of the sinks that keep their items, in the order of the blocks.
+    /// The numbers of the sinks that keep their items, in the order of the blocks.
     pub sinks: Vec<Sink>,
 }
 
-/// The plan of a graph, or why it has none.
+/// The plan of a graph, or why there is none.
 #[derive(Debug, Drop)]
 pub enum Planned {
     /// The plan.
@@ -114,7 +115,7 @@ fn sources<B: Forgets>(
     Ok(sources)
 }
 
-/// What the plan says of the sinks, where each has got `there` items, and the overlap has so many iterations more.
+/// What the plan says of the sinks. Each has got `there` items, and the overlap has so many more iterations.
 fn sinks<B: Forgets>(
     alloc: Global,
     graph: &Valid<B>,
@@ -144,7 +145,7 @@ fn sinks<B: Forgets>(
     Ok(sinks)
 }
 
-/// The plan, where each block forgets, items are right from some firings on, and tags from others on.
+/// The plan, if each block forgets. Items are right from some firings on, and tags from others on.
 fn made<B: Forgets>(
     alloc: Global,
     graph: &Valid<B>,
@@ -172,7 +173,7 @@ fn made<B: Forgets>(
     })
 }
 
-/// The least firings that are far enough, for items or for tags.
+/// For each block the least firing that is far enough, for items or for tags.
 fn first_for<B: Forgets>(
     alloc: Global,
     graph: &Valid<B>,
@@ -187,7 +188,7 @@ fn first_for<B: Forgets>(
     first_firings(alloc, graph, &reaches, order)
 }
 
-/// The numbers by which the runs of a graph with these rates are cut into slices. It fails only where the allocator refuses.
+/// The plan that cuts the runs of a graph with these rates into slices. It fails only if the allocator refuses.
 pub fn plan_slices<B: Forgets>(
     alloc: Global,
     graph: &Valid<B>,

@@ -26,7 +26,7 @@ pub enum Content {
 pub struct Reach {
     /// How many firings come before those that may be right.
     pub start: u64,
-    /// How many items before those at its own place a firing looks at; none where it looks at no input.
+    /// How many items before those at its own place a firing looks at; none if it looks at no input.
     pub back: Option<u64>,
 }
 
@@ -38,7 +38,8 @@ pub fn look_at<B: Forgets>(graph: &Valid<B>, block: BlockId) -> LookBack
     graph.block(block).look_back()
 }
 
-/// Whether the tags on a block's inputs count: where none goes through, they do only at a sink that keeps them.
+/// Whether the tags on a block's inputs count. If the block lets none through, they count only at a sink that keeps
+/// them.
 fn heeds<B: Block>(graph: &Valid<B>, block: BlockId) -> bool
     requires { block.0 < length graph.now.blocks }
     ensures { result ≡ heeds (role_at (net_of B.meaning graph.now) block.0) (node_at (net_of B.meaning graph.now) block.0).policy }
@@ -49,7 +50,8 @@ fn heeds<B: Block>(graph: &Valid<B>, block: BlockId) -> bool
     }
 }
 
-/// How many items before those that a firing takes have tags that go to what it gives, by the rate of a block: a place is the nearest, and ties go up.
+/// How many items before those that a firing takes have tags that go to what it gives, by the rate of a block. A tag
+/// goes to the nearest place, and ties go up.
 fn nearest_back<B: Block>(graph: &Valid<B>, block: BlockId) -> u64
     requires { block.0 < length graph.now.blocks }
     ensures { result ≡ nearest_back ((node_at (net_of B.meaning graph.now) block.0).meaning.rate 0) }

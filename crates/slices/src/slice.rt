@@ -1,4 +1,4 @@
-//! A slice of a run: where it begins to read, and what of it is dropped.
+//! A slice of a run: where it begins to read, and what it drops.
 ghost use Rattle.std.specs.Prelude.{◌≡◌, ◌≤◌, ◌⊎◌, ◌^◌, ℕ, List, IfOk};
 ghost use Rattle.stream_model.specs.Network.{Network};
 ghost use Rattle.slices.specs.declared.look_back.LookBack.{LookBack};
@@ -16,20 +16,20 @@ pub struct Part {
     pub block: BlockId,
     /// How many of its items are dropped.
     pub drop: u64,
-    /// At which item of the whole the others stand.
+    /// The place of the next item in the whole stream.
     pub stands: u64,
 }
 
 /// A slice of a run.
 #[derive(Debug, Drop)]
 pub struct Slice {
-    /// How many iterations of each tape it leaves out: of a source `from` times its period.
+    /// How many iterations of each tape it leaves out. Of a source these are `from` times its period items.
     pub from: u64,
     /// What it gives the sinks, in the order of the plan.
     pub parts: Vec<Part>,
 }
 
-/// What a slice that begins at an iteration, and reads from another on, gives a sink. The first one drops nothing.
+/// What a slice gives a sink if it begins at one iteration, and reads from another on. The first slice drops nothing.
 fn given_to(sink: &Sink, begins: u64, from: u64) -> Part
     requires drop { sink.now.drop ≤ 2 ^ 59 }
     requires period { sink.now.period ≤ 65536 }
@@ -52,8 +52,9 @@ fn given_to(sink: &Sink, begins: u64, from: u64) -> Part
 }
 
 impl Plan {
-    /// The slice that begins at an iteration, which is the first, or not before the overlap. Run on what is left of the tapes, by blocks that go on where they stand
-    /// (`later`), it gives each sink what the whole run gives from there on, behind what is dropped. It fails only where the allocator refuses.
+    /// The slice that begins at an iteration: at the first, or not before the overlap. It runs on the rest of the
+    /// tapes, with blocks that go on where they stand (`later`). After the dropped items it gives each sink what the
+    /// whole run gives from there on. It fails only if the allocator refuses.
     pub fn slice(&self, alloc: Global, begins: u64) -> Result<Slice, AllocError>
         ghost of: { Network × List ℕ × List LookBack }
         requires plan { IsPlan of.0 of.1 of.2 self.now }

@@ -1,4 +1,4 @@
-//! Where a slice has to begin, or to end, for the items that are wanted of it.
+//! Where a slice has to begin or end to give the wanted items.
 
 ghost use Rattle.std.specs.Prelude.{◌≡◌, ◌<◌, ◌≤◌, ℕ};
 ghost use Rattle.slices.specs.Wanted.{got_after, wanted_at, IsLastBegin, IsFirstEnd};
@@ -6,7 +6,8 @@ ghost use Rattle.slices.specs.Wanted.{got_after, wanted_at, IsLastBegin, IsFirst
 use crate::MOST_ITERATIONS;
 use crate::plan::{Plan, Sink};
 
-// The last iteration from the overlap on after which a sink has got no more than so many items; 0 where it has got more by then.
+// The last iteration from the overlap on after which a sink has got at most so many items; 0 if it has got more by the
+// overlap.
 fn last_within(sink: &Sink, overlap: u64, items: u64) -> u64
     ensures last { (j : ℕ) → overlap ≤ j → j ≤ MOST_ITERATIONS → got_after overlap sink.now j ≤ items → j ≤ result }
     ensures within { (j : ℕ) → 1 ≤ j → overlap ≤ j → j ≤ result → got_after overlap sink.now j ≤ items }
@@ -20,7 +21,8 @@ fn last_within(sink: &Sink, overlap: u64, items: u64) -> u64
     }
 }
 
-// The first iteration from the overlap on after which a sink has got so many items; the greatest number where it never has.
+// The first iteration from the overlap on after which a sink has got so many items; the greatest number if it never
+// has.
 fn first_with(sink: &Sink, overlap: u64, items: u64) -> u64
     ensures behind { overlap ≤ result }
     ensures first { (j : ℕ) → overlap ≤ j → j ≤ 18446744073709551615 → items ≤ got_after overlap sink.now j → result ≤ j }
@@ -36,7 +38,7 @@ fn first_with(sink: &Sink, overlap: u64, items: u64) -> u64
     overlap.saturating_add(lacks.div_ceil(sink.period))
 }
 
-// What is wanted of the sink at a place; no item where nothing is said of it.
+// What is wanted of the sink at a place; 0 if the list has no number for it.
 fn wanted(items: &[u64], at: usize) -> u64
     ensures { result ≡ wanted_at items.now at }
 {
@@ -44,8 +46,9 @@ fn wanted(items: &[u64], at: usize) -> u64
 }
 
 impl Plan {
-    /// The last iteration at which a slice may begin whose own items have, of each sink, the one of this number and all behind it: the first of all, or the last
-    /// from the overlap on. The sinks are those of the plan, in its order.
+    /// The last iteration at which a slice may begin so that its own items include, for each sink, the item of this
+    /// number and all after it. It is 0, or lies at or after the overlap. The sinks are those of the plan, in its
+    /// order.
     pub fn last_begin(&self, starts: &[u64]) -> u64
         ensures { IsLastBegin self.now starts.now result }
     {
@@ -56,7 +59,8 @@ impl Plan {
         if self.overlap <= last { last } else { 0 }
     }
 
-    /// The first iteration from the overlap on after which each sink has got so many items; the greatest number where one never has.
+    /// The first iteration from the overlap on after which each sink has got so many items; the greatest number if one
+    /// never has.
     pub fn first_end(&self, ends: &[u64]) -> u64
         ensures { IsFirstEnd self.now ends.now result }
     {
