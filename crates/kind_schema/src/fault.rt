@@ -14,11 +14,11 @@ pub enum KeyFault {
     /// It has a key that such tables do not have.
     UnknownKey,
     MissingKey(Key),
-    /// At the key stands what may not stand there.
+    /// The value at the key is of a wrong form.
     WrongType(Key),
-    /// No kind of blocks has the name.
+    /// No kind of block has this name.
     UnknownKind,
-    /// A block of the kind may not have this parameter.
+    /// A block of the kind may not have this value of the parameter.
     BadParameter(Parameter),
     /// Memory ran out.
     Memory,

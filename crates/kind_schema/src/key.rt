@@ -48,7 +48,7 @@ pub enum Key {
 }
 
 impl Default for Key {
-    /// The name of a block, for the places of a list of keys that are not in use.
+    /// The name of a block. It fills unused places of a list of keys.
     fn default() -> Key {
         Key::Name
     }
@@ -142,7 +142,7 @@ impl Key {
         }
     }
 
-    /// The number that stands for a missing one.
+    /// The default for a missing number.
     pub fn missing(&self) -> i64
         ensures { result ≡ missing self.now }
     {

@@ -14,7 +14,7 @@ use kinds::KindName;
 /// The keys of a block.
 pub type Keys = ArrayVec<Key, 16>;
 
-/// The keys of a block of the kind, in the order in which they are tested. It takes no memory.
+/// The keys of a block of the kind, in the order of their tests. It takes no memory.
 pub fn keys_of(kind: KindName) -> Keys
     ensures { result.items ≡ keys_of kind }
 {
@@ -36,7 +36,7 @@ fn type_keys(types: ItemTypes) -> &'static [Key]
     }
 }
 
-// Those that are no parameters.
+// The keys that are no parameters.
 fn options_of(kind: KindName) -> &'static [Key]
     ensures options { result.now ≡ options_of kind }
     ensures few { length result.now ≤ 3 }

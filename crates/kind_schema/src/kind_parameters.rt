@@ -1,4 +1,5 @@
-//! The parameters of each kind, and what each may be: what the reader tests, `--explain` tells, and `flow kinds` prints.
+//! The parameters of each kind, and the range of each. The reader tests these ranges, `--explain` tells them, and `flow
+//! kinds` prints them.
 ghost use Rattle.std.specs.Prelude.{◌≡◌, ◌≤◌, length};
 ghost use Rattle.kind_schema.specs.KindParameters.{types_of, parameters_of};
 
@@ -6,7 +7,7 @@ use crate::range::{ItemTypes, Range};
 use block_parameters::Parameter;
 use kinds::KindName;
 
-/// The types of items that the kind is one for.
+/// The item types that the kind is for.
 pub fn types_of(kind: KindName) -> ItemTypes
     ensures { result ≡ types_of kind }
 {
@@ -30,7 +31,7 @@ pub fn types_of(kind: KindName) -> ItemTypes
     }
 }
 
-/// The parameters of a block of the kind, in the order in which they are tested, and what each may be.
+/// The parameters of a block of the kind, in the order of their tests, with their ranges.
 pub fn parameters_of(kind: KindName) -> &'static [(Parameter, Range)]
     ensures rows { result.now ≡ parameters_of kind }
     ensures few { length result.now ≤ 7 }

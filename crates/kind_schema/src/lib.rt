@@ -1,4 +1,4 @@
-//! The keys of each kind in a graph file, and the block that a table of the file means.
+//! The keys of each kind in a graph file, and the block that a table of the file describes.
 #![tactic(auto)]
 
 mod code;

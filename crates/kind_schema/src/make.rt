@@ -1,4 +1,4 @@
-//! The block that a kind makes of the parameters of a table.
+//! Makes the block of a kind from the parameters of a table.
 ghost use Rattle.std.specs.Prelude.{◌≡◌, Ok, IfOk, IfErr, false};
 ghost use Rattle.toml.specs.View.{table_view};
 ghost use Rattle.kinds.specs.Kind.{meaning_of};

@@ -1,4 +1,4 @@
-//! The blocks that check and code, of what a table describes.
+//! Makes the blocks that check and code from the parameters of a table.
 ghost use Rattle.std.specs.Prelude.{◌≡◌, Ok, None, Some, IfOk, IfErr, true};
 ghost use Rattle.toml.specs.View.{table_view};
 ghost use Rattle.kinds.specs.Kind.{meaning_of};
@@ -17,7 +17,7 @@ use kinds::Kind;
 use std::alloc::Global;
 use toml::Table;
 
-// The checksum that a table describes, whatever its numbers are.
+// The checksum that a table describes, with any numbers.
 fn checksum(table: &Table) -> Result<Checksum, ParamFault>
     ensures ok { IfOk result (λ rule. rule ≡ checksum_at (table_view table.now)) }
     ensures order { IfOk result (λ rule. order_at (table_view table.now) (key.Parameter Parameter.Order) ≡ Some rule.order) }

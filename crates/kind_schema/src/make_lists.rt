@@ -1,4 +1,4 @@
-//! The blocks that are made of a list of a table.
+//! Makes the blocks that have a list as a parameter.
 ghost use Rattle.std.specs.Prelude.{◌≡◌, Ok, IfOk, IfErr, true, false};
 ghost use Rattle.toml.specs.View.{table_view};
 ghost use Rattle.kinds.specs.Kind.{meaning_of};

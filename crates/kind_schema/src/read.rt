@@ -1,4 +1,4 @@
-//! The block that a table of a graph file means.
+//! Reads the block that a table of a graph file describes.
 ghost use Rattle.std.specs.Prelude.{◌≡◌, Ok, IfOk, IfErr};
 ghost use Rattle.toml.specs.View.{table_view};
 ghost use Rattle.kinds.specs.Kind.{meaning_of};
@@ -13,8 +13,8 @@ use kinds::{Kind, KindName};
 use std::alloc::Global;
 use toml::Table;
 
-/// The block that a table means, or the first thing that is wrong with the table: its name and its kind, then keys that
-/// the kind does not have, then each key in the kind's order, then the values of its parameters.
+/// The block that a table describes, or the first fault of the table. It tests the name and the kind, then for keys
+/// that the kind does not have, then each key in the kind's order, then the values of the parameters.
 pub fn read_kind(alloc: Global, table: &Table) -> Result<Kind, KeyFault>
     ensures ok { IfOk result (λ block. block_in (table_view table.now) ≡ Ok (meaning_of block)) }
     ensures refused { IfErr result (IsRefused (takes_memory (table_view table.now)) (block_in (table_view table.now))) }
@@ -29,7 +29,7 @@ pub fn read_kind(alloc: Global, table: &Table) -> Result<Kind, KeyFault>
     }
 }
 
-// The kind of a block whose keys are all right.
+// The kind of a block, if all its keys are right.
 fn tested(table: &Table) -> Result<KindName, KeyFault>
     ensures { result ≡ tested (table_view table.now) }
 {

@@ -1,4 +1,4 @@
-//! What stands in a table of a graph file.
+//! Reads values from a table of a graph file.
 ghost use Rattle.std.specs.Prelude.{◌≡◌, IfOk, option_map, take};
 ghost use Rattle.std.specs.Prelude.{pos, string_bytes};
 ghost use Rattle.toml.specs.Data.{as_integer};
@@ -17,7 +17,7 @@ use std::alloc::{AllocError, Global};
 use stream_model::Policy;
 use toml::{Table, Value};
 
-/// What stands at a key.
+/// The value at a key.
 pub fn value_at<'a>(table: &'a Table, key: Key) -> Option<&'a Value>
     ensures { option_map (λ v. view v.now) result ≡ at_key key (table_view table.now) }
 {
@@ -34,7 +34,7 @@ pub fn string_at<'a>(table: &'a Table, key: Key) -> Option<&'a str>
     }
 }
 
-/// The text at a key, empty where there is none.
+/// The text at a key; empty if there is none.
 pub fn text_at<'a>(table: &'a Table, key: Key) -> &'a str
     ensures { result.now ≡ tables.text_at (table_view table.now) key }
 {
@@ -44,7 +44,7 @@ pub fn text_at<'a>(table: &'a Table, key: Key) -> &'a str
     }
 }
 
-/// The whole number at a key, or what stands for a missing one.
+/// The whole number at a key, or the default for a missing one.
 pub fn number_at(table: &Table, key: Key) -> i64
     ensures { result ≡ tables.number_at (table_view table.now) key }
 {
@@ -57,7 +57,7 @@ pub fn number_at(table: &Table, key: Key) -> i64
     }
 }
 
-/// The whole number at a key as one that is not negative. For a negative one it is the greatest, which nothing may be.
+/// The whole number at a key, unsigned. A negative number becomes the greatest one, which is outside every range.
 pub fn count_at(table: &Table, key: Key) -> u64
     ensures { result ≡ tables.count_at (table_view table.now) key }
 {
@@ -70,14 +70,15 @@ fn count_of(number: i64) -> u64
     if number < 0 { u64::MAX } else { number as u64 }
 }
 
-/// The whole number at a key as one of 32 bits. For a negative one, or one that does not fit, it is the greatest, which nothing may be.
+/// The whole number at a key, unsigned, as 32 bits. A negative number, or one that does not fit, becomes the greatest
+/// one, which is outside every range.
 pub fn small_at(table: &Table, key: Key) -> u32
     ensures { result ≡ tables.small_at (table_view table.now) key }
 {
     count_at(table, key).min(u64::from(u32::MAX)) as u32
 }
 
-/// The values of the array at a key; none where there is none.
+/// The values of the array at a key; none if there is no array.
 pub fn values_at<'a>(table: &'a Table, key: Key) -> &'a [Value]
     ensures { items_view result.now ≡ tables.items_at (table_view table.now) key }
 {
@@ -107,7 +108,8 @@ fn numbers_of(alloc: Global, values: &[Value]) -> Result<Vec<i64>, AllocError>
     Ok(numbers)
 }
 
-/// The first so many whole numbers of the array at a key: a copy that takes no memory, and enough to tell a list that has as many.
+/// The first `COUNT` whole numbers of the array at a key. The copy takes no memory, and shows whether the list has that
+/// many.
 pub(crate) fn first_numbers_at<const COUNT: usize>(table: &Table, key: Key) -> ArrayVec<i64, COUNT>
     ensures { result.items ≡ take COUNT (tables.numbers_at (table_view table.now) key) }
 {
@@ -134,7 +136,7 @@ fn number_of(value: &Value) -> i64
     }
 }
 
-/// The type that the text at a key names, or `None` where it names none.
+/// The type that the text at a key names, or `None` if it names none.
 pub fn type_at(table: &Table, key: Key) -> Option<ItemType>
     ensures { result ≡ tables.type_at (table_view table.now) key }
 {
@@ -155,7 +157,7 @@ fn type_named(text: &str) -> Option<ItemType>
     }
 }
 
-/// The order of bits that the text at a key names, or `None` where it names none.
+/// The order of bits that the text at a key names, or `None` if it names none.
 pub fn order_at(table: &Table, key: Key) -> Option<BitOrder>
     ensures { result ≡ tables.order_at (table_view table.now) key }
 {
@@ -175,7 +177,7 @@ fn order_named(text: &str) -> Option<BitOrder>
     }
 }
 
-/// Which tags pass, by a text.
+/// The tag policy that a text names.
 pub fn policy_named(text: &str) -> Option<Policy>
     ensures { result ≡ tables.policy_named text.now }
 {
@@ -198,7 +200,7 @@ pub fn key_fault(table: &Table, key: Key) -> Option<KeyFault>
     }
 }
 
-/// What is wrong at the first of these keys at which something is.
+/// What is wrong at the first of these keys that is not right.
 pub fn keys_fault(table: &Table, keys: &[Key]) -> Option<KeyFault>
     ensures { result ≡ tables.keys_fault (table_view table.now) keys.now }
 {

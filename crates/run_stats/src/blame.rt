@@ -5,7 +5,8 @@ ghost use Rattle.std.specs.Prelude.{◌<◌, length};
 use crate::figures::{Figures, Stats};
 use flowgraph::{Block, BlockId, Valid};
 
-/// The block that was at work for the longest time, and the lowest of several, with that time; none where none was.
+/// The block that was at work longest (the lowest if there are several), and for how long; none if no block was at
+/// work.
 pub(crate) fn longest_at_work(stats: &Stats) -> Option<(BlockId, u64)> {
     let mut longest = 0;
     let mut found = None;
@@ -33,7 +34,7 @@ pub(crate) struct Whole {
     pub(crate) at_work: u64,
     /// For how long their turns had no processor.
     pub(crate) lacking: u64,
-    /// For how long at least no block had a turn.
+    /// For how long, at least, no block had a turn.
     pub(crate) between: u64,
 }
 
@@ -53,7 +54,7 @@ impl Whole {
     }
 }
 
-/// Whether other blocks waited, and each time for this one.
+/// Whether other blocks waited, and always for this one.
 pub(crate) fn all_wait_for<B: Block>(graph: &Valid<B>, stats: &Stats, limit: BlockId) -> bool {
     let mut some = false;
     for block in 0..graph.len() {
@@ -71,11 +72,11 @@ pub(crate) fn all_wait_for<B: Block>(graph: &Valid<B>, stats: &Stats, limit: Blo
     some
 }
 
-// For whom a block waited.
+// Whom a block waited for.
 #[derive(Clone, Copy)]
 enum Whom {
     Nobody,
-    // For this one alone.
+    // Only this block.
     It,
     Others,
 }

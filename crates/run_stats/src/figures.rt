@@ -13,9 +13,9 @@ pub struct Figures {
     pub firings: u64,
     /// How many turns it had in which it fired.
     pub turns: u64,
-    /// How much processor time these took: for so long it was at work.
+    /// How much processor time these turns took. That is how long it was at work.
     pub nanos: u64,
-    /// How long these lasted, with the time for which their threads had no processor.
+    /// How long these turns lasted, including the time in which their threads had no processor.
     pub lasted: u64,
     /// Its waits for items, by input.
     pub inputs: Vec<Waited>,

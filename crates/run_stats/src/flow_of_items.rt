@@ -5,7 +5,7 @@ ghost use Rattle.std.specs.Prelude.{◌<◌, length};
 use block_trait::{Block, Pace};
 use flowgraph::{BlockId, Valid};
 
-/// How many items a block took of all its inputs in its first firings.
+/// How many items a block took from all its inputs in its first `firings` firings.
 pub(crate) fn items_in<B: Block>(graph: &Valid<B>, block: BlockId, firings: u64) -> u64
     requires { block.0 < length graph.now.blocks }
 {
@@ -17,7 +17,7 @@ pub(crate) fn items_in<B: Block>(graph: &Valid<B>, block: BlockId, firings: u64)
     items
 }
 
-/// How many items a block gave on all its outputs in its first firings.
+/// How many items a block gave on all its outputs in its first `firings` firings.
 pub(crate) fn items_out<B: Block>(graph: &Valid<B>, block: BlockId, firings: u64) -> u64
     requires { block.0 < length graph.now.blocks }
 {
@@ -25,7 +25,7 @@ pub(crate) fn items_out<B: Block>(graph: &Valid<B>, block: BlockId, firings: u64
     given(graph.pace(block, 0), base).saturating_mul(graph.outputs(block) as u64)
 }
 
-// How many items of an input so many firings take; the greatest number where there are more.
+// How many items of an input so many firings take; the greatest number if that is exceeded.
 fn taken(pace: Pace, firings: u64) -> u64 {
     match pace {
         Pace::Rate(taken, _) | Pace::Turns(taken, _, _) | Pace::Placed(taken, _) => {

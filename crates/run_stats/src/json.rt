@@ -1,4 +1,5 @@
-//! The report for programs: one object of JSON. Names of blocks have letters, digits, `_`, `.` and `-`, which stand for themselves in its strings.
+//! The report for programs: one object of JSON. Names of blocks consist of letters, digits, `_`, `.` and `-`, which
+//! need no escape in strings.
 
 ghost use Rattle.std.specs.Prelude.{◌<◌, length};
 ghost use Rattle.stream_model.specs.Network.{used_outputs};
@@ -13,7 +14,7 @@ use flowgraph::{BlockId, Valid};
 use kinds::Kind;
 use std::alloc::{AllocError, Global};
 
-/// The report on a run of this graph, a line.
+/// The report on a run of this graph, in one line.
 pub fn json_report(
     alloc: Global,
     graph: &Valid<Kind>,
@@ -138,7 +139,7 @@ fn push_limit(out: &mut Vec<u8>, graph: &Valid<Kind>, stats: &Stats) -> Result<(
     }
 }
 
-// Writes the name of a block in quotes; none of a block that is none of the graph.
+// Writes the name of a block in quotes, if it is one of the graph.
 fn push_name(out: &mut Vec<u8>, graph: &Valid<Kind>, block: BlockId) -> Result<(), AllocError> {
     out.extend_from_slice(b"\"")?;
     if (block.0 as usize) < graph.len() {

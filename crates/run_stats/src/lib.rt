@@ -1,5 +1,5 @@
-//! Where the time of a run goes, block by block: a gate that counts and measures, with reports of what it saw, as text and as JSON; and one that keeps each turn
-//! and each wait, of which a trace is written.
+//! Where the time of a run goes, block by block. One gate counts and measures; its reports are text or JSON. Another
+//! gate keeps each turn and each wait, and writes a trace of them.
 #![tactic(auto)]
 
 mod blame;

@@ -1,4 +1,4 @@
-//! What a run spends its time on, measured and told.
+//! Measures and reports what a run spends its time on.
 
 use crate::json::json_report;
 use crate::meter::Meter;
@@ -14,7 +14,7 @@ use std::io::Write;
 use std::sync::Arc;
 use std::time::Clock;
 
-/// How a report of a run's times is written.
+/// The form of a report of a run's times.
 #[derive(Clone, Copy, Debug, PartialEq, Eq)]
 pub enum Form {
     /// In columns.
@@ -28,11 +28,11 @@ pub enum Form {
 pub struct Looks {
     /// Whether its times are measured.
     pub at_times: bool,
-    /// For how many of its turns and waits there is room in its trace, where it has one.
+    /// How many turns and waits its trace has room for, if it has one.
     pub at_events: Option<usize>,
 }
 
-/// An observer for a run of a graph, and the graph whose blocks it looks at.
+/// An observer for a run of a graph, and the graph.
 #[derive(Drop)]
 pub struct Measured<R> {
     graph: Arc<Valid<Kind>, Global>,
@@ -40,7 +40,7 @@ pub struct Measured<R> {
 }
 
 impl<R: Clock + Copy> Measured<R> {
-    /// An observer for a run of this graph. It fails only where memory is lacking.
+    /// An observer for a run of this graph. It fails only if memory runs out.
     pub fn new(
         alloc: Global,
         clock: R,
@@ -70,7 +70,7 @@ impl<R: Clock + Copy> Measured<R> {
         }
     }
 
-    /// The report of the times that were measured; none where none were.
+    /// The report of the measured times; empty if none were measured.
     pub fn report(&self, alloc: Global, form: Form) -> Result<Vec<u8>, AllocError> {
         let Some(meter) = &self.observer.meter else {
             return Ok(Vec::new(alloc));
@@ -82,7 +82,7 @@ impl<R: Clock + Copy> Measured<R> {
         }
     }
 
-    /// Writes the trace of the run, where it has one.
+    /// Writes the trace of the run, if it has one.
     pub fn trace<W: Write>(&self, out: &mut W) -> io::Result<()> {
         match &self.observer.tracer {
             Some(tracer) => write_trace(out, &*self.graph, tracer),
@@ -90,7 +90,7 @@ impl<R: Clock + Copy> Measured<R> {
         }
     }
 
-    /// How many turns and waits the trace has no room for, and how many there were.
+    /// How many turns and waits the trace had no room for, and how many there were.
     pub fn left_out(&self) -> (u64, u64) {
         match &self.observer.tracer {
             Some(tracer) => (tracer.left_out(), tracer.count()),

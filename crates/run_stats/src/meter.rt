@@ -9,9 +9,10 @@ use std::sync::atomic::{AtomicU64, Ordering};
 use std::time::{Clock, CpuClock, Duration};
 use threads::Gate;
 
-/// The gate that measures the turns and the waits of each block. A block is at work for the processor time that its threads take in its turns, so that
-/// other work on the machine makes no block slow. It takes its memory before the run, and locks nothing. A clock that cannot be read measures times
-/// of 0. A wait that no turn ended is counted, and its time is not.
+/// The gate that measures the turns and the waits of each block. A block's time at work is the processor time that its
+/// threads take in its turns, so other work on the machine makes no block slow. The gate takes its memory before the
+/// run, and locks nothing. If a clock cannot be read, times are measured as 0. A wait that no turn ended is counted,
+/// but its time is not.
 #[derive(Drop)]
 pub struct Meter<R> {
     clock: R,
@@ -22,7 +23,7 @@ pub struct Meter<R> {
     ended: AtomicU64,
 }
 
-// What is counted of a block. At any time one thread at most acts for it.
+// The counters of a block. At most one thread at a time acts for it.
 #[derive(Drop)]
 struct Counters {
     firings: AtomicU64,
@@ -31,11 +32,11 @@ struct Counters {
     lasted: AtomicU64,
     // When its turn began.
     began: AtomicU64,
-    // How much processor time the thread of its turn had taken then.
+    // How much processor time the thread of its turn had taken by then.
     used: AtomicU64,
-    // For which of its ports it waits, counted from 1, outputs first; 0 for none.
+    // The port at which it waits, counted from 1, outputs first; 0 for none.
     port: AtomicU64,
-    // Since when.
+    // When the wait began.
     since: AtomicU64,
     inputs: Vec<Waits>,
     outputs: Vec<Waits>,
@@ -49,7 +50,7 @@ struct Waits {
 }
 
 impl<R: Drop> Meter<R> {
-    /// A meter of the blocks of a graph that has measured nothing.
+    /// A meter for the blocks of a graph. It has measured nothing.
     pub fn new<B: Block>(
         alloc: Global,
         clock: R,
@@ -92,7 +93,7 @@ impl<R: Clock + CpuClock + Drop> Meter<R> {
     }
 }
 
-// What a clock shows, in nanoseconds; 0 where it shows nothing.
+// What a clock shows, in nanoseconds; 0 if it cannot be read.
 fn nanos_of(shown: io::Result<Duration>) -> u64 {
     match shown {
         Ok(time) => u64::try_from(time.as_nanos()).unwrap_or(u64::MAX),
@@ -103,7 +104,8 @@ fn nanos_of(shown: io::Result<Duration>) -> u64 {
 impl<R: Clock + CpuClock + Drop> Gate for Meter<R> {
     fn pass(&self, _block: BlockId, _firing: u64) {}
 
-    // (of the two clocks that of the processor is read farther from the work, so that the reading of it passes for no want of a processor)
+    // (the processor's clock is read farther from the work than the other, so that reading it does not count as a lack
+    // of a processor)
     fn begins(&self, block: BlockId) {
         let used = self.used();
         let now = self.time();
@@ -116,7 +118,7 @@ impl<R: Clock + CpuClock + Drop> Gate for Meter<R> {
         }
     }
 
-    // The thread is the one on which the turn began.
+    // The turn began on this thread.
     fn worked(&self, block: BlockId, firings: u32) {
         let now = self.time();
         let used = self.used();
@@ -149,7 +151,7 @@ impl Counters {
         })
     }
 
-    // A turn ended, when its thread had taken so much processor time. It ended a wait too, as it began.
+    // A turn ends, and its thread has taken so much processor time by now. When the turn began, it ended a wait too.
     fn turn(&self, firings: u32, now: u64, used: u64) {
         let began = read(&self.began);
         self.ends_wait(began);
@@ -159,7 +161,7 @@ impl Counters {
         add(&self.lasted, now.saturating_sub(began));
     }
 
-    // A wait begins, unless it is the one that is on.
+    // A wait begins, unless the block is already in it.
     fn wait(&self, need: Need, now: u64) {
         let port = self.number_of(need);
         if read(&self.port) == port {
@@ -181,7 +183,8 @@ impl Counters {
         write(&self.port, 0);
     }
 
-    // The number of a port, from 1 on, outputs first: the input that a source waits for, its feed, is none of the ports.
+    // The number of a port, from 1 on, outputs first. A source waits for its feed at a number that is none of its
+    // ports.
     fn number_of(&self, need: Need) -> u64 {
         let before = match need {
             Need::Room(port) => port,
@@ -211,7 +214,7 @@ impl Counters {
     }
 }
 
-// So many ports at which nobody waited.
+// So many ports at which nothing waited.
 fn no_waits(alloc: Global, count: usize) -> Result<Vec<Waits>, AllocError> {
     let mut waits = Vec::with_capacity(alloc, count)?;
     for _ in 0..count {
@@ -223,7 +226,7 @@ fn no_waits(alloc: Global, count: usize) -> Result<Vec<Waits>, AllocError> {
     Ok(waits)
 }
 
-// The waits at each port, as numbers.
+// The waits at each port, as plain numbers.
 fn waited(alloc: Global, waits: &[Waits]) -> Result<Vec<Waited>, AllocError> {
     let mut waited = Vec::with_capacity(alloc, waits.len())?;
     for at_port in waits {

@@ -1,4 +1,4 @@
-//! What looks at a run.
+//! Observes a run.
 
 use crate::meter::Meter;
 use crate::tracer::Tracer;

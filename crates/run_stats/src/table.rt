@@ -5,10 +5,10 @@ use std::alloc::{AllocError, Global};
 /// The cells of a line.
 pub(crate) type Row = Vec<Vec<u8>>;
 
-// So many columns stand at their left, and the last one; the others are numbers, and stand at their right.
+// So many first columns, and the last one, are aligned left. The others are numbers, and are aligned right.
 const LEFT: usize = 2;
 
-/// Lines whose columns are as wide as the widest of their cells.
+/// Lines in columns. Each column is as wide as its widest cell.
 #[derive(Drop)]
 pub(crate) struct Table {
     widths: Vec<usize>,
@@ -30,7 +30,7 @@ impl Table {
         Ok(table)
     }
 
-    /// A line more.
+    /// Adds a line.
     pub(crate) fn push(&mut self, row: Row) -> Result<(), AllocError> {
         for (width, cell) in self.widths.iter_mut().zip(&row) {
             *width = cell.len().max(*width);

@@ -1,4 +1,4 @@
-//! The report for people: a line for each block, and which of them limits the run.
+//! The report for people: a line for each block, and which block limits the run.
 
 ghost use Rattle.std.specs.Prelude.{◌<◌, length};
 ghost use Rattle.stream_model.specs.Network.{used_outputs};
@@ -97,7 +97,7 @@ fn mean_turn(alloc: Global, figures: &Figures) -> Result<Vec<u8>, AllocError> {
     }
 }
 
-// What a block waited for: how often, and how long.
+// What a block waited for, how often, and how long.
 fn waits(
     alloc: Global,
     graph: &Valid<Kind>,
@@ -170,7 +170,7 @@ fn push_waited(out: &mut Vec<u8>, waited: &Waited) -> Result<(), AllocError> {
     Ok(())
 }
 
-// Writes what stands between two parts, where there is one before.
+// Writes a separator, if a part stands before it.
 fn push_comma(out: &mut Vec<u8>) -> Result<(), AllocError> {
     if !out.is_empty() {
         out.extend_from_slice(b", ")?;
@@ -178,7 +178,7 @@ fn push_comma(out: &mut Vec<u8>) -> Result<(), AllocError> {
     Ok(())
 }
 
-// Writes which block limits the run, or where no block does, what the time went to.
+// Writes which block limits the run, or, if none does, what the time went to.
 fn push_limit(out: &mut Vec<u8>, graph: &Valid<Kind>, stats: &Stats) -> Result<(), AllocError> {
     let Some((longest, nanos)) = longest_at_work(stats) else {
         return out.extend_from_slice(b"No block was at work.\n");
@@ -197,7 +197,7 @@ fn push_limit(out: &mut Vec<u8>, graph: &Valid<Kind>, stats: &Stats) -> Result<(
     out.extend_from_slice(b".\n")
 }
 
-// Writes what the time of a run went to in which this block was at work the longest.
+// Writes what the time of a run went to. This block was at work longest.
 fn push_whole(
     out: &mut Vec<u8>,
     graph: &Valid<Kind>,

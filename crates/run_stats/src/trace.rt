@@ -1,5 +1,5 @@
-//! The trace of a run: trace events of Chrome in JSON, which Perfetto and the page chrome://tracing show, a track for each block. Names of blocks have letters,
-//! digits, `_`, `.` and `-`, which stand for themselves in its strings.
+//! The trace of a run: Chrome's trace events in JSON. Perfetto and the page chrome://tracing show them, with a track
+//! for each block. Names of blocks consist of letters, digits, `_`, `.` and `-`, which need no escape in strings.
 
 ghost use Rattle.std.specs.Prelude.{◌<◌, length};
 
@@ -13,7 +13,8 @@ use std::time::Clock;
 
 const THOUSAND: u64 = 1_000;
 
-/// Writes what a tracer has kept of a run of this graph. It takes no memory. Times count from the beginning of the first event.
+/// Writes what a tracer has kept of a run of this graph. It takes no memory. Times count from the beginning of the
+/// first event.
 pub fn write_trace<W: Write, B: Block, R: Clock + Drop>(
     out: &mut W,
     graph: &Valid<B>,
@@ -147,13 +148,13 @@ fn write_name<W: Write, B: Block>(out: &mut W, graph: &Valid<B>, block: BlockId)
     Ok(())
 }
 
-// On which track a block is.
+// The track of a block.
 fn write_place<W: Write>(out: &mut W, block: BlockId) -> io::Result<()> {
     out.write_all(b"\"pid\":1,\"tid\":")?;
     write_number(out, track_of(block))
 }
 
-// The number of a block's track, from 1 on: where tracks are shown, 0 may stand for none.
+// The number of a block's track, from 1 on: programs that show tracks may take 0 for none.
 fn track_of(block: BlockId) -> u64 {
     u64::from(block.0).saturating_add(1)
 }

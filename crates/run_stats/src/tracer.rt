@@ -16,11 +16,11 @@ pub struct Event {
     pub block: BlockId,
     pub deed: Deed,
     pub began: u64,
-    /// None of a wait that no turn ended.
+    /// None for a wait that no turn ended.
     pub ended: Option<u64>,
 }
 
-/// What a block did in the meantime.
+/// What a block did in that time.
 #[derive(Clone, Copy, Debug, PartialEq, Eq)]
 pub enum Deed {
     /// It was at work on so many firings.
@@ -29,26 +29,27 @@ pub enum Deed {
     Waited(Need),
 }
 
-/// The gate that keeps the turns and the waits of the blocks in the order in which it is told of them: the first ones, for as many as it has room. It takes
-/// its memory before the run, and locks nothing. A clock that cannot be read shows 0.
+/// The gate that keeps turns and waits of blocks, in the order in which it is told of them. It keeps the first ones, as
+/// many as it has room for. It takes its memory before the run, and locks nothing. A clock that cannot be read counts
+/// as 0.
 #[derive(Drop)]
 pub struct Tracer<R> {
     clock: R,
     blocks: Vec<State>,
     slots: Vec<Slot>,
-    // How many turns and waits there were, those among them for which there was no slot.
+    // How many turns and waits there were, including those without a slot.
     count: AtomicU64,
 }
 
-// What is known of a block. At any time one thread at most acts for it.
+// The state of a block. At most one thread at a time acts for it.
 #[derive(Drop)]
 struct State {
     outputs: usize,
     // When its turn began.
     began: AtomicU64,
-    // For which of its ports it waits, by its number; 0 for none.
+    // The number of the port at which it waits; 0 for none.
     port: AtomicU64,
-    // In which slot this wait is.
+    // The slot of this wait.
     slot: AtomicU64,
 }
 
@@ -56,7 +57,7 @@ struct State {
 #[derive(Drop)]
 struct Slot {
     block: AtomicU64,
-    // The number of the port for which the block waits; 0 for a turn.
+    // The number of the port at which the block waits; 0 for a turn.
     port: AtomicU64,
     firings: AtomicU64,
     began: AtomicU64,
@@ -64,7 +65,7 @@ struct Slot {
 }
 
 impl<R: Clock + Drop> Tracer<R> {
-    /// A tracer of the blocks of a graph with room for so many turns and waits together.
+    /// A tracer for the blocks of a graph, with room for so many turns and waits together.
     pub fn new<B: Block>(
         alloc: Global,
         clock: R,
@@ -104,7 +105,7 @@ impl<R: Clock + Drop> Tracer<R> {
         self.count().saturating_sub(self.slots.len() as u64)
     }
 
-    /// The kept event of this number, counted from 0, once the run is over.
+    /// After the run, the kept event of this number, counted from 0.
     pub fn event(&self, number: usize) -> Option<Event> {
         let slot = self.slots.get(number)?;
         let block = u32::try_from(read(&slot.block)).ok()?;
@@ -122,7 +123,7 @@ impl<R: Clock + Drop> Tracer<R> {
         })
     }
 
-    /// When the first of the kept events began; 0 where there is none.
+    /// When the first kept event began; 0 if there is none.
     pub fn beginning(&self) -> u64 {
         let began = self
             .slots
@@ -132,7 +133,7 @@ impl<R: Clock + Drop> Tracer<R> {
         began.min().unwrap_or(0)
     }
 
-    // Keeps a turn or a wait, if there is a slot for it, and gives the number of that.
+    // Keeps a turn or a wait, if there is a slot for it, and returns its number.
     fn keep(&self, block: BlockId, port: u64, firings: u32, began: u64, ended: u64) -> u64 {
         let number = self.count.fetch_add(1, Ordering::SeqCst);
         if let Some(slot) = self.slots.get(number as usize) {
@@ -205,7 +206,8 @@ impl State {
         }
     }
 
-    // The number of a port, from 1 on, outputs first: the input that a source waits for, its feed, is none of the ports.
+    // The number of a port, from 1 on, outputs first. A source waits for its feed at a number that is none of its
+    // ports.
     fn number_of(&self, need: Need) -> u64 {
         let before = match need {
             Need::Room(port) => port,
@@ -214,7 +216,7 @@ impl State {
         (before as u64).saturating_add(1)
     }
 
-    // What a block waits for at the port of a number.
+    // What a block waits for at the port of this number.
     fn need_of(&self, number: u64) -> Option<Need> {
         let before = (number as usize).checked_sub(1)?;
         match before.checked_sub(self.outputs) {

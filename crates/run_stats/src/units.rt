@@ -30,7 +30,7 @@ pub(crate) fn push_grouped(out: &mut Vec<u8>, number: u64) -> Result<(), AllocEr
     Ok(())
 }
 
-/// Writes a time in the greatest unit of which it has one, cut to a tenth.
+/// Writes a time in the greatest unit in which it is at least 1, cut to a tenth.
 pub(crate) fn push_time(out: &mut Vec<u8>, nanos: u64) -> Result<(), AllocError> {
     if nanos < THOUSAND {
         push_number(out, nanos)?;
@@ -47,25 +47,25 @@ pub(crate) fn push_time(out: &mut Vec<u8>, nanos: u64) -> Result<(), AllocError>
     }
 }
 
-/// Writes which part of a whole this is, in percent, cut to a tenth.
+/// Writes the share of a whole in percent, cut to a tenth.
 pub(crate) fn push_share(out: &mut Vec<u8>, part: u64, whole: u64) -> Result<(), AllocError> {
     push_tenths(out, per_mille(part, whole))?;
     out.extend_from_slice(b" %")
 }
 
-/// How many thousandths of a whole this is, cut; none of nothing.
+/// The share of a whole in thousandths, cut; 0 of an empty whole.
 pub(crate) fn per_mille(part: u64, whole: u64) -> u64 {
     if whole == 0 {
         return 0;
     }
     match part.checked_mul(THOUSAND) {
         Some(thousandfold) => thousandfold / whole,
-        // (of so long a time a thousandth is not missed)
+        // (in so long a time the loss is far below a thousandth)
         None => part / (whole / THOUSAND).max(1),
     }
 }
 
-/// The mean of so many, cut, if there is any.
+/// The mean, cut; none if the count is 0.
 pub(crate) fn mean(sum: u64, count: u64) -> Option<u64> {
     if count == 0 { None } else { Some(sum / count) }
 }
