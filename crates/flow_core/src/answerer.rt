@@ -1,4 +1,4 @@
-//! Who answers the commands of lines.
+//! Answers the commands of lines.
 
 ghost use Rattle.std.specs.Prelude.{List, ℕ, IfOk};
 ghost use Rattle.std.specs.Option.{option_map};
@@ -9,12 +9,13 @@ ghost use Rattle.flow_core.specs.Script.{IsAnswer};
 use script_text::Command;
 use std::alloc::{AllocError, Global};
 
-/// Who answers commands. What it waits for, it waits for by a handle.
+/// Answers commands. If it has to wait, it waits by a handle.
 pub(crate) trait Answerer<H> {
-    // How a command is answered: in which standing, which it leaves, and with which line.
+    // How a command is answered: what was asked, the state before and after, and the line.
     ghost answers: { Asked → Self → Self → List ℕ → Type 0 };
 
-    /// The line that answers a command; none where it is no command of a line here. An `Err` tells that no memory was there for the line.
+    /// The line that answers a command; none if lines here have no such command. An `Err` says that there was no memory
+    /// for the line.
     fn answer(
         &mut self,
         handle: &H,

@@ -1,4 +1,4 @@
-//! The command `check`: the report of the graph of a file.
+//! The command `check`: the report on the graph of a file.
 
 ghost use Rattle.std.specs.Prelude.{◌≡◌, ◌+◌, ◌<◌, ◌-◌, ◌^◌, IfOk, IfErr};
 ghost use Rattle.graph_file.specs.Blocks.{drafted};
@@ -15,7 +15,7 @@ use kinds::Kind;
 use rates::balance;
 use std::alloc::{AllocError, Global};
 
-/// Writes the report of the graph of a file, and gives the status.
+/// Writes the report on the graph of a file, and returns the status.
 pub fn check<O: ByteOut>(alloc: Global, file: &[u8], output: &mut O) -> Result<u8, Fault>
     requires writes { O.failed output.old < 2 ^ 64 - 1 }
     ensures does { IfOk result (Writes (IsCheck file.now) (O.contents output.old) (O.contents output.new)) }
@@ -28,7 +28,7 @@ pub fn check<O: ByteOut>(alloc: Global, file: &[u8], output: &mut O) -> Result<u
     }
 }
 
-/// Writes the report of the graph of a file whose feeds could go onto the tapes, and gives the status.
+/// Writes the report on the graph of a file, if its feeds fit the tapes, and returns the status.
 pub(crate) fn check_feeds<O: ByteOut>(
     alloc: Global,
     file: &[u8],
@@ -45,7 +45,7 @@ pub(crate) fn check_feeds<O: ByteOut>(
     }
 }
 
-// The report of the graph of a file.
+// The report on the graph of a file.
 fn check_file(alloc: Global, file: &[u8]) -> Result<CommandOutput, Fault>
     ensures ok { IfOk result (λ given. IsCheck file.now given.text.items given.status) }
     ensures refused { IfErr result (Refuses (graph_in file.now)) }
@@ -55,7 +55,7 @@ fn check_file(alloc: Global, file: &[u8]) -> Result<CommandOutput, Fault>
     Ok(CommandOutput { text, status: 0 })
 }
 
-// The report of the graph of a file whose plant can be opened.
+// The report on the graph of a file, if its plant can be opened.
 fn check_plant(alloc: Global, file: &[u8]) -> Result<CommandOutput, Fault>
     ensures ok { IfOk result (λ given. IsCheckOfFeeds file.now given.text.items given.status) }
     ensures refused { IfErr result (Refuses (plant_in file.now)) }
@@ -65,7 +65,7 @@ fn check_plant(alloc: Global, file: &[u8]) -> Result<CommandOutput, Fault>
     Ok(CommandOutput { text, status: 0 })
 }
 
-// The report of a valid graph.
+// The report on a valid graph.
 fn report_of(alloc: Global, graph: &Valid<Kind>) -> Result<Vec<u8>, AllocError>
     ensures { IfOk result (λ text. text.items ≡ check_text (drafted graph.now)) }
 {

@@ -23,28 +23,28 @@ use std::alloc::{AllocError, Global};
 // The exit status of a run that came to rest before all blocks were done.
 const STALLED: u8 = 3;
 
-/// What a command gives where it is done: the text to be written, and its exit status.
+/// What a finished command gives: the text to write, and its exit status.
 #[derive(Drop)]
 pub(crate) struct CommandOutput {
     pub(crate) text: Vec<u8>,
     pub(crate) status: u8,
 }
 
-/// What a run gives that came to rest, and its plant where it stalled.
+/// What a run that came to rest gives, and its plant if it stalled.
 #[derive(Drop)]
 pub(crate) struct RunOutput {
     pub(crate) given: CommandOutput,
     pub(crate) stalled: Option<Plant<Kind>>,
 }
 
-/// How a command ended whose text was written: its exit status, and the plant of a run that stalled.
+/// How a command ended, after its text was written: its exit status, and the plant of a run that stalled.
 #[derive(Drop)]
 pub(crate) struct CommandEnd {
     pub(crate) status: u8,
     pub(crate) stalled: Option<Plant<Kind>>,
 }
 
-/// What a run gives whose plant settled so.
+/// What a run gives after its plant settled like this.
 pub(crate) fn run_output(
     alloc: Global,
     plant: Plant<Kind>,
@@ -63,21 +63,21 @@ pub(crate) fn run_output(
     })
 }
 
-// The plant of a run that came to rest, where that was not the end.
+// The plant of a run that came to rest, if that was not the end.
 fn stalled_one(plant: Plant<Kind>, done: bool) -> Option<Plant<Kind>>
     ensures { option_map opened_of result ≡ (if done then None else Some (opened_of plant)) }
 {
     if done { None } else { Some(plant) }
 }
 
-/// The exit status of a run that came to rest: 3 where that was before all blocks were done.
+/// The exit status of a run that came to rest: 3 if that was before all blocks were done.
 pub fn status_of(done: bool) -> u8
     ensures { result ≡ (if done then 0 else 3) }
 {
     if done { 0 } else { STALLED }
 }
 
-/// Writes what a command gives, and gives its status.
+/// Writes what a command gives, and returns its status.
 pub(crate) fn write_output<O: ByteOut>(output: &mut O, given: &CommandOutput) -> Result<u8, Fault>
     requires { O.failed output.old < 2 ^ 64 - 1 }
     ensures ok { IfOk result (λ status. (status ≡ given.now.status) × Appends (O.contents output.old) (O.contents output.new) given.now.text.items) }
@@ -90,7 +90,7 @@ pub(crate) fn write_output<O: ByteOut>(output: &mut O, given: &CommandOutput) ->
     }
 }
 
-/// Writes what a run gives, and gives its status with its plant where it stalled.
+/// Writes what a run gives, and returns its status, with its plant if it stalled.
 pub(crate) fn write_run<O: ByteOut>(output: &mut O, ran: RunOutput) -> Result<CommandEnd, Fault>
     requires { O.failed output.old < 2 ^ 64 - 1 }
     ensures ok { IfOk result (λ ended. (ended.status ≡ ran.given.status) × (ended.stalled ≡ ran.stalled) × Appends (O.contents output.old) (O.contents output.new) ran.given.text.items) }

@@ -1,4 +1,4 @@
-//! The command `draw`: the graph of a file as text from which a picture is made.
+//! The command `draw`: the graph of a file as text that becomes a picture.
 
 ghost use Rattle.std.specs.Prelude.{◌≡◌, ◌+◌, ◌<◌, ◌-◌, ◌^◌, IfOk, IfErr};
 ghost use Rattle.drawings.specs.Drawings.{drawn_text};
@@ -14,7 +14,7 @@ use kinds::Kind;
 use rates::balance;
 use std::alloc::{AllocError, Global};
 
-/// Writes the graph of a file as text from which a picture is made, and gives the status.
+/// Writes the graph of a file as text that becomes a picture, and returns the status.
 pub(crate) fn draw<O: ByteOut>(
     alloc: Global,
     format: Format,

@@ -16,14 +16,14 @@ use threads::{RunError, RunFault};
 /// The number by which a file reports that memory ran out.
 pub const NO_MEMORY: u32 = 32;
 
-/// Why a command stopped. Its text is the number of the refusal, its name, and what the name alone does not say.
+/// Why a command stopped. Its text is the number of the refusal, its name, and what the name does not say.
 #[derive(Debug, Drop, Error)]
 pub enum Fault {
     /// The graph file is refused.
     File(FileFault),
     /// A line is refused, or a device or memory failed.
     Script(ScriptFault),
-    /// A run in threads came to no end.
+    /// A run in threads failed.
     Run(RunError),
 }
 
@@ -45,7 +45,7 @@ impl Fault {
     ghost use Rattle.refusal_codes.specs.Texts.{refusal_text};
     ghost use Rattle.flow_core.specs.Faults.{fault_text, file_of, status_of};
 
-    /// The exit status that the fault brings: 4 for memory, devices and threads, 1 for every other refusal.
+    /// The exit status for the fault: 4 for memory, devices and threads, 1 for every other refusal.
     pub fn status(&self) -> u8
         ensures { result ≡ status_of self.now }
     {
@@ -57,7 +57,7 @@ impl Fault {
         }
     }
 
-    /// What the fault is found in: the graph file, which has this name. It is empty where the file is not to blame.
+    /// The place of the fault: this name of the graph file, or nothing if the file is not to blame.
     pub fn found_in<'a>(&self, name: &'a str) -> &'a str
         ensures { result.now ≡ file_of name.now self.now }
     {
@@ -67,7 +67,7 @@ impl Fault {
         }
     }
 
-    /// The text of the fault in parts, for which no memory is asked.
+    /// The text of the fault in parts. It takes no memory.
     pub fn refusal_text(&self) -> RefusalText<'_>
         ensures { refusal_text result ≡ fault_text self.now }
     {

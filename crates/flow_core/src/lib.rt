@@ -1,19 +1,23 @@
-//! What the program `flow` does with a graph file and its standard streams, over any source and place of bytes.
+//! What the program `flow` does with a graph file and its standard streams, over any source and sink of bytes.
 //!
 //! ```text
 //! let status = serve(rt, alloc, Action::Run(Threading::Adaptive), Verbosity::WithNotes, name, file, &mut input, &mut output, &mut errors, gate, &mut watch);
 //! ```
 //!
-//! `serve` is all of it: its contract says which bytes come out for which bytes of the file and the input, and which status. Below it:
+//! `serve` does all of it. Its contract says which bytes and which status come out for the bytes of the file and of the
+//! input. Below it:
 //!
-//! - `check`, `draw`, `run`, `live` and `script` are the commands. Each opens the file (`opening`) and writes what it has to say (`command_output`).
-//! - `script` takes lines one by one, and an `answerer` has the reply to each: a `session` holds a plant, and has a module for each sort of command; `live`
-//!   has the lines make calls at the desk of a plant that runs.
+//! - `check`, `draw`, `run`, `live` and `script` are the commands. Each opens the file (`opening`) and writes its
+//!   output (`command_output`).
+//! - `script` takes lines one by one, and an `answerer` replies to each. A `session` holds a plant, and has a module
+//!   for each sort of command. In `live` the lines make calls at the desk of a running plant.
 //! - `threading` runs a plant in threads, `turn` says how much is done at once, and `reports` has the texts.
-//! - `fault`, `raw_fault` and `start_fault` say why a command stopped, and `refusal_line` writes that, without memory; `stalls` explains why a run came to rest.
-//! - `raw_input` and `raw_output` feed and write raw items in memory, for the library for C, and `tag_text` has tags as lines.
+//! - `fault`, `raw_fault` and `start_fault` say why a command stopped. `refusal_line` writes that without memory.
+//!   `stalls` explains why a run came to rest.
+//! - `raw_input` and `raw_output` feed and write raw items in memory, for the library for C. `tag_text` writes tags as
+//!   lines.
 //!
-//! Arguments, files and the terminal are those of `flow_command`.
+//! Arguments, files and the terminal belong to `flow_command`.
 #![tactic(auto)]
 
 mod answerer;

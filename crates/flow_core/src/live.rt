@@ -1,4 +1,5 @@
-//! The command `live`: the plant of a file runs in as many threads as its work is worth, while the lines of an input make calls of it.
+//! The command `live`: the plant of a file runs in as many threads as its work is worth, while the lines of an input
+//! make calls.
 
 ghost use Rattle.std.specs.Prelude.{◌≡◌, List, ℕ, Option, ◌<◌, ◌-◌, ◌^◌, true, get_or, vec_len, IfOk, IfErr};
 ghost use Rattle.std.specs.Option.{option_map};
@@ -34,7 +35,8 @@ use std::time::Clock;
 use threads::{Finished, Outcome, RunError, RunOptions, Threading};
 use top_block::TopBlock;
 
-/// Runs the plant of a file while the lines of `input` make calls of it, until it comes to rest behind the end of the input, and writes what its sinks hold.
+/// Runs the plant of a file while the lines of `input` make calls. After the end of the input it runs until it comes to
+/// rest. Then it writes what the sinks hold.
 pub(crate) fn run_live<
     R: Threads + Wait + Clock + Sync,
     I: ByteIn + Send,
@@ -61,15 +63,15 @@ pub(crate) fn run_live<
     let (plant, settled) = live_plant(rt, alloc, plant, input, output, watch)?;
     plant.recall();
     let ran = run_output(alloc, plant, settled)?;
-    // (the caller's thread may have left it so that no failure more can be counted)
+    // (the caller's thread may have left it at the greatest count of failures)
     if output.failures() == u64::MAX {
         return Err(Fault::Script(ScriptFault::Write));
     }
     write_run(output, ran)
 }
 
-// Runs a plant while the lines of `input` make calls of it, each answered on `output` before the next is read. At the end of the input
-// the run goes on until it comes to rest. It gives the plant back as it is then.
+// Runs a plant while the lines of `input` make calls. Each line is answered on `output` before the next is read. After
+// the end of the input the run goes on until it comes to rest. It returns the plant as it is then.
 fn live_plant<R: Threads + Wait + Clock + Sync, I: ByteIn + Send, O: ByteOut + Send, W: Watch>(
     rt: &R,
     alloc: Global,
@@ -111,7 +113,7 @@ fn one_caller<'a, I: ByteIn, O: ByteOut>(
     Ok(callers)
 }
 
-// The plant of a run that came to rest, where no line stopped it.
+// The plant of a run that came to rest, unless a line stopped it.
 fn came_to_rest<I: ByteIn, O: ByteOut>(
     finished: Finished<Kind, LineCaller<'_, I, O>>,
 ) -> Result<(Plant<Kind>, Settled), Fault>
@@ -142,18 +144,18 @@ fn end_of<I: ByteIn, O: ByteOut>(mut callers: Vec<LineCaller<'_, I, O>>) -> Resu
     }
 }
 
-// Why a run ended that lines asked to end.
+// Why a run ended, if lines asked for its end.
 fn stopped_by(fault: ScriptFault, outcome: &Outcome<Kind>) -> Fault
     ensures { IsCause (Err fault) result }
 {
     match outcome {
         Outcome::Done(_) | Outcome::Stopped(_) => Fault::Script(fault),
-        // Whoever stops by a fault asks for a stop.
+        // A caller that stops by a fault asks for a stop.
         Outcome::Stalled(_) => Fault::Run(RunError::Foreign),
     }
 }
 
-// The plant of a run that nobody asked to end.
+// The plant of a run, if nobody asked for its end.
 fn rested(outcome: Outcome<Kind>) -> Result<(Plant<Kind>, Settled), Fault>
     ensures rested { IfOk result (λ r. (o : OpeningState Kind) (history : List Noted) → LiveRunEndsIn meaning_of ⟦<Kind as PartialEq>⟧.eq o history outcome →
         HasReached meaning_of ⟦<Kind as PartialEq>⟧.eq o history r.0 × HasSettled (net_of meaning_of r.0.graph) r.0.capacities r.0.state r.1) }

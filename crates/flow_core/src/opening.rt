@@ -1,4 +1,4 @@
-//! What a graph file opens: its valid graph, its plant, and the plant that streams.
+//! Opens a graph file: its valid graph, its plant, and its plant that streams.
 
 ghost use Rattle.std.specs.Prelude.{◌≡◌, Ok, true, IfOk, IfErr};
 ghost use Rattle.stream_model.specs.Machine.{is_idle};
@@ -41,7 +41,7 @@ pub fn open_plant(alloc: Global, file: &[u8]) -> Result<Plant<Kind>, FileFault>
     }
 }
 
-/// The plant that streams of a graph file, with its feeds on the tapes, or why the file is refused.
+/// The streaming plant of a graph file, with its feeds on the tapes, or why the file is refused.
 pub fn open_stream(alloc: Global, file: &[u8]) -> Result<StreamingPlant<Kind>, FileFault>
     ensures ok { IfOk result (λ plant. streamed_in file.now ≡ Ok (opened_of plant.plant)) }
     ensures none { IfOk result (λ plant. ForgetsNone plant.kept) }

@@ -17,7 +17,7 @@ use std::alloc::AllocError;
 use std::fmt;
 use thiserror::Error;
 
-/// What is wrong at an end of a run: an input that feeds a source, or an output that takes what a sink holds.
+/// What is wrong at an end of a run. An end is an input that feeds a source, or an output that takes what a sink holds.
 #[derive(Clone, Copy, Debug, PartialEq, Eq)]
 pub enum EndFault {
     /// No block of the graph has the name.
@@ -28,17 +28,18 @@ pub enum EndFault {
     NotSink,
     /// The source's tape was closed before.
     Closed,
-    /// The tape would be longer than 2^32 items, or than a run that streams takes.
+    /// The tape would be longer than 2^32 items, or than a streaming run takes.
     TapeFull,
-    /// It could not be opened, or a read failed.
+    /// The input could not be opened, or a read failed.
     Read,
-    /// It could not be made, or a write failed.
+    /// The output could not be made, or a write failed.
     Write,
     /// The input ends within an item.
     CutItem,
-    /// The line of this number, from 1, is no mark.
+    /// The line of this number, counted from 1, is no mark.
     BadLine(u64),
-    /// The mark in the line of this number is on an item before that of the line above it, or on none of the items of the input.
+    /// The mark in the line of this number lies on an item before that of the line above, or on none of the input's
+    /// items.
     TagPlace(u64),
 }
 
@@ -55,10 +56,10 @@ pub enum EndPlace {
     Marks(usize),
 }
 
-/// Why a run with raw items stopped. Its text is the number of the refusal, its name, and what the name alone does not say.
+/// Why a run with raw items stopped. Its text is the number of the refusal, its name, and what the name does not say.
 #[derive(Debug, Drop, Error)]
 pub enum RawFault {
-    /// No end is to blame: the graph file is refused, the run failed, or memory or the report did.
+    /// No end is to blame: the graph file is refused, the run or the report failed, or memory ran out.
     Whole(Fault),
     /// An end of the run is refused, or its device failed.
     End(EndPlace, EndFault),
@@ -84,7 +85,7 @@ impl Refusal for EndFault {
 }
 
 impl EndPlace {
-    // The word for ends of its sort.
+    // The word for ends of this sort.
     fn word(self) -> &'static str
         ensures { result.now ≡ place_word self }
     {
@@ -124,7 +125,7 @@ impl Refusal for RawFault {
 impl RawFault {
     ghost use Rattle.flow_core.specs.RawFaults.{raw_fault_text, raw_status_of};
 
-    /// The exit status that the fault brings: 4 for memory, devices and threads, 1 for every other refusal.
+    /// The exit status for the fault: 4 for memory, devices and threads, 1 for every other refusal.
     pub fn status(&self) -> u8
         ensures { result ≡ raw_status_of self.now }
     {
@@ -135,7 +136,7 @@ impl RawFault {
         }
     }
 
-    /// The text of the fault in parts, for which no memory is asked.
+    /// The text of the fault in parts. It takes no memory.
     pub fn refusal_text(&self) -> RefusalText<'_>
         ensures { refusal_text result ≡ raw_fault_text self.now }
     {
@@ -151,7 +152,7 @@ impl RawFault {
     }
 }
 
-// The number and the name of a fault, its place, and the number of a line there.
+// The number and the name of a fault, its place, and a line number there.
 fn placed_line(row: (u32, &'static str), place: EndPlace, line: u64) -> RefusalText<'static>
     ensures { refusal_text result ≡ head (row.entry.0, row.entry.1.now) ++ place_text place ++ codes " " ++ decimal line }
 {

@@ -1,4 +1,4 @@
-//! Sources that are fed the raw items of an input, before the plant runs.
+//! Feeds sources the raw items of inputs, before the plant runs.
 
 ghost use Rattle.std.specs.Prelude.{◌≡◌, ℕ, ◌+◌, ◌-◌, ◌^◌, ◌<◌, List, Option, [], true, Ok, IfOk, IfErr, OnOk, length, position, bytes_eq};
 ghost use Rattle.stream_model.specs.Machine as machine;
@@ -27,8 +27,8 @@ use std::alloc::{AllocError, Global};
 // How many bytes of an input are read at once, at most.
 const PIECE: usize = 65_536;
 
-/// Reads an input to its end, piece by piece, and puts the items that its bytes are at the end of a source's tape. Where it stops by a fault, some of
-/// them may stand there.
+/// Reads an input to its end, piece by piece, and appends its bytes as items to a source's tape. If it stops by a
+/// fault, some of them may be there.
 pub fn feed_from<I: ByteIn>(
     alloc: Global,
     plant: &mut Plant<Kind>,
@@ -61,7 +61,7 @@ pub fn feed_from<I: ByteIn>(
         put_on(plant, number, source, &items)?;
         items.clear();
     }
-    // No tape is so long that an input has so many pieces.
+    // No tape takes the items of so many pieces.
     Err(RawFault::from(AllocError))
 }
 
@@ -82,7 +82,7 @@ fn source_type(plant: &Plant<Kind>, number: usize, source: BlockId) -> Result<It
     Err(RawFault::End(EndPlace::Input(number), fault))
 }
 
-// Puts items at the end of a source's tape.
+// Appends items to a source's tape.
 fn put_on(
     plant: &mut Plant<Kind>,
     number: usize,
@@ -106,13 +106,13 @@ fn put_on(
         PlantFault::NotSource => EndFault::NotSource,
         PlantFault::Closed => EndFault::Closed,
         PlantFault::TapeFull => EndFault::TapeFull,
-        // Items of the source's type without marks are refused for nothing else.
+        // Items of the source's type without marks have no other refusal.
         _ => unreachable!(),
     };
     Err(RawFault::End(EndPlace::Input(number), fault))
 }
 
-// Whether an input that has ended was whole items.
+// Whether an ended input consisted of whole items.
 fn whole(decoder: &Decoder, number: usize) -> Result<(), RawFault>
     ensures ok { OnOk result (decoder.now.cut ≡ []) }
     ensures cut { IfErr result (λ fault. (fault ≡ End (Input number) CutItem) × (0 < length decoder.now.cut)) }
@@ -125,7 +125,7 @@ fn whole(decoder: &Decoder, number: usize) -> Result<(), RawFault>
     }
 }
 
-/// The source of this name, which an input is to feed.
+/// The source of this name, for an input to feed.
 pub fn source_named(graph: &Valid<Kind>, place: EndPlace, name: &[u8]) -> Result<BlockId, RawFault>
     ensures { result ≡ source_at (net_of meaning_of graph.now) place (position (bytes_eq name.now) graph.now.names) }
 {
@@ -136,7 +136,7 @@ pub fn source_named(graph: &Valid<Kind>, place: EndPlace, name: &[u8]) -> Result
     }
 }
 
-/// The sink of this name, of which an output is to have what it holds.
+/// The sink of this name, for an output to take what it holds.
 pub fn sink_named(graph: &Valid<Kind>, place: EndPlace, name: &[u8]) -> Result<BlockId, RawFault>
     ensures { result ≡ sink_at (net_of meaning_of graph.now) place (position (bytes_eq name.now) graph.now.names) }
 {

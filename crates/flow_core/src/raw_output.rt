@@ -1,4 +1,4 @@
-//! What a sink holds, written piece by piece.
+//! Writes what a sink holds, piece by piece.
 
 ghost use Rattle.std.specs.Prelude.{◌≡◌, ◌+◌, ◌-◌, ◌^◌, ◌<◌, length, IfOk, IfErr, OnOk};
 ghost use Rattle.std.specs.Io.KnownBytes.{Appends};
@@ -111,7 +111,7 @@ fn next_piece(
 {
     match plant.read(alloc, sink, from, PIECE) {
         Ok(piece) => Ok(piece),
-        // Of a sink there is each item up to those that it holds.
+        // (a sink has each item up to the number that it holds)
         Err(_) => Err(AllocError),
     }
 }

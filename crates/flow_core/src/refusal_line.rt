@@ -1,4 +1,4 @@
-//! The line that says why a command stopped. No memory is asked for, so that every fault has one.
+//! The line that says why a command stopped. It takes no memory, so every fault has one.
 
 ghost use Rattle.std.specs.Prelude.{◌≡◌, ◌+◌, ◌-◌, ◌^◌, ◌<◌, ◌++◌, ◌∷◌, [], codes, OnOk, OnErr, is_ok, if◌then◌else◌};
 ghost use Rattle.std.specs.List.{flat_map};
@@ -16,7 +16,8 @@ use byte_io::{Broken, ByteOut};
 use itoa::Buffer;
 use refusal_codes::{RefusalText, TextPart};
 
-/// Writes the line that says why a command stopped, with the `name` of the graph file where that is refused. Whether that succeeds is nothing to the command.
+/// Writes the line that says why a command stopped, with the `name` of the graph file if that is refused. A failed
+/// write does not matter to the command.
 pub fn report<E: ByteOut>(fault: &Fault, name: &str, errors: &mut E)
     requires { E.failed errors.old < 2 ^ 64 - 1 }
     ensures { Tries (stream (E.contents errors.old) (E.failed errors.old)) (stream (E.contents errors.new) (E.failed errors.new)) (fault_line name.now fault.now) }
@@ -24,7 +25,8 @@ pub fn report<E: ByteOut>(fault: &Fault, name: &str, errors: &mut E)
     write_line(fault.refusal_text(), fault.found_in(name), errors);
 }
 
-/// Writes the line that says why a run with raw items stopped, with the `name` of what the fault is found in, if it has one. Whether that succeeds is nothing to the run.
+/// Writes the line that says why a run with raw items stopped, with the `name` of the fault's place, if there is one. A
+/// failed write does not matter to the run.
 pub fn report_raw<E: ByteOut>(fault: &RawFault, name: &str, errors: &mut E)
     requires { E.failed errors.old < 2 ^ 64 - 1 }
     ensures { Tries (stream (E.contents errors.old) (E.failed errors.old)) (stream (E.contents errors.new) (E.failed errors.new)) (raw_fault_line name.now fault.now) }
@@ -32,7 +34,7 @@ pub fn report_raw<E: ByteOut>(fault: &RawFault, name: &str, errors: &mut E)
     write_line(fault.refusal_text(), name, errors);
 }
 
-// Writes the line of a refusal with this text, found in what has that name.
+// Writes the line of a refusal with this text, at the place of this name.
 fn write_line<E: ByteOut>(text: RefusalText<'_>, name: &str, errors: &mut E)
     requires { E.failed errors.old < 2 ^ 64 - 1 }
     ensures { Tries (stream (E.contents errors.old) (E.failed errors.old)) (stream (E.contents errors.new) (E.failed errors.new)) (line_text (codes "flow: refused " ++ refusal_text text.entry ++ found_in name.now)) }
@@ -56,7 +58,7 @@ fn write_parts<E: ByteOut>(errors: &mut E, parts: &[TextPart<'_>], name: &str)
     write_end(errors, name);
 }
 
-// Writes the end of a line, which has a name in front where there is one.
+// Writes the end of a line, after the name if there is one.
 fn write_end<E: ByteOut>(errors: &mut E, name: &str)
     requires { E.failed errors.old < 2 ^ 64 - 1 }
     ensures { Tries (stream (E.contents errors.old) (E.failed errors.old)) (stream (E.contents errors.new) (E.failed errors.new)) (line_text (found_in name.now)) }
@@ -70,7 +72,7 @@ fn write_end<E: ByteOut>(errors: &mut E, name: &str)
     }
 }
 
-// Writes a name, which ends a line.
+// Writes a name at the end of a line.
 fn write_name<E: ByteOut>(errors: &mut E, name: &str)
     requires { E.failed errors.old < 2 ^ 64 - 1 }
     ensures { Tries (stream (E.contents errors.old) (E.failed errors.old)) (stream (E.contents errors.new) (E.failed errors.new)) (line_text name.now) }

@@ -1,4 +1,4 @@
-//! The report of a graph, and of a run at its end.
+//! The reports on a graph, and on a run at its end.
 
 ghost use Rattle.std.specs.Prelude.{◌≡◌, ◌++◌, ◌<◌, ◌^◌, length, IfOk, OnOk};
 ghost use Rattle.flowgraph.specs.Flowgraph.{net_of};
@@ -41,7 +41,7 @@ pub(crate) fn check_report(
     Ok(text)
 }
 
-// The rates, and where they are balanced how often each block fires.
+// The rates, and, if they are balanced, how often each block fires.
 fn add_rates(
     alloc: Global,
     text: &mut Vec<u8>,
@@ -97,7 +97,8 @@ pub(crate) fn run_report(
     Ok(text)
 }
 
-/// The report on a run of a plant that streams: how many items each sink has taken with those that were not drained, and how the run ended.
+/// The report on a run of a streaming plant: how many items each sink has taken, with those that were not drained, and
+/// how the run ended.
 pub fn stream_report(
     alloc: Global,
     plant: &StreamingPlant<Kind>,
@@ -113,7 +114,7 @@ pub fn stream_report(
     Ok(text)
 }
 
-// What a block holds that was not drained of it, where it keeps its items.
+// What a block holds and was not drained, if it keeps its items.
 fn add_rest(
     alloc: Global,
     text: &mut Vec<u8>,
@@ -129,7 +130,7 @@ fn add_rest(
             add_held(alloc, text, name, piece.held, &piece)
         }
         Err(PlantFault::NotSink) => Ok(()),
-        // A block that there is is refused only where memory runs out.
+        // (a block that exists is refused only if memory runs out)
         Err(_) => Err(AllocError),
     }
 }
@@ -144,7 +145,7 @@ fn add_end(alloc: Global, text: &mut Vec<u8>, settled: Settled) -> Result<(), Al
     }
 }
 
-// What a block holds, where it keeps its items.
+// What a block holds, if it keeps its items.
 fn add_sink(
     alloc: Global,
     text: &mut Vec<u8>,
@@ -160,12 +161,12 @@ fn add_sink(
             add_held(alloc, text, name, piece.held, &piece)
         }
         Err(PlantFault::NotSink) => Ok(()),
-        // A block that there is is refused only where memory runs out.
+        // (a block that exists is refused only if memory runs out)
         Err(_) => Err(AllocError),
     }
 }
 
-// All that a sink holds, so many items of it.
+// All that a sink holds: so many items.
 fn add_held(
     alloc: Global,
     text: &mut Vec<u8>,
@@ -185,7 +186,7 @@ fn add_held(
     add(alloc, text, sink)
 }
 
-// One line more.
+// Adds a line.
 fn add(alloc: Global, text: &mut Vec<u8>, report: Report<'_>) -> Result<(), AllocError>
     ensures { OnOk result (text.new.items ≡ text.old.items ++ line_text (reported report.entry)) }
 {

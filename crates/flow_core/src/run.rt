@@ -1,4 +1,4 @@
-//! The command `run`: the plant of a file runs until it comes to rest, and what its sinks hold is written.
+//! The command `run`: runs the plant of a file until it comes to rest, and writes what its sinks hold.
 
 ghost use Rattle.std.specs.Prelude.{◌≡◌, ◌+◌, ◌<◌, ◌-◌, ◌^◌, true, IfOk, IfErr};
 ghost use Rattle.std.specs.Option.{option_map};
@@ -51,7 +51,8 @@ pub(crate) fn run<
     }
 }
 
-/// Runs the plant of a file on one thread until it comes to rest, writes what its sinks hold, and gives the status. It starts no thread and waits for none.
+/// Runs the plant of a file on one thread until it comes to rest, writes what its sinks hold, and returns the status.
+/// It starts no thread and waits for none.
 pub fn run_alone<O: ByteOut, W: Watch>(
     alloc: Global,
     file: &[u8],
@@ -87,7 +88,7 @@ pub(crate) fn run_on_one<O: ByteOut, W: Watch>(
     }
 }
 
-// Lets the plant of a file run in threads until it comes to rest, where its sources give no more, and tells what it holds then.
+// Closes the sources of a file's plant, runs it in threads until it comes to rest, and reports what it holds then.
 fn run_file<
     G: Gate + Drop + Send + Sync + 'static,
     R: Threads + Wait + Clock + Copy + Send + Sync + 'static,
@@ -110,7 +111,7 @@ fn run_file<
     Ok(run_output(alloc, plant, settled)?)
 }
 
-// Lets the plant of a file run on one thread until it comes to rest, where its sources give no more, and tells what it holds then.
+// Closes the sources of a file's plant, runs it on one thread until it comes to rest, and reports what it holds then.
 fn run_file_alone<W: Watch>(alloc: Global, file: &[u8], watch: &mut W) -> Result<RunOutput, Fault>
     ensures ok { IfOk result (λ ran. IsRunAloneTo file.now (option_map opened_of ran.stalled) ran.given.text.items ran.given.status) }
     ensures refused { IfErr result (Refuses (plant_in file.now)) }
@@ -120,7 +121,7 @@ fn run_file_alone<W: Watch>(alloc: Global, file: &[u8], watch: &mut W) -> Result
     Ok(run_output(alloc, plant, settled)?)
 }
 
-/// Closes the sources of a plant, and steps its blocks until none can act. It gives the plant back as it is then.
+/// Closes the sources of a plant, and steps its blocks until none can act. It returns the plant as it is then.
 pub fn settle_plant<W: Watch>(
     alloc: Global,
     plant: Plant<Kind>,

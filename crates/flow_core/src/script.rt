@@ -1,4 +1,4 @@
-//! The command `script`: lines of an input, one by one, with a reply to each that asks something.
+//! The command `script`: does the lines of an input one by one, and replies to each that asks something.
 
 ghost use Rattle.std.specs.Prelude.{◌≡◌, ◌+◌, ◌-◌, ◌^◌, ◌<◌, ◌≤◌, suc, [], ◌∷◌, IfOk, IfErr, OnOk};
 ghost use Rattle.script_text.specs.Lines.{most_lines};
@@ -29,7 +29,7 @@ const PIECE: usize = 4096;
 /// Why a script stopped.
 #[derive(Clone, Copy, Debug, PartialEq, Eq, Error)]
 pub enum ScriptFault {
-    /// The line of this number, where the first is 1, says nothing that a line may say.
+    /// The line of this number, counted from 1, is no command.
     BadLine(u64),
     /// A read failed.
     Read,
@@ -58,7 +58,7 @@ impl ScriptFault {
     ghost use Rattle.refusal_codes.specs.Texts.{refusal_text};
     ghost use Rattle.flow_core.specs.Faults.{script_fault_text};
 
-    /// The text of the fault in parts, for which no memory is asked.
+    /// The text of the fault in parts. It takes no memory.
     pub fn refusal_text(&self) -> RefusalText<'static>
         ensures { refusal_text result ≡ script_fault_text self.now }
     {
@@ -98,7 +98,8 @@ impl From<AllocError> for ScriptFault {
     }
 }
 
-/// Does the commands of the input on the plant of a file, and writes their replies. It starts no thread and waits for none.
+/// Does the commands of the input on the plant of a file, and writes the replies. It starts no thread and waits for
+/// none.
 pub fn run_script<I: ByteIn, O: ByteOut>(
     alloc: Global,
     file: &[u8],
@@ -122,9 +123,10 @@ pub fn run_script<I: ByteIn, O: ByteOut>(
     }
 }
 
-/// Reads a script to its end, does what its lines say, and writes a reply to each line that asks something. Where it stops by a bad line, or since memory
-/// ran out at a command, the replies to all lines before that one were written; where a read fails, the replies to all whole lines that were read. No line
-/// that is bad takes memory, and none is read before all memory for lines and jobs is there.
+/// Reads a script to its end, does what its lines say, and writes a reply to each line that asks something. If it stops
+/// at a bad line, or because memory ran out at a command, the replies to all lines before that one were written. If a
+/// read fails, the replies to all whole lines that were read were written. No bad line takes memory, and no line is
+/// read before all memory for lines and jobs is there.
 pub fn script<B: Block, I: ByteIn, O: ByteOut>(
     alloc: Global,
     plant: Plant<B>,
@@ -173,7 +175,7 @@ pub(crate) fn answer_all<H, A: Answerer<H>, I: ByteIn, O: ByteOut>(
         lines.push(&buffer[..read]);
         answer_lines(handle, alloc, session, lines, output)?;
     }
-    // So many pieces have a bad line among them, since there may be only so many lines and none may be long.
+    // (among so many pieces there is a bad line: the number of lines is limited, and so is the length of each)
     Err(ScriptFault::Memory)
 }
 
@@ -202,7 +204,7 @@ fn answer_lines<H, A: Answerer<H>, O: ByteOut>(
     }
 }
 
-// Answers the next line, if its end has come, and tells whether it has.
+// Answers the next line, if its end has come, and returns whether it has.
 fn answer_next<H, A: Answerer<H>, O: ByteOut>(
     handle: &H,
     alloc: Global,
@@ -257,7 +259,7 @@ fn answer_last<H, A: Answerer<H>, O: ByteOut>(
     }
 }
 
-// Does what the command of the line of this number asks, and writes its reply.
+// Does the command in the line of this number, and writes its reply.
 fn answer_command<H, A: Answerer<H>, O: ByteOut>(
     handle: &H,
     alloc: Global,

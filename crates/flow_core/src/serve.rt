@@ -1,4 +1,4 @@
-//! What the program does with a graph file and its standard streams, over any source and place of bytes.
+//! What the program does with a graph file and its standard streams, over any source and sink of bytes.
 
 ghost use Rattle.std.specs.Prelude.{None, ◌≡◌, ◌<◌, ◌-◌, ◌^◌, IfOk, IfErr};
 ghost use Rattle.std.specs.Option.{option_map};
@@ -27,32 +27,34 @@ use threads::{Gate, GatedWatch};
 /// What the program is asked to do with a graph file.
 #[derive(Clone, Copy, Debug, PartialEq, Eq)]
 pub enum Action {
-    /// To report its graph.
+    /// Report its graph.
     Check,
-    /// To report its graph once its feeds have gone onto the tapes as well.
+    /// Put its feeds onto the tapes, and report its graph.
     CheckFeeds,
-    /// To write its graph as text from which a picture is made.
+    /// Write its graph as text that becomes a picture.
     Draw(Format),
-    /// To feed it, let it run to its end in threads, and tell what its sinks hold.
+    /// Feed it, run it to its end in threads, and report what its sinks hold.
     Run(Threading),
-    /// To feed it, let it run to its end on one thread, block by block, and tell what its sinks hold.
+    /// Feed it, run it to its end on one thread, block by block, and report what its sinks hold.
     RunAlone,
-    /// To feed it, let it run while the lines of standard input make calls of it, and tell what its sinks hold at the end.
+    /// Feed it, run it while the lines of standard input make calls, and report what its sinks hold at the end.
     Live,
-    /// To feed it and do the commands of standard input.
+    /// Feed it, and do the commands of standard input.
     Script,
 }
 
-/// Whether lines are written that no command asks for, such as why a run stalled.
+/// Whether to write lines that no command asks for, such as why a run stalled.
 #[derive(Clone, Copy, Debug, PartialEq, Eq)]
 pub enum Verbosity {
     WithNotes,
     Quiet,
 }
 
-/// Does an action. The status is 0 where all went well, 3 for a run that stalled, 1 for a refused file or line, and 4 for memory and devices; with
-/// 1 and 4 one line on `errors` says why, with the `name` of the file, if it has one, where the file is refused. With 3, unless the program is to be quiet, lines say what the blocks wait for. Whether these writes succeed changes
-/// nothing. A run is shown to `watch` while it goes on, and is over for it before anything is written; where there is a gate, the run passes it.
+/// Does an action. The status is 0 if all went well, 3 for a run that stalled, 1 for a refused file or line, and 4 for
+/// memory and devices. With 1 and 4 one line on `errors` says why. If the file is refused, and has a `name`, the line
+/// has that name. With 3, unless the program is to be quiet, lines say what the blocks wait for. Failures of these
+/// writes change nothing. `watch` sees the run while it goes on, and its end before anything is written. If there is a
+/// gate, the run passes it.
 pub fn serve<
     G: Gate + Drop + Send + Sync + 'static,
     R: Threads + Wait + Clock + Copy + Send + Sync + 'static,
@@ -126,7 +128,7 @@ fn obey<
     }
 }
 
-// What comes of an action that runs nothing to its end.
+// The end of an action that runs nothing to its end.
 fn unstalled(done: Result<u8, Fault>) -> Result<CommandEnd, Fault>
     ensures { Becomes (λ status ended. (ended.status ≡ status) × (ended.stalled ≡ None)) done result }
 {

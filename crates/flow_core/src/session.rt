@@ -26,8 +26,8 @@ use std::alloc::{AllocError, Global};
 use std::fmt;
 use std::marker::Model;
 
-/// A plant, and for each block the job that a line claimed, until one gives it back. A contract sees the plant, and of which blocks a job is
-/// kept.
+/// A plant, and for each block the job that a line has claimed, until a line gives it back. Contracts see the plant,
+/// and for which blocks a job is kept.
 #[derive(Drop)]
 pub struct Session<B: Block> {
     plant: Plant<B>,
@@ -52,7 +52,7 @@ impl<B: Block> Model for Session<B> {
 }
 
 impl<B: Block> Session<B> {
-    /// A script that begins. What is in flight on the plant was claimed by others.
+    /// A session that begins. Claims that are in flight on the plant belong to others.
     pub fn new(alloc: Global, plant: Plant<B>) -> Result<Session<B>, AllocError>
         ensures { IfOk result (λ session. session ≡ record { plant = plant; kept = none_kept plant }) }
     {
@@ -61,7 +61,7 @@ impl<B: Block> Session<B> {
         Ok(Session { plant, jobs })
     }
 
-    /// The plant. What lines claimed and did not give back stays in flight.
+    /// The plant. Claims that lines did not give back stay in flight.
     pub fn into_plant(self) -> Plant<B>
         ensures { result ≡ self.plant }
     {
@@ -72,7 +72,7 @@ impl<B: Block> Session<B> {
 impl<B: Block> Answerer<()> for Session<B> {
     ghost answers = { λ c old new line. IsAnswered (B.meaning) c old new line };
 
-    /// Makes the call that a command asks for, and gives its reply as a line.
+    /// Makes the call that a command asks for, and returns its reply as a line.
     fn answer(
         &mut self,
         _handle: &(),
@@ -140,7 +140,7 @@ pub(crate) fn find<B: Block>(graph: &Valid<B>, name: &BlockName) -> Option<Block
     find_named(graph, name.bytes())
 }
 
-/// The number of the block whose name is this text, which need not be one that a command may have.
+/// The number of the block with this name. The text may be one that no command can have.
 pub(crate) fn find_named<B: Block>(graph: &Valid<B>, name: &[u8]) -> Option<BlockId>
     ensures named { option_map (λ block. block.0) result ≡ position (bytes_eq name.now) graph.now.names }
     ensures inside { IfSome result (λ block. block.0 < length graph.now.blocks) }
@@ -149,7 +149,7 @@ pub(crate) fn find_named<B: Block>(graph: &Valid<B>, name: &[u8]) -> Option<Bloc
     graph.find(name)
 }
 
-// Does what a command asks of all blocks. One with the name of a block is none of these.
+// Does a command on all blocks. Commands that name a block are not among these.
 fn answer_all<B: Block>(
     alloc: Global,
     plant: &mut Plant<B>,
@@ -178,7 +178,7 @@ fn answer_all<B: Block>(
     }
 }
 
-// Makes the call that a command asks for on a block.
+// Makes the call on a block that a command asks for.
 fn answer_on<B: Block>(
     alloc: Global,
     plant: &mut Plant<B>,

@@ -1,4 +1,5 @@
-//! How the program explains a run that stalled. Its lines take no memory; the rates do, and where it runs out nothing is said of them.
+//! How the program explains a run that stalled. Its lines take no memory. The rates take some; if it runs out, nothing
+//! is said of them.
 
 ghost use Rattle.std.specs.Prelude.{◌≡◌, ◌+◌, ◌-◌, ◌^◌, ◌<◌, ◌++◌, Bool, length, IfSome};
 ghost use Rattle.std.specs.List.{flat_map};
@@ -27,7 +28,7 @@ use std::alloc::Global;
 const UNEVEN: &[u8] =
     b"flow: stalled: the rates are uneven: on longer streams any capacity may fill\n";
 
-/// Tells why a run stalled, if it did and that is wanted.
+/// Tells why a run stalled, if it did and if that is wanted.
 pub(crate) fn note_stall<E: ByteOut>(
     alloc: Global,
     verbosity: Verbosity,
@@ -43,7 +44,7 @@ pub(crate) fn note_stall<E: ByteOut>(
     }
 }
 
-/// Writes what the blocks of a plant that stalled wait for, up to the first write that fails.
+/// Writes what the blocks of a stalled plant wait for, up to the first write that fails.
 pub fn explain_stall<P: StalledPlant, E: ByteOut>(alloc: Global, plant: &P, errors: &mut E)
     requires { E.failed errors.old < 2 ^ 64 - 1 }
     ensures { Explains (opened_of (P.seen plant.now)) (stream (E.contents errors.old) (E.failed errors.old)) (stream (E.contents errors.new) (E.failed errors.new)) }
@@ -52,7 +53,7 @@ pub fn explain_stall<P: StalledPlant, E: ByteOut>(alloc: Global, plant: &P, erro
     let _ = tell_stall(errors, plant, rates);
 }
 
-// What is said of the rates of a graph.
+// The line about the rates of a graph.
 fn rates_line(alloc: Global, graph: &Valid<Kind>) -> &'static [u8]
     ensures { (known : Bool) × (result.now ≡ uneven_line known (balance_of (net_of meaning_of graph.now))) }
 {
@@ -82,7 +83,7 @@ fn tell_stall<P: StalledPlant, E: ByteOut>(
     }
 }
 
-// Writes of each block of the ring that a block is on what it waits for, and what may open the ring.
+// Writes what each block of a ring waits for, and what may open the ring. The ring is that of this block.
 fn tell_ring<P: StalledPlant, E: ByteOut>(
     errors: &mut E,
     plant: &P,
@@ -100,7 +101,7 @@ fn tell_ring<P: StalledPlant, E: ByteOut>(
     errors.write(rates)
 }
 
-// The lowest of a block and of as many to which waits lead from it as there are blocks.
+// The lowest among a block and those that waits lead to from it, in as many steps as there are blocks.
 fn lowest<P: StalledPlant>(plant: &P, block: BlockId) -> BlockId
     requires { block.0 < length (P.seen plant.now).graph.blocks }
     ensures value { let net = net_of meaning_of (P.seen plant.now).graph in result.0 ≡ lowest_from net (P.seen plant.now).capacities (P.seen plant.now).state (length net.nodes) block.0 }
@@ -115,7 +116,7 @@ fn lowest<P: StalledPlant>(plant: &P, block: BlockId) -> BlockId
     BlockId(lowest)
 }
 
-// Writes what each block of a ring waits for, from this one on.
+// Writes what each block of a ring waits for, from this block on.
 fn tell_waits<P: StalledPlant, E: ByteOut>(
     errors: &mut E,
     plant: &P,
@@ -137,7 +138,7 @@ fn tell_waits<P: StalledPlant, E: ByteOut>(
     Ok(())
 }
 
-// The first block of a ring that waits for room, from this one on.
+// The first block of a ring that waits for room, from this block on.
 fn full<P: StalledPlant>(plant: &P, first: BlockId) -> Option<BlockId>
     requires { first.0 < length (P.seen plant.now).graph.blocks }
     ensures value { let net = net_of meaning_of (P.seen plant.now).graph in let caps = (P.seen plant.now).capacities in let st = (P.seen plant.now).state in
@@ -196,7 +197,7 @@ fn tell_opener<P: StalledPlant, E: ByteOut>(
     )
 }
 
-// Writes of each source that waits to be fed that it is open.
+// Writes that a source is open, for each source that waits to be fed.
 fn tell_open<P: StalledPlant, E: ByteOut>(errors: &mut E, plant: &P) -> Result<(), Broken>
     requires { E.failed errors.old < 2 ^ 64 - 1 }
     ensures { Puts result (stream (E.contents errors.old) (E.failed errors.old)) (stream (E.contents errors.new) (E.failed errors.new)) (open_text (drafted (P.seen plant.now).graph) (P.seen plant.now).capacities (P.seen plant.now).state) }
@@ -207,7 +208,7 @@ fn tell_open<P: StalledPlant, E: ByteOut>(errors: &mut E, plant: &P) -> Result<(
     Ok(())
 }
 
-// Writes of a block that it is open, where it is a source that waits to be fed.
+// Writes that a block is open, if it is a source that waits to be fed.
 fn tell_if_open<P: StalledPlant, E: ByteOut>(
     errors: &mut E,
     plant: &P,
@@ -234,7 +235,7 @@ fn tell_if_open<P: StalledPlant, E: ByteOut>(
     }
 }
 
-// Writes what a block waits for, where it waits for another.
+// Writes what a block waits for, if it waits for another block.
 fn tell_wait<P: StalledPlant, E: ByteOut>(
     errors: &mut E,
     plant: &P,
@@ -275,7 +276,7 @@ fn tell_wait<P: StalledPlant, E: ByteOut>(
     }
 }
 
-// The block that a block waits for, or the block itself where it waits for none.
+// The block that a block waits for, or the block itself if it waits for none.
 fn next<P: StalledPlant>(plant: &P, block: BlockId) -> BlockId
     requires { block.0 < length (P.seen plant.now).graph.blocks }
     ensures value { result.0 ≡ next_of (net_of meaning_of (P.seen plant.now).graph) (P.seen plant.now).capacities (P.seen plant.now).state block.0 }

@@ -1,20 +1,20 @@
-//! Why the program begins no command.
+//! Why the program does not begin a command.
 
 ghost use Rattle.std.specs.Prelude.{◌≡◌};
 ghost use Rattle.flow_core.specs.Starts.{start_text, start_status, words_fault, call_fault, file_fault, trace_fault};
 
 use std::io::ErrorKind;
 
-/// Why no command is begun.
+/// Why no command begins.
 #[derive(Clone, Copy, Debug, PartialEq, Eq)]
 pub enum StartFault {
     /// A word is no UTF-8.
     NoText,
-    /// The words say nothing that the program does. What reads them has a text for that.
+    /// The words ask for nothing that the program does. The parser of words has a text for that.
     BadWords,
     /// The graph file could not be read.
     NoFile,
-    /// The file of a trace could not be made, or a write to it failed once the run was over.
+    /// The file of a trace could not be made, or a write to it failed after the run.
     NoTrace,
     /// Standard output did not take what a command without a graph file prints.
     NoOutput,
@@ -23,7 +23,7 @@ pub enum StartFault {
 }
 
 impl StartFault {
-    /// Why the words could not be had.
+    /// Why the words could not be read.
     pub fn of_words(kind: ErrorKind) -> StartFault
         ensures { result ≡ words_fault kind }
     {
@@ -33,7 +33,7 @@ impl StartFault {
         }
     }
 
-    /// Why the words were not taken for a call.
+    /// Why the words make no call.
     pub fn of_call(is_out_of_memory: bool) -> StartFault
         ensures { result ≡ call_fault is_out_of_memory }
     {
@@ -64,7 +64,7 @@ impl StartFault {
         }
     }
 
-    /// What is written of it, with the end of its line; nothing of bad words.
+    /// The text of the fault, with the end of its line; empty for bad words.
     pub fn text(self) -> &'static str
         ensures { result.now ≡ start_text self }
     {
@@ -78,7 +78,7 @@ impl StartFault {
         }
     }
 
-    /// The exit status that it brings: 2 for words, 4 for memory and devices.
+    /// The exit status for the fault: 2 for words, 4 for memory and devices.
     pub fn status(self) -> u8
         ensures { result ≡ start_status self }
     {

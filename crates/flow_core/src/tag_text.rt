@@ -9,7 +9,8 @@ use items::Tag;
 use script_text::push_tag_lines;
 use std::alloc::{AllocError, Global};
 
-/// A line for each tag: `@`, its offset, a colon, its key, `=`, its value, `/` and its source. It fails only where the allocator refuses.
+/// A line for each tag: `@`, its offset, a colon, its key, `=`, its value, `/` and its source. It fails only if the
+/// allocator refuses.
 pub fn tag_lines(alloc: Global, tags: &[Tag]) -> Result<Vec<u8>, AllocError>
     ensures { IfOk result (λ text. text.items ≡ flat_map tag_line (map tag_of tags.now)) }
 {

@@ -19,8 +19,8 @@ pub use threads::Threading;
 use threads::{Gate, Outcome, RunFault, RunOptions, Turns};
 use top_block::TopBlock;
 
-/// Closes the sources of a plant, runs it in threads, and shows it to `watch` until it comes to rest; where there is a gate, it passes that. It gives
-/// the plant back as it is then, and a run that fails gives it back in its fault.
+/// Closes the sources of a plant, runs it in threads, and shows it to `watch` until it comes to rest. If there is a
+/// gate, the run passes it. It returns the plant as it is then; a failed run returns it in its fault.
 pub(crate) fn run_plant<
     G: Gate + Drop + Send + Sync + 'static,
     R: Threads + Wait + Clock + Copy + Send + Sync + 'static,

@@ -1,4 +1,4 @@
 //! How much of a run is done at once.
 
-/// How many firings of a block a worker claims at once, or a plant that settles makes in one step, at most.
+/// The most firings of a block that a worker claims at once, or that a settling plant makes in one step.
 pub const TURN: u32 = 65_536;

@@ -21,7 +21,7 @@ use threads::{Desk, Gate};
 impl<B: Block, G: Gate + Drop, R: Wait> Answerer<R> for Desk<'_, B, G> {
     ghost answers = { λ c old new line. AtDesk B.meaning c old new line };
 
-    /// Makes the call that a command asks for, and gives its reply as a line. Claims belong to the workers.
+    /// Makes the call that a command asks for, and returns its reply as a line. Claims belong to the workers.
     fn answer(
         &mut self,
         rt: &R,

@@ -13,8 +13,8 @@ use std::alloc::Global;
 use std::sync::Wait;
 use threads::{Caller, Desk, Gate};
 
-/// Makes the calls that the lines of an input ask for, and writes the reply to each before it reads on. Where it cannot go on it asks for the end
-/// of the run, and keeps the reason.
+/// Makes the calls that the lines of an input ask for, and writes the reply to each before it reads on. If it cannot go
+/// on, it asks for the end of the run, and keeps the reason.
 #[derive(Drop)]
 pub(crate) struct LineCaller<'a, I: ByteIn, O: ByteOut> {
     pub(crate) input: &'a mut I,
@@ -23,7 +23,7 @@ pub(crate) struct LineCaller<'a, I: ByteIn, O: ByteOut> {
 }
 
 impl<I: ByteIn, O: ByteOut> Caller<Kind> for LineCaller<'_, I, O> {
-    // Of an end of which as many calls failed as can be counted nothing is said.
+    // Nothing is said of an end whose count of failed calls is the greatest.
     ghost ran = { λ old new desk log. I.failed old.input.now < 2 ^ 64 - 1 → O.failed old.output.now < 2 ^ 64 - 1 →
         Finishes (AtDesk meaning_of) desk (with_log desk log) (I.remaining old.input.now) (I.remaining new.input.now) (O.contents old.output.now) (O.contents new.output.now) new.ended };
 
@@ -35,7 +35,7 @@ impl<I: ByteIn, O: ByteOut> Caller<Kind> for LineCaller<'_, I, O> {
     }
 }
 
-// Answers all lines. An end of which as many calls failed as can be counted is not asked again.
+// Answers all lines. An end whose count of failed calls is the greatest is not called again.
 fn answer<G: Gate + Drop, R: Wait, I: ByteIn, O: ByteOut>(
     rt: &R,
     alloc: Global,

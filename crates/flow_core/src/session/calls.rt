@@ -1,4 +1,4 @@
-//! Commands that are calls of a plant and nothing more.
+//! Commands that are single calls of a plant.
 
 ghost use Rattle.std.specs.Prelude.{◌≡◌, ◌≤◌, ◌<◌, ◌||◌, length, IfOk};
 ghost use Rattle.stream_model.specs.Machine as machine;
@@ -80,7 +80,7 @@ pub(crate) fn set<B: Block>(
     }
 }
 
-/// The value that numbers are for a setting. Taps of another number are refused before they take memory.
+/// The value that numbers give a setting. If the count of taps is wrong, they are refused before they take memory.
 pub fn value_for(alloc: Global, wanted: Wanted, numbers: &[i64]) -> Result<Value, PlantFault>
     ensures { IsValueFor wanted numbers.now result }
 {

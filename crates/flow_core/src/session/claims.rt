@@ -10,7 +10,7 @@ use plant::{BlockId, Claim, Did, Job, Plant};
 use script_text::Reply;
 use std::alloc::{AllocError, Global};
 
-// The number by which a claim is refused that is not kept.
+// The number that refuses a claim that is not kept.
 const FOREIGN: u32 = 30;
 
 /// Claims firings of a block, and keeps the job.

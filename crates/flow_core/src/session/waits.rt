@@ -38,7 +38,7 @@ pub(crate) fn why<B: Block>(
     }
 }
 
-/// What a block of the graph waits for. If it is for a block, that is one of the graph.
+/// What a block of the graph waits for. If it waits for a block, that is one of the graph.
 pub(crate) fn need<B: Block>(plant: &Plant<B>, block: BlockId) -> BlockNeed
     requires { block.0 < length plant.now.graph.blocks }
     ensures value { wait_told (wait_in (Ok result)) ≡ wait_of (net_of B.meaning plant.now.graph) plant.now.capacities plant.now.state block.0 }
