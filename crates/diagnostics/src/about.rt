@@ -1,16 +1,17 @@
-//! What each kind of blocks gives, in a line.
+//! What each kind of block gives, in one line.
 
 use block_parameters::Parameter;
 use kinds::KindName;
 
-/// What there is to say of a kind beside its parameters.
+/// The text about a kind, apart from its parameters.
 #[derive(Clone, Copy, Debug)]
 pub(crate) struct KindText {
-    /// Item n of its output, where `x` is its input, and `c(n)` and `h(n)` are what is set at the input item that item n is made of.
+    /// Item n of its output. `x` is its input; `c(n)` and `h(n)` are the settings at the input item that item n is made
+    /// of.
     pub(crate) equation: &'static str,
-    /// How many items it gives for how many; nothing for the ends of a graph.
+    /// How many items it gives for how many; empty for the ends of a graph.
     pub(crate) rate: &'static str,
-    /// A type or parameters, and items that it makes of others.
+    /// A type or parameters, and what it makes of some items.
     pub(crate) example: &'static str,
 }
 
@@ -30,7 +31,7 @@ pub(crate) fn setting_of(kind: KindName) -> Option<Parameter> {
     }
 }
 
-/// What is said of a kind.
+/// The text about a kind.
 pub(crate) fn text_of(kind: KindName) -> KindText {
     let (equation, rate, example) = match kind {
         KindName::VectorSource => ("the items that it is fed", "", ""),

@@ -1,4 +1,4 @@
-//! What the lines of scripts may be, and where a bad one is bad.
+//! The lines that scripts may have, and where a bad line is bad.
 
 use crate::expected::KEY_TEXT;
 use crate::tokens::{Span, part, rest};
@@ -10,25 +10,25 @@ pub(crate) const COMMANDS: [&str; 11] = [
     "feed", "close", "set", "step", "claim", "commit", "abandon", "read", "why", "quiet", "settle",
 ];
 
-/// Those of a live run.
+/// The commands of a live run.
 pub(crate) const CALLS: [&str; 4] = ["feed", "close", "set", "read"];
 
-// What a field behind the word of a command is.
+// The form of a field after the word of a command.
 #[derive(Clone, Copy)]
 enum Form {
     Name,
     // Where a setting begins.
     At,
-    // From which item on is read.
+    // The item that a read begins at.
     From,
     Max,
     // One of the numbers of a setting, up to the end of the line.
     Number,
-    // An item, or a tag behind all items, up to the end of the line.
+    // An item, or, after all items, a tag; up to the end of the line.
     Given,
 }
 
-/// What the line of a command is.
+/// The form of a command's line.
 pub(crate) fn grammar(word: &[u8]) -> Option<&'static str> {
     match word {
         b"feed" => Some("feed NAME ITEM.. @OFFSET:KEY=VALUE.."),
@@ -46,7 +46,7 @@ pub(crate) fn grammar(word: &[u8]) -> Option<&'static str> {
     }
 }
 
-// The fields behind the word of a command.
+// The fields after the word of a command.
 fn forms_of(word: &[u8]) -> &'static [Form] {
     match word {
         b"feed" => &[Form::Name, Form::Given],
@@ -58,7 +58,7 @@ fn forms_of(word: &[u8]) -> &'static [Form] {
     }
 }
 
-/// The first field of a line that begins at a place or behind it; an empty one at the end where none is left.
+/// The first field of a line that begins at or after a place; an empty one at the end if none is left.
 pub(crate) fn field_from(line: &[u8], from: usize) -> Span {
     let start = spaces_end(line, from);
     let mut end = start;
@@ -82,14 +82,15 @@ fn spaces_end(line: &[u8], from: usize) -> usize {
     end
 }
 
-/// Where a line is bad, and of a part of a tag its name and what it is.
+/// Where a line is bad. For a part of a tag, also the part's name and form.
 #[derive(Clone, Copy)]
 pub(crate) struct Bad {
     pub place: usize,
     pub part: Option<(&'static str, &'static str)>,
 }
 
-/// The first field that may not stand where it does in the line of a command, or the first part of it if that is a tag; the word where fields are missing.
+/// The first field of a command's line that may not stand there; of a tag, its first bad part. If fields are missing,
+/// it is the command's word.
 pub(crate) fn bad_part(alloc: Global, line: &[u8]) -> Result<Bad, AllocError> {
     let word = field_from(line, 0);
     let forms = forms_of(part(line, word));
@@ -118,7 +119,7 @@ fn whole(place: usize) -> Bad {
     Bad { place, part: None }
 }
 
-// Where a field that begins at a place is bad.
+// Where the field that begins at a place is bad.
 fn bad_field(
     alloc: Global,
     start: usize,
@@ -131,7 +132,7 @@ fn bad_field(
     }
 }
 
-// Which part is bad of a tag whose text behind its `@` begins at a place; the tag where it lacks a part.
+// The bad part of a tag; the tag itself if it lacks a part. The tag's text after `@` begins at `start`.
 fn bad_tag(alloc: Global, start: usize, tag: &[u8]) -> Result<Bad, AllocError> {
     let offset = before(tag, b':');
     let from_key = rest(tag, offset.len().saturating_add(1));
@@ -161,7 +162,7 @@ fn named(place: usize, name: &'static str, shape: &'static str) -> Bad {
     }
 }
 
-// What stands before the first of these bytes, or all where there is none.
+// The text before the first `mark`, or all of it if there is none.
 fn before(text: &[u8], mark: u8) -> &[u8] {
     for (end, byte) in text.iter().enumerate() {
         if *byte == mark {
@@ -171,7 +172,7 @@ fn before(text: &[u8], mark: u8) -> &[u8] {
     text
 }
 
-// The form of the field of a number, where a line may have so many.
+// The form of the field of this number, if a line may have so many.
 fn form_at(forms: &[Form], number: usize) -> Option<Form> {
     match (forms.get(number), forms.last()) {
         (Some(form), _) => Some(*form),
@@ -181,7 +182,7 @@ fn form_at(forms: &[Form], number: usize) -> Option<Form> {
     }
 }
 
-// Whether a field has a form: whether a line is good whose other fields are.
+// Whether a field has a form: whether a line with this field and other good ones is good.
 fn fits(alloc: Global, form: Form, has_tags: bool, field: &[u8]) -> Result<bool, AllocError> {
     let (before, behind) = match form {
         Form::Name => ("why ", ""),
@@ -195,7 +196,7 @@ fn fits(alloc: Global, form: Form, has_tags: bool, field: &[u8]) -> Result<bool,
     is_line_of(alloc, [before.as_bytes(), field, behind.as_bytes()])
 }
 
-// Whether these texts, one behind the other, are the line of a command.
+// Whether these texts, one after the other, are the line of a command.
 fn is_line_of(alloc: Global, parts: [&[u8]; 3]) -> Result<bool, AllocError> {
     let mut line = Vec::new(alloc);
     match put_parts(&mut line, &parts) {

@@ -19,7 +19,7 @@ pub(crate) struct Document<'a> {
 }
 
 impl<'a> Document<'a> {
-    /// A text, and what it says.
+    /// A text, and the table that it means.
     pub fn new(alloc: Global, text: &'a [u8], table: Table) -> Result<Document<'a>, AllocError> {
         let entries = entries_of(alloc, text)?;
         Ok(Document {
@@ -30,7 +30,7 @@ impl<'a> Document<'a> {
         })
     }
 
-    /// The table of a place.
+    /// The table at a place.
     pub fn table_at(&self, place: FilePlace) -> Option<&Table> {
         match place {
             FilePlace::Top => Some(&self.table),
@@ -52,7 +52,7 @@ impl<'a> Document<'a> {
         values_at(&self.table, Key::Feed)
     }
 
-    /// The kind of the block of a table.
+    /// The kind of the block that a table describes.
     pub fn kind_at(&self, place: FilePlace) -> Option<KindName> {
         KindName::named(text_at(self.table_at(place)?, Key::Kind))
     }
@@ -80,7 +80,7 @@ impl<'a> Document<'a> {
         Ok(names)
     }
 
-    /// What is wrong where a table begins.
+    /// A finding at the beginning of a table.
     pub fn at_table(&self, place: FilePlace, message: String) -> Finding {
         Finding {
             place: self.start_of(place),
@@ -88,7 +88,7 @@ impl<'a> Document<'a> {
         }
     }
 
-    /// What is wrong with the value of a key; where the key is not found, its table.
+    /// A finding at the value of a key, or at the table if the key is not found.
     pub fn at_value(&self, place: FilePlace, key: Key, message: String) -> Finding {
         Finding {
             place: self.value_of(place, key),
@@ -106,7 +106,7 @@ impl<'a> Document<'a> {
         0
     }
 
-    /// Where the value of a key begins, or the table where the key is not found.
+    /// Where the value of a key begins, or the table if the key is not found.
     pub fn value_of(&self, place: FilePlace, key: Key) -> usize {
         for entry in &self.entries {
             if let Some(word) = entry.key {
@@ -118,7 +118,8 @@ impl<'a> Document<'a> {
         self.start_of(place)
     }
 
-    /// Where the item of this number begins in the array of a place, which its brackets or its headers make; or else the place.
+    /// Where the item of this number begins in the array at a place, which may be in brackets or made by headers; else
+    /// the place itself.
     pub fn item_of(&self, array: usize, number: usize) -> usize {
         match self.header_of(array, number) {
             Some(header) => header,
@@ -126,9 +127,10 @@ impl<'a> Document<'a> {
         }
     }
 
-    // Where the header of this number begins, of those that make the array of a place, or the place where there are fewer. None where no table begins there.
+    // Where the header of this number begins, among those that make the array at a place; the place itself if there are
+    // fewer. None if no table begins at the place.
     fn header_of(&self, place: usize, number: usize) -> Option<usize> {
-        // (of a key the value begins behind it)
+        // (the value of a key begins after the key)
         let first = self
             .entries
             .iter()
@@ -146,7 +148,7 @@ impl<'a> Document<'a> {
         Some(place)
     }
 
-    // The first word of a key or a header; of a table of its own it is empty.
+    // The first word of a key or a header; empty if the entry is a table itself.
     fn word_of(&self, entry: &Entry) -> &[u8] {
         match entry.key {
             Some(word) => part(self.text, word),
@@ -186,7 +188,7 @@ impl<'a> Document<'a> {
         array
     }
 
-    /// Which line has a place, from 1.
+    /// The line of a place, from 1.
     pub fn line_of(&self, place: usize) -> usize {
         line_of(self.text, place)
     }

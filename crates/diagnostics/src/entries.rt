@@ -1,4 +1,4 @@
-//! The tables and keys of a graph file, each with its place in the text. What is no TOML has some, too.
+//! The tables and keys of a graph file, each with its place in the text. A text that is not TOML has some too.
 
 use crate::tokens::{Mark, Span, Token, blank_end, first_place, next_token, part};
 use graph_file::FilePlace;
@@ -9,7 +9,7 @@ use std::alloc::{AllocError, Global};
 pub(crate) struct Entry {
     /// The table.
     pub table: FilePlace,
-    /// Of a key its first word without quotes; none where the table itself begins here.
+    /// The first word of a key, without quotes; none if the table itself begins here.
     pub key: Option<Span>,
     /// Where it begins.
     pub start: usize,
@@ -20,9 +20,9 @@ pub(crate) struct Entry {
 // What is read.
 #[derive(Clone, Copy, PartialEq, Eq)]
 enum Step {
-    // The begin of a line of the document.
+    // The beginning of a line of the document.
     Line,
-    // A header, behind its first bracket.
+    // A header, after its first bracket.
     Header,
     // A key, up to its `=`.
     Key,
@@ -49,13 +49,13 @@ struct Scan<'a> {
     path: Path,
     // How many brackets of a value are open.
     depth: usize,
-    // The table of the keys that are read: that of the last header, none where it is another.
+    // The table of the keys that follow: that of the last header; none if that is a table of another sort.
     table: Option<FilePlace>,
     // The table of an inline array, at depth 2.
     inner: Option<FilePlace>,
-    // The key of the document whose value is read, where that may be an array of such tables.
+    // The key of the document whose value is being read, if that may be an array of such tables.
     array: Option<Span>,
-    // How many tables of each array came.
+    // How many tables of each array have come.
     blocks: usize,
     connections: usize,
     feeds: usize,
@@ -146,7 +146,8 @@ impl Scan<'_> {
         Ok(())
     }
 
-    // Takes a header whose words are there. Where it is of no table of an array, it is a key of the document, or of the last such table.
+    // Takes a header, with all its words. If it is of no table of an array, it is a key of the document, or of the last
+    // such table.
     fn end_header(&mut self) -> Result<(), AllocError> {
         let Path {
             count,
@@ -190,7 +191,7 @@ impl Scan<'_> {
         Ok(())
     }
 
-    // Takes a key whose words are there, and whose value begins at a place.
+    // Takes a key, with all its words. Its value begins at `value`.
     fn end_key(&mut self, value: usize) -> Result<(), AllocError> {
         let Path {
             count,
@@ -241,7 +242,7 @@ impl Scan<'_> {
         Ok(())
     }
 
-    // Takes the begin of a table in an array of the document.
+    // Takes the beginning of a table in an array of the document.
     fn begin_table(&mut self, token: Token) -> Result<(), AllocError> {
         let Some(key) = self.array else {
             return Ok(());
@@ -277,7 +278,7 @@ impl Scan<'_> {
         }
     }
 
-    // The last table that came of the array at a key.
+    // The last table so far of the array at a key.
     fn last_table(&self, key: Span) -> Option<FilePlace> {
         match part(self.text, key) {
             b"block" => Some(FilePlace::Block(self.blocks.checked_sub(1)?)),

@@ -9,15 +9,15 @@ use kind_schema::{ItemTypes, Key, Keys, Range, ValueForm, keys_of, parameters_of
 use kinds::KindName;
 use std::alloc::{AllocError, Global};
 
-/// What names a type of items, and one of more than a byte.
+/// The names of item types, and of those larger than a byte.
 pub(crate) const ANY_TYPE: &str = "\"byte\", \"short\" or \"int\"";
 
 pub(crate) const WIDE_TYPE: &str = "\"short\" or \"int\"";
 
-/// What the key of a tag is.
+/// The form of a tag's key.
 pub(crate) const KEY_TEXT: &str = "1 to 16 letters, digits, `_`, `.` or `-`";
 
-/// What a table is, with its kind where that is known.
+/// What a table is, with its kind if that is known.
 pub(crate) fn owner(document: &Document<'_>, place: FilePlace) -> Result<String, AllocError> {
     let alloc = document.alloc;
     match place {
@@ -55,7 +55,7 @@ fn keys(list: &[Key]) -> Keys {
     keys
 }
 
-/// Keys, one behind the other.
+/// Keys, one after the other.
 pub(crate) fn listed_keys(alloc: Global, keys: &[Key]) -> Result<String, AllocError> {
     let mut out = String::new(alloc);
     for key in keys {
@@ -67,7 +67,7 @@ pub(crate) fn listed_keys(alloc: Global, keys: &[Key]) -> Result<String, AllocEr
     Ok(out)
 }
 
-/// The names of all kinds, one behind the other.
+/// The names of all kinds, one after the other.
 pub(crate) fn listed_kinds(alloc: Global) -> Result<String, AllocError> {
     let mut out = String::new(alloc);
     for kind in KindName::all() {
@@ -95,7 +95,7 @@ pub(crate) fn shape_text(key: Key) -> &'static str {
     }
 }
 
-/// What a value is, by the word that TOML has for its type.
+/// What a value is, by TOML's word for its type.
 pub(crate) fn type_text(word: &'static str) -> &'static str {
     match word {
         "string" => "a text",
@@ -108,7 +108,7 @@ pub(crate) fn type_text(word: &'static str) -> &'static str {
     }
 }
 
-/// The name of a type of items.
+/// The name of an item type.
 pub(crate) fn item_text(item: ItemType) -> &'static str {
     match item {
         ItemType::Byte => "byte",
@@ -117,7 +117,7 @@ pub(crate) fn item_text(item: ItemType) -> &'static str {
     }
 }
 
-/// The numbers that an item of a type may be.
+/// The range of items of a type.
 pub(crate) fn item_range(item: ItemType) -> &'static str {
     match item {
         ItemType::Byte => "0 to 255",
@@ -126,7 +126,7 @@ pub(crate) fn item_range(item: ItemType) -> &'static str {
     }
 }
 
-/// What a parameter of the block of a place may be.
+/// The range of a parameter of the block at a place.
 pub(crate) fn range_text(
     document: &Document<'_>,
     place: FilePlace,
@@ -150,7 +150,7 @@ pub(crate) fn range_text(
     Ok(String::new(alloc))
 }
 
-// What lies in a range, where some ranges depend on what else the table has.
+// The words for a range. Some ranges depend on what else the table has.
 fn range_at(document: &Document<'_>, place: FilePlace, range: Range) -> Result<String, AllocError> {
     match range {
         Range::Item => String::from_str(document.alloc, item_range(item_of(document, place))),
@@ -159,7 +159,7 @@ fn range_at(document: &Document<'_>, place: FilePlace, range: Range) -> Result<S
     }
 }
 
-/// What lies in a range, whatever else a table has.
+/// The words for a range, whatever else a table has.
 pub(crate) fn range_words(alloc: Global, range: Range) -> Result<String, AllocError> {
     match range {
         Range::Number(least, most) => format!(in alloc; "{least} to {most}"),
@@ -170,7 +170,7 @@ pub(crate) fn range_words(alloc: Global, range: Range) -> Result<String, AllocEr
     }
 }
 
-// What lies in a range without numbers of its own; of others, nothing.
+// The words for a range without numbers of its own; empty for others.
 fn fixed_words(range: Range) -> &'static str {
     match range {
         Range::Type => ANY_TYPE,
@@ -205,7 +205,7 @@ fn fixed_words(range: Range) -> &'static str {
     }
 }
 
-/// What stands for a parameter that is missing, behind its range; nothing where it has to be there.
+/// The default of a parameter, as text after its range; empty if the parameter is required.
 pub(crate) fn default_text(parameter: Parameter) -> &'static str {
     let key = Key::Parameter(parameter);
     match key.missing() {
@@ -217,7 +217,7 @@ pub(crate) fn default_text(parameter: Parameter) -> &'static str {
     }
 }
 
-// The type of the items of a block, that of bytes where the file has none.
+// The item type of a block; bytes if the file names none.
 fn item_of(document: &Document<'_>, place: FilePlace) -> ItemType {
     let Some(table) = document.table_at(place) else {
         return ItemType::Byte;
@@ -228,7 +228,7 @@ fn item_of(document: &Document<'_>, place: FilePlace) -> ItemType {
     }
 }
 
-// The numbers of as many bits as a register has, from the least one.
+// The numbers that a register's bits can hold, from the least one on.
 fn register_range(
     document: &Document<'_>,
     place: FilePlace,

@@ -13,7 +13,7 @@ use crate::tokens::line_of;
 use graph_file::{Depth, FileFault, fault_of};
 use std::alloc::{AllocError, Global};
 
-/// Where and why a graph file of this name is refused, in lines that show the place, or `None` where it is not.
+/// Where and why a graph file of this name is refused, in lines that show the place, or `None` if it is not refused.
 pub fn explain(
     alloc: Global,
     name: &str,
@@ -37,7 +37,7 @@ pub fn explain(
     }
 }
 
-// The place of a fault, and what is said of it.
+// The place of a fault, and the message about it.
 fn finding_of(alloc: Global, text: &[u8], fault: &FileFault) -> Result<Finding, AllocError> {
     let words = match std::str::from_utf8(text) {
         Ok(words) => words,
@@ -72,7 +72,8 @@ fn finding_of(alloc: Global, text: &[u8], fault: &FileFault) -> Result<Finding, 
     }
 }
 
-// What the reader of TOML says, and of a header whether it lacks brackets, or one before it that makes it wrong.
+// The message of the TOML reader. For a header, also whether it lacks brackets, or whether an earlier header that lacks
+// them makes it wrong.
 fn syntax_finding(
     alloc: Global,
     text: &[u8],

@@ -59,7 +59,7 @@ pub(crate) fn feed_finding(
     }
 }
 
-// The first item that no item of the source's type may be.
+// The first number outside the range of the source's type.
 fn item_range_finding(
     document: &Document<'_>,
     place: FilePlace,
@@ -86,7 +86,7 @@ fn item_range_finding(
     Ok(document.at_value(place, Key::Items, message))
 }
 
-/// Whether a number is an item of a type.
+/// Whether a number is in the range of a type.
 pub(crate) fn is_in(item: ItemType, number: i64) -> bool {
     match item {
         ItemType::Byte => u8::try_from(number).is_ok(),
@@ -95,7 +95,7 @@ pub(crate) fn is_in(item: ItemType, number: i64) -> bool {
     }
 }
 
-// The first tag that lies on none of the items of its feed, at its offset.
+// The first tag that lies on none of the items of its feed, shown at its offset.
 fn place_finding(
     document: &Document<'_>,
     feed: usize,

@@ -1,4 +1,4 @@
-//! A place of a text, shown as compilers do: where it is, its line, and a mark below the place.
+//! Shows a place of a text as compilers do: where it is, its line, and a mark below the place.
 ghost use Rattle.std.specs.Prelude.{◌≤◌, length};
 
 use crate::looks::{Look, put_shown};
@@ -6,11 +6,11 @@ use crate::tokens::{Span, part, rest};
 use itoa::Buffer;
 use std::alloc::{AllocError, Global};
 
-// So many bytes of a line are shown before the place, where not all are, and in all.
+// How many bytes of a longer line are shown before the place, and in all.
 const SHOWN_BEFORE: usize = 40;
 
 const SHOWN: usize = 120;
-// A line is shown from its begin where the place is not farther than this.
+// A line is shown from its beginning if the place is not farther than this.
 const NEAR_BEGIN: usize = 80;
 
 /// What is wrong at a place of a text.
@@ -20,18 +20,19 @@ pub(crate) struct Finding {
     pub message: String,
 }
 
-/// The text in which a place is shown.
+/// The text that a place is shown in.
 #[derive(Clone, Copy)]
 pub(crate) struct Source<'a> {
     pub name: &'a str,
     pub text: &'a [u8],
     /// The number of its first line.
     pub first_line: u64,
-    /// How a line of it is shown.
+    /// How its lines are shown.
     pub look: Look,
 }
 
-// A line of a text, without what ends it, and a place in it or at its end. Lines and columns count from 1, a column characters.
+// A line of a text, without its line end, and a place in it or at its end. Lines and columns count from 1; columns
+// count characters.
 #[derive(Clone, Copy)]
 struct Position {
     line: usize,
@@ -40,7 +41,7 @@ struct Position {
     place: usize,
 }
 
-// What is shown of a line, which may be less than all of it.
+// The shown part of a line.
 #[derive(Clone, Copy)]
 struct Excerpt {
     before: Span,
@@ -62,7 +63,7 @@ pub(crate) fn framed(
     }
 }
 
-// (Nothing here is owned, so that no early return has anything to drop, which the prover pays for at each.)
+// (Nothing here is owned, so no early return drops anything. Each such drop costs the prover.)
 fn put_frame(out: &mut String, source: &Source<'_>, finding: &Finding) -> Result<(), AllocError> {
     let position = position_of(source.text, finding.place);
     let line = source
@@ -103,7 +104,7 @@ fn put_spaces(out: &mut String, count: usize) -> Result<(), AllocError> {
     Ok(())
 }
 
-// What is shown of a line, behind a space where that is something, and its end.
+// Writes the shown part of a line, after a space if it is not empty, and the line's end.
 fn put_excerpt(out: &mut String, source: &Source<'_>, excerpt: Excerpt) -> Result<(), AllocError> {
     if excerpt.before.start < excerpt.behind.end {
         out.push(' ')?;
@@ -116,7 +117,7 @@ fn put_excerpt(out: &mut String, source: &Source<'_>, excerpt: Excerpt) -> Resul
     out.push_str("\n")
 }
 
-// What is shown of a line before the place, or as much blank.
+// Writes the shown part of a line before the place, or as much blank.
 fn put_before(
     out: &mut String,
     source: &Source<'_>,
@@ -134,7 +135,7 @@ fn put_before(
     put_shown(out, part(source.text, excerpt.before), look)
 }
 
-// Where a place is; behind the text, its end.
+// Where a place is; the end of the text if the place is beyond it.
 fn position_of(text: &[u8], place: usize) -> Position
     ensures { result.place ≤ length text.now }
 {
@@ -166,7 +167,7 @@ fn position_of(text: &[u8], place: usize) -> Position
     }
 }
 
-// Where the line ends that goes on at a place.
+// Where the line at a place ends.
 fn line_end(text: &[u8], place: usize) -> usize {
     let mut end = text.len();
     for (number, byte) in rest(text, place).iter().enumerate() {
@@ -191,7 +192,7 @@ fn continues(byte: u8) -> bool {
     byte & 0xC0 == 0x80
 }
 
-// What is shown of a line.
+// The shown part of a line.
 fn excerpt_of(text: &[u8], position: Position) -> Excerpt {
     let Position { span, place, .. } = position;
     let is_far = place.saturating_sub(span.start) > NEAR_BEGIN;
@@ -220,7 +221,7 @@ fn excerpt_of(text: &[u8], position: Position) -> Excerpt {
     }
 }
 
-// The first place from this one on at which a character begins. One has at most four bytes.
+// The first place from this one on at which a character begins. A character has at most four bytes.
 fn begin_of(text: &[u8], from: usize) -> usize {
     for (number, byte) in rest(text, from).iter().enumerate() {
         if !continues(*byte) || number == 4 {

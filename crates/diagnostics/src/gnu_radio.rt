@@ -1,4 +1,4 @@
-//! What GNU Radio calls what a graph file has: its blocks, by the names that Companion and Python give them, and their parameters.
+//! GNU Radio's names for blocks and parameters of graph files. Blocks have the names of Companion and of Python.
 
 use crate::tokens::{Span, part, rest};
 use block_parameters::Parameter;
@@ -6,15 +6,15 @@ use kind_schema::{Key, keys_of};
 use kinds::KindName;
 use std::alloc::{AllocError, Global};
 
-/// What stands for a block of GNU Radio.
+/// What a graph file has in place of a block of GNU Radio.
 #[derive(Clone, Copy)]
 pub(crate) enum Stands {
     Kind(KindName),
-    /// It passes its items on.
+    /// A connection: the block passes its items on.
     Connection,
 }
 
-// What the names of blocks begin with, in Companion and in Python.
+// The beginnings of block names in Companion and in Python.
 const MODULES: [&[u8]; 10] = [
     b"blocks_",
     b"blocks.",
@@ -47,10 +47,10 @@ const KINDS: [(&[u8], KindName); 15] = [
     (b"stream_to_streams", KindName::Deinterleave),
 ];
 
-// Those that pass their items on.
+// The blocks that pass their items on.
 const CONNECTIONS: [&[u8]; 3] = [b"copy", b"throttle", b"throttle2"];
 
-// The parameters whose key has another name, and how what stands at it differs.
+// The parameters whose key has another name, and how their values differ.
 const KEYS: [(&[u8], Key, &str); 29] = [
     (b"id", Key::Name, ""),
     (b"minoutbuf", Key::Capacity, ""),
@@ -91,10 +91,10 @@ const KEYS: [(&[u8], Key, &str); 29] = [
     (b"poly", Key::Parameter(Parameter::Polynomial), ""),
 ];
 
-// What a source is made of, which is fed here.
+// The parameters of a source that are fed here.
 const FED: [&[u8]; 3] = [b"vector", b"data", b"items"];
 
-/// What stands for the block of GNU Radio that has a name.
+/// What a graph file has in place of the GNU Radio block of a name.
 pub(crate) fn stands_for(name: &[u8]) -> Option<Stands> {
     let stem = without_types(without_module(name));
     if CONNECTIONS.iter().any(|other| *other == stem) {
@@ -111,7 +111,7 @@ pub(crate) fn stands_for(name: &[u8]) -> Option<Stands> {
     }
 }
 
-/// What is said of a key of a block of a kind that is the name of a parameter of GNU Radio; of others, nothing.
+/// The hint about a key of a block of a kind, if the key is the name of a GNU Radio parameter; else empty.
 pub(crate) fn key_hint(alloc: Global, kind: KindName, name: &[u8]) -> Result<String, AllocError> {
     if kind == KindName::VectorSource && FED.iter().any(|other| *other == name) {
         return String::from_str(alloc, "; its items stand in a table [[feed]]");
@@ -125,7 +125,7 @@ pub(crate) fn key_hint(alloc: Global, kind: KindName, name: &[u8]) -> Result<Str
     }
 }
 
-// The key of a block of a kind for the parameter of GNU Radio that has a name, and how what stands at it differs.
+// The key that a block of a kind has for the GNU Radio parameter of a name, and how its value differs.
 fn key_for(kind: KindName, name: &[u8]) -> Option<(Key, &'static str)> {
     let keys = keys_of(kind);
     for (other, key, difference) in &KEYS {
@@ -145,7 +145,7 @@ fn without_module(name: &[u8]) -> &[u8] {
     name
 }
 
-// A name without the letters at its end that say which types its items have, as `vxx` or `bb`.
+// A name without the letters at its end that say its item types, like `vxx` or `bb`.
 fn without_types(name: &[u8]) -> &[u8] {
     let mut end = name.len();
     for (number, byte) in name.iter().enumerate() {

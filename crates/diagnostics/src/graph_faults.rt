@@ -51,7 +51,7 @@ fn port_key(side: Side) -> Key {
     }
 }
 
-/// What a side is called.
+/// The word for a side.
 pub(crate) fn side_text(side: Side) -> &'static str {
     match side {
         Side::In => "input",
@@ -88,7 +88,7 @@ fn unknown_block(document: &Document<'_>, place: FilePlace) -> Result<Finding, A
     Ok(document.at_value(place, key, message))
 }
 
-/// That no block has a name, and which has one like it.
+/// The message that no block has this name, and which block's name is close to it.
 pub(crate) fn no_block(document: &Document<'_>, name: &str) -> Result<String, AllocError> {
     let alloc = document.alloc;
     let names = document.names()?;
@@ -112,7 +112,7 @@ fn port_range(
         Side::In => Key::To,
         Side::Out => Key::From,
     };
-    // (where no port is named, it is 0)
+    // (if no port is named, it is 0)
     let is_named = document.value_of(place, key) != document.start_of(place);
     Ok(document.at_value(place, if is_named { key } else { end }, message))
 }
@@ -193,7 +193,7 @@ fn bad_option(
     Ok(document.at_value(place, key, String::from_str(alloc, message)?))
 }
 
-// Why a graph is refused as a whole, at the block of a name.
+// Why a graph is refused as a whole, shown at the block of a name.
 fn whole_finding(
     document: &Document<'_>,
     fault: GraphFault,

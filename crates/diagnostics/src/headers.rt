@@ -1,10 +1,10 @@
-//! Headers of arrays of tables that stand in one bracket in place of two.
+//! Headers of arrays of tables with one bracket in place of two.
 
 use crate::entries::entries_of;
 use crate::tokens::{Mark, Span, next_token, part};
 use std::alloc::{AllocError, Global};
 
-/// The array of tables whose header stands in the line of a place in one bracket.
+/// The array of tables whose header is in the line of a place, with one bracket.
 pub(crate) fn single_header(text: &[u8], place: usize) -> Option<&'static str> {
     let open = next_token(text, line_begin(text, place))?;
     let word = next_token(text, open.whole.end)?;
@@ -15,7 +15,7 @@ pub(crate) fn single_header(text: &[u8], place: usize) -> Option<&'static str> {
     array_named(part(text, word.inner))
 }
 
-/// The array of tables whose header stands in the line of a place, and where one of it stands before in one bracket.
+/// The array of tables whose header is in the line of a place, and where an earlier header of it has one bracket.
 pub(crate) fn single_before(
     alloc: Global,
     text: &[u8],
@@ -33,7 +33,7 @@ pub(crate) fn single_before(
     Ok(None)
 }
 
-// The array of tables whose header stands in the line of a place as it should.
+// The array of tables whose correct header is in the line of a place.
 fn double_header(text: &[u8], place: usize) -> Option<&'static str> {
     let open = next_token(text, line_begin(text, place))?;
     let second = next_token(text, open.whole.end)?;

@@ -1,4 +1,4 @@
-//! All kinds of blocks on a page: what each gives, and the parameters that a graph file has for it.
+//! The page of all kinds of blocks: what each gives, and its parameters in graph files.
 
 use crate::about::{setting_of, text_of};
 use crate::expected::{ANY_TYPE, WIDE_TYPE, default_text, range_words};
@@ -7,8 +7,8 @@ use kind_schema::{ItemTypes, Range, parameters_of, types_of};
 use kinds::KindName;
 use std::alloc::{AllocError, Global};
 
-/// The page that `flow kinds` prints: of each kind its name with what it gives, and below it, each on a line, its types of items, its parameters with
-/// their ranges, its rate and an example.
+/// The page that `flow kinds` prints. It has the name of each kind with what it gives, and below it, each on a line,
+/// the kind's item types, its parameters with their ranges, its rate and an example.
 pub fn page_of_kinds(alloc: Global) -> Result<String, AllocError> {
     let mut page = String::new(alloc);
     for kind in KindName::all() {
@@ -17,7 +17,7 @@ pub fn page_of_kinds(alloc: Global) -> Result<String, AllocError> {
     Ok(page)
 }
 
-/// The part of that page about one kind, which `flow kinds KIND` prints.
+/// The part of that page about one kind. `flow kinds KIND` prints it.
 pub fn page_of_kind(alloc: Global, kind: KindName) -> Result<String, AllocError> {
     let mut page = String::new(alloc);
     push_kind(alloc, &mut page, kind)?;

@@ -1,4 +1,5 @@
-//! What stands behind a refusal of a graph file or of a line of a script: the place in the text, what was found there and what may stand there.
+//! Explains a refusal of a graph file or of a script's line: the place in the text, what was found there, and what may
+//! stand there.
 //!
 //! ```text
 //! flow: refused 44 UnknownKind block 1
@@ -8,11 +9,13 @@
 //!   |        ^ there is no kind `add_cnst`; is `add_const` meant?
 //! ```
 //!
-//! [`explain`] reads the file again, with the places of its tables and keys (`document`, `entries`, `tokens`), and finds what the fault is about: `table_faults`,
-//! `graph_faults`, `feed_faults` and `tag_faults` have a function for each. `expected` says what may stand at a key, `near` which name was meant, `headers` which brackets, `gnu_radio` what
-//! stands here for a name of GNU Radio, `frame` prints the place.
-//! [`page_of_kinds`] prints what may stand at the parameters of all kinds, with a line on each kind (`about`), and [`starting_graph`] writes a graph file with blocks
-//! of some of them. [`KeptLines`] keep the lines of a script for the same, and [`Noted`] a device with the reason why it failed. No contract says what it prints; that is tested.
+//! [`explain`] reads the file again, with the places of its tables and keys (`document`, `entries`, `tokens`), and
+//! finds what the fault is about. `table_faults`, `graph_faults`, `feed_faults` and `tag_faults` have a function for
+//! each fault. `expected` says what may stand at a key, `near` which name was meant, `headers` which brackets, and
+//! `gnu_radio` what replaces a name of GNU Radio. `frame` prints the place. [`page_of_kinds`] prints the ranges of the
+//! parameters of all kinds, with a line about each kind (`about`). [`starting_graph`] writes a graph file with blocks
+//! of some kinds. [`KeptLines`] keeps the lines of a script so that a bad one can be explained, and [`Noted`] keeps a
+//! device with the reason why it failed. No contract says what is printed; tests do.
 #![tactic(auto)]
 
 mod about;

@@ -1,4 +1,4 @@
-//! The lines of a script that are read, kept so that a bad one can be shown.
+//! Keeps the lines of a script that are read, so that a bad one can be shown.
 ghost use Rattle.std.specs.Prelude.{◌≡◌};
 
 use crate::commands::{Bad, CALLS, COMMANDS, bad_part, field_from, grammar};
@@ -12,10 +12,11 @@ use std::alloc::{AllocError, Global};
 
 const LONGEST_LINE: usize = 65536;
 
-// A line that has not ended, and a piece behind it.
+// Room for a line that has not ended, and the piece after it.
 const MOST_KEPT: usize = 131072;
 
-/// A source of bytes that keeps what was read last: the line that had not ended before the last read, and what that read gave.
+/// A source of bytes that keeps what was read last: the line that had not ended before the last read, and what that
+/// read gave.
 #[derive(Drop)]
 pub struct KeptLines<I> {
     pub inner: I,
@@ -26,7 +27,7 @@ pub struct KeptLines<I> {
 #[derive(Drop)]
 struct Kept {
     bytes: Vec<u8>,
-    // Up to where lines have ended, and how many these are.
+    // Where the last ended line ends, and how many lines have ended.
     ended: usize,
     count: u64,
     // How many lines ended before those that are kept.
@@ -34,7 +35,7 @@ struct Kept {
 }
 
 impl<I> KeptLines<I> {
-    /// The source, of which nothing was read. Nothing is kept where that is not wanted, or where memory runs out.
+    /// The source, before the first read. It keeps nothing if that is not wanted, or if memory runs out.
     pub fn new(alloc: Global, inner: I, is_wanted: bool) -> KeptLines<I>
         ensures { result.inner ≡ inner }
     {
@@ -52,13 +53,14 @@ impl<I> KeptLines<I> {
         KeptLines { inner, kept }
     }
 
-    /// The first bad line of those that are kept, shown with what a line may say; none where none is bad. In a live run fewer commands are good.
+    /// The first bad line among those that are kept, shown with what a line may say; none if none is bad. In a live run
+    /// fewer commands are good.
     pub fn bad_line(&self, alloc: Global, is_live: bool) -> Result<Option<String>, AllocError> {
         let mut number = self.kept.before;
         let mut left = self.kept.count;
         for line in self.kept.bytes.as_slice().split(|byte| *byte == b'\n') {
             number = number.saturating_add(1);
-            // (a return is a part of a last line without a line feed)
+            // (in a last line without a line feed, a return is part of the line)
             let line = if 0 < left { without_return(line) } else { line };
             left = left.saturating_sub(1);
             if let Some(finding) = fault_of_line(alloc, line, is_live)? {
@@ -139,7 +141,7 @@ fn fault_of_line(alloc: Global, line: &[u8], is_live: bool) -> Result<Option<Fin
     }
 }
 
-// Says what is wrong with a line, and where; nothing of a good one.
+// Says what is wrong with a line, and where; nothing for a good line.
 fn put_fault(
     alloc: Global,
     message: &mut String,
@@ -168,7 +170,7 @@ fn put_fault(
     Ok(Some(word.start))
 }
 
-// Says what the part of a tag is that is bad, and gives the place.
+// Says which part of a tag is bad, and returns its place.
 fn put_part(message: &mut String, bad: Bad) -> Result<usize, AllocError> {
     if let Some((name, shape)) = bad.part {
         message.push_str(", where ")?;
@@ -204,7 +206,7 @@ fn is_one_of(words: &[&str], word: &[u8]) -> bool {
     false
 }
 
-// That a command of a script is none of a live run.
+// The message that a live run does not have this command of scripts.
 fn put_no_call(message: &mut String, word: &[u8]) -> Result<(), AllocError> {
     message.push_str("`")?;
     put_shown(message, word, Look::Word)?;
@@ -212,7 +214,7 @@ fn put_no_call(message: &mut String, word: &[u8]) -> Result<(), AllocError> {
     put_list(message, &CALLS)
 }
 
-// That a word is no command, and which is like it, or which there are.
+// The message that a word is no command, with the closest command, or all of them.
 fn put_no_command(
     alloc: Global,
     message: &mut String,

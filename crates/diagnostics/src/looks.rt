@@ -6,13 +6,13 @@ use std::alloc::{AllocError, Global};
 /// How a text is shown.
 #[derive(Clone, Copy)]
 pub(crate) enum Look {
-    /// Each character is seen.
+    /// Each character is made visible.
     Word,
     /// Tabs stay tabs, as in the line of a file.
     Line,
     /// As many spaces as a word would have characters.
     WordBlank,
-    /// As many spaces as a line would have characters, and its tabs.
+    /// As many spaces as a line would have characters, with its tabs.
     LineBlank,
 }
 
@@ -34,7 +34,7 @@ impl Look {
     }
 }
 
-/// Appends bytes as they are shown: what is no text in UTF-8 as `\xNN`, and a character that would not be seen by its escape.
+/// Appends bytes as they are shown: bytes that are not UTF-8 as `\xNN`, and invisible characters as their escapes.
 pub(crate) fn put_shown(out: &mut String, bytes: &[u8], look: Look) -> Result<(), AllocError> {
     let mut from = 0usize;
     for _ in 0..bytes.len() {
@@ -92,7 +92,8 @@ fn put_seen(out: &mut String, letter: char, look: Look) -> Result<(), AllocError
     out.push(if look.is_blank() { ' ' } else { letter })
 }
 
-// Whether a character, of those that are not of ASCII, is a control or a space, has no width, or turns the direction of what follows.
+// Whether a character beyond ASCII is a control or a space, has no width, or changes the direction of the text after
+// it.
 fn is_hidden(letter: char) -> bool {
     matches!(
         letter,
@@ -111,7 +112,7 @@ fn is_hidden(letter: char) -> bool {
     )
 }
 
-/// A text of bytes as a word is shown.
+/// Bytes, shown as a word.
 pub fn shown(alloc: Global, bytes: &[u8]) -> Result<String, AllocError> {
     let mut out = String::new(alloc);
     match put_shown(&mut out, bytes, Look::Word) {

@@ -11,7 +11,7 @@ const MOST_SHOWN: usize = 12;
 // No block.
 const NOWHERE: usize = usize::MAX;
 
-/// A shortest way from the block of a name back to it, as `a -> b -> a`; nothing where there is none.
+/// A shortest way from the block of a name back to it, like `a -> b -> a`; empty if there is none.
 pub(crate) fn loop_text(document: &Document<'_>, name: &str) -> Result<String, AllocError> {
     let names = document.names()?;
     let way = match document.block_named(name) {
@@ -40,13 +40,13 @@ fn put_way(out: &mut String, names: &[&str], way: &[usize]) -> Result<(), AllocE
     Ok(())
 }
 
-// The blocks of a shortest way from one back to it, this one at both ends; none where there is no way.
+// The blocks of a shortest way from a block back to it, with this block at both ends; none if there is no way.
 fn way_back(document: &Document<'_>, count: usize, block: usize) -> Result<Vec<usize>, AllocError> {
     let alloc = document.alloc;
     let links = links_of(document)?;
     let mut before = vec![in alloc; NOWHERE; count]?;
     let mut reached = vec![in alloc; block; 1]?;
-    // Of each block that is reached from there, one at a time, those that it leads to.
+    // Takes each reached block, one at a time, and goes on to those that it leads to.
     for number in 0..count {
         let Some(from) = reached.get(number).copied() else {
             break;
@@ -64,7 +64,7 @@ fn way_back(document: &Document<'_>, count: usize, block: usize) -> Result<Vec<u
     back_along(document, &before, block)
 }
 
-// The way that leads to a block by the block before each.
+// The way that leads to a block, found from the block before each.
 fn back_along(
     document: &Document<'_>,
     before: &[usize],
@@ -87,7 +87,7 @@ fn back_along(
     Ok(way)
 }
 
-// The numbers of the blocks at both ends of each connection whose ends are blocks.
+// The numbers of the blocks at both ends of each connection, if both ends are blocks.
 fn links_of(document: &Document<'_>) -> Result<Vec<(usize, usize)>, AllocError> {
     let mut links = Vec::new(document.alloc);
     for value in document.connections() {

@@ -1,12 +1,12 @@
-//! Names that were meant, maybe.
+//! Names that may have been meant.
 
 use std::alloc::{AllocError, Global};
 use strsim::levenshtein;
 
-// A longer word is near to no name.
+// A longer word is close to no name.
 const LONGEST: usize = 40;
 
-/// The first of the names that the fewest edits make of a word, if they are few.
+/// The first of the names that take the fewest edits from a word, if these are few.
 pub fn near_name<'a>(
     alloc: Global,
     word: &str,
@@ -27,7 +27,7 @@ pub fn near_name<'a>(
     Ok(near)
 }
 
-/// What is said of a name that is meant, maybe.
+/// The hint at a name that may be meant.
 pub(crate) fn hint(alloc: Global, word: &str, names: &[&str]) -> Result<String, AllocError> {
     match near_name(alloc, word, names)? {
         Some(name) => format!(in alloc; "; is `{name}` meant?"),

@@ -13,7 +13,7 @@ pub struct Noted<D> {
 }
 
 impl<D> Noted<D> {
-    /// The device, which has not failed.
+    /// The device. It has not failed.
     pub fn new(device: D) -> Noted<D>
         ensures { result ≡ record { device = device; reason = None } }
     {

@@ -1,4 +1,4 @@
-//! The keys of a table inside another one, as that of a tag, each with its places in the text.
+//! The keys of a table inside another one, such as a tag's, each with its places in the text.
 
 use crate::tokens::{Mark, Span, blank_end, next_token, part, rest};
 use std::alloc::{AllocError, Global};
@@ -38,7 +38,7 @@ fn put_pairs(pairs: &mut Vec<Pair>, text: &[u8], table: usize) -> Result<(), All
         return Ok(());
     };
     let is_inline = first.mark == Mark::OpenTable;
-    // The brackets of the table itself, and how many are open of those in it.
+    // The brackets of the table itself, and how many of those in it are open.
     let own = if is_inline { 1usize } else { 0 };
     let mut depth = 1usize;
     let mut before = first;

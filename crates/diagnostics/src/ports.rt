@@ -15,7 +15,7 @@ pub(crate) fn port_of(table: &Table, key: Key) -> usize {
     count_at(table, key) as usize
 }
 
-/// What the inputs and the outputs are of the block of a name.
+/// The inputs and outputs of the block of a name.
 pub(crate) fn sides_of(
     document: &Document<'_>,
     name: &str,
@@ -59,7 +59,7 @@ pub(crate) fn ports_text(
     }
 }
 
-/// How many inputs and outputs of the block of a name have connections, where there is no gap.
+/// How many inputs and outputs of the block of a name have connections, if there is no gap.
 pub(crate) fn used_ports(document: &Document<'_>, name: &str) -> (usize, usize) {
     let mut inputs = 0usize;
     let mut outputs = 0usize;
@@ -76,7 +76,7 @@ pub(crate) fn used_ports(document: &Document<'_>, name: &str) -> (usize, usize) 
     (inputs, outputs)
 }
 
-/// How many ports of the block of a name have to have connections, and how many have, on each side where more have to.
+/// How many ports of the block of a name need connections, and how many have them, for each side that lacks some.
 pub(crate) fn joined_ports(document: &Document<'_>, name: &str) -> Result<String, AllocError> {
     let (used_in, used_out) = used_ports(document, name);
     let Some((inputs, outputs)) = sides_of(document, name)? else {
@@ -92,7 +92,7 @@ pub(crate) fn joined_ports(document: &Document<'_>, name: &str) -> Result<String
     format!(in document.alloc; "`{name}` needs {taken}{and}{given}")
 }
 
-// That connections lack on a side of a block; nothing where none does.
+// The message that a side of a block lacks connections; empty if it lacks none.
 fn lacking(
     document: &Document<'_>,
     side: Signature,

@@ -20,9 +20,9 @@ pub fn is_link(kind: KindName) -> bool {
     )
 }
 
-/// The text of a graph file to start from: a source, a block of each of these kinds, one behind the other, and a sink. Parameters that have to be there
-/// have small values, and where a kind takes no items of the type that comes, a `convert` stands before it. A block that has to have two inputs takes the
-/// same items at both.
+/// The text of a graph file to start from: a source, a block of each of these kinds, one after the other, and a sink.
+/// Required parameters have small values. If a kind does not take the item type that comes, a `convert` stands before
+/// it. A block that needs two inputs takes the same items at both.
 pub fn starting_graph(alloc: Global, kinds: &[KindName]) -> Result<String, AllocError> {
     let mut chain = Chain {
         blocks: String::new(alloc),
@@ -56,14 +56,14 @@ struct Chain {
 }
 
 impl Chain {
-    // The name of the next block: that of its kind, with a number behind it. (No two blocks have one number.)
+    // The name of the next block: that of its kind, and a number. No two blocks have the same number.
     fn name_of(&self, alloc: Global, kind: KindName) -> Result<String, AllocError> {
         let kind = kind.text();
         let number = self.count;
         format!(in alloc; "{kind}_{number}")
     }
 
-    // Adds a block of a kind behind the last.
+    // Adds a block of a kind after the last one.
     fn push(&mut self, alloc: Global, kind: KindName, name: &str) -> Result<(), AllocError> {
         self.begin(alloc, kind, name)?;
         for (parameter, range) in parameters_of(kind) {
@@ -129,7 +129,7 @@ fn first_type(kinds: &[KindName]) -> ItemType {
     }
 }
 
-// The type of items that a block of a kind takes in place of this one, which it does not take.
+// The item type that a block of a kind takes in place of this one, if it does not take this one.
 fn other_type(kind: KindName, item: ItemType) -> Option<ItemType> {
     match (types_of(kind), item) {
         (ItemTypes::Bytes, ItemType::Short | ItemType::Int) => Some(ItemType::Byte),
@@ -146,7 +146,7 @@ fn gives_bytes(kind: KindName) -> bool {
     )
 }
 
-// Whether a block of the kind has two inputs, and no fewer.
+// Whether a block of the kind needs two inputs.
 fn has_two_inputs(kind: KindName) -> bool {
     matches!(kind, KindName::SampleAndHold)
 }
@@ -159,11 +159,11 @@ fn type_value(item: ItemType) -> &'static str {
     }
 }
 
-// A value that a parameter of this range may have, whatever other parameters have by this function.
+// A value in this range. It fits whatever values other parameters have by this function.
 fn value_of(range: Range) -> &'static str {
     match range {
         Range::Type => "\"short\"",
-        // (Where a range begins above 2, it is one of the bits of a checksum.)
+        // (a range that begins above 2 is that of the bits of a checksum)
         Range::Number(least, _) if 2 < least => "8",
         Range::Number(least, _) if 1 < least => "2",
         Range::Item

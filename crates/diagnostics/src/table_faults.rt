@@ -130,7 +130,7 @@ fn misfit(key: Key, value: &Value) -> Option<(usize, &'static str)> {
     None
 }
 
-// The first table of the tags of a feed that is no tag.
+// The first table among the tags of a feed that is no tag.
 fn bad_tag(key: Key, value: &Value) -> Option<(usize, &Table)> {
     if key != Key::Marks {
         return None;
@@ -165,7 +165,7 @@ fn unknown_kind(document: &Document<'_>, place: FilePlace) -> Result<Finding, Al
     Ok(document.at_value(place, Key::Kind, message))
 }
 
-// That a word is no kind, and which is like it, or which there are.
+// The message that a word is no kind, with the closest kind, or all of them.
 fn no_kind(alloc: Global, word: &str) -> Result<String, AllocError> {
     let mut names = Vec::new(alloc);
     for kind in KindName::all() {
@@ -201,7 +201,7 @@ fn bad_parameter(
     })
 }
 
-// The first number of a list that may not stand in it, whatever stands beside it.
+// The first number of a list that may not stand in it, whatever the other numbers are.
 fn bad_number(document: &Document<'_>, place: FilePlace, parameter: Parameter) -> Option<usize> {
     let values = values_at(document.table_at(place)?, Key::Parameter(parameter));
     for (number, value) in values.iter().enumerate() {
@@ -214,7 +214,7 @@ fn bad_number(document: &Document<'_>, place: FilePlace, parameter: Parameter) -
     None
 }
 
-// Whether a number may stand in a list of so many; none of a parameter that is no list.
+// Whether a number may stand in a list of so many; none if the parameter is no list.
 fn may_stand(
     document: &Document<'_>,
     place: FilePlace,

@@ -15,14 +15,14 @@ use toml::Table;
 // The keys of a tag.
 const KEYS: [Key; 3] = [Key::MarkAt, Key::MarkKey, Key::MarkValue];
 
-/// Whether a table is a tag, whatever the items are on which it lies.
+/// Whether a table is a tag, whatever items it lies on.
 pub(crate) fn is_tag(table: &Table) -> bool {
     has_only(table, &KEYS)
         && keys_fault(table, &KEYS).is_none()
         && TagKey::new(text_at(table, Key::MarkKey).as_bytes()).is_some()
 }
 
-/// Where a table that begins at a place is no tag, and why.
+/// Where the table at a place is no tag, and why.
 pub(crate) fn tag_finding(
     document: &Document<'_>,
     place: usize,
@@ -43,7 +43,7 @@ pub(crate) fn tag_finding(
     }
 }
 
-/// Where the value of a key of a tag begins, which begins at a place itself; the place where the key is not found.
+/// Where the value of a tag's key begins; the place of the tag if the key is not found.
 pub(crate) fn tag_value(
     document: &Document<'_>,
     place: usize,

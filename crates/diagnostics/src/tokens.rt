@@ -1,4 +1,4 @@
-//! The tokens of a graph file, as far as places are found by them.
+//! The tokens of a graph file, as far as finding places needs them.
 ghost use Rattle.std.specs.Prelude.{◌≤◌, length, IfSome};
 
 /// What a token is.
@@ -22,7 +22,7 @@ pub(crate) enum Mark {
     Word,
 }
 
-/// Where something stands in a text.
+/// A part of a text.
 #[derive(Clone, Copy)]
 pub(crate) struct Span {
     pub start: usize,
@@ -34,11 +34,11 @@ pub(crate) struct Span {
 pub(crate) struct Token {
     pub mark: Mark,
     pub whole: Span,
-    /// Of a word, what is between its quotes.
+    /// For a word, the part between its quotes.
     pub inner: Span,
 }
 
-/// The bytes of a part of a text, as far as it lies within.
+/// The bytes of a part of a text, as far as it lies within the text.
 pub(crate) fn part(text: &[u8], span: Span) -> &[u8] {
     if span.start <= span.end && span.end <= text.len() {
         &text[span.start..span.end]
@@ -56,7 +56,7 @@ pub(crate) fn rest(text: &[u8], from: usize) -> &[u8] {
     }
 }
 
-/// Where a text begins behind its byte order mark.
+/// Where a text begins after its byte order mark.
 pub(crate) fn first_place(text: &[u8]) -> usize {
     match text {
         [0xEF, 0xBB, 0xBF, ..] => 3,
@@ -64,7 +64,7 @@ pub(crate) fn first_place(text: &[u8]) -> usize {
     }
 }
 
-/// Which line has a place, from 1.
+/// The line of a place, from 1.
 pub(crate) fn line_of(text: &[u8], place: usize) -> usize {
     let before = Span {
         start: 0,
@@ -79,7 +79,7 @@ pub(crate) fn line_of(text: &[u8], place: usize) -> usize {
     line
 }
 
-/// The first token at a place or behind it.
+/// The first token at or after a place.
 pub(crate) fn next_token(text: &[u8], from: usize) -> Option<Token>
     ensures { IfSome result (λ token. token.whole.end ≤ length text.now) }
 {
@@ -111,7 +111,7 @@ pub(crate) fn next_token(text: &[u8], from: usize) -> Option<Token>
     })
 }
 
-/// Where the spaces and the comment end that stand at a place.
+/// Where the spaces and the comment at a place end.
 pub(crate) fn blank_end(text: &[u8], from: usize) -> usize {
     let mut is_comment = false;
     for (number, byte) in rest(text, from).iter().enumerate() {
@@ -156,7 +156,7 @@ fn ends_word(byte: u8) -> bool {
     )
 }
 
-// How many bytes a text in quotes has, of which these are the first.
+// The length of the text in quotes that these bytes begin with.
 fn quoted_length(bytes: &[u8], quote: u8) -> usize {
     match bytes {
         [_, second, third, more @ ..] if *second == quote && *third == quote => {
@@ -167,7 +167,7 @@ fn quoted_length(bytes: &[u8], quote: u8) -> usize {
     }
 }
 
-// How many bytes come up to the end of a text on one line, with the quote that ends it.
+// The length of a text on one line, with the quote that ends it.
 fn short_length(bytes: &[u8], quote: u8) -> usize {
     let mut is_escaped = false;
     for (number, byte) in bytes.iter().enumerate() {
@@ -184,7 +184,7 @@ fn short_length(bytes: &[u8], quote: u8) -> usize {
     bytes.len()
 }
 
-// The length of a text on several lines, which three quotes end; up to two more before them are part of it.
+// The length of a text on several lines. Three quotes end it; up to two more quotes before them are part of it.
 fn long_length(bytes: &[u8], quote: u8) -> usize {
     let mut is_escaped = false;
     let mut quotes = 0u8;
