@@ -1,4 +1,5 @@
-//! Everything that a program needs of Magbelu, in one crate: to build flowgraphs, run them and read their sinks, with one error type for all calls.
+//! Everything that a program needs of Magbelu, in one crate: to build flowgraphs, run them and read their sinks, with
+//! one error type for all calls.
 //!
 //! - [`streams`]: items, their types, tags, and items as raw bytes.
 //! - [`blocks`]: the kinds of blocks, and the values of their settings.

@@ -1,4 +1,4 @@
-//! What a call answers.
+//! The answer to a call.
 
 ghost use Rattle.std.specs.Prelude.{◌≡◌};
 ghost use Rattle.magbelu_c.specs.CallAnswers.{ToldBadly, ToldRaw, ToldWell};
@@ -11,21 +11,22 @@ use flow_core::refusal_line::{report, report_raw};
 use refusal_codes::Refusal;
 use std::alloc::Global;
 
-/// What came of a call. A text that does not fit its buffer is not written there, and its length is given all the same.
+/// The result of a call. A text that does not fit its buffer is not written, but its length is given.
 #[repr(C)]
 #[derive(Clone, Copy, Debug, PartialEq, Eq)]
 pub struct Answer {
-    /// The exit status of the program `flow`: 0; 3 where the run came to rest before its end; 1 for a refusal; 4 where memory ran out.
+    /// The exit status of the program `flow`: 0; 3 if the run came to rest before its end; 1 for a refusal; 4 if memory
+    /// ran out.
     pub status: u32,
     /// The number of the refusal, or 0.
     pub number: u32,
     /// How many bytes the output has.
     pub output_len: usize,
-    /// How many bytes the line has that tells a refusal.
+    /// How many bytes the line of a refusal has.
     pub error_len: usize,
 }
 
-/// A call was done with a text.
+/// A call was done, and gives a text.
 pub(crate) fn well(status: u8, text: &[u8], output: &mut [u8]) -> Answer
     ensures { ToldWell text.now status output.old output.new result }
 {
@@ -38,7 +39,7 @@ pub(crate) fn well(status: u8, text: &[u8], output: &mut [u8]) -> Answer
     }
 }
 
-/// A call was not done, and a text was made before.
+/// A call was not done, and had made a text before.
 pub(crate) fn badly(
     alloc: Global,
     fault: &Fault,

@@ -1,4 +1,4 @@
-//! A plant that is held: one that keeps all that it took, or one that streams.
+//! A held plant: one that keeps all that it took, or one that streams.
 
 ghost use Rattle.std.specs.Prelude.{◌≡◌, ◌≤◌, Ok, IfOk, IfErr, map};
 ghost use Rattle.stream_model.specs.Machine as machine;
@@ -28,7 +28,7 @@ use settings::Value;
 use std::alloc::Global;
 use streaming::StreamingPlant;
 
-/// A plant that is held. No claim of it is in flight.
+/// A held plant. No claim of it is in flight.
 #[derive(Drop)]
 pub(crate) enum AnyPlant {
     /// It keeps all that its sources and its sinks took.
@@ -76,7 +76,7 @@ impl AnyPlant {
         }
     }
 
-    /// Appends items to what a source is fed, with marks on them.
+    /// Feeds items to a source, with marks on them.
     #[tactic(auto, using(crate::proofs::Variants::kept_same))]
     pub(crate) fn feed(
         &mut self,
@@ -94,7 +94,7 @@ impl AnyPlant {
         }
     }
 
-    /// Appends whole numbers to what a source is fed, with marks on them.
+    /// Feeds whole numbers to a source, with marks on them.
     #[tactic(auto, using(crate::proofs::Variants::kept_same))]
     pub(crate) fn feed_numbers(
         &mut self,
@@ -113,7 +113,7 @@ impl AnyPlant {
         }
     }
 
-    /// Says that nothing more comes to a source.
+    /// Closes a source: nothing more comes.
     #[tactic(auto, using(crate::proofs::Variants::kept_same))]
     pub(crate) fn close(&mut self, source: BlockId) -> Result<Closed, PlantFault>
         ensures answered { let old = plant_of self.old in
@@ -144,7 +144,7 @@ impl AnyPlant {
         }
     }
 
-    /// Has a block do at most `max` firings.
+    /// Does at most `max` firings of a block.
     #[tactic(auto, using(crate::proofs::Variants::kept_same))]
     pub(crate) fn step(
         &mut self,

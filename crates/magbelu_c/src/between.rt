@@ -1,4 +1,4 @@
-//! Runs between bytes of raw items.
+//! Runs between raw items in memory.
 
 ghost use Rattle.std.specs.Prelude.{◌≡◌, ◌+◌, ◌++◌, ◌⊎◌, Err, IfOk, IfErr, OnOk};
 ghost use Rattle.graph_file.specs.Blocks.{drafted};
@@ -23,7 +23,7 @@ use plant::Plant;
 use raw_items::ByteOrder;
 use std::alloc::{AllocError, Global};
 
-/// What a run gives: the bytes of all outputs, one behind the other, and how many each has.
+/// What a run gives: the bytes of all outputs, one after the other, and how many each has.
 #[derive(Drop)]
 pub(crate) struct Given {
     pub(crate) status: u8,
@@ -31,7 +31,7 @@ pub(crate) struct Given {
     pub(crate) bytes: Vec<u8>,
 }
 
-/// Runs the graph of a file that is fed these inputs.
+/// Runs the graph of a file on these inputs.
 pub(crate) fn run_between(
     alloc: Global,
     file: &[u8],
@@ -49,7 +49,7 @@ pub(crate) fn run_between(
     if let Err(fault) = feed_all(alloc, &mut idle, order, inputs) {
         return Err(fault);
     }
-    // A name that is none is refused before the run.
+    // A wrong name is refused before the run.
     if let Err(fault) = test_names(idle.graph(), outputs) {
         return Err(fault);
     }
@@ -118,7 +118,7 @@ fn test_names(graph: &Valid<Kind>, outputs: &[Output<'_>]) -> Result<(), RawFaul
     Ok(())
 }
 
-// What the sinks hold, one behind the other, and how many bytes that is of each.
+// What the sinks hold, one after the other, and how many bytes that is for each.
 fn take_all(
     alloc: Global,
     plant: &Plant<Kind>,
@@ -143,7 +143,7 @@ fn take_all(
     Ok((lens, bytes.writer))
 }
 
-// Appends what an output is to have.
+// Appends what an output takes.
 fn take(
     alloc: Global,
     plant: &Plant<Kind>,
@@ -164,7 +164,7 @@ fn take(
     };
     match write(alloc, plant, order, place, output, sink, bytes) {
         Ok(()) => Ok(()),
-        // A sink is refused only where memory runs out.
+        // (a sink is refused only if memory runs out)
         Err(_) => Err(RawFault::from(AllocError)),
     }
 }

@@ -1,4 +1,4 @@
-//! Calls of a plant on the block of a name.
+//! Calls of a plant that name a block.
 
 ghost use Rattle.std.specs.Prelude.{◌≡◌, length, map, nat_lt, not, position, bytes_eq, is_some, IfOk, IfSome, true, false};
 ghost use Rattle.std.specs.Option.{option_map};
@@ -27,7 +27,7 @@ use raw_items::{ByteOrder, Decoder, item_size};
 use settings::{Taps, Value};
 use std::alloc::{AllocError, Global};
 
-// The number of the refusal of bytes that end within an item.
+// The refusal number for bytes that end within an item.
 const CUT_ITEM: u32 = 53;
 
 /// The block of a name.
@@ -43,7 +43,7 @@ fn block_named(plant: &AnyPlant, name: &[u8]) -> Option<BlockId>
     block_in(plant.graph(), name)
 }
 
-/// Feeds a source the items that bytes are, with marks on them.
+/// Feeds a source bytes as items, with marks on them.
 #[tactic(auto, using(crate::proofs::Variants::same_plant))]
 pub(crate) fn feed(
     alloc: Global,
@@ -227,7 +227,7 @@ pub(crate) fn read(
     }
 }
 
-// The items that bytes are, or none where they end within one.
+// Bytes as items, or none if they end within an item.
 fn whole_items(
     alloc: Global,
     item_type: ItemType,

@@ -23,13 +23,13 @@ use stream_model::Shift;
 #[repr(C)]
 #[derive(Clone, Copy, Debug, PartialEq, Eq)]
 pub struct BlockRates {
-    /// 0; 1 for a refusal; 4 where memory ran out.
+    /// 0; 1 for a refusal; 4 if memory ran out.
     pub status: u32,
     /// The number of the refusal, or 0.
     pub number: u32,
-    /// 0 where all firings are alike; 1 where the first give nothing, 2 where the first take nothing.
+    /// 0 if all firings are alike; 1 if the first ones give nothing, 2 if the first ones take nothing.
     pub shift: u32,
-    /// How many firings are the first in this.
+    /// How many first firings differ like that.
     pub shifted: u64,
     /// How many items a firing gives on each output.
     pub gives: u64,
@@ -37,7 +37,8 @@ pub struct BlockRates {
     pub input_count: usize,
 }
 
-/// Tells what a firing of the block of a number takes of each connected input, in a table where that fits, and gives. `NoSuchBlock` where there is none of this number.
+/// Tells what a firing of the block of a number gives, and what it takes of each connected input, in a table if they
+/// fit. `NoSuchBlock` if there is no block of this number.
 pub(crate) fn show_rates(
     alloc: Global,
     graph: &Valid<Kind>,
@@ -118,7 +119,7 @@ fn rates_told(shift: Shift, gives: u64, input_count: usize) -> BlockRates
     }
 }
 
-/// Nothing is told of a block, for a reply.
+/// Tells nothing of a block, only this reply.
 pub(crate) fn unrated(reply: Reply) -> BlockRates
     ensures { result ≡ unrated reply }
 {
@@ -132,7 +133,8 @@ pub(crate) fn unrated(reply: Reply) -> BlockRates
     }
 }
 
-/// Tells how often each block fires in an iteration, in a table where that fits, and how many blocks there are; or why that is not known.
+/// Tells how often each block fires in an iteration, in a table if it fits, and how many blocks there are; or why that
+/// is not known.
 pub(crate) fn show_firings(alloc: Global, graph: &Valid<Kind>, firings: &mut [u32]) -> Reply
     ensures { TellsFirings graph.now firings.old firings.new result }
 {

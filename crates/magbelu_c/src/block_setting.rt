@@ -1,4 +1,4 @@
-//! What of a block may be set.
+//! The setting of a block.
 
 ghost use Rattle.std.specs.Prelude.{◌≡◌, ℤ};
 ghost use Rattle.magbelu_c.specs.BlockSettings.{TellsSetting, number_told, taps_told, unset};
@@ -10,7 +10,7 @@ use flowgraph::{BlockId, Valid};
 use kinds::Kind;
 use plant::PlantFault;
 
-/// What of a block may be set, and its own value of that, which is in force until another is set.
+/// The setting of a block, and the block's own value, which is in force until another is set.
 #[repr(C)]
 #[derive(Clone, Copy, Debug, PartialEq, Eq)]
 pub struct BlockSetting {
@@ -18,7 +18,7 @@ pub struct BlockSetting {
     pub status: u32,
     /// The number of the refusal, or 0.
     pub number: u32,
-    /// 0 where nothing may be set, 1 for a number, 2 for taps.
+    /// 0 if nothing may be set, 1 for a number, 2 for taps.
     pub what: u32,
     /// The least number that may be set.
     pub least: i64,
@@ -30,8 +30,8 @@ pub struct BlockSetting {
     pub count: usize,
 }
 
-/// Tells what of the block of a number may be set. Its own taps are put at the front of a buffer, where they fit. `NoSuchBlock` where there is none of this
-/// number.
+/// Tells what may be set of the block of a number. It puts the block's own taps at the front of a buffer if they fit.
+/// `NoSuchBlock` if there is no block of this number.
 pub(crate) fn show_setting(graph: &Valid<Kind>, number: u32, taps: &mut [i16]) -> BlockSetting
     ensures { TellsSetting graph.now number taps.old taps.new result }
 {
@@ -48,7 +48,7 @@ pub(crate) fn show_setting(graph: &Valid<Kind>, number: u32, taps: &mut [i16]) -
     }
 }
 
-/// Nothing may be set, for a reply.
+/// Tells that nothing may be set, with this reply.
 pub(crate) fn unset(reply: Reply) -> BlockSetting
     ensures { result ≡ unset reply }
 {

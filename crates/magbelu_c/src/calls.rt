@@ -1,4 +1,4 @@
-//! Calls that a graph file and a script go into as bytes, and texts come out of.
+//! Calls that take a graph file and a script as bytes, and give texts.
 
 ghost use Rattle.std.specs.Prelude.{◌≡◌};
 ghost use Rattle.flow_core.specs.Serve.{IsCheck, IsRunAlone, graph_in, plant_in};

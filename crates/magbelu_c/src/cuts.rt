@@ -1,4 +1,4 @@
-//! How tapes and streams are cut into slices of time, as rows of a table.
+//! How tapes and streams are cut into slices of time, as rows of tables.
 
 ghost use Rattle.std.specs.Prelude.{◌≡◌, IfOk, map};
 ghost use Rattle.magbelu_c.specs.Cuts.{part_row, sink_row, source_row};
@@ -26,7 +26,7 @@ pub struct CutSink {
     pub block: u32,
     /// How many items it takes in an iteration.
     pub period: u64,
-    /// How many items a slice drops that does not begin the run.
+    /// How many items a slice drops, unless it begins the run.
     pub drop: u64,
 }
 
@@ -38,7 +38,7 @@ pub struct CutPart {
     pub block: u32,
     /// How many of its items are dropped.
     pub drop: u64,
-    /// At which item of the whole the others stand.
+    /// The place of the next item in the whole stream.
     pub stands: u64,
 }
 

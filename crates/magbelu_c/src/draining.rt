@@ -1,4 +1,4 @@
-//! What is drained of a sink of a plant that streams.
+//! Drains the sinks of a streaming plant.
 
 ghost use Rattle.std.specs.Prelude.{◌≡◌, ◌≤◌, true, false};
 ghost use Rattle.magbelu_c.specs.Draining.{DrainsFrom, DrainsOn};
@@ -13,8 +13,8 @@ use raw_items::ByteOrder;
 use std::alloc::Global;
 use streaming::StreamingPlant;
 
-/// Shows what a sink has taken and what was not drained yet, at most so many items, and takes it away where both parts of it fit their buffers. One that keeps what it
-/// took is not drained.
+/// Shows what a sink has taken and what was not drained yet, at most so many items. It takes this away if both parts
+/// fit their buffers. A plant that keeps what it took is not drained.
 pub(crate) fn drain(
     alloc: Global,
     plant: &mut AnyPlant,
@@ -58,12 +58,12 @@ fn drain_stream(
     }
     match stream.consume(sink, piece.items.len() as u64) {
         Ok(_) => told,
-        // (a sink that was shown is one)
+        // (the sink was shown, so it exists)
         Err(_) => unreachable!(),
     }
 }
 
-// Whether a piece was shown, and both parts of it fit buffers with so much room.
+// Whether a piece was shown, and both its parts fit buffers with so much room.
 fn fits(told: Piece, bytes_room: usize, tags_room: usize) -> bool
     ensures yes { result ≡ true → (told.status ≡ 0) × (told.bytes_len ≤ bytes_room) × (told.tags_len ≤ tags_room) }
     ensures no { result ≡ false → told.status ≡ 0 → told.bytes_len ≤ bytes_room → told.tags_len ≤ tags_room → ⊥ }

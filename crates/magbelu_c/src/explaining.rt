@@ -1,4 +1,4 @@
-//! A call that shows where a graph file is refused.
+//! The call that shows where a graph file is refused.
 
 ghost use Rattle.magbelu_c.specs.CallAnswers.{Answers};
 ghost use Rattle.magbelu_c.specs.Explaining.{Accepts, Explains};
@@ -10,8 +10,8 @@ use flow_core::fault::Fault;
 use graph_file::Depth;
 use std::alloc::Global;
 
-/// Tells whether the plant of a graph file can be opened. Where it cannot, the output shows the place in the file and what stands there, as `flow --explain`
-/// does, under this name of the file. The output is empty where memory runs out for it.
+/// Tells whether the plant of a graph file can be opened. If not, the output shows the place in the file and what is
+/// there, as `flow --explain` does, under this name of the file. The output is empty if memory runs out for it.
 #[unsafe(no_mangle)]
 pub extern "C" fn magbelu_bytes_explain(
     alloc: Global,
@@ -30,7 +30,7 @@ pub extern "C" fn magbelu_bytes_explain(
     badly(alloc, &fault, place.as_bytes(), output, error)
 }
 
-// The lines that show where a file is refused. A name that is no text in UTF-8 stands there as `?`.
+// The lines that show where a file is refused. A name that is not UTF-8 becomes `?`.
 fn place_in(alloc: Global, name: &[u8], file: &[u8]) -> String {
     let name = std::str::from_utf8(name).unwrap_or("?");
     match explain(alloc, name, file, Depth::Plant) {

@@ -1,4 +1,4 @@
-//! Calls that tell of the graph of a held plant. Each takes the plant from behind the handle, and puts it back.
+//! Calls about the graph of a held plant. Each takes the plant from behind the handle, and puts it back.
 
 ghost use Rattle.std.specs.Prelude.{◌≡◌, length};
 ghost use Rattle.magbelu_c.specs.AnyPlants.{plant_of};
@@ -31,7 +31,7 @@ pub extern "C" fn magbelu_bytes_block_count(alloc: Global, plant: &mut Handle) -
     done(0, count as u64)
 }
 
-/// Tells of the block of a number, with its name and that of its kind.
+/// Tells about the block of a number, with its name and that of its kind.
 #[unsafe(no_mangle)]
 pub extern "C" fn magbelu_bytes_block(
     alloc: Global,
@@ -68,7 +68,7 @@ pub extern "C" fn magbelu_bytes_connections(
     reply
 }
 
-/// Tells the drawing of the graph, as `flow draw` writes it.
+/// Gives the drawing of the graph, as `flow draw` writes it.
 #[unsafe(no_mangle)]
 pub extern "C" fn magbelu_bytes_draw(
     alloc: Global,
@@ -87,7 +87,7 @@ pub extern "C" fn magbelu_bytes_draw(
     answer
 }
 
-/// Tells how many items the buffer behind each connection has room for, in the order of the file.
+/// Tells how many items the buffer of each connection has room for, in the order of the file.
 #[unsafe(no_mangle)]
 pub extern "C" fn magbelu_bytes_rooms(alloc: Global, plant: &mut Handle, rooms: &mut [u64]) -> Reply
     ensures { OnGraph plant.old.plant plant.new.plant (λ g. Rooms g rooms.old rooms.new result) ((rooms.new ≡ rooms.old) × (result ≡ not_open)) }
@@ -100,7 +100,7 @@ pub extern "C" fn magbelu_bytes_rooms(alloc: Global, plant: &mut Handle, rooms: 
     reply
 }
 
-/// Tells what of the block of a number may be set, and its own value of that.
+/// Tells what may be set of the block of a number, and the block's own value.
 #[unsafe(no_mangle)]
 pub extern "C" fn magbelu_bytes_setting(
     alloc: Global,
@@ -118,7 +118,7 @@ pub extern "C" fn magbelu_bytes_setting(
     setting
 }
 
-/// Tells what a firing of the block of a number takes of each connected input, and gives on each output.
+/// Tells what a firing of the block of a number takes of each connected input, and what it gives on each output.
 #[unsafe(no_mangle)]
 pub extern "C" fn magbelu_bytes_rates(
     alloc: Global,

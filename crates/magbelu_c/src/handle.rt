@@ -1,4 +1,4 @@
-//! A plant that a caller in C holds over many calls.
+//! A plant that a C caller holds over many calls.
 
 ghost use Rattle.std.specs.Prelude.{◌≡◌, Option, Some, None};
 ghost use Rattle.std.specs.Option.{option_map};
@@ -12,7 +12,7 @@ use std::marker::Model;
 use std::mem::replace;
 use std::ptr::null_mut;
 
-/// What stands for a plant in the memory of a caller. The plant is the library's; a contract sees it, where one is held.
+/// Stands for a plant in the memory of a caller. The plant is the library's. Contracts see it, if one is held.
 #[repr(C)]
 #[derive(Drop)]
 pub struct Handle {

@@ -34,7 +34,7 @@ use flow_core::fault::Fault;
 use flow_core::script::ScriptFault;
 use std::alloc::Global;
 
-// The number of the refusal where a plant is held already.
+// The refusal number if a plant is held already.
 const IS_OPEN: u32 = 56;
 
 /// Opens the plant of a graph file, with its feeds on the tapes, behind a handle that holds none.
@@ -50,7 +50,7 @@ pub extern "C" fn magbelu_bytes_open(
     open(alloc, plant, file, false, error)
 }
 
-/// Opens the plant of a graph file so that it streams.
+/// Opens the streaming plant of a graph file.
 #[unsafe(no_mangle)]
 pub extern "C" fn magbelu_bytes_open_stream(
     alloc: Global,
@@ -63,8 +63,8 @@ pub extern "C" fn magbelu_bytes_open_stream(
     open(alloc, plant, file, true, error)
 }
 
-/// Opens the plant that streams whose blocks go on where those of a graph file stand after so many iterations. Nothing is fed to it: what the file feeds stands at the
-/// front of the tapes.
+/// Opens the streaming plant whose blocks go on where those of a graph file stand after so many iterations. It feeds
+/// nothing: what the file feeds belongs to the front of the tapes.
 #[unsafe(no_mangle)]
 pub extern "C" fn magbelu_bytes_open_stream_at(
     alloc: Global,
@@ -140,7 +140,7 @@ fn opened(alloc: Global, file: &[u8], streams: bool) -> Result<Box<AnyPlant>, Fa
     }
 }
 
-/// Frees the plant that is held.
+/// Frees the held plant.
 #[unsafe(no_mangle)]
 pub extern "C" fn magbelu_bytes_free(alloc: Global, plant: &mut Handle) -> Reply
     ensures { Frees plant.old.plant plant.new.plant result }
@@ -165,7 +165,7 @@ pub extern "C" fn magbelu_bytes_item_size(alloc: Global, plant: &mut Handle, sou
     reply
 }
 
-/// Feeds a source the items that bytes are, with tags on them.
+/// Feeds a source bytes as items, with tags on them.
 #[unsafe(no_mangle)]
 pub extern "C" fn magbelu_bytes_feed(
     alloc: Global,
@@ -258,7 +258,7 @@ pub extern "C" fn magbelu_bytes_set_taps(
     reply
 }
 
-// The item from which a setting is to be in force; the greatest number stands for the first that is still open.
+// The item from which a setting is to be in force. The greatest number stands for the first item that is still open.
 fn place(at: u64) -> Option<u64>
     ensures { result ≡ at_of at }
 {
@@ -296,7 +296,7 @@ pub extern "C" fn magbelu_bytes_settle(alloc: Global, plant: &mut Handle) -> Rep
     reply
 }
 
-/// Shows what a sink holds from an item on, at most so many items: the bytes of these, and a line for each of their tags.
+/// Shows what a sink holds from an item on, at most so many items: their bytes, and a line for each of their tags.
 #[unsafe(no_mangle)]
 pub extern "C" fn magbelu_bytes_read(
     alloc: Global,
@@ -327,8 +327,8 @@ pub extern "C" fn magbelu_bytes_read(
     piece
 }
 
-/// Takes at most so many items away of those that a sink of a plant that streams has taken and that were not drained yet: the bytes of these, and a line for each
-/// of their tags. Where one of the two does not fit its buffer, nothing is taken away.
+/// Takes away items that a sink of a streaming plant has taken and that were not drained yet, at most so many: their
+/// bytes, and a line for each of their tags. If one of the two does not fit its buffer, it takes nothing away.
 #[unsafe(no_mangle)]
 pub extern "C" fn magbelu_bytes_drain(
     alloc: Global,
@@ -363,7 +363,7 @@ pub extern "C" fn magbelu_bytes_need(alloc: Global, plant: &mut Handle, block: &
     reply
 }
 
-/// How far a block of a plant that streams is.
+/// How far a block of a streaming plant is.
 #[unsafe(no_mangle)]
 pub extern "C" fn magbelu_bytes_levels(
     alloc: Global,

@@ -1,4 +1,4 @@
-//! A plant whose calls are made one by one, so that no claim is ever in flight.
+//! A plant whose calls are made one by one, so no claim is ever in flight.
 
 ghost use Rattle.std.specs.Prelude.{◌≡◌, ◌≤◌, ◌<◌, ◌-◌, ◌^◌, Ok, IfOk, IfErr, OnOk, map};
 ghost use Rattle.stream_model.specs.Machine as machine;
@@ -36,7 +36,7 @@ use settings::Value;
 use std::alloc::{AllocError, Global};
 use std::marker::Model;
 
-/// A plant of which no claim is in flight. A contract sees the plant.
+/// A plant with no claim in flight. Contracts see the plant.
 #[derive(Drop)]
 pub(crate) struct Idle {
     pub(crate) plant: Plant<Kind>,
@@ -106,8 +106,8 @@ impl Idle {
         self.plant.feed_numbers(alloc, source, numbers, marks)
     }
 
-    /// Reads an input to its end, piece by piece, and puts the items that its bytes are at the end of a source's tape. Where it stops by a fault, some of
-    /// them may stand there.
+    /// Reads an input to its end, piece by piece, and appends its bytes as items to a source's tape. If it stops by a
+    /// fault, some of them may be there.
     pub(crate) fn feed_from<I: ByteIn>(
         &mut self,
         alloc: Global,
@@ -143,7 +143,7 @@ impl Idle {
         self.plant.set(block, at, value)
     }
 
-    /// Has a block do at most `max` firings.
+    /// Does at most `max` firings of a block.
     pub(crate) fn step(
         &mut self,
         alloc: Global,
@@ -164,7 +164,7 @@ impl Idle {
         self.plant.need(block)
     }
 
-    /// Closes each source, and lets the plant come to rest, block by block.
+    /// Closes each source, and runs the plant until it comes to rest, block by block.
     pub(crate) fn run_to_rest(self, alloc: Global) -> Result<Plant<Kind>, AllocError>
         ensures { IfOk result (λ plant. StepsToRest (opened_of self) (opened_of plant)) }
     {

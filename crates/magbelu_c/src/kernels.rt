@@ -1,4 +1,4 @@
-//! Kernels over slices. Each answers 0; or 57, and writes nothing, where the slices have not all the same length.
+//! Kernels over slices. Each answers 0. If the slices differ in length, it answers 57 and writes nothing.
 
 ghost use Rattle.std.specs.Prelude.{◌≡◌, ◌↔◌, length, map, pos, IsTrue};
 ghost use Rattle.kind_model.specs.Kernels.{add_wrap, add_const_wrap, mul_wrap, and_bits, or_bits, xor_bits};
@@ -7,10 +7,10 @@ ghost use Rattle.magbelu_c.specs.Kernels.{AreAlike, IsAlike, Makes};
 
 use lane_kernels::{AndBits, OrBits, XorBits, join_bits};
 
-// The number of the refusal of slices that differ in length.
+// The refusal number for slices that differ in length.
 const LENGTHS: u32 = 57;
 
-// Runs a kernel where its slices have one length, and gives what the call answers.
+// Runs a kernel if its slices have one length, and gives the call's answer.
 macro_rules! where_alike {
     ($alike:expr, $kernel:expr) => {
         if $alike {
@@ -22,14 +22,14 @@ macro_rules! where_alike {
     };
 }
 
-// Whether all have one length.
+// Whether all slices have one length.
 fn are_alike<T>(a: &[T], b: &[T], out: &[T]) -> bool
     ensures { IsTrue result ↔ AreAlike a.now b.now out.now }
 {
     a.len() == b.len() && out.len() == a.len()
 }
 
-/// Adds the shorts of two slices, wrapping where a sum leaves the range.
+/// Adds the shorts of two slices. A sum out of range wraps.
 #[unsafe(no_mangle)]
 pub extern "C" fn magbelu_kernel_add_shorts(a: &[i16], b: &[i16], out: &mut [i16]) -> u32
     ensures { Makes (AreAlike a.now b.now out.old) (out.new ≡ add_wrap Short a.now b.now) out.old out.new result }
@@ -56,7 +56,7 @@ pub extern "C" fn magbelu_kernel_multiply_shorts(a: &[i16], number: i16, out: &m
     where_alike!(out.len() == a.len(), lane_kernels::mul_wrap(a, number, out))
 }
 
-/// Adds the ints of two slices, wrapping where a sum leaves the range.
+/// Adds the ints of two slices. A sum out of range wraps.
 #[unsafe(no_mangle)]
 pub extern "C" fn magbelu_kernel_add_ints(a: &[i32], b: &[i32], out: &mut [i32]) -> u32
     ensures { Makes (AreAlike a.now b.now out.old) (out.new ≡ add_wrap Int a.now b.now) out.old out.new result }

@@ -14,12 +14,12 @@ use slices::{Asks, MOST_ITERATIONS};
 use std::alloc::Global;
 use streaming::StreamingPlant;
 
-/// Why no such plant is open.
+/// Why no such plant was opened.
 #[derive(Drop)]
 pub(crate) enum Unopened {
     /// The file is refused.
     File(FileFault),
-    /// Its graph is not cut, or not so far behind.
+    /// Its graph is not cut, or not at so late an iteration.
     Uncut(Uncut),
 }
 
@@ -46,7 +46,7 @@ pub(crate) fn opened_later(
     }
 }
 
-// The same of the graph that was read of the file.
+// The same, of the graph that was read from the file.
 fn later_stream(
     alloc: Global,
     file: &[u8],

@@ -1,4 +1,4 @@
-//! How far a block of a plant that streams is.
+//! How far a block of a streaming plant is.
 
 ghost use Rattle.std.specs.Prelude.{◌≡◌};
 ghost use Rattle.magbelu_c.specs.Levels.{level_named, level_or, levels_in, untold};
@@ -10,7 +10,7 @@ use kinds::Kind;
 use plant::PlantFault;
 use streaming::{Levels, StreamingPlant};
 
-/// How far a block is, in items of the streams from their beginnings on.
+/// How far a block is, in items counted from the beginnings of the streams.
 #[repr(C)]
 #[derive(Clone, Copy, Debug, PartialEq, Eq)]
 pub struct BlockLevels {
@@ -60,7 +60,7 @@ fn told(levels: Result<Levels, PlantFault>) -> BlockLevels
     }
 }
 
-/// Nothing is told, for a reply.
+/// Tells nothing, only this reply.
 pub(crate) fn untold(reply: Reply) -> BlockLevels
     ensures { result ≡ untold reply }
 {

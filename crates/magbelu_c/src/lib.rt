@@ -1,13 +1,14 @@
-//! Magbelu from C: what c/magbelu.h declares. No call has a `requires`, since nothing holds a caller in C to one.
+//! Magbelu from C: what c/magbelu.h declares. No call has a `requires`, since nothing holds a C caller to one.
 //!
 //! ```c
 //! struct magbelu_answer answer = magbelu_bytes_run(file, file_len, output, output_room, error, error_room);
 //! ```
 //!
-//! A call takes pointers with their lengths, refuses what they may not be (54 and on), and does one call of the libraries below: `calls` whole runs of a file,
-//! `raw_calls` and `between` runs between raw items, `held_calls` those of a plant that is held behind a `handle`, `draining` and `levels` those of one that
-//! streams, `graph_calls` what its graph is, `slice_calls` how runs of its graph are cut into slices of time, `kernels` arithmetic over slices of memory. It starts no thread, and keeps nothing
-//! between two calls but what a handle holds.
+//! A call takes pointers with their lengths, refuses wrong ones (54 and on), and makes one call of the libraries below.
+//! `calls` has whole runs of a file, `raw_calls` and `between` runs between raw items, `held_calls` the calls of a
+//! plant behind a `handle`, `draining` and `levels` those of a streaming one. `graph_calls` tells what its graph is,
+//! and `slice_calls` how runs of its graph are cut into slices of time. `kernels` has arithmetic over slices of memory.
+//! No call starts a thread. Between two calls only what a handle holds is kept.
 #![tactic(auto)]
 
 pub mod answer;

@@ -1,4 +1,4 @@
-//! What is told of a graph: its blocks, its connections and its drawing.
+//! Tells about a graph: its blocks, its connections and its drawing.
 
 ghost use Rattle.std.specs.Prelude.{◌≡◌, IfOk, map};
 ghost use Rattle.drawings.specs.Drawings.{drawn_text};
@@ -15,7 +15,7 @@ use rates::balance;
 use std::alloc::{AllocError, Global};
 use stream_model::{ItemType, Role};
 
-/// What is told of a block. Of a side without ports the type says nothing.
+/// A block. The type of a side without ports means nothing.
 #[repr(C)]
 #[derive(Clone, Copy, Debug, PartialEq, Eq)]
 pub struct Listed {
@@ -27,7 +27,7 @@ pub struct Listed {
     pub role: u32,
     /// The type of the items that it takes: 0 for bytes, 1 for shorts, 2 for ints.
     pub input_type: u32,
-    /// The type of those that it gives.
+    /// The type of the items that it gives.
     pub output_type: u32,
     /// How many inputs are connected.
     pub input_count: usize,
@@ -53,8 +53,8 @@ pub struct Link {
     pub in_port: usize,
 }
 
-/// Puts the name of a block, and that of its kind, at the fronts of two buffers, where they fit, and tells of the block. `NoSuchBlock` where there is none of
-/// this number.
+/// Tells about a block, and puts its name and that of its kind at the fronts of two buffers if they fit. `NoSuchBlock`
+/// if there is no block of this number.
 pub(crate) fn show_block(
     graph: &Valid<Kind>,
     number: u32,
@@ -84,7 +84,7 @@ pub(crate) fn show_block(
     }
 }
 
-/// Nothing is told of a block, for a reply.
+/// Tells nothing of a block, only this reply.
 pub(crate) fn unlisted(reply: Reply) -> Listed
     ensures { result ≡ unlisted reply }
 {
@@ -122,7 +122,7 @@ fn type_number(item: ItemType) -> u32
     }
 }
 
-/// Puts the connections at the front of a table, where they fit, and tells how many there are.
+/// Puts the connections at the front of a table if they fit, and tells how many there are.
 pub(crate) fn show_links(alloc: Global, graph: &Valid<Kind>, links: &mut [Link]) -> Reply
     ensures { Links graph.now links.old links.new result }
 {
@@ -149,7 +149,7 @@ fn link_rows(alloc: Global, connections: &[Connection]) -> Result<Vec<Link>, All
     Ok(rows)
 }
 
-/// The format of a drawing, by a number: 0 for that of Graphviz's `dot`, and any other for that of Mermaid.
+/// The format of a drawing, by its number: 0 for Graphviz's `dot`, any other for Mermaid.
 pub(crate) fn format(number: u32) -> Format
     ensures { result ≡ format_of number }
 {
@@ -160,7 +160,7 @@ pub(crate) fn format(number: u32) -> Format
     }
 }
 
-/// Puts the drawing of a graph, as text in a format, at the front of a buffer, where it fits.
+/// Puts the drawing of a graph, as text in a format, at the front of a buffer if it fits.
 pub(crate) fn show_drawing(
     alloc: Global,
     graph: &Valid<Kind>,
@@ -188,7 +188,7 @@ fn drawing_of(alloc: Global, graph: &Valid<Kind>, format: Format) -> Result<Vec<
     drawn(alloc, graph, &rates, format)
 }
 
-/// What came of a call that writes a text of so many bytes, and no line.
+/// The result of a call that writes a text of so many bytes, and no line.
 pub(crate) fn told(status: u32, number: u32, output_len: usize) -> Answer
     ensures { result ≡ record { status = status; number = number; output_len = output_len; error_len = 0 } }
 {

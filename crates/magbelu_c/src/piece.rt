@@ -1,4 +1,4 @@
-//! What a sink of a held plant shows.
+//! Shows what a sink of a held plant holds.
 
 ghost use Rattle.std.specs.Prelude.{◌≡◌, IfOk};
 ghost use Rattle.items.specs.Items.{type_of, numbers_of};
@@ -16,11 +16,11 @@ use plant::Plant;
 use raw_items::{ByteOrder, item_size, push_item_bytes};
 use std::alloc::{AllocError, Global};
 
-/// What came of a read.
+/// The result of a read.
 #[repr(C)]
 #[derive(Clone, Copy, Debug, PartialEq, Eq)]
 pub struct Piece {
-    /// 0; 1 for a refusal; 4 where memory ran out.
+    /// 0; 1 for a refusal; 4 if memory ran out.
     pub status: u32,
     /// The number of the refusal, or 0.
     pub number: u32,
@@ -28,13 +28,13 @@ pub struct Piece {
     pub held: u64,
     /// How many bytes an item has.
     pub item_size: usize,
-    /// How many bytes the items have that are shown.
+    /// How many bytes the shown items have.
     pub bytes_len: usize,
     /// How many bytes the lines of their tags have.
     pub tags_len: usize,
 }
 
-/// Shows what a sink holds from an item on, at most so many items. One that streams holds nothing to be read again.
+/// Shows what a sink holds from an item on, at most so many items. A streaming plant holds nothing to read again.
 pub(crate) fn read(
     alloc: Global,
     plant: &AnyPlant,
@@ -119,7 +119,7 @@ fn item_bytes(alloc: Global, items: &Items, order: ByteOrder) -> Result<Vec<u8>,
     Ok(bytes)
 }
 
-/// Nothing is shown.
+/// Shows nothing, only this reply.
 pub(crate) fn unshown(reply: Reply) -> Piece
     ensures { result ≡ unshown reply }
 {

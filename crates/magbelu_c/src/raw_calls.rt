@@ -1,4 +1,4 @@
-//! A call that raw items go into, and raw items come out of.
+//! The call that takes raw items, and gives raw items.
 
 ghost use Rattle.std.specs.Prelude.{◌≡◌};
 ghost use Rattle.magbelu_c.specs.CallAnswers.{AnswersRun, order_of};
@@ -10,8 +10,8 @@ use crate::shows::show;
 use crate::tables::{Input, Output};
 use std::alloc::Global;
 
-/// Runs the graph of a file to its end, where sources are fed the bytes of `inputs`, and gives what sinks hold: the bytes of all `outputs`, one behind the
-/// other, and how many each has.
+/// Runs the graph of a file to its end, with the bytes of `inputs` fed to sources. It gives what sinks hold: the bytes
+/// of all `outputs`, one after the other, and how many each has.
 #[unsafe(no_mangle)]
 pub extern "C" fn magbelu_bytes_run_items(
     alloc: Global,

@@ -1,4 +1,4 @@
-//! What a call of a held plant answers.
+//! The answer to a call of a held plant.
 
 ghost use Rattle.std.specs.Prelude.{◌≡◌};
 ghost use Rattle.plant.specs.Answers.{refusal_of, step_reply};
@@ -9,18 +9,19 @@ ghost use Rattle.magbelu_c.specs.Waiting.{waiting};
 use plant::{BlockNeed, Need, PlantFault, Step};
 use refusal_codes::Refusal;
 
-/// What came of a call of a held plant.
+/// The result of a call of a held plant.
 #[repr(C)]
 #[derive(Clone, Copy, Debug, PartialEq, Eq)]
 pub struct Reply {
-    /// 0; 3 where the plant came to rest before all blocks were done; 1 for a refusal; 4 where memory ran out.
+    /// 0; 3 if the plant came to rest before all blocks were done; 1 for a refusal; 4 if memory ran out.
     pub status: u32,
     /// The number of the refusal, or 0.
     pub number: u32,
-    /// What a step came to, or a block waits for: 0 for firings, 1 for the end of its block, 2 where it waits for items, 3 where it waits for room,
-    /// 5 for a source that waits to be fed; else 0.
+    /// What a step came to, or what a block waits for: 0 for firings, 1 for the end of its block, 2 if it waits for
+    /// items, 3 if it waits for room, 5 for a source that waits to be fed; else 0.
     pub what: u32,
-    /// What is counted: items of a tape, the item that a setting is in force from, firings, or the port that a block waits at.
+    /// A number: the items of a tape, the item that a setting is in force from, the firings, or the port that a block
+    /// waits at.
     pub value: u64,
 }
 
@@ -36,7 +37,7 @@ pub(crate) fn done(what: u32, value: u64) -> Reply
     }
 }
 
-/// No plant is held, or none that such a call is for.
+/// No plant is held, or not one that has such a call.
 pub(crate) fn not_open() -> Reply
     ensures { result ≡ not_open }
 {
@@ -99,7 +100,7 @@ pub(crate) fn of_step(step: Step) -> Reply
         Step::Done => done(1, 0),
         Step::Waiting(Need::Items(port)) => done(2, port as u64),
         Step::Waiting(Need::Room(port)) => done(3, port as u64),
-        // (where no claim is in flight no block is busy)
+        // (no claim is in flight, so no block is busy)
         Step::Busy => done(4, 0),
     }
 }
@@ -113,7 +114,7 @@ pub(crate) fn of_need(need: BlockNeed) -> Reply
         BlockNeed::Done => done(1, 0),
         BlockNeed::Items { port, .. } => done(2, port as u64),
         BlockNeed::Room { port, .. } => done(3, port as u64),
-        // (where no claim is in flight no block is busy)
+        // (no claim is in flight, so no block is busy)
         BlockNeed::Busy => done(4, 0),
         BlockNeed::Feed => done(5, 0),
     }

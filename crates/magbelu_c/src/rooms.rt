@@ -11,7 +11,7 @@ use kinds::Kind;
 use rates::{BufferCapacities, balance, capacities};
 use std::alloc::{AllocError, Global};
 
-/// Puts the rooms of the buffers behind the connections at the front of a table, where they fit, and tells how many there are.
+/// Puts the rooms of the connections' buffers at the front of a table if they fit, and tells how many there are.
 pub(crate) fn show_rooms(alloc: Global, graph: &Valid<Kind>, rooms: &mut [u64]) -> Reply
     ensures { Rooms graph.now rooms.old rooms.new result }
 {
@@ -31,7 +31,7 @@ fn rooms_of(alloc: Global, graph: &Valid<Kind>) -> Result<Vec<u64>, AllocError>
     rooms_in(alloc, &sizes, graph.connections())
 }
 
-// The same, where the outputs have these capacities.
+// The same, if the outputs have these capacities.
 fn rooms_in(
     alloc: Global,
     sizes: &BufferCapacities,

@@ -9,7 +9,8 @@ use crate::slice_plans::{asks, show_plan, show_slice};
 use crate::slicing::{Slicing, not_held};
 use std::alloc::Global;
 
-/// Tells the numbers by which the runs of a graph are cut into slices: how far these overlap, and how each source is cut, and each sink that keeps its items.
+/// Tells the numbers that cut the runs of a graph into slices: how far slices overlap, and how each source is cut, and
+/// each sink that keeps its items.
 #[unsafe(no_mangle)]
 pub extern "C" fn magbelu_bytes_slices(
     alloc: Global,
@@ -29,8 +30,8 @@ pub extern "C" fn magbelu_bytes_slices(
     slicing
 }
 
-/// Tells of the slice that begins at an iteration what it leaves out of the tapes, and of each sink that keeps its items how many it drops and where the others
-/// stand.
+/// Tells about the slice that begins at an iteration: what it leaves out of the tapes, and, for each sink that keeps
+/// its items, how many it drops and where the others stand.
 #[unsafe(no_mangle)]
 pub extern "C" fn magbelu_bytes_slice(
     alloc: Global,

@@ -16,7 +16,7 @@ use rates::{Rates, Repetitions, balance};
 use slices::{Asks, MOST_ITERATIONS, Plan, Planned, Slice, first_to_count, plan_slices};
 use std::alloc::{AllocError, Global};
 
-/// What is asked of slices, by a number: 0 for items alone.
+/// What is asked of slices, by a number: 0 for only items.
 pub(crate) fn asks(tags: u32) -> Asks
     ensures { result ≡ asks_of tags }
 {
@@ -27,7 +27,7 @@ pub(crate) fn asks(tags: u32) -> Asks
     }
 }
 
-/// Puts how each source is cut, and each sink that keeps its items, at the front of its table, where they fit.
+/// Puts how each source is cut, and each sink that keeps its items, at the front of its table if they fit.
 pub(crate) fn show_plan(
     alloc: Global,
     graph: &Valid<Kind>,
@@ -53,7 +53,8 @@ pub(crate) fn show_plan(
     told(plan.overlap, counting, source_rows.len(), sink_rows.len())
 }
 
-/// Puts what the slice that begins at an iteration gives each sink that keeps its items at the front of the table, where that fits.
+/// Puts what the slice that begins at an iteration gives each sink that keeps its items at the front of the table if it
+/// fits.
 pub(crate) fn show_slice(
     alloc: Global,
     graph: &Valid<Kind>,
@@ -80,7 +81,7 @@ pub(crate) fn show_slice(
     told(slice.from, first_to_count(graph), 0, rows.len())
 }
 
-/// The numbers by which the runs of a graph are cut, with the rates that they rest on.
+/// The numbers that cut the runs of a graph, with the rates that they rest on.
 pub(crate) fn plan_of(
     alloc: Global,
     graph: &Valid<Kind>,
@@ -102,7 +103,7 @@ pub(crate) fn plan_of(
     }
 }
 
-// The slice that begins at an iteration, by a plan of the graph that rests on these rates.
+// The slice that begins at an iteration, by a plan of the graph with these rates.
 fn slice_at(
     alloc: Global,
     graph: &Valid<Kind>,

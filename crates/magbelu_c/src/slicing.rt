@@ -1,4 +1,4 @@
-//! What a call about slices of time answers.
+//! The answer to a call about slices of time.
 
 ghost use Rattle.std.specs.Prelude.{◌≡◌};
 ghost use Rattle.magbelu_c.specs.Slicing.{no_block, not_cut, number_of, refused, told};
@@ -8,35 +8,37 @@ use flowgraph::BlockId;
 use plant::PlantFault;
 use refusal_codes::Refusal;
 
-// The number of the refusal of a graph that is not cut.
+// The refusal number for a graph that is not cut.
 const NO_SLICES: u32 = 63;
-// The number of the refusal of a slice that would begin where none does.
+// The refusal number for a slice that would begin where none can.
 const NO_CUT: u32 = 64;
 // Stands for no block.
 const NO_BLOCK: u32 = u32::MAX;
 
-/// What came of a call about slices.
+/// The result of a call about slices.
 #[repr(C)]
 #[derive(Clone, Copy, Debug, PartialEq, Eq)]
 pub struct Slicing {
-    /// 0; 1 for a refusal; 4 where memory ran out.
+    /// 0; 1 for a refusal; 4 if memory ran out.
     pub status: u32,
     /// The number of the refusal, or 0.
     pub number: u32,
-    /// The number of the block that a refusal is for; where there is none, of the first block whose items rest on how many came before; else the greatest number.
+    /// The number of the block that a refusal is about. Without a refusal, the number of the first block whose items
+    /// depend on how many came before. Else the greatest number.
     pub block: u32,
-    /// Of a plan, how many iterations before its own a slice reads; of a slice, how many iterations of each tape it leaves out.
+    /// For a plan, how many iterations before its own a slice reads; for a slice, how many iterations of each tape it
+    /// leaves out.
     pub iterations: u64,
     /// How many sources a plan has.
     pub source_count: usize,
-    /// How many sinks that keep their items a plan has, or a slice.
+    /// How many sinks that keep their items a plan or a slice has.
     pub sink_count: usize,
 }
 
 /// Why there is no slice.
 #[derive(Clone, Copy, Drop)]
 pub(crate) enum Uncut {
-    /// What this block gives rests on all that it was given.
+    /// The output of this block depends on all that it ever took.
     Remembers(BlockId),
     /// The rates have no balance, or slices would overlap too far.
     Rates,
@@ -46,7 +48,7 @@ pub(crate) enum Uncut {
     Memory,
 }
 
-/// A call was done, for a graph of which this block is the first that counts.
+/// A call was done. `counting` is the first block of the graph that counts.
 pub(crate) fn told(
     iterations: u64,
     counting: Option<BlockId>,
@@ -85,7 +87,7 @@ pub(crate) fn not_held() -> Slicing
     refused(reply.status, reply.number, NO_BLOCK)
 }
 
-// The number of a block, or what stands for none.
+// The number of a block, or the one that stands for none.
 fn number_of(block: Option<BlockId>) -> u32
     ensures { result ≡ number_of block }
 {

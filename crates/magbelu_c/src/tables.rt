@@ -1,6 +1,6 @@
-//! Tables that a caller in C hands in.
+//! Tables that a C caller hands in.
 
-/// What is appended to the tape of a source: the items that these bytes are.
+/// What is appended to the tape of a source: these bytes as items.
 #[repr(C)]
 #[derive(Drop)]
 pub struct Input<'a> {
@@ -15,7 +15,7 @@ pub struct Input<'a> {
 pub struct Output<'a> {
     /// The name of the sink.
     pub name: &'a [u8],
-    /// 0 for the bytes of its items, and any other number for a line for each of its tags.
+    /// 0 for the bytes of its items, any other number for a line for each of its tags.
     pub tags: u32,
 }
 
@@ -23,7 +23,7 @@ pub struct Output<'a> {
 #[repr(C)]
 #[derive(Drop)]
 pub struct Mark<'a> {
-    /// The place of its item on the tape, where the first is 0.
+    /// The place of its item on the tape; the first is 0.
     pub offset: u64,
     pub value: i64,
     pub key: &'a [u8],

@@ -1,4 +1,4 @@
-//! Feeds with tags of a caller in C.
+//! Feeds with the tags of a C caller.
 
 ghost use Rattle.std.specs.Prelude.{◌≡◌, ◌<◌, length, map, false, None, IfOk, IfSome, OnErr};
 ghost use Rattle.std.specs.List.{Any};
@@ -16,10 +16,10 @@ use items::{Mark, TagKey};
 use raw_items::ByteOrder;
 use std::alloc::{AllocError, Global};
 
-// The number of the refusal of a key that is none.
+// The refusal number for an invalid key.
 const BAD_KEY: u32 = 58;
 
-/// Feeds a source the items that bytes are, with tags on them.
+/// Feeds a source bytes as items, with tags on them.
 pub(crate) fn feed(
     alloc: Global,
     plant: &mut AnyPlant,
@@ -62,7 +62,7 @@ pub(crate) fn feed_numbers(
     block_calls::feed_numbers(alloc, plant, source, numbers, &marks)
 }
 
-// The marks that tags are, or none where one has a key that is none.
+// Tags as marks, or none if one has an invalid key.
 fn marks_of(alloc: Global, tags: &[tables::Mark<'_>]) -> Result<Option<Vec<Mark>>, AllocError>
     ensures marks { IfOk result (λ found. IfSome found (λ marks. map mark_of marks.items ≡ map given tags.now)) }
     ensures copies { OnErr result (0 < length tags.now) }
