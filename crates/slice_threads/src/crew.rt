@@ -1,4 +1,4 @@
-//! What the threads do that run slices.
+//! What the threads that run slices do.
 
 use crate::desk::Desk;
 use crate::piece::{Job, Opens};
@@ -14,27 +14,27 @@ use std::sync::{Arc, Mutex, Wait};
 /// What all threads share.
 #[derive(Drop)]
 pub(crate) struct Shared<F: Drop, O: Outlet> {
-    /// Where the pieces come from; nothing once no thread is left.
+    /// Where the pieces come from; none once no thread is left.
     pub(crate) supply: Mutex<Option<Supply<F>>>,
     pub(crate) desk: Desk<O>,
     /// Wakes the thread that waits for the next piece.
     pub(crate) tell: Sender<Event, Global>,
 }
 
-/// How many iterations are in pieces, and of how many all is written.
+/// How many iterations are in pieces, and how many are written.
 #[derive(Clone, Copy, Debug, PartialEq, Eq)]
 pub(crate) struct Step {
     pub(crate) read: u64,
     pub(crate) written: u64,
 }
 
-/// What a thread needs that runs slices.
+/// What a thread needs to run slices.
 #[derive(Drop)]
 pub(crate) struct Worker<P: Drop, F: Drop, O: Outlet> {
     pub(crate) opener: P,
     pub(crate) job: Job,
     pub(crate) shared: Arc<Shared<F, O>, Global>,
-    /// Told after each piece.
+    /// Takes a step after each piece.
     pub(crate) steps: Sender<Step, Global>,
 }
 
@@ -69,7 +69,8 @@ impl<P: Opens + Drop, F: Read + Drop, O: Outlet + Drop> Worker<P, F, O> {
         }
     }
 
-    // The next piece, with how many iterations are in pieces then; or the number of that which memory is missing for.
+    // The next piece, with how many iterations are in pieces then; or the number of the piece that memory is missing
+    // for.
     fn fetch<R: Wait>(
         &self,
         rt: &R,
@@ -87,7 +88,8 @@ impl<P: Opens + Drop, F: Read + Drop, O: Outlet + Drop> Worker<P, F, O> {
         }
     }
 
-    // Writes what came of a piece when it is its turn, and tells whether the run goes on. So many iterations are in pieces.
+    // Writes the result of a piece when its turn comes, and returns whether the run goes on. So many iterations are in
+    // pieces.
     fn write<R: Wait>(&self, rt: &R, made: &Made, read: u64) -> bool {
         let desk = &self.shared.desk;
         let Some(turn) = desk.take(rt, made.number) else {
@@ -108,7 +110,7 @@ impl<P: Opens + Drop, F: Read + Drop, O: Outlet + Drop> Worker<P, F, O> {
         goes_on
     }
 
-    // Ends the run where memory is missing for the piece of this number, once those before it are written.
+    // Ends the run, as memory is missing for the piece of this number. The pieces before it are written first.
     fn fail<R: Wait>(&self, rt: &R, number: u64) {
         if self.shared.desk.take(rt, number).is_some() {
             self.shared.desk.fail(rt, AllocError.into());
@@ -116,7 +118,7 @@ impl<P: Opens + Drop, F: Read + Drop, O: Outlet + Drop> Worker<P, F, O> {
         }
     }
 
-    // (who has not taken what was told before is told enough)
+    // (a failed send loses nothing: what was told before is not taken yet)
     fn tell<R: Wait>(&self, rt: &R, step: Step) {
         let _ = self.shared.tell.try_send(rt, Event::Turned);
         let _ = self.steps.try_send(rt, step);

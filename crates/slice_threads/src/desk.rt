@@ -13,7 +13,7 @@ struct Slot<O: Outlet> {
     fault: Option<O::Fault>,
 }
 
-/// Where the turn lies while nobody writes.
+/// The place of the turn while nobody writes.
 #[derive(Drop)]
 pub(crate) struct Desk<O: Outlet> {
     slot: Mutex<Slot<O>>,
@@ -27,7 +27,7 @@ pub(crate) enum Progress {
     Written(u64),
     /// A piece is being written.
     Writes,
-    /// No more is written, as a thread failed.
+    /// No more is written: a thread failed.
     IsOver,
 }
 
@@ -53,7 +53,7 @@ impl<O: Outlet + Drop> Desk<O> {
         }
     }
 
-    /// How many items each sink was given; none where a thread has the turn.
+    /// How many items each sink was given; none while a thread has the turn.
     pub(crate) fn given<R: Wait>(&self, rt: &R, alloc: Global) -> Result<Vec<u64>, AllocError> {
         let mut given = Vec::new(alloc);
         if let Some(turn) = &self.slot.lock(rt).turn {
@@ -62,7 +62,8 @@ impl<O: Outlet + Drop> Desk<O> {
         Ok(given)
     }
 
-    /// Waits until all pieces before the one of this number are written, and takes the turn. There is none once a thread failed.
+    /// Waits until all pieces before the one of this number are written, and takes the turn. There is none after a
+    /// thread failed.
     pub(crate) fn take<R: Wait>(&self, rt: &R, number: u64) -> Option<Turn<O>>
         ensures { IfSome result (λ turn. turn.next ≡ number) }
     {
@@ -86,7 +87,7 @@ impl<O: Outlet + Drop> Desk<O> {
         self.done(slot);
     }
 
-    /// Has no thread write any more.
+    /// Lets no thread write any more.
     pub(crate) fn fail<R: Wait>(&self, rt: &R, fault: O::Fault) {
         let mut slot = self.slot.lock(rt);
         slot.fault = Some(fault);
@@ -98,7 +99,7 @@ impl<O: Outlet + Drop> Desk<O> {
         self.turned.notify_all();
     }
 
-    /// The turn once no thread is left, or why one failed; neither where it was taken from here before.
+    /// The turn, once no thread is left, or why a thread failed; neither if it was taken from here before.
     pub(crate) fn end<R: Wait>(&self, rt: &R) -> Result<Option<Turn<O>>, O::Fault> {
         let mut slot = self.slot.lock(rt);
         match slot.fault.take() {
@@ -109,7 +110,7 @@ impl<O: Outlet + Drop> Desk<O> {
 }
 
 impl<O: Outlet + Drop> Slot<O> {
-    // The turn, where it is that of the piece of this number.
+    // The turn, if it is that of the piece of this number.
     fn take(&mut self, number: u64) -> Option<Turn<O>>
         ensures { IfSome result (λ turn. turn.next ≡ number) }
     {

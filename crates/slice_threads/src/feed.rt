@@ -1,4 +1,4 @@
-//! What was read of the tape of a source, of which pieces are cut off.
+//! What was read of the tape of a source. Pieces are cut off it.
 
 ghost use Rattle.std.specs.Prelude.{◌≡◌, ◌++◌, ◌-◌, ◌*◌, take, length, [], None, IfOk, OnOk, OnErr};
 ghost use Rattle.slice_threads.specs.Cutting.{counted, bytes_of, piece_of, left_of, iterations_in};
@@ -33,7 +33,7 @@ pub struct Feed {
     // Whether no more can be read, and why, if a read failed.
     is_over: bool,
     failure: Option<io::Error>,
-    /// Its marks, where it has any.
+    /// Its marks, if it has any.
     pub marks: Option<Marks>,
 }
 
@@ -54,7 +54,7 @@ impl Feed {
         }
     }
 
-    /// Goes on in this room with what it holds.
+    /// Moves what it holds into this room.
     pub(crate) fn go_on_in(&mut self, room: Room) -> Result<(), AllocError>
         ensures room { self.new.room ≡ self.old.room }
         ensures stride { self.new.stride ≡ self.old.stride }
@@ -83,7 +83,7 @@ impl Feed {
         Ok(())
     }
 
-    /// How many bytes are missing to so many iterations.
+    /// How many bytes are missing from so many iterations.
     pub(crate) fn missing(&self, iterations: u64) -> usize
         ensures { result ≡ bytes_of self.now.stride iterations - length self.now.room }
     {
@@ -91,7 +91,7 @@ impl Feed {
             .saturating_sub(self.room.bytes().len())
     }
 
-    /// These bytes of the tape were read. It fails only where the allocator refuses.
+    /// These bytes of the tape were read. It fails only if the allocator refuses.
     pub(crate) fn push(&mut self, bytes: &[u8]) -> Result<(), AllocError>
         ensures ok { OnOk result (self.new.room ≡ self.old.room ++ bytes.now) }
         ensures err { OnErr result (self.new.room ≡ self.old.room) }
@@ -100,7 +100,7 @@ impl Feed {
         self.room.push(bytes)
     }
 
-    /// No more of the tape can be read, as a read failed where there is a failure.
+    /// No more of the tape can be read. A failure says that a read failed.
     pub(crate) fn end(&mut self, failure: Option<io::Error>)
         ensures room { self.new.room ≡ self.old.room }
         ensures stride { self.new.stride ≡ self.old.stride }
@@ -129,8 +129,8 @@ impl Feed {
         (self.room.bytes().len() / self.bytes_of(1).max(1)) as u64
     }
 
-    /// Whether all marks are known on so many iterations, of which the first is this one of the whole tape. Marks before them are let go of. Without
-    /// iterations none is asked for.
+    /// Whether all marks on so many iterations are known. The first is `begins`, of the whole tape. If more has to be
+    /// read, it drops the marks before them. Without iterations it asks for no marks.
     pub(crate) fn known(&mut self, begins: u64, iterations: u64) -> Result<Known, AllocError>
         ensures room { self.new.room ≡ self.old.room }
         ensures stride { self.new.stride ≡ self.old.stride }
@@ -149,7 +149,8 @@ impl Feed {
         Ok(known)
     }
 
-    /// Cuts off so many iterations, of which the first is this one of the whole tape, and keeps so many of them for the next piece.
+    /// Cuts off `iterations` iterations, the first of which is `begins` of the whole tape, and keeps `kept` of them for
+    /// the next piece.
     pub(crate) fn cut(
         &mut self,
         alloc: Global,
@@ -181,7 +182,7 @@ impl Feed {
         })
     }
 
-    // Cuts off the bytes of so many iterations, and keeps those of the last of them, and what is behind.
+    // Cuts off the bytes of so many iterations. It keeps the bytes of the last ones, and what follows.
     fn cut_bytes(&mut self, alloc: Global, iterations: u64, kept: u64) -> Result<Room, AllocError>
         ensures piece { IfOk result (λ room. room ≡ take (piece_of self.old.stride iterations self.old.room) self.old.room) }
         ensures left { OnOk result (self.new.room ≡ left_of self.old.stride iterations kept self.old.room) }
@@ -198,7 +199,7 @@ impl Feed {
         Ok(room)
     }
 
-    /// What was read and is in no piece but as overlap, of the tape and of the marks.
+    /// What was read of the tape and of the marks, and is in no piece except as overlap.
     pub fn into_rest(self, alloc: Global) -> Result<(Unread, Option<Marks>), AllocError>
         ensures bytes { IfOk result (λ rest. rest.0.bytes.items ≡ self.room) }
         ensures marks { IfOk result (λ rest. rest.1 ≡ self.marks) }

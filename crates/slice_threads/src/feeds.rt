@@ -1,4 +1,4 @@
-//! The tapes of all sources, of which pieces are cut off side by side.
+//! The tapes of all sources. Pieces are cut off them side by side.
 
 ghost use Rattle.std.specs.Prelude.{◌≡◌, ◌<◌, ◌≤◌, ◌+◌, ◌↔◌, All, IsTrue, IfOk, OnOk};
 ghost use Rattle.slice_threads.specs.Cutting.{counted, first_of, front_of, part_of, longest_of, AreParts, CutsAlike, HasWhole};
@@ -13,7 +13,7 @@ use std::alloc::{AllocError, Global};
 use std::io;
 use std::io::Read;
 
-// So many bytes of marks are read at once, at most.
+// The most bytes of marks that are read at once.
 const MARKS: usize = 4_096;
 
 /// What is to be read next.
@@ -23,18 +23,18 @@ pub enum Want {
     Tape(usize),
     /// The marks of that feed.
     Marks(usize),
-    /// Nothing: a piece of as many iterations as it may have is there.
+    /// Nothing: a piece of full length is there.
     Nothing,
-    /// Nothing: no whole piece will be there.
+    /// Nothing: there will be no whole piece.
     Never,
 }
 
 /// How tapes are cut.
 #[derive(Clone, Copy, Debug, PartialEq, Eq)]
 pub struct Cutting {
-    /// The iteration of the whole tapes at which the first piece begins: the first, or one behind the overlap.
+    /// The iteration of the whole tapes at which the first piece begins: the first one, or one after the overlap.
     pub begins: u64,
-    /// How many iterations before its own a piece has, as far as there are any.
+    /// How many iterations before its own a piece has, as far as they exist.
     pub overlap: u64,
     /// How many iterations of its own a piece has at most.
     pub most: u64,
@@ -46,7 +46,7 @@ pub struct Feeds {
     pub feeds: Vec<Feed>,
     /// The iteration at which the next piece begins.
     pub begins: u64,
-    /// How many iterations before its own a piece has, as far as there are any.
+    /// How many iterations before its own a piece has, as far as they exist.
     pub overlap: u64,
     /// How many iterations of its own a piece has at most.
     pub most: u64,
@@ -68,14 +68,14 @@ impl Feeds {
         }
     }
 
-    // How many iterations stand before the next piece's own.
+    // How many iterations the next piece has before its own.
     fn front(&self) -> u64
         ensures { result ≡ front_of self.now.begins self.now.overlap }
     {
         self.begins.min(self.overlap)
     }
 
-    /// The iteration of the whole tapes at which what the feeds hold begins.
+    /// The iteration of the whole tapes that the feeds' contents begin at.
     pub fn first(&self) -> u64
         ensures { result ≡ first_of self.now.begins self.now.overlap }
     {
@@ -91,7 +91,7 @@ impl Feeds {
         period
     }
 
-    /// Goes on in these rooms, each of a feed.
+    /// Moves what the feeds hold into these rooms, one for each.
     pub(crate) fn go_on_in(&mut self, rooms: Vec<Room>) -> Result<(), AllocError>
         ensures { CutsAlike self.old self.new }
     {
@@ -101,14 +101,14 @@ impl Feeds {
         Ok(())
     }
 
-    // How many iterations a piece has that has as many as it may.
+    // How many iterations a piece of full length has.
     fn longest(&self) -> u64
         ensures { result ≡ longest_of self.now }
     {
         self.front().saturating_add(self.most)
     }
 
-    /// What is to be read next, for a piece that has as many iterations as it may.
+    /// What is to be read next, for a piece of full length.
     pub fn want(&mut self) -> Result<Want, AllocError>
         ensures { CutsAlike self.old self.new }
     {
@@ -196,7 +196,7 @@ impl Feeds {
         }
     }
 
-    /// What was wanted was read: these bytes, or none where no more can be read, as a read failed where there is a failure.
+    /// What was wanted was read: these bytes, or none if no more can be read. A failure says that a read failed.
     pub fn take(
         &mut self,
         want: Want,
@@ -222,7 +222,7 @@ impl Feeds {
         }
     }
 
-    /// How many iterations of its own the next piece may have, of which all sources have the items.
+    /// How many iterations of its own the next piece may have. All sources have their items.
     pub fn there(&self) -> u64
         ensures few { result ≤ self.now.most }
         ensures whole { All (HasWhole (front_of self.now.begins self.now.overlap) result) self.now.feeds.items }
@@ -234,7 +234,8 @@ impl Feeds {
         least.saturating_sub(self.front())
     }
 
-    /// Cuts off a piece with so many iterations of its own, which are there. The sinks were given so many items of the pieces before.
+    /// Cuts off a piece with so many iterations of its own, which must be there. The sinks were given so many items of
+    /// the pieces before.
     pub fn cut(
         &mut self,
         alloc: Global,
@@ -264,7 +265,8 @@ impl Feeds {
         })
     }
 
-    /// Which parts of their streams a run on what is there gives the sinks, behind so many items that they were given before.
+    /// The parts of their streams that a run on what is there gives the sinks, after so many items that they were given
+    /// before.
     pub fn parts(
         &self,
         alloc: Global,
@@ -281,7 +283,7 @@ impl Feeds {
         Ok(parts)
     }
 
-    // Which part of its stream a run on what is there gives a sink, that was given so many items before.
+    // The part of its stream that a run on what is there gives a sink. The sink was given so many items before.
     fn part(&self, share: &Share, before: u64) -> StreamPart
         ensures { result ≡ part_of self.now.begins self.now.overlap share.now before }
     {
@@ -299,7 +301,8 @@ impl Feeds {
         }
     }
 
-    /// Whether the next piece leaves out what those before gave, as it begins within the overlap: then these have to be done before it is cut.
+    /// Whether the next piece begins within the overlap, and so leaves out what those before gave. These must then be
+    /// done before it is cut.
     pub fn awaits_all(&self) -> bool
         ensures { IsTrue result ↔ ((0 < self.now.begins) × (self.now.begins < self.now.overlap)) }
     {

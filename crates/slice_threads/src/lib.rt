@@ -1,15 +1,16 @@
 //! Slices of a run on several threads.
 //!
-//! The tapes of the sources are cut in pieces of so many iterations. Each thread takes the next piece as soon as it is free: it reads the piece,
-//! with the overlap in front of it, runs a slice on it, and writes what the slice gave when all pieces before it are written. One thread reads at a
-//! time, and one writes. So what was written is a beginning of the streams at any time, and bytes stay with the thread that read them.
+//! The tapes of the sources are cut into pieces of so many iterations. A free thread takes the next piece: it reads the
+//! piece with the overlap before it, runs a slice on it, and writes the result after all pieces before it are written.
+//! One thread reads at a time, and one writes. So what was written is a beginning of the streams at any time, and bytes
+//! stay with the thread that read them.
 //!
 //! ```text
 //! let left = run_slices(rt, alloc, openers, job, tapes, outlet, &mut watch)?;
 //! ```
 //!
-//! A piece is cut only where every source has all of its iterations, and all marks on them are known. The rest of the tapes is the caller's: a run on
-//! what the feeds still hold, and on what their readers give, goes on with the streams.
+//! A piece is cut only if every source has all its iterations, and all marks on them are known. The rest of the tapes
+//! is the caller's. A run on what the feeds still hold, and on what their readers give, continues the streams.
 #![tactic(auto)]
 
 mod crew;

@@ -1,24 +1,25 @@
-//! The marks of a source, of which each piece has those on its items.
+//! The marks of a source. Each piece has those on its items.
 
 use crate::unread::Unread;
 use script_text::parse_mark_line;
 use std::alloc::{AllocError, Global};
 use std::io;
 
-// A line with more bytes is no mark.
+// A longer line is no mark.
 const LONGEST_LINE: usize = 65_536;
 
-// So many bytes are held at most. Where the marks on the items of a piece have more, the rest of the run reads them.
+// The most bytes that are held. If the marks on a piece's items have more, the rest of the run reads them.
 const MOST: usize = 1 << 26;
 
-/// How far the marks are known that a piece needs.
+/// How far the marks that a piece needs are known.
 #[derive(Clone, Copy, Debug, PartialEq, Eq)]
 pub enum Known {
     /// All of them are.
     All,
     /// More has to be read.
     Some,
-    /// They cannot be: a line is no mark, or on an item before that of the line above it, or a read failed. Who goes on reading learns which.
+    /// They cannot be known: a line is no mark, or its mark lies on an item before that of the line above, or a read
+    /// failed. Whoever reads on learns which.
     Never,
 }
 
@@ -33,17 +34,18 @@ enum Reading {
 // A line that is a mark.
 #[derive(Clone, Copy)]
 struct MarkLine {
-    // The item of the whole tape that it is on.
+    // The item of the whole tape that the mark lies on.
     item: u64,
-    // Where it ends among the bytes that are held.
+    // Where the line ends among the held bytes.
     end: usize,
 }
 
-/// What was read of the marks of a source, from the first on that a later piece may need. They are lines, as those of a `MarkReader`.
+/// What was read of the marks of a source, from the first on that a later piece may need. They are lines, like those of
+/// a `MarkReader`.
 #[derive(Drop)]
 pub struct Marks {
     bytes: Vec<u8>,
-    // The marks of which the lines stand at the front of these bytes, and how many lines stood before.
+    // The marks whose lines are at the front of these bytes, and how many lines came before.
     lines: Vec<MarkLine>,
     passed: u64,
     reading: Reading,
@@ -62,12 +64,12 @@ impl Marks {
         }
     }
 
-    /// These bytes were read. It fails only where the allocator refuses.
+    /// These bytes were read. It fails only if the allocator refuses.
     pub(crate) fn push(&mut self, bytes: &[u8]) -> Result<(), AllocError> {
         self.bytes.extend_from_slice(bytes)
     }
 
-    /// No more can be read, as a read failed where there is a failure.
+    /// No more can be read. A failure says that a read failed.
     pub(crate) fn end(&mut self, failure: Option<io::Error>) -> Result<(), AllocError> {
         if failure.is_some() {
             self.failure = failure;
@@ -84,7 +86,8 @@ impl Marks {
         Ok(())
     }
 
-    /// Whether all marks on items before this one are known: it looks at the lines that were read up to the first that is on a later one.
+    /// Whether all marks on items before this one are known. It looks at the read lines up to the first whose mark lies
+    /// on this item or a later one.
     pub(crate) fn known(&mut self, item: u64) -> Result<Known, AllocError> {
         for _ in 0..u64::MAX {
             match self.reading {
@@ -102,7 +105,7 @@ impl Marks {
         Ok(Known::Never)
     }
 
-    // What an unfinished line at the end of the bytes leaves to be known.
+    // What an unfinished line at the end of the bytes leaves unknown.
     fn unfinished(&mut self) -> Known {
         let length = self.bytes.len().saturating_sub(self.looked_at());
         if LONGEST_LINE < length || MOST <= self.bytes.len() {
@@ -112,7 +115,7 @@ impl Marks {
         Known::Some
     }
 
-    // Looks at the next line, where its end was read, and tells whether it was.
+    // Looks at the next line if its end was read, and returns whether it was.
     fn take_next(&mut self) -> Result<bool, AllocError> {
         let start = self.looked_at();
         let rest = between(&self.bytes, start, usize::MAX);
@@ -124,7 +127,7 @@ impl Marks {
         Ok(true)
     }
 
-    // Looks at a line, behind which the bytes go on at `next`.
+    // Looks at a line. The bytes after it begin at `next`.
     fn take(&mut self, start: usize, end: usize, next: usize) -> Result<(), AllocError> {
         let line = between(&self.bytes, start, end);
         let line = match line.split_last() {
@@ -141,7 +144,7 @@ impl Marks {
         Ok(())
     }
 
-    // The item before which the next mark may not be.
+    // The first item that the next mark may lie on.
     fn least(&self) -> u64 {
         match self.lines.last() {
             Some(line) => line.item,
@@ -149,12 +152,12 @@ impl Marks {
         }
     }
 
-    // Where the lines end that were looked at.
+    // Where the lines that were looked at end.
     fn looked_at(&self) -> usize {
         self.end_of(self.lines.len())
     }
 
-    // Where so many lines end.
+    // Where the first so many lines end.
     fn end_of(&self, count: usize) -> usize {
         match count.checked_sub(1) {
             Some(last) => match self.lines.get(last) {
@@ -165,7 +168,7 @@ impl Marks {
         }
     }
 
-    // How many marks are on items before this one.
+    // How many marks lie on items before this one.
     fn before(&self, item: u64) -> usize {
         self.lines.partition_point(|line| line.item < item)
     }
@@ -181,7 +184,7 @@ impl Marks {
         Ok(lines)
     }
 
-    /// Lets go of the marks on items before this one, but for the last, before which the next may not be.
+    /// Drops the marks on items before this one, except the last. The next mark may not lie before that one.
     pub(crate) fn forget(&mut self, item: u64) {
         let count = self.before(item).saturating_sub(1).min(self.lines.len());
         if count == 0 {
@@ -196,7 +199,7 @@ impl Marks {
         self.passed = self.passed.saturating_add(count as u64);
     }
 
-    /// What was read and let go of by none, and how many lines stood before it.
+    /// What was read and not dropped, and how many lines came before it.
     pub fn into_rest(self) -> (Unread, u64) {
         let Marks {
             bytes,
@@ -208,7 +211,7 @@ impl Marks {
     }
 }
 
-// The bytes from one place to another, as far as there are any.
+// The bytes from one place to another, as far as they exist.
 fn between(bytes: &[u8], from: usize, to: usize) -> &[u8] {
     let to = to.min(bytes.len());
     let from = from.min(to);

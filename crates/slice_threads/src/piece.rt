@@ -1,4 +1,4 @@
-//! A slice that is run on a piece of the tapes.
+//! Runs a slice on a piece of the tapes.
 
 use crate::room::Room;
 use flowgraph::{Block, BlockId};
@@ -8,11 +8,12 @@ use std::alloc::{AllocError, Global};
 use std::mem;
 use streaming::StreamingPlant;
 
-/// What opens plants of one graph.
+/// Opens plants of one graph.
 pub trait Opens {
     type Block: Block;
 
-    /// A plant that was fed nothing, whose blocks go on where they stand after so many iterations. It fails only where the allocator refuses.
+    /// A plant with nothing fed. Its blocks go on where they stand after so many iterations. It fails only if the
+    /// allocator refuses.
     fn open(
         &self,
         alloc: Global,
@@ -28,11 +29,11 @@ pub struct Share {
     pub item_size: u64,
     /// How many items the sink takes in an iteration.
     pub period: u64,
-    /// How many items come of the overlap in front of a piece.
+    /// How many items the overlap before a piece gives.
     pub drop: u64,
     /// The item of the whole stream from which on items and tags are given.
     pub from: u64,
-    /// Whether it is given the tags too.
+    /// Whether the sink is given the tags too.
     pub has_tags: bool,
 }
 
@@ -52,17 +53,17 @@ pub struct Tape {
     pub room: Room,
     /// The item of the whole tape at which it begins.
     pub origin: u64,
-    /// The lines of the marks on its items, where the source has marks.
+    /// The lines of the marks on its items, if the source has marks.
     pub marks: Option<Vec<u8>>,
 }
 
 /// A piece of the tapes.
 #[derive(Drop)]
 pub struct Piece {
-    /// How many iterations of the whole tapes stand before it.
+    /// How many iterations of the whole tapes come before it.
     pub first: u64,
     pub tapes: Vec<Tape>,
-    /// Which part of its stream each sink is given, in the order of the shares.
+    /// The part of its stream that each sink is given, in the order of the shares.
     pub parts: Vec<StreamPart>,
 }
 
@@ -89,7 +90,7 @@ impl Piece {
 }
 
 impl Job {
-    /// The same for another thread. It fails only where the allocator refuses.
+    /// The same for another thread. It fails only if the allocator refuses.
     pub fn copy(&self, alloc: Global) -> Result<Job, AllocError> {
         let mut shares = Vec::with_capacity(alloc, self.shares.len())?;
         shares.extend_from_slice(&self.shares)?;
@@ -99,7 +100,8 @@ impl Job {
         })
     }
 
-    /// Runs the slice on a piece, and returns what it gives each sink, in what earlier pieces left of memory. It fails only where memory runs out.
+    /// Runs the slice on a piece, and returns what it gives each sink, in memory that earlier pieces left. It fails
+    /// only if memory runs out.
     pub fn run<O: Opens>(
         &self,
         alloc: Global,
@@ -110,7 +112,7 @@ impl Job {
         let mut given = self.rooms(alloc, emptied)?;
         let mut run = self.joined(alloc, opener, piece, &mut given)?;
         if run.run(alloc).is_err() {
-            // (it reads and writes memory alone, and the marks are in order)
+            // (it reads and writes only memory, and the marks are in order)
             return Err(AllocError);
         }
         for (share, given) in self.shares.iter().zip(&mut given) {
@@ -119,7 +121,7 @@ impl Job {
         Ok(given)
     }
 
-    // What each sink is given into, emptied.
+    // The places that each sink's items and tags go to, emptied.
     fn rooms(&self, alloc: Global, emptied: Vec<Given>) -> Result<Vec<Given>, AllocError> {
         let mut given = emptied;
         for given in &mut given {
@@ -135,7 +137,7 @@ impl Job {
         Ok(given)
     }
 
-    // The run, with its ends.
+    // The run, with its ends joined.
     fn joined<'a, O: Opens>(
         &self,
         alloc: Global,
@@ -185,7 +187,7 @@ impl Job {
 // A run between bytes in memory.
 type InMemory<'a, B> = Pipeline<B, &'a [u8], Vec<u8>>;
 
-// (an end that is there is refused only where memory runs out)
+// (an end that exists is refused only if memory runs out)
 fn join<E: Drop>(joined: Result<(), E>) -> Result<(), AllocError> {
     match joined {
         Ok(()) => Ok(()),
@@ -198,7 +200,7 @@ fn close_others<B: Block>(run: &mut InMemory<'_, B>) {
     let mut block = 0u32;
     for _ in 0..run.plant.graph().len() {
         if let Some(End::Open) = run.ends.get(block as usize) {
-            // (what is no source is refused)
+            // (a block that is no source is refused)
             let _ = run.plant.close(BlockId(block));
         }
         block = block.saturating_add(1);

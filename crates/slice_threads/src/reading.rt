@@ -1,4 +1,4 @@
-//! A thread that reads the tapes where a read may wait, so that what is there can be cut while it does.
+//! A thread that reads the tapes if a read may wait. Meanwhile what is there can be cut.
 
 ghost use Rattle.std.specs.Prelude.{◌≡◌, length};
 ghost use Rattle.std.specs.Io.{ReadsAtMost};
@@ -13,10 +13,10 @@ use std::sync::Wait;
 use std::thread::Threads;
 use std::{io, thread};
 
-// So many bytes are read at once, at most.
+// The most bytes that are read at once.
 const CHUNK: usize = 1 << 18;
 
-/// Where the tape of a source is read, and its marks.
+/// The readers of a source's tape and of its marks.
 #[derive(Drop)]
 pub struct Readers<R> {
     pub tape: R,
@@ -28,23 +28,23 @@ pub struct Readers<R> {
 pub(crate) enum Event {
     /// Something was read.
     Read(Taken),
-    /// A piece was written, or no more is.
+    /// A piece was written, or no more will be.
     Turned,
 }
 
-/// What is to be read, with the room for it, and then what was.
+/// What is to be read, with the room for it; afterwards, what was read.
 #[derive(Drop)]
 pub(crate) struct Taken {
     want: Want,
     room: Vec<u8>,
-    // So many bytes are read at most.
+    // The most bytes to read.
     most: usize,
     // How many bytes were read into the room.
     count: usize,
     failure: Option<io::Error>,
 }
 
-/// The thread, which reads once for each time that it is asked.
+/// The thread. It reads once each time that it is asked.
 #[derive(Drop)]
 pub(crate) struct Reading<F: Drop> {
     requests: Sender<Taken, Global>,
@@ -55,7 +55,7 @@ pub(crate) struct Reading<F: Drop> {
 }
 
 impl<F: Read + Send + Drop + 'static> Reading<F> {
-    /// Starts the thread, which tells of each read by an event. Where it cannot be started the readers are returned.
+    /// Starts the thread. It tells of each read by an event. If it cannot be started, the readers are returned.
     pub(crate) fn start<R: Threads + Wait + Copy + Send + 'static>(
         rt: R,
         alloc: Global,
@@ -73,7 +73,7 @@ impl<F: Read + Send + Drop + 'static> Reading<F> {
         let started = thread::spawn(&rt, move || {
             if let Ok(readers) = lent.recv(&rt) {
                 let readers = serve(&rt, readers, &asked, &events);
-                // (who has given up does not take them)
+                // (if the receiver has given up, nobody takes them)
                 let _ = give_back.send(&rt, readers);
             }
         });
@@ -97,7 +97,7 @@ impl<F: Drop> Reading<F> {
         self.room.is_some()
     }
 
-    /// Has the thread read what is wanted, so many bytes at most, if it has nothing to read.
+    /// Lets the thread read what is wanted, at most so many bytes, if it has nothing to read.
     pub(crate) fn ask<R: Wait>(
         &mut self,
         rt: &R,
@@ -125,7 +125,7 @@ impl<F: Drop> Reading<F> {
         }
     }
 
-    /// Has the feeds take in what was read, and keeps the room for the next read.
+    /// Gives the feeds what was read, and keeps the room for the next read.
     pub(crate) fn take_in(&mut self, feeds: &mut Feeds, taken: Taken) -> Result<(), AllocError>
         ensures { CutsAlike feeds.old feeds.new }
     {
@@ -141,7 +141,7 @@ impl<F: Drop> Reading<F> {
         Ok(())
     }
 
-    /// Has the thread end, and returns the readers. It has nothing to read.
+    /// Ends the thread, and returns the readers. The thread must have nothing to read.
     pub(crate) fn finish<R: Wait>(self, rt: &R) -> Result<Vec<Readers<F>>, AllocError> {
         let Reading { requests, back, .. } = self;
         drop(requests);
@@ -196,7 +196,7 @@ fn read<F: Read>(readers: &mut [Readers<F>], request: Taken) -> Taken {
     taken
 }
 
-/// Reads once, but for reads that a signal breaks off.
+/// Reads once, and again if a signal breaks the read off.
 pub(crate) fn read_once<F: Read>(reader: &mut F, room: &mut [u8]) -> io::Result<usize>
     ensures bound { ReadsAtMost result room.new }
     ensures length { length room.new ≡ length room.old }

@@ -1,4 +1,4 @@
-//! Room for what is read of a tape, which serves one piece after another.
+//! Room for what is read of a tape. It serves one piece after another.
 
 ghost use Rattle.std.specs.Prelude.{◌≡◌, ◌++◌, ◌<◌, take, [], IfOk, OnOk, OnErr};
 ghost use Rattle.std.specs.Io.KnownBytes.{IsAtEnd};
@@ -9,7 +9,7 @@ use std::io;
 use std::io::Read;
 use std::marker::Model;
 
-/// Bytes that were read, with room for more behind them. It keeps its memory where it is emptied.
+/// Bytes that were read, with room for more after them. It keeps its memory when it is emptied.
 #[derive(Drop)]
 pub struct Room {
     // So many of these bytes were read.
@@ -52,14 +52,14 @@ impl Room {
         self.count = 0;
     }
 
-    /// Keeps so many bytes in front, if there are as many.
+    /// Keeps so many first bytes, if there are as many.
     pub(crate) fn truncate(&mut self, count: usize)
         ensures { self.new ≡ take count self.old }
     {
         self.count = self.count.min(count);
     }
 
-    /// These bytes were read next. It fails only where the allocator refuses, and then nothing changes.
+    /// Appends these bytes. It fails only if the allocator refuses, and then changes nothing.
     pub(crate) fn push(&mut self, more: &[u8]) -> Result<(), AllocError>
         ensures ok { OnOk result (self.new ≡ self.old ++ more.now) }
         ensures err { OnErr result (self.new ≡ self.old) }
@@ -70,7 +70,8 @@ impl Room {
         Ok(())
     }
 
-    /// Reads once behind what was read, so many bytes at most. It fails only where the allocator refuses, and then nothing changes.
+    /// Reads once, at most so many bytes, and appends them. It fails only if the allocator refuses, and then changes
+    /// nothing.
     pub(crate) fn read<R: Read>(
         &mut self,
         reader: &mut R,

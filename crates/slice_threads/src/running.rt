@@ -17,7 +17,7 @@ use std::thread;
 use std::thread::{JoinHandle, Threads};
 use streaming::{Headway, Watch};
 
-// So many are told at most that something was read, or a piece written, before who waits for it looks.
+// The most events (something was read, or a piece was written) that wait until the waiting thread looks.
 const EVENTS: usize = 2;
 
 /// The tapes of the sources.
@@ -25,31 +25,33 @@ const EVENTS: usize = 2;
 pub struct Tapes<F> {
     /// How they are cut.
     pub feeds: Feeds,
-    /// What they are read by, in the order of the feeds.
+    /// Their readers, in the order of the feeds.
     pub readers: Vec<Readers<F>>,
     /// Whether a read may wait. Then one more thread reads.
     pub may_wait: bool,
 }
 
-/// What is left of a run behind its pieces.
+/// What is left of a run after its pieces.
 #[derive(Drop)]
 pub struct Left<F, O> {
     /// What was read and is in no piece.
     pub feeds: Feeds,
-    /// What reads on, in the order of the feeds.
+    /// The readers that read on, in the order of the feeds.
     pub readers: Vec<Readers<F>>,
     pub outlet: O,
-    /// Which parts of their streams a run on the rest gives the sinks, in the order of the job.
+    /// The parts of their streams that a run on the rest gives the sinks, in the order of the job.
     pub parts: Vec<StreamPart>,
     /// How many items each of them was given.
     pub given: Vec<u64>,
 }
 
-/// Starts a thread for each opener, which run slices on the tapes, and writes what these give, in the order of the pieces. Where a thread cannot be
-/// started, those before it run slices. It shows to `watch` after a piece how many items are in pieces and written, of all sources together.
+/// Starts a thread for each opener. The threads run slices on the tapes, and write the results in the order of the
+/// pieces. If a thread cannot be started, those before it run the slices. After a piece, `watch` sees how many items
+/// are in pieces and how many are written, of all sources together.
 ///
-/// A piece has as many iterations as it may; or those that are there, while no slice is run and a read may wait. The rest is left. Where a write fails, or
-/// memory runs out, what was written is a beginning. A thread that waits in a read is not waited for then: it ends when the read returns.
+/// A piece has full length, or, while no slice runs and a read may wait, the iterations that are there. The rest is
+/// left. If a write fails, or memory runs out, what was written is a beginning. A thread that waits in a read is then
+/// not waited for: it ends when the read returns.
 pub fn run_slices<
     R: Threads + Wait + Copy + Send + 'static,
     P: Opens + Send + Drop + 'static,
@@ -96,7 +98,7 @@ where
     make_left(&rt, alloc, &job, &shared, period, watch)
 }
 
-// Who reads. Where the thread for that cannot be started, the threads with the pieces do.
+// Who reads. If the reading thread cannot be started, the threads with the pieces read.
 fn read_by<R: Threads + Wait + Copy + Send + 'static, F: Read + Send + Drop + 'static>(
     rt: R,
     alloc: Global,
@@ -113,7 +115,7 @@ fn read_by<R: Threads + Wait + Copy + Send + 'static, F: Read + Send + Drop + 's
     }
 }
 
-// Starts the threads, as many as there are memory and threads for.
+// Starts as many threads as memory and the system allow.
 fn start<
     R: Threads + Wait + Copy + Send + 'static,
     P: Opens + Send + Drop + 'static,
@@ -181,7 +183,7 @@ fn headway(step: Step, period: u64) -> Headway {
     }
 }
 
-// What is left behind the pieces, once no thread is left that runs slices.
+// What is left after the pieces, once no thread is left that runs slices.
 fn make_left<R: Wait, F: Drop, O: Outlet + Drop, V: Watch>(
     rt: &R,
     alloc: Global,

@@ -1,4 +1,4 @@
-//! What the threads get their pieces from, one after the other.
+//! Gives the threads their pieces, one after the other.
 
 ghost use Rattle.std.specs.Prelude.{◌≡◌, ◌≤◌, ◌+◌, IfOk, IfSome, IfNone};
 ghost use Rattle.slice_threads.specs.Cutting.{counted, first_of, CutsAlike};
@@ -19,20 +19,20 @@ use std::sync::Wait;
 pub(crate) enum By<F: Drop> {
     /// The thread that needs a piece.
     Here(Vec<Readers<F>>),
-    /// A thread of its own, as a read may wait.
+    /// A thread of its own, since a read may wait.
     Apart(Reading<F>),
 }
 
-// The tapes as far as they were read, and who reads on.
+// The tapes, as far as they were read, and who reads on.
 #[derive(Drop)]
 struct Intake<F: Drop> {
     feeds: Feeds,
     by: By<F>,
-    // What the thread that reads has read, and that a piece was written.
+    // Events: the reading thread has read, or a piece was written.
     events: Receiver<Event, Global>,
 }
 
-/// The tapes, of which pieces are cut off. One thread at a time has it.
+/// The tapes that pieces are cut off. One thread at a time has them.
 #[derive(Drop)]
 pub(crate) struct Supply<F: Drop> {
     intake: Intake<F>,
@@ -64,8 +64,8 @@ impl<F: Read + Drop> Supply<F> {
         }
     }
 
-    /// The next piece, if there is one: of as many iterations as it may have, or of those that are there while no slice is run and nobody knows when more
-    /// comes. It is read into these rooms. Where memory runs out it is the last.
+    /// The next piece, if there is one: of full length, or, while no slice runs and nobody knows when more comes, of
+    /// the iterations that are there. It is read into these rooms. If memory runs out, no piece follows.
     pub(crate) fn next<R: Wait, O: Outlet + Drop>(
         &mut self,
         rt: &R,
@@ -152,7 +152,7 @@ impl<F: Read + Drop> Intake<F> {
         Ok(None)
     }
 
-    // Whether the next piece is cut, where all slices are done that were begun, or not.
+    // Whether to cut the next piece. `is_idle` says whether all slices that were begun are done.
     fn may_cut(&self, want: Want, is_idle: bool) -> bool {
         match want {
             Want::Nothing => is_idle || !self.feeds.awaits_all(),
@@ -170,7 +170,7 @@ impl<F: Read + Drop> Intake<F> {
         }
     }
 
-    // Reads once what is wanted, or waits until the thread has read that does it.
+    // Reads once what is wanted, or waits until the reading thread has read it.
     fn read<R: Wait>(&mut self, rt: &R, want: Want) -> Result<(), AllocError>
         ensures { CutsAlike self.old.feeds self.new.feeds }
     {
@@ -194,7 +194,7 @@ impl<F: Read + Drop> Intake<F> {
         }
     }
 
-    // Waits until the thread that reads has nothing to read.
+    // Waits until the reading thread has nothing to read.
     fn settle<R: Wait>(&mut self, rt: &R) -> Result<(), AllocError>
         ensures { CutsAlike self.old.feeds self.new.feeds }
     {

@@ -1,4 +1,4 @@
-//! What goes from one thread to the next in the order of the pieces: who has it writes.
+//! The turn goes from one thread to the next, in the order of the pieces. The thread that has it writes.
 
 ghost use Rattle.std.specs.Prelude.{◌≡◌, ◌+◌, OnOk, IfOk};
 ghost use Rattle.slice_threads.specs.Cutting.{counted};
@@ -7,15 +7,15 @@ use crate::piece::{Given, Share};
 use flowgraph::BlockId;
 use std::alloc::{AllocError, Global};
 
-/// Where what the slices give goes.
+/// Takes what the slices give.
 pub trait Outlet {
     type Fault: From<AllocError> + Send + Drop;
 
-    /// Writes what comes next of a sink.
+    /// Writes what a sink is given next.
     fn write(&mut self, sink: BlockId, given: &Given) -> Result<(), Self::Fault>;
 }
 
-/// What a slice made of the piece of this number, of so many iterations: what each sink is given.
+/// What a slice made of the piece of this number, with so many iterations: what each sink is given.
 #[derive(Drop)]
 pub(crate) struct Made {
     pub(crate) number: u64,
@@ -27,16 +27,16 @@ pub(crate) struct Made {
 #[derive(Drop)]
 pub(crate) struct Turn<O> {
     pub(crate) outlet: O,
-    /// The number of the piece whose turn it is: those before it are written.
+    /// The number of the piece whose turn it is. Those before it are written.
     pub(crate) next: u64,
-    /// How many iterations these have.
+    /// How many iterations the written pieces have.
     pub(crate) iterations: u64,
-    /// How many items each sink was given of them.
+    /// How many items of these each sink was given.
     pub(crate) given: Vec<u64>,
 }
 
 impl<O: Outlet + Drop> Turn<O> {
-    /// Nothing is written, for so many sinks.
+    /// The turn for so many sinks, with nothing written.
     pub(crate) fn new(alloc: Global, outlet: O, sinks: usize) -> Result<Turn<O>, AllocError>
         ensures next { IfOk result (λ turn. turn.next ≡ 0) }
         ensures iterations { IfOk result (λ turn. turn.iterations ≡ 0) }
@@ -49,7 +49,7 @@ impl<O: Outlet + Drop> Turn<O> {
         })
     }
 
-    /// Writes what the slice made of the piece whose turn it is. Where that fails the turn is not to be given on.
+    /// Writes what the slice made of the piece whose turn it is. If that fails, the turn must not be given on.
     pub(crate) fn write(&mut self, shares: &[Share], made: &Made) -> Result<(), O::Fault>
         requires own { made.now.number ≡ self.old.next }
         ensures next { OnOk result (self.new.next ≡ counted (self.old.next + 1)) }

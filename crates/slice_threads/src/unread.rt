@@ -2,7 +2,8 @@
 
 use std::io;
 
-/// Bytes that were read, and why the read behind them failed, if it did. Whoever reads in place of the pieces is given these first.
+/// Bytes that were read, and why the read after them failed, if it did. Whoever reads on in place of the pieces gets
+/// these first.
 #[derive(Drop)]
 pub struct Unread {
     pub bytes: Vec<u8>,
