@@ -24,7 +24,7 @@ pub(crate) fn push_block(out: &mut Vec<u8>, block: &DrawnBlock<'_>) -> Result<()
     out.extend_from_slice(b"}\"];\n")
 }
 
-// What is in the record: the inputs, the name and what stands below it, and the outputs.
+// The label of the record: the inputs, the name with the lines below it, and the outputs.
 fn push_label(out: &mut Vec<u8>, block: &DrawnBlock<'_>) -> Result<(), AllocError>
     ensures { OnOk result (out.new.items ≡ out.old.items ++ label_text (box_seen block.now)) }
 {

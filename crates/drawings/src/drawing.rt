@@ -13,7 +13,7 @@ use kinds::Kind;
 use rates::{BufferCapacities, Rates, capacities};
 use std::alloc::{AllocError, Global};
 
-/// What a picture is written in.
+/// The format of a picture.
 #[derive(Clone, Copy, Debug, PartialEq, Eq)]
 pub enum Format {
     /// The language of Graphviz's `dot`.
@@ -22,7 +22,7 @@ pub enum Format {
     Mermaid,
 }
 
-/// A graph with its rates as text from which it is drawn. It fails only where the allocator refuses.
+/// A graph with its rates, as text for a drawing. It fails only if the allocator refuses.
 pub fn drawn(
     alloc: Global,
     graph: &Valid<Kind>,
@@ -73,7 +73,7 @@ fn push_connections(
     Ok(())
 }
 
-// What stands before the blocks.
+// The text before the blocks.
 fn opening(format: Format) -> &'static [u8]
     ensures { result.now ≡ opening_text format }
 {
@@ -83,7 +83,7 @@ fn opening(format: Format) -> &'static [u8]
     }
 }
 
-// What stands behind the connections.
+// The text after the connections.
 fn closing(format: Format) -> &'static [u8]
     ensures { result.now ≡ closing_text format }
 {

@@ -1,4 +1,4 @@
-//! Graphs of kinds as text from which other programs draw them.
+//! Graphs of kinds as text that other programs draw.
 #![tactic(auto)]
 
 mod dot;

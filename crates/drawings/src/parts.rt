@@ -1,4 +1,4 @@
-//! What is drawn of a graph: its blocks and its connections.
+//! The drawn parts of a graph: its blocks and its connections.
 ghost use Rattle.std.specs.Prelude.{◌≡◌, ◌<◌, length};
 ghost use Rattle.stream_model.specs.Machine.{capacity_at};
 ghost use Rattle.flowgraph.specs.Flowgraph.{net_of, connection_of};
@@ -12,26 +12,26 @@ use kinds::Kind;
 use rates::{BufferCapacities, Rates};
 use stream_model::ItemType;
 
-/// What a block's own value or number is, where a short one says it.
+/// A short note about a block: its own value or number.
 #[derive(Clone, Copy, Debug, PartialEq, Eq)]
 pub(crate) enum Note {
     Nothing,
     /// The number that a setting replaces.
     Value(i64),
-    /// So many taps, which a setting replaces.
+    /// The number of taps, which a setting replaces.
     Taps(usize),
-    /// So many zeros that come before the stream, or items that are left out, or firings behind which it ends.
+    /// The number of zeros before the stream, of items that are left out, or of firings after which the block ends.
     Count(u64),
 }
 
-/// What is drawn of a block.
+/// A block, as it is drawn.
 #[derive(Clone, Copy)]
 pub(crate) struct DrawnBlock<'a> {
     pub(crate) name: &'a [u8],
     /// The name of its kind.
     pub(crate) kind: &'a [u8],
     pub(crate) note: Note,
-    /// How often it fires in an iteration, where the rates are balanced.
+    /// How often it fires in an iteration, if the rates are balanced.
     pub(crate) firings: Option<u32>,
     /// How many inputs are connected.
     pub(crate) inputs: usize,
@@ -47,13 +47,13 @@ pub(crate) struct DrawnEnd<'a> {
     pub(crate) port: usize,
 }
 
-/// What is drawn of a connection.
+/// A connection, as it is drawn.
 #[derive(Clone, Copy)]
 pub(crate) struct DrawnConnection<'a> {
     pub(crate) from: DrawnEnd<'a>,
     pub(crate) to: DrawnEnd<'a>,
     pub(crate) item: ItemType,
-    /// How many unread items the output that it comes from holds.
+    /// How many unread items its output holds.
     pub(crate) capacity: u32,
 }
 
@@ -76,7 +76,7 @@ pub(crate) fn drawn_block<'a>(
     }
 }
 
-// What is noted of a block: its own value of what may be set, else how it moves its stream, else where it ends.
+// The note about a block: its own value of a setting, else how it shifts its stream, else where it ends.
 fn note_of(block: &Kind) -> Note
     ensures { result ≡ note_of (meaning_of block.now) }
 {
@@ -135,7 +135,7 @@ fn firings_of(rates: &Rates, block: BlockId) -> Option<u32>
     }
 }
 
-// The capacity of an output, 0 where it has none.
+// The capacity of an output; 0 if it has none.
 fn capacity_at(sizes: &BufferCapacities, block: BlockId, port: usize) -> u32
     ensures { result ≡ capacity_at (sizes_of sizes.now) block.0 port }
 {

@@ -15,7 +15,7 @@ pub(crate) enum Piece<'a> {
     Signed(i64),
 }
 
-/// Writes pieces at the end, one behind the other.
+/// Writes pieces at the end, one after the other.
 pub(crate) fn push_pieces(out: &mut Vec<u8>, pieces: &[Piece<'_>]) -> Result<(), AllocError>
     ensures { OnOk result (out.new.items ≡ out.old.items ++ flat_map piece_text pieces.now) }
 {

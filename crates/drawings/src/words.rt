@@ -1,4 +1,4 @@
-//! What every format says of blocks and types.
+//! The words that all formats have for blocks and types.
 ghost use Rattle.std.specs.Prelude.{◌≡◌, ◌++◌, OnOk};
 ghost use Rattle.drawings.specs.Parts.{box_seen};
 ghost use Rattle.drawings.specs.Words as words;
@@ -9,7 +9,7 @@ use crate::pieces::{Piece, push_pieces};
 use std::alloc::AllocError;
 use stream_model::ItemType;
 
-/// Writes the name of a block, its kind, what is noted of it and how often it fires, each on a line.
+/// Writes the name of a block, its kind, the note about it and how often it fires, each on a line.
 pub(crate) fn push_lines(
     out: &mut Vec<u8>,
     line_end: &[u8],
@@ -29,7 +29,7 @@ pub(crate) fn push_lines(
     push_firings(out, line_end, block.firings)
 }
 
-// What is noted of a block, behind the end of a line.
+// Writes the note about a block, after a line end.
 fn push_note(out: &mut Vec<u8>, line_end: &[u8], note: Note) -> Result<(), AllocError>
     ensures { OnOk result (out.new.items ≡ out.old.items ++ note_text line_end.now note) }
 {
@@ -54,7 +54,7 @@ fn push_note(out: &mut Vec<u8>, line_end: &[u8], note: Note) -> Result<(), Alloc
     )
 }
 
-// How often a block fires in an iteration, where that is known, behind the end of a line.
+// Writes how often a block fires in an iteration, if that is known, after a line end.
 fn push_firings(out: &mut Vec<u8>, line_end: &[u8], firings: Option<u32>) -> Result<(), AllocError>
     ensures { OnOk result (out.new.items ≡ out.old.items ++ firings_text line_end.now firings) }
 {

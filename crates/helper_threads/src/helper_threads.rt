@@ -12,10 +12,11 @@ use std::{fmt, thread};
 use streaming::{Headway, Helpers, Job, Step, Watch, Worked};
 use threads::{Turns, share_of};
 
-// The most firings that are given away at once, where buffers hold so many.
+// The most firings that are given away at once, if buffers hold so many.
 const MOST_FIRINGS: u32 = 65_536;
 
-/// Helpers that are threads: one for each processor but the caller's, and no more than there are other blocks. They sleep while there is nothing to do.
+/// Threads as helpers: one for each processor except the caller's, and no more than there are other blocks. They sleep
+/// while there is nothing to do.
 #[derive(Drop)]
 pub struct HelperThreads<B: Block, R: Drop> {
     rt: R,
@@ -23,7 +24,7 @@ pub struct HelperThreads<B: Block, R: Drop> {
     jobs: Sender<Job<B>, Global>,
     works: Receiver<Worked<B>, Global>,
     threads: Vec<JoinHandle<()>>,
-    // How many jobs they have, and had.
+    // How many jobs they have now, and had in all.
     out: usize,
     given: u64,
     habits: Vec<Habit>,
@@ -31,7 +32,7 @@ pub struct HelperThreads<B: Block, R: Drop> {
     are_called: bool,
     rounds: Rounds,
     is_timed: bool,
-    // When the step began that is timed.
+    // When the timed step began.
     began: Option<Instant>,
 }
 
@@ -48,8 +49,8 @@ impl<
 where
     B::Places: Send + Sync + 'static,
 {
-    /// Starts threads for a graph. Where one cannot be started, those before it help, or nobody. It fails only where the allocator refuses what is asked of it
-    /// before the first.
+    /// Starts threads for a graph. If one cannot be started, those before it help, or nobody. It fails only if the
+    /// allocator refuses memory before the first thread.
     pub fn start(
         rt: R,
         alloc: Global,
@@ -81,7 +82,7 @@ where
         })
     }
 
-    /// Has the threads end, and waits for that.
+    /// Ends the threads, and waits for them.
     pub fn finish(self) {
         let HelperThreads {
             rt,
@@ -96,7 +97,7 @@ where
     }
 }
 
-// One more thread, where one can be started.
+// One more thread, if one can be started.
 fn started<B: Block + Send + Sync + 'static, R: Threads + Wait + Clock + Copy + Send + 'static>(
     rt: R,
     todo: &Receiver<Job<B>, Global>,
@@ -127,7 +128,7 @@ fn work<B: Block, R: Wait>(
     }
 }
 
-// The next message, for which it looks a while before it sleeps. There is none once nobody can send one.
+// The next message. It looks for one a while before it sleeps. There is none once nobody can send one.
 fn next<T: Drop, R: Wait>(rt: &R, from: &Receiver<T, Global>) -> Option<T> {
     for _ in 0..LOOKS {
         if !from.is_empty() {
@@ -162,7 +163,7 @@ impl<B: Block, R: Drop> HelperThreads<B, R> {
         self.given
     }
 
-    // A step of a block of so many firings took so long.
+    // Notes how long a step of so many firings of a block took.
     fn measure(&mut self, block: BlockId, firings: u32, nanos: u64) {
         if let Some(habit) = self.habits.get_mut(block.0 as usize) {
             habit.stepped(firings, nanos);

@@ -6,8 +6,9 @@
 //! helpers.finish();
 //! ```
 //!
-//! The plant stays with the caller, who claims firings of a dear block, sends the job, and commits the work that comes back. So no contract speaks of these threads: a
-//! plant takes back the work of a claim in flight alone, whoever brings it. `worth` has all of the policy.
+//! The plant stays with the caller. The caller claims firings of a dear block, sends the job, and commits the work that
+//! comes back. So no contract mentions these threads: a plant takes back only the work of a claim in flight, whoever
+//! brings it. `worth` has the whole policy.
 #![tactic(auto)]
 
 mod helper_threads;

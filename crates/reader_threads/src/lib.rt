@@ -1,4 +1,5 @@
-//! Readers that threads of their own read, a piece ahead, so that a pipeline goes on with what has something while others are silent.
+//! Readers with threads of their own, which read a piece ahead. So a pipeline goes on with the inputs that have
+//! something while others are silent.
 //!
 //! ```text
 //! let mut threads = ReaderThreads::new(rt, alloc, pipeline.plant.graph().len())?;
@@ -7,10 +8,12 @@
 //! threads.finish();
 //! ```
 //!
-//! Callers of a box of requests may ring the bell of these threads, so that a wait for readers ends where there is a request.
+//! Callers of a box of requests may ring the bell of these threads, so that a wait for readers ends when a request
+//! comes.
 //!
-//! A thread hands on what each read of its reader gave, in their order, and reads once more only when that was taken. So who takes it gets what the reader gives, and
-//! memory is constant. Nothing is known of a thread that waits in a read: it is not waited for, and ends with the program or when the read returns.
+//! A thread hands on what each read of its reader gave, in order, and reads once more only when that was taken. So the
+//! taker gets what the reader gives, and memory is constant. Nothing is known of a thread that waits in a read. It is
+//! not waited for, and ends with the program or when the read returns.
 #![tactic(auto)]
 
 mod reader_threads;

@@ -15,13 +15,13 @@ use std::{io, thread};
 pub struct ReaderThreads<C: Drop, R: Drop> {
     rt: R,
     bell: Arc<Bell, Global>,
-    // By source; none where no thread reads for it.
+    // By source; none if no thread reads for it.
     readings: Vec<Option<Arc<Reading<C>, Global>>>,
-    // How often the bell was rung up to the end of the last wait.
+    // How often the bell had been rung by the end of the last wait.
     heard: u64,
 }
 
-/// A reader: as it is, or what a thread has read of it.
+/// A reader: the reader itself, or what a thread has read of it.
 #[derive(Drop)]
 pub enum ApartReader<C: Drop, R: Drop> {
     Here(C),
@@ -41,7 +41,7 @@ impl<C: Inputs + Send + Drop + 'static, R: Threads + Wait + Copy + Send + 'stati
     C,
     R,
 > {
-    /// No threads, for the sources of a graph of so many blocks. It fails only where the allocator refuses.
+    /// No threads yet, for the sources of a graph of so many blocks. It fails only if the allocator refuses.
     pub fn new(rt: R, alloc: Global, blocks: usize) -> Result<ReaderThreads<C, R>, AllocError> {
         let mut readings = Vec::with_capacity(alloc, blocks)?;
         for _ in 0..blocks {
@@ -55,7 +55,8 @@ impl<C: Inputs + Send + Drop + 'static, R: Threads + Wait + Copy + Send + 'stati
         })
     }
 
-    /// Starts a thread that reads for a source. Where none can be started the reader is as it was, and taken to be ready. It fails only where the allocator refuses.
+    /// Starts a thread that reads for a source. If none can be started, the reader is used directly, and counts as
+    /// ready. It fails only if the allocator refuses.
     pub fn start(
         &mut self,
         alloc: Global,
@@ -83,7 +84,7 @@ impl<C: Inputs + Send + Drop + 'static, R: Threads + Wait + Copy + Send + 'stati
         }))
     }
 
-    /// Has the threads leave. One that is in a read is not waited for.
+    /// Ends the threads. One that is in a read is not waited for.
     pub fn finish(self) {
         for reading in self.readings.iter().flatten() {
             reading.end(&self.rt);
@@ -92,7 +93,7 @@ impl<C: Inputs + Send + Drop + 'static, R: Threads + Wait + Copy + Send + 'stati
 }
 
 impl<C: Drop, R: Drop> ReaderThreads<C, R> {
-    /// What rings when a thread has read something, and may ring when a request has come.
+    /// The bell that rings when a thread has read something. It may also ring when a request has come.
     pub fn bell(&self) -> Result<Arc<Bell, Global>, AllocError> {
         Arc::try_clone(&self.bell)
     }

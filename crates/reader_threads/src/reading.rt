@@ -1,4 +1,4 @@
-//! A reader, its thread, and what lies between the two and who takes it.
+//! A reader, its thread, and what the thread hands to the taker.
 
 ghost use Rattle.std.specs.Prelude.{IfSome};
 ghost use Rattle.std.specs.Io.{ReadsAtMost};
@@ -12,7 +12,7 @@ use std::sync::{Arc, Condvar, Mutex, MutexGuard, Wait};
 // How many bytes a thread reads at once, at most.
 const PIECE: usize = 65_536;
 
-/// A reader of several inputs, one behind the other.
+/// A reader of several inputs, one after the other.
 pub trait Inputs: Read {
     /// The number of the input that was read last.
     fn number(&self) -> usize;
@@ -21,9 +21,9 @@ pub trait Inputs: Read {
 // What one read gave.
 #[derive(Drop)]
 struct Piece {
-    // How it ended. There is none once all of it is taken.
+    // How the read ended; none once all of it is taken.
     ended: Option<io::Result<()>>,
-    // The bytes, of which so many are taken; at the end there are none.
+    // The bytes, and how many of them are taken. At the end there are none.
     bytes: Vec<u8>,
     taken: usize,
     // The number of the input.
@@ -31,7 +31,7 @@ struct Piece {
 }
 
 impl Piece {
-    // Takes what fits of it, if it is there, with the number of its input.
+    // Takes what fits, if something is there, with the number of its input.
     fn take(&mut self, buf: &mut [u8]) -> Option<(io::Result<usize>, usize)>
         ensures { IfSome result (λ taken. ReadsAtMost taken.0 buf.new) }
     {
@@ -50,7 +50,7 @@ impl Piece {
         Some((Ok(count), self.number))
     }
 
-    // Has it be what a read gave: so many of these bytes.
+    // Puts in what a read gave: so many of these bytes.
     fn put(&mut self, read: io::Result<usize>, from: &[u8], number: usize) {
         self.bytes.clear();
         self.taken = 0;
@@ -69,7 +69,7 @@ impl Piece {
     }
 }
 
-// What both have, under the lock.
+// What both sides share, under the lock.
 #[derive(Drop)]
 struct Shared<C> {
     // The reader, until the thread has it.
@@ -89,7 +89,7 @@ pub(crate) struct Reading<C: Drop> {
 }
 
 impl<C: Drop> Reading<C> {
-    /// A reader that no thread has yet. It fails only where the allocator refuses.
+    /// A reader that no thread has yet. It fails only if the allocator refuses.
     pub(crate) fn new(
         alloc: Global,
         bell: Arc<Bell, Global>,
@@ -122,7 +122,7 @@ impl<C: Drop> Reading<C> {
         self.shared.lock(rt).piece.ended.is_some()
     }
 
-    /// Takes what fits of what was read, with the number of its input, and waits where nothing is there.
+    /// Takes what fits of what was read, with the number of its input. It waits if nothing is there.
     pub(crate) fn take<R: Wait>(&self, rt: &R, buf: &mut [u8]) -> (io::Result<usize>, usize)
         ensures { ReadsAtMost result.0 buf.new }
     {
@@ -140,13 +140,13 @@ impl<C: Drop> Reading<C> {
         unreachable!()
     }
 
-    /// Has the thread leave, once it is not in a read.
+    /// Ends the thread, once it is not in a read.
     pub(crate) fn end<R: Wait>(&self, rt: &R) {
         self.shared.lock(rt).is_over = true;
         self.taken.notify_one();
     }
 
-    // Waits until what was read is taken, and gives what was read since. It returns whether somebody takes it.
+    // Waits until what was read before is taken, and gives the new read. It returns whether somebody takes it.
     fn give<R: Wait>(&self, rt: &R, read: io::Result<usize>, bytes: &[u8], number: usize) -> bool {
         let mut shared = self.when_taken(rt);
         if shared.is_over {
@@ -158,7 +158,7 @@ impl<C: Drop> Reading<C> {
         true
     }
 
-    // The lock, once all is taken, or nobody takes any more.
+    // The lock, once all is taken or nobody takes any more.
     fn when_taken<R: Wait>(&self, rt: &R) -> MutexGuard<'_, Shared<C>> {
         let mut shared = self.shared.lock(rt);
         for _ in rt.forever() {
@@ -172,7 +172,7 @@ impl<C: Drop> Reading<C> {
 }
 
 impl<C: Inputs + Drop> Reading<C> {
-    /// Reads into this room until nobody takes any more. It is the thread's.
+    /// Reads into this room until nobody takes any more. Only the thread calls it.
     pub(crate) fn read_on<R: Wait>(&self, rt: &R, room: &mut [u8]) {
         let Some(reader) = self.reader(rt) else {
             return;

@@ -49,7 +49,8 @@ impl From<AllocError> for CallFault {
     }
 }
 
-/// Puts requests into a box, and waits for the answer to each. It may be sent to another thread, and outlive the box: then each call is refused `Ended`.
+/// Puts requests into a box, and waits for the answer to each. It may be sent to another thread, and may outlive the
+/// box. Then each call is refused `Ended`.
 #[derive(Drop)]
 pub struct Caller<R: Drop> {
     rt: R,
@@ -75,7 +76,7 @@ impl<R: Drop> Caller<R> {
 }
 
 impl<R: Copy + Drop> Caller<R> {
-    /// Another caller of the same box. It fails only where the allocator refuses.
+    /// Another caller of the same box. It fails only if the allocator refuses.
     pub fn try_clone(&self) -> Result<Caller<R>, AllocError> {
         Ok(Caller {
             rt: self.rt,
@@ -87,14 +88,15 @@ impl<R: Copy + Drop> Caller<R> {
 }
 
 impl<R: Wait + Drop> Caller<R> {
-    /// Sets the value of a block's setting from item `at` of its first input on, or from the first that it has not taken.
+    /// Sets the value of a block's setting from item `at` of its first input on, or from the first that it has not
+    /// taken.
     pub fn set(&self, block: BlockId, at: Option<u64>, value: Value) -> Result<Answer, CallFault>
         ensures { IfOk result (IsAnswer (request.Set block at value)) }
     {
         self.call(Request::Set { block, at, value })
     }
 
-    /// Closes a source, whose reader is not read any more.
+    /// Closes a source. Its reader is not read any more.
     pub fn close(&self, source: BlockId) -> Result<Answer, CallFault>
         ensures { IfOk result (IsAnswer (request.Close source)) }
     {
@@ -108,7 +110,7 @@ impl<R: Wait + Drop> Caller<R> {
         self.call(Request::Levels(block))
     }
 
-    /// Ends the run. What its sinks have taken is written behind the answer.
+    /// Ends the run. What its sinks have taken is written after the answer.
     pub fn stop(&self) -> Result<Answer, CallFault>
         ensures { IfOk result (IsAnswer request.Stop) }
     {

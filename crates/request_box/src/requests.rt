@@ -26,7 +26,7 @@ pub struct RequestBox<R: Drop> {
     answered: Past<Answer, ()>,
 }
 
-/// An empty box, and its first caller, who rings this bell at each call. It fails only where the allocator refuses.
+/// An empty box, and its first caller, who rings this bell at each call. It fails only if the allocator refuses.
 pub fn request_box<R: Copy + Drop>(
     rt: R,
     alloc: Global,

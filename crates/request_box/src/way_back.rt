@@ -13,7 +13,7 @@ use std::alloc::{AllocError, Global};
 use std::snapshot::Snapshot;
 use std::sync::Wait;
 
-/// All that goes through a channel is of one request; each pass of it knows that request.
+/// All that goes through a channel belongs to one request. Each pass of the channel knows that request.
 pub(crate) struct OneRequest;
 
 impl Protocol<Word, Option<Request>> for OneRequest {
@@ -25,7 +25,7 @@ impl Protocol<Word, Option<Request>> for OneRequest {
     ghost first = { None };
 }
 
-// The first word says which request it is.
+// The first message says which request it is.
 struct Names;
 
 impl Outcome<Word, Option<Request>> for Names {
@@ -36,7 +36,7 @@ impl Lesson<Word, Option<Request>> for Names {
     ghost fact = { λ v items. ⊤ };
 }
 
-// The others are of that.
+// The other messages belong to that request.
 struct Goes;
 
 impl Outcome<Word, Option<Request>> for Goes {
@@ -65,7 +65,7 @@ impl Split<Option<Request>> for Both {
     ghost right = { λ v. v };
 }
 
-/// Where an answer is waited for.
+/// The end that waits for an answer.
 #[derive(Drop)]
 pub(crate) struct Awaited {
     answers: RuledReceiver<Word, Option<Request>, OneRequest>,
@@ -75,7 +75,7 @@ pub(crate) struct Awaited {
     ghost knows: { view pass ≡ Some request.value },
 }
 
-/// Where an answer goes.
+/// The end that gives an answer.
 #[derive(Drop)]
 pub(crate) struct Due {
     answers: RuledSender<Word, Option<Request>, OneRequest>,
