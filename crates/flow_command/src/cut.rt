@@ -14,7 +14,7 @@ pub struct Cut {
     pub from: u64,
     /// The iteration from which on the items are the run's own. The run also reads the overlap before it.
     pub begins: u64,
-    /// Whether the tapes go on behind what is read of them.
+    /// Whether the tapes go on after what is read of them.
     pub goes_on: bool,
 }
 
@@ -25,9 +25,9 @@ pub struct Written {
     pub origin: u64,
     /// How many of the first items are left out.
     pub left_out: u64,
-    /// How many items are written behind these at most.
+    /// How many items are written after these, at most.
     pub most: u64,
-    /// What the outputs already hold, if the run continues them. It writes behind that.
+    /// What the outputs already hold, if the run continues them. It writes after that.
     pub held: Option<Held>,
 }
 

@@ -85,10 +85,10 @@ struct Part {
     source: Source,
 }
 
-/// The inputs of a source, one behind the other. One that ends within an item is the last.
+/// The inputs of a source, one after the other. One that ends within an item is the last.
 #[derive(Drop)]
 pub struct Chain {
-    // What was read and given back: it is read again first. And the failure of the read behind it, if that failed.
+    // What was read and given back: it is read again first. Also the failure of the read after it, if that failed.
     unread: VecDeque<u8>,
     failure: Option<io::Error>,
     parts: Vec<Part>,
@@ -114,7 +114,7 @@ impl Chain {
         }
     }
 
-    /// Adds an input behind the others, unless all of it lies before the part that is read.
+    /// Adds an input after the others, unless all of it lies before the part that is read.
     pub fn push(&mut self, number: usize, source: Source) -> io::Result<()> {
         let mut source = source;
         if self.passes_over(&mut source)? {

@@ -23,7 +23,7 @@ pub struct Held {
 
 /// How much of a sink's outputs a run may continue, if they are beginnings of what the whole run writes. Lines of tags
 /// come in the order of their items. So all tags are there on items before the one that the last whole line names.
-/// Nothing tells whether a tag of this item, or of one behind it, is missing: items are written apart from their tags.
+/// Nothing tells whether a tag of this item, or of a later one, is missing: items are written apart from their tags.
 pub fn held_of(
     rt: &HostRuntime,
     graph: &Valid<Kind>,

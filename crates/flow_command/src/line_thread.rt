@@ -199,7 +199,7 @@ impl Lines {
         })
     }
 
-    // Waits for the next line, and takes it. There is none behind a line that is too long, or a failed read.
+    // Waits for the next line, and takes it. There is none after a line that is too long, or after a failed read.
     fn next(&mut self, control: &mut Control) -> std::io::Result<Came> {
         for _ in 0..u64::MAX {
             if self.take()? {

@@ -30,8 +30,9 @@ const ERRORS: &str = "/dev/stderr";
 // How many links in a row the system follows.
 const MOST_LINKS: usize = 40;
 
-/// Where the report of a call goes: to standard output, or to standard error if standard output has items or tags. A call is refused if it would write one file or
-/// pipe twice, by any path or standard stream, or a file that it reads. Devices and folders are exempt.
+/// Where the report of a call goes: to standard output, or to standard error if standard output has items or tags. A
+/// call is refused if it would write one file or pipe twice, by any path or standard stream, or a file that it reads.
+/// Devices and folders are exempt.
 pub fn report_stream(rt: &HostRuntime, call: &Call<'_>) -> Result<ReportStream, EndsFault> {
     let written = written_by(rt, call)?;
     if written.is_empty() {
@@ -133,7 +134,7 @@ fn place_of(rt: &HostRuntime, path: &str) -> Result<Option<Place>, AllocError> {
     }
 }
 
-// Whether what is written there stands behind what was written before.
+// Whether what is written there comes after what was written before.
 fn keeps_order(found: &Metadata) -> bool {
     let sort = found.file_type();
     sort.is_file() || sort.is_fifo() || sort.is_socket()

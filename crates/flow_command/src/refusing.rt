@@ -75,7 +75,7 @@ fn tell(rt: &HostRuntime, fault: StartFault, named: Option<String>) -> u8 {
     fault.status()
 }
 
-// The line of a fault, with its object behind it; none if memory runs out.
+// The line of a fault, with its object after it; none if memory runs out.
 fn naming(rt: &HostRuntime, fault: StartFault, between: &str, name: &str) -> Option<String> {
     let line = fault.text().trim_end();
     format!(in rt.alloc(); "{line}{between}{name}\n").ok()

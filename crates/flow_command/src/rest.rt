@@ -47,12 +47,12 @@ impl Rest {
         })
     }
 
-    /// Reading begins behind so many iterations of the whole tapes.
+    /// Reading begins after so many iterations of the whole tapes.
     pub fn begin_at(&mut self, first: u64) {
         self.first = first;
     }
 
-    /// Reading of a source begins at this item, and behind so many lines of its marks.
+    /// Reading of a source begins at this item, and after so many lines of its marks.
     pub fn begin(&mut self, source: BlockId, origin: u64, lines: u64) {
         self.has_pieces = true;
         set(&mut self.origins, source, origin);

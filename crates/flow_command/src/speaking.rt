@@ -47,7 +47,7 @@ impl Read for Control {
 }
 
 impl Control {
-    /// Whether lines may come behind the end of a read.
+    /// Whether lines may come after the end of a read.
     pub fn comes_again(&self) -> bool {
         matches!(self, Control::Pipe(..))
     }

@@ -141,7 +141,7 @@ fn create(rt: &HostRuntime, end: &NamedEnd<'_>, place: EndPlace) -> Result<Write
     }
 }
 
-// Opens an output that exists, to continue it behind so many bytes. It cuts off what is behind these.
+// Opens an output that exists, to continue it after so many bytes. It cuts off what is after these.
 fn resume(
     rt: &HostRuntime,
     end: &NamedEnd<'_>,

@@ -1,7 +1,9 @@
 //! What the program `flow` does with a graph file and its standard streams, over any source and sink of bytes.
 //!
 //! ```text
-//! let status = serve(rt, alloc, Action::Run(Threading::Adaptive), Verbosity::WithNotes, name, file, &mut input, &mut output, &mut errors, gate, &mut watch);
+//! let action = Action::Run(Threading::Adaptive);
+//! let notes = Verbosity::WithNotes;
+//! let status = serve(rt, alloc, action, notes, name, file, &mut input, &mut output, &mut errors, gate, &mut watch);
 //! ```
 //!
 //! `serve` does all of it. Its contract says which bytes and which status come out for the bytes of the file and of the

@@ -8,8 +8,9 @@
 //! `validate` gives the graph and the feeds alone, and `stream` a plant that streams; [`open_later`] gives one whose
 //! blocks go on where those of the file stand. A refused file gives a [`FileFault`]: a number, a name and the place.
 //! The contract of [`read_graph`] says which of several causes is reported, and that all other files are accepted.
-//! `blocks`, `connections` and `feeds` read the tables, [`kind_schema`] makes a block of a table, and `only` refuses keys
-//! that a table may not have. A fault takes no memory; so its text is a [`RefusalText`](refusal_codes::RefusalText).
+//! `blocks`, `connections` and `feeds` read the tables, [`kind_schema`] makes a block of a table, and `only` refuses
+//! keys that a table may not have. A fault takes no memory; so its text is a
+//! [`RefusalText`](refusal_codes::RefusalText).
 #![tactic(auto)]
 
 pub mod accepted;

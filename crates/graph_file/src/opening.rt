@@ -160,7 +160,7 @@ fn marks_of(alloc: Global, marks: &[FileMark]) -> Result<Vec<Mark>, AllocError>
     Ok(taken)
 }
 
-// A mark of a file. One before the first item counts as one behind every tape.
+// A mark of a file. One before the first item counts as one after the end of every tape.
 fn placed(mark: &FileMark) -> Mark
     ensures { stores.mark_of result ≡ mark_of mark.now }
 {

@@ -43,7 +43,7 @@ pub fn settled_at<B: Block>(graph: &Valid<B>, block: BlockId, first: &[u64]) -> 
     }
 }
 
-/// The first firing that starts at least so many items, and `back` more, into its input, if each firing takes `taken`.
+/// The first firing that begins `right + back` or more items into its input, if each firing takes `taken` items.
 fn first_behind(right: u64, back: u64, taken: u64) -> u64
     requires some { 1 ≤ taken }
     requires few { taken ≤ 1024 }
