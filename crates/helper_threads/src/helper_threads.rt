@@ -1,6 +1,6 @@
 //! Threads that do jobs.
 
-use crate::worth::{Habit, LOOKS, Rounds, pays};
+use crate::worth::{Habit, Rounds, pays};
 use crossbeam_channel::{Receiver, Sender, bounded};
 use flowgraph::{Block, BlockId, Valid};
 use std::alloc::{AllocError, Global};
@@ -10,6 +10,7 @@ use std::thread::{JoinHandle, Threads};
 use std::time::{Clock, Duration, Instant};
 use std::{fmt, thread};
 use streaming::{Headway, Helpers, Job, Step, Watch, Worked};
+use threads::policy::{LOOKS, processors};
 use threads::{Turns, share_of};
 
 // The most firings that are given away at once, if buffers hold so many.
@@ -139,13 +140,6 @@ fn next<T: Drop, R: Wait>(rt: &R, from: &Receiver<T, Global>) -> Option<T> {
         spin_loop();
     }
     from.recv(rt).ok()
-}
-
-fn processors<R: Threads>(rt: &R) -> usize {
-    match thread::available_parallelism(rt) {
-        Ok(count) => count.get(),
-        Err(_) => 1,
-    }
 }
 
 fn habits_of<B: Block>(alloc: Global, graph: &Valid<B>) -> Result<Vec<Habit>, AllocError> {

@@ -8,7 +8,8 @@ ghost use Rattle.threads.specs.Outcomes.{handed_of};
 
 use crate::gate::Gate;
 use crate::number_set::NumberSet;
-use crate::policy::{Found, Rounds, Timed, is_long, is_worth};
+use crate::policy::{is_long, is_worth};
+use crate::rounds::{Found, Rounds, Timed};
 use crate::stopwatch::{Pauses, nanos_between, nanos_since, now};
 use flowgraph::{Block, BlockId};
 use plant::{Claim, Plant, PlantFault, Step, Watch};

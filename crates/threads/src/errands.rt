@@ -7,8 +7,9 @@ ghost use Rattle.threads.specs.Errands.{HasErrand, HasRun, HasStep, IsStepped};
 ghost use Rattle.threads.specs.Locked.{HasBrought};
 
 use crate::gate::Gate;
+use crate::habit::NextStep;
 use crate::locked::Locked;
-use crate::policy::{NextStep, STEPS};
+use crate::policy::STEPS;
 use crate::stopwatch::{nanos_since, now};
 use crate::woken::Woken;
 use claimed_work::{Job, Worked};

@@ -9,8 +9,8 @@
 //! }
 //! ```
 //!
-//! - [`launch`], [`run`] and [`live`] have a worker for each block. [`launch_with`], [`run_with`] and [`live_with`] take [`RunOptions`]: whether each block has
-//!   a thread, how long a turn is, and a gate.
+//! - [`launch_with`], [`run_with`] and [`live_with`] take [`RunOptions`]: whether each block has a thread, how long a
+//!   turn is, and a gate. [`launch`], [`run`] and [`live`] have a worker for each block.
 //! - In `live`, callers at desks make calls while the blocks work. It returns the history of all calls.
 //! - With a thread for each block, `waiting` decides whose progress wakes which worker. A run in as many threads as the
 //!   work is worth goes by `policy`, a page to read; `pool` decides whom it calls.
@@ -33,6 +33,7 @@ mod errands;
 pub mod fault;
 pub mod gate;
 pub mod gated_watch;
+mod habit;
 mod launching;
 mod lent_calls;
 mod live_crew;
@@ -42,12 +43,13 @@ mod locked_calls;
 mod logs;
 mod number_set;
 pub mod outcome;
-mod policy;
+pub mod policy;
 mod pool;
 mod pool_threads;
 mod prepared;
 mod recorded;
 mod request;
+mod rounds;
 pub mod run_options;
 pub mod running;
 mod shared;

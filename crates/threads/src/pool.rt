@@ -2,8 +2,8 @@
 
 ghost use Rattle.std.specs.Prelude.{◌≤◌};
 
+use crate::habit::{Habit, NextStep, Sort};
 use crate::number_set::{NUMBERS, NumberSet};
-use crate::policy::{Habit, NextStep, Sort};
 use crate::turns::Turns;
 use crate::waiting::share_of;
 use crate::woken::Woken;

@@ -2,7 +2,7 @@
 
 use crate::errands::{Brought, Errand};
 use crate::gate::Gate;
-use crate::policy::YIELDS;
+use crate::policy::{YIELDS, processors};
 use crate::shared::Shared;
 use crate::stopwatch::{Pauses, nanos_since, now};
 use crate::woken::Woken;
@@ -170,13 +170,6 @@ impl Mates {
         for mate in self.handles {
             mate.join(rt);
         }
-    }
-}
-
-fn processors<R: Threads>(rt: &R) -> usize {
-    match thread::available_parallelism(rt) {
-        Ok(count) => count.get(),
-        Err(_) => 1,
     }
 }
 

@@ -44,8 +44,7 @@ impl RunOptions<Open> {
 }
 
 impl<G: Gate + Drop> RunOptions<G> {
-    /// The options of `launch`, `run` and the top block's `start` and `run`: a thread for each block, turns of at most
-    /// 1,024 firings, and this gate.
+    /// The options of `launch` and `run`: a thread for each block, turns of at most 1,024 firings, and this gate.
     pub fn per_block(gate: Option<Arc<G, Global>>) -> RunOptions<G>
         ensures threading { result.threading ≡ threading.PerBlock }
         ensures turns { result.turns.most ≡ 1024 }

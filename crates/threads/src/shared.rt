@@ -10,6 +10,7 @@ use crate::errands::{Brought, Errand, LockQueue};
 use crate::gate::Gate;
 use crate::locked::{Locked, Next};
 use crate::number_set::BITS;
+use crate::policy::LOOKS;
 use crate::request::{Request, Response};
 use crate::turns::Turns;
 use crate::woken::Woken;
@@ -22,10 +23,6 @@ use std::sync::atomic::Ordering;
 use std::sync::{Arc, Mutex, MutexGuard, Wait};
 use std::thread::Parker;
 use std::time::Clock;
-
-// How often a worker looks whether the lock is free before it sleeps for it: some microseconds long. Most turns hold it
-// for less.
-const LOOKS: u32 = 500;
 
 /// What all workers and callers share.
 #[derive(Drop)]
