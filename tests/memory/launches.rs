@@ -131,11 +131,16 @@ pub fn run_ready<R: Threads + Wait + Clock + Copy + Send + 'static>(
             Ok(running) => end_of(running.wait(&rt), true),
             Err(fault) => end_of(Err(fault), false),
         },
-        Way::Start => match TopBlock::from_plant(plant).start(rt, alloc) {
+        Way::Start => match TopBlock::from_plant(plant).start(rt, alloc, per_block()) {
             Ok(running) => end_of(running.wait(&rt), true),
             Err(fault) => end_of(Err(fault), false),
         },
     }
+}
+
+// A thread for each block, and no gate.
+fn per_block() -> RunOptions<Open> {
+    RunOptions::per_block(None)
 }
 
 // As many threads as the work is worth.

@@ -31,15 +31,13 @@ enum Call {
     RunWith(Threading),
     Live,
     LiveWith(Threading),
-    Start,
-    StartWith(Threading),
+    Start(Threading),
     TopRun,
     TopRunWith(Threading),
-    StartLive,
-    StartLiveWith(Threading),
+    RunLive(Threading),
 }
 
-const CALLS: [Call; 18] = [
+const CALLS: [Call; 16] = [
     Call::Launch,
     Call::LaunchWith(Threading::PerBlock),
     Call::LaunchWith(Threading::Adaptive),
@@ -49,15 +47,13 @@ const CALLS: [Call; 18] = [
     Call::Live,
     Call::LiveWith(Threading::PerBlock),
     Call::LiveWith(Threading::Adaptive),
-    Call::Start,
-    Call::StartWith(Threading::PerBlock),
-    Call::StartWith(Threading::Adaptive),
+    Call::Start(Threading::PerBlock),
+    Call::Start(Threading::Adaptive),
     Call::TopRun,
     Call::TopRunWith(Threading::PerBlock),
     Call::TopRunWith(Threading::Adaptive),
-    Call::StartLive,
-    Call::StartLiveWith(Threading::PerBlock),
-    Call::StartLiveWith(Threading::Adaptive),
+    Call::RunLive(Threading::PerBlock),
+    Call::RunLive(Threading::Adaptive),
 ];
 
 // A caller that asks for what is refused.
@@ -88,11 +84,10 @@ fn ran_live<R: Host + Sync>(
             let options = chosen(threading, turns, gate);
             live_with(rt, alloc, plant, callers, options, &mut Unwatched)?
         }
-        Call::StartLive => TopBlock::from_plant(plant).start_live(rt, alloc, gate, callers)?,
-        Call::StartLiveWith(threading) => {
+        Call::RunLive(threading) => {
             let options = chosen(threading, turns, gate);
             let top = TopBlock::from_plant(plant);
-            top.start_live_with(rt, alloc, callers, options, &mut Unwatched)?
+            top.run_live(rt, alloc, callers, options, &mut Unwatched)?
         }
         _ => live(rt, alloc, plant, gate, callers, turns)?,
     };
@@ -119,10 +114,9 @@ fn ran_by_call<R: Host + Sync + 'static>(
             let options = chosen(threading, turns, gate);
             run_with(rt, alloc, plant, options, &mut Unwatched)
         }
-        Call::Start => TopBlock::from_plant(plant).start(rt, alloc)?.wait(&rt),
-        Call::StartWith(threading) => {
+        Call::Start(threading) => {
             let options = chosen(threading, turns, gate);
-            TopBlock::from_plant(plant).start_with(rt, alloc, options)?.wait(&rt)
+            TopBlock::from_plant(plant).start(rt, alloc, options)?.wait(&rt)
         }
         Call::TopRun => TopBlock::from_plant(plant).run(rt, alloc),
         Call::TopRunWith(threading) => {
@@ -135,7 +129,7 @@ fn ran_by_call<R: Host + Sync + 'static>(
 
 // Whether a call takes a gate.
 fn has_gate(call: Call) -> bool {
-    !matches!(call, Call::Start | Call::TopRun)
+    call != Call::TopRun
 }
 
 // One graph, by each call.

@@ -14,7 +14,7 @@ use std::alloc::{AllocError, Global};
 use std::process::Abort;
 use std::test::Fail;
 use std::time::Duration;
-use threads::{Finished, RunOptions, Threading, Turns};
+use threads::{Finished, Open, RunOptions, Turns};
 use top_block::TopBlock;
 
 const ITEMS: u32 = 3_000;
@@ -71,7 +71,8 @@ fn fed_chains(rt: &impl Abort, alloc: Global) -> TopBlock {
 #[test]
 fn chains_are_fed_started_and_waited_for(rt: HostRuntime) -> Result<(), Fail> {
     let alloc = rt.alloc();
-    let running = match fed_chains(&rt, alloc).start(rt, alloc) {
+    let options: RunOptions<Open> = RunOptions::default();
+    let running = match fed_chains(&rt, alloc).start(rt, alloc, options) {
         Ok(running) => running,
         Err(fault) => panic!(&rt; "not started: {fault}"),
     };
@@ -139,7 +140,7 @@ fn a_gate_is_told_of_turns_by_both_calls(rt: HostRuntime) -> Result<(), Fail> {
     let fired = gate.fired();
     assert!(rt; fired == u64::from(6 * ITEMS), "told of {fired} firings");
     let options = per_block(Turns::default(), share(&rt, &gate));
-    match fed_chains(&rt, alloc).start_with(rt, alloc, options) {
+    match fed_chains(&rt, alloc).start(rt, alloc, options) {
         Ok(running) => match running.wait(&rt) {
             Ok(outcome) => {
                 let _ = ended_as(&rt, outcome, End::Done);
@@ -196,7 +197,8 @@ fn a_caller_feeds_sets_and_closes_what_was_left_open(rt: HostRuntime) -> Result<
     let top = made(&rt, alloc, graph(&rt, alloc, &ADDER));
     let gate = shared(&rt, alloc, Counts::new());
     let callers = one_caller(&rt, alloc)?;
-    match top.start_live(&rt, alloc, share(&rt, &gate), callers) {
+    let options = RunOptions::per_block(Some(share(&rt, &gate)));
+    match top.run_live(&rt, alloc, callers, options, &mut Unwatched) {
         Ok(ran) => is_answered(&rt, alloc, ran),
         Err(fault) => panic!(&rt; "not finished: {fault}"),
     }
@@ -217,7 +219,7 @@ fn a_run_with_a_caller_is_watched_to_its_end(rt: HostRuntime) -> Result<(), Fail
         let gate = shared(&rt, alloc, Counts::new());
         let callers = one_caller(&rt, alloc)?;
         let mut ends = Ends { told: 0 };
-        match top.start_live_with(&rt, alloc, callers, per_block(turns, gate), &mut ends) {
+        match top.run_live(&rt, alloc, callers, per_block(turns, gate), &mut ends) {
             Ok(ran) => is_answered(&rt, alloc, ran),
             Err(fault) => panic!(&rt; "not finished: {fault}"),
         }
@@ -236,7 +238,7 @@ fn a_run_with_a_caller_takes_the_threads_that_its_work_is_worth(rt: HostRuntime)
     let callers = one_caller(&rt, alloc)?;
     let mut ends = Ends { told: 0 };
     let options = adaptive(share(&rt, &gate));
-    match top.start_live_with(&rt, alloc, callers, options, &mut ends) {
+    match top.run_live(&rt, alloc, callers, options, &mut ends) {
         Ok(ran) => is_answered(&rt, alloc, ran),
         Err(fault) => panic!(&rt; "not finished: {fault}"),
     }

@@ -89,7 +89,7 @@ fn live_plant<R: Threads + Wait + Clock + Sync, I: ByteIn + Send, O: ByteOut + S
 {
     let callers = one_caller(alloc, input, output)?;
     let options = RunOptions::new(Threading::Adaptive, turns());
-    match TopBlock::from_plant(plant).start_live_with(rt, alloc, callers, options, watch) {
+    match TopBlock::from_plant(plant).run_live(rt, alloc, callers, options, watch) {
         Ok(finished) => came_to_rest(finished),
         Err(fault) => Err(Fault::from(fault)),
     }

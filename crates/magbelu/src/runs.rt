@@ -1,4 +1,4 @@
-//! Running a graph with a thread for each block, or in as many threads as the work is worth: to its end, or live, with
+//! Running a graph in as many threads as the work is worth, or with a thread for each block: to its end, or live, with
 //! callers that feed, set and read meanwhile.
 
 pub use run_stats::{
@@ -7,7 +7,7 @@ pub use run_stats::{
 };
 pub use threads::{
     Answer, Call, Caller, CallerId, Desk, Entry, Feed, Finished, Gate, GatedWatch, Open, Outcome,
-    RunError, RunFault, RunOptions, Running, Setting, Threading, Turns, launch, launch_with, live,
-    live_with, run, run_with,
+    RunError, RunFault, RunOptions, Running, Setting, Threading, Turns, launch_with, live_with,
+    run_with,
 };
 pub use top_block::{TopBlock, close_all};

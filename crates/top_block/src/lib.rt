@@ -6,9 +6,9 @@
 //! let outcome = top.run(rt, alloc)?;       // closes all sources, runs, and waits
 //! ```
 //!
-//! A [`TopBlock`] is for users of GNU Radio: `run` is `start` and `wait`. `start` closes the sources, since a run in
-//! threads ends when nothing more can come. `start_live` leaves them open, for callers that feed meanwhile. To call
-//! single blocks, use the plant that the run returns.
+//! A [`TopBlock`] is for users of GNU Radio: `run` is `start` and `wait`. Both close the sources, since a run ends when
+//! nothing more can come. `run_live` leaves them open, for callers that feed meanwhile. To call single blocks, use the
+//! plant that the run returns.
 #![tactic(auto)]
 
 pub mod closing;

@@ -1,6 +1,6 @@
 //! A graph of kinds, from its feeds to its end.
 
-ghost use Rattle.std.specs.Prelude.{◌≡◌, ◌≤◌, true, false, map, vec_len, None, IfOk, IfErr};
+ghost use Rattle.std.specs.Prelude.{◌≡◌, ◌≤◌, true, false, map, vec_len, IfOk, IfErr};
 ghost use Rattle.std.specs.Arc.{arc_value};
 ghost use Rattle.std.specs.Option.{option_map};
 ghost use Rattle.stream_model.specs.Machine as machine;
@@ -29,7 +29,7 @@ use settings::Value;
 use std::alloc::{AllocError, Global};
 use std::fmt;
 use std::marker::Model;
-use std::sync::{Arc, Wait};
+use std::sync::Wait;
 use std::thread::Threads;
 use std::time::Clock;
 use threads::{
@@ -96,15 +96,16 @@ impl TopBlock {
         self.plant.feed(source, items, marks)
     }
 
-    /// Closes a source's tape, as `Plant::close` does, with its refusals: nothing more can be fed. A run closes all that are open.
+    /// Closes a source's tape, as `Plant::close` does, with its refusals: nothing more can be fed. A run closes all
+    /// that are open.
     pub fn close(&mut self, source: BlockId) -> Result<Closed, PlantFault>
         ensures { AnsweredAlways (close_of (net_of meaning_of self.old.graph) self.old.state source.0) self.old self.new (reply_of (λ c. machine.Closed c.0) result) }
     {
         self.plant.close(source)
     }
 
-    /// Sets the value of a block's setting from item `at` of its first input on, or from the first that it has not taken, as `Plant::set` does,
-    /// with its refusals.
+    /// Sets the value of a block's setting from item `at` of its first input on, or from the first that it has not
+    /// taken, as `Plant::set` does, with its refusals.
     pub fn set(
         &mut self,
         block: BlockId,
@@ -116,21 +117,9 @@ impl TopBlock {
         self.plant.set(block, at, value)
     }
 
-    /// Closes each source that is open, starts a thread for each block, and returns. Fails with `RunFault::Memory` or `RunFault::Thread`, which
-    /// return the plant with its sources closed.
-    pub fn start<R: Threads + Wait + Clock + Copy + Send + 'static>(
-        self,
-        rt: R,
-        alloc: Global,
-    ) -> Result<Running<Kind, Open>, RunFault<Kind>>
-        ensures ok { IfOk result (λ r. r ≡ record { handed = handed_of (with_all_closed meaning_of self); asked = false; most = 1024; gate = None }) }
-        ensures err { IfErr result (GivesBack meaning_of ⟦<Kind as PartialEq>⟧.eq (handed_of (with_all_closed meaning_of self))) }
-    {
-        self.start_with(rt, alloc, RunOptions::per_block(None))
-    }
-
-    /// Closes each source that is open, starts a run as these options say, and returns. Fails as `start` does.
-    pub fn start_with<
+    /// Closes each source that is open, starts a run as these options say, and returns. Fails with `RunFault::Memory`
+    /// or `RunFault::Thread`, which return the plant with its sources closed.
+    pub fn start<
         G: Gate + Drop + Send + Sync + 'static,
         R: Threads + Wait + Clock + Copy + Send + 'static,
     >(
@@ -147,8 +136,8 @@ impl TopBlock {
         launch_with(rt, alloc, plant, options)
     }
 
-    /// Closes each source that is open, runs the plant in threads, one for each block, and waits for its end, which is never `Stopped`. Fails as `start`
-    /// and `Running::wait` do.
+    /// Closes each source that is open, runs the plant in as many threads as the work is worth, and waits for its end,
+    /// which is never `Stopped`: `run_with` by the default options.
     pub fn run<R: Threads + Wait + Clock + Copy + Send + 'static>(
         self,
         rt: R,
@@ -156,8 +145,9 @@ impl TopBlock {
     ) -> Result<Outcome<Kind>, RunFault<Kind>>
         ensures ok { IfOk result (RunEndsIn meaning_of ⟦<Kind as PartialEq>⟧.eq (handed_of (with_all_closed meaning_of self)) false) }
         ensures err { IfErr result (GivesBack meaning_of ⟦<Kind as PartialEq>⟧.eq (handed_of (with_all_closed meaning_of self))) }
+        ensures told { IfErr result (IsSo true false) }
     {
-        let options: RunOptions<Open> = RunOptions::per_block(None);
+        let options: RunOptions<Open> = RunOptions::default();
         self.run_with(rt, alloc, options, &mut Unwatched)
     }
 
@@ -187,45 +177,15 @@ impl TopBlock {
         run_with(rt, alloc, plant, options, watch)
     }
 
-    /// Starts a worker for each block and a thread for each of at most 16 callers, and waits until all callers have
-    /// returned and the plant has come to rest. Open sources stay open: callers feed and close them. A run that comes
-    /// to rest while one is open and still read is `Stalled`. One that a caller stops before all blocks are done is
-    /// `Stopped`. One in which all blocks are done is `Done`. It fails with `RunFault::Memory` if memory ran out,
-    /// before the run or for a claim, and with `RunFault::Thread` if a thread could not be started; both return the
-    /// plant as the calls left it, without the callers. `RunFault::Foreign` should never come.
-    pub fn start_live<
-        G: Gate + Drop + Send + Sync,
-        C: Caller<Kind> + Drop + Send,
-        R: Threads + Wait + Clock + Sync,
-    >(
-        self,
-        rt: &R,
-        alloc: Global,
-        gate: Arc<G, Global>,
-        callers: Vec<C>,
-    ) -> Result<Finished<Kind, C>, RunFault<Kind>>
-        requires { vec_len callers ≤ 16 }
-        ensures ends { IfOk result (λ f. LiveRunEndsIn meaning_of ⟦<Kind as PartialEq>⟧.eq (opening_of self) (map noted_by f.history.items) f.outcome) }
-        ensures logs { IfOk result (λ f. AreLogs (map (λ l. map noted_by l.items) f.logs.items) (map noted_by f.history.items)) }
-        ensures callers { IfOk result (λ f. vec_len f.callers ≡ vec_len callers) }
-        ensures logged { IfOk result (λ f. vec_len f.logs ≡ vec_len callers) }
-        ensures ran { IfOk result (λ f. HaveReturned C.ran self.graph callers.items f.callers.items (map (λ l. map noted_by l.items) f.logs.items)) }
-        ensures turns { IfOk result (λ f. f.turns.most ≡ 1024) }
-        ensures err { IfErr result (GivesBackLive meaning_of ⟦<Kind as PartialEq>⟧.eq (opening_of self)) }
-    {
-        self.start_live_with(
-            rt,
-            alloc,
-            callers,
-            RunOptions::per_block(Some(gate)),
-            &mut Unwatched,
-        )
-    }
-
-    /// Like `start_live`, as these options say: with a worker for each block, or in as many threads as the work is
-    /// worth: this one alone while it is cheap, and up to one a processor if that pays, beside those of the callers.
-    /// Once all callers have returned, it calls `watch.show` after each pause, and then `watch.end`.
-    pub fn start_live_with<
+    /// Runs the plant as these options say, beside a thread for each of at most 16 callers, and waits until all callers
+    /// have returned and the plant has come to rest. Open sources stay open: callers feed and close them. A run that
+    /// comes to rest while one is open and still read is `Stalled`. One that a caller stops before all blocks are done
+    /// is `Stopped`. One in which all blocks are done is `Done`. Once all callers have returned, it calls `watch.show`
+    /// after each pause, and then `watch.end`. It fails with `RunFault::Memory` if memory ran out, before the run or
+    /// for a claim, and with `RunFault::Thread` if the thread of a caller, or where each block has one that of a block,
+    /// could not be started; both return the plant as the calls left it, without the callers. `RunFault::Foreign`
+    /// should never come.
+    pub fn run_live<
         G: Gate + Drop + Send + Sync,
         C: Caller<Kind> + Drop + Send,
         R: Threads + Wait + Clock + Sync,
