@@ -131,7 +131,7 @@ pub fn run_ready<R: Threads + Wait + Clock + Copy + Send + 'static>(
             Ok(running) => end_of(running.wait(&rt), true),
             Err(fault) => end_of(Err(fault), false),
         },
-        Way::Start => match TopBlock::from_plant(plant).start(rt, alloc, per_block()) {
+        Way::Start => match TopBlock::from_plant(plant).start_with(rt, alloc, per_block()) {
             Ok(running) => end_of(running.wait(&rt), true),
             Err(fault) => end_of(Err(fault), false),
         },

@@ -31,13 +31,14 @@ enum Call {
     RunWith(Threading),
     Live,
     LiveWith(Threading),
-    Start(Threading),
+    Start,
+    StartWith(Threading),
     TopRun,
     TopRunWith(Threading),
     RunLive(Threading),
 }
 
-const CALLS: [Call; 16] = [
+const CALLS: [Call; 17] = [
     Call::Launch,
     Call::LaunchWith(Threading::PerBlock),
     Call::LaunchWith(Threading::Adaptive),
@@ -47,8 +48,9 @@ const CALLS: [Call; 16] = [
     Call::Live,
     Call::LiveWith(Threading::PerBlock),
     Call::LiveWith(Threading::Adaptive),
-    Call::Start(Threading::PerBlock),
-    Call::Start(Threading::Adaptive),
+    Call::Start,
+    Call::StartWith(Threading::PerBlock),
+    Call::StartWith(Threading::Adaptive),
     Call::TopRun,
     Call::TopRunWith(Threading::PerBlock),
     Call::TopRunWith(Threading::Adaptive),
@@ -114,9 +116,10 @@ fn ran_by_call<R: Host + Sync + 'static>(
             let options = chosen(threading, turns, gate);
             run_with(rt, alloc, plant, options, &mut Unwatched)
         }
-        Call::Start(threading) => {
+        Call::Start => TopBlock::from_plant(plant).start(rt, alloc)?.wait(&rt),
+        Call::StartWith(threading) => {
             let options = chosen(threading, turns, gate);
-            TopBlock::from_plant(plant).start(rt, alloc, options)?.wait(&rt)
+            TopBlock::from_plant(plant).start_with(rt, alloc, options)?.wait(&rt)
         }
         Call::TopRun => TopBlock::from_plant(plant).run(rt, alloc),
         Call::TopRunWith(threading) => {
@@ -129,7 +132,7 @@ fn ran_by_call<R: Host + Sync + 'static>(
 
 // Whether a call takes a gate.
 fn has_gate(call: Call) -> bool {
-    call != Call::TopRun
+    !matches!(call, Call::Start | Call::TopRun)
 }
 
 // One graph, by each call.

@@ -14,7 +14,7 @@ use std::alloc::{AllocError, Global};
 use std::process::Abort;
 use std::test::Fail;
 use std::time::Duration;
-use threads::{Finished, Open, RunOptions, Turns};
+use threads::{Finished, RunOptions, Turns};
 use top_block::TopBlock;
 
 const ITEMS: u32 = 3_000;
@@ -71,8 +71,7 @@ fn fed_chains(rt: &impl Abort, alloc: Global) -> TopBlock {
 #[test]
 fn chains_are_fed_started_and_waited_for(rt: HostRuntime) -> Result<(), Fail> {
     let alloc = rt.alloc();
-    let options: RunOptions<Open> = RunOptions::default();
-    let running = match fed_chains(&rt, alloc).start(rt, alloc, options) {
+    let running = match fed_chains(&rt, alloc).start(rt, alloc) {
         Ok(running) => running,
         Err(fault) => panic!(&rt; "not started: {fault}"),
     };
@@ -140,7 +139,7 @@ fn a_gate_is_told_of_turns_by_both_calls(rt: HostRuntime) -> Result<(), Fail> {
     let fired = gate.fired();
     assert!(rt; fired == u64::from(6 * ITEMS), "told of {fired} firings");
     let options = per_block(Turns::default(), share(&rt, &gate));
-    match fed_chains(&rt, alloc).start(rt, alloc, options) {
+    match fed_chains(&rt, alloc).start_with(rt, alloc, options) {
         Ok(running) => match running.wait(&rt) {
             Ok(outcome) => {
                 let _ = ended_as(&rt, outcome, End::Done);

@@ -1,6 +1,6 @@
 //! A graph of kinds, from its feeds to its end.
 
-ghost use Rattle.std.specs.Prelude.{◌≡◌, ◌≤◌, true, false, map, vec_len, IfOk, IfErr};
+ghost use Rattle.std.specs.Prelude.{◌≡◌, ◌≤◌, true, false, map, vec_len, None, IfOk, IfErr};
 ghost use Rattle.std.specs.Arc.{arc_value};
 ghost use Rattle.std.specs.Option.{option_map};
 ghost use Rattle.stream_model.specs.Machine as machine;
@@ -117,9 +117,22 @@ impl TopBlock {
         self.plant.set(block, at, value)
     }
 
+    /// Closes each source that is open, starts a run in as many threads as the work is worth, and returns: `start_with`
+    /// by the default options.
+    pub fn start<R: Threads + Wait + Clock + Copy + Send + 'static>(
+        self,
+        rt: R,
+        alloc: Global,
+    ) -> Result<Running<Kind, Open>, RunFault<Kind>>
+        ensures ok { IfOk result (λ r. r ≡ record { handed = handed_of (with_all_closed meaning_of self); asked = false; most = 1024; gate = None }) }
+        ensures err { IfErr result (GivesBack meaning_of ⟦<Kind as PartialEq>⟧.eq (handed_of (with_all_closed meaning_of self))) }
+    {
+        self.start_with(rt, alloc, RunOptions::default())
+    }
+
     /// Closes each source that is open, starts a run as these options say, and returns. Fails with `RunFault::Memory`
     /// or `RunFault::Thread`, which return the plant with its sources closed.
-    pub fn start<
+    pub fn start_with<
         G: Gate + Drop + Send + Sync + 'static,
         R: Threads + Wait + Clock + Copy + Send + 'static,
     >(
