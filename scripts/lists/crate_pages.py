@@ -1,4 +1,4 @@
-"""The lists of parameters, ranges and texts in the crates of keys and of explanations, which `flow kinds` and
+"""The lists of parameters, ranges and texts in the crates kind_schema and diagnostics, which `flow kinds` and
 `--explain` say, and what docs/user/FILES.md says may be set."""
 
 from __future__ import annotations

@@ -31,8 +31,9 @@ try() {
 # thin_tree: leaves a few crates of the checkout, so that a build is short: the program, the library for C, and some below them, of which two stand on the lowest alone
 thin_tree() {
     local it
-    printf '%s\n' stream_model: "numbers: stream_model" "settings: stream_model" "items: stream_model numbers" "flow: items settings" \
-        "$command_crate: numbers flow" "$program_crate: $command_crate" "$c_crate staticlib: items flow" >"$tree/crates.txt"
+    printf '%s\n' stream_model: "numbers: stream_model" "settings: stream_model" "items: stream_model numbers" \
+        "flow_core: items settings" "$command_crate: numbers flow_core" "$program_crate: $command_crate" \
+        "$c_crate staticlib: items flow_core" >"$tree/crates.txt"
     cp "$tree/crates.txt" "$room/crates.txt"
     line_of=() uses=() order=()
     top=$tree read_crates
