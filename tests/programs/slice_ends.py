@@ -340,7 +340,7 @@ def threads(path):
         ("a long file", LONG, GRAPH, processors),
         ("a file that is too short", LONG - 2, GRAPH, 1),
         ("a block that may end", LONG, GRAPH.replace(SUM, 'kind = "head", type = "short", n = 9999999'), 1),
-        ("few blocks, and no filter", LONG, GRAPH.replace(FILTER, 'kind = "keep_one_in_n", type = "short", n = 3'), 1),
+        ("cheap blocks", LONG, GRAPH.replace(FILTER, 'kind = "keep_one_in_n", type = "short", n = 3'), processors),
     ]
     for name, length, graph, jobs in tests:
         folder.path.joinpath("graph.toml").write_text(graph, encoding="utf-8")

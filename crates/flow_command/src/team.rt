@@ -22,11 +22,8 @@ const LEAST_OVERLAPS: u64 = 10;
 
 const MOST: u64 = 1 << 26;
 
-// How many bytes of input, and how many blocks, are worth the threads; one filter is too. With fewer cheap blocks,
-// handing a piece to a thread and back takes longer.
+// How many bytes of input are worth the threads, whatever the blocks do.
 const LONG: u64 = 1 << 24;
-
-const MANY: usize = 8;
 
 /// How a run goes in pieces.
 #[derive(Drop)]
@@ -83,9 +80,6 @@ fn free_team<R: Threads + Copy>(
     if jobs == 1 || !are_long || !are_files(rt, &call.ends.marks) {
         return Ok(None);
     }
-    if plant.graph().len() < MANY && !has_filter(plant.graph()) {
-        return Ok(None);
-    }
     // (a run may end before its inputs do, and reads no further)
     if may_end_early(plant.graph()) {
         return Ok(None);
@@ -103,24 +97,6 @@ fn may_end_early(graph: &Valid<Kind>) -> bool {
         block = block.saturating_add(1);
     }
     false
-}
-
-fn has_filter(graph: &Valid<Kind>) -> bool {
-    let mut block = 0u32;
-    for _ in 0..graph.len() {
-        if (block as usize) < graph.len() && is_filter(graph.block(BlockId(block))) {
-            return true;
-        }
-        block = block.saturating_add(1);
-    }
-    false
-}
-
-fn is_filter(block: &Kind) -> bool {
-    match block {
-        Kind::Fir(_) | Kind::InterpFir(_) => true,
-        _ => false,
-    }
 }
 
 // There is none if pieces would be too long.
