@@ -3,7 +3,7 @@ ghost use Rattle.std.specs.Prelude.{◌≡◌, ◌↔◌, IsOk, IfOk, IfErr};
 ghost use Rattle.stream_model.specs.Numbers.{IsItem};
 ghost use Rattle.kind_model.specs.Math.{binary_slicer};
 
-use crate::to_bytes::{MakesByte, ToBytes};
+use crate::to_bytes::{MakesByte, ToBytes, int_of};
 use block_parameters::{ParamFault, Parameter};
 use items::ItemType;
 use numbers::Number;
@@ -16,7 +16,7 @@ pub type BinarySlicer = ToBytes<AtLeast>;
 #[derive(Debug, Drop, PartialEq, Eq)]
 pub struct AtLeast {
     item: ItemType,
-    threshold: i64,
+    threshold: i32,
 }
 
 impl BinarySlicer {
@@ -32,7 +32,10 @@ impl BinarySlicer {
             return Err(ParamFault::BadParameter(Parameter::Threshold));
         }
         Ok(ToBytes {
-            makes: AtLeast { item, threshold },
+            makes: AtLeast {
+                item,
+                threshold: threshold as i32,
+            },
         })
     }
 }
@@ -55,7 +58,7 @@ impl MakesByte for AtLeast {
 
     #[inline(always)]
     fn byte_of<T: Number>(&self, item: T) -> u8 {
-        if item.widen() < self.threshold { 0 } else { 1 }
+        if int_of(item) < self.threshold { 0 } else { 1 }
     }
 
     ghost is_made = { λ m. refl };

@@ -2,7 +2,7 @@
 ghost use Rattle.std.specs.Prelude.{◌≡◌, ◌≤◌, pos, min, unsigned_abs, nat_le, if◌then◌else◌};
 ghost use Rattle.kind_model.specs.Math.{ulaw_encode, alaw_encode, mu_law, a_law, a_law_parts, segment, interval};
 
-use crate::to_bytes::{MakesByte, ToBytes};
+use crate::to_bytes::{MakesByte, ToBytes, int_of};
 use items::ItemType;
 use numbers::Number;
 
@@ -49,7 +49,7 @@ impl AlawEncode {
 
 // 1 where the magnitude is at least a power of two, and else 0.
 #[inline(always)]
-fn reaches(magnitude: u64, power: u64) -> u64
+fn reaches(magnitude: u32, power: u32) -> u32
     ensures { result ≡ (if nat_le power magnitude then 1 else 0) }
 {
     if power <= magnitude { 1 } else { 0 }
@@ -57,7 +57,7 @@ fn reaches(magnitude: u64, power: u64) -> u64
 
 // The segment of a magnitude. It compares with each power of two, and so needs no branch.
 #[inline(always)]
-fn segment_of(magnitude: u64) -> u64
+fn segment_of(magnitude: u32) -> u32
     ensures is { result ≡ segment magnitude }
     ensures few { result ≤ 7 }
 {
@@ -72,7 +72,7 @@ fn segment_of(magnitude: u64) -> u64
 
 // The interval of a magnitude in a segment.
 #[inline(always)]
-fn interval_of(segment: u64, magnitude: u64) -> u64
+fn interval_of(segment: u32, magnitude: u32) -> u32
     requires { segment ≤ 7 }
     ensures is { result ≡ interval segment magnitude }
     ensures few { result ≤ 15 }
@@ -82,8 +82,7 @@ fn interval_of(segment: u64, magnitude: u64) -> u64
 
 // The byte of a number by the mu-law.
 #[inline(always)]
-fn mu_law_byte(number: i64) -> u8
-    requires { unsigned_abs number ≤ 2147483648 }
+fn mu_law_byte(number: i32) -> u8
     ensures { pos result ≡ mu_law number }
 {
     let magnitude = (number.unsigned_abs() + 132).min(32_767);
@@ -95,7 +94,7 @@ fn mu_law_byte(number: i64) -> u8
 
 // Sign, segment and interval of a magnitude by the A-law.
 #[inline(always)]
-fn a_law_code(sign: u64, magnitude: u64) -> u64
+fn a_law_code(sign: u32, magnitude: u32) -> u32
     requires { sign ≤ 128 }
     ensures is { result ≡ a_law_parts sign magnitude }
     ensures few { result ≤ 255 }
@@ -106,7 +105,7 @@ fn a_law_code(sign: u64, magnitude: u64) -> u64
 
 // The byte of a number by the A-law.
 #[inline(always)]
-fn a_law_byte(number: i64) -> u8
+fn a_law_byte(number: i32) -> u8
     ensures { pos result ≡ a_law number }
 {
     let magnitude = number.unsigned_abs();
@@ -135,7 +134,7 @@ impl MakesByte for MuLaw {
 
     #[inline(always)]
     fn byte_of<T: Number>(&self, item: T) -> u8 {
-        mu_law_byte(item.widen())
+        mu_law_byte(int_of(item))
     }
 
     ghost is_made = { λ m. refl };
@@ -162,7 +161,7 @@ impl MakesByte for ALaw {
 
     #[inline(always)]
     fn byte_of<T: Number>(&self, item: T) -> u8 {
-        a_law_byte(item.widen())
+        a_law_byte(int_of(item))
     }
 
     ghost is_made = { λ m. refl };

@@ -48,6 +48,14 @@ pub struct ToBytes<M> {
     pub(crate) makes: M,
 }
 
+// An item as an `i32`, which holds each of them. Lanes of 32 bits are twice as many as those of an `i64`.
+#[inline(always)]
+pub(crate) fn int_of<T: Number>(item: T) -> i32
+    ensures { result ≡ T.number item }
+{
+    item.widen() as i32
+}
+
 // Writes the byte of each item over `out`.
 fn write_bytes<T: Number, M: MakesByte>(makes: &M, items: &[T], out: &mut [u8])
     requires { length out.old ≡ length items.now }
