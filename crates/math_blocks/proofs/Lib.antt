@@ -1,3 +1,4 @@
+pub mod Companded
 pub mod Holding
 pub mod Joining
 pub mod Muted

@@ -1,5 +1,5 @@
 //! The blocks that encode items by the laws of ITU-T G.711.
-ghost use Rattle.std.specs.Prelude.{◌≡◌, ◌≤◌, pos, min, unsigned_abs, nat_le, if◌then◌else◌};
+ghost use Rattle.std.specs.Prelude.{◌≡◌, ◌≤◌, ◌-◌, pos, min, unsigned_abs, int_lt, nat_le, if◌then◌else◌};
 ghost use Rattle.kind_model.specs.Math.{ulaw_encode, alaw_encode, mu_law, a_law, a_law_parts, segment, interval};
 
 use crate::to_bytes::{MakesByte, ToBytes, int_of};
@@ -103,17 +103,35 @@ fn a_law_code(sign: u32, magnitude: u32) -> u32
     sign + (16 * segment + interval_of(segment.max(1), magnitude))
 }
 
+// The sign of a number by the A-law.
+#[inline(always)]
+fn a_law_sign(number: i32) -> u32
+    ensures is { result ≡ (if int_lt number (pos 0) then 0 else 128) }
+    ensures few { result ≤ 128 }
+{
+    if number < 0 { 0 } else { 128 }
+}
+
+// The magnitude of a number by the A-law.
+#[inline(always)]
+fn a_law_magnitude(number: i32) -> u32
+    ensures { result ≡ min (if int_lt number (pos 0) then unsigned_abs number - 8 else unsigned_abs number) 32767 }
+{
+    let magnitude = number.unsigned_abs();
+    let distance = if number < 0 {
+        magnitude.saturating_sub(8)
+    } else {
+        magnitude
+    };
+    distance.min(32_767)
+}
+
 // The byte of a number by the A-law.
 #[inline(always)]
 fn a_law_byte(number: i32) -> u8
     ensures { pos result ≡ a_law number }
 {
-    let magnitude = number.unsigned_abs();
-    let code = if number < 0 {
-        a_law_code(0, magnitude.saturating_sub(8).min(32_767))
-    } else {
-        a_law_code(128, magnitude.min(32_767))
-    };
+    let code = a_law_code(a_law_sign(number), a_law_magnitude(number));
     (code as u8) ^ 85
 }
 
