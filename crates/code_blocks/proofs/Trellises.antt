@@ -82,9 +82,9 @@ module _ {X : Type 0} (number : X → ℤ) where
   put-within a k e xs ys r below within long =
       sym (item-part (put_mid a k xs ys) a (e - a) r below) ∙ ap (λ zs. item (map number zs) r) (between-put_mid a k xs ys e within long)
 
--- a block among all blocks
-pub block-within : (b count n l : ℕ) → b < count → l ≡ n * count → b * n + n ≤ l
-block-within b count n l less e = grind arith
+-- a block among all blocks, where a call gives its size
+pub block-within : (b count size l : ℕ) {n : ℕ} → b < count → size ≡ n → l ≡ n * count → b * size + size ≤ l
+block-within b count size l {n} less same e = grind arith
 
 -- the symbols of one block more
 pub block-more :
@@ -110,7 +110,7 @@ block-more number m is b count items out block from size at long from_is size_is
     ]
   where
     fits : at ≤ length out
-    fits = let near = block-within b count m.steps (length out) less out_is in omega (arith, near, at_is)
+    fits = let near = block-within b count m.steps (length out) less refl out_is in omega (arith, near, at_is)
 
     same : (i : ℕ) → i < m.steps * m.outputs → item (map number (take size (drop from items))) (0 + i) ≡ item (map number items) (b * (m.steps * m.outputs) + i)
     same i l =

@@ -1,4 +1,4 @@
-use Rattle.std.proofs.Common.{◌≡◌, ◌+◌, ◌-◌, ◌*◌, ◌<◌, length, map, pos, take, drop, rules, arith, ap, sym, ◌∙◌}
+use Rattle.std.proofs.Common.{◌≡◌, ◌+◌, ◌-◌, ◌*◌, length, pos, drop, rules, arith, ap, ◌∙◌}
 use Rattle.std.proofs.lemmas.List.{length-take-le, length-drop}
 use Rattle.std.proofs.lemmas.Slice.{overwrites}
 use Rattle.item_dispatch.proofs.Written.{written_all}
@@ -8,38 +8,32 @@ use Rattle.code_blocks.proofs.viterbi.write_symbols.Goals as goal
 
 pub overflow_mul-from : goal.overflow_mul-from
 overflow_mul-from g c =
-    let taken = c.requires.items ∙ ap (λ n. n * c.args.count) (sym c.metrics-taken.ensures) in
-    let within = block-within c.loop-block.block c.args.count c.metrics-taken.result (length c.args.items.now) c.loop-block-test.true taken in
+    let within = block-within c.loop-block.block c.args.count c.metrics-taken.result _ c.loop-block-test.true c.metrics-taken.ensures c.requires.items in
     search rules
 
 pub overflow_mul-at : goal.overflow_mul-at
 overflow_mul-at g c =
-    let given = c.requires.out ∙ ap (λ n. n * c.args.count) (sym c.steps-given.ensures) in
-    let within = block-within c.loop-block.block c.args.count c.steps-given.result (length c.args.out.now) c.loop-block-test.true given in
+    let within = block-within c.loop-block.block c.args.count c.steps-given.result _ c.loop-block-test.true c.steps-given.ensures c.requires.out in
     search rules
 
 pub overflow_add-from : goal.overflow_add-from
 overflow_add-from g c =
-    let taken = c.requires.items ∙ ap (λ n. n * c.args.count) (sym c.metrics-taken.ensures) in
-    let within = block-within c.loop-block.block c.args.count c.metrics-taken.result (length c.args.items.now) c.loop-block-test.true taken in
+    let within = block-within c.loop-block.block c.args.count c.metrics-taken.result _ c.loop-block-test.true c.metrics-taken.ensures c.requires.items in
     search rules
 
 pub overflow_add-at : goal.overflow_add-at
 overflow_add-at g c =
-    let given = c.requires.out ∙ ap (λ n. n * c.args.count) (sym c.steps-given.ensures) in
-    let within = block-within c.loop-block.block c.args.count c.steps-given.result (length c.args.out.now) c.loop-block-test.true given in
+    let within = block-within c.loop-block.block c.args.count c.steps-given.result _ c.loop-block-test.true c.steps-given.ensures c.requires.out in
     search rules
 
 pub slice_bounds-decode-end : goal.slice_bounds-decode-end
 slice_bounds-decode-end g c =
-    let taken = c.requires.items ∙ ap (λ n. n * c.args.count) (sym c.metrics-taken.ensures) in
-    let within = block-within c.loop-block.block c.args.count c.metrics-taken.result (length c.args.items.now) c.loop-block-test.true taken in
+    let within = block-within c.loop-block.block c.args.count c.metrics-taken.result _ c.loop-block-test.true c.metrics-taken.ensures c.requires.items in
     search rules
 
 pub decode-requires-clause-metrics : goal.decode-requires-clause-metrics
 decode-requires-clause-metrics g c =
-    let taken = c.requires.items ∙ ap (λ n. n * c.args.count) (sym c.metrics-taken.ensures) in
-    let within = block-within c.loop-block.block c.args.count c.metrics-taken.result (length c.args.items.now) c.loop-block-test.true taken in
+    let within = block-within c.loop-block.block c.args.count c.metrics-taken.result _ c.loop-block-test.true c.metrics-taken.ensures c.requires.items in
     length-take-le _ (drop (c.loop-block.block * c.metrics-taken.result) c.args.items.now) (omega (arith, within, length-drop (c.loop-block.block * c.metrics-taken.result) c.args.items.now))
     ∙ omega (arith, c.metrics-taken.ensures)
 
@@ -52,7 +46,7 @@ loop-block-preserved g c =
     let taken = c.metrics-taken.result in
     let given = c.steps-given.result in
     let out_is = is.len ∙ c.requires.out in
-    let fits = block-within b c.args.count given (length c.loop-block.out) c.loop-block-test.true (out_is ∙ ap (λ n. n * c.args.count) (sym c.steps-given.ensures)) in
+    let fits = block-within b c.args.count given _ c.loop-block-test.true c.steps-given.ensures out_is in
     let block_is : length c.decode.new.out ≡ m.steps =
     c.decode.ensures.len ∙ length-take-le _ (drop (b * given) c.loop-block.out) (omega (arith, fits, length-drop (b * given) c.loop-block.out)) ∙ omega (arith, c.steps-given.ensures) in
     record {
