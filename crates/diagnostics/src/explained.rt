@@ -1,4 +1,4 @@
-//! Why a graph file is refused, shown at its place.
+//! Why a graph file is refused, and where.
 ghost use Rattle.std.specs.Prelude.{◌↔◌, IfOk, IsNone};
 ghost use Rattle.graph_file.specs.Accepted.{IsAccepted};
 
@@ -8,6 +8,7 @@ use crate::frame::{Finding, Source, framed};
 use crate::graph_faults::{graph_finding, negative_finding};
 use crate::headers::{single_before, single_header};
 use crate::looks::Look;
+use crate::places::{Place, place_in};
 use crate::table_faults::table_finding;
 use crate::tokens::line_of;
 use graph_file::{Depth, FileFault, fault_of};
@@ -22,10 +23,9 @@ pub fn explain(
 ) -> Result<Option<String>, AllocError>
     ensures { IfOk result (λ lines. IsNone lines ↔ IsAccepted depth text.now) }
 {
-    match fault_of(alloc, text, depth)? {
+    match found(alloc, text, depth)? {
         None => Ok(None),
-        Some(fault) => {
-            let finding = finding_of(alloc, text, &fault)?;
+        Some(finding) => {
             let source = Source {
                 name,
                 text,
@@ -34,6 +34,26 @@ pub fn explain(
             };
             Ok(Some(framed(alloc, &source, &finding)?))
         }
+    }
+}
+
+/// Where and why a graph file is refused, or `None` where it is not.
+pub fn place_of(alloc: Global, text: &[u8], depth: Depth) -> Result<Option<Place>, AllocError>
+    ensures { IfOk result (λ place. IsNone place ↔ IsAccepted depth text.now) }
+{
+    match found(alloc, text, depth)? {
+        None => Ok(None),
+        Some(finding) => Ok(Some(place_in(text, finding))),
+    }
+}
+
+// What is wrong with a graph file, or `None` where it is not refused.
+fn found(alloc: Global, text: &[u8], depth: Depth) -> Result<Option<Finding>, AllocError>
+    ensures { IfOk result (λ finding. IsNone finding ↔ IsAccepted depth text.now) }
+{
+    match fault_of(alloc, text, depth)? {
+        None => Ok(None),
+        Some(fault) => Ok(Some(finding_of(alloc, text, &fault)?)),
     }
 }
 

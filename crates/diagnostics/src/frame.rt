@@ -31,14 +31,14 @@ pub(crate) struct Source<'a> {
     pub look: Look,
 }
 
-// A line of a text, without its line end, and a place in it or at its end. Lines and columns count from 1; columns
-// count characters.
+/// A line of a text, without its line end, and a place in it or at its end. Lines and columns count from 1; columns
+/// count characters.
 #[derive(Clone, Copy)]
-struct Position {
-    line: usize,
-    column: usize,
-    span: Span,
-    place: usize,
+pub(crate) struct Position {
+    pub line: usize,
+    pub column: usize,
+    pub span: Span,
+    pub place: usize,
 }
 
 // The shown part of a line.
@@ -135,8 +135,8 @@ fn put_before(
     put_shown(out, part(source.text, excerpt.before), look)
 }
 
-// Where a place is; the end of the text if the place is beyond it.
-fn position_of(text: &[u8], place: usize) -> Position
+/// Where a place is; the end of the text if the place is beyond it.
+pub(crate) fn position_of(text: &[u8], place: usize) -> Position
     ensures { result.place ≤ length text.now }
 {
     let place = place.min(text.len());
@@ -187,8 +187,8 @@ fn line_end(text: &[u8], place: usize) -> usize {
     }
 }
 
-// Whether a byte is not the first of a character.
-fn continues(byte: u8) -> bool {
+/// Whether a byte is not the first of a character.
+pub(crate) fn continues(byte: u8) -> bool {
     byte & 0xC0 == 0x80
 }
 
