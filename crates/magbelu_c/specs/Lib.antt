@@ -6,6 +6,7 @@ pub mod BlockSettings
 pub mod Cuts
 pub mod Draining
 pub mod Explaining
+pub mod FaultPlaces
 pub mod Handles
 pub mod Held
 pub mod Kernels

@@ -21,6 +21,7 @@ pub mod calls;
 pub mod cuts;
 mod draining;
 pub mod explaining;
+pub mod fault_place;
 pub mod graph_calls;
 pub mod handle;
 pub mod held_calls;
