@@ -122,6 +122,25 @@ struct magbelu_stream {
 /* end of these lines: numbers */
 
 /*
+ * Where a graph file is refused. Lines and columns count from 1, columns and lengths characters.
+ *
+ * status   0: the file is not refused. 1: it is. 4: out of memory.
+ * number   that of the refusal; 0 with status 0.
+ * line     the line; 0 where nothing is refused, or memory ran out for the place.
+ * column   the first character of the word that is at fault.
+ * length   how many characters it has on that line; 1 where no word stands there.
+ * why_len  how many bytes the reason has. It is written where it fits its buffer.
+ */
+struct magbelu_fault_place {
+    uint32_t status;
+    uint32_t number;
+    size_t line;
+    size_t column;
+    size_t length;
+    size_t why_len;
+};
+
+/*
  * What came of a call of a held plant.
  *
  * status  0: done. 3: the plant came to rest before all blocks were done. 1: refused, and nothing changed. 4: out of memory.
@@ -342,6 +361,8 @@ struct magbelu_answer magbelu_bytes_script(const uint8_t *file, size_t file_len,
 
 struct magbelu_answer magbelu_bytes_explain(const uint8_t *name, size_t name_len, const uint8_t *file, size_t file_len, uint8_t *output,
                                             size_t output_room, uint8_t *error, size_t error_room);
+
+struct magbelu_fault_place magbelu_bytes_place(const uint8_t *file, size_t file_len, uint8_t *why, size_t why_room);
 
 struct magbelu_answer magbelu_bytes_run_items(const uint8_t *file, size_t file_len, uint32_t big_endian, const struct magbelu_input *inputs,
                                               size_t input_count, const struct magbelu_output *outputs, size_t output_count, uint64_t *lens,
@@ -572,6 +593,20 @@ static inline struct magbelu_answer magbelu_explain(const void *name, size_t nam
     }
     return magbelu_bytes_explain(magbelu_read_at(name), name_len, magbelu_read_at(file), file_len, magbelu_write_at(output, &none), output_room,
                                  magbelu_write_at(error, &none), error_room);
+}
+
+/*
+ * Tells where a graph file is refused, for a program that marks the place itself: the word at which, and in `why` the
+ * reason that magbelu_explain shows below that word. Of a file that is not refused it tells nothing. Call it where
+ * another call refused the file: it reads the file anew.
+ */
+static inline struct magbelu_fault_place magbelu_place(const void *file, size_t file_len, char *why, size_t why_room) {
+    uint64_t none = 0;
+    if (magbelu_is_null(file, file_len) || magbelu_is_null(why, why_room)) {
+        struct magbelu_fault_place place = {1, MAGBELU_NULL, 0, 0, 0, 0};
+        return place;
+    }
+    return magbelu_bytes_place(magbelu_read_at(file), file_len, magbelu_write_at(why, &none), why_room);
 }
 
 /*

@@ -72,6 +72,17 @@ struct report {
     bool is_done;
 };
 
+/*
+ * Where a graph file is refused: the line and the column of a word, from 1, how many characters it has on that line, and
+ * why. A column counts characters.
+ */
+struct fault_place {
+    std::size_t line;
+    std::size_t column;
+    std::size_t length;
+    std::string why;
+};
+
 /* A tag to feed: the place of its item on the tape, its key, its value. */
 struct mark {
     std::uint64_t offset;
@@ -330,6 +341,25 @@ inline std::string script(std::string_view file, std::string_view lines) {
                },
                file)
         .text;
+}
+
+/* Where a graph file's text is refused, or nothing where it is not. */
+inline std::optional<fault_place> place(std::string_view file) {
+    std::string why(256, '\0');
+    for (;;) {
+        const auto got = magbelu_place(file.data(), file.size(), why.data(), why.size());
+        if (got.number == 0) {
+            return std::nullopt;
+        }
+        if (got.line == 0) {
+            detail::fail(4, MAGBELU_MEMORY, "", detail::with_reason("32 Memory", MAGBELU_MEMORY));
+        }
+        const bool fits = got.why_len <= why.size();
+        why.resize(got.why_len);
+        if (fits) {
+            return fault_place{got.line, got.column, got.length, std::move(why)};
+        }
+    }
 }
 
 /* (not for callers) */

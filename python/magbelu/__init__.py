@@ -38,15 +38,15 @@ from ._graph import Graph
 from ._held import Array, Items, Tag
 from ._kinds import KINDS
 from ._listing import Block, Connection, Need, Port, Rates, Setting
-from ._runs import check, run, run_items, script, version
+from ._runs import Place, check, place, run, run_items, script, version
 from ._slice_runs import run_slices
 from ._slices import SinkPart, SinkSlices, Slice, Slices, SourceSlices
 from ._stream import Levels, Piece, Stream
 
 __all__ = [
-    "EXAMPLE", "KINDS", "Array", "Block", "Builder", "Code", "Connection", "Error", "Graph", "Items", "Levels", "Need", "OutOfMemory", "Piece", "Port", "Rates",
-    "Refused", "Setting", "SinkPart", "SinkSlices", "Slice", "Slices", "SourceSlices", "Stream", "Tag", "check", "convolutional", "run", "run_items", "run_slices",
-    "script", "version",
+    "EXAMPLE", "KINDS", "Array", "Block", "Builder", "Code", "Connection", "Error", "Graph", "Items", "Levels", "Need", "OutOfMemory", "Piece", "Place",
+    "Port", "Rates", "Refused", "Setting", "SinkPart", "SinkSlices", "Slice", "Slices", "SourceSlices", "Stream", "Tag", "check", "convolutional", "place", "run",
+    "run_items", "run_slices", "script", "version",
 ]
 
 #: A graph file for examples: ten is added to each byte.

@@ -18,6 +18,13 @@ class Answer(ctypes.Structure):
     _fields_ = [("status", ctypes.c_uint32), ("number", ctypes.c_uint32), ("output_len", ctypes.c_size_t), ("error_len", ctypes.c_size_t)]
 
 
+class PlaceReply(ctypes.Structure):
+    _fields_ = [
+        ("status", ctypes.c_uint32), ("number", ctypes.c_uint32),
+        ("line", ctypes.c_size_t), ("column", ctypes.c_size_t), ("length", ctypes.c_size_t), ("why_len", ctypes.c_size_t),
+    ]
+
+
 class Input(ctypes.Structure):
     _fields_ = [("name", ctypes.c_void_p), ("name_len", ctypes.c_size_t), ("bytes", ctypes.c_void_p), ("len", ctypes.c_size_t)]
 
@@ -150,6 +157,7 @@ def _with_types(library: ctypes.CDLL) -> ctypes.CDLL:
     }.items():
         call = getattr(library, "magbelu_bytes_" + name)
         call.restype, call.argtypes = Answer, types
+    library.magbelu_bytes_place.restype, library.magbelu_bytes_place.argtypes = PlaceReply, 2 * pair
     plant, u64 = pair[:1], [ctypes.c_uint64]
     for name, types in {
         "free": plant,

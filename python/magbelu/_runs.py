@@ -5,7 +5,7 @@ from __future__ import annotations
 import ctypes
 import os
 import pathlib
-from typing import Any, Iterable, Optional, Union
+from typing import Any, Iterable, NamedTuple, Optional, Union
 
 from ._arguments import HIGH, Text, bytes_of, count_of, flag, is_bytes, unmasked
 from ._errors import Error, OutOfMemory, Refused
@@ -13,6 +13,20 @@ from ._library import Input, Lent, Output, Room, calls
 
 # What a graph is called at the place of a fault in it, where it is given as a text.
 NO_PATH = "<graph>"
+
+
+class Place(NamedTuple):
+    """Where a graph file is refused: the line and the column of a word, from 1, how many characters it has on that line,
+    and why. A column counts characters.
+
+    >>> Place(2, 1, 4, "there is no key `valu`").line
+    2
+    """
+
+    line: int
+    column: int
+    length: int
+    why: str
 
 
 def version() -> int:
@@ -29,6 +43,26 @@ def where(file: Lent, path: str) -> str:
         if answer.output_len <= room:
             return output.part(0, answer.output_len).decode(errors="replace")
         room = answer.output_len
+
+
+def place(file: Text) -> Optional[Place]:
+    """Where a graph file's text is refused, or nothing where it is not.
+
+    >>> magbelu.place("[[block]]")
+    Place(line=1, column=1, length=1, why='a block needs the key `name`: a text')
+    """
+    text, room = Lent(bytes_of(file)), 1024
+    while True:
+        why = Room(room)
+        found = calls().magbelu_bytes_place(text.at, text.len, why.at, why.size)
+        if found.why_len <= room:
+            break
+        room = found.why_len
+    if found.number == 0:
+        return None
+    if found.line == 0:
+        raise OutOfMemory("32 Memory")
+    return Place(found.line, found.column, found.length, why.part(0, found.why_len).decode())
 
 
 def read_file(path: Union[str, os.PathLike[str]]) -> bytes:

@@ -140,6 +140,13 @@ class Telling(Noting):
         ctypes.memmove(takes, (ctypes.c_uint64 * 2)(5, 6), 8 * room)
         return _library.RatesReply(0, 0, number, 9 * number, 7, 2)
 
+    def magbelu_bytes_place(self, file, file_len, why, room):
+        if file_len == 2:
+            return _library.PlaceReply(1, 40, 0, 0, 0, 0)
+        if room >= 2000:
+            ctypes.memmove(why, 2000 * b"-", 2000)
+        return _library.PlaceReply(1, 44, 3, 8, 6, 2000) if file_len else _library.PlaceReply(0, 0, 0, 0, 0, 0)
+
     def magbelu_bytes_firings(self, plant, firings, room):
         if self.is_balanced:
             ctypes.memmove(firings, (ctypes.c_uint32 * 3)(1, 2, 3), 4 * room)
@@ -435,6 +442,18 @@ def what_is_told_of_blocks_is_read():
     _library._loaded = library
 
 
+def places_of_faults_are_read():
+    """A reason that does not fit a first room; no fault; and a place for which memory ran out."""
+    _library._loaded = Telling()
+    assert magbelu.place("x") == (3, 8, 6, 2000 * "-") and magbelu.place("") is None
+    try:
+        magbelu.place(b"xx")
+        raise AssertionError("there is no place")
+    except magbelu.OutOfMemory as fault:
+        assert fault.number == 32
+    _library._loaded = library
+
+
 tests = [
     items_are_integers,
     bytes_are_items,
@@ -450,6 +469,7 @@ tests = [
     texts_are_no_paths,
     copies_have_plants_of_their_own,
     what_is_told_of_blocks_is_read,
+    places_of_faults_are_read,
     *([arrays_are_read] if numpy is None else [numpy_items_are_integers, numpy_numbers_are_whole, masked_items_are_none, numpy_is_read]),
 ]
 for test in tests:

@@ -197,6 +197,47 @@ static void explained(char *text, size_t text_room, char *error, size_t error_ro
     is(magbelu_explain("a", 1, NULL, 1, text, text_room, error, error_room), 1, 54, 0, error, "magbelu: refused 54 Null\n");
 }
 
+/* A file is refused at a word, as places count: lines and columns from 1, in characters. */
+static void placed_at(const void *file, size_t len, uint32_t number, size_t line, size_t column, size_t length) {
+    char why[1024];
+    const struct magbelu_fault_place got = magbelu_place(file, len, why, sizeof why);
+    must(got.status == 1 && got.number == number, "the refusal of a place");
+    must(got.line == line && got.column == column && got.length == length, "the place of a word");
+    must(got.why_len > 0 && got.why_len < sizeof why, "the length of a reason");
+}
+
+static void nowhere(struct magbelu_fault_place got, uint32_t status, uint32_t number, const char *saying) {
+    must(got.status == status && got.number == number, saying);
+    must(got.line == 0 && got.column == 0 && got.length == 0 && got.why_len == 0, saying);
+}
+
+/* The places of faults in files, in numbers. */
+static void placed(void) {
+    static const char file[] = "[[block]]", reason[] = "a block needs the key `name`: a text";
+    static const char kind[] = "[[block]]\nname = \"a\"\nkind = \"n\303\274ll\"\n";
+    static const char point[] = "block = [{ name = \"a\", kind = \"add_const\", type = \"byte\", value = 1.5 }]";
+    static const char long_text[] = "[[block]]\nname = \"\"\"a\nb\"\"\"\nkind = \"abs\"\ntype = \"byte\"\n";
+    const size_t len = sizeof file - 1, reason_len = sizeof reason - 1;
+    char why[64] = {0};
+    struct magbelu_fault_place got = magbelu_place(file, len, why, sizeof why);
+    must(got.why_len == reason_len && memcmp(why, reason, reason_len) == 0, "the reason of a fault");
+    placed_at(file, len, 42, 1, 1, 1);
+    /* A character of two bytes, a number with a point, and what goes on behind its line. */
+    placed_at(kind, sizeof kind - 1, 44, 3, 8, 6);
+    placed_at(point, sizeof point - 1, 43, 1, 67, 3);
+    placed_at(long_text, sizeof long_text - 1, 10, 2, 8, 4);
+    placed_at("a b", 3, 40, 1, 3, 1);
+    /* Without room, and with less than is needed. */
+    must(magbelu_place(file, len, NULL, 0).why_len == reason_len, "a reason without room");
+    why[0] = '-';
+    must(magbelu_place(file, len, why, reason_len - 1).why_len == reason_len && why[0] == '-', "a reason that does not fit was written");
+    /* Files that are not refused, and NULL. */
+    nowhere(magbelu_place(chain, sizeof chain - 1, why, sizeof why), 0, 0, "no place");
+    nowhere(magbelu_place(NULL, 0, NULL, 0), 0, 0, "no place in no file");
+    nowhere(magbelu_place(NULL, 1, why, sizeof why), 1, 54, "no file");
+    nowhere(magbelu_place(file, len, NULL, 1), 1, 54, "no room");
+}
+
 static void wrong(void) {
     static const char null_line[] = "magbelu: refused 54 Null\n";
     static const char bad_line[] = "close src\nfeed src 1\nnonsense\nclose src\n";
@@ -229,6 +270,7 @@ static void wrong(void) {
     must(memcmp(text, "refused 20\nrefused 21\nrefused 24\nrefused 22\nrefused 28\n", 55) == 0, "refusals as replies");
 
     explained(text, sizeof text, error, sizeof error);
+    placed();
 
     /* Tables. */
     is(magbelu_run_items(chain, len, 0, &input, 1, &output, 1, lens, 1, text, sizeof text, error, sizeof error), 1, 53, 0, error,

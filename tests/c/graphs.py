@@ -291,6 +291,21 @@ def places_of_faults_are_shown():
         assert error.place == "" and "\n" not in str(error) and error.reason and str(error).endswith(": " + error.reason), error
 
 
+def places_of_faults_are_told():
+    """Lines and columns count from 1, in characters."""
+    assert magbelu.place("[[block]]") == (1, 1, 1, "a block needs the key `name`: a text")
+    for text, place in [
+        ('[[block]]\nname = "a"\nkind = "nüll"\n', (3, 8, 6)),
+        ('block = [{ name = "a", kind = "add_const", type = "byte", value = 1.5 }]', (1, 67, 3)),
+        ('[[block]]\nname = """a\nb"""\nkind = "abs"\ntype = "byte"\n', (2, 8, 4)),
+        ("a b", (1, 3, 1)),
+        (b"a = 1\n\xff", (2, 1, 1)),
+    ]:
+        found = magbelu.place(text)
+        assert found[:3] == place and found.why, (text, found)
+    assert magbelu.place(magbelu.EXAMPLE) is None and magbelu.place("") is None
+
+
 def late_settings_tell_what_is_open():
     graph = chain("byte")
     graph.feed("src", [1, 2, 3, 4])
@@ -493,6 +508,7 @@ tests = [
     what_is_wrong_is_refused,
     nothing_is_cut,
     places_of_faults_are_shown,
+    places_of_faults_are_told,
     late_settings_tell_what_is_open,
     paths_are_told_from_texts,
     graphs_are_drawn_as_by_flow,

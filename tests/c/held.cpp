@@ -150,6 +150,17 @@ static void places_of_faults_are_shown() {
     refuses(42, before + path + behind, [&] { magbelu::graph("[[block]]", path); });
 }
 
+static void places_of_faults_are_told() {
+    const auto got = magbelu::place("[[block]]");
+    must(got && got->line == 1 && got->column == 1 && got->length == 1, "where a file is refused");
+    must(got->why == "a block needs the key `name`: a text", "why a file is refused");
+    // A reason that does not fit a first room.
+    const auto far = magbelu::place("[[block]]\nname = \"a\"\nkind = \"qqqqqq\"\n");
+    must(far && far->line == 3 && far->column == 8 && far->length == 8, "where a kind is refused");
+    must(far->why.size() > 600 && far->why.find("there is no kind `qqqqqq`; there are: ") == 0, "a long reason");
+    must(!magbelu::place(chain_file("byte")), "a place in a file that is not refused");
+}
+
 static void graphs_are_moved_and_freed() {
     auto first = chain("byte");
     first.feed("src", {1});
@@ -298,5 +309,6 @@ int main(int, char **words) {
     settings_and_tags_come_out();
     wrong_calls_are_refused();
     places_of_faults_are_shown();
+    places_of_faults_are_told();
     graphs_are_moved_and_freed();
 }

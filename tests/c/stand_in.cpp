@@ -127,6 +127,17 @@ magbelu_answer magbelu_bytes_explain(const std::uint8_t *name, std::size_t name_
     return {1, 42, put(place, output, room), put("flow: refused 42 MissingKey block 0 name\n", error, error_room)};
 }
 
+magbelu_fault_place magbelu_bytes_place(const std::uint8_t *file, std::size_t file_len, std::uint8_t *why, std::size_t room) {
+    const std::string text = text_of(file, file_len);
+    if (text == "[[block]]") {
+        return {1, 42, 1, 1, 1, put("a block needs the key `name`: a text", why, room)};
+    }
+    if (text.find("qqqqqq") != std::string::npos) {
+        return {1, 44, 3, 8, 8, put("there is no kind `qqqqqq`; there are: " + std::string(700, '-'), why, room)};
+    }
+    return {0, 0, 0, 0, 0, 0};
+}
+
 magbelu_answer magbelu_bytes_open(magbelu_plant *held, const std::uint8_t *file, std::size_t file_len, std::uint8_t *error, std::size_t error_room) {
     const std::string text = text_of(file, file_len);
     if (text == "[[block]]") {

@@ -10,7 +10,7 @@ import tempfile
 from typing import Any, AsyncIterable, Callable, Optional, Sequence, Union
 
 from .._errors import Refused
-from .._runs import read_file
+from .._runs import place, read_file
 from .._stream import Stream
 from . import companion, edit
 from .graphs import GraphFile
@@ -43,19 +43,19 @@ def text_in(asked: dict[str, Any], key: str) -> str:
     return value
 
 
-def fault_of(refused: Refused) -> dict[str, Any]:
-    """What is wrong with a text, and at which line and column. (The library shows a place as ` --> PATH:LINE:COLUMN`, then the line, and below it `^` and why.)"""
-    place = re.match(r"\s*--> .*:(\d+):(\d+)\n", refused.place)
-    if place is None:
-        return {"line": 1, "column": 1, "says": str(refused)}
-    why = refused.place.rpartition("^ ")[2].strip()
-    return {"line": int(place[1]), "column": int(place[2]), "says": "%s\nline %s, column %s: %s" % (Exception.__str__(refused), place[1], place[2], why)}
+def fault_of(text: str, refused: Refused) -> dict[str, Any]:
+    """What is wrong with a text, and the word that the page marks."""
+    at = place(text)
+    if at is None:
+        return {"line": 1, "column": 1, "length": 1, "says": str(refused)}
+    says = "%s\nline %d, column %d: %s" % (Exception.__str__(refused), at.line, at.column, at.why)
+    return {"line": at.line, "column": at.column, "length": at.length, "says": says}
 
 
 def looked(text: str) -> dict[str, Any]:
     """The graph of a text as the page draws it, and what is wrong with it."""
     graph, refused = GraphFile.draft(text)
-    return {"graph": graph and graph.shown(), "fault": refused and fault_of(refused)}
+    return {"graph": graph and graph.shown(), "fault": refused and fault_of(text, refused)}
 
 
 class Studio:

@@ -71,18 +71,18 @@ export class Editor {
         this.changed(this.text);
     }
 
-    /** Marks the word at a line and a column, counted from 1 in characters, or nothing. */
+    /** Marks the word of a fault, by its line, column and length, counted from 1 in characters, or nothing. */
     mark(fault) {
         if (!fault) {
             this.back.textContent = this.text + "\n";
             return;
         }
         const lines = this.text.split("\n");
-        const line = lines[fault.line - 1] ?? "";
-        const before = [...line].slice(0, fault.column - 1).join("");
-        const start = lines.slice(0, fault.line - 1).join("\n").length + (fault.line > 1 ? 1 : 0) + before.length;
-        const word = this.text.slice(start).match(/^("[^"\n]*"?|[\w.-]+|[^\n])/)?.[0] ?? "";
-        this.back.replaceChildren(this.text.slice(0, start), element("mark", {}, word || " "), this.text.slice(start + word.length) + "\n");
+        const line = [...(lines[fault.line - 1] ?? "")];
+        const before = [...lines.slice(0, fault.line - 1), line.slice(0, fault.column - 1).join("")].join("\n");
+        const word = line.slice(fault.column - 1, fault.column - 1 + fault.length).join("");
+        const behind = this.text.slice(before.length + word.length) + "\n";
+        this.back.replaceChildren(before, element("mark", {}, word || " "), behind);
         this.scroll();
     }
 
