@@ -4,7 +4,7 @@
 
 from __future__ import annotations
 
-from typing import Iterable, Literal, Mapping, SupportsIndex, overload
+from typing import Iterable, Literal, Mapping, NamedTuple, Optional, Sequence, SupportsIndex, Union, overload
 
 #: A type of items, the order of bits in an item, and which tags a block passes on.
 Type = Literal["byte", "short", "int"]
@@ -14,467 +14,564 @@ Policy = Literal["all", "one", "none"]
 Number = SupportsIndex
 Numbers = Iterable[SupportsIndex]
 
-#: What `flow kinds` prints of each kind, by its name.
-KINDS: Mapping[str, str] = {
-    "vector_source": (
-        "vector_source: the items that it is fed\n"
-        "    type: \"byte\", \"short\" or \"int\"\n"
-    ),
-    "vector_sink": (
-        "vector_sink: keeps its input\n"
-        "    type: \"byte\", \"short\" or \"int\"\n"
-    ),
-    "null_sink": (
-        "null_sink: drops its input\n"
-        "    type: \"byte\", \"short\" or \"int\"\n"
-    ),
-    "add_const": (
-        "add_const: x[n] + c(n), wrapped\n"
-        "    type: \"byte\", \"short\" or \"int\"\n"
-        "    value: a number of the type, may be set\n"
-        "    rate: 1 for 1\n"
-        "    example: bytes, 10: 250 1 gives 4 11\n"
-    ),
-    "multiply_const": (
-        "multiply_const: x[n] * c(n), wrapped\n"
-        "    type: \"byte\", \"short\" or \"int\"\n"
-        "    value: a number of the type, may be set\n"
-        "    rate: 1 for 1\n"
-        "    example: bytes, 3: 100 gives 44\n"
-    ),
-    "divide_const": (
-        "divide_const: x[n] / c(n) without what is behind the point, wrapped, and 0 where c(n) is 0\n"
-        "    type: \"byte\", \"short\" or \"int\"\n"
-        "    value: a number of the type, may be set\n"
-        "    rate: 1 for 1\n"
-        "    example: shorts, -2: 7 -7 -32768 gives -3 3 16384\n"
-    ),
-    "and_const": (
-        "and_const: the bits that x[n] and c(n) both have\n"
-        "    type: \"byte\", \"short\" or \"int\"\n"
-        "    value: a number of the type, may be set\n"
-        "    rate: 1 for 1\n"
-        "    example: bytes, 12: 10 gives 8\n"
-    ),
-    "or_const": (
-        "or_const: the bits that x[n] or c(n) has\n"
-        "    type: \"byte\", \"short\" or \"int\"\n"
-        "    value: a number of the type, may be set\n"
-        "    rate: 1 for 1\n"
-        "    example: bytes, 12: 10 gives 14\n"
-    ),
-    "xor_const": (
-        "xor_const: the bits that one of x[n] and c(n) has\n"
-        "    type: \"byte\", \"short\" or \"int\"\n"
-        "    value: a number of the type, may be set\n"
-        "    rate: 1 for 1\n"
-        "    example: bytes, 12: 10 gives 6\n"
-    ),
-    "scale": (
-        "scale: x[n] * c(n) / 2^shift, to the nearest whole number (ties round up), then to the nearest in the type's range\n"
-        "    type: \"byte\", \"short\" or \"int\"\n"
-        "    factor: -32768 to 32767, may be set\n"
-        "    shift: 0 to 31, 0 where it is missing\n"
-        "    rate: 1 for 1\n"
-        "    example: shorts, 3, 1: 1 -1 30000 gives 2 -1 32767\n"
-    ),
-    "clip": (
-        "clip: the number from low to high that is nearest to x[n]\n"
-        "    type: \"byte\", \"short\" or \"int\"\n"
-        "    low: a number of the type\n"
-        "    high: a number of the type, at least `low`\n"
-        "    rate: 1 for 1\n"
-        "    example: shorts, -5, 9: -30 7 30 gives -5 7 9\n"
-    ),
-    "abs": (
-        "abs: x[n] without its sign, wrapped\n"
-        "    type: \"byte\", \"short\" or \"int\"\n"
-        "    rate: 1 for 1\n"
-        "    example: shorts: -5 7 -32768 gives 5 7 -32768\n"
-    ),
-    "not": (
-        "not: x[n] with all bits inverted\n"
-        "    type: \"byte\", \"short\" or \"int\"\n"
-        "    rate: 1 for 1\n"
-        "    example: bytes: 0 gives 255\n"
-    ),
-    "mute": (
-        "mute: 0 while c(n) is 1, and x[n] while it is 0\n"
-        "    type: \"byte\", \"short\" or \"int\"\n"
-        "    on: 0 or 1, may be set\n"
-        "    rate: 1 for 1\n"
-        "    example: 1: 7 8 gives 0 0\n"
-    ),
-    "add": (
-        "add: the sum of the items of its 1 to 16 inputs, wrapped\n"
-        "    type: \"byte\", \"short\" or \"int\"\n"
-        "    rate: 1 for 1 of each input\n"
-        "    example: bytes: 1 2 and 10 20 give 11 22\n"
-    ),
-    "sub": (
-        "sub: the items of the first of its 1 to 16 inputs less those of the others, wrapped, and of one input their negative\n"
-        "    type: \"byte\", \"short\" or \"int\"\n"
-        "    rate: 1 for 1 of each input\n"
-        "    example: bytes: 10 1 and 3 2 give 7 255\n"
-    ),
-    "multiply": (
-        "multiply: the product of the items of its 1 to 16 inputs, wrapped\n"
-        "    type: \"byte\", \"short\" or \"int\"\n"
-        "    rate: 1 for 1 of each input\n"
-        "    example: bytes: 3 100 and 2 3 give 6 44\n"
-    ),
-    "divide": (
-        "divide: the items of the first of its 1 to 16 inputs over those of the others in turn, each without what is behind the point, wrapped, and 0 over 0\n"
-        "    type: \"byte\", \"short\" or \"int\"\n"
-        "    rate: 1 for 1 of each input\n"
-        "    example: shorts: 7 -7 5 and 2 2 0 give 3 -3 0\n"
-    ),
-    "minimum": (
-        "minimum: the least of the items of its 1 to 16 inputs\n"
-        "    type: \"byte\", \"short\" or \"int\"\n"
-        "    rate: 1 for 1 of each input\n"
-        "    example: shorts: 3 -9 and 2 5 give 2 -9\n"
-    ),
-    "maximum": (
-        "maximum: the greatest of the items of its 1 to 16 inputs\n"
-        "    type: \"byte\", \"short\" or \"int\"\n"
-        "    rate: 1 for 1 of each input\n"
-        "    example: shorts: 3 -9 and 2 5 give 3 5\n"
-    ),
-    "and": (
-        "and: the bits that all items of its 1 to 16 inputs have\n"
-        "    type: \"byte\", \"short\" or \"int\"\n"
-        "    rate: 1 for 1 of each input\n"
-        "    example: bytes: 12 and 10 give 8\n"
-    ),
-    "or": (
-        "or: the bits that any item of its 1 to 16 inputs has\n"
-        "    type: \"byte\", \"short\" or \"int\"\n"
-        "    rate: 1 for 1 of each input\n"
-        "    example: bytes: 12 and 10 give 14\n"
-    ),
-    "xor": (
-        "xor: the bits that an odd number of the items of its 1 to 16 inputs have\n"
-        "    type: \"byte\", \"short\" or \"int\"\n"
-        "    rate: 1 for 1 of each input\n"
-        "    example: bytes: 12 and 10 give 6\n"
-    ),
-    "sample_and_hold": (
-        "sample_and_hold: the item of its first input at the last place where the second is not 0, and 0 before there is one\n"
-        "    type: \"byte\", \"short\" or \"int\"\n"
-        "    rate: 1 for 1 of each input\n"
-        "    example: bytes: 7 8 9 10 and 0 1 0 255 give 0 8 8 10\n"
-    ),
-    "map_bb": (
-        "map_bb: map[x[n]], and x[n] itself behind the end of the map\n"
-        "    map: at most 256 numbers, each 0 to 255\n"
-        "    rate: 1 for 1\n"
-        "    example: 5 6: 0 1 2 255 gives 5 6 2 255\n"
-    ),
-    "table": (
-        "table: values[x[n]], and the last of them behind their end\n"
-        "    to: \"byte\", \"short\" or \"int\"\n"
-        "    values: 1 to 256 numbers of the type `to`\n"
-        "    rate: 1 for 1\n"
-        "    example: shorts, -7 9: 0 1 5 gives -7 9 9\n"
-    ),
-    "convert": (
-        "convert: the number of the type `to` with the lowest bits of x[n]\n"
-        "    type: \"byte\", \"short\" or \"int\"\n"
-        "    to: \"byte\", \"short\" or \"int\"\n"
-        "    rate: 1 for 1\n"
-        "    example: shorts to bytes: -1 256 300 gives 255 0 44\n"
-    ),
-    "binary_slicer": (
-        "binary_slicer: the byte 1 where x[n] is at least `threshold`, and 0 elsewhere\n"
-        "    type: \"byte\", \"short\" or \"int\"\n"
-        "    threshold: a number of the type\n"
-        "    rate: 1 for 1\n"
-        "    example: shorts, 0: -5 0 7 gives 0 1 1\n"
-    ),
-    "ulaw_encode": (
-        "ulaw_encode: the byte of x[n] by the mu-law of ITU-T G.711\n"
-        "    type: \"byte\", \"short\" or \"int\"\n"
-        "    rate: 1 for 1\n"
-        "    example: shorts: 0 -1 32767 gives 255 127 128\n"
-    ),
-    "alaw_encode": (
-        "alaw_encode: the byte of x[n] by the A-law of ITU-T G.711\n"
-        "    type: \"byte\", \"short\" or \"int\"\n"
-        "    rate: 1 for 1\n"
-        "    example: shorts: 0 -8 32767 gives 213 85 170\n"
-    ),
-    "moving_sum": (
-        "moving_sum: the sum of the last `length` items, wrapped\n"
-        "    type: \"byte\", \"short\" or \"int\"\n"
-        "    length: 1 to 1024\n"
-        "    rate: 1 for 1\n"
-        "    example: bytes, 3: 1 2 3 4 200 100 gives 1 3 6 9 207 48\n"
-    ),
-    "fir": (
-        "fir: the sum of h(n)[j] * x[n * decimation - j] over the taps h, over 2^shift as `scale`\n"
-        "    type: \"short\" or \"int\"\n"
-        "    taps: 1 to 256 numbers, each -32768 to 32767, may be set\n"
-        "    decimation: 1 to 1024, 1 where it is missing\n"
-        "    shift: 0 to 31, 0 where it is missing\n"
-        "    rate: 1 for `decimation`\n"
-        "    example: shorts, 1 2 3: 1 0 0 4 gives 1 2 3 4\n"
-    ),
-    "interp_fir": (
-        "interp_fir: item m * interpolation + p is the sum of h(m)[p + j * interpolation] * x[m - j], over 2^shift as `scale`\n"
-        "    type: \"short\" or \"int\"\n"
-        "    taps: 1 to 256 numbers, each -32768 to 32767, may be set\n"
-        "    interpolation: 1 to 1024, 1 where it is missing\n"
-        "    shift: 0 to 31, 0 where it is missing\n"
-        "    rate: `interpolation` for 1\n"
-        "    example: shorts, 1 2 3, 2: 10 20 gives 10 20 50 40\n"
-    ),
-    "keep_one_in_n": (
-        "keep_one_in_n: the last of each n items\n"
-        "    type: \"byte\", \"short\" or \"int\"\n"
-        "    n: 1 to 1024\n"
-        "    rate: 1 for n\n"
-        "    example: 3: 1 2 3 4 5 6 7 gives 3 6\n"
-    ),
-    "keep_m_in_n": (
-        "keep_m_in_n: the m items from `offset` on of each n\n"
-        "    type: \"byte\", \"short\" or \"int\"\n"
-        "    m: 1 to 1024\n"
-        "    n: m to 1024\n"
-        "    offset: 0 to n - m, 0 where it is missing\n"
-        "    rate: m for n\n"
-        "    example: 2, 4, 1: 1 2 3 4 5 6 7 8 gives 2 3 6 7\n"
-    ),
-    "integrate": (
-        "integrate: the sum of each n items, wrapped\n"
-        "    type: \"byte\", \"short\" or \"int\"\n"
-        "    n: 1 to 1024\n"
-        "    rate: 1 for n\n"
-        "    example: bytes, 2: 200 100 5 6 7 gives 44 11\n"
-    ),
-    "frame_minimum": (
-        "frame_minimum: the least of each n items\n"
-        "    type: \"byte\", \"short\" or \"int\"\n"
-        "    n: 1 to 1024\n"
-        "    rate: 1 for n\n"
-        "    example: shorts, 3: 4 -2 9 5 6 7 gives -2 5\n"
-    ),
-    "frame_maximum": (
-        "frame_maximum: the greatest of each n items\n"
-        "    type: \"byte\", \"short\" or \"int\"\n"
-        "    n: 1 to 1024\n"
-        "    rate: 1 for n\n"
-        "    example: shorts, 3: 4 -2 9 5 6 7 gives 9 7\n"
-    ),
-    "argmax": (
-        "argmax: the place of the first of the greatest of each n items, from 0 on, wrapped\n"
-        "    type: \"byte\", \"short\" or \"int\"\n"
-        "    n: 1 to 1024\n"
-        "    rate: 1 for n\n"
-        "    example: shorts, 3: 4 -2 9 5 8 8 gives 2 1\n"
-    ),
-    "repeat": (
-        "repeat: each item n times\n"
-        "    type: \"byte\", \"short\" or \"int\"\n"
-        "    n: 1 to 1024\n"
-        "    rate: n for 1\n"
-        "    example: 2: 1 2 gives 1 1 2 2\n"
-    ),
-    "insert": (
-        "insert: the list `values` once in each `period` items, from item `offset` of these on, and x in all other places\n"
-        "    type: \"byte\", \"short\" or \"int\"\n"
-        "    values: 1 to 256 numbers of the type\n"
-        "    period: more than there are values, and at most 1024\n"
-        "    offset: 0 to as much as `period` is more than there are values, 0 where it is missing\n"
-        "    rate: `period` for as many less than that as there are values\n"
-        "    example: 9 8, 4, 1: 1 2 3 4 gives 1 9 8 2 3 9 8 4\n"
-    ),
-    "pattern": (
-        "pattern: the list `values` again and again: its item n modulo its length, whatever x[n] is\n"
-        "    type: \"byte\", \"short\" or \"int\"\n"
-        "    values: 1 to 256 numbers of the type\n"
-        "    rate: 1 for 1\n"
-        "    example: 7 8 9: 0 0 0 0 0 gives 7 8 9 7 8\n"
-    ),
-    "counter": (
-        "counter: n modulo the parameter `n`, wrapped, whatever x[n] is\n"
-        "    type: \"byte\", \"short\" or \"int\"\n"
-        "    n: 1 to 2147483648\n"
-        "    rate: 1 for 1\n"
-        "    example: 3: 0 0 0 0 0 gives 0 1 2 0 1\n"
-    ),
-    "permute": (
-        "permute: item order[j] of each frame at its place j, where a frame has as many items as the order\n"
-        "    type: \"byte\", \"short\" or \"int\"\n"
-        "    order: the numbers 0 to n - 1 in any order, n from 1 to 256\n"
-        "    rate: as many as the order has for as many\n"
-        "    example: 2 0 1: 1 2 3 4 5 6 gives 3 1 2 6 4 5\n"
-    ),
-    "interleave": (
-        "interleave: an item of each input in turn\n"
-        "    type: \"byte\", \"short\" or \"int\"\n"
-        "    ports: 1 to 16\n"
-        "    rate: `ports` for 1 of each input\n"
-        "    example: 2: 1 2 3 and 10 20 give 1 10 2 20\n"
-    ),
-    "deinterleave": (
-        "deinterleave: an item to each output in turn\n"
-        "    type: \"byte\", \"short\" or \"int\"\n"
-        "    ports: 1 to 16\n"
-        "    rate: 1 to each output for `ports`\n"
-        "    example: 3: 1 2 3 4 5 6 7 gives 1 4, 2 5 and 3 6\n"
-    ),
-    "stream_mux": (
-        "stream_mux: so many items of each input in turn as `lengths` says\n"
-        "    type: \"byte\", \"short\" or \"int\"\n"
-        "    lengths: 1 to 16 numbers, each 1 to 1024, at most 1024 together\n"
-        "    rate: whole rounds\n"
-        "    example: 2 1: 1 2 3 4 5 and 10 20 30 give 1 2 10 3 4 20\n"
-    ),
-    "head": (
-        "head: the first n items, and then it is done\n"
-        "    type: \"byte\", \"short\" or \"int\"\n"
-        "    n: 0 to 4294967296\n"
-        "    rate: 1 for 1\n"
-        "    example: 3: 1 2 3 4 gives 1 2 3\n"
-    ),
-    "skiphead": (
-        "skiphead: all items but the first n\n"
-        "    type: \"byte\", \"short\" or \"int\"\n"
-        "    n: 0 to 4294967296\n"
-        "    rate: 1 for 1\n"
-        "    example: 2: 7 8 9 gives 9\n"
-    ),
-    "delay": (
-        "delay: n zeros, and then the input\n"
-        "    type: \"byte\", \"short\" or \"int\"\n"
-        "    n: 0 to 65536\n"
-        "    rate: 1 for 1\n"
-        "    example: 2: 7 8 gives 0 0 7 8\n"
-    ),
-    "pack_k_bits": (
-        "pack_k_bits: the lowest bits of k bytes as one byte, the first the highest\n"
-        "    k: 1 to 8\n"
-        "    rate: 1 for k\n"
-        "    example: 4: 0 1 0 1 129 0 0 0 gives 5 8\n"
-    ),
-    "unpack_k_bits": (
-        "unpack_k_bits: the k lowest bits of each byte, a byte each, the highest first\n"
-        "    k: 1 to 8\n"
-        "    rate: k for 1\n"
-        "    example: 4: 245 8 gives 0 1 0 1 1 0 0 0\n"
-    ),
-    "repack_bits": (
-        "repack_bits: the k lowest bits of each byte, one after the other, in bytes of l bits\n"
-        "    order: \"msb_first\" or \"lsb_first\", \"msb_first\" where it is missing\n"
-        "    k: 1 to 8\n"
-        "    l: 1 to 8\n"
-        "    rate: whole rounds\n"
-        "    example: msb_first, 4, 8: 5 8 gives 88\n"
-    ),
-    "packed_to_unpacked": (
-        "packed_to_unpacked: all bits of each item, one after the other, in items of `bits` bits\n"
-        "    type: \"byte\", \"short\" or \"int\"\n"
-        "    order: \"msb_first\" or \"lsb_first\", \"msb_first\" where it is missing\n"
-        "    bits: 1 to the bits of an item: 8, 16 or 32\n"
-        "    rate: whole rounds\n"
-        "    example: bytes, msb_first, 4: 88 gives 5 8\n"
-    ),
-    "unpacked_to_packed": (
-        "unpacked_to_packed: the `bits` lowest bits of each item, one after the other, in whole items\n"
-        "    type: \"byte\", \"short\" or \"int\"\n"
-        "    order: \"msb_first\" or \"lsb_first\", \"msb_first\" where it is missing\n"
-        "    bits: 1 to the bits of an item: 8, 16 or 32\n"
-        "    rate: whole rounds\n"
-        "    example: bytes, msb_first, 4: 5 8 gives 88\n"
-    ),
-    "diff_encoder": (
-        "diff_encoder: the sum of all items so far, modulo `modulus`\n"
-        "    modulus: 2 to 256\n"
-        "    rate: 1 for 1\n"
-        "    example: 4: 1 2 3 1 gives 1 3 2 3\n"
-    ),
-    "diff_decoder": (
-        "diff_decoder: x[n] - x[n-1], modulo `modulus`\n"
-        "    modulus: 2 to 256\n"
-        "    rate: 1 for 1\n"
-        "    example: 4: 1 3 2 3 gives 1 2 3 1\n"
-    ),
-    "scrambler": (
-        "scrambler: y[n] = x[n] + the sum of m(j) * y[n-j], modulo 2\n"
-        "    bits: 2 to 32\n"
-        "    mask: 1 to 2^bits - 1\n"
-        "    init: 0 to 2^bits - 1\n"
-        "    rate: 1 for 1\n"
-        "    example: 3, 5, 1: 1 0 0 1 gives 0 0 1 0\n"
-    ),
-    "descrambler": (
-        "descrambler: x[n] + the sum of m(j) * x[n-j], modulo 2\n"
-        "    bits: 2 to 32\n"
-        "    mask: 1 to 2^bits - 1\n"
-        "    init: 0 to 2^bits - 1\n"
-        "    rate: 1 for 1\n"
-        "    example: 3, 5, 1: 0 0 1 0 gives 1 0 0 1\n"
-    ),
-    "additive_scrambler": (
-        "additive_scrambler: x[n] + s[n], where s[n] is the sum of m(j) * s[n-j], modulo 2\n"
-        "    bits: 2 to 32\n"
-        "    mask: 1 to 2^bits - 1\n"
-        "    init: 0 to 2^bits - 1\n"
-        "    rate: 1 for 1\n"
-        "    example: 3, 5, 1: 0 0 0 0 gives 1 1 0 1\n"
-    ),
-    "correlate_access_code": (
-        "correlate_access_code: bit 0 of x[n-64], and 2 more at the first item behind a `code`, where at most `threshold` bits differ\n"
-        "    code: a text of 1 to 64 digits 0 and 1\n"
-        "    threshold: 0 to as many as `code` has digits\n"
-        "    rate: 1 for 1\n"
-    ),
-    "crc_append": (
-        "crc_append: each `n` items, and then their checksum\n"
-        "    order: \"msb_first\" or \"lsb_first\", \"msb_first\" where it is missing\n"
-        "    bits: 8 to 32\n"
-        "    polynomial: 0 to 2^bits - 1\n"
-        "    init: 0 to 2^bits - 1\n"
-        "    final_xor: 0 to 2^bits - 1\n"
-        "    n: 1 to 1020\n"
-        "    rate: n + its bytes for n\n"
-        "    example: msb_first, 8, 7, 0, 0, 1: 1 2 gives 1 7 2 14\n"
-    ),
-    "crc_check": (
-        "crc_check: 1 for each `n` items with their checksum behind them, and 0 for each with another\n"
-        "    order: \"msb_first\" or \"lsb_first\", \"msb_first\" where it is missing\n"
-        "    bits: 8 to 32\n"
-        "    polynomial: 0 to 2^bits - 1\n"
-        "    init: 0 to 2^bits - 1\n"
-        "    final_xor: 0 to 2^bits - 1\n"
-        "    n: 1 to 1020\n"
-        "    rate: 1 for n + its bytes\n"
-        "    example: msb_first, 8, 7, 0, 0, 1: 1 7 2 7 gives 1 0\n"
-    ),
-    "state_machine": (
-        "state_machine: output[r], where r is s * symbols + x[n] modulo symbols, and the state s, `init` at first, is next[r] from then on\n"
-        "    symbols: 1 to 4096\n"
-        "    next: 1 to 4096 numbers of states, `symbols` of them for each state\n"
-        "    output: as many numbers as `next`, each 0 to 255\n"
-        "    init: the number of a state, of which `next` has `symbols` for each\n"
-        "    rate: 1 for 1\n"
-        "    example: 2, 0 2 0 2 1 3 1 3, 0 3 3 0 1 2 2 1, 0: 1 0 1 1 0 0 gives 3 1 0 2 2 3\n"
-    ),
-    "viterbi": (
-        "viterbi: of each block, the symbols r modulo symbols of the path of rows r that lead by next[r] from state r / symbols on, for which the sum of x[outputs * i + output[r]] over steps i is the least\n"
-        "    type: \"byte\", \"short\" or \"int\"\n"
-        "    symbols: 1 to 256\n"
-        "    next: 1 to 4096 numbers of states, `symbols` of them for each of at most 1024 states\n"
-        "    outputs: 1 to 1024\n"
-        "    output: as many numbers as `next`, each 0 to less than `outputs`\n"
-        "    steps: 1 to as many that steps * outputs is at most 1024, and steps times the number of states at most 16384\n"
-        "    start: the number of a state, of which `next` has `symbols` for each, or less than 0 where none is known, -1 where it is missing\n"
-        "    end: the number of a state, of which `next` has `symbols` for each, or less than 0 where none is known, -1 where it is missing\n"
-        "    rate: steps for steps * outputs\n"
-        "    example: byte, 2, 0 2 0 2 1 3 1 3, 4, 0 3 3 0 1 2 2 1, 3, 0, -1: 2 1 1 0 1 0 2 1 0 1 1 2 gives 1 0 1\n"
+
+class Kind(NamedTuple):
+    """A kind of blocks: what it gives, the types that a block may have, what each parameter may be, how many items it
+    gives for how many, an example, the parameter that may be set while it runs, and values for those that a block needs,
+    whatever its type."""
+
+    name: str
+    equation: str
+    types: Sequence[str]
+    parameters: Mapping[str, str]
+    rate: str
+    example: str
+    setting: Optional[str]
+    least: Mapping[str, Union[int, str, list[int]]]
+
+    @property
+    def page(self) -> str:
+        """What `flow kinds` prints of it."""
+        rows = [*self.parameters.items(), ("rate", self.rate), ("example", self.example)]
+        return "".join(["%s: %s\n" % (self.name, self.equation), *("    %s: %s\n" % row for row in rows if row[1])])
+
+
+#: The kinds by their names, in the order of `flow kinds`.
+KIND_ROWS: Mapping[str, Kind] = {
+    "vector_source": Kind(
+        "vector_source", "the items that it is fed", ("byte", "short", "int"),
+        {
+            "type": "\"byte\", \"short\" or \"int\"",
+        },
+        "", "", None, {},
+    ),
+    "vector_sink": Kind(
+        "vector_sink", "keeps its input", ("byte", "short", "int"),
+        {
+            "type": "\"byte\", \"short\" or \"int\"",
+        },
+        "", "", None, {},
+    ),
+    "null_sink": Kind(
+        "null_sink", "drops its input", ("byte", "short", "int"),
+        {
+            "type": "\"byte\", \"short\" or \"int\"",
+        },
+        "", "", None, {},
+    ),
+    "add_const": Kind(
+        "add_const", "x[n] + c(n), wrapped", ("byte", "short", "int"),
+        {
+            "type": "\"byte\", \"short\" or \"int\"",
+            "value": "a number of the type, may be set",
+        },
+        "1 for 1", "bytes, 10: 250 1 gives 4 11", "value", {"value": 1},
+    ),
+    "multiply_const": Kind(
+        "multiply_const", "x[n] * c(n), wrapped", ("byte", "short", "int"),
+        {
+            "type": "\"byte\", \"short\" or \"int\"",
+            "value": "a number of the type, may be set",
+        },
+        "1 for 1", "bytes, 3: 100 gives 44", "value", {"value": 1},
+    ),
+    "divide_const": Kind(
+        "divide_const", "x[n] / c(n) without what is behind the point, wrapped, and 0 where c(n) is 0", ("byte", "short", "int"),
+        {
+            "type": "\"byte\", \"short\" or \"int\"",
+            "value": "a number of the type, may be set",
+        },
+        "1 for 1", "shorts, -2: 7 -7 -32768 gives -3 3 16384", "value", {"value": 1},
+    ),
+    "and_const": Kind(
+        "and_const", "the bits that x[n] and c(n) both have", ("byte", "short", "int"),
+        {
+            "type": "\"byte\", \"short\" or \"int\"",
+            "value": "a number of the type, may be set",
+        },
+        "1 for 1", "bytes, 12: 10 gives 8", "value", {"value": 1},
+    ),
+    "or_const": Kind(
+        "or_const", "the bits that x[n] or c(n) has", ("byte", "short", "int"),
+        {
+            "type": "\"byte\", \"short\" or \"int\"",
+            "value": "a number of the type, may be set",
+        },
+        "1 for 1", "bytes, 12: 10 gives 14", "value", {"value": 1},
+    ),
+    "xor_const": Kind(
+        "xor_const", "the bits that one of x[n] and c(n) has", ("byte", "short", "int"),
+        {
+            "type": "\"byte\", \"short\" or \"int\"",
+            "value": "a number of the type, may be set",
+        },
+        "1 for 1", "bytes, 12: 10 gives 6", "value", {"value": 1},
+    ),
+    "scale": Kind(
+        "scale", "x[n] * c(n) / 2^shift, to the nearest whole number (ties round up), then to the nearest in the type's range", ("byte", "short", "int"),
+        {
+            "type": "\"byte\", \"short\" or \"int\"",
+            "factor": "-32768 to 32767, may be set",
+            "shift": "0 to 31, 0 where it is missing",
+        },
+        "1 for 1", "shorts, 3, 1: 1 -1 30000 gives 2 -1 32767", "factor", {"factor": 1},
+    ),
+    "clip": Kind(
+        "clip", "the number from low to high that is nearest to x[n]", ("byte", "short", "int"),
+        {
+            "type": "\"byte\", \"short\" or \"int\"",
+            "low": "a number of the type",
+            "high": "a number of the type, at least `low`",
+        },
+        "1 for 1", "shorts, -5, 9: -30 7 30 gives -5 7 9", None, {"low": 0, "high": 1},
+    ),
+    "abs": Kind(
+        "abs", "x[n] without its sign, wrapped", ("byte", "short", "int"),
+        {
+            "type": "\"byte\", \"short\" or \"int\"",
+        },
+        "1 for 1", "shorts: -5 7 -32768 gives 5 7 -32768", None, {},
+    ),
+    "not": Kind(
+        "not", "x[n] with all bits inverted", ("byte", "short", "int"),
+        {
+            "type": "\"byte\", \"short\" or \"int\"",
+        },
+        "1 for 1", "bytes: 0 gives 255", None, {},
+    ),
+    "mute": Kind(
+        "mute", "0 while c(n) is 1, and x[n] while it is 0", ("byte", "short", "int"),
+        {
+            "type": "\"byte\", \"short\" or \"int\"",
+            "on": "0 or 1, may be set",
+        },
+        "1 for 1", "1: 7 8 gives 0 0", "on", {"on": 1},
+    ),
+    "add": Kind(
+        "add", "the sum of the items of its 1 to 16 inputs, wrapped", ("byte", "short", "int"),
+        {
+            "type": "\"byte\", \"short\" or \"int\"",
+        },
+        "1 for 1 of each input", "bytes: 1 2 and 10 20 give 11 22", None, {},
+    ),
+    "sub": Kind(
+        "sub", "the items of the first of its 1 to 16 inputs less those of the others, wrapped, and of one input their negative", ("byte", "short", "int"),
+        {
+            "type": "\"byte\", \"short\" or \"int\"",
+        },
+        "1 for 1 of each input", "bytes: 10 1 and 3 2 give 7 255", None, {},
+    ),
+    "multiply": Kind(
+        "multiply", "the product of the items of its 1 to 16 inputs, wrapped", ("byte", "short", "int"),
+        {
+            "type": "\"byte\", \"short\" or \"int\"",
+        },
+        "1 for 1 of each input", "bytes: 3 100 and 2 3 give 6 44", None, {},
+    ),
+    "divide": Kind(
+        "divide", "the items of the first of its 1 to 16 inputs over those of the others in turn, each without what is behind the point, wrapped, and 0 over 0", ("byte", "short", "int"),
+        {
+            "type": "\"byte\", \"short\" or \"int\"",
+        },
+        "1 for 1 of each input", "shorts: 7 -7 5 and 2 2 0 give 3 -3 0", None, {},
+    ),
+    "minimum": Kind(
+        "minimum", "the least of the items of its 1 to 16 inputs", ("byte", "short", "int"),
+        {
+            "type": "\"byte\", \"short\" or \"int\"",
+        },
+        "1 for 1 of each input", "shorts: 3 -9 and 2 5 give 2 -9", None, {},
+    ),
+    "maximum": Kind(
+        "maximum", "the greatest of the items of its 1 to 16 inputs", ("byte", "short", "int"),
+        {
+            "type": "\"byte\", \"short\" or \"int\"",
+        },
+        "1 for 1 of each input", "shorts: 3 -9 and 2 5 give 3 5", None, {},
+    ),
+    "and": Kind(
+        "and", "the bits that all items of its 1 to 16 inputs have", ("byte", "short", "int"),
+        {
+            "type": "\"byte\", \"short\" or \"int\"",
+        },
+        "1 for 1 of each input", "bytes: 12 and 10 give 8", None, {},
+    ),
+    "or": Kind(
+        "or", "the bits that any item of its 1 to 16 inputs has", ("byte", "short", "int"),
+        {
+            "type": "\"byte\", \"short\" or \"int\"",
+        },
+        "1 for 1 of each input", "bytes: 12 and 10 give 14", None, {},
+    ),
+    "xor": Kind(
+        "xor", "the bits that an odd number of the items of its 1 to 16 inputs have", ("byte", "short", "int"),
+        {
+            "type": "\"byte\", \"short\" or \"int\"",
+        },
+        "1 for 1 of each input", "bytes: 12 and 10 give 6", None, {},
+    ),
+    "sample_and_hold": Kind(
+        "sample_and_hold", "the item of its first input at the last place where the second is not 0, and 0 before there is one", ("byte", "short", "int"),
+        {
+            "type": "\"byte\", \"short\" or \"int\"",
+        },
+        "1 for 1 of each input", "bytes: 7 8 9 10 and 0 1 0 255 give 0 8 8 10", None, {},
+    ),
+    "map_bb": Kind(
+        "map_bb", "map[x[n]], and x[n] itself behind the end of the map", (),
+        {
+            "map": "at most 256 numbers, each 0 to 255",
+        },
+        "1 for 1", "5 6: 0 1 2 255 gives 5 6 2 255", None, {"map": [1]},
+    ),
+    "table": Kind(
+        "table", "values[x[n]], and the last of them behind their end", (),
+        {
+            "to": "\"byte\", \"short\" or \"int\"",
+            "values": "1 to 256 numbers of the type `to`",
+        },
+        "1 for 1", "shorts, -7 9: 0 1 5 gives -7 9 9", None, {"to": "short", "values": [1]},
+    ),
+    "convert": Kind(
+        "convert", "the number of the type `to` with the lowest bits of x[n]", ("byte", "short", "int"),
+        {
+            "type": "\"byte\", \"short\" or \"int\"",
+            "to": "\"byte\", \"short\" or \"int\"",
+        },
+        "1 for 1", "shorts to bytes: -1 256 300 gives 255 0 44", None, {"to": "short"},
+    ),
+    "binary_slicer": Kind(
+        "binary_slicer", "the byte 1 where x[n] is at least `threshold`, and 0 elsewhere", ("byte", "short", "int"),
+        {
+            "type": "\"byte\", \"short\" or \"int\"",
+            "threshold": "a number of the type",
+        },
+        "1 for 1", "shorts, 0: -5 0 7 gives 0 1 1", None, {"threshold": 0},
+    ),
+    "ulaw_encode": Kind(
+        "ulaw_encode", "the byte of x[n] by the mu-law of ITU-T G.711", ("byte", "short", "int"),
+        {
+            "type": "\"byte\", \"short\" or \"int\"",
+        },
+        "1 for 1", "shorts: 0 -1 32767 gives 255 127 128", None, {},
+    ),
+    "alaw_encode": Kind(
+        "alaw_encode", "the byte of x[n] by the A-law of ITU-T G.711", ("byte", "short", "int"),
+        {
+            "type": "\"byte\", \"short\" or \"int\"",
+        },
+        "1 for 1", "shorts: 0 -8 32767 gives 213 85 170", None, {},
+    ),
+    "moving_sum": Kind(
+        "moving_sum", "the sum of the last `length` items, wrapped", ("byte", "short", "int"),
+        {
+            "type": "\"byte\", \"short\" or \"int\"",
+            "length": "1 to 1024",
+        },
+        "1 for 1", "bytes, 3: 1 2 3 4 200 100 gives 1 3 6 9 207 48", None, {"length": 1},
+    ),
+    "fir": Kind(
+        "fir", "the sum of h(n)[j] * x[n * decimation - j] over the taps h, over 2^shift as `scale`", ("short", "int"),
+        {
+            "type": "\"short\" or \"int\"",
+            "taps": "1 to 256 numbers, each -32768 to 32767, may be set",
+            "decimation": "1 to 1024, 1 where it is missing",
+            "shift": "0 to 31, 0 where it is missing",
+        },
+        "1 for `decimation`", "shorts, 1 2 3: 1 0 0 4 gives 1 2 3 4", "taps", {"taps": [1]},
+    ),
+    "interp_fir": Kind(
+        "interp_fir", "item m * interpolation + p is the sum of h(m)[p + j * interpolation] * x[m - j], over 2^shift as `scale`", ("short", "int"),
+        {
+            "type": "\"short\" or \"int\"",
+            "taps": "1 to 256 numbers, each -32768 to 32767, may be set",
+            "interpolation": "1 to 1024, 1 where it is missing",
+            "shift": "0 to 31, 0 where it is missing",
+        },
+        "`interpolation` for 1", "shorts, 1 2 3, 2: 10 20 gives 10 20 50 40", "taps", {"taps": [1]},
+    ),
+    "keep_one_in_n": Kind(
+        "keep_one_in_n", "the last of each n items", ("byte", "short", "int"),
+        {
+            "type": "\"byte\", \"short\" or \"int\"",
+            "n": "1 to 1024",
+        },
+        "1 for n", "3: 1 2 3 4 5 6 7 gives 3 6", None, {"n": 1},
+    ),
+    "keep_m_in_n": Kind(
+        "keep_m_in_n", "the m items from `offset` on of each n", ("byte", "short", "int"),
+        {
+            "type": "\"byte\", \"short\" or \"int\"",
+            "m": "1 to 1024",
+            "n": "m to 1024",
+            "offset": "0 to n - m, 0 where it is missing",
+        },
+        "m for n", "2, 4, 1: 1 2 3 4 5 6 7 8 gives 2 3 6 7", None, {"m": 1, "n": 1},
+    ),
+    "integrate": Kind(
+        "integrate", "the sum of each n items, wrapped", ("byte", "short", "int"),
+        {
+            "type": "\"byte\", \"short\" or \"int\"",
+            "n": "1 to 1024",
+        },
+        "1 for n", "bytes, 2: 200 100 5 6 7 gives 44 11", None, {"n": 1},
+    ),
+    "frame_minimum": Kind(
+        "frame_minimum", "the least of each n items", ("byte", "short", "int"),
+        {
+            "type": "\"byte\", \"short\" or \"int\"",
+            "n": "1 to 1024",
+        },
+        "1 for n", "shorts, 3: 4 -2 9 5 6 7 gives -2 5", None, {"n": 1},
+    ),
+    "frame_maximum": Kind(
+        "frame_maximum", "the greatest of each n items", ("byte", "short", "int"),
+        {
+            "type": "\"byte\", \"short\" or \"int\"",
+            "n": "1 to 1024",
+        },
+        "1 for n", "shorts, 3: 4 -2 9 5 6 7 gives 9 7", None, {"n": 1},
+    ),
+    "argmax": Kind(
+        "argmax", "the place of the first of the greatest of each n items, from 0 on, wrapped", ("byte", "short", "int"),
+        {
+            "type": "\"byte\", \"short\" or \"int\"",
+            "n": "1 to 1024",
+        },
+        "1 for n", "shorts, 3: 4 -2 9 5 8 8 gives 2 1", None, {"n": 1},
+    ),
+    "repeat": Kind(
+        "repeat", "each item n times", ("byte", "short", "int"),
+        {
+            "type": "\"byte\", \"short\" or \"int\"",
+            "n": "1 to 1024",
+        },
+        "n for 1", "2: 1 2 gives 1 1 2 2", None, {"n": 1},
+    ),
+    "insert": Kind(
+        "insert", "the list `values` once in each `period` items, from item `offset` of these on, and x in all other places", ("byte", "short", "int"),
+        {
+            "type": "\"byte\", \"short\" or \"int\"",
+            "values": "1 to 256 numbers of the type",
+            "period": "more than there are values, and at most 1024",
+            "offset": "0 to as much as `period` is more than there are values, 0 where it is missing",
+        },
+        "`period` for as many less than that as there are values", "9 8, 4, 1: 1 2 3 4 gives 1 9 8 2 3 9 8 4", None, {"values": [1], "period": 2},
+    ),
+    "pattern": Kind(
+        "pattern", "the list `values` again and again: its item n modulo its length, whatever x[n] is", ("byte", "short", "int"),
+        {
+            "type": "\"byte\", \"short\" or \"int\"",
+            "values": "1 to 256 numbers of the type",
+        },
+        "1 for 1", "7 8 9: 0 0 0 0 0 gives 7 8 9 7 8", None, {"values": [1]},
+    ),
+    "counter": Kind(
+        "counter", "n modulo the parameter `n`, wrapped, whatever x[n] is", ("byte", "short", "int"),
+        {
+            "type": "\"byte\", \"short\" or \"int\"",
+            "n": "1 to 2147483648",
+        },
+        "1 for 1", "3: 0 0 0 0 0 gives 0 1 2 0 1", None, {"n": 1},
+    ),
+    "permute": Kind(
+        "permute", "item order[j] of each frame at its place j, where a frame has as many items as the order", ("byte", "short", "int"),
+        {
+            "type": "\"byte\", \"short\" or \"int\"",
+            "order": "the numbers 0 to n - 1 in any order, n from 1 to 256",
+        },
+        "as many as the order has for as many", "2 0 1: 1 2 3 4 5 6 gives 3 1 2 6 4 5", None, {"order": [0]},
+    ),
+    "interleave": Kind(
+        "interleave", "an item of each input in turn", ("byte", "short", "int"),
+        {
+            "type": "\"byte\", \"short\" or \"int\"",
+            "ports": "1 to 16",
+        },
+        "`ports` for 1 of each input", "2: 1 2 3 and 10 20 give 1 10 2 20", None, {"ports": 1},
+    ),
+    "deinterleave": Kind(
+        "deinterleave", "an item to each output in turn", ("byte", "short", "int"),
+        {
+            "type": "\"byte\", \"short\" or \"int\"",
+            "ports": "1 to 16",
+        },
+        "1 to each output for `ports`", "3: 1 2 3 4 5 6 7 gives 1 4, 2 5 and 3 6", None, {"ports": 1},
+    ),
+    "stream_mux": Kind(
+        "stream_mux", "so many items of each input in turn as `lengths` says", ("byte", "short", "int"),
+        {
+            "type": "\"byte\", \"short\" or \"int\"",
+            "lengths": "1 to 16 numbers, each 1 to 1024, at most 1024 together",
+        },
+        "whole rounds", "2 1: 1 2 3 4 5 and 10 20 30 give 1 2 10 3 4 20", None, {"lengths": [1]},
+    ),
+    "head": Kind(
+        "head", "the first n items, and then it is done", ("byte", "short", "int"),
+        {
+            "type": "\"byte\", \"short\" or \"int\"",
+            "n": "0 to 4294967296",
+        },
+        "1 for 1", "3: 1 2 3 4 gives 1 2 3", None, {"n": 1},
+    ),
+    "skiphead": Kind(
+        "skiphead", "all items but the first n", ("byte", "short", "int"),
+        {
+            "type": "\"byte\", \"short\" or \"int\"",
+            "n": "0 to 4294967296",
+        },
+        "1 for 1", "2: 7 8 9 gives 9", None, {"n": 1},
+    ),
+    "delay": Kind(
+        "delay", "n zeros, and then the input", ("byte", "short", "int"),
+        {
+            "type": "\"byte\", \"short\" or \"int\"",
+            "n": "0 to 65536",
+        },
+        "1 for 1", "2: 7 8 gives 0 0 7 8", None, {"n": 1},
+    ),
+    "pack_k_bits": Kind(
+        "pack_k_bits", "the lowest bits of k bytes as one byte, the first the highest", (),
+        {
+            "k": "1 to 8",
+        },
+        "1 for k", "4: 0 1 0 1 129 0 0 0 gives 5 8", None, {"k": 1},
+    ),
+    "unpack_k_bits": Kind(
+        "unpack_k_bits", "the k lowest bits of each byte, a byte each, the highest first", (),
+        {
+            "k": "1 to 8",
+        },
+        "k for 1", "4: 245 8 gives 0 1 0 1 1 0 0 0", None, {"k": 1},
+    ),
+    "repack_bits": Kind(
+        "repack_bits", "the k lowest bits of each byte, one after the other, in bytes of l bits", (),
+        {
+            "order": "\"msb_first\" or \"lsb_first\", \"msb_first\" where it is missing",
+            "k": "1 to 8",
+            "l": "1 to 8",
+        },
+        "whole rounds", "msb_first, 4, 8: 5 8 gives 88", None, {"k": 1, "l": 1},
+    ),
+    "packed_to_unpacked": Kind(
+        "packed_to_unpacked", "all bits of each item, one after the other, in items of `bits` bits", ("byte", "short", "int"),
+        {
+            "type": "\"byte\", \"short\" or \"int\"",
+            "order": "\"msb_first\" or \"lsb_first\", \"msb_first\" where it is missing",
+            "bits": "1 to the bits of an item: 8, 16 or 32",
+        },
+        "whole rounds", "bytes, msb_first, 4: 88 gives 5 8", None, {"bits": 1},
+    ),
+    "unpacked_to_packed": Kind(
+        "unpacked_to_packed", "the `bits` lowest bits of each item, one after the other, in whole items", ("byte", "short", "int"),
+        {
+            "type": "\"byte\", \"short\" or \"int\"",
+            "order": "\"msb_first\" or \"lsb_first\", \"msb_first\" where it is missing",
+            "bits": "1 to the bits of an item: 8, 16 or 32",
+        },
+        "whole rounds", "bytes, msb_first, 4: 5 8 gives 88", None, {"bits": 1},
+    ),
+    "diff_encoder": Kind(
+        "diff_encoder", "the sum of all items so far, modulo `modulus`", (),
+        {
+            "modulus": "2 to 256",
+        },
+        "1 for 1", "4: 1 2 3 1 gives 1 3 2 3", None, {"modulus": 2},
+    ),
+    "diff_decoder": Kind(
+        "diff_decoder", "x[n] - x[n-1], modulo `modulus`", (),
+        {
+            "modulus": "2 to 256",
+        },
+        "1 for 1", "4: 1 3 2 3 gives 1 2 3 1", None, {"modulus": 2},
+    ),
+    "scrambler": Kind(
+        "scrambler", "y[n] = x[n] + the sum of m(j) * y[n-j], modulo 2", (),
+        {
+            "bits": "2 to 32",
+            "mask": "1 to 2^bits - 1",
+            "init": "0 to 2^bits - 1",
+        },
+        "1 for 1", "3, 5, 1: 1 0 0 1 gives 0 0 1 0", None, {"bits": 2, "mask": 1, "init": 1},
+    ),
+    "descrambler": Kind(
+        "descrambler", "x[n] + the sum of m(j) * x[n-j], modulo 2", (),
+        {
+            "bits": "2 to 32",
+            "mask": "1 to 2^bits - 1",
+            "init": "0 to 2^bits - 1",
+        },
+        "1 for 1", "3, 5, 1: 0 0 1 0 gives 1 0 0 1", None, {"bits": 2, "mask": 1, "init": 1},
+    ),
+    "additive_scrambler": Kind(
+        "additive_scrambler", "x[n] + s[n], where s[n] is the sum of m(j) * s[n-j], modulo 2", (),
+        {
+            "bits": "2 to 32",
+            "mask": "1 to 2^bits - 1",
+            "init": "0 to 2^bits - 1",
+        },
+        "1 for 1", "3, 5, 1: 0 0 0 0 gives 1 1 0 1", None, {"bits": 2, "mask": 1, "init": 1},
+    ),
+    "correlate_access_code": Kind(
+        "correlate_access_code", "bit 0 of x[n-64], and 2 more at the first item behind a `code`, where at most `threshold` bits differ", (),
+        {
+            "code": "a text of 1 to 64 digits 0 and 1",
+            "threshold": "0 to as many as `code` has digits",
+        },
+        "1 for 1", "", None, {"code": "1", "threshold": 0},
+    ),
+    "crc_append": Kind(
+        "crc_append", "each `n` items, and then their checksum", (),
+        {
+            "order": "\"msb_first\" or \"lsb_first\", \"msb_first\" where it is missing",
+            "bits": "8 to 32",
+            "polynomial": "0 to 2^bits - 1",
+            "init": "0 to 2^bits - 1",
+            "final_xor": "0 to 2^bits - 1",
+            "n": "1 to 1020",
+        },
+        "n + its bytes for n", "msb_first, 8, 7, 0, 0, 1: 1 2 gives 1 7 2 14", None, {"bits": 8, "polynomial": 7, "init": 0, "final_xor": 0, "n": 1},
+    ),
+    "crc_check": Kind(
+        "crc_check", "1 for each `n` items with their checksum behind them, and 0 for each with another", (),
+        {
+            "order": "\"msb_first\" or \"lsb_first\", \"msb_first\" where it is missing",
+            "bits": "8 to 32",
+            "polynomial": "0 to 2^bits - 1",
+            "init": "0 to 2^bits - 1",
+            "final_xor": "0 to 2^bits - 1",
+            "n": "1 to 1020",
+        },
+        "1 for n + its bytes", "msb_first, 8, 7, 0, 0, 1: 1 7 2 7 gives 1 0", None, {"bits": 8, "polynomial": 7, "init": 0, "final_xor": 0, "n": 1},
+    ),
+    "state_machine": Kind(
+        "state_machine", "output[r], where r is s * symbols + x[n] modulo symbols, and the state s, `init` at first, is next[r] from then on", (),
+        {
+            "symbols": "1 to 4096",
+            "next": "1 to 4096 numbers of states, `symbols` of them for each state",
+            "output": "as many numbers as `next`, each 0 to 255",
+            "init": "the number of a state, of which `next` has `symbols` for each",
+        },
+        "1 for 1", "2, 0 2 0 2 1 3 1 3, 0 3 3 0 1 2 2 1, 0: 1 0 1 1 0 0 gives 3 1 0 2 2 3", None, {"symbols": 1, "next": [0], "output": [0], "init": 0},
+    ),
+    "viterbi": Kind(
+        "viterbi", "of each block, the symbols r modulo symbols of the path of rows r that lead by next[r] from state r / symbols on, for which the sum of x[outputs * i + output[r]] over steps i is the least", ("byte", "short", "int"),
+        {
+            "type": "\"byte\", \"short\" or \"int\"",
+            "symbols": "1 to 256",
+            "next": "1 to 4096 numbers of states, `symbols` of them for each of at most 1024 states",
+            "outputs": "1 to 1024",
+            "output": "as many numbers as `next`, each 0 to less than `outputs`",
+            "steps": "1 to as many that steps * outputs is at most 1024, and steps times the number of states at most 16384",
+            "start": "the number of a state, of which `next` has `symbols` for each, or less than 0 where none is known, -1 where it is missing",
+            "end": "the number of a state, of which `next` has `symbols` for each, or less than 0 where none is known, -1 where it is missing",
+        },
+        "steps for steps * outputs", "byte, 2, 0 2 0 2 1 3 1 3, 4, 0 3 3 0 1 2 2 1, 3, 0, -1: 2 1 1 0 1 0 2 1 0 1 1 2 gives 1 0 1", None, {"symbols": 1, "next": [0], "outputs": 1, "output": [0], "steps": 1},
     ),
 }
+
+#: What `flow kinds` prints of each kind, by its name.
+KINDS: Mapping[str, str] = {name: it.page for name, it in KIND_ROWS.items()}
 
 
 class KindBlocks:

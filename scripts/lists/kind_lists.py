@@ -3,7 +3,7 @@
 from __future__ import annotations
 
 import json
-from typing import Iterator, List, Mapping, Sequence, Union
+from typing import Dict, Iterator, List, Mapping, Sequence, Union
 
 from .kind_table import FILE, Kind, KindTable, Value
 from .trees import Written, marked
@@ -38,17 +38,19 @@ def _page(table: KindTable) -> str:
 
 def page_of(table: KindTable, kind: Kind) -> List[str]:
     """The lines that `flow kinds` prints of a kind."""
-    lines = [f"{kind.name}: {kind.line}"]
-    if kind.items in _TYPES:
-        lines.append(f"    type: {_TYPES[kind.items]}")
+    rows = {**parameters_of(table, kind), "rate": kind.rate, "example": kind.example}
+    return [f"{kind.name}: {kind.line}", *(f"    {key}: {says}" for key, says in rows.items() if says)]
+
+
+def parameters_of(table: KindTable, kind: Kind) -> Dict[str, str]:
+    """What the type and each parameter may be, by its key."""
+    rows = {"type": _TYPES[kind.items]} if kind.items in _TYPES else {}
     for name, range in kind.parameters.items():
         parameter = table.parameters[name]
         missing = "" if parameter.default is None else f", {_toml(parameter.default)} where it is missing"
         settable = ", may be set" if name == kind.setting else ""
-        lines.append(f"    {parameter.key}: {range.words}{missing}{settable}")
-    lines += [f"    rate: {kind.rate}"] if kind.rate else []
-    lines += [f"    example: {kind.example}"] if kind.example else []
-    return lines
+        rows[parameter.key] = f"{range.words}{missing}{settable}"
+    return rows
 
 
 def _toml(value: Value) -> str:

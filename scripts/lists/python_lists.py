@@ -5,7 +5,7 @@ from __future__ import annotations
 import json
 from typing import Iterator, List
 
-from .kind_lists import page_of
+from .kind_lists import parameters_of
 from .kind_table import FILE, Kind, KindTable, Range
 from .trees import Written, headed
 
@@ -13,7 +13,7 @@ from .trees import Written, headed
 _WIDE = 150
 _MODULE = '''from __future__ import annotations
 
-from typing import Iterable, Literal, Mapping, SupportsIndex, overload
+from typing import Iterable, Literal, Mapping, NamedTuple, Optional, Sequence, SupportsIndex, Union, overload
 
 #: A type of items, the order of bits in an item, and which tags a block passes on.
 Type = Literal["byte", "short", "int"]
@@ -23,10 +23,35 @@ Policy = Literal["all", "one", "none"]
 Number = SupportsIndex
 Numbers = Iterable[SupportsIndex]
 
-#: What `flow kinds` prints of each kind, by its name.
-KINDS: Mapping[str, str] = {
+
+class Kind(NamedTuple):
+    """A kind of blocks: what it gives, the types that a block may have, what each parameter may be, how many items it
+    gives for how many, an example, the parameter that may be set while it runs, and values for those that a block needs,
+    whatever its type."""
+
+    name: str
+    equation: str
+    types: Sequence[str]
+    parameters: Mapping[str, str]
+    rate: str
+    example: str
+    setting: Optional[str]
+    least: Mapping[str, Union[int, str, list[int]]]
+
+    @property
+    def page(self) -> str:
+        """What `flow kinds` prints of it."""
+        rows = [*self.parameters.items(), ("rate", self.rate), ("example", self.example)]
+        return "".join(["%%s: %%s\\n" %% (self.name, self.equation), *("    %%s: %%s\\n" %% row for row in rows if row[1])])
+
+
+#: The kinds by their names, in the order of `flow kinds`.
+KIND_ROWS: Mapping[str, Kind] = {
 %s
 }
+
+#: What `flow kinds` prints of each kind, by its name.
+KINDS: Mapping[str, str] = {name: it.page for name, it in KIND_ROWS.items()}
 
 
 class KindBlocks:
@@ -45,16 +70,29 @@ _TYPES = {"any": "Type", "wide": 'Literal["short", "int"]'}
 
 def written(table: KindTable) -> Iterator[Written]:
     """What is written of kinds for python/magbelu."""
-    pages = [f"    {json.dumps(kind.name)}: {_page(table, kind)}," for kind in table.kinds]
+    rows = [f"    {json.dumps(kind.name)}: {_row(table, kind)}," for kind in table.kinds]
     blocks = [line for kind in table.kinds for line in _overload(table, kind)]
     doc = "The kinds of blocks: what is said of each, and the types of its parameters."
-    yield headed("python/magbelu/_kinds.py", FILE, doc, _MODULE % ("\n".join(pages), "\n".join(blocks)))
+    yield headed("python/magbelu/_kinds.py", FILE, doc, _MODULE % ("\n".join(rows), "\n".join(blocks)))
 
 
-def _page(table: KindTable, kind: Kind) -> str:
-    """The lines of a kind as a text of Python, a line each."""
-    lines = [json.dumps(line + "\n") for line in page_of(table, kind)]
-    return "\n        ".join(["(", *lines]) + "\n    )"
+def _row(table: KindTable, kind: Kind) -> str:
+    """A kind as Python writes it, a line for each parameter."""
+    keys = {name: table.parameters[name].key for name in kind.parameters}
+    least = {keys[name]: value for name, value in kind.least.items() if table.parameters[name].default is None}
+    setting = json.dumps(keys[kind.setting]) if kind.setting else None
+    parameters = [f"            {json.dumps(key)}: {json.dumps(says)}," for key, says in parameters_of(table, kind).items()]
+    lines = [
+        f"{json.dumps(kind.name)}, {json.dumps(kind.line)}, {_types_of(kind)},",
+        *(["{", *parameters, "        },"] if parameters else ["{},"]),
+        f"{json.dumps(kind.rate)}, {json.dumps(kind.example)}, {setting}, {json.dumps(least)},",
+    ]
+    return "\n".join(["Kind(", *(it if it.startswith("  ") else f"        {it}" for it in lines), "    )"])
+
+
+def _types_of(kind: Kind) -> str:
+    types = {"any": ("byte", "short", "int"), "wide": ("short", "int")}.get(kind.items, ())
+    return f"({', '.join(json.dumps(it) for it in types)})"
 
 
 def _overload(table: KindTable, kind: Kind) -> List[str]:

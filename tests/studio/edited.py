@@ -177,7 +177,8 @@ def saved() -> None:
 
 def texts() -> None:
     """A block and a connection more stand where the file has its others; and of each kind a block can be added."""
-    from magbelu.studio import edit, graphs, kinds
+    from magbelu._kinds import KIND_ROWS
+    from magbelu.studio import edit, graphs
 
     table: dict[str, edit.Value] = {"name": "b", "n": 1, "taps": [1, -2]}
     written = '{ name = "b", n = 1, taps = [1, -2] }'
@@ -191,13 +192,13 @@ def texts() -> None:
         ('[[feed]]\nblock = [1]\n', '[[feed]]\nblock = [1]\n\n[[block]]\nname = "b"\nn = 1\ntaps = [1, -2]\n'),
     ):
         assert edit.with_table(text, "block", table) == wanted, edit.with_table(text, "block", table)
-    assert len(kinds.kinds()) == len(re.findall(r"^\[kind\.\w+\]$", (TOP / "kinds.toml").read_text(), re.MULTILINE))
-    for kind in kinds.kinds().values():
+    assert len(KIND_ROWS) == len(re.findall(r"^\[kind\.\w+\]$", (TOP / "kinds.toml").read_text(), re.MULTILINE))
+    for kind in KIND_ROWS.values():
         for item_type in ("byte", "short", "int"):
             graph, refused = graphs.GraphFile.draft(edit.with_table("", "block", edit.table_of("a", kind, item_type)))
             # (it is not joined yet)
             assert graph is not None and refused is not None and refused.number == 8, (kind.name, refused)
-    settable = [it for it in kinds.kinds() if kinds.settable_of(it)]
+    settable = [name for name, it in KIND_ROWS.items() if it.setting]
     assert settable == ["add_const", "multiply_const", "divide_const", "and_const", "or_const", "xor_const", "scale", "mute", "fir", "interp_fir"], settable
     tables: list[dict[str, Any]] = [
         {"kind": "add_const", "type": "byte", "value": 7}, {"kind": "scale", "type": "short", "factor": -3, "shift": 1},

@@ -5,33 +5,17 @@ from __future__ import annotations
 import re
 from typing import Any, Optional, Union
 
+from .._kinds import Kind
 from .file import TOKEN
 from .graphs import GraphFile
-from .kinds import Kind
 
 Value = Union[int, str, list[int]]
 
 
-def default_of(says: str, item_type: str) -> Optional[Value]:
-    """A value that a parameter may have, by what the table of kinds says of it; None where it may be left out."""
-    if "where it is missing" in says:
-        return None
-    if says.startswith('"'):
-        allowed = re.findall(r'"(\w+)"', says)
-        return item_type if item_type in allowed else str(allowed[0])
-    if says.startswith("a text of"):
-        return "1"
-    if "numbers" in says:
-        each = re.search(r"each (-?\d+) to ", says)
-        return [0 if each is None else max(int(each[1]), 0)]
-    low = re.match(r"(-?\d+) (?:to|or) ", says)
-    return 2 if says.startswith("more than") else 1 if re.match(r"[a-z] to ", says) else 0 if low is None else int(low[1])
-
-
 def table_of(name: str, kind: Kind, item_type: str) -> dict[str, Value]:
     """A block of a kind, with values that its parameters may have."""
-    values = {key: default_of(says, item_type) for key, says in kind.parameters.items()}
-    return {"name": name, "kind": kind.name, **{key: it for key, it in values.items() if it is not None}}
+    types = {"type": item_type if item_type in kind.types else kind.types[0]} if kind.types else {}
+    return {"name": name, "kind": kind.name, **types, **kind.least}
 
 
 def free_name(kind: str, names: list[str]) -> str:

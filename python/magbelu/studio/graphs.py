@@ -6,10 +6,10 @@ from dataclasses import dataclass
 from typing import Any, Optional
 
 from .._errors import Refused
+from .._kinds import KIND_ROWS
 from .._listing import Setting
 from .._stream import Stream
 from .file import tables_of
-from .kinds import settable_of
 
 # The keys of a block that are no parameters of its kind.
 OWN_KEYS = ("name", "kind")
@@ -83,7 +83,7 @@ class GraphFile:
         if it is None:
             return None
         taps = len(it.value) if isinstance(it.value, list) else None
-        return {"key": settable_of(block["kind"]), "low": it.least, "high": it.most, "taps": taps, "value": it.value}
+        return {"key": KIND_ROWS[block["kind"]].setting, "low": it.least, "high": it.most, "taps": taps, "value": it.value}
 
     def _connect(self, it: dict[str, Any]) -> dict[str, Any]:
         return {"from": it["from"], "from_port": it.get("from_port", 0), "to": it["to"], "to_port": it.get("to_port", 0), "type": self.type_of(it["from"])}

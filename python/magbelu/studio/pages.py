@@ -10,7 +10,7 @@ from typing import Any
 from aiohttp import WSMsgType, web
 
 from .._errors import Error
-from .kinds import kinds
+from .._kinds import KIND_ROWS
 from .run import Run
 from .studio import Studio, Wrong
 from .views import BadView, View
@@ -91,7 +91,7 @@ class Page:
 
     async def _tell(self) -> None:
         """Tells which kinds there are and what graph it is, and time after time how far the run is."""
-        await self._socket.send_str(json.dumps({"kinds": [it._asdict() for it in kinds().values()]}))
+        await self._socket.send_str(json.dumps({"kinds": [it._asdict() for it in KIND_ROWS.values()]}))
         while True:
             run = self._studio.run
             if run.number != self._number:

@@ -10,11 +10,11 @@ import tempfile
 from typing import Any, AsyncIterable, Callable, Optional, Sequence, Union
 
 from .._errors import Refused
+from .._kinds import KIND_ROWS
 from .._runs import place, read_file
 from .._stream import Stream
 from . import companion, edit
 from .graphs import GraphFile
-from .kinds import kinds
 from .run import FAILED, PAUSED, Run, Ways
 
 #: The greatest number that a page names an item or a rate with: all below are whole numbers in JavaScript.
@@ -190,7 +190,7 @@ class Studio:
 
     async def _add(self, asked: dict[str, Any]) -> str:
         """The text with a block of a kind more."""
-        text, kind = text_in(asked, "text"), kinds().get(text_in(asked, "kind"))
+        text, kind = text_in(asked, "text"), KIND_ROWS.get(text_in(asked, "kind"))
         if kind is None:
             raise Wrong("there is no kind %r" % asked["kind"])
         graph, refused = GraphFile.draft(text)
