@@ -108,12 +108,13 @@ drawing_is_converted() {
     gives "$(<"$top/examples/grc/rates.toml")" sh -c 'flow-from-grc /root/rates.grc 2>/dev/null'
 }
 
-# The receiver of the examples in the page of magbelu-studio: its spectrum, waterfall and bits, and a filter that is turned.
+# The receiver of the examples in the page of magbelu-studio: its spectrum, waterfall and bits within three seconds of the command, and a filter that is turned. The
+# pictures of before and after go to out/.
 page_shows_the_receiver() {
     inside apt-get install --yes --no-install-recommends chromium chromium-driver python3-aiohttp python3-selenium
     cp -r -- "$top/tests/studio" "$system/root/studio"
     beside_processes python3 /root/studio/receiver.py /root /usr/bin/magbelu-studio /usr/share/doc/magbelu/examples/receiver
-    [[ -s $system/root/receiver_before.png && -s $system/root/receiver_after.png ]] || { echo "there are no pictures" && return 1; }
+    cp -- "$system"/root/receiver_{before,after}.png "$top/out"
 }
 
 # The program that docs/user/FOR_GNU_RADIO_USERS.md begins with, and a drawing with the block of Companion.

@@ -1,6 +1,6 @@
-"""`receiver.py FOLDER [COMMAND EXAMPLE]` shows the receiver of examples/receiver in the page: within three seconds of the command there are a spectrum, a waterfall and bits, and
-a filter that is turned changes them. It says how long each took, and leaves a picture of before and one of after. COMMAND is magbelu-studio as it is installed, and EXAMPLE the
-folder with the installed example; without them it is those of the checkout."""
+"""`receiver.py FOLDER [COMMAND EXAMPLE]` shows the receiver of examples/receiver in the page: there are a spectrum, a waterfall and bits, and a filter that is turned in
+the page changes them. It says how long each took, fails where the first took more than three seconds of the command, and leaves a picture of before and one of after. COMMAND
+is magbelu-studio as it is installed, and EXAMPLE the folder with the installed example; without them it is those of the checkout."""
 
 from __future__ import annotations
 
@@ -23,6 +23,8 @@ BEFORE = 990
 #: How the command shows what the filter of I gives, and the bits before they are thinned.
 WATCHED = ("low_i=spectrum", "low_i=waterfall", "slice=bits")
 NONE = " ".join(["0"] * 40)
+#: Within how many seconds of the command all is drawn, in a browser that runs already, on a machine that does nothing else.
+WITHIN = 3
 
 
 def recording(repeats: int) -> bytes:
@@ -49,6 +51,12 @@ def views_drawn(driver: Any) -> bool:
         })
     """
     return list(driver.execute_script(script)) == [it.partition("=")[2] for it in WATCHED]
+
+
+def pictures(driver: Any) -> list[str]:
+    """What the plots of the sinks that are watched show, each as a text of its pixels."""
+    script = "return [...document.querySelectorAll('figure')].slice(0, 3).map((it) => it.querySelector('canvas').toDataURL())"
+    return list(driver.execute_script(script))
 
 
 def items_of(server: Server, sink: str, code: str) -> list[int]:
@@ -82,12 +90,14 @@ def receives(driver: Any, folder: str) -> tuple[float, float]:
         assert {0, 1} == set(bits[len(bits) // 2 :]), "there are no bits"
         time.sleep(2)
         driver.save_screenshot(str(pathlib.Path(folder) / "receiver_before.png"))
+        before = pictures(driver)
         turned = time.monotonic()
         item = turn(driver, NONE)
         # (the filter keeps a fourth of its items, and has 40 taps; the sums behind it are as long as 1,024 of these)
         until("its output is 0", lambda: not any(items_of(server, "low_i_1", "h")[-1000:]))
         assert any(items_of(server, "low_i_1", "h")[: item // 4 - 100]), "it was 0 before"
         until("the bits are all one", lambda: len(set(items_of(server, "slice_1", "B")[-1000:])) == 1)
+        until("each picture is another", lambda: all(it != was for it, was in zip(pictures(driver), before)))
         changed = time.monotonic()
         time.sleep(2)
         driver.save_screenshot(str(pathlib.Path(folder) / "receiver_after.png"))
@@ -122,4 +132,6 @@ if __name__ == "__main__":
     if len(sys.argv) > 2:
         Server.studio = pathlib.Path(sys.argv[2])
     with browser(1600, 1200) as window:
-        print("drawn after %.1f seconds, changed after %.1f more" % receives(window, sys.argv[1]))
+        drawn, changed = receives(window, sys.argv[1])
+    print("drawn after %.1f seconds, changed after %.1f more" % (drawn, changed))
+    assert drawn <= WITHIN, "it took more than %d seconds" % WITHIN
