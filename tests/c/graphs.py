@@ -5,6 +5,7 @@ import copy
 import pathlib
 import pickle
 import random
+import re
 import sys
 import tempfile
 import threading
@@ -306,6 +307,18 @@ def places_of_faults_are_told():
     assert magbelu.place(magbelu.EXAMPLE) is None and magbelu.place("") is None
 
 
+def places_are_those_that_flow_shows():
+    """Of each file of `tests/cases/explained` whose fault `flow --explain` shows: line, column and reason."""
+    count = 0
+    for said in sorted((top / "tests/cases/explained").glob("*/stderr")):
+        shown = re.search(r"^ +--> graph\.toml:(\d+):(\d+)\n.*\n.*\n *\|\s+\^ (.*)$", said.read_text(), re.MULTILINE)
+        if shown:
+            found = magbelu.place((said.parent / "graph.toml").read_bytes())
+            assert (found.line, found.column, found.why) == (int(shown[1]), int(shown[2]), shown[3]), (said, found)
+            count += 1
+    assert count > 50, count
+
+
 def late_settings_tell_what_is_open():
     graph = chain("byte")
     graph.feed("src", [1, 2, 3, 4])
@@ -509,6 +522,7 @@ tests = [
     nothing_is_cut,
     places_of_faults_are_shown,
     places_of_faults_are_told,
+    places_are_those_that_flow_shows,
     late_settings_tell_what_is_open,
     paths_are_told_from_texts,
     graphs_are_drawn_as_by_flow,
