@@ -1,7 +1,7 @@
 #!/usr/bin/env bash
 # What holds the edits that must fail: each can be made of the sources as they stand, `mutants/held` refuses an edit that names another clause than the log of `rt ci`,
-# `mutants/try` ends as the prover does on the mutants that it lays into a copy, by a stand-in for `rt` that says which it was given, and `mutants/bare` as it does without
-# the answers of a function.
+# `mutants/try` ends as the prover does on the mutants that it lays into a copy, by a stand-in for `rt` that says which it was given, `mutants/lay` leaves edits out, and
+# `mutants/bare` ends as the prover does without the answers of a function.
 set -euo pipefail
 # shellcheck source=tests/part.sh
 source "$(dirname -- "$(readlink -f -- "${BASH_SOURCE[0]}")")/../part.sh"
@@ -143,6 +143,21 @@ tries 'a crate without mutants' 2 'there is no mutants/flow_program' 0 flow_prog
 git -C "$room/checkout" init -q
 git -C "$room/checkout" -c user.name=a -c user.email=a@b commit -q --allow-empty -m one
 tries 'in turn, of crates above few others' 0 'try: the mutants of small' 0 --in-turn
+
+# A checkout of the crates whose edits are always tried, and of another.
+mkdir -p "$room/whole/mutants" "$room/whole/scripts" "$room/laid"
+cp -- "$top/mutants/lay" "$room/whole/mutants"
+cp -- "$top/scripts/program.sh" "$room/whole/scripts"
+mkdir -p "$room/whole/crates/"{lane_filters,ring_readers,script_text,tags,wide}/{src,must-fail,out}
+touch "$room/whole/crates/"{lane_filters,ring_readers,script_text,tags,wide}/{src/lib.rt,must-fail/own.edit,out/made} "$room/whole/HANDLES"
+echo flow_program: >"$room/whole/crates.txt"
+
+# lays: which files of `tags` and `wide` are laid
+# shellcheck disable=SC2317  # It is called by expect.
+lays() { "$room/whole/mutants/lay" "$room/laid" && (cd -- "$room/laid" && find crates/tags crates/wide -type f | LC_ALL=C sort | tr '\n' ' '); }
+
+expect 'few edits where nothing is kept' 0 'crates/tags/must-fail/own.edit crates/tags/src/lib.rt crates/wide/src/lib.rt' lays
+expect 'a folder to lay into' 2 'its word is an empty folder' "$top/mutants/lay"
 
 # A checkout of a crate with an edit of a function that has answers of its own. The stand-in says what it finds, and proves the function where it is told to.
 mkdir -p "$room/bare/mutants/small" "$room/bare/crates/small/src" "$room/bare/crates/small/proofs/pair/PairAddsU8/sum"
