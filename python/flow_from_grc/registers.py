@@ -7,7 +7,14 @@ item just before that.
 
 from __future__ import annotations
 
-from typing import Dict
+from typing import Dict, Iterator
+
+
+def given_bits(mask: int, seed: int, bits: int) -> Iterator[int]:
+    """The bits that GNU Radio's register gives."""
+    while True:
+        yield seed & 1
+        seed = seed >> 1 | (bin(seed & mask).count("1") & 1) << (bits - 1)
 
 
 def reversed_bits(number: int, bits: int) -> int:

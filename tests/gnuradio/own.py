@@ -497,6 +497,25 @@ def bit_orders() -> None:
     each(trial)
 
 
+def additive_scrambler() -> None:
+    """additive_scrambler_bb that begins anew each so many items is a list and xor; one that goes on and takes several bits of a byte is xor with what a
+    register gives, packed."""
+
+    def trial(chance: random.Random) -> None:
+        width, count = chance.randint(1, 8), chance.choice([0, chance.randint(1, 4), chance.randint(5, 256), chance.randint(257, 600), 4096])
+        length = chance.randint(1, 63 if count else 31)
+        # (a register that goes on comes to each seed if it reads its lowest bit)
+        mask, seed = chance.getrandbits(length + 1) | (1 if not count else 1 << chance.randint(0, length)), chance.getrandbits(length + 1)
+        fed = stream(chance, "byte", chance.randint(1, 300) + chance.randint(0, 1) * count)
+        if not count and width == 1:
+            fed = fed._replace(items=[it & 1 for it in fed.items])
+        keys = {"mask": mask, "seed": seed, "len": length, "count": count, "bits_per_byte": width}
+        own = digital.additive_scrambler_bb(mask, seed, length, count, width)
+        compare(own, drawn("digital_additive_scrambler_bb", keys, [fed], [Port("byte")]), [fed], [Port("byte")])
+
+    each(trial, 16)
+
+
 def access_code() -> None:
     """correlate_access_code gives its flags as GNU Radio's block, also for the zeros before the first item."""
 
