@@ -95,10 +95,10 @@ class Page:
         while True:
             run = self._studio.run
             if run.number != self._number:
+                await self._socket.send_str(json.dumps(self._of_run(run)))
                 self._number, self._told, self._logged = run.number, None, 0
                 for it in self._views.values():
                     it.shown, it.missed = None, 0
-                await self._socket.send_str(json.dumps(self._of_run(run)))
             made = run.log[self._logged :]
             if made:
                 self._logged += len(made)
@@ -119,19 +119,22 @@ class Page:
         while True:
             began = loop.time()
             for name in list(self._free):
-                shown = self._shown(name)
-                if shown is None or shown == self._sent.get(name):
+                view, shown = self._views.get(name), self._shown(name)
+                if view is None or shown is None or shown == self._sent.get(name):
                     continue
-                data = await loop.run_in_executor(None, self._views[name].frame, name, self._studio.run.traces)
-                if data is not None:
+                data = await loop.run_in_executor(None, view.frame, name, self._studio.run.traces)
+                # (meanwhile the page may have asked for another one)
+                if data is not None and self._views.get(name) is view:
                     self._sent[name] = shown
                     self._free.discard(name)
                     await self._socket.send_bytes(data)
             await asyncio.sleep(max(FRAME - (loop.time() - began), FRAME / 4))
 
     def _shown(self, name: str) -> Any:
-        """What a view would show now: it is another where a frame has something new."""
+        """What a view would show now: it is another where a frame has something new. A run shows nothing before the page is told of its graph."""
         view, run = self._views.get(name), self._studio.run
+        if run.number != self._number:
+            return None
         traces = [run.traces.get(it) for it in (view.sink, view.other) if it is not None] if view is not None else []
         if view is None or None in traces:
             return None
