@@ -37,51 +37,51 @@ def alone(table: dict[str, Any], inputs: int, outputs: int) -> str:
     return text
 
 
-def windows() -> None:
-    """What a firing takes and gives, by the equations of the kinds."""
+def counts() -> None:
+    """How many items firings took of each input and gave on each output, by the equations of the kinds."""
     import magbelu
-    from magbelu.studio.profile import NONE, Profile
-    from magbelu.studio.windows import Window
+    from magbelu.studio.profile import Counts, Profile
 
-    cases: list[tuple[dict[str, Any], int, int, Window]] = [
-        ({"kind": "add_const", "type": "short", "value": 1}, 1, 1, Window((1,), (1,))),
-        ({"kind": "fir", "type": "short", "taps": [1, 2, 3], "decimation": 10}, 1, 1, Window((10,), (1,))),
-        ({"kind": "interp_fir", "type": "short", "taps": [1, 2, 3], "interpolation": 4}, 1, 1, Window((1,), (4,))),
-        ({"kind": "keep_m_in_n", "type": "short", "m": 2, "n": 7}, 1, 1, Window((7,), (2,))),
-        ({"kind": "repeat", "type": "short", "n": 5}, 1, 1, Window((1,), (5,))),
-        ({"kind": "interleave", "type": "short", "ports": 3}, 3, 1, Window((1, 1, 1), (3,))),
-        ({"kind": "deinterleave", "type": "short", "ports": 3}, 1, 3, Window((3,), (1, 1, 1))),
-        ({"kind": "stream_mux", "type": "short", "lengths": [2, 5]}, 2, 1, Window((2, 5), (7,))),
-        # (once it gives and takes some)
-        ({"kind": "head", "type": "short", "n": 0}, 1, 1, Window((1,), (1,))),
-        ({"kind": "skiphead", "type": "short", "n": 1000}, 1, 1, Window((1,), (1,))),
-        ({"kind": "delay", "type": "short", "n": 1000}, 1, 1, Window((1,), (1,))),
+    # (what a block is, how often it fires, and what it took and gave then)
+    cases: list[tuple[dict[str, Any], int, Counts]] = [
+        ({"kind": "add_const", "value": 1}, 2, Counts([2], [2])),
+        ({"kind": "fir", "taps": [1, 2, 3], "decimation": 10}, 2, Counts([20], [2])),
+        ({"kind": "interp_fir", "taps": [1, 2, 3], "interpolation": 4}, 2, Counts([2], [8])),
+        ({"kind": "keep_m_in_n", "m": 2, "n": 7}, 2, Counts([14], [4])),
+        ({"kind": "repeat", "n": 5}, 2, Counts([2], [10])),
+        ({"kind": "interleave", "ports": 3}, 2, Counts([2, 2, 2], [6])),
+        ({"kind": "deinterleave", "ports": 3}, 2, Counts([6], [2, 2, 2])),
+        ({"kind": "stream_mux", "lengths": [2, 5]}, 2, Counts([4, 10], [14])),
+        ({"kind": "head", "n": 1}, 1, Counts([1], [1])),
+        ({"kind": "skiphead", "n": 3}, 2, Counts([2], [0])),
+        ({"kind": "skiphead", "n": 3}, 4, Counts([4], [1])),
+        ({"kind": "delay", "n": 3}, 2, Counts([0], [2])),
+        ({"kind": "delay", "n": 3}, 4, Counts([1], [4])),
     ]
-    for table, inputs, outputs, wanted in cases:
-        with magbelu.Stream(alone(table, inputs, outputs)) as stream:
-            profile = Profile(stream, [])
-            assert profile.windows["it"] == wanted, (table, profile.windows)
-            assert profile.each_of("it") == (NONE if table["kind"] in ("skiphead", "delay") else wanted), table
+    for table, firings, wanted in cases:
+        with magbelu.Stream(alone({**table, "type": "short"}, len(wanted.taken), len(wanted.given))) as stream:
+            for it in stream.sources:
+                stream.feed(it.name, range(40))
+                assert stream.step(it.name) == 40
+            assert stream.step("it", firings) == firings, table
+            assert Profile(stream, []).counts("it") == wanted, (table, Profile(stream, []).counts("it"))
     balanced()
 
 
 def balanced() -> None:
     """In each graph file whose rates are balanced, an iteration gives each buffer as many items as it takes of it."""
     import magbelu
-    from magbelu.studio.graphs import GraphFile
-    from magbelu.studio.profile import Profile
 
     count = 0
     for path in [*TOP.glob("tests/graphs/*.toml"), *TOP.glob("examples/*/*.toml")]:
         try:
-            graph = GraphFile.of(path.read_bytes().decode(errors="replace"))
+            stream = magbelu.Stream(path.read_bytes())
         except magbelu.Refused:
             continue
-        with magbelu.Stream(graph.text) as stream:
-            each = Profile(stream, []).windows
-            for it in stream.connections if graph.firings else []:
-                writer, reader = each[it.writer], each[it.reader]
-                given, taken = graph.firings[it.writer] * writer.gives[it.out_port], graph.firings[it.reader] * reader.takes[it.in_port]
+        with stream:
+            firings, each = stream.firings, {it.name: stream.rates(it.name) for it in stream.blocks}
+            for it in stream.connections if firings else []:
+                given, taken = firings[it.writer] * each[it.writer].gives, firings[it.reader] * each[it.reader].takes[it.in_port]
                 assert given == taken, (path, it, given, taken)
                 count += 1
     assert count > 100, count
@@ -122,28 +122,30 @@ async def firing(server: Server) -> None:
         async def fires(block: str, count: int) -> dict[str, Any]:
             return dict((await page.ask(do="fire", block=block, count=count))["answer"])
 
-        one = {"takes": [1], "gives": [1]}
-        assert await fires("add", 1) == {"before": 0, "firings": 0, **one, "needs": ["items", 0]}
-        assert await fires("src", 5) == {"before": 0, "firings": 5, "takes": [], "gives": [1], "needs": ["feed", None]}
-        assert await fires("add", 2) == {"before": 0, "firings": 2, **one, "needs": ["ready", None]}
-        assert await fires("add", 1) == {"before": 2, "firings": 1, **one, "needs": ["ready", None]}
-        assert await fires("out", 2) == {"before": 0, "firings": 2, "takes": [1], "gives": [], "needs": ["ready", None]}
+        def fired(firings: int, took: list[list[int]], gave: list[list[int]], *needs: Any) -> dict[str, Any]:
+            return {"firings": firings, "took": took, "gave": gave, "needs": list(needs)}
+
+        # (of each input and output the first item, and how many)
+        assert await fires("add", 1) == fired(0, [[0, 0]], [[0, 0]], "items", 0)
+        assert await fires("src", 5) == fired(5, [], [[0, 5]], "feed", None)
+        assert await fires("add", 2) == fired(2, [[0, 2]], [[0, 2]], "ready", None)
+        assert await fires("add", 1) == fired(1, [[2, 1]], [[2, 1]], "ready", None)
+        assert await fires("out", 2) == fired(2, [[0, 2]], [], "ready", None)
         await held(page, 2)
         assert page.parts["run"]["fed"] == {"src": 5} and page.parts["run"]["state"] == "paused", page.parts["run"]
         assert (await page.ask(do="fire", block="none"))["refused"].startswith("20 NoSuchBlock none")
         for count in (0, -1, "1", True):
             assert "refused" in await page.ask(do="fire", block="add", count=count), count
-        # (a small step counts its firings too: all that is there, and 3 items more)
+        # (all that is there, and 3 items more)
         await page.ask(do="run", items=3)
         await held(page, 8)
         await page.comes_to("paused")
-        assert await fires("src", 1) == {"before": 8, "firings": 1, "takes": [], "gives": [1], "needs": ["feed", None]}
-        assert await fires("add", 9) == {"before": 8, "firings": 1, **one, "needs": ["items", 0]}
-        # (a larger one does not)
+        assert await fires("src", 1) == fired(1, [], [[8, 1]], "feed", None)
+        assert await fires("add", 9) == fired(1, [[8, 1]], [[8, 1]], "items", 0)
         await page.ask(do="run", to=90_000)
         await held(page, 90_000)
         await page.comes_to("paused")
-        assert (await fires("src", 1))["before"] is None
+        assert await fires("src", 1) == fired(1, [], [[90_000, 1]], "feed", None)
         await page.ask(do="run")
         await page.comes_to("done")
         assert (await page.ask(do="fire", block="add"))["refused"] == "a block fires by itself only while the run is paused"
@@ -210,4 +212,4 @@ def works_shown() -> None:
         assert driver.execute_script("return [...document.querySelectorAll('#graph .limits')].map((it) => it.dataset.block)") == ["src"]
 
 
-CASES = [windows, works, fires, firings_shown, works_shown]
+CASES = [counts, works, fires, firings_shown, works_shown]

@@ -19,7 +19,8 @@ DRAWN = (5, 7, 8, 11, 12, 20, 21, 24, 25, 26)
 
 @dataclass(frozen=True)
 class GraphFile:
-    """A text that the library has accepted, with its tables."""
+    """A text that can be drawn, with the tables of its blocks and connections. (The library tells no parameters of blocks, and nothing of a graph that it refuses: they are
+    read out of the text.)"""
 
     text: str
     blocks: list[dict[str, Any]]
@@ -36,7 +37,8 @@ class GraphFile:
             types = {it.name: it.output_type for it in stream.blocks if it.output_type}
             found = ((it.name, stream.setting(it.name)) for it in stream.blocks)
             settings = {name: it for name, it in found if it is not None}
-            return cls._with(text, stream.firings or {}, settings, types)
+            connects = [{"from": it.writer, "from_port": it.out_port, "to": it.reader, "to_port": it.in_port} for it in stream.connections]
+            return cls(text, tables_of(text).get("block", []), connects, stream.firings or {}, settings, types)
 
     @classmethod
     def draft(cls, text: str) -> tuple[Optional[GraphFile], Optional[Refused]]:
@@ -44,12 +46,10 @@ class GraphFile:
         try:
             return cls.of(text), None
         except Refused as refused:
-            return (cls._with(text, {}, {}, {}) if refused.number in DRAWN else None), refused
-
-    @classmethod
-    def _with(cls, text: str, firings: dict[str, int], settings: dict[str, Setting], types: dict[str, str]) -> GraphFile:
-        tables = tables_of(text)
-        return cls(text, tables.get("block", []), tables.get("connect", []), firings, settings, types)
+            if refused.number not in DRAWN:
+                return None, refused
+            tables = tables_of(text)
+            return cls(text, tables.get("block", []), tables.get("connect", []), {}, {}, {}), refused
 
     def block(self, name: str) -> Optional[dict[str, Any]]:
         """The block of a name."""

@@ -4,15 +4,19 @@ one by one, which comes to the same items, and each step is timed by the process
 from __future__ import annotations
 
 import time
-from typing import Any, Iterable, Optional
+from typing import Any, Iterable, NamedTuple, Optional
 
 from .._stream import Stream
-from .windows import Window, window_of
 
 # How much of what was measured before still counts, so that a change shows within some looks.
 KEEPS = 0.8
-# What each firing of a block takes and gives whose firings are not alike.
-NONE = Window((), ())
+
+
+class Counts(NamedTuple):
+    """How many items a block has taken of each input, and given on each output."""
+
+    taken: list[int]
+    given: list[int]
 
 
 class Profile:
@@ -20,90 +24,68 @@ class Profile:
 
     def __init__(self, stream: Stream, inputs: Iterable[str]) -> None:
         self._stream, self._inputs = stream, list(inputs)
-        self._edges = stream.connections
-        #: What a firing of each block takes and gives.
-        self.windows = {it.name: window_of(stream, it) for it in stream.blocks}
-        self._shifted = {it.name for it in stream.blocks if stream.rates(it.name).shifted}
-        self._readers, self._writers = self._numbers("reader"), self._numbers("writer")
-        self._seconds = dict.fromkeys(self.windows, 0.0)
-        self._firings = dict.fromkeys(self.windows, 0.0)
-        self._fills = [0] * len(self._edges)
-        # How often each block has fired, as long as the stream was moved by steps alone.
-        self._totals: Optional[dict[str, int]] = dict.fromkeys(self.windows, 0)
+        self._outputs = {it.name: it.outputs for it in stream.blocks}
+        self._takes = {it: stream.rates(it).takes for it in self._outputs}
+        # The connections behind each block, with their numbers.
+        edges = list(enumerate(stream.connections))
+        self._behind = {name: [it for it in edges if it[1].writer == name] for name in self._outputs}
+        self._rooms = stream.rooms
+        self._seconds = dict.fromkeys(self._outputs, 0.0)
+        # How many items each block took and gave while it was measured.
+        self._taken = {name: [0.0] * len(it) for name, it in self._takes.items()}
+        self._given = {name: [0.0] * it for name, it in self._outputs.items()}
         self.shown: dict[str, Any] = {"blocks": {}, "fills": []}
 
-    def _numbers(self, side: str) -> dict[str, list[int]]:
-        """Of each block the numbers of the connections of which it is the reader, or the writer."""
-        found: dict[str, list[int]] = {it: [] for it in self.windows}
-        for number, it in enumerate(self._edges):
-            found[getattr(it, side)].append(number)
-        return found
+    def counts(self, name: str) -> Counts:
+        """How far a block is. (The library tells it of the first input: of the others a firing takes as many times more as its rates say.)"""
+        levels = self._stream.levels(name)
+        takes = self._takes[name]
+        return Counts([levels.taken * it // takes[0] for it in takes], [levels.given] * self._outputs[name])
 
     def measure(self) -> None:
         """Steps the blocks until none can act, and notes what that took."""
-        seconds, firings = dict.fromkeys(self.windows, 0.0), dict.fromkeys(self.windows, 0)
-        levels, fills = [0] * len(self._edges), [0] * len(self._edges)
+        seconds, before = dict.fromkeys(self._outputs, 0.0), {it: self.counts(it) for it in self._outputs}
+        counts, fills = dict(before), [0] * len(self._rooms)
         rounds, call, acted = 0, 1.0, True
         while acted:
             rounds, acted = rounds + 1, False
-            for name in self.windows:
+            for name in self._outputs:
                 began = time.thread_time()
-                count = self._stream.step(name)
+                is_moved = self._stream.step(name) > 0
                 taken = time.thread_time() - began
                 seconds[name] += taken
-                firings[name] += count
-                if count:
+                if is_moved:
                     acted = True
-                    self._move(name, count, levels, fills)
+                    counts[name] = self.counts(name)
+                    self._fill(name, counts, fills)
                 else:
                     call = min(call, taken)
-        for name, it in firings.items():
-            self.count(name, it)
-        if any(firings.values()):
+        if counts != before:
             # (a call that does nothing tells what a call costs: the last round has some)
-            self._take({name: max(it - rounds * call, 0.0) for name, it in seconds.items()}, firings, fills)
+            self._take({name: max(it - rounds * call, 0.0) for name, it in seconds.items()}, before, counts)
+            self._show(fills)
 
-    def each_of(self, name: str) -> Window:
-        """What each firing of a block takes and gives, and nothing where that is not the same for all."""
-        return NONE if name in self._shifted else self.windows[name]
+    def _fill(self, name: str, counts: dict[str, Counts], fills: list[int]) -> None:
+        """Notes how full the buffers behind a block are."""
+        for number, it in self._behind[name]:
+            held = counts[name].given[it.out_port] - counts[it.reader].taken[it.in_port]
+            # (for a reader that is done nothing is kept)
+            fills[number] = max(fills[number], held if held <= self._rooms[number] else 0)
 
-    def count(self, name: str, firings: int) -> Optional[int]:
-        """Counts firings of a block. It gives how many came before, where that is known."""
-        if self._totals is None:
-            return None
-        self._totals[name] += firings
-        return self._totals[name] - firings
+    def _take(self, seconds: dict[str, float], before: dict[str, Counts], after: dict[str, Counts]) -> None:
+        for name, it in seconds.items():
+            self._seconds[name] = KEEPS * self._seconds[name] + it
+            for sums, starts, ends in zip((self._taken[name], self._given[name]), before[name], after[name]):
+                sums[:] = [KEEPS * of + end - start for of, start, end in zip(sums, starts, ends)]
 
-    def lose_count(self) -> None:
-        """Takes note that blocks fired without being counted."""
-        self._totals = None
-
-    def _move(self, name: str, count: int, levels: list[int], fills: list[int]) -> None:
-        """Notes what so many firings of a block put into its outputs and took of its inputs."""
-        window = self.windows[name]
-        for number in self._writers[name]:
-            levels[number] += count * window.gives[self._edges[number].out_port]
-            fills[number] = max(fills[number], levels[number])
-        for number in self._readers[name]:
-            levels[number] = max(levels[number] - count * window.takes[self._edges[number].in_port], 0)
-
-    def _take(self, seconds: dict[str, float], firings: dict[str, int], fills: list[int]) -> None:
-        for name in self.windows:
-            self._seconds[name] = KEEPS * self._seconds[name] + seconds[name]
-            self._firings[name] = KEEPS * self._firings[name] + firings[name]
-        self._fills = [min(it, room) for it, room in zip(fills, self._stream.rooms)]
-        self.shown = {"blocks": {name: self._block(name) for name in self.windows}, "fills": [list(it) for it in zip(self._fills, self._stream.rooms)]}
+    def _show(self, fills: list[int]) -> None:
+        self.shown = {"blocks": {name: self._block(name) for name in self._outputs}, "fills": [list(it) for it in zip(fills, self._rooms)]}
 
     def _block(self, name: str) -> dict[str, Any]:
         """The share of a block in the work of all, and how many items it takes and gives for each item that comes through an input of the run."""
-        fed, window = sum(self._firings[it] for it in self._inputs), self.windows[name]
-        each = self._firings[name] / fed if fed else 0.0
-        takes, gives = window
-        return {
-            "share": self._seconds[name] / (sum(self._seconds.values()) or 1.0),
-            "takes": [it * each for it in takes],
-            "gives": [it * each for it in gives],
-        }
+        fed = sum(self._given[it][0] for it in self._inputs)
+        taken, given = ([count / fed if fed else 0.0 for count in it[name]] for it in (self._taken, self._given))
+        return {"share": self._seconds[name] / (sum(self._seconds.values()) or 1.0), "takes": taken, "gives": given}
 
     @property
     def limits(self) -> Optional[str]:

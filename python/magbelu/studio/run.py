@@ -62,21 +62,20 @@ class Run(threading.Thread):
         self._paced_from, self._paced_counts = 0.0, dict.fromkeys(ways.inputs, 0)
         # How many items of each input a turn takes at most.
         self._piece = PIECE
-        sinks = graph.named("vector_sink")
-        sizes = {it: self._stream._item_size(it) for it in sinks}
-        self.traces = {it: Trace(size, room_of(len(sinks), size)) for it, size in sizes.items()}
+        sinks = self._stream.sinks
+        self.traces = {it.name: Trace(it.size, room_of(len(sinks), it.size)) for it in sinks}
         self._profile = Profile(self._stream, ways.inputs)
         self._open(ways)
 
     def _open(self, ways: Ways) -> None:
         """Opens the inputs and outputs. Sources that have no input are closed behind what the file feeds them."""
         for sink in ways.outputs:
-            self._stream._item_size(sink)
+            self._stream.drain(sink, 0)
         sizes = {it: self._stream._size(it) for it in ways.inputs}
         self.inputs = {it: Input(it, path, sizes[it]) for it, path in ways.inputs.items()}
-        for source in self.graph.named("vector_source"):
-            if source not in self.inputs:
-                self._stream.close(source)
+        for source in self._stream.sources:
+            if source.name not in self.inputs:
+                self._stream.close(source.name)
         self.outputs = {it: Output(it, path, self.number) for it, path in ways.outputs.items()}
         self._look()
 
@@ -123,20 +122,19 @@ class Run(threading.Thread):
         return made.at
 
     def fire(self, block: str, count: int) -> dict[str, Any]:
-        """Has a block of a paused run fire so often at most, a source over what comes next; and gives how often it did, after how many firings where each was counted, and
-        what each took and gave."""
+        """Has a block of a paused run fire so often at most, a source over what comes next; and gives how often it did, and of each input and output the first item that
+        this took or gave, and how many."""
         if self.state != PAUSED:
             raise ValueError("a block fires by itself only while the run is paused")
         it = self.inputs.get(block)
         if it is not None and self._stream.need(block).what == "feed":
             self._give(it, min(PIECE, count))
-        done = self._stream.step(block, count)
-        before = self._profile.count(block, done)
+        before, done, after = self._profile.counts(block), self._stream.step(block, count), self._profile.counts(block)
         for sink in self.traces:
             self._drain(sink)
         self._look()
-        takes, gives = self._profile.each_of(block)
-        return {"before": before, "firings": done, "takes": takes, "gives": gives, "needs": self.needs[block]}
+        took, gave = ([[start, end - start] for start, end in zip(*both)] for both in zip(before, after))
+        return {"firings": done, "took": took, "gave": gave, "needs": self.needs[block]}
 
     def end(self) -> None:
         """Ends the thread, and with it the run where it is."""
@@ -179,12 +177,7 @@ class Run(threading.Thread):
 
     def _turn(self) -> None:
         """Runs the graph over what it has been fed, gives on what its sinks took, and feeds it the next piece."""
-        if self._goals and all(self._goals[name] - it.count <= PIECE for name, it in self.inputs.items()):
-            # (a small step: each firing is counted)
-            self._profile.measure()
-        else:
-            self._measure_at_times()
-            self._profile.lose_count()
+        self._measure_at_times()
         is_done = self._stream.settle()
         for sink in self.traces:
             self._drain(sink)

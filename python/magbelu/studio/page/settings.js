@@ -54,7 +54,7 @@ export class Settings {
 
     /** An editor for taps, with the response that they have. */
     taps({ name, setting, parameters }) {
-        const field = element("textarea", { rows: 4, spellcheck: "false", "aria-label": `${name} taps` }, parameters.taps.join(" "));
+        const field = element("textarea", { rows: 4, spellcheck: "false", "aria-label": `${name} taps` }, setting.value.join(" "));
         const canvas = element("canvas", { "aria-label": `the taps of ${name} and their response` });
         const answer = element("output", {});
         const read = () => {

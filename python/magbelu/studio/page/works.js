@@ -41,21 +41,20 @@ export function worksTable(name, graph, run, rates, wait) {
         ...(limitOf(run).names.includes(name) ? [row("", limitOf(run).says)] : []))];
 }
 
-/** Which items firings of a block took of a port, or gave there: by their numbers, where all firings before were counted. */
-function itemsSaid(each, { before, firings }, port) {
-    const count = each * firings;
-    if (before === null || !count) return `${grouped(count)} items of ${port}`;
-    const first = grouped(each * before), last = grouped(each * before + count - 1);
-    return count === 1 ? `item ${first} of ${port}` : `items ${first} to ${last} of ${port}`;
+/** Which items firings of a block took of a port, or gave there, by their numbers. */
+function itemsSaid([first, count], port) {
+    if (!count) return `no items of ${port}`;
+    if (count === 1) return `item ${grouped(first)} of ${port}`;
+    return `items ${grouped(first)} to ${grouped(first + count - 1)} of ${port}`;
 }
 
 /** What came of firings of a block. */
 export function firingsSaid(did) {
-    const { firings, takes, gives, needs } = did;
-    const items = (counts, side) => counts.map((it, port) => itemsSaid(it, did, `${side} ${port}`)).join(", ");
+    const { firings, took, gave, needs } = did;
+    const items = (ports, side) => ports.map((it, port) => itemsSaid(it, `${side} ${port}`)).join(", ");
     const parts = [`fired ${grouped(firings)} ${firings === 1 ? "time" : "times"}`];
-    if (firings && takes.length) parts.push(`took ${items(takes, "input")}`);
-    if (firings && gives.length) parts.push(`gave ${items(gives, "output")}`);
+    if (firings && took.length) parts.push(`took ${items(took, "input")}`);
+    if (firings && gave.length) parts.push(`gave ${items(gave, "output")}`);
     if (needs[0] === "items") parts.push(`it waits for items at input ${needs[1]}`);
     if (needs[0] === "room") parts.push(`it waits for room at output ${needs[1]}`);
     return parts.join("; ");
