@@ -18,11 +18,11 @@ PATIENCE = 60
 class Server:
     """A server, as the command starts it."""
 
-    #: The command, of the checkout or of an installation.
-    studio = TOP / "magbelu-studio"
+    #: What Python gets as the command, of the checkout or of an installation.
+    studio: tuple[str, ...] = (str(TOP / "magbelu-studio"),)
 
-    def __init__(self, *words: str, stdin: Any = subprocess.DEVNULL, env: Optional[dict[str, str]] = None, opens: bool = False) -> None:
-        command = [sys.executable, str(self.studio), *["--no-open"] * (not opens), *words]
+    def __init__(self, *words: str, stdin: Any = subprocess.DEVNULL, env: Optional[dict[str, str]] = None, opens: bool = False, studio: tuple[str, ...] = ()) -> None:
+        command = [sys.executable, *(studio or self.studio), *["--no-open"] * (not opens), *words]
         self.process = subprocess.Popen(command, stdin=stdin, stdout=subprocess.PIPE, stderr=subprocess.PIPE, env={**os.environ, **(env or {})})
         assert self.process.stderr is not None
         self.line = self.process.stderr.readline().decode().strip()

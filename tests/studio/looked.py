@@ -12,7 +12,7 @@ import magbelu
 
 from browser import Server, TOP, browser, click, comes_to, text_of, until
 from receiver import recording
-from runs import THROUGH, folder_with
+from runs import SAW, THROUGH, folder_with
 from shown import ECHO, logged
 from turned import FILTER
 
@@ -137,4 +137,12 @@ def opens() -> None:
             until("it is opened", lambda: at.exists() and at.read_text() == server.address + "\n")
 
 
-CASES = [drawn_as_draw, parameters_shown, waits_shown, pointed, zoomed_and_held, undrawn_told, opens]
+def as_module() -> None:
+    """`python3 -m magbelu.studio` is the command too."""
+    folder, graph, items, out = folder_with()
+    with folder, Server("-i", "src=" + items, "-o", "out=" + out, graph, studio=("-m", "magbelu.studio")) as server:
+        assert b"magbelu studio" in urllib.request.urlopen(server.address).read()
+        until("all items", lambda: pathlib.Path(out).read_bytes() == SAW.tobytes())
+
+
+CASES = [drawn_as_draw, parameters_shown, waits_shown, pointed, zoomed_and_held, undrawn_told, opens, as_module]

@@ -130,7 +130,7 @@ CASES = [receiver, receives_text]
 
 if __name__ == "__main__":
     if len(sys.argv) > 2:
-        Server.studio = pathlib.Path(sys.argv[2])
+        Server.studio = (sys.argv[2],)
     with browser(1600, 1200) as window:
         drawn, changed = receives(window, sys.argv[1])
     print("drawn after %.1f seconds, changed after %.1f more" % (drawn, changed))
