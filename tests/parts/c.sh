@@ -175,6 +175,17 @@ without_numpy() {
     PYTHONDONTWRITEBYTECODE=1 PYTHONPATH=$room/hidden:$top/python python3 "$top/tests/c/$1.py" "$top"
 }
 
+# tells_threads: what threads of Python do with one stream, with the thread sanitizer, over what stands for the library, since the library is not compiled for it
+tells_threads() {
+    # (what a stream does not call has to be there)
+    printf 'extern "C" unsigned magbelu_version() { return 1; }\n' >"$room/others.cpp"
+    printf 'extern "C" void magbelu_bytes_%s() {}\n' check run script run_items >>"$room/others.cpp"
+    c++ -std=c++17 "${warnings[@]}" -g -O1 -fPIC -shared -fsanitize=thread -I"$top/c" "$top/tests/c/stand_in.cpp" "$room/others.cpp" -o "$room/stand_in.so"
+    # (of a program that is not compiled for it, the sanitizer has to be there first, and wants addresses as they come; the shims of pyenv are no program)
+    PYTHONDONTWRITEBYTECODE=1 PYTHONPATH=$top/python MAGBELU_LIBRARY=$room/stand_in.so LD_PRELOAD=$(cc -print-file-name=libtsan.so) TSAN_OPTIONS=exitcode=66 \
+        setarch --addr-no-randomize "$(python3 -c 'import sys; print(sys.executable)')" "$top/tests/c/threads.py" "$top"
+}
+
 # over_library COMMAND..: the same over the library that is built
 over_library() { MAGBELU_LIBRARY=$c_folder/libmagbelu.so "$@"; }
 
@@ -203,7 +214,7 @@ list() {
         printf 'c/%s\n' plus_alone plus
     fi
     if command -v cc >/dev/null && command -v python3 >/dev/null; then
-        printf 'c/%s\n' python python_numpy python_streams python_streams_numpy python_slices python_slices_numpy doctests doctests_matplotlib notebook
+        printf 'c/%s\n' threads python python_numpy python_streams python_streams_numpy python_threads python_slices python_slices_numpy doctests doctests_matplotlib notebook
     fi
 }
 
@@ -230,6 +241,7 @@ lacks() {
     local it
     for it; do
         case $it in
+        libtsan.so) [[ $(cc -print-file-name=libtsan.so) == /* ]] && command -v c++ >/dev/null && command -v setarch >/dev/null || echo "there is no thread sanitizer" ;;
         libmagbelu.*) is_fresh "$c_folder/$it" "$c_crate" || echo "./build --c has not built $it from these sources" ;;
         mypy) command -v mypy >/dev/null || echo "there is no mypy" ;;
         *) python3 -c "import $it" 2>/dev/null || echo "python3 has no module $it" ;;
@@ -258,6 +270,7 @@ run() {
     try_with mypy c/types tells_types
     try c/header compiles_header
     try c/plus_alone tells_plus_alone
+    try_with libtsan.so c/threads tells_threads
     try_with libmagbelu.a c/calls tells_calls
     try_with libmagbelu.a c/spoken tells_spoken
     try_with libmagbelu.a c/plus tells_plus
@@ -265,6 +278,7 @@ run() {
     try_with "libmagbelu.so numpy" c/python_numpy over_library python_tests graphs
     try_with libmagbelu.so c/python_streams over_library without_numpy streams
     try_with "libmagbelu.so numpy" c/python_streams_numpy over_library python_tests streams
+    try_with libmagbelu.so c/python_threads over_library without_numpy threads
     try_with libmagbelu.so c/python_slices over_library without_numpy slices
     try_with "libmagbelu.so numpy" c/python_slices_numpy over_library python_tests slices
     try_with libmagbelu.so c/doctests over_library without_numpy doctests
