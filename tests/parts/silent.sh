@@ -15,6 +15,8 @@ silent=(
     a_sum_waits
     an_input_that_fails
     done_before_the_end
+    each_pair_of_chains
+    an_output_that_is_full
 )
 
 chains=$top/tests/graphs/two_chains.toml
@@ -143,4 +145,54 @@ done_before_the_end() {
     go -i a=a -i b=b -o oa=oa -o ob=ob heads.toml
     printf ABC >&"$to_b" && comes ob 3 && printf ABCD >&"$to_a" || return
     ended 0 'sink oa 3\nsink ob 3\ndone\n' && has oa ABC && has ob ABC && has errors ''
+}
+
+# Of three chains each pair goes on beside the third, whose pipe is silent.
+each_pair_of_chains() {
+    local stuck it
+    for stuck in a b m; do
+        rm -f oa ob om
+        local -A to=([a]=$to_a [b]=$to_b [m]=$to_m)
+        go -i a=a -i b=b -i m=m -o oa=oa -o ob=ob -o om=om "$top/tests/graphs/three_chains.toml"
+        for it in 1 2 3; do
+            pair_goes_on "$stuck" "$it" || return
+        done
+        printf A >&"${to[$stuck]}" && comes "o$stuck" 1 || return
+        exec {to_a}>&- {to_b}>&- {to_m}>&-
+        ended 0 "$(report_beside "$stuck")" && has errors '' || return
+        exec {to_a}<>a {to_b}<>b {to_m}<>m
+    done
+}
+
+# pair_goes_on STUCK COUNT: an item more of each chain but this is out, so that there are so many
+pair_goes_on() {
+    local it
+    for it in a b m; do
+        [[ $it == "$1" ]] || { printf A >&"${to[$it]}" && comes "o$it" "$2" && comes "o$1" 0; } || return
+    done
+}
+
+# report_beside STUCK: what is said of a run of which this chain had one item, and each other three
+report_beside() {
+    local it
+    for it in a b m; do
+        printf 'sink o%s %d\\n' "$it" "$([[ $it == "$1" ]] && echo 1 || echo 3)"
+    done
+    printf 'done\\n'
+}
+
+# An output that nobody takes for a while holds up what leads to it, and nothing is lost.
+an_output_that_is_full() {
+    local full
+    sed 's/"byte"/"int"/; s/10/0/' "$top/tests/graphs/plain.toml" >ints.toml
+    head -c 160000 "${start[-1]}" >in
+    mkfifo full
+    # (opened for both, so that the run opens it too)
+    exec {full}<>full
+    go -i src=in -o out=full ints.toml
+    # (a pipe holds no more than 65,536 bytes, and the run waits for the others to be taken)
+    sleep 5
+    kill -0 "$flow" || { echo "it ended before its output was taken" && return 1; } >&"$told"
+    timeout 100 head -c 160000 <&"$full" >came
+    ended 0 'sink out 40000\ndone\n' && is came in && has errors ''
 }
