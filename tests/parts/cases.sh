@@ -27,7 +27,7 @@ terminals=(terminals/explains terminals/never terminals/place)
 # What a program of Python asks, that has names of GNU Radio from flow-from-grc.
 names=(names/gnu_radio)
 # And live runs between pipes, with lines that are written while items stream.
-spoken=(spoken/settings spoken/stop spoken/closes spoken/lines spoken/standard spoken/two spoken/soon spoken/long spoken/gone)
+spoken=(spoken/settings spoken/stop spoken/killed spoken/closes spoken/lines spoken/standard spoken/two spoken/soon spoken/long spoken/gone spoken/drawn)
 # And runs whose trace a program of Python reads.
 traces=(traces/adaptive traces/one_thread traces/thread_per_block traces/between_files traces/now_and_then traces/first_events traces/picture traces/part_of_a_picture)
 
@@ -255,8 +255,14 @@ terminals_place() {
 # names_gnu_radio: that names of GNU Radio are answered with those that flow-from-grc writes for them
 names_gnu_radio() { python3 "$top/tests/programs/gnu_radio_names.py" "${start[@]}"; }
 
-# spoken_in CASE: a live run that lines speak to
-spoken_in() { python3 "$top/tests/programs/spoken.py" "$1" "${start[@]}"; }
+# spoken_in CASE: a live run that lines speak to, or those of graphs that are drawn by chance
+spoken_in() {
+    if [[ $1 == drawn ]]; then
+        python3 "$top/tests/programs/spoken_drawn.py" "${start[@]}"
+    else
+        python3 "$top/tests/programs/spoken.py" "$1" "${start[@]}"
+    fi
+}
 
 # traced MOST WORD..: a run with these words, whose trace has room for so many turns and waits and goes with the times of the same run; `said` has the lines before
 # these

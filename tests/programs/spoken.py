@@ -18,9 +18,11 @@ SETTINGS = 8
 # A stop takes so many seconds at most, beside a round of the blocks, at the best of a few. (A program with checks is slower than a proved one by far.)
 SOON = 0.05
 STOPS = 5
-# A stream that is set for so many seconds grows by so many kilobytes at most. (Of a program with checks memory that is let go is not used again at once.)
-LONG = 4
-GROWTH = 16384
+# A stream that is set for so many seconds, each hundredth of one or, if they are given, each second, grows by so many kilobytes at most, and has so many. A program with
+# checks has more, terabytes of addresses among it, and keeps what is let go unless it is told not to.
+LONG, PAUSE = (float(os.environ["SPOKEN_SECONDS"]), 1) if "SPOKEN_SECONDS" in os.environ else (4, 0.01)
+GROWTH, MOST = 16384, 32768
+KEEPS_NOTHING = {"ASAN_OPTIONS": "quarantine_size_mb=0:thread_local_quarantine_size_kb=0"}
 
 # Of each graph its type, the blocks between source and sink, with their parameters, the one that is set, and what it is set to.
 GRAPHS = [
@@ -96,7 +98,7 @@ class Live:
 def script(program, folder, lines):
     """What a script of these lines replies."""
     text = "".join(line + "\n" for line in lines)
-    answer = subprocess.run([*program, "script", "graph.toml"], cwd=folder, input=text, capture_output=True, text=True, timeout=60, check=False)
+    answer = subprocess.run([*program, "script", "graph.toml"], cwd=folder, input=text, capture_output=True, text=True, timeout=200, check=False)
     check((answer.returncode, answer.stderr) == (0, ""), "the script ended in %d with %r" % (answer.returncode, answer.stderr))
     return answer.stdout.splitlines()
 
@@ -161,6 +163,22 @@ def stop(program, folder):
     live.ends(0, "sink out 500\nstopped\n")
     check((folder / "out").read_bytes() == struct.pack("<500h", *range(1, 501)), "what was recorded")
     source.close()
+
+
+def killed(program, folder):
+    """A producer that is killed ends a recording whole."""
+    (folder / "graph.toml").write_text(graph("byte", ["add_const value = 1"]), encoding="utf-8")
+    live = Live(program, folder)
+    with open(folder / "in", "wb", buffering=0) as source:
+        producer = subprocess.Popen(["sh", "-c", "while :; do printf abcde; sleep 0.01; done"], stdout=source)
+    while int([live.ask("levels"), live.reply(), live.reply()][2].split()[2]) < 100:
+        time.sleep(0.1)
+    producer.kill()
+    producer.wait()
+    report, errors = live.run.communicate(timeout=60)
+    came = (folder / "out").read_bytes()
+    check((live.run.returncode, report, errors) == (0, "sink out %d\ndone\n" % len(came), ""), "it ended in %d with %r and %r" % (live.run.returncode, report, errors))
+    check(len(came) >= 100 and came == b"bcdef" * (len(came) // 5), "what was recorded: %r" % came)
 
 
 def closes(program, folder):
@@ -260,13 +278,14 @@ def soon(program, folder):
 
 
 def long(program, folder):
-    """A stream that is set each hundredth of a second holds its memory."""
+    """A stream that is set again and again holds its memory."""
     (folder / "graph.toml").write_text(graph("short", ["fir taps = [1, 2, 3, 4, 5, 6, 7, 8]"]), encoding="utf-8")
-    run = subprocess.Popen([*program, "live", "-i", "src=/dev/zero", "-o", "out=/dev/null", "graph.toml"], cwd=folder, stdin=subprocess.PIPE, stdout=subprocess.PIPE, text=True, bufsize=1)
+    words = ["live", "-i", "src=/dev/zero", "-o", "out=/dev/null", "graph.toml"]
+    run = subprocess.Popen([*program, *words], cwd=folder, env=KEEPS_NOTHING, stdin=subprocess.PIPE, stdout=subprocess.PIPE, text=True, bufsize=1)
 
-    def memory():
+    def memory(key="VmRSS:"):
         status = pathlib.Path("/proc/%d/status" % run.pid).read_text(encoding="utf-8")
-        return int(status.partition("VmRSS:")[2].split()[0])
+        return int(status.partition(key)[2].split()[0])
 
     began, first, count, last = time.monotonic(), None, 0, -1
     while time.monotonic() - began < LONG:
@@ -276,12 +295,14 @@ def long(program, folder):
         count, last = count + 1, at
         if first is None and time.monotonic() - began > LONG / 4:
             first = memory()
-        time.sleep(0.01)
-    grown = memory() - first
+        time.sleep(PAUSE)
+    grown, most, has_checks = memory() - first, memory("VmHWM:"), memory("VmSize:") > 1 << 30
     run.stdin.write("stop\n")
     run.communicate(timeout=60)
-    check(run.returncode == 0 and last > 0 and count > 50, "%d settings, the last at %d" % (count, last))
-    check(grown <= GROWTH, "it grew by %d kilobytes while it was set %d times" % (grown, count))
+    check(run.returncode == 0 and last > 0 and count * PAUSE > LONG / 8, "%d settings, the last at %d" % (count, last))
+    check(grown <= GROWTH and (has_checks or most <= MOST), "it grew by %d kilobytes to %d while it was set %d times" % (grown, most, count))
+    if os.environ.get("TELL_TIMES"):
+        print("%d settings, %d items, %d kilobytes at most, grown by %d" % (count, last, most, grown), file=sys.stderr)
 
 
 def gone(program, folder):
@@ -297,13 +318,13 @@ def gone(program, folder):
     live.ends(0, "sink out 5\ndone\n")
 
 
-CASES = {"settings": settings, "stop": stop, "closes": closes, "lines": lines, "standard": standard, "two": two, "soon": soon, "long": long, "gone": gone}
+CASES = {"settings": settings, "stop": stop, "killed": killed, "closes": closes, "lines": lines, "standard": standard, "two": two, "soon": soon, "long": long, "gone": gone}
 
 
 def main():
     """Tries the case."""
     name, program = sys.argv[1], sys.argv[2:]
-    killer = threading.Timer(200, lambda: os._exit(1))
+    killer = threading.Timer(LONG + 200, lambda: os._exit(1))
     killer.daemon = True
     killer.start()
     with tempfile.TemporaryDirectory() as folder:
