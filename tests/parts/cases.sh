@@ -27,7 +27,7 @@ terminals=(terminals/explains terminals/never terminals/place)
 # What a program of Python asks, that has names of GNU Radio from flow-from-grc.
 names=(names/gnu_radio)
 # And live runs between pipes, with lines that are written while items stream.
-spoken=(spoken/settings spoken/stop spoken/killed spoken/closes spoken/lines spoken/standard spoken/two spoken/soon spoken/long spoken/gone spoken/drawn)
+spoken=(spoken/settings spoken/stop spoken/killed spoken/closes spoken/lines spoken/standard spoken/two spoken/soon spoken/long spoken/gone spoken/readme spoken/drawn)
 # And runs whose trace a program of Python reads.
 traces=(traces/adaptive traces/one_thread traces/thread_per_block traces/between_files traces/now_and_then traces/first_events traces/picture traces/part_of_a_picture)
 

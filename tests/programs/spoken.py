@@ -4,6 +4,7 @@
 import os
 import pathlib
 import random
+import shlex
 import struct
 import subprocess
 import sys
@@ -318,7 +319,30 @@ def gone(program, folder):
     live.ends(0, "sink out 5\ndone\n")
 
 
-CASES = {"settings": settings, "stop": stop, "killed": killed, "closes": closes, "lines": lines, "standard": standard, "two": two, "soon": soon, "long": long, "gone": gone}
+def readme(program, folder):
+    """What README shows of a stream that is set comes as it stands there, and records what the filter's equation gives, by one list of taps up to its item 5000 and another
+    from there on."""
+    top = pathlib.Path(__file__).resolve().parents[2]
+    shown = (top / "README.md").read_text(encoding="utf-8").partition('$ echo "set low')
+    lines = (shown[1] + shown[2]).partition("\n```")[0].splitlines()
+    calls, output = [line[2:] for line in lines if line.startswith("$ ")], [line for line in lines if not line.startswith("$ ")]
+    (folder / "flow").write_text('#!/bin/sh\nexec %s "$@"\n' % shlex.join(program), encoding="utf-8")
+    (folder / "flow").chmod(0o755)
+    (folder / "examples").symlink_to(top / "examples")
+    subprocess.run([sys.executable, "examples/signal/make.py", "recording", "recording.s16"], cwd=folder, check=True)
+    came = subprocess.run(["bash", "-c", "\n".join(calls)], cwd=folder, capture_output=True, text=True, timeout=180, check=False)
+    check((came.stdout.splitlines(), came.stderr) == (output, ""), "README shows %r, and there came %r and %r" % (output, came.stdout, came.stderr))
+    tape = [0] * 20 + [item for (item,) in struct.iter_unpack("<h", (folder / "recording.s16").read_bytes())]
+    first, then = [*range(1, 17), *range(16, 0, -1)], list(range(1, 33))
+    wanted = []
+    for at in range(0, len(tape), 10):
+        total = sum(tap * tape[at - back] for back, tap in enumerate(first if at < 5000 else then) if back <= at)
+        # (to the nearest number, ties up, within a short)
+        wanted.append(max(-32768, min(32767, (total + 128) // 256)))
+    check((folder / "set.s16").read_bytes() == struct.pack("<%dh" % len(wanted), *wanted), "what was recorded")
+
+
+CASES = {"settings": settings, "stop": stop, "killed": killed, "closes": closes, "lines": lines, "standard": standard, "two": two, "soon": soon, "long": long, "gone": gone, "readme": readme}
 
 
 def main():
